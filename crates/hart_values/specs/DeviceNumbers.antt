@@ -1,0 +1,7 @@
+-- What a contract sees of a unique address (HCF_SPEC-081).
+use Rattle.std.specs.Prelude.{ℕ}
+
+-- The numbers of a device are the lower 14 bits of its expanded device type, and its device id of 24 bits.
+pub record DeviceNumbers : Type 0 where
+  pub expanded_type : ℕ
+  pub device_id : ℕ

@@ -1,0 +1,2 @@
+pub mod DeviceNumbers
+pub mod AddressBytes

@@ -1,0 +1,100 @@
+ghost use Rattle.std.specs.Prelude.{◌≡◌, ◌<◌, ◌%◌, ◌^◌, ◌↔◌, ◌⊎◌, length, Bool, Some, IsTrue, IsOk, IsSome, IfOk, IfErr, IfSome};
+
+use crate::first_byte::{join_first_byte, split_first_byte};
+use crate::{ByteList, MasterId, PollingAddress, UniqueAddress, ValueFault};
+
+/// The bytes of an address in a message: one or five.
+pub type AddressBytes = ByteList<5>;
+
+/// The address of a message (HCF_SPEC-081): a polling address of one byte, or a unique address of five.
+#[derive(Clone, Copy, Debug, PartialEq, Eq, Hash)]
+pub enum Address {
+    /// A polling address, one byte.
+    Polling(PollingAddress),
+    /// A unique address or broadcast, five bytes.
+    Unique(UniqueAddress),
+}
+
+impl Address {
+    ghost use Rattle.hart_values.specs.AddressBytes.{IsAddressBytes, broadcast};
+    ghost use Rattle.hart_values.specs.DeviceNumbers.{DeviceNumbers};
+
+    /// The address with this polling address.
+    ///
+    /// # Errors
+    ///
+    /// [`ValueFault::OutOfRange`] where `number` is above 63.
+    pub fn polling(number: u8) -> Result<Self, ValueFault>
+        ensures accepted { IsOk result ↔ (number < 64) }
+        ensures kept { IfOk result (λ address. address ≡ Address.Polling number) }
+        ensures refused { IfErr result (λ fault. fault ≡ ValueFault.OutOfRange) }
+    {
+        Ok(Address::Polling(PollingAddress::new(number)?))
+    }
+
+    /// The unique address of the lower 14 bits of this expanded device type and of this device id.
+    ///
+    /// # Errors
+    ///
+    /// [`ValueFault::OutOfRange`] where `device_id` is above 16,777,215.
+    pub fn unique(expanded_type: u16, device_id: u32) -> Result<Self, ValueFault>
+        ensures accepted { IsOk result ↔ (device_id < 2 ^ 24) }
+        ensures kept { IfOk result (λ address. address ≡
+            Address.Unique (record { expanded_type = expanded_type % 2 ^ 14; device_id = device_id })) }
+        ensures refused { IfErr result (λ fault. fault ≡ ValueFault.OutOfRange) }
+    {
+        Ok(Address::Unique(UniqueAddress::new(expanded_type, device_id)?))
+    }
+
+    /// Whether it is the broadcast address: the unique address whose two numbers are zero.
+    pub fn is_broadcast(self) -> bool
+        ensures { IsTrue result ↔ (self ≡ broadcast) }
+    {
+        match self {
+            Address::Polling(_) => false,
+            Address::Unique(unique) => unique.expanded_type() == 0 && unique.device_id() == 0,
+        }
+    }
+
+    /// The bytes of the address in a message of, or to, this master, with this burst bit.
+    pub fn bytes(self, master: MasterId, burst: bool) -> AddressBytes
+        ensures { IsAddressBytes master burst self result }
+    {
+        let mut bytes = AddressBytes::new();
+        match self {
+            Address::Polling(polling) => bytes.push(join_first_byte(
+                master,
+                burst,
+                polling.number(),
+            )),
+            Address::Unique(unique) => {
+                let [type_high, type_low] = unique.expanded_type().to_be_bytes();
+                let [_, id_high, id_middle, id_low] = unique.device_id().to_be_bytes();
+                bytes.push(join_first_byte(master, burst, type_high));
+                bytes.extend_from_slice(&[type_low, id_high, id_middle, id_low]);
+            }
+        }
+        bytes
+    }
+
+    /// The master bit, the burst bit and the address that these bytes hold.
+    ///
+    /// One byte is a polling address, five are a unique address, and any other number of bytes is `None`.
+    pub fn read(bytes: &[u8]) -> Option<(MasterId, bool, Address)>
+        ensures lengths { IsSome result ↔ ((length bytes.now ≡ 1) ⊎ (length bytes.now ≡ 5)) }
+        ensures found { IfSome result (λ (master, burst, address). IsAddressBytes master burst address bytes.now) }
+        ensures only { (master : MasterId) (burst : Bool) (address : Address)
+            → IsAddressBytes master burst address bytes.now → result ≡ Some (master, burst, address) }
+    {
+        let (master, burst, six_bits) = split_first_byte(*bytes.first()?);
+        let address = match bytes {
+            [_] => Address::polling(six_bits),
+            [_, type_low, id_high, id_middle, id_low] => Address::unique(
+                u16::from_be_bytes([six_bits, *type_low]),
+                u32::from_be_bytes([0, *id_high, *id_middle, *id_low]),
+            ),
+            _ => return None,
+        };
+        Some((master, burst, address.ok()?))
+    }
+}
