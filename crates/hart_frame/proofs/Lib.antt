@@ -1,0 +1,5 @@
+pub mod ParityLemmas
+pub mod BodyLemmas
+pub mod ToldApart
+pub mod LayoutLemmas
+pub mod Only

@@ -1,0 +1,101 @@
+-- What has a body at its front is not refused.
+use Rattle.std.proofs.Common.{◌≡◌, ℕ, ◌+◌, ◌*◌, ◌<◌, ◌≤◌, inl, inr, List, [], ◌∷◌, ◌++◌, length, take, drop, get_or, sym, ap, ◌∙◌, arith, append_assoc, length-append, subst, Result, Ok, Err}
+use Rattle.std.specs.Result.{IfOk, IfErr}
+use Rattle.std.proofs.lemmas.List.{length-take-le, take-append-drop, get_or_at}
+use Rattle.hart_frame.specs.declared.kind.FrameKind.{FrameKind}
+use Rattle.hart_frame.specs.declared.kind.FrameKind.TheVariants.{Stx, Ack}
+use Rattle.hart_frame.specs.declared.fault.FrameFault.{FrameFault}
+use Rattle.hart_frame.specs.declared.fault.FrameFault.TheVariants.{TooShortReply, BadPreamble, BadDelimiter, Truncated, BadCheck, ShortReply}
+use Rattle.hart_frame.specs.FrameParts.{FrameParts, IsLongEnough}
+use Rattle.hart_frame.specs.Delimiter.{delimiter_of, kind_code, address_type}
+use Rattle.hart_frame.specs.Parity.{HasEvenParity}
+use Rattle.hart_frame.specs.Layout.{delimiter_in, byte_count_place, byte_count_in, body_length}
+use Rattle.hart_frame.specs.Refusal.{IsRefusedWith, IsDecodedDelimiter}
+use Rattle.hart_frame.specs.Body.{IsCheckedPart, BeginsWithBody}
+use Rattle.hart_frame.proofs.ToldApart.{length-address, address_type-lt, kind_code-is, spread}
+
+-- what a list that begins with a frame's body tells of it
+pub record Tells (bytes : List ℕ) (f : FrameParts) (len : ℕ) : Type 0 where
+  pub delimiter : delimiter_in bytes ≡ delimiter_of f
+  pub place : byte_count_place bytes ≡ 3 + 4 * address_type f.address + length f.expansion
+  pub count : byte_count_in bytes ≡ length f.payload
+  pub whole : len ≡ body_length bytes
+  pub within : len ≤ length bytes
+
+-- how long the checked part is
+length-checked : (f : FrameParts) (checked : List ℕ) (part : IsCheckedPart f checked)
+    → length checked ≡ 4 + 4 * address_type f.address + length f.expansion + length f.payload
+length-checked f checked part =
+    let address = length-address _ _ _ _ part.address_bytes in
+    let parts = ap length part.parts in
+    let all = length-append (delimiter_of f ∷ part.address ++ f.expansion) (f.command ∷ length f.payload ∷ f.payload) in
+    let front = length-append (delimiter_of f ∷ part.address) f.expansion in
+    omega (arith, parts, all, front, address)
+
+tells : (bytes : List ℕ) (f : FrameParts) (len : ℕ) → IsDecodedDelimiter (delimiter_of f) → BeginsWithBody bytes f len → Tells bytes f len
+tells bytes f len taken begins =
+    let part = begins.body.checked_part in
+    let rest = drop len bytes in
+    let whole = sym (take-append-drop len bytes) ∙ spread f (take len bytes) rest begins.body in
+    let delimiter : delimiter_in bytes ≡ delimiter_of f = ap (λ (xs : List ℕ). get_or xs 0 0) whole in
+    let few : address_type f.address < 2 = address_type-lt f.address in
+    let kind = kind_code-is f.kind in
+    let place : byte_count_place bytes ≡ 3 + 4 * address_type f.address + length f.expansion =
+    elim taken [ inl two ↦ omega (arith, delimiter, two, few, kind) | inr six ↦ omega (arith, delimiter, six, few, kind) ] in
+    let front : List ℕ = delimiter_of f ∷ part.address ++ f.expansion ++ f.command ∷ [] in
+    let regrouped : bytes ≡ front ++ length f.payload ∷ (f.payload ++ begins.body.check ∷ rest) = whole ∙ simp append_assoc in
+    let address = length-address _ _ _ _ part.address_bytes in
+    let front_len : length front ≡ byte_count_place bytes =
+    omega (arith, place, address, length-append (delimiter_of f ∷ part.address ++ f.expansion) (f.command ∷ []), length-append (delimiter_of f ∷ part.address) f.expansion) in
+    let count : byte_count_in bytes ≡ length f.payload =
+    ap (λ (xs : List ℕ). get_or xs (byte_count_place bytes) 0) regrouped ∙ get_or_at front (length f.payload) _ 0 (byte_count_place bytes) front_len in
+    let taken_len : length (take len bytes) ≡ len = length-take-le len bytes begins.within in
+    let body_len = ap length begins.body.parts ∙ length-append begins.body.checked (begins.body.check ∷ []) in
+    record {
+      delimiter = delimiter;
+      place = place;
+      count = count;
+      whole = omega (arith, taken_len, body_len, length-checked f begins.body.checked part, place, count);
+      within = begins.within;
+    }
+
+-- a reply has its two status bytes
+not_short : (kind : FrameKind) (payload : List ℕ) → IsLongEnough kind payload → length payload < 2 → kind_code kind ≡ 6 → ⊥
+not_short Stx payload long short ack = omega arith
+not_short Ack payload long short ack = omega arith
+
+-- a list that begins with a body is refused with no fault
+not_refused : (bytes : List ℕ) (f : FrameParts) (len : ℕ) (fault : FrameFault) → IsDecodedDelimiter (delimiter_of f)
+    → BeginsWithBody bytes f len → IsRefusedWith bytes fault → ⊥
+not_refused bytes f len TooShortReply taken begins refused = refused
+not_refused bytes f len BadPreamble taken begins refused = refused
+not_refused bytes f len BadDelimiter taken begins refused =
+    refused.1 (subst IsDecodedDelimiter (sym (tells bytes f len taken begins).delimiter) taken)
+not_refused bytes f len Truncated taken begins refused =
+    let told = tells bytes f len taken begins in
+    elim refused [
+      | inl empty ↦ omega (arith, told, empty)
+      | inr (inl no_count) ↦ omega (arith, told, no_count.1)
+      | inr (inr no_check) ↦ omega (arith, told, no_check.1)
+    ]
+not_refused bytes f len BadCheck taken begins refused =
+    let told = tells bytes f len taken begins in
+    let HasParity : ℕ → Type 0 = λ n. HasEvenParity (take n bytes) in
+    refused.1 (subst HasParity told.whole begins.body.parity)
+not_refused bytes f len ShortReply taken begins refused =
+    let told = tells bytes f len taken begins in
+    let kind = kind_code-is f.kind in
+    let few : address_type f.address < 2 = address_type-lt f.address in
+    not_short f.kind f.payload begins.body.checked_part.payload_fits (omega (arith, told.count, refused.2))
+    (omega (arith, told.delimiter, refused.1, kind, few))
+
+pub only : ((f g : FrameParts) (bytes : List ℕ) (m n : ℕ) → BeginsWithBody bytes f m → BeginsWithBody bytes g n → (f ≡ g) × (m ≡ n))
+    → (bytes : List ℕ) (result : Result (FrameParts × ℕ) FrameFault)
+    → IfOk result (λ found. BeginsWithBody bytes found.0 found.1) → IfErr result (IsRefusedWith bytes)
+    → (f : FrameParts) (len : ℕ) → IsDecodedDelimiter (delimiter_of f) → BeginsWithBody bytes f len → result ≡ Ok (f, len)
+only law bytes (Ok found) accepts refused f len taken begins =
+    let same = law found.0 f bytes found.1 len accepts begins in
+    let of : FrameParts → ℕ → Result (FrameParts × ℕ) FrameFault = λ g n. Ok (g, n) in
+    let all : of found.0 found.1 ≡ of f len = cc in
+    all
+only law bytes (Err fault) accepts refused f len taken begins = absurd (not_refused bytes f len fault taken begins refused)

@@ -1,0 +1,16 @@
+use Rattle.std.proofs.Common.{[], ◌++◌, refl, sym}
+use Rattle.std.proofs.lemmas.List.{append-nil}
+use Rattle.hart_frame.proofs.ToldApart.{bodies_apart, IsBody-one, BeginsWithBody-one, BeginsWithBody-append}
+use Rattle.hart_frame.proofs.laws.bodies_are_told_apart.Goals as goal
+
+pub returns : goal.returns
+returns c =
+    let addresses = c.address_bytes_are_told_apart.ensures in
+    let apart = bodies_apart addresses.one_reading in
+    record {
+      one_frame = λ f g bytes p q. (apart f g bytes bytes [] [] p q refl).frames;
+      one_body = IsBody-one addresses.one_list;
+      no_proper_prefix = λ f g bytes rest p q. (apart f g bytes (bytes ++ rest) rest [] p q (sym (append-nil (bytes ++ rest)))).rests;
+      one_front = BeginsWithBody-one addresses.one_reading;
+      whatever_follows = BeginsWithBody-append;
+    }

@@ -1,0 +1,9 @@
+pub use Rattle.hart_values.specs.DeviceNumbers
+pub use Rattle.hart_values.specs.AddressBytes
+pub mod FrameParts
+pub mod Parity
+pub mod Delimiter
+pub mod Body
+pub mod Layout
+pub mod Refusal
+pub mod Message

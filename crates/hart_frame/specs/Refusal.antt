@@ -1,0 +1,43 @@
+-- Why the bytes of a list are not decoded: the first thing that is wrong, from its front (own profile).
+use Rattle.std.specs.Prelude.{◌≡◌, ℕ, ◌%◌, ◌<◌, ◌≤◌, ◌⊎◌, List, length, take}
+use Rattle.hart_frame.specs.declared.fault.FrameFault.{FrameFault}
+use Rattle.hart_frame.specs.declared.fault.FrameFault.TheVariants.{TooShortReply, BadPreamble, BadDelimiter, Truncated, BadCheck, ShortReply}
+use Rattle.hart_frame.specs.Layout.{delimiter_in, byte_count_place, byte_count_in, body_length}
+use Rattle.hart_frame.specs.Parity.{HasEvenParity}
+
+-- The delimiters that are decoded so far are those of a polling address with no expansion bytes: STX and ACK.
+abbrev pub IsDecodedDelimiter : ℕ → Type 0
+IsDecodedDelimiter delimiter = (delimiter ≡ 2) ⊎ (delimiter ≡ 6)
+
+-- A list begins with a delimiter that is decoded.
+abbrev pub HasDelimiter : List ℕ → Type 0
+HasDelimiter bytes = (0 < length bytes) × IsDecodedDelimiter (delimiter_in bytes)
+
+-- It goes on to its byte count.
+abbrev pub HasByteCount : List ℕ → Type 0
+HasByteCount bytes = HasDelimiter bytes × (byte_count_place bytes < length bytes)
+
+-- Its byte count is at least 2, or its delimiter is an STX's.
+abbrev pub HasGoodByteCount : List ℕ → Type 0
+HasGoodByteCount bytes = HasByteCount bytes × ((delimiter_in bytes % 8 ≡ 2) ⊎ (2 ≤ byte_count_in bytes))
+
+-- It goes on to its check byte.
+abbrev pub HasCheckByte : List ℕ → Type 0
+HasCheckByte bytes = HasGoodByteCount bytes × (body_length bytes ≤ length bytes)
+
+-- A list ends too early where it is empty, or where it stops before its byte count or its check byte with
+-- nothing wrong before.
+abbrev pub IsTruncated : List ℕ → Type 0
+IsTruncated bytes = (length bytes ≡ 0)
+    ⊎ (HasDelimiter bytes × (length bytes ≤ byte_count_place bytes))
+    ⊎ (HasGoodByteCount bytes × (length bytes < body_length bytes))
+
+-- The fault of a list is the first thing that is wrong with it; the faults of making and of sending a frame are
+-- none of a list's.
+abbrev pub IsRefusedWith : List ℕ → FrameFault → Type 0
+IsRefusedWith bytes BadDelimiter = (0 < length bytes) × (IsDecodedDelimiter (delimiter_in bytes) → ⊥)
+IsRefusedWith bytes Truncated = IsTruncated bytes
+IsRefusedWith bytes ShortReply = HasByteCount bytes × (delimiter_in bytes % 8 ≡ 6) × (byte_count_in bytes < 2)
+IsRefusedWith bytes BadCheck = HasCheckByte bytes × (HasEvenParity (take (body_length bytes) bytes) → ⊥)
+IsRefusedWith bytes TooShortReply = ⊥
+IsRefusedWith bytes BadPreamble = ⊥

@@ -1,0 +1,59 @@
+//! The first byte of a body: bit 7 the address type, bits 6 and 5 the number of expansion bytes, bits 2 to 0 the kind.
+ghost use Rattle.std.specs.Prelude.{◌≡◌, ◌+◌, ◌*◌, ◌/◌, ◌%◌, ◌↔◌, IsSome, IfSome};
+ghost use Rattle.hart_frame.specs.Delimiter.{delimiter_of, kind_code};
+ghost use Rattle.hart_frame.specs.Refusal.{IsDecodedDelimiter};
+
+use crate::{Frame, FrameKind};
+use hart_values::Address;
+
+const UNIQUE_ADDRESS: u8 = 0x80;
+
+const EXPANSION_BYTE: u8 = 0x20;
+
+const STX: u8 = 0x02;
+
+const ACK: u8 = 0x06;
+
+/// What a delimiter tells of the bytes behind it.
+#[derive(Clone, Copy)]
+pub(crate) struct Delimiter {
+    pub(crate) kind: FrameKind,
+    /// The number of address bytes: one or five.
+    pub(crate) address_len: usize,
+    /// The number of expansion bytes, at most 3.
+    pub(crate) expansion_len: usize,
+}
+
+/// The delimiter of the frame's body.
+pub(crate) fn delimiter_byte(frame: &Frame) -> u8
+    ensures { result ≡ delimiter_of frame.now }
+{
+    let address_type = match frame.address() {
+        Address::Polling(_) => 0,
+        Address::Unique(_) => UNIQUE_ADDRESS,
+    };
+    let kind = match frame.kind() {
+        FrameKind::Stx => STX,
+        FrameKind::Ack => ACK,
+    };
+    address_type + EXPANSION_BYTE * frame.expansion().len() as u8 + kind
+}
+
+/// What the delimiter tells, or `None` where it is none that is decoded.
+pub(crate) fn read_delimiter(byte: u8) -> Option<Delimiter>
+    ensures decoded { IsSome result ↔ IsDecodedDelimiter byte }
+    ensures kind { IfSome result (λ delimiter. kind_code delimiter.kind ≡ byte % 8) }
+    ensures address { IfSome result (λ delimiter. delimiter.address_len ≡ 1 + 4 * (byte / 128)) }
+    ensures expansion { IfSome result (λ delimiter. delimiter.expansion_len ≡ byte / 32 % 4) }
+{
+    let kind = match byte {
+        STX => FrameKind::Stx,
+        ACK => FrameKind::Ack,
+        _ => return None,
+    };
+    Some(Delimiter {
+        kind,
+        address_len: if byte < UNIQUE_ADDRESS { 1 } else { 5 },
+        expansion_len: usize::from(byte / EXPANSION_BYTE % 4),
+    })
+}

@@ -1,0 +1,8 @@
+/// What a frame is for (HCF_SPEC-081).
+#[derive(Clone, Copy, Debug, PartialEq, Eq, Hash)]
+pub enum FrameKind {
+    /// A master's request to a device.
+    Stx,
+    /// A device's reply to a master.
+    Ack,
+}

@@ -1,0 +1,21 @@
+//! Laws over the definitions alone, for the crates above.
+ghost use Rattle.std.specs.Prelude.{◌≡◌, List, ℕ, [], ◌++◌, length};
+ghost use Rattle.hart_frame.specs.FrameParts.{FrameParts};
+ghost use Rattle.hart_frame.specs.Body.{IsBody, BeginsWithBody};
+
+use hart_values::address_bytes_are_told_apart;
+
+/// Bodies are told apart: from the front of a list of bytes at most one body of at most one frame is read.
+pub fn bodies_are_told_apart()
+    ensures one_frame { (f g : FrameParts) (bytes : List ℕ) → IsBody f bytes → IsBody g bytes → f ≡ g }
+    ensures one_body { (f : FrameParts) (bytes others : List ℕ) → IsBody f bytes → IsBody f others → bytes ≡ others }
+    ensures no_proper_prefix { (f g : FrameParts) (bytes rest : List ℕ)
+        → IsBody f bytes → IsBody g (bytes ++ rest) → rest ≡ [] }
+    ensures one_front { (f g : FrameParts) (bytes : List ℕ) (m n : ℕ)
+        → BeginsWithBody bytes f m → BeginsWithBody bytes g n → (f ≡ g) × (m ≡ n) }
+    ensures whatever_follows { (f : FrameParts) (body rest : List ℕ)
+        → IsBody f body → BeginsWithBody (body ++ rest) f (length body) }
+{
+    // It does nothing when it runs: the law of addresses is what this one rests on.
+    address_bytes_are_told_apart();
+}
