@@ -1,0 +1,31 @@
+-- One more byte in a line of hex.
+use Rattle.std.proofs.Common.{◌≡◌, ℕ, zero, suc, ◌<◌, ◌≤◌, ◌+◌, List, [], ◌∷◌, ◌++◌, length, take, map, get_or, refl, sym, ap, ◌∙◌, append_assoc, arith}
+use Rattle.std.specs.List.{join_with_byte}
+use Rattle.std.proofs.lemmas.List.{map_more}
+use Rattle.hart_cli.specs.HexText.{hex_items}
+use Rattle.hex.specs.Hex.{encode_upper}
+
+-- one more part after the last of one or more
+join_with_byte-push : (c : ℕ) (x : List ℕ) (xs : List (List ℕ)) (y : List ℕ) → join_with_byte c ((x ∷ xs) ++ y ∷ []) ≡ join_with_byte c (x ∷ xs) ++ c ∷ y
+join_with_byte-push c x [] y = refl
+join_with_byte-push c x (z ∷ zs) y =
+    ap (λ (ws : List ℕ). x ++ c ∷ ws) (join_with_byte-push c z zs y) ∙ sym (append_assoc x (c ∷ join_with_byte c (z ∷ zs)) (c ∷ y))
+
+-- the first byte
+pub hex_items-first : (bytes line digits : List ℕ) (i d : ℕ) → i ≤ 0 → i < length bytes → line ≡ hex_items (take i bytes)
+    → digits ≡ encode_upper (get_or bytes i d ∷ []) → line ++ digits ≡ hex_items (take (i + 1) bytes)
+hex_items-first [] line digits i d z h e f = absurd (omega arith)
+hex_items-first (x ∷ xs) line digits zero d z h e f = rw (e, f) refl
+hex_items-first (x ∷ xs) line digits (suc i) d z h e f = absurd (omega arith)
+
+-- a further byte, behind a space
+pub hex_items-more : (bytes line digits : List ℕ) (i d : ℕ) → 0 < i → i < length bytes → line ≡ hex_items (take i bytes) ++ 32 ∷ []
+    → digits ≡ encode_upper (get_or bytes i d ∷ []) → line ++ digits ≡ hex_items (take (i + 1) bytes)
+hex_items-more [] line digits i d z h e f = absurd (omega arith)
+hex_items-more (x ∷ xs) line digits zero d z h e f = absurd (omega arith)
+hex_items-more (x ∷ xs) line digits (suc i) d z h e f =
+    let parts = map (λ (byte : ℕ). encode_upper (byte ∷ [])) (take i xs) in
+    ap (λ (us : List ℕ). us ++ digits) e ∙ append_assoc (hex_items (x ∷ take i xs)) (32 ∷ []) digits
+    ∙ ap (λ (us : List ℕ). hex_items (x ∷ take i xs) ++ 32 ∷ us) f
+    ∙ sym (join_with_byte-push 32 (encode_upper (x ∷ [])) parts (encode_upper (get_or xs i d ∷ [])))
+    ∙ sym (ap (λ (ps : List (List ℕ)). join_with_byte 32 ps) (map_more (λ (byte : ℕ). encode_upper (byte ∷ [])) (x ∷ xs) (suc i) d h))

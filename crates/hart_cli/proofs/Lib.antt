@@ -1,0 +1,6 @@
+pub mod KnownBytesLemmas
+pub mod ItemsLemmas
+pub mod HexTextLemmas
+pub mod DeliveryLemmas
+pub mod CommandLineLemmas
+pub mod AnswerLemmas

@@ -1,0 +1,11 @@
+pub mod Stream
+pub mod Plain
+pub mod Input
+pub mod Items
+pub mod HexText
+pub mod Identity
+pub mod Delivery
+pub mod Preamble
+pub mod Answer
+pub mod FaultText
+pub mod CommandLine

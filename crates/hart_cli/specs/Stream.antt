@@ -1,0 +1,33 @@
+-- Readers and writers as contracts see them, an own profile.
+use Rattle.std.specs.Prelude.{◌≡◌, ◌≢◌, ◌⊎◌, ℕ, ◌+◌, ◌-◌, ◌^◌, min, List, [], ◌++◌, Option, Result, MatchResult}
+use Rattle.std.specs.Io.KnownBytes.{Appends}
+use Rattle.hart_cli.specs.declared.stream.Failed.{Failed}
+
+-- A failure more is counted, but never above the last number of 64 bits.
+abbrev pub count_after_failure : ℕ → ℕ
+count_after_failure count = min (count + 1) (2 ^ 64 - 1)
+
+-- A failure raises the count by one, and a success leaves it.
+abbrev pub CountsFailure : {T : Type 0} → ℕ → ℕ → Result T Failed → Type 0
+CountsFailure old new result =
+    MatchResult result (λ _. new ≡ old) (λ _. new ≡ count_after_failure old)
+
+-- A front of the text, short of its end, was written, and nothing else.
+pub record WritesFront (old new : Option (List ℕ)) (text : List ℕ) : Type 0 where
+  pub front : List ℕ
+  pub back : List ℕ
+  pub split : text ≡ front ++ back
+  pub short : back ≢ []
+  pub written : Appends old new front
+
+-- The whole text was written and no write failed, or one failed and a front of the text was written.
+abbrev pub WritesUnlessFailed : Option (List ℕ) → Option (List ℕ) → ℕ → ℕ → List ℕ → Type 0
+WritesUnlessFailed old new failures_old failures_new text =
+    (Appends old new text × (failures_new ≡ failures_old))
+    ⊎ (WritesFront old new text × (failures_new ≡ count_after_failure failures_old))
+
+-- A reader or a writer is, to contracts, the bytes left to read or written so far, where they are told, and how often it
+-- has failed.
+pub record Stream : Type 0 where
+  pub bytes : Option (List ℕ)
+  pub failures : ℕ

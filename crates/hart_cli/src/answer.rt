@@ -1,0 +1,81 @@
+//! `hart answer`: the device's reply to one delivery.
+ghost use Rattle.std.specs.Prelude.{◌≡◌, ℕ, List, IfOk};
+ghost use Rattle.std.specs.String.{string_bytes};
+ghost use Rattle.hart_cli.specs.Answer.{IsAnswer, IsReplyText, Outcome};
+ghost use Rattle.hart_cli.specs.Delivery.{identity_reply};
+
+use crate::delivery::requesting_master;
+use crate::fault::CliFault;
+use crate::identity::Identity;
+use crate::input::read_input;
+use crate::items::{one_reading, read_items};
+use crate::output::{hex_line, write_all};
+use crate::stream::{Sink, Source};
+use hart_frame::{Expansion, Frame, FrameKind, Message, bodies_are_told_apart, encode};
+use hart_values::{Address, MasterId};
+use std::alloc::{AllocError, Global};
+
+/// Reads a delivery as hex items, and writes the device's reply to it as one line of hex, or nothing.
+///
+/// # Errors
+///
+/// [`CliFault::Read`], [`CliFault::TooLong`], then [`CliFault::BadHex`], then [`CliFault::Write`], and
+/// [`CliFault::Memory`] wherever a growth is refused. At a fault nothing is written, except at `Write`, where a front of
+/// the line is, short of its end.
+pub fn answer<R: Source, W: Sink>(
+    alloc: Global,
+    reader: &mut R,
+    writer: &mut W,
+) -> Result<(), CliFault>
+    ensures { Outcome
+        (record { bytes = R.remaining reader.old; failures = R.failures reader.old })
+        (record { bytes = R.remaining reader.new; failures = R.failures reader.new })
+        (record { bytes = W.written writer.old; failures = W.failures writer.old })
+        (record { bytes = W.written writer.new; failures = W.failures writer.new })
+        result }
+{
+    let input = read_input(alloc, reader)?;
+    let delivery = read_items(alloc, &input)?;
+    let Some(master) = requesting_master(&delivery) else {
+        return Ok(());
+    };
+    let line = reply_line(alloc, master)?;
+    write_all(writer, line.as_bytes()).map_err(|_| CliFault::Write)
+}
+
+/// An input has one answer at most, so that what `answer` writes is determined by what it reads.
+pub fn one_answer()
+    ensures { (input xs ys : List ℕ) → IsAnswer input xs → IsAnswer input ys → xs ≡ ys }
+{
+    // They do nothing when they run: the laws of bodies and of items are what this one rests on.
+    bodies_are_told_apart();
+    one_reading();
+}
+
+/// The line of the reply to this master.
+fn reply_line(alloc: Global, master: MasterId) -> Result<String, AllocError>
+    ensures { IfOk result (λ line. IsReplyText master (string_bytes line)) }
+{
+    let mut message = Message::new();
+    let preambles = Identity::bench().response_preambles;
+    encode(&reply_to(master), preambles, &mut message).unwrap();
+    hex_line(alloc, message.as_slice())
+}
+
+/// The bench device's reply to this master.
+fn reply_to(master: MasterId) -> Frame
+    ensures { result ≡ identity_reply master }
+{
+    let address = Address::polling(0).unwrap();
+    let payload = Identity::bench().reply_payload();
+    Frame::new(
+        FrameKind::Ack,
+        master,
+        false,
+        address,
+        Expansion::new(),
+        0,
+        payload,
+    )
+    .unwrap()
+}

@@ -1,0 +1,23 @@
+use super::CliFault;
+use std::test::Fail;
+
+#[test]
+fn each_line_is_the_display_and_a_line_feed(rt: HostRuntime) -> Result<(), Fail> {
+    let faults = [
+        (CliFault::Read, "read fault\n"),
+        (CliFault::Write, "write fault\n"),
+        (CliFault::TooLong, "input too long\n"),
+        (CliFault::BadHex { place: 0 }, "bad hex at 0\n"),
+        (
+            CliFault::BadHex { place: usize::MAX },
+            "bad hex at 18446744073709551615\n",
+        ),
+        (CliFault::Memory, "out of memory\n"),
+    ];
+    for (fault, line) in faults {
+        assert_eq!(rt; fault.line().as_str(), line);
+        let display = format!(in rt.alloc(); "{fault}\n")?;
+        assert_eq!(rt; display.as_str(), line);
+    }
+    Ok(())
+}

@@ -1,0 +1,48 @@
+//! `hart`, a HART field device on the command line: what a technician types, and what comes back.
+//!
+//! Each call of the program is a module of its own, over any reader and writer; here stand only the arguments and the
+//! standard streams.
+#![tactic(auto)]
+
+mod answer;
+mod delivery;
+mod fault;
+mod identity;
+mod input;
+mod items;
+mod output;
+mod plain;
+mod program;
+mod stream;
+
+use crate::plain::Plain;
+use crate::program::{NO_CALL, program};
+use std::process::ExitCode;
+use std::{env, io};
+
+fn main(rt: HostRuntime) -> ExitCode {
+    let words = match words_after_name(&rt) {
+        Ok(words) => words,
+        Err(error) => {
+            let _ = eprintln!(rt; "error: {error}");
+            return ExitCode::from(NO_CALL);
+        }
+    };
+    let mut reader = Plain::new(rt.stdin());
+    let mut writer = Plain::new(rt.stdout());
+    let mut errors = Plain::new(rt.stderr());
+    let status = program(
+        rt.alloc(),
+        words.as_slice(),
+        &mut reader,
+        &mut writer,
+        &mut errors,
+    );
+    ExitCode::from(status)
+}
+
+// The arguments behind the program's name.
+fn words_after_name(rt: &HostRuntime) -> io::Result<Vec<String>> {
+    let words = env::args(rt)?.skip(1).collect(rt.alloc())?;
+    Ok(words)
+}

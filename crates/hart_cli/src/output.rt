@@ -1,0 +1,51 @@
+//! Making and writing the text of an output.
+
+ghost use Rattle.std.specs.Prelude.{◌≡◌, IfOk, OnOk, OnErr};
+ghost use Rattle.std.specs.String.{string_bytes};
+ghost use Rattle.std.specs.Io.KnownBytes.{Appends};
+ghost use Rattle.hart_cli.specs.HexText.{hex_line};
+ghost use Rattle.hart_cli.specs.Stream.{CountsFailure, WritesFront};
+
+#[cfg(test)]
+mod tests;
+
+use crate::stream::{Failed, Sink};
+use std::alloc::{AllocError, Global};
+
+/// The bytes in upper case hex as one line.
+///
+/// # Errors
+///
+/// `AllocError` if memory for the line is refused.
+pub fn hex_line(alloc: Global, bytes: &[u8]) -> Result<String, AllocError>
+    ensures { IfOk result (λ line. string_bytes line ≡ hex_line bytes.now) }
+{
+    let mut line = String::new(alloc);
+    for (index, byte) in bytes.iter().enumerate() {
+        if index > 0 {
+            line.push(' ')?;
+        }
+        line.push_str(hex::encode_upper(alloc, [*byte])?.as_str())?;
+    }
+    line.push('\n')?;
+    Ok(line)
+}
+
+/// Writes a whole text.
+///
+/// # Errors
+///
+/// `Failed` at the first write that fails. A front of the text is written then.
+pub fn write_all<W: Sink>(writer: &mut W, text: &[u8]) -> Result<(), Failed>
+    ensures ok { OnOk result (Appends (W.written writer.old) (W.written writer.new) text.now) }
+    ensures err { OnErr result
+        (WritesFront (W.written writer.old) (W.written writer.new) text.now) }
+    ensures count { CountsFailure (W.failures writer.old) (W.failures writer.new) result }
+{
+    let mut rest = text;
+    while !rest.is_empty() {
+        let taken = writer.write(rest)?;
+        rest = &rest[taken..];
+    }
+    Ok(())
+}
