@@ -1,2 +1,5 @@
 pub mod DeviceNumbers
 pub mod AddressBytes
+pub mod Packing
+pub mod Calendar
+pub mod StatusBytes

@@ -1,6 +1,7 @@
 //! Laws over the definitions alone, for the crates above.
 ghost use Rattle.std.specs.Prelude.{◌≡◌, Bool, List, ℕ};
 ghost use Rattle.hart_values.specs.AddressBytes.{IsAddressBytes};
+ghost use Rattle.hart_values.specs.Packing.{IsPacked};
 ghost use Rattle.hart_values.specs.declared.master_id.MasterId.{MasterId};
 ghost use Rattle.hart_values.specs.declared.address.Address.{Address};
 
@@ -10,4 +11,12 @@ pub fn address_bytes_are_told_apart()
         → IsAddressBytes m b x bytes → IsAddressBytes n c y bytes → (m ≡ n) × (b ≡ c) × (x ≡ y) }
     ensures one_list { (m : MasterId) (b : Bool) (x : Address) (bytes others : List ℕ)
         → IsAddressBytes m b x bytes → IsAddressBytes m b x others → bytes ≡ others }
+{}
+
+/// A text has at most one packed form, and bytes are the packed form of at most one text.
+pub fn packed_text_and_bytes_determine_each_other()
+    ensures one_list { (text bytes others : List ℕ)
+        → IsPacked text bytes → IsPacked text others → bytes ≡ others }
+    ensures one_text { (text others bytes : List ℕ)
+        → IsPacked text bytes → IsPacked others bytes → text ≡ others }
 {}

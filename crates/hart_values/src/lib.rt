@@ -1,32 +1,55 @@
-//! The values that a HART message carries, and their bytes (HCF_SPEC-081).
+//! The values that a HART message carries, and their bytes (HCF_SPEC-081, HCF_SPEC-099, HCF_SPEC-127).
 //!
-//! Each value here is one of the standard's. What it is in bytes is a relation of `specs/`, and a
-//! pair of calls goes both ways: for an address, [`Address::bytes`] and [`Address::read`].
+//! Each value here is one of the standard's. Where it has bytes of a form of its own, they are a relation of `specs/`. A
+//! pair of calls goes both ways: for an address, [`Address::bytes`] and [`Address::read`], for a text,
+//! [`PackedText::from_text`] and [`PackedText::write_text`], and for a date, [`HartDate::from_bytes`] and
+//! [`HartDate::as_bytes`]. Status bytes are only read.
 //!
 //! ```rust
 //! let address = Address::unique(0x3742, 0x0A1B2C)?;
 //! let bytes = address.bytes(MasterId::Primary, false);
 //! assert_eq!(rt; bytes.as_slice(), [0xB7, 0x42, 0x0A, 0x1B, 0x2C].as_slice());
+//!
+//! let tag = PackedText::<6>::from_text("PUMP-101".as_bytes())?;
+//! assert_eq!(rt; tag.as_bytes(), [0x41, 0x53, 0x50, 0xB7, 0x1C, 0x31].as_slice());
 //! ```
 //!
 //! No call of this crate takes memory.
 #![tactic(auto)]
 
 mod address;
+mod bits32;
 mod byte_list;
+mod calendar;
+mod comm_faults;
+mod device_status;
 mod fault;
 mod first_byte;
+mod hart_date;
 mod laws;
+mod loop_mode;
 mod master_id;
+mod packed_text;
+mod packing;
 mod polling_address;
+mod response_code;
+mod status;
 mod unique_address;
 
 pub use address::{Address, AddressBytes};
+pub use bits32::Bits32;
 pub use byte_list::ByteList;
+pub use comm_faults::CommFaults;
+pub use device_status::DeviceStatus;
 pub use fault::ValueFault;
-pub use laws::address_bytes_are_told_apart;
+pub use hart_date::HartDate;
+pub use laws::{address_bytes_are_told_apart, packed_text_and_bytes_determine_each_other};
+pub use loop_mode::LoopMode;
 pub use master_id::MasterId;
+pub use packed_text::PackedText;
 pub use polling_address::PollingAddress;
+pub use response_code::ResponseCode;
+pub use status::Status;
 pub use unique_address::UniqueAddress;
 
 #[cfg(test)]

@@ -1,0 +1,34 @@
+-- Dates in three bytes: the day, the month, and the year less 1900 (HCF_SPEC-127). That three zeros are
+-- a date, "not set", and that a day must be one of the calendar, is of the own profile.
+use Rattle.std.specs.Prelude.{◌≡◌, ℕ, ◌+◌, ◌-◌, ◌%◌, ◌<◌, ◌≤◌, ◌⊎◌, ◌==◌, ◌&&◌, ◌||◌, not, Bool, if◌then◌else◌, List, [], ◌∷◌, length, slice_index}
+
+-- A year is a leap year where it is divisible by 4 and not by 100, or by 400.
+abbrev pub is_leap_year : ℕ → Bool
+is_leap_year year = ((year % 4 == 0) && not (year % 100 == 0)) || (year % 400 == 0)
+
+-- February has 29 days in a leap year.
+abbrev pub february_length : ℕ → ℕ
+february_length year = if is_leap_year year then 29 else 28
+
+-- The lengths of the months of a year, from January to December.
+abbrev pub month_lengths : ℕ → List ℕ
+month_lengths year = 31 ∷ february_length year ∷ 31 ∷ 30 ∷ 31 ∷ 30 ∷ 31 ∷ 31 ∷ 30 ∷ 31 ∷ 30 ∷ 31 ∷ []
+
+-- The calendar has a day where its month is one of the twelve and the day lies within that month.
+pub record IsCalendarDay (day month year : ℕ) : Type 0 where
+  pub month_from : 1 ≤ month
+  pub month_to : month ≤ 12
+  pub day_from : 1 ≤ day
+  pub day_to : day ≤ slice_index (month_lengths year) (month - 1)
+
+-- The date that is not set has three zero bytes.
+abbrev pub not_set : List ℕ
+not_set = 0 ∷ 0 ∷ 0 ∷ []
+
+-- Three bytes are a date where they are not set or name a day of the calendar, of the years 1900 to 2155.
+abbrev pub IsDateBytes : List ℕ → Type 0
+IsDateBytes bytes =
+    (length bytes ≡ 3)
+    × (slice_index bytes 2 < 256)
+    × ((bytes ≡ not_set)
+    ⊎ IsCalendarDay (slice_index bytes 0) (slice_index bytes 1) (1900 + slice_index bytes 2))

@@ -1,0 +1,47 @@
+-- Packed text: four characters stand in three bytes, six bits each (HCF_SPEC-127).
+use Rattle.std.specs.Prelude.{◌≡◌, ◌≢◌, ℕ, ◌+◌, ◌*◌, ◌%◌, ◌<◌, ◌≤◌, ◌⊎◌, List, length, slice_index, All}
+use Rattle.hart_values.specs.declared.fault.ValueFault.{ValueFault}
+use Rattle.hart_values.specs.declared.fault.ValueFault.TheVariants.{WrongLength, BadCharacter, BadDate, OutOfRange}
+
+-- Packed texts have 6, 12 or 24 bytes.
+abbrev pub IsPackedSize : ℕ → Type 0
+IsPackedSize size = (size ≡ 6) ⊎ (size ≡ 12) ⊎ (size ≡ 24)
+
+-- The characters of packed text are those of the codes hex 20 to 5F.
+abbrev pub IsCharacter : ℕ → Type 0
+IsCharacter code = (32 ≤ code) × (code < 96)
+
+-- A group of three bytes is one number of 24 bits, which four codes modulo 64 make, the first one on top.
+abbrev pub IsPackedGroup : (w x y z a b c : ℕ) → Type 0
+IsPackedGroup w x y z a b c =
+    65536 * a + 256 * b + c ≡ 262144 * (w % 64) + 4096 * (x % 64) + 64 * (y % 64) + z % 64
+
+-- The group at a place has its four characters from four times the place on, and its bytes from three times on.
+abbrev pub IsPackedAt : List ℕ → List ℕ → ℕ → Type 0
+IsPackedAt text bytes place =
+    IsPackedGroup
+    (slice_index text (4 * place)) (slice_index text (4 * place + 1))
+    (slice_index text (4 * place + 2)) (slice_index text (4 * place + 3))
+    (slice_index bytes (3 * place)) (slice_index bytes (3 * place + 1)) (slice_index bytes (3 * place + 2))
+
+-- A text and bytes are related where the text has packed text's characters alone, there are four characters for three
+-- bytes, and each group is packed.
+pub record IsPacked (text bytes : List ℕ) : Type 0 where
+  pub lengths : 3 * length text ≡ 4 * length bytes
+  pub characters : All IsCharacter text
+  pub bytes_fit : All (λ byte. byte < 256) bytes
+  pub groups : (place : ℕ) → 3 * place < length bytes → IsPackedAt text bytes place
+
+-- The first bad character of a text is one that stands in it, with none at an earlier place.
+pub record IsFirstBadCharacter (text : List ℕ) (place : ℕ) : Type 0 where
+  pub in_text : place < length text
+  pub bad : ¬ IsCharacter (slice_index text place)
+  pub least : (k : ℕ) → k < place → IsCharacter (slice_index text k)
+
+-- A text that should have so many characters is refused for its length, otherwise for its first bad character, and for
+-- nothing else.
+abbrev pub IsTextFault : ℕ → List ℕ → ValueFault → Type 0
+IsTextFault characters text WrongLength = length text ≢ characters
+IsTextFault characters text (BadCharacter place) = (length text ≡ characters) × IsFirstBadCharacter text place
+IsTextFault characters text BadDate = ⊥
+IsTextFault characters text OutOfRange = ⊥

@@ -1,0 +1,65 @@
+ghost use Rattle.std.specs.Prelude.{◌≡◌, ◌≢◌, ◌↔◌, IsOk, IfOk, IfErr, MatchBool};
+ghost use Rattle.hart_values.specs.Calendar.{IsDateBytes, not_set};
+
+use crate::ValueFault;
+use crate::calendar::is_calendar_day;
+use std::marker::Model;
+
+/// The bytes of the date that is not set.
+const NOT_SET: [u8; 3] = [0; 3];
+
+/// A day of the years 1900 to 2155 (HCF_SPEC-127), or "not set" (own profile).
+///
+/// Contracts see its three bytes: the day, the month, and the year less 1900.
+#[derive(Clone, Copy, Debug, PartialEq, Eq, Hash)]
+pub struct HartDate {
+    bytes: [u8; 3],
+}
+
+impl Model for HartDate {
+    ghost use Rattle.std.specs.Prelude.{List, ℕ};
+    ghost use Rattle.hart_values.specs.Calendar.{IsDateBytes};
+
+    ghost Value = { List ℕ };
+
+    ghost view = { λ date. date.bytes };
+
+    ghost invariant = { λ date. IsDateBytes date.bytes };
+
+    ghost inverse = { λ xs. record { bytes = xs } };
+}
+
+impl HartDate {
+    /// The date that these bytes hold.
+    ///
+    /// # Errors
+    ///
+    /// [`ValueFault::BadDate`] where they are neither three zeros nor a day of the calendar.
+    pub fn from_bytes(bytes: [u8; 3]) -> Result<Self, ValueFault>
+        ensures accepted { IsOk result ↔ IsDateBytes bytes }
+        ensures kept { IfOk result (λ date. date ≡ bytes) }
+        ensures refused { IfErr result (λ fault. fault ≡ ValueFault.BadDate) }
+    {
+        let [day, month, year] = bytes;
+        if bytes == NOT_SET || is_calendar_day(day, month, year) {
+            Ok(HartDate { bytes })
+        } else {
+            Err(ValueFault::BadDate)
+        }
+    }
+
+    /// The three bytes.
+    pub fn as_bytes(&self) -> &[u8]
+        ensures value { result.now ≡ self.now }
+        ensures date { IsDateBytes result.now }
+    {
+        &self.bytes
+    }
+
+    /// Whether it is a day, and not "not set".
+    pub fn is_set(self) -> bool
+        ensures { MatchBool result (self ≢ not_set) (self ≡ not_set) }
+    {
+        self.bytes != NOT_SET
+    }
+}

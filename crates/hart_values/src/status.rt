@@ -1,0 +1,31 @@
+ghost use Rattle.std.specs.Prelude.{◌≡◌};
+
+use crate::{CommFaults, DeviceStatus, ResponseCode};
+
+/// The bit of the first status byte that tells communication faults from a response code.
+const FAULTS_BIT: u8 = 0x80;
+
+/// What the two status bytes of a reply say (HCF_SPEC-099).
+#[derive(Clone, Copy, Debug, PartialEq, Eq, Hash)]
+pub enum Status {
+    /// The device has received the request: its answer to it, and its own state.
+    Code(ResponseCode, DeviceStatus),
+    /// The device has received the request with faults.
+    Faulty(CommFaults),
+}
+
+impl Status {
+    ghost use Rattle.hart_values.specs.StatusBytes.{IsStatusBytes};
+
+    /// The status that two bytes hold.
+    pub fn read(bytes: [u8; 2]) -> Self
+        ensures held { IsStatusBytes result bytes }
+        ensures only { (status : Status) → IsStatusBytes status bytes → result ≡ status }
+    {
+        let [first, second] = bytes;
+        match ResponseCode::new(first) {
+            Ok(code) => Status::Code(code, DeviceStatus(second)),
+            Err(_) => Status::Faulty(CommFaults::new(first & !FAULTS_BIT).unwrap()),
+        }
+    }
+}
