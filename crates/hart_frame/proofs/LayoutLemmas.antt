@@ -1,5 +1,5 @@
 -- The parts that a layout cuts out of bytes are, joined again, the bytes.
-use Rattle.std.proofs.Common.{◌≡◌, ℕ, suc, ◌+◌, ◌-◌, ◌*◌, ◌/◌, ◌%◌, ◌<◌, ◌≤◌, inl, inr, List, ◌∷◌, ◌++◌, length, take, drop, get_or, refl, sym, ap, ◌∙◌, arith, length-drop}
+use Rattle.std.proofs.Common.{◌≡◌, ℕ, suc, ◌+◌, ◌-◌, ◌*◌, ◌/◌, ◌%◌, ◌<◌, ◌≤◌, List, ◌∷◌, ◌++◌, length, take, drop, get_or, sym, ap, ◌∙◌, arith, length-drop}
 use Rattle.std.specs.List.{slice_range}
 use Rattle.std.proofs.Math.Seq.{take-add}
 use Rattle.std.proofs.lemmas.List.{drop-drop, drop_more, length-take-le}
@@ -8,7 +8,7 @@ use Rattle.hart_frame.specs.declared.layout.Layout.{Layout}
 use Rattle.hart_frame.specs.FrameParts.{FrameParts, IsLongEnough}
 use Rattle.hart_frame.specs.Delimiter.{delimiter_of, kind_code}
 use Rattle.hart_frame.specs.Layout.{Describes, delimiter_in, body_length}
-use Rattle.hart_frame.specs.Refusal.{HasCheckByte, IsDecodedDelimiter}
+use Rattle.hart_frame.specs.Refusal.{HasCheckByte, IsDelimiter}
 use Rattle.hart_frame.specs.Body.{IsCheckedPart}
 use Rattle.hart_frame.proofs.ToldApart.{length-address}
 
@@ -58,10 +58,9 @@ length-slice_range : (xs : List ℕ) (a b : ℕ) → a ≤ b → b ≤ length xs
 length-slice_range xs a b ab within = length-take-le (b - a) (drop a xs) (omega (arith, length-drop a xs))
 
 -- a delimiter that is decoded is made of its parts
-delimiter-parts : (delimiter : ℕ) → IsDecodedDelimiter delimiter
+delimiter-parts : (delimiter : ℕ) → IsDelimiter delimiter
     → delimiter ≡ 128 * (delimiter / 128) + 32 * (delimiter / 32 % 4) + delimiter % 8
-delimiter-parts delimiter (inl two) = rw two refl
-delimiter-parts delimiter (inr six) = rw six refl
+delimiter-parts delimiter taken = omega (arith, taken.0)
 
 -- equal parts join to equal lists
 joined : (address : List ℕ) {d e c f l m : ℕ} {xs ys ps qs : List ℕ} → d ≡ e → xs ≡ ys → c ≡ f → l ≡ m → ps ≡ qs

@@ -1,5 +1,5 @@
 -- What has a body at its front is not refused.
-use Rattle.std.proofs.Common.{◌≡◌, ℕ, ◌+◌, ◌*◌, ◌<◌, ◌≤◌, inl, inr, List, [], ◌∷◌, ◌++◌, length, take, drop, get_or, sym, ap, ◌∙◌, arith, append_assoc, length-append, subst, Result, Ok, Err}
+use Rattle.std.proofs.Common.{◌≡◌, ℕ, ◌+◌, ◌*◌, ◌/◌, ◌%◌, ◌<◌, ◌≤◌, ◌⊎◌, inl, inr, List, [], ◌∷◌, ◌++◌, length, take, drop, get_or, sym, ap, ◌∙◌, arith, append_assoc, length-append, subst, Result, Ok, Err}
 use Rattle.std.specs.Result.{IfOk, IfErr}
 use Rattle.std.proofs.lemmas.List.{length-take-le, take-append-drop, get_or_at}
 use Rattle.hart_frame.specs.declared.kind.FrameKind.{FrameKind}
@@ -10,7 +10,7 @@ use Rattle.hart_frame.specs.FrameParts.{FrameParts, IsLongEnough}
 use Rattle.hart_frame.specs.Delimiter.{delimiter_of, kind_code, address_type}
 use Rattle.hart_frame.specs.Parity.{HasEvenParity}
 use Rattle.hart_frame.specs.Layout.{delimiter_in, byte_count_place, byte_count_in, body_length}
-use Rattle.hart_frame.specs.Refusal.{IsRefusedWith, IsDecodedDelimiter}
+use Rattle.hart_frame.specs.Refusal.{IsRefusedWith, IsDelimiter}
 use Rattle.hart_frame.specs.Body.{IsCheckedPart, BeginsWithBody}
 use Rattle.hart_frame.proofs.ToldApart.{length-address, address_type-lt, kind_code-is, spread}
 
@@ -32,8 +32,21 @@ length-checked f checked part =
     let front = length-append (delimiter_of f ∷ part.address) f.expansion in
     omega (arith, parts, all, front, address)
 
-tells : (bytes : List ℕ) (f : FrameParts) (len : ℕ) → IsDecodedDelimiter (delimiter_of f) → BeginsWithBody bytes f len → Tells bytes f len
-tells bytes f len taken begins =
+kind_code-either : (byte : ℕ) (kind : FrameKind) → byte % 8 ≡ kind_code kind → (byte % 8 ≡ 2) ⊎ (byte % 8 ≡ 6)
+kind_code-either byte Stx low = inl low
+kind_code-either byte Ack low = inr low
+
+-- the delimiter of a frame with at most 3 expansion bytes is one of this profile
+pub IsDelimiter-of : (f : FrameParts) → length f.expansion ≤ 3 → IsDelimiter (delimiter_of f)
+IsDelimiter-of f few =
+    let kind = kind_code-is f.kind in
+    let form : address_type f.address < 2 = address_type-lt f.address in
+    let low : delimiter_of f % 8 ≡ kind_code f.kind = omega (arith, kind, form, few) in
+    let layer : delimiter_of f / 8 % 4 ≡ 0 = omega (arith, kind, form, few) in
+    (layer, kind_code-either (delimiter_of f) f.kind low)
+
+pub tells : (bytes : List ℕ) (f : FrameParts) (len : ℕ) → BeginsWithBody bytes f len → Tells bytes f len
+tells bytes f len begins =
     let part = begins.body.checked_part in
     let rest = drop len bytes in
     let whole = sym (take-append-drop len bytes) ∙ spread f (take len bytes) rest begins.body in
@@ -41,7 +54,7 @@ tells bytes f len taken begins =
     let few : address_type f.address < 2 = address_type-lt f.address in
     let kind = kind_code-is f.kind in
     let place : byte_count_place bytes ≡ 3 + 4 * address_type f.address + length f.expansion =
-    elim taken [ inl two ↦ omega (arith, delimiter, two, few, kind) | inr six ↦ omega (arith, delimiter, six, few, kind) ] in
+    omega (arith, delimiter, few, kind, part.expansion_fits) in
     let front : List ℕ = delimiter_of f ∷ part.address ++ f.expansion ++ f.command ∷ [] in
     let regrouped : bytes ≡ front ++ length f.payload ∷ (f.payload ++ begins.body.check ∷ rest) = whole ∙ simp append_assoc in
     let address = length-address _ _ _ _ part.address_bytes in
@@ -65,37 +78,37 @@ not_short Stx payload long short ack = omega arith
 not_short Ack payload long short ack = omega arith
 
 -- a list that begins with a body is refused with no fault
-not_refused : (bytes : List ℕ) (f : FrameParts) (len : ℕ) (fault : FrameFault) → IsDecodedDelimiter (delimiter_of f)
+not_refused : (bytes : List ℕ) (f : FrameParts) (len : ℕ) (fault : FrameFault)
     → BeginsWithBody bytes f len → IsRefusedWith bytes fault → ⊥
-not_refused bytes f len TooShortReply taken begins refused = refused
-not_refused bytes f len BadPreamble taken begins refused = refused
-not_refused bytes f len BadDelimiter taken begins refused =
-    refused.1 (subst IsDecodedDelimiter (sym (tells bytes f len taken begins).delimiter) taken)
-not_refused bytes f len Truncated taken begins refused =
-    let told = tells bytes f len taken begins in
+not_refused bytes f len TooShortReply begins refused = refused
+not_refused bytes f len BadPreamble begins refused = refused
+not_refused bytes f len BadDelimiter begins refused =
+    refused.1 (subst IsDelimiter (sym (tells bytes f len begins).delimiter) (IsDelimiter-of f begins.body.checked_part.expansion_fits))
+not_refused bytes f len Truncated begins refused =
+    let told = tells bytes f len begins in
     elim refused [
       | inl empty ↦ omega (arith, told, empty)
       | inr (inl no_count) ↦ omega (arith, told, no_count.1)
       | inr (inr no_check) ↦ omega (arith, told, no_check.1)
     ]
-not_refused bytes f len BadCheck taken begins refused =
-    let told = tells bytes f len taken begins in
+not_refused bytes f len BadCheck begins refused =
+    let told = tells bytes f len begins in
     let HasParity : ℕ → Type 0 = λ n. HasEvenParity (take n bytes) in
     refused.1 (subst HasParity told.whole begins.body.parity)
-not_refused bytes f len ShortReply taken begins refused =
-    let told = tells bytes f len taken begins in
+not_refused bytes f len ShortReply begins refused =
+    let told = tells bytes f len begins in
     let kind = kind_code-is f.kind in
     let few : address_type f.address < 2 = address_type-lt f.address in
     not_short f.kind f.payload begins.body.checked_part.payload_fits (omega (arith, told.count, refused.2))
-    (omega (arith, told.delimiter, refused.1, kind, few))
+    (omega (arith, told.delimiter, refused.1, kind, few, begins.body.checked_part.expansion_fits))
 
 pub only : ((f g : FrameParts) (bytes : List ℕ) (m n : ℕ) → BeginsWithBody bytes f m → BeginsWithBody bytes g n → (f ≡ g) × (m ≡ n))
     → (bytes : List ℕ) (result : Result (FrameParts × ℕ) FrameFault)
     → IfOk result (λ found. BeginsWithBody bytes found.0 found.1) → IfErr result (IsRefusedWith bytes)
-    → (f : FrameParts) (len : ℕ) → IsDecodedDelimiter (delimiter_of f) → BeginsWithBody bytes f len → result ≡ Ok (f, len)
-only law bytes (Ok found) accepts refused f len taken begins =
+    → (f : FrameParts) (len : ℕ) → BeginsWithBody bytes f len → result ≡ Ok (f, len)
+only law bytes (Ok found) accepts refused f len begins =
     let same = law found.0 f bytes found.1 len accepts begins in
     let of : FrameParts → ℕ → Result (FrameParts × ℕ) FrameFault = λ g n. Ok (g, n) in
     let all : of found.0 found.1 ≡ of f len = cc in
     all
-only law bytes (Err fault) accepts refused f len taken begins = absurd (not_refused bytes f len fault taken begins refused)
+only law bytes (Err fault) accepts refused f len begins = absurd (not_refused bytes f len fault begins refused)

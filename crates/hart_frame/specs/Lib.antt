@@ -7,3 +7,7 @@ pub mod Body
 pub mod Layout
 pub mod Refusal
 pub mod Message
+pub mod Character
+pub mod Heard
+pub mod Place
+pub mod Frames

@@ -1,17 +1,17 @@
 -- Why the bytes of a list are not decoded: the first thing that is wrong, from its front (own profile).
-use Rattle.std.specs.Prelude.{◌≡◌, ℕ, ◌%◌, ◌<◌, ◌≤◌, ◌⊎◌, List, length, take}
+use Rattle.std.specs.Prelude.{◌≡◌, ℕ, ◌/◌, ◌%◌, ◌<◌, ◌≤◌, ◌⊎◌, List, length, take}
 use Rattle.hart_frame.specs.declared.fault.FrameFault.{FrameFault}
 use Rattle.hart_frame.specs.declared.fault.FrameFault.TheVariants.{TooShortReply, BadPreamble, BadDelimiter, Truncated, BadCheck, ShortReply}
 use Rattle.hart_frame.specs.Layout.{delimiter_in, byte_count_place, byte_count_in, body_length}
 use Rattle.hart_frame.specs.Parity.{HasEvenParity}
 
--- The delimiters that are decoded so far are those of a polling address with no expansion bytes: STX and ACK.
-abbrev pub IsDecodedDelimiter : ℕ → Type 0
-IsDecodedDelimiter delimiter = (delimiter ≡ 2) ⊎ (delimiter ≡ 6)
+-- A delimiter of this profile has bits 4 and 3 zero, and in bits 2 to 0 the kind of an STX or of an ACK.
+abbrev pub IsDelimiter : ℕ → Type 0
+IsDelimiter byte = (byte / 8 % 4 ≡ 0) × ((byte % 8 ≡ 2) ⊎ (byte % 8 ≡ 6))
 
--- A list begins with a delimiter that is decoded.
+-- A list begins with a delimiter of this profile.
 abbrev pub HasDelimiter : List ℕ → Type 0
-HasDelimiter bytes = (0 < length bytes) × IsDecodedDelimiter (delimiter_in bytes)
+HasDelimiter bytes = (0 < length bytes) × IsDelimiter (delimiter_in bytes)
 
 -- It goes on to its byte count.
 abbrev pub HasByteCount : List ℕ → Type 0
@@ -35,7 +35,7 @@ IsTruncated bytes = (length bytes ≡ 0)
 -- The fault of a list is the first thing that is wrong with it; the faults of making and of sending a frame are
 -- none of a list's.
 abbrev pub IsRefusedWith : List ℕ → FrameFault → Type 0
-IsRefusedWith bytes BadDelimiter = (0 < length bytes) × (IsDecodedDelimiter (delimiter_in bytes) → ⊥)
+IsRefusedWith bytes BadDelimiter = (0 < length bytes) × (IsDelimiter (delimiter_in bytes) → ⊥)
 IsRefusedWith bytes Truncated = IsTruncated bytes
 IsRefusedWith bytes ShortReply = HasByteCount bytes × (delimiter_in bytes % 8 ≡ 6) × (byte_count_in bytes < 2)
 IsRefusedWith bytes BadCheck = HasCheckByte bytes × (HasEvenParity (take (body_length bytes) bytes) → ⊥)

@@ -1,9 +1,8 @@
 ghost use Rattle.std.specs.Prelude.{◌≡◌, ◌≤◌, ◌-◌, ℕ, length, take, Ok, IfOk, IfErr};
 ghost use Rattle.hart_frame.specs.FrameParts.{FrameParts};
-ghost use Rattle.hart_frame.specs.Delimiter.{delimiter_of};
 ghost use Rattle.hart_frame.specs.Body.{BeginsWithBody, IsCheckedPart};
 ghost use Rattle.hart_frame.specs.Layout.{Describes, body_length};
-ghost use Rattle.hart_frame.specs.Refusal.{IsRefusedWith, IsDecodedDelimiter, HasCheckByte, HasGoodByteCount};
+ghost use Rattle.hart_frame.specs.Refusal.{IsRefusedWith, HasCheckByte, HasGoodByteCount};
 
 use crate::layout::Layout;
 use crate::{Expansion, Frame, FrameFault, Payload, bodies_are_told_apart, check_byte};
@@ -16,16 +15,15 @@ use hart_values::Address;
 /// The first of these that holds:
 ///
 /// - [`FrameFault::Truncated`] where there are no bytes;
-/// - [`FrameFault::BadDelimiter`] where the first is no delimiter that is decoded, so far `02` and `06` alone;
+/// - [`FrameFault::BadDelimiter`] where the first is no delimiter of this profile, which has bits 4 and 3 zero and the kind
+///   2 (STX) or 6 (ACK);
 /// - [`FrameFault::Truncated`] where the bytes end before the byte count;
 /// - [`FrameFault::ShortReply`] where an ACK has a byte count below 2;
 /// - [`FrameFault::Truncated`] where the bytes end before the check byte;
 /// - [`FrameFault::BadCheck`] where the check byte does not give the body even parity.
 pub fn decode(bytes: &[u8]) -> Result<(Frame, usize), FrameFault>
     ensures accepts { IfOk result (λ (frame, len). BeginsWithBody bytes.now frame len) }
-    ensures decoded { IfOk result (λ (frame, len). IsDecodedDelimiter (delimiter_of frame)) }
-    ensures only { (frame : FrameParts) (len : ℕ) → IsDecodedDelimiter (delimiter_of frame)
-        → BeginsWithBody bytes.now frame len → result ≡ Ok (frame, len) }
+    ensures only { (frame : FrameParts) (len : ℕ) → BeginsWithBody bytes.now frame len → result ≡ Ok (frame, len) }
     ensures refused { IfErr result (IsRefusedWith bytes.now) }
 {
     // It does nothing when it runs: by this law the frame that is read is the only one.
@@ -36,7 +34,6 @@ pub fn decode(bytes: &[u8]) -> Result<(Frame, usize), FrameFault>
 /// The frame whose body the bytes begin with, and the length of that body.
 fn read_body(bytes: &[u8]) -> Result<(Frame, usize), FrameFault>
     ensures accepts { IfOk result (λ (frame, len). BeginsWithBody bytes.now frame len) }
-    ensures decoded { IfOk result (λ (frame, len). IsDecodedDelimiter (delimiter_of frame)) }
     ensures refused { IfErr result (IsRefusedWith bytes.now) }
 {
     let layout = Layout::read(bytes)?;
@@ -55,7 +52,6 @@ fn frame_in(layout: Layout, bytes: &[u8]) -> Frame
     requires described { Describes layout bytes.now }
     requires whole { HasCheckByte bytes.now }
     ensures parts { IsCheckedPart result (take (body_length bytes.now - 1) bytes.now) }
-    ensures decoded { IsDecodedDelimiter (delimiter_of result) }
 {
     let payload_place = layout.command_place + 2;
     let payload_end = payload_place + usize::from(layout.byte_count);

@@ -1,7 +1,7 @@
 //! The first byte of a body: bit 7 the address type, bits 6 and 5 the number of expansion bytes, bits 2 to 0 the kind.
 ghost use Rattle.std.specs.Prelude.{◌≡◌, ◌+◌, ◌*◌, ◌/◌, ◌%◌, ◌↔◌, IsSome, IfSome};
 ghost use Rattle.hart_frame.specs.Delimiter.{delimiter_of, kind_code};
-ghost use Rattle.hart_frame.specs.Refusal.{IsDecodedDelimiter};
+ghost use Rattle.hart_frame.specs.Refusal.{IsDelimiter};
 
 use crate::{Frame, FrameKind};
 use hart_values::Address;
@@ -9,6 +9,8 @@ use hart_values::Address;
 const UNIQUE_ADDRESS: u8 = 0x80;
 
 const EXPANSION_BYTE: u8 = 0x20;
+
+const PHYSICAL_LAYER: u8 = 0x08;
 
 const STX: u8 = 0x02;
 
@@ -39,14 +41,17 @@ pub(crate) fn delimiter_byte(frame: &Frame) -> u8
     address_type + EXPANSION_BYTE * frame.expansion().len() as u8 + kind
 }
 
-/// What the delimiter tells, or `None` where it is none that is decoded.
+/// What the delimiter tells, or `None` where it is none of this profile.
 pub(crate) fn read_delimiter(byte: u8) -> Option<Delimiter>
-    ensures decoded { IsSome result ↔ IsDecodedDelimiter byte }
+    ensures known { IsSome result ↔ IsDelimiter byte }
     ensures kind { IfSome result (λ delimiter. kind_code delimiter.kind ≡ byte % 8) }
     ensures address { IfSome result (λ delimiter. delimiter.address_len ≡ 1 + 4 * (byte / 128)) }
     ensures expansion { IfSome result (λ delimiter. delimiter.expansion_len ≡ byte / 32 % 4) }
 {
-    let kind = match byte {
+    if byte / PHYSICAL_LAYER % 4 != 0 {
+        return None;
+    }
+    let kind = match byte % PHYSICAL_LAYER {
         STX => FrameKind::Stx,
         ACK => FrameKind::Ack,
         _ => return None,

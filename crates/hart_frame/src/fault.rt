@@ -9,7 +9,7 @@ pub enum FrameFault {
     /// Fault 2: a number of preamble bytes outside 5 to 20.
     #[error("bad number of preamble bytes")]
     BadPreamble,
-    /// Fault 3: the first byte is no delimiter that is decoded.
+    /// Fault 3: the first byte is no delimiter of this profile.
     #[error("bad delimiter")]
     BadDelimiter,
     /// Fault 4: the bytes end before the check byte.

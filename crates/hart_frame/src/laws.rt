@@ -2,6 +2,9 @@
 ghost use Rattle.std.specs.Prelude.{◌≡◌, List, ℕ, [], ◌++◌, length};
 ghost use Rattle.hart_frame.specs.FrameParts.{FrameParts};
 ghost use Rattle.hart_frame.specs.Body.{IsBody, BeginsWithBody};
+ghost use Rattle.hart_frame.specs.Character.{Character};
+ghost use Rattle.hart_frame.specs.Frames.{AreFrames, IsFirst};
+ghost use Rattle.hart_frame.specs.declared.found.Found.{Found};
 
 use hart_values::address_bytes_are_told_apart;
 
@@ -18,4 +21,15 @@ pub fn bodies_are_told_apart()
 {
     // It does nothing when it runs: the law of addresses is what this one rests on.
     address_bytes_are_told_apart();
+}
+
+/// Frames of a list are told apart: a list has one first frame at most from a place on, and one list of frames.
+pub fn frames_are_told_apart()
+    ensures one_first { (f g : Found) (chars : List Character) (from : ℕ)
+        → IsFirst f chars from → IsFirst g chars from → f ≡ g }
+    ensures one_list { (chars : List Character) (from : ℕ) (xs ys : List Found)
+        → AreFrames chars from xs → AreFrames chars from ys → xs ≡ ys }
+{
+    // It does nothing when it runs: the law of bodies is what this one rests on.
+    bodies_are_told_apart();
 }

@@ -1,7 +1,8 @@
 //! Frames and their bytes on a HART line (HCF_SPEC-081, data link layer).
 //!
 //! A [`Frame`] is what one message says. [`encode`] writes it as a message, and [`decode`] reads the frame
-//! that bytes begin with, or says what is wrong with them.
+//! that bytes begin with, or says what is wrong with them. [`first_frame`] finds the frames of what was heard, which is
+//! a list of characters ([`Char`]): bytes, each with the faults that the receiver noticed at it.
 //!
 //! ```rust
 //! let (frame, len) = decode(&[0x02, 0x80, 0x00, 0x00, 0x82])?;
@@ -12,9 +13,13 @@
 #![tactic(auto)]
 
 mod body;
+mod character;
 mod delimiter;
 mod fault;
+mod first;
+mod found;
 mod frame;
+mod heard;
 mod kind;
 mod laws;
 mod layout;
@@ -22,10 +27,13 @@ mod message;
 mod parity;
 
 pub use body::decode;
+pub use character::Char;
 pub use fault::FrameFault;
+pub use first::first_frame;
+pub use found::Found;
 pub use frame::{Expansion, Frame, Payload};
 pub use kind::FrameKind;
-pub use laws::bodies_are_told_apart;
+pub use laws::{bodies_are_told_apart, frames_are_told_apart};
 pub use message::{Message, encode};
 pub use parity::check_byte;
 

@@ -9,7 +9,7 @@ use hart_values::ByteList;
 /// A message on the line: at most 20 preamble bytes and a body of at most 267 bytes.
 pub type Message = ByteList<287>;
 
-const PREAMBLE: u8 = 0xFF;
+pub(crate) const PREAMBLE: u8 = 0xFF;
 
 /// Writes the frame as a message: this number of preamble bytes `FF`, and its body. What `output` held is replaced.
 ///

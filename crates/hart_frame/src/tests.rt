@@ -1,3 +1,5 @@
+mod line;
+
 use super::*;
 use hart_values::{Address, MasterId};
 use std::test::Fail;
@@ -29,36 +31,127 @@ fn body_of(frame: &Frame) -> Message {
     body.unwrap_or(Message::new())
 }
 
+/// The frame with the longest body: broadcast, 3 expansion bytes and 255 bytes of payload, all 0.
+fn longest_frame() -> Option<Frame> {
+    let broadcast = Address::unique(0, 0).ok()?;
+    let expansion = Expansion::from_slice(&[0, 0, 0])?;
+    let payload = Payload::from_slice(&[0; 255])?;
+    Frame::new(
+        FrameKind::Stx,
+        MasterId::Primary,
+        false,
+        broadcast,
+        expansion,
+        0,
+        payload,
+    )
+    .ok()
+}
+
 #[test]
-fn bodies_are_read_or_refused(rt: HostRuntime) -> Result<(), Fail> {
-    let identify = short_frame(FrameKind::Stx, 0, &[]).ok_or("a frame")?;
-    let (frame, len) = decode(&[0x02, 0x80, 0x00, 0x00, 0x82, 0x55])?;
-    assert!(rt; frame == identify && len == 5);
-    let reply = short_frame(FrameKind::Ack, 0, &[0, 0]).ok_or("a frame")?;
-    let (frame, len) = decode(&[0x06, 0x80, 0x00, 0x02, 0x00, 0x00, 0x84])?;
-    assert!(rt; frame == reply && len == 7);
-    let refused: [(&[u8], FrameFault); 12] = [
-        (&[], FrameFault::Truncated),
-        (&[0x02, 0x80, 0x00], FrameFault::Truncated),
-        (&[0x02, 0x80, 0x00, 0x00], FrameFault::Truncated),
-        (&[0x06, 0x80, 0x00, 0x02, 0x00, 0x00], FrameFault::Truncated),
-        (&[0x01, 0x80, 0x00, 0x00, 0x81], FrameFault::BadDelimiter),
-        (&[0x0A, 0x80, 0x00, 0x00, 0x8A], FrameFault::BadDelimiter),
-        (&[0x12, 0x80, 0x00, 0x00, 0x92], FrameFault::BadDelimiter),
+fn bodies_are_read(rt: HostRuntime) -> Result<(), Fail> {
+    let zero = Address::polling(0)?;
+    let unique = Address::unique(0x3742, 0x0A1B2C)?;
+    let read: [(&[u8], FrameKind, Address, &[u8], &[u8]); 7] = [
         (
-            &[0x22, 0x80, 0x55, 0x00, 0x00, 0xF7],
-            FrameFault::BadDelimiter,
+            &[0x02, 0x80, 0x00, 0x00, 0x82],
+            FrameKind::Stx,
+            zero,
+            &[],
+            &[],
+        ),
+        (
+            &[0x06, 0x80, 0x00, 0x02, 0x00, 0x00, 0x84],
+            FrameKind::Ack,
+            zero,
+            &[],
+            &[0, 0],
         ),
         (
             &[0x82, 0xB7, 0x42, 0x0A, 0x1B, 0x2C, 0x00, 0x00, 0x4A],
-            FrameFault::BadDelimiter,
+            FrameKind::Stx,
+            unique,
+            &[],
+            &[],
         ),
+        (
+            &[0x22, 0x80, 0x55, 0x00, 0x00, 0xF7],
+            FrameKind::Stx,
+            zero,
+            &[0x55],
+            &[],
+        ),
+        (
+            &[0x42, 0x80, 0x55, 0xAA, 0x00, 0x00, 0x3D],
+            FrameKind::Stx,
+            zero,
+            &[0x55, 0xAA],
+            &[],
+        ),
+        (
+            &[0x62, 0x80, 0x01, 0x02, 0x03, 0x00, 0x01, 0x07, 0xE4],
+            FrameKind::Stx,
+            zero,
+            &[1, 2, 3],
+            &[7],
+        ),
+        (
+            &[
+                0xA6, 0xB7, 0x42, 0x0A, 0x1B, 0x2C, 0x55, 0x00, 0x02, 0x00, 0x00, 0x39,
+            ],
+            FrameKind::Ack,
+            unique,
+            &[0x55],
+            &[0, 0],
+        ),
+    ];
+    for (bytes, kind, address, expansion, payload) in read {
+        let mut longer = [0x55; 20];
+        for (place, byte) in longer.iter_mut().zip(bytes) {
+            *place = *byte;
+        }
+        let (frame, len) = decode(&longer)?;
+        assert!(rt;
+            frame.kind() == kind && frame.address() == address,
+            "of {bytes:?}"
+        );
+        assert!(rt; frame.master() == MasterId::Primary && !frame.burst() && frame.command() == 0);
+        assert_eq!(rt; frame.expansion(), expansion, "of {bytes:?}");
+        assert_eq!(rt; frame.payload(), payload, "of {bytes:?}");
+        assert_eq!(rt; len, bytes.len(), "of {bytes:?}");
+        assert_eq!(rt; body_of(&frame).as_slice(), bytes);
+    }
+    Ok(())
+}
+
+#[test]
+fn bodies_are_refused(rt: HostRuntime) -> Result<(), Fail> {
+    let refused: [(&[u8], FrameFault); 19] = [
+        (&[], FrameFault::Truncated),
+        (&[0x02], FrameFault::Truncated),
+        (&[0x02, 0x80, 0x00], FrameFault::Truncated),
+        (&[0x02, 0x80, 0x00, 0x00], FrameFault::Truncated),
+        (&[0x06, 0x80, 0x00, 0x02, 0x00, 0x00], FrameFault::Truncated),
+        (
+            &[0x82, 0xB7, 0x42, 0x0A, 0x1B, 0x2C, 0x00],
+            FrameFault::Truncated,
+        ),
+        (&[0x62, 0x80, 0x01, 0x02, 0x03, 0x00], FrameFault::Truncated),
+        (&[0x00, 0x80, 0x00, 0x00, 0x80], FrameFault::BadDelimiter),
+        (&[0x01, 0x80, 0x00, 0x00, 0x81], FrameFault::BadDelimiter),
+        (&[0x07, 0x80, 0x00, 0x00, 0x87], FrameFault::BadDelimiter),
+        (&[0x0A, 0x80, 0x00, 0x00, 0x8A], FrameFault::BadDelimiter),
+        (&[0x12, 0x80, 0x00, 0x00, 0x92], FrameFault::BadDelimiter),
+        (&[0x1E], FrameFault::BadDelimiter),
+        (&[0xFF, 0x02, 0x80], FrameFault::BadDelimiter),
         (
             &[0x06, 0x80, 0x00, 0x01, 0x00, 0x87],
             FrameFault::ShortReply,
         ),
         (&[0x06, 0x80, 0x00, 0x01], FrameFault::ShortReply),
+        (&[0x26, 0x80, 0x55, 0x00, 0x00], FrameFault::ShortReply),
         (&[0x02, 0x80, 0x00, 0x00, 0x83], FrameFault::BadCheck),
+        (&[0x22, 0x80, 0x55, 0x00, 0x00, 0xA2], FrameFault::BadCheck),
     ];
     for (bytes, want) in refused {
         assert_eq!(rt; decode(bytes).err(), Some(want), "of {bytes:?}");
@@ -85,24 +178,18 @@ fn messages_are_written(rt: HostRuntime) -> Result<(), Fail> {
 
 #[test]
 fn the_longest_body_fits(rt: HostRuntime) -> Result<(), Fail> {
-    let broadcast = Address::unique(0, 0)?;
-    let expansion = Expansion::from_slice(&[0, 0, 0]).ok_or("three bytes")?;
-    let payload = Payload::from_slice(&[0; 255]).ok_or("255 bytes")?;
-    let frame = Frame::new(
-        FrameKind::Stx,
-        MasterId::Primary,
-        false,
-        broadcast,
-        expansion,
-        0,
-        payload,
-    )?;
+    let frame = longest_frame().ok_or("a frame")?;
     let mut output = Message::new();
     encode(&frame, 20, &mut output)?;
     assert_eq!(rt; output.len(), 287);
+    let body = &output.as_slice()[20..];
     let head = [0xE2, 0x80, 0, 0, 0, 0, 0, 0, 0, 0, 0xFF];
-    assert_eq!(rt; &output.as_slice()[20..31], head.as_slice());
-    assert_eq!(rt; output.as_slice()[286], 0x9D);
+    assert_eq!(rt; &body[..11], head.as_slice());
+    assert_eq!(rt; &body[11..266], [0; 255].as_slice());
+    assert_eq!(rt; body[266], 0x9D);
+    let (read, len) = decode(body)?;
+    assert!(rt; read == frame && len == 267);
+    assert_eq!(rt; decode(&body[..266]).err(), Some(FrameFault::Truncated));
     Ok(())
 }
 

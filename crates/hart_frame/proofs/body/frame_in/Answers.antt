@@ -5,8 +5,8 @@ use Rattle.hart_frame.specs.FrameParts.{FrameParts, IsLongEnough}
 use Rattle.hart_frame.proofs.LayoutLemmas.{IsCheckedPart-in, StandsIn}
 use Rattle.hart_frame.proofs.body.frame_in.Goals as goal
 
-pub returns-clause-parts : goal.returns-clause-parts
-returns-clause-parts c =
+pub returns : goal.returns
+returns c =
     let bytes = c.args.bytes.now in
     let layout = c.args.layout in
     let made = rw c.unwrap.ensures at c.new.ensures.kept in
@@ -25,4 +25,4 @@ returns-clause-parts c =
       payload = ap (λ (f : FrameParts). f.payload) made ∙ payload ∙ ap (λ (n : ℕ). slice_range bytes (layout.command_place + 2) (layout.command_place + 2 + n)) count;
       payload_fits = subst HasPayload (sym made) (accepted.0 refl);
     } in
-    IsCheckedPart-in bytes layout c.unwrap.result c.requires.described c.requires.whole stands
+    record { parts = IsCheckedPart-in bytes layout c.unwrap.result c.requires.described c.requires.whole stands }

@@ -1,0 +1,100 @@
+-- Where a frame stands, and where the body begins that is heard there.
+use Rattle.std.proofs.Common.{◌≡◌, ℕ, ◌+◌, ◌-◌, ◌<◌, ◌≤◌, ◌⊎◌, inl, inr, List, [], ◌∷◌, ◌++◌, length, take, drop, get_or, refl, sym, ap, ◌∙◌, arith, append_assoc, length-append}
+use Rattle.std.proofs.lemmas.List.{take-append-drop, length-take-le, take_rest, drop_at, length-map}
+use Rattle.hart_frame.specs.FrameParts.{FrameParts}
+use Rattle.hart_frame.specs.Character.{Character, faultless}
+use Rattle.hart_frame.specs.Heard.{BeginsWithHeard}
+use Rattle.hart_frame.specs.Place.{StandsIn}
+use Rattle.hart_frame.specs.declared.found.Found.{Found}
+
+-- a faultless preamble byte
+abbrev pub preamble : Character
+preamble = record { byte = 255; faults = 0 }
+
+-- equal parts join to equal lists
+joined : (x y : Character) (rest more : List Character) → x ≡ preamble → y ≡ preamble → rest ≡ more
+    → x ∷ y ∷ rest ≡ preamble ∷ preamble ∷ more
+joined x y rest more first second back = cc
+
+-- a body that is heard behind two preamble bytes stands there
+pub StandsIn-heard : (chars tail : List Character) (place : ℕ) (first second : Character) (f : FrameParts) (len : ℕ)
+    → place ≤ length chars → tail ≡ drop place chars → 2 ≤ length tail → first ≡ get_or tail 0 first → second ≡ get_or tail 1 second
+    → first ≡ preamble → second ≡ preamble → BeginsWithHeard (take (length tail - 2) (drop 2 tail)) f len
+    → StandsIn (record { start = place + 2; stop = place + 2 + len; frame = f }) chars place
+StandsIn-heard chars [] place first second f len within is long x_is y_is x_pre y_pre heard = absurd (omega arith)
+StandsIn-heard chars (x ∷ []) place first second f len within is long x_is y_is x_pre y_pre heard = absurd (omega arith)
+StandsIn-heard chars (x ∷ y ∷ rest) place first second f len within is long x_is y_is x_pre y_pre heard =
+    let behind = take_rest (x ∷ y ∷ rest) 2 in
+    let parts = joined x y rest (faultless heard.body ++ heard.rest) (sym x_is ∙ x_pre) (sym y_is ∙ y_pre) (sym behind ∙ heard.split) in
+    let front_len = length-take-le place chars within in
+    record {
+      front = take place chars;
+      body = heard.body;
+      rest = heard.rest;
+      split = sym (take-append-drop place chars) ∙ ap (λ (xs : List Character). take place chars ++ xs) (sym is ∙ parts)
+          ∙ sym (append_assoc (take place chars) (faultless (255 ∷ 255 ∷ heard.body)) heard.rest);
+      is_body = heard.is_body;
+      behind = omega (arith, front_len);
+      start = omega (arith, front_len);
+      stop = omega (arith, front_len, heard.whole);
+    }
+
+-- and what stands there is heard there
+pub StandsIn-hears : (chars tail : List Character) (place from : ℕ) (found : Found) (stands : StandsIn found chars from)
+    → found.start ≡ place + 2 → tail ≡ drop place chars
+    → BeginsWithHeard (take (length tail - 2) (drop 2 tail)) found.frame (length stands.body)
+StandsIn-hears chars tail place from found stands start is =
+    let whole : chars ≡ stands.front ++ (faultless (255 ∷ 255 ∷ stands.body) ++ stands.rest) =
+    stands.split ∙ append_assoc stands.front (faultless (255 ∷ 255 ∷ stands.body)) stands.rest in
+    let here : drop place chars ≡ faultless (255 ∷ 255 ∷ stands.body) ++ stands.rest =
+    ap (drop place) whole ∙ drop_at stands.front (faultless (255 ∷ 255 ∷ stands.body) ++ stands.rest) place (omega (arith, start, stands.start)) in
+    record {
+      body = stands.body;
+      rest = stands.rest;
+      split = take_rest tail 2 ∙ ap (drop 2) (is ∙ here);
+      is_body = stands.is_body;
+      whole = refl;
+    }
+
+-- what stands behind a place stands in the list from that place on
+pub StandsIn-from : (found : Found) (chars : List Character) (place from : ℕ) → StandsIn found chars place → from + 2 ≤ found.start
+    → StandsIn found chars from
+StandsIn-from found chars place from stands behind = record {
+  front = stands.front;
+  body = stands.body;
+  rest = stands.rest;
+  split = stands.split;
+  is_body = stands.is_body;
+  behind = omega (arith, behind, stands.start);
+  start = stands.start;
+  stop = stands.stop;
+}
+
+-- a frame that does not stand right at a place stands later
+pub start-later : (found : Found) (chars : List Character) (from place : ℕ) → StandsIn found chars from → place + 2 ≤ found.start
+    → (StandsIn found chars place → found.start ≡ place + 2 → ⊥) → place + 1 + 2 ≤ found.start
+start-later found chars from place stands behind not_here =
+    let cases : (found.start ≡ place + 2) ⊎ (place + 1 + 2 ≤ found.start) = grind arith in
+    elim cases [
+      | inl here ↦ absurd (not_here (StandsIn-from found chars from place stands behind) here)
+      | inr later ↦ later
+    ]
+
+-- a frame lies within the list
+pub record LiesWithin (found : Found) (chars : List Character) (from : ℕ) : Type 0 where
+  pub behind : from + 2 ≤ found.start
+  pub some : found.start < found.stop
+  pub within : found.stop ≤ length chars
+
+pub StandsIn-within : (found : Found) (chars : List Character) (from : ℕ) → StandsIn found chars from → LiesWithin found chars from
+StandsIn-within found chars from stands =
+    let all = ap length stands.split in
+    let rest = length-append (stands.front ++ faultless (255 ∷ 255 ∷ stands.body)) stands.rest in
+    let front = length-append stands.front (faultless (255 ∷ 255 ∷ stands.body)) in
+    let body : length (faultless stands.body) ≡ length stands.body = length-map stands.body (λ (byte : ℕ). record { byte = byte; faults = 0 }) in
+    let some = ap length stands.is_body.parts ∙ length-append stands.is_body.checked (stands.is_body.check ∷ []) in
+    record {
+      behind = omega (arith, stands.behind, stands.start);
+      some = omega (arith, stands.start, stands.stop, some);
+      within = omega (arith, stands.stop, all, rest, front, body);
+    }

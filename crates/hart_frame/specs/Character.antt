@@ -1,0 +1,21 @@
+-- Received characters (HCF_SPEC-081).
+use Rattle.std.specs.Prelude.{◌≡◌, ℕ, ◌<◌, ◌⊎◌, List, map}
+use Rattle.std.specs.Int.{bit_at}
+
+-- A received character is a byte and the fault bits that the receiver noticed at it.
+pub record Character : Type 0 where
+  pub byte : ℕ
+  pub faults : ℕ
+
+-- Bit 6 tells of vertical parity, bit 5 of overrun, bit 4 of framing and bit 1 of buffer overflow.
+abbrev pub IsFaultBit : ℕ → Type 0
+IsFaultBit bit = (bit ≡ 6) ⊎ (bit ≡ 5) ⊎ (bit ≡ 4) ⊎ (bit ≡ 1)
+
+-- Fault bits are a byte in which no other bit is set.
+pub record AreFaultBits (faults : ℕ) : Type 0 where
+  pub byte : faults < 256
+  pub only : (bit : ℕ) → bit < 8 → bit_at faults bit ≡ 1 → IsFaultBit bit
+
+-- Bytes that were received without faults are these characters.
+abbrev pub faultless : List ℕ → List Character
+faultless bytes = map (λ byte. record { byte = byte; faults = 0 }) bytes

@@ -1,0 +1,17 @@
+-- Where frames stand in what was heard (HCF_SPEC-081).
+use Rattle.std.specs.Prelude.{◌≡◌, ◌≤◌, ◌+◌, ℕ, List, ◌∷◌, ◌++◌, length}
+use Rattle.hart_frame.specs.Body.{IsBody}
+use Rattle.hart_frame.specs.Character.{Character, faultless}
+use Rattle.hart_frame.specs.declared.found.Found.{Found}
+
+-- A frame stands in a list of characters, from a place of the list on, where two faultless preamble bytes FF at or behind
+-- that place are followed by a body of it in faultless characters; it starts behind the two, and stops behind the body.
+pub record StandsIn (found : Found) (chars : List Character) (from : ℕ) : Type 0 where
+  pub front : List Character
+  pub body : List ℕ
+  pub rest : List Character
+  pub split : chars ≡ front ++ faultless (255 ∷ 255 ∷ body) ++ rest
+  pub is_body : IsBody found.frame body
+  pub behind : from ≤ length front
+  pub start : found.start ≡ length front + 2
+  pub stop : found.stop ≡ length front + 2 + length body

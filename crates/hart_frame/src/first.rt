@@ -1,0 +1,56 @@
+ghost use Rattle.std.specs.Prelude.{◌≡◌, ◌+◌, ◌<◌, ◌≤◌, length, MatchOption, IsSome, IfSome, IsTrue, ◌↔◌};
+ghost use Rattle.hart_frame.specs.Place.{StandsIn};
+ghost use Rattle.hart_frame.specs.Frames.{HasNoFrame, IsFirst};
+
+use crate::heard::heard_frame;
+use crate::message::PREAMBLE;
+use crate::{Char, Found};
+
+/// The first frame of what was heard, from a place of the list on, or `None` where no frame stands there.
+///
+/// A frame stands behind two faultless preamble bytes `FF`, which lie at that place or behind it, where faultless characters
+/// are a body. Of several the one with the least start is given. The frames of a whole list are the first from place 0 on,
+/// then the first from the `stop` of that on, and so forth.
+pub fn first_frame(chars: &[Char], from: usize) -> Option<Found>
+    ensures first { MatchOption result (HasNoFrame chars.now from) (λ found. IsFirst found chars.now from) }
+    ensures places { IfSome result (λ found.
+        (from + 2 ≤ found.start) × (found.start < found.stop) × (found.stop ≤ length chars.now)) }
+{
+    let mut place = from;
+    while place < chars.len() {
+        if let Some(found) = found_at(chars, place) {
+            return Some(found);
+        }
+        place += 1;
+    }
+    None
+}
+
+/// The frame whose two preamble bytes lie at this place, or `None` where none do.
+fn found_at(chars: &[Char], place: usize) -> Option<Found>
+    requires { place < length chars.now }
+    ensures stands { IfSome result (λ found. StandsIn found chars.now place) }
+    ensures start { IfSome result (λ found. found.start ≡ place + 2) }
+    ensures known { (found : Found) → StandsIn found chars.now place → found.start ≡ place + 2 → IsSome result }
+{
+    let [first, second, behind @ ..] = &chars[place..] else {
+        return None;
+    };
+    if !is_preamble(*first) || !is_preamble(*second) {
+        return None;
+    }
+    let (frame, len) = heard_frame(behind)?;
+    let start = place + 2;
+    Some(Found {
+        start,
+        stop: start + len,
+        frame,
+    })
+}
+
+/// Whether the character is a faultless preamble byte.
+fn is_preamble(character: Char) -> bool
+    ensures { IsTrue result ↔ (character ≡ record { byte = 255; faults = 0 }) }
+{
+    character.is_faultless() && character.byte() == PREAMBLE
+}
