@@ -1,26 +1,39 @@
--- What was read of an input, and how much of it there may be, an own profile.
-use Rattle.std.specs.Prelude.{ℕ, ◌+◌, ◌≤◌, ◌<◌, List, length, Option}
+-- How an input was read, and how it came to its end, an own profile.
+use Rattle.std.specs.Prelude.{◌≡◌, ◌≢◌, ℕ, ◌+◌, ◌≤◌, List, [], ◌++◌, length}
 use Rattle.std.specs.Io.KnownBytes.{Consumes, IsAtEnd}
+use Rattle.hart_cli.specs.Stream.{Stream, count_after_failure}
+use Rattle.hart_cli.specs.declared.input.InputEnd.{InputEnd}
+use Rattle.hart_cli.specs.declared.input.InputEnd.TheVariants.{Ended, Failed, TooLong}
 
 -- An input has at most 1,048,576 bytes.
 abbrev pub input_limit : ℕ
 input_limit = 1048576
 
--- These bytes are all that there was to read, and no more than the limit.
-pub record IsWholeInput (old new : Option (List ℕ)) (input : List ℕ) : Type 0 where
-  pub consumed : Consumes old new input
-  pub ended : IsAtEnd new
-  pub within : length input ≤ input_limit
+-- The bytes were taken from the reader, no others were lost, and no read failed.
+abbrev pub ReadsWell : Stream → Stream → List ℕ → Type 0
+ReadsWell old new bytes = Consumes old.bytes new.bytes bytes × (new.failures ≡ old.failures)
 
--- No more bytes than the limit were read, and no others are lost.
-pub record ReadsWithinLimit (old new : Option (List ℕ)) : Type 0 where
-  pub bytes : List ℕ
-  pub consumed : Consumes old new bytes
-  pub within : length bytes ≤ input_limit
+-- Little more than the limit is ever read: at most so many bytes beyond it.
+abbrev pub most_beyond : ℕ
+most_beyond = 4096
 
--- More bytes than the limit were read, by one read of 4096 bytes at most.
-pub record ReadsPastLimit (old new : Option (List ℕ)) : Type 0 where
+-- More bytes than the limit were taken: the text is those within it, and a few others were taken with them.
+pub record ReadsPastLimit (old new : Stream) (text : List ℕ) : Type 0 where
+  pub beyond : List ℕ
+  pub read : ReadsWell old new (text ++ beyond)
+  pub full : length text ≡ input_limit
+  pub more : beyond ≢ []
+  pub soon : length beyond ≤ most_beyond
+
+-- An input gave this text before it ended, before a read failed, or before it went past the limit.
+abbrev pub Reads : Stream → Stream → List ℕ → InputEnd → Type 0
+Reads old new text Ended = ReadsWell old new text × IsAtEnd new.bytes × (length text ≤ input_limit)
+Reads old new text Failed =
+    Consumes old.bytes new.bytes text × (length text ≤ input_limit) × (new.failures ≡ count_after_failure old.failures)
+Reads old new text TooLong = ReadsPastLimit old new text
+
+-- Where memory was refused, a few bytes more than the limit were taken at most, and no read failed.
+pub record LacksMemory (old new : Stream) : Type 0 where
   pub bytes : List ℕ
-  pub consumed : Consumes old new bytes
-  pub above : input_limit < length bytes
-  pub soon : length bytes ≤ input_limit + 4096
+  pub read : ReadsWell old new bytes
+  pub soon : length bytes ≤ input_limit + most_beyond

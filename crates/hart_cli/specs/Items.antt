@@ -1,90 +1,123 @@
--- Texts of hex items, an own profile: pieces end to end, each a separator or two hex digits.
-use Rattle.std.specs.Prelude.{◌≡◌, ◌≢◌, ℕ, ◌+◌, ◌*◌, ◌⊎◌, List, [], ◌∷◌, ◌++◌, length, unwrap_or, IsTrue, All, ⊤}
-use Rattle.std.specs.List.{flat_map}
-use Rattle.hart_cli.specs.declared.fault.CliFault.{CliFault}
-use Rattle.hart_cli.specs.declared.fault.CliFault.TheVariants.{BadHex, Memory, Read, TooLong, Write}
+-- Texts of hex items, an own profile: pieces end to end, each a separator or an item of two hex digits, behind which a `!`
+-- and two more hex digits may tell fault bits.
+use Rattle.std.specs.Prelude.{◌≡◌, ◌≢◌, ℕ, ◌+◌, ◌*◌, ◌⊎◌, List, [], ◌∷◌, ◌++◌, length, Option, unwrap_or, IsTrue, ⊤}
+use Rattle.std.specs.Option.{option_to_list}
+use Rattle.hart_frame.specs.Character.{AreFaultBits, Character}
 use Rattle.hex.specs.Hex.{hex_digit_value, is_hex_digit}
 
--- A piece of a text is a separator, or an item of a high and a low digit.
+-- A piece of a text is a separator, an item of a high and a low digit, or such an item with the two digits of its fault
+-- bits.
 pub data Piece : Type 0 where
   Separator : (byte : ℕ) → Piece
   Item : (high low : ℕ) → Piece
+  FaultyItem : (high low fault_high fault_low : ℕ) → Piece
 
--- The bytes that spell a piece.
+-- The bytes that spell a piece; 33 is the `!`.
 abbrev pub spelling : Piece → List ℕ
 spelling (Separator byte) = byte ∷ []
 spelling (Item high low) = high ∷ low ∷ []
+spelling (FaultyItem high low fault_high fault_low) = high ∷ low ∷ 33 ∷ fault_high ∷ fault_low ∷ []
 
 -- A space, a tab, a carriage return or a line feed.
 abbrev pub IsSeparator : ℕ → Type 0
 IsSeparator byte = (byte ≡ 32) ⊎ (byte ≡ 9) ⊎ (byte ≡ 13) ⊎ (byte ≡ 10)
 
--- A separator is one of the four, and the two digits of an item are hex digits of either case.
-abbrev pub IsValid : Piece → Type 0
-IsValid (Separator byte) = IsSeparator byte
-IsValid (Item high low) = IsTrue (is_hex_digit high) × IsTrue (is_hex_digit low)
+-- Both are hex digits, of either case.
+abbrev pub AreDigits : ℕ → ℕ → Type 0
+AreDigits high low = IsTrue (is_hex_digit high) × IsTrue (is_hex_digit low)
 
 -- The value of a hex digit.
 abbrev pub hex_value : ℕ → ℕ
 hex_value digit = unwrap_or (hex_digit_value digit) 0
 
--- A separator means no byte, and an item the byte that its two digits write.
-abbrev pub meaning : Piece → List ℕ
+-- The byte that two digits write.
+abbrev pub byte_of : ℕ → ℕ → ℕ
+byte_of high low = 16 * hex_value high + hex_value low
+
+-- A separator is one of the four, an item has hex digits, and the fault bits of an item are not 00 and none but those that
+-- there are.
+abbrev pub IsValid : Piece → Type 0
+IsValid (Separator byte) = IsSeparator byte
+IsValid (Item high low) = AreDigits high low
+IsValid (FaultyItem high low fault_high fault_low) =
+    AreDigits high low × AreDigits fault_high fault_low
+    × (byte_of fault_high fault_low ≢ 0) × AreFaultBits (byte_of fault_high fault_low)
+
+-- A separator means no character, and an item the character of its byte and its fault bits.
+abbrev pub meaning : Piece → List Character
 meaning (Separator byte) = []
-meaning (Item high low) = (16 * hex_value high + hex_value low) ∷ []
+meaning (Item high low) = record { byte = byte_of high low; faults = 0 } ∷ []
+meaning (FaultyItem high low fault_high fault_low) =
+    record { byte = byte_of high low; faults = byte_of fault_high fault_low } ∷ []
 
--- A text reads as bytes where valid pieces, end to end, spell the text and mean the bytes.
-pub record ReadsAs (text bytes : List ℕ) : Type 0 where
-  pub pieces : List Piece
-  pub valid : All IsValid pieces
-  pub spelled : flat_map spelling pieces ≡ text
-  pub meant : flat_map meaning pieces ≡ bytes
+-- A separator is whole whatever follows it. An item is whole where a further byte follows it, which for one without fault
+-- bits is no `!`: that would belong to it.
+abbrev pub IsWholeBefore : List ℕ → Piece → Type 0
+IsWholeBefore tail (Separator byte) = ⊤
+IsWholeBefore [] (Item high low) = ⊥
+IsWholeBefore (next ∷ tail) (Item high low) = next ≢ 33
+IsWholeBefore tail (FaultyItem high low fault_high fault_low) = tail ≢ []
 
--- No valid piece stands at the beginning of a text.
+-- A text begins with a valid piece, which is whole before the rest of the text.
+pub record BeginsWith (text : List ℕ) (piece : Piece) (tail : List ℕ) : Type 0 where
+  pub valid : IsValid piece
+  pub spelled : text ≡ spelling piece ++ tail
+  pub whole : IsWholeBefore tail piece
+
+-- A text reads as characters up to a rest of it, where pieces stand end to end before that rest.
+pub data ReadsUpTo : List ℕ → List Character → List ℕ → Type 0 where
+  nothing : (rest : List ℕ) → ReadsUpTo rest [] rest
+  piece : (text : List ℕ) (first : Piece) (tail : List ℕ) (chars : List Character) (rest : List ℕ)
+      → BeginsWith text first tail → ReadsUpTo tail chars rest → ReadsUpTo text (meaning first ++ chars) rest
+
+-- No piece stands at the beginning of a text.
 abbrev pub NoPieceBegins : List ℕ → Type 0
-NoPieceBegins text = (piece : Piece) (tail : List ℕ) → IsValid piece → text ≢ spelling piece ++ tail
+NoPieceBegins text = (piece : Piece) (tail : List ℕ) → BeginsWith text piece tail → ⊥
 
--- A text reads as bytes up to this place, and what begins there is neither the end nor a piece.
-pub record IsBadHexAt (text : List ℕ) (place : ℕ) : Type 0 where
-  pub front : List ℕ
+-- A text begins with a piece of this length, which means this character or none.
+pub record BeginsAs (text : List ℕ) (char : Option Character) (len : ℕ) : Type 0 where
+  pub piece : Piece
+  pub tail : List ℕ
+  pub begins : BeginsWith text piece tail
+  pub long : length (spelling piece) ≡ len
+  pub means : meaning piece ≡ option_to_list char
+
+-- A piece begins a text once the right bytes follow it.
+pub record MayBegin (text : List ℕ) : Type 0 where
+  pub more : List ℕ
+  pub piece : Piece
+  pub tail : List ℕ
+  pub begins : BeginsWith (text ++ more) piece tail
+
+-- A text has bad hex at a place, behind these characters, where it reads as them up to there, and what begins there is
+-- neither its end nor a piece.
+pub record HasBadHex (text : List ℕ) (chars : List Character) (place : ℕ) : Type 0 where
   pub rest : List ℕ
-  pub bytes : List ℕ
-  pub split : text ≡ front ++ rest
-  pub begins : length front ≡ place
-  pub reads : ReadsAs front bytes
+  pub reads : ReadsUpTo text chars rest
+  pub begins : place + length rest ≡ length text
   pub more : rest ≢ []
   pub no_piece : NoPieceBegins rest
 
--- A text begins with the two digits of this byte.
-pub record BeginsWithItem (text : List ℕ) (byte : ℕ) : Type 0 where
-  pub high : ℕ
-  pub low : ℕ
-  pub tail : List ℕ
-  pub valid : IsValid (Item high low)
-  pub begins : text ≡ spelling (Item high low) ++ tail
-  pub means : meaning (Item high low) ≡ byte ∷ []
+-- The end of an input makes its last item whole, as a space behind it would.
+abbrev pub closed : List ℕ → List ℕ
+closed text = text ++ 32 ∷ []
 
--- A text does not begin with two digits.
-abbrev pub NoItemBegins : List ℕ → Type 0
-NoItemBegins text =
-    (high low : ℕ) (tail : List ℕ) → IsValid (Item high low) → text ≢ spelling (Item high low) ++ tail
+-- A whole input reads as characters.
+abbrev pub ReadsAs : List ℕ → List Character → Type 0
+ReadsAs text chars = ReadsUpTo (closed text) chars []
 
--- Bad hex comes at its place, want of memory anywhere, and no other fault.
-abbrev pub IsItemsFault : List ℕ → CliFault → Type 0
-IsItemsFault text (BadHex place) = IsBadHexAt text place
-IsItemsFault text Memory = ⊤
-IsItemsFault text Read = ⊥
-IsItemsFault text Write = ⊥
-IsItemsFault text TooLong = ⊥
+-- A whole input has bad hex at a place.
+abbrev pub IsBadHexAt : List ℕ → List Character → ℕ → Type 0
+IsBadHexAt text chars place = HasBadHex (closed text) chars place
 
--- No text both reads as bytes and has bad hex.
-abbrev pub NeverBoth : Type 0
-NeverBoth = (text bytes : List ℕ) (place : ℕ) → ReadsAs text bytes → IsBadHexAt text place → ⊥
+-- While an input may go on, bad hex in it is decided where it is bad whatever follows.
+abbrev pub IsDecidedBadHexAt : List ℕ → List Character → ℕ → Type 0
+IsDecidedBadHexAt text chars place = (more : List ℕ) → HasBadHex (text ++ more) chars place
 
--- A text has bad hex at one place at most.
-abbrev pub OnePlace : Type 0
-OnePlace = (text : List ℕ) (p q : ℕ) → IsBadHexAt text p → IsBadHexAt text q → p ≡ q
-
--- A text reads as one list of bytes at most.
-abbrev pub OneReading : Type 0
-OneReading = (text xs ys : List ℕ) → ReadsAs text xs → ReadsAs text ys → xs ≡ ys
+-- While an input may go on, it reads so far as the characters up to a rest, perhaps empty, at whose beginning no whole piece
+-- stands yet, though one would where the right bytes followed.
+pub record ReadsSoFarAs (text : List ℕ) (chars : List Character) : Type 0 where
+  pub rest : List ℕ
+  pub reads : ReadsUpTo text chars rest
+  pub no_piece : NoPieceBegins rest
+  pub open_end : MayBegin rest

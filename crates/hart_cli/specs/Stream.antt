@@ -1,6 +1,6 @@
 -- Readers and writers as contracts see them, an own profile.
 use Rattle.std.specs.Prelude.{◌≡◌, ◌≢◌, ◌⊎◌, ℕ, ◌+◌, ◌-◌, ◌^◌, min, List, [], ◌++◌, Option, Result, MatchResult}
-use Rattle.std.specs.Io.KnownBytes.{Appends}
+use Rattle.std.specs.Io.KnownBytes.{Appends, Keeps}
 use Rattle.hart_cli.specs.declared.stream.Failed.{Failed}
 
 -- A failure more is counted, but never above the last number of 64 bits.
@@ -31,3 +31,15 @@ WritesUnlessFailed old new failures_old failures_new text =
 pub record Stream : Type 0 where
   pub bytes : Option (List ℕ)
   pub failures : ℕ
+
+-- The whole text was written, and no write failed.
+abbrev pub WritesAll : Stream → Stream → List ℕ → Type 0
+WritesAll old new text = Appends old.bytes new.bytes text × (new.failures ≡ old.failures)
+
+-- A write failed, and a front of the text, short of its end, was written before.
+abbrev pub FailsToWrite : Stream → Stream → List ℕ → Type 0
+FailsToWrite old new text = WritesFront old.bytes new.bytes text × (new.failures ≡ count_after_failure old.failures)
+
+-- Nothing was written, and no write failed.
+abbrev pub WritesNothing : Stream → Stream → Type 0
+WritesNothing old new = Keeps old.bytes new.bytes × (new.failures ≡ old.failures)

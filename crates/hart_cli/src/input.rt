@@ -1,56 +1,77 @@
 //! Reading a whole input.
-
-ghost use Rattle.std.specs.Prelude.{◌≡◌, ◌≢◌, ◌⊎◌, IfOk, IfErr, IsErrOf};
-ghost use Rattle.hart_cli.specs.Stream.{count_after_failure};
-ghost use Rattle.hart_cli.specs.Input.{IsWholeInput, ReadsWithinLimit, ReadsPastLimit};
+ghost use Rattle.std.specs.Prelude.{IfOk, OnErr};
+ghost use Rattle.hart_cli.specs.Input.{LacksMemory, Reads};
 
 #[cfg(test)]
 mod tests;
 
-use crate::fault::CliFault;
 use crate::stream::Source;
-use std::alloc::Global;
+use std::alloc::{AllocError, Global};
 
 /// The most bytes that an input may have.
 pub const INPUT_LIMIT: usize = 1_048_576;
 
 const BUFFER_LEN: usize = 4096;
 
-/// Reads to the end, and gives all the bytes.
+/// How an input came to its end.
+#[derive(Clone, Copy, Debug, PartialEq, Eq)]
+pub enum InputEnd {
+    /// There was nothing more to read.
+    Ended,
+    /// A read failed.
+    Failed,
+    /// A further byte was there behind the [`INPUT_LIMIT`].
+    TooLong,
+}
+
+/// What was read of an input, and how it came to its end.
+#[derive(Debug, Drop)]
+pub struct Input {
+    /// The bytes within [`INPUT_LIMIT`].
+    pub text: Vec<u8>,
+    /// Why there are no more of them.
+    pub end: InputEnd,
+}
+
+/// Reads to the end, to the first read that fails, or to the limit.
 ///
-/// A reader that never ends is refused once it has given more than `INPUT_LIMIT` bytes.
+/// A reader that never ends is left once it has given more than [`INPUT_LIMIT`] bytes.
 ///
 /// # Errors
 ///
-/// `Read` if a read failed, `TooLong` above `INPUT_LIMIT` bytes, `Memory` if a growth was refused.
-pub fn read_input<R: Source>(alloc: Global, reader: &mut R) -> Result<Vec<u8>, CliFault>
-    ensures whole { IfOk result (λ input.
-        IsWholeInput (R.remaining reader.old) (R.remaining reader.new) input.items) }
-    ensures faults { IfErr result (λ fault.
-        (fault ≡ CliFault.Read) ⊎ (fault ≡ CliFault.TooLong) ⊎ (fault ≡ CliFault.Memory)) }
-
-    // What each fault says of the reader.
-    ensures within { result ≢ Err CliFault.TooLong →
-        ReadsWithinLimit (R.remaining reader.old) (R.remaining reader.new) }
-    ensures too_long { IsErrOf result CliFault.TooLong →
-        ReadsPastLimit (R.remaining reader.old) (R.remaining reader.new) }
-    ensures failed { IsErrOf result CliFault.Read →
-        R.failures reader.new ≡ count_after_failure (R.failures reader.old) }
-    ensures not_failed { result ≢ Err CliFault.Read →
-        R.failures reader.new ≡ R.failures reader.old }
+/// `AllocError` if a growth was refused.
+pub fn read_input<R: Source>(alloc: Global, reader: &mut R) -> Result<Input, AllocError>
+    ensures reads { IfOk result (λ input. Reads
+        (record { bytes = R.remaining reader.old; failures = R.failures reader.old })
+        (record { bytes = R.remaining reader.new; failures = R.failures reader.new })
+        input.text.items input.end) }
+    ensures lacks_memory { OnErr result (LacksMemory
+        (record { bytes = R.remaining reader.old; failures = R.failures reader.old })
+        (record { bytes = R.remaining reader.new; failures = R.failures reader.new })) }
 {
-    let mut input = Vec::new(alloc);
+    let mut text = Vec::new(alloc);
     let mut buffer = [0; BUFFER_LEN];
     loop {
         let Ok(given) = reader.read(&mut buffer) else {
-            return Err(CliFault::Read);
+            return Ok(Input {
+                text,
+                end: InputEnd::Failed,
+            });
         };
         if given == 0 {
-            return Ok(input);
+            return Ok(Input {
+                text,
+                end: InputEnd::Ended,
+            });
         }
-        if given > INPUT_LIMIT - input.len() {
-            return Err(CliFault::TooLong);
+        let room = INPUT_LIMIT - text.len();
+        if given > room {
+            text.extend_from_slice(&buffer[..room])?;
+            return Ok(Input {
+                text,
+                end: InputEnd::TooLong,
+            });
         }
-        input.extend_from_slice(&buffer[..given])?;
+        text.extend_from_slice(&buffer[..given])?;
     }
 }

@@ -1,46 +1,128 @@
 //! The text of an input: hex items, with separators where they please.
-
-ghost use Rattle.std.specs.Prelude.{◌↔◌, IsTrue, IfOk, IfErr, MatchOption};
-ghost use Rattle.hart_cli.specs.Items.{BeginsWithItem, IsItemsFault, IsSeparator, NeverBoth, NoItemBegins, OnePlace, OneReading, ReadsAs};
+ghost use Rattle.std.specs.Prelude.{◌≡◌, ◌↔◌, ◌≤◌, ℕ, List, drop, length, Option, IfOk, IsTrue, MatchOption};
+ghost use Rattle.hart_frame.specs.Character.{Character};
+ghost use Rattle.hart_cli.specs.Hearing.{Hears};
+ghost use Rattle.hart_cli.specs.Items.{AreDigits, BeginsAs, byte_of, IsSeparator, MayBegin, NoPieceBegins, ReadsUpTo};
+ghost use Rattle.hart_cli.specs.declared.fault.CliFault.{CliFault};
+ghost use Rattle.hart_cli.specs.declared.input.InputEnd.{InputEnd};
 
 #[cfg(test)]
 mod tests;
 
 use crate::fault::CliFault;
+use crate::input::{Input, InputEnd};
+use hart_frame::Char;
 use hex::FromHex;
-use std::alloc::Global;
+use std::alloc::{AllocError, Global};
 
-/// A text reads in one way at most: as bytes, or up to one place.
-pub fn one_reading()
-    ensures never_both { NeverBoth }
-    ensures one_place { OnePlace }
-    ensures one_list { OneReading }
+/// What an input was heard as.
+#[derive(Debug, Drop)]
+pub struct Hearing {
+    /// The characters before the first fault of the input.
+    pub chars: Vec<Char>,
+    /// The first fault of the input, in the order of its bytes.
+    pub fault: Option<CliFault>,
+}
+
+/// An input is heard in one way: as these characters, and with this fault or none.
+pub fn one_hearing()
+    ensures { (text : List ℕ) (end : InputEnd) (xs ys : List Character) (f g : Option CliFault)
+        → Hears text end xs f → Hears text end ys g → (xs ≡ ys) × (f ≡ g) }
 {}
 
-/// The bytes that a text of items stands for.
+/// Hears an input: its characters up to the first fault, and that fault.
+///
+/// The fault is bad hex, with the place where the first thing begins that is neither a separator nor an item, or that of an
+/// input which was cut short, `Read` or `TooLong`, unless bad hex is decided before. Fault bits of a character are none.
 ///
 /// # Errors
 ///
-/// `BadHex` with the place where the first thing begins that is neither a separator nor an item, `Memory` if a growth
-/// was refused.
-pub fn read_items(alloc: Global, text: &[u8]) -> Result<Vec<u8>, CliFault>
-    ensures ok { IfOk result (λ bytes. ReadsAs text.now bytes.items) }
-    ensures err { IfErr result (IsItemsFault text.now) }
+/// `AllocError` if a growth was refused.
+pub fn hear(alloc: Global, input: Input) -> Result<Hearing, AllocError>
+    ensures { IfOk result (λ hearing.
+        Hears input.text.items input.end hearing.chars.items hearing.fault) }
 {
-    let mut bytes = Vec::new(alloc);
-    let mut place = 0;
-    while place < text.len() {
-        if is_separator(text[place]) {
-            place += 1;
-        } else {
-            let Some(byte) = leading_item(&text[place..]) else {
-                return Err(CliFault::BadHex { place });
-            };
-            bytes.push(byte)?;
-            place += 2;
-        }
+    let Input { mut text, end } = input;
+    if end == InputEnd::Ended {
+        // Its end makes the last item whole, as a space does.
+        text.push(b' ')?;
     }
-    Ok(bytes)
+    let bytes = text.as_slice();
+    let Reading { chars, place } = read_pieces(alloc, bytes)?;
+    let rest = &bytes[place..];
+    let is_open = may_begin(rest);
+    let fault = match end {
+        InputEnd::Ended if rest.is_empty() => None,
+        InputEnd::Failed if is_open => Some(CliFault::Read),
+        InputEnd::TooLong if is_open => Some(CliFault::TooLong),
+        _ => Some(CliFault::BadHex { place }),
+    };
+    Ok(Hearing { chars, fault })
+}
+
+// The characters of a text up to a place.
+#[derive(Drop)]
+struct Reading {
+    chars: Vec<Char>,
+    place: usize,
+}
+
+// Reads a text up to the place where no piece begins.
+fn read_pieces(alloc: Global, text: &[u8]) -> Result<Reading, AllocError>
+    ensures { IfOk result (λ reading.
+        (reading.place ≤ length text.now)
+        × ReadsUpTo text.now reading.chars.items (drop reading.place text.now)
+        × NoPieceBegins (drop reading.place text.now)) }
+{
+    let mut chars = Vec::new(alloc);
+    let mut place = 0;
+    while let Some(lead) = leading_piece(&text[place..]) {
+        if let Some(char) = lead.char {
+            chars.push(char)?;
+        }
+        place += lead.len;
+    }
+    Ok(Reading { chars, place })
+}
+
+// What a piece means, and its length.
+#[derive(Drop)]
+struct Lead {
+    char: Option<Char>,
+    len: usize,
+}
+
+// The piece that begins a text, or `None` where none does.
+fn leading_piece(text: &[u8]) -> Option<Lead>
+    ensures { MatchOption result (NoPieceBegins text.now) (λ lead. BeginsAs text.now lead.char lead.len) }
+{
+    let first = text.first()?;
+    if is_separator(*first) {
+        return Some(Lead { char: None, len: 1 });
+    }
+    let [high, low, next, ..] = text else {
+        return None;
+    };
+    let byte = byte_of_digits(*high, *low)?;
+    if *next != b'!' {
+        let char = Char::new(byte, 0)?;
+        return Some(Lead {
+            char: Some(char),
+            len: 2,
+        });
+    }
+    let [_, _, _, fault_high, fault_low, _, ..] = text else {
+        return None;
+    };
+    let faults = byte_of_digits(*fault_high, *fault_low)?;
+    if faults == 0 {
+        return None;
+    }
+    let char = Char::new(byte, faults)?;
+    Some(Lead {
+        char: Some(char),
+        len: 5,
+    })
 }
 
 fn is_separator(byte: u8) -> bool
@@ -49,10 +131,24 @@ fn is_separator(byte: u8) -> bool
     matches!(byte, b' ' | b'\t' | b'\r' | b'\n')
 }
 
-// The byte of the two digits at the front of a text.
-fn leading_item(text: &[u8]) -> Option<u8>
-    ensures { MatchOption result (NoItemBegins text.now) (BeginsWithItem text.now) }
+// Whether a piece begins a text once the right bytes follow it, where none does as it stands.
+fn may_begin(text: &[u8]) -> bool
+    requires { NoPieceBegins text.now }
+    ensures { IsTrue result ↔ MayBegin text.now }
 {
-    let [byte] = <[u8; 1]>::from_hex(text.get(..2)?).ok()?;
+    // Each beginning of an item becomes one where it is filled up from these bytes.
+    let mut item = *b"00!02 ";
+    if text.len() > item.len() {
+        return false;
+    }
+    item[..text.len()].copy_from_slice(text);
+    leading_piece(&item).is_some()
+}
+
+// The byte that two hex digits write.
+fn byte_of_digits(high: u8, low: u8) -> Option<u8>
+    ensures { MatchOption result (AreDigits high low → ⊥) (λ byte. AreDigits high low × (byte ≡ byte_of high low)) }
+{
+    let [byte] = <[u8; 1]>::from_hex([high, low]).ok()?;
     Some(byte)
 }

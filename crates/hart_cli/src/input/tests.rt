@@ -1,40 +1,63 @@
 use super::*;
 use crate::plain::Plain;
 use crate::stream::fakes::Drip;
+use std::test::Fail;
 
-fn read_spaces(alloc: Global, count: usize) -> Result<usize, CliFault> {
+fn spaces_read(alloc: Global, count: usize) -> Result<(usize, InputEnd), AllocError> {
     let bytes = vec![in alloc; b' '; count]?;
     let mut reader = Plain::new(bytes.as_slice());
-    Ok(read_input(alloc, &mut reader)?.len())
+    let input = read_input(alloc, &mut reader)?;
+    Ok((input.text.len(), input.end))
 }
 
 #[test]
 fn the_limit_is_the_last_length(rt: HostRuntime) {
-    for count in [0, 1, BUFFER_LEN, BUFFER_LEN + 1, 1_048_576] {
-        assert_eq!(rt; read_spaces(rt.alloc(), count), Ok(count));
+    for count in [0, 1, BUFFER_LEN - 1, BUFFER_LEN, BUFFER_LEN + 1, 1_048_576] {
+        assert_eq!(rt;
+            spaces_read(rt.alloc(), count),
+            Ok((count, InputEnd::Ended))
+        );
     }
-    assert_eq!(rt; read_spaces(rt.alloc(), 1_048_577), Err(CliFault::TooLong));
+    for count in [1_048_577, 1_048_576 + BUFFER_LEN] {
+        assert_eq!(rt;
+            spaces_read(rt.alloc(), count),
+            Ok((1_048_576, InputEnd::TooLong))
+        );
+    }
 }
 
 #[test]
-fn a_reader_that_never_ends_is_refused(rt: HostRuntime) {
+fn bytes_keep_their_order_from_one_read_to_the_next(rt: HostRuntime) -> Result<(), Fail> {
+    let mut bytes = vec![in rt.alloc(); b'a'; BUFFER_LEN]?;
+    bytes.extend_from_slice(b"bc")?;
+    let mut reader = Plain::new(bytes.as_slice());
+    let input = read_input(rt.alloc(), &mut reader)?;
+    assert!(rt; input.text == bytes);
+    Ok(())
+}
+
+#[test]
+fn a_reader_that_never_ends_is_left(rt: HostRuntime) -> Result<(), Fail> {
     let mut reader = Drip::new(None);
+    let input = read_input(rt.alloc(), &mut reader)?;
     assert_eq!(rt;
-        read_input(rt.alloc(), &mut reader).err(),
-        Some(CliFault::TooLong)
+        (input.text.len(), input.end),
+        (1_048_576, InputEnd::TooLong)
     );
     assert_eq!(rt; reader.given(), 1_048_577);
+    Ok(())
 }
 
 #[test]
-fn a_failed_read_ends_the_input(rt: HostRuntime) {
-    for given in [0, 1, 5000] {
+fn what_came_before_a_failed_read_is_kept(rt: HostRuntime) -> Result<(), Fail> {
+    for given in [0, 1, 5000, 1_048_576] {
         let mut reader = Drip::new(Some(given));
+        let input = read_input(rt.alloc(), &mut reader)?;
         assert_eq!(rt;
-            read_input(rt.alloc(), &mut reader).err(),
-            Some(CliFault::Read)
+            (input.text.len() as u64, input.end),
+            (given, InputEnd::Failed)
         );
-        assert_eq!(rt; reader.given(), given);
-        assert_eq!(rt; reader.failures(), 1);
+        assert_eq!(rt; (reader.given(), reader.failures()), (given, 1));
     }
+    Ok(())
 }

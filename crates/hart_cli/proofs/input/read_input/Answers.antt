@@ -1,24 +1,71 @@
-use Rattle.std.proofs.Common.{◌++◌, take, arith, length-append, length-take}
+use Rattle.std.proofs.Common.{◌≡◌, ◌≤◌, ◌<◌, ◌+◌, ◌-◌, ℕ, List, ◌++◌, length, take, drop, Result, Ok, Err, OnErr, sym, ap, ◌∙◌, subst, arith, append_assoc, length-append, length-drop, length-take, take-take}
+use Rattle.std.proofs.lemmas.List.{take-append-drop, length-take-le}
+use Rattle.std.specs.Io.KnownBytes.{Consumes}
+use Rattle.hart_cli.specs.Input.{LacksMemory, input_limit, most_beyond, ReadsPastLimit, ReadsWell}
+use Rattle.hart_cli.specs.Stream.{Stream}
 use Rattle.hart_cli.proofs.KnownBytesLemmas.{Consumes-append}
 use Rattle.hart_cli.proofs.input.read_input.Goals as goal
 
-pub returns-then-given-len-clause-too_long : goal.returns-then-given-len-clause-too_long
-returns-then-given-len-clause-too_long g c = λ _.
-    let given = length-take c.in-Ok.given c.read.new.buffer in
-    let all = length-append c.loop-given.input.items (take c.in-Ok.given c.read.new.buffer) in
+-- one read more, which goes past the limit
+past_limit : (a b c : Stream) (text bytes whole : List ℕ) (given room : ℕ) → ReadsWell a b text → ReadsWell b c (take given bytes)
+    → length text + room ≡ input_limit → room < given → given ≤ length bytes → length bytes ≤ most_beyond → whole ≡ text ++ take room bytes
+    → ReadsPastLimit a c whole
+past_limit a b c text bytes whole given room h k full more fits soon e =
+    let left = length-drop room (take given bytes) in
+    let taken = length-take-le given bytes fits in
+    let within = length-take-le room bytes (omega arith) in
+    let front : take room (take given bytes) ≡ take room bytes = take-take room given bytes (omega arith) in
+    let parts : whole ++ drop room (take given bytes) ≡ text ++ take given bytes =
+    ap (λ (xs : List ℕ). xs ++ drop room (take given bytes)) e
+    ∙ append_assoc text (take room bytes) (drop room (take given bytes))
+    ∙ ap (λ (xs : List ℕ). text ++ (xs ++ drop room (take given bytes))) (sym front)
+    ∙ ap (λ (xs : List ℕ). text ++ xs) (take-append-drop room (take given bytes)) in
     record {
-      bytes = c.loop-given.input.items ++ take c.in-Ok.given c.read.new.buffer;
-      consumed = Consumes-append _ _ _ _ _ c.loop-given.invariant.consumed c.in-Ok.ensures.bytes.0;
-      above = omega (arith, all, given, c.in-Ok.ensures.bound.1, c.loop-given.input.ok.0);
-      soon = omega (arith, all, given, c.in-Ok.ensures.bound.1, c.loop-given.input.ok.0, c.loop-given.invariant);
+      beyond = drop room (take given bytes);
+      read = (
+        subst (λ (xs : List ℕ). Consumes a.bytes c.bytes xs) (sym parts) (Consumes-append _ _ _ _ _ h.0 k.0),
+        k.1 ∙ h.1,
+      );
+      full = ap (λ (xs : List ℕ). length xs) e ∙ length-append text (take room bytes) ∙ ap (λ (n : ℕ). length text + n) within ∙ full;
+      more = λ none. let no_more = ap (λ (xs : List ℕ). length xs) none in absurd (omega (arith, left, taken, no_more));
+      soon = omega (arith, left, taken);
     }
 
-pub returns-in_err-extend_from_slice-clause-within : goal.returns-in_err-extend_from_slice-clause-within
-returns-in_err-extend_from_slice-clause-within g c = λ _.
-    let given = length-take c.in-Ok.given c.read.new.buffer in
-    let all = length-append c.loop-given.input.items (take c.in-Ok.given c.read.new.buffer) in
+-- memory is refused behind one read more
+lacks_memory : {T E : Type 0} (result : Result T E) (a b c : Stream) (text bytes : List ℕ) (given : ℕ) → ReadsWell a b text
+    → ReadsWell b c (take given bytes) → length text ≤ input_limit → length bytes ≤ most_beyond → OnErr result (LacksMemory a c)
+lacks_memory (Ok x) a b c text bytes given h k within soon = tt
+lacks_memory (Err x) a b c text bytes given h k within soon =
+    let all = length-append text (take given bytes) in
+    let taken = length-take given bytes in
     record {
-      bytes = c.loop-given.input.items ++ take c.in-Ok.given c.read.new.buffer;
-      consumed = Consumes-append _ _ _ _ _ c.loop-given.invariant.consumed c.in-Ok.ensures.bytes.0;
-      within = omega (arith, all, given, c.in-Ok.ensures.bound.1, c.loop-given.input.ok.0, c.loop-given.invariant);
+      bytes = text ++ take given bytes;
+      read = (Consumes-append _ _ _ _ _ h.0 k.0, k.1 ∙ h.1);
+      soon = omega arith;
     }
+
+pub returns-in_err-extend_from_slice-clause-lacks_memory : goal.returns-in_err-extend_from_slice-clause-lacks_memory
+returns-in_err-extend_from_slice-clause-lacks_memory g c =
+    lacks_memory _ _
+    (record { bytes = g.R.Source.remaining c.loop-given.reader; failures = g.R.Source.failures c.loop-given.reader })
+    _ c.loop-given.text.items c.read.new.buffer c.in-Ok.given
+    (c.loop-given.invariant.consumed, c.loop-given.invariant.same_failures)
+    (c.in-Ok.ensures.bytes.0, c.in-Ok.ensures.count) (omega (arith, c.loop-given.text.ok.0)) (omega arith)
+
+pub returns-in_err-extend_from_slice-2-clause-lacks_memory : goal.returns-in_err-extend_from_slice-2-clause-lacks_memory
+returns-in_err-extend_from_slice-2-clause-lacks_memory g c =
+    lacks_memory _ _
+    (record { bytes = g.R.Source.remaining c.loop-given.reader; failures = g.R.Source.failures c.loop-given.reader })
+    _ c.loop-given.text.items c.read.new.buffer c.in-Ok.given
+    (c.loop-given.invariant.consumed, c.loop-given.invariant.same_failures)
+    (c.in-Ok.ensures.bytes.0, c.in-Ok.ensures.count) (omega (arith, c.loop-given.text.ok.0)) (omega arith)
+
+pub returns-then-given-room-clause-reads : goal.returns-then-given-room-clause-reads
+returns-then-given-room-clause-reads g c =
+    past_limit _
+    (record { bytes = g.R.Source.remaining c.loop-given.reader; failures = g.R.Source.failures c.loop-given.reader })
+    _ c.loop-given.text.items c.read.new.buffer _ c.in-Ok.given (input_limit - c.len-room.result)
+    (c.loop-given.invariant.consumed, c.loop-given.invariant.same_failures)
+    (c.in-Ok.ensures.bytes.0, c.in-Ok.ensures.count) (omega (arith, c.loop-given.text.ok.0)) (omega arith)
+    (omega (arith, c.in-Ok.ensures.bound)) (omega arith)
+    c.in_ok-extend_from_slice.ensures.items

@@ -5,11 +5,11 @@ use Rattle.hart_cli.proofs.input.read_input.Given as goal
 
 abbrev pub invariant-loop-given : goal.invariant-loop-given
 invariant-loop-given g l = record {
-  consumed : Consumes (g.R.Source.remaining l.initial.reader) (g.R.Source.remaining l.reader) l.input.items;
-  within : vec_len l.input ≤ INPUT_LIMIT;
+  consumed : Consumes (g.R.Source.remaining l.initial.reader) (g.R.Source.remaining l.reader) l.text.items;
+  within : vec_len l.text ≤ INPUT_LIMIT;
   buffer_length : length l.buffer ≡ BUFFER_LEN;
   same_failures : g.R.Source.failures l.reader ≡ g.R.Source.failures l.initial.reader;
 }
 
 abbrev pub decreases-loop-given : goal.decreases-loop-given
-decreases-loop-given g l = INPUT_LIMIT - vec_len l.input
+decreases-loop-given g l = INPUT_LIMIT - vec_len l.text

@@ -1,0 +1,152 @@
+use Rattle.std.proofs.Common.{◌≡◌, ◌≢◌, inl, inr, ℕ, zero, suc, ◌+◌, ◌*◌, ◌<◌, List, [], ◌∷◌, ◌++◌, length, drop, Option, Some, None, Bool, true, false, is_some, IsTrue, MatchOption, refl, sym, ap, ◌∙◌, subst, arith}
+use Rattle.std.specs.Int.{bit_at}
+use Rattle.hart_frame.specs.Character.{AreFaultBits, IsFaultBit}
+use Rattle.hart_cli.specs.Items.{AreDigits, BeginsAs, BeginsWith, byte_of, FaultyItem, hex_value, Item, MayBegin, NoPieceBegins, Piece, Separator, spelling}
+use Rattle.hart_cli.specs.declared.items.Lead.{Lead}
+use Rattle.hex.specs.Hex.{is_hex_digit}
+use Rattle.hart_cli.proofs.items.may_begin.Goals as goal
+
+-- what fills the beginning of an item up to an item: `00!02` and a space
+abbrev filling : List ℕ → List ℕ
+filling text = drop (length text) (48 ∷ 48 ∷ 33 ∷ 48 ∷ 50 ∷ 32 ∷ [])
+
+-- 16 times a number up to 7, and 2, sets fault bits alone
+sets_fault_bits : (high bit : ℕ) → high < 8 → bit < 8 → bit_at (16 * high + 2) bit ≡ 1 → IsFaultBit bit
+sets_fault_bits high zero small below set = absurd (omega arith)
+sets_fault_bits high (suc zero) small below set = inr (inr (inr refl))
+sets_fault_bits high (suc (suc zero)) small below set = absurd (omega arith)
+sets_fault_bits high (suc (suc (suc zero))) small below set = absurd (omega arith)
+sets_fault_bits high (suc (suc (suc (suc zero)))) small below set = inr (inr (inl refl))
+sets_fault_bits high (suc (suc (suc (suc (suc zero))))) small below set = inr (inl refl)
+sets_fault_bits high (suc (suc (suc (suc (suc (suc zero)))))) small below set = inl refl
+sets_fault_bits high (suc (suc (suc (suc (suc (suc (suc zero))))))) small below set = absurd (omega arith)
+sets_fault_bits high (suc (suc (suc (suc (suc (suc (suc (suc bit)))))))) small below set = absurd (omega arith)
+
+-- bit 7 is no fault bit
+seven_is_none : IsFaultBit 7 → ⊥
+seven_is_none (inl e) = absurd (omega arith)
+seven_is_none (inr (inl e)) = absurd (omega arith)
+seven_is_none (inr (inr (inl e))) = absurd (omega arith)
+seven_is_none (inr (inr (inr e))) = absurd (omega arith)
+
+-- the high digit of fault bits is at most 7
+high_is_small : (high low : ℕ) → AreFaultBits (16 * high + low) → high < 8
+high_is_small high low are =
+    let byte = are.byte in
+    let seven : bit_at (16 * high + low) 7 ≡ 1 → ⊥ = λ e. seven_is_none (are.only 7 (omega arith) e) in
+    omega arith
+
+-- with the low digit 2, the high digit of fault bits makes fault bits
+two_fits : (high low : ℕ) → AreFaultBits (16 * high + low) → AreFaultBits (16 * high + 2)
+two_fits high low are =
+    let small = high_is_small high low are in
+    record { byte = omega arith; only = λ bit below set. sets_fault_bits high bit small below set }
+
+-- a piece with a byte behind it stands at the front of a text already
+stands_already : (text more tail : List ℕ) (p : Piece) → BeginsWith (text ++ more) p tail → length (spelling p) < length text
+    → NoPieceBegins text → ⊥
+stands_already [] more tail p h short n = absurd (omega arith)
+stands_already (a ∷ text) more tail (Separator x) h short n =
+    let e = h.spelled in
+    let same : a ≡ x = cc in
+    n (Separator x) text (record { valid = h.valid; spelled = ap (λ (y : ℕ). y ∷ text) same; whole = tt })
+stands_already (a ∷ []) more tail (Item x y) h short n = absurd (omega arith)
+stands_already (a ∷ b ∷ []) more tail (Item x y) h short n = absurd (omega arith)
+stands_already (a ∷ b ∷ z ∷ text) more [] (Item x y) h short n = absurd h.whole
+stands_already (a ∷ b ∷ z ∷ text) more (u ∷ tail) (Item x y) h short n =
+    let e = h.spelled in
+    let same : z ≡ u = cc in
+    n (Item x y) (z ∷ text) (record { valid = h.valid; spelled = cc; whole = λ k. h.whole (sym same ∙ k) })
+stands_already (a ∷ []) more tail (FaultyItem x y v w) h short n = absurd (omega arith)
+stands_already (a ∷ b ∷ []) more tail (FaultyItem x y v w) h short n = absurd (omega arith)
+stands_already (a ∷ b ∷ c ∷ []) more tail (FaultyItem x y v w) h short n = absurd (omega arith)
+stands_already (a ∷ b ∷ c ∷ d ∷ []) more tail (FaultyItem x y v w) h short n = absurd (omega arith)
+stands_already (a ∷ b ∷ c ∷ d ∷ f ∷ []) more tail (FaultyItem x y v w) h short n = absurd (omega arith)
+stands_already (a ∷ b ∷ c ∷ d ∷ f ∷ z ∷ text) more tail (FaultyItem x y v w) h short n =
+    let e = h.spelled in
+    n (FaultyItem x y v w) (z ∷ text) (record { valid = h.valid; spelled = cc; whole = λ k. cc k })
+
+-- a separator stands at the front of a text already
+separator_stands : (a : ℕ) (text more tail : List ℕ) (x : ℕ) → BeginsWith ((a ∷ text) ++ more) (Separator x) tail → NoPieceBegins (a ∷ text) → ⊥
+separator_stands a text more tail x h n =
+    let e = h.spelled in
+    let same : a ≡ x = cc in
+    n (Separator x) text (record { valid = h.valid; spelled = ap (λ (y : ℕ). y ∷ text) same; whole = tt })
+
+-- an item with fault bits 02 begins where its digits are digits
+begins_filled : (text : List ℕ) (x y : ℕ) → AreDigits x y → text ≡ x ∷ y ∷ 33 ∷ 48 ∷ 50 ∷ 32 ∷ [] → NoPieceBegins text → ⊥
+begins_filled text x y d e n =
+    n (FaultyItem x y 48 50) (32 ∷ []) (record {
+      valid = (d, (refl, refl), omega arith, two_fits 0 2 (record { byte = omega arith; only = λ bit below set. sets_fault_bits 0 bit (omega arith) below set }));
+      spelled = e;
+      whole = λ k. cc k;
+    })
+
+-- a digit that equals a digit
+is_digit : (a x : ℕ) → a ≡ x → IsTrue (is_hex_digit x) → IsTrue (is_hex_digit a)
+is_digit a x e d = subst (λ (y : ℕ). IsTrue (is_hex_digit y)) (sym e) d
+
+-- an item with fault bits begins, where they are some
+begins_faulty : (text : List ℕ) (x y v w : ℕ) → AreDigits x y → AreDigits v w → byte_of v w ≢ 0 → AreFaultBits (byte_of v w)
+    → text ≡ x ∷ y ∷ 33 ∷ v ∷ w ∷ 32 ∷ [] → NoPieceBegins text → ⊥
+begins_faulty text x y v w d f z a e n =
+    n (FaultyItem x y v w) (32 ∷ []) (record { valid = (d, f, z, a); spelled = e; whole = λ k. cc k })
+
+-- what some bytes complete, these do
+filled : (text more tail : List ℕ) (p : Piece) → NoPieceBegins text → BeginsWith (text ++ more) p tail → NoPieceBegins (text ++ filling text) → ⊥
+filled [] more tail p n h m = begins_filled _ 48 48 (refl, refl) refl m
+filled (a ∷ text) more tail (Separator x) n h m = separator_stands a text more tail x h n
+filled (a ∷ []) more tail (Item x y) n h m =
+    let e = h.spelled in begins_filled _ a 48 (is_digit a x (cc) h.valid.0, refl) refl m
+filled (a ∷ []) more tail (FaultyItem x y v w) n h m =
+    let e = h.spelled in begins_filled _ a 48 (is_digit a x (cc) h.valid.0.0, refl) refl m
+filled (a ∷ b ∷ []) more tail (Item x y) n h m =
+    let e = h.spelled in begins_filled _ a b (is_digit a x (cc) h.valid.0, is_digit b y (cc) h.valid.1) refl m
+filled (a ∷ b ∷ []) more tail (FaultyItem x y v w) n h m =
+    let e = h.spelled in begins_filled _ a b (is_digit a x (cc) h.valid.0.0, is_digit b y (cc) h.valid.0.1) refl m
+filled (a ∷ b ∷ c ∷ text) more tail (Item x y) n h m = stands_already (a ∷ b ∷ c ∷ text) more tail (Item x y) h (omega arith) n
+filled (a ∷ b ∷ c ∷ []) more tail (FaultyItem x y v w) n h m =
+    let e = h.spelled in begins_filled _ a b (is_digit a x (cc) h.valid.0.0, is_digit b y (cc) h.valid.0.1) (cc) m
+filled (a ∷ b ∷ c ∷ d ∷ []) more tail (FaultyItem x y v w) n h m =
+    let e = h.spelled in
+    let same : d ≡ v = cc in
+    let fits : AreFaultBits (byte_of d w) = subst (λ (z : ℕ). AreFaultBits (byte_of z w)) (sym same) h.valid.3 in
+    begins_faulty _ a b d 50 (is_digit a x (cc) h.valid.0.0, is_digit b y (cc) h.valid.0.1) (is_digit d v same h.valid.1.0, refl)
+    (omega arith) (two_fits (hex_value d) (hex_value w) fits) (cc) m
+filled (a ∷ b ∷ c ∷ d ∷ f ∷ []) more tail (FaultyItem x y v w) n h m =
+    let e = h.spelled in begins_faulty _ x y v w h.valid.0 h.valid.1 h.valid.2 h.valid.3 (cc) m
+filled (a ∷ b ∷ c ∷ d ∷ f ∷ u ∷ text) more tail (FaultyItem x y v w) n h m =
+    stands_already (a ∷ b ∷ c ∷ d ∷ f ∷ u ∷ text) more tail (FaultyItem x y v w) h (omega arith) n
+
+-- a text longer than each piece and the byte behind it
+too_long : (text more tail : List ℕ) (p : Piece) → 6 < length text → BeginsWith (text ++ more) p tail → NoPieceBegins text → ⊥
+too_long text more tail (Separator x) long h n = stands_already text more tail (Separator x) h (omega arith) n
+too_long text more tail (Item x y) long h n = stands_already text more tail (Item x y) h (omega arith) n
+too_long text more tail (FaultyItem x y v w) long h n = stands_already text more tail (FaultyItem x y v w) h (omega arith) n
+
+-- whether a piece was found tells whether one may begin
+tells : (text front : List ℕ) (found : Option Lead) (result : Bool) → result ≡ is_some found → front ≡ text → NoPieceBegins text
+    → MatchOption found (NoPieceBegins (front ++ filling text)) (λ lead. BeginsAs (front ++ filling text) lead.char lead.len)
+    → (IsTrue result → MayBegin text) × (MayBegin text → IsTrue result)
+tells text front None result e f n h = (
+  λ t. let k : false ≡ true = sym e ∙ t in cc k,
+  λ b. absurd (filled text b.more b.tail b.piece n b.begins (subst (λ (xs : List ℕ). NoPieceBegins (xs ++ filling text)) f h)),
+)
+tells text front (Some lead) result e f n h = (
+  λ t. record {
+    more = filling text;
+    piece = h.piece;
+    tail = h.tail;
+    begins = subst (λ (xs : List ℕ). BeginsWith (xs ++ filling text) h.piece h.tail) f h.begins;
+  },
+  λ b. e,
+)
+
+pub returns-then-text-gt6 : goal.returns-then-text-gt6
+returns-then-text-gt6 c = (
+  λ t. cc t,
+  λ b. absurd (too_long _ b.more b.tail b.piece c.if-text-gt6.true b.begins c.requires),
+)
+
+pub returns : goal.returns
+returns c = tells _ _ _ _ c.is_some.ensures c.copy_from_slice.ensures.after c.requires c.leading_piece.ensures
