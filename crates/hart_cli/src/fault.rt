@@ -23,12 +23,15 @@ pub enum CliFault {
     /// The input has more bytes than `INPUT_LIMIT`.
     #[error("input too long")]
     TooLong,
-    /// At this byte of the text, counted from 0, begins the first thing that is neither a separator nor an item.
+    /// At this byte of the input, counted from 0, begins the first thing that is neither a separator nor an item.
     #[error("bad hex at {place}")]
     BadHex { place: usize },
     /// A growth was refused.
     #[error("out of memory")]
     Memory,
+    /// This word of a message to send is bad: 1 is WHO, 2 ADDRESS, 3 COMMAND and 4 DATA.
+    #[error("bad word {number}")]
+    BadWord { number: u8 },
 }
 
 // The longest line is that of the longest place: 11 characters, 20 digits and a line feed.
@@ -51,6 +54,10 @@ impl CliFault {
                 line.push_str(Buffer::new().format(place));
             }
             CliFault::Memory => line.push_str("out of memory"),
+            CliFault::BadWord { number } => {
+                line.push_str("bad word ");
+                line.push_str(Buffer::new().format(number));
+            }
         }
         line.push_str("\n");
         line

@@ -1,15 +1,17 @@
 //! Making and writing the text of an output.
 
-ghost use Rattle.std.specs.Prelude.{◌≡◌, IfOk, OnOk, OnErr};
+ghost use Rattle.std.specs.Prelude.{◌≡◌, ◌≤◌, IfOk, OnOk, OnErr};
 ghost use Rattle.std.specs.String.{string_bytes};
 ghost use Rattle.std.specs.Io.KnownBytes.{Appends};
 ghost use Rattle.hart_cli.specs.HexText.{hex_line};
+ghost use Rattle.hart_cli.specs.MessageLine.{IsMessageLine};
 ghost use Rattle.hart_cli.specs.Stream.{CountsFailure, WritesFront};
 
 #[cfg(test)]
 mod tests;
 
 use crate::stream::{Failed, Sink};
+use hart_frame::{Frame, Message, encode};
 use std::alloc::{AllocError, Global};
 
 /// The bytes in upper case hex as one line.
@@ -29,6 +31,21 @@ pub fn hex_line(alloc: Global, bytes: &[u8]) -> Result<String, AllocError>
     }
     line.push('\n')?;
     Ok(line)
+}
+
+/// The line of the frame's message with so many preamble bytes.
+///
+/// # Errors
+///
+/// `AllocError` if memory for the line is refused.
+pub fn message_line(alloc: Global, frame: &Frame, preambles: u8) -> Result<String, AllocError>
+    requires enough { 5 ≤ preambles }
+    requires few { preambles ≤ 20 }
+    ensures { IfOk result (λ line. IsMessageLine frame.now preambles (string_bytes line)) }
+{
+    let mut message = Message::new();
+    encode(frame, preambles, &mut message).unwrap();
+    hex_line(alloc, message.as_slice())
 }
 
 /// Writes a whole text.

@@ -13,6 +13,8 @@ fn each_line_is_the_display_and_a_line_feed(rt: HostRuntime) -> Result<(), Fail>
             "bad hex at 18446744073709551615\n",
         ),
         (CliFault::Memory, "out of memory\n"),
+        (CliFault::BadWord { number: 1 }, "bad word 1\n"),
+        (CliFault::BadWord { number: u8::MAX }, "bad word 255\n"),
     ];
     for (fault, line) in faults {
         assert_eq!(rt; fault.line().as_str(), line);

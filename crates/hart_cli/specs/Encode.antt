@@ -1,0 +1,70 @@
+-- What `hart encode` writes for its words, an own profile.
+use Rattle.std.specs.Prelude.{◌≡◌, ℕ, false, List, [], Result, Ok, Err}
+use Rattle.hart_values.specs.declared.address.Address.{Address}
+use Rattle.hart_values.specs.declared.master_id.MasterId.{MasterId}
+use Rattle.hart_frame.specs.declared.kind.FrameKind.TheVariants.{Stx}
+use Rattle.hart_frame.specs.FrameParts.{FrameParts}
+use Rattle.hart_cli.specs.declared.fault.CliFault.{CliFault}
+use Rattle.hart_cli.specs.declared.fault.CliFault.TheVariants.{BadHex, BadWord, Memory, Read, TooLong, Write}
+use Rattle.hart_cli.specs.MessageLine.{IsMessageLine}
+use Rattle.hart_cli.specs.Stream.{FailsToWrite, Stream, WritesAll, WritesNothing}
+use Rattle.hart_cli.specs.Words.{IsAddressWord, IsCommandWord, IsDataWord, HasNoValue, IsWho}
+
+-- The four words of a message to send.
+pub record MessageWords : Type 0 where
+  pub who : List ℕ
+  pub address : List ℕ
+  pub command : List ℕ
+  pub payload : List ℕ
+
+-- The request of four words has what each of them writes, and is an STX with burst bit 0 and no expansion bytes.
+pub record IsRequestOf (words : MessageWords) (frame : FrameParts) : Type 0 where
+  pub master : IsWho words.who frame.master
+  pub address : IsAddressWord words.address frame.address
+  pub command : IsCommandWord words.command frame.command
+  pub payload : IsDataWord words.payload frame.payload
+  pub kind : frame.kind ≡ Stx
+  pub burst : frame.burst ≡ false
+  pub expansion : frame.expansion ≡ []
+
+-- The text of four words is the line of their request's message, with so many preamble bytes.
+pub record IsEncoding (words : MessageWords) (preambles : ℕ) (text : List ℕ) : Type 0 where
+  pub frame : FrameParts
+  pub request : IsRequestOf words frame
+  pub line : IsMessageLine frame preambles text
+
+-- The first bad word, which writes no value, has this number: 1 is WHO, 2 ADDRESS, 3 COMMAND and 4 DATA.
+pub data IsFirstBad (words : MessageWords) : ℕ → Type 0 where
+  bad_who : HasNoValue (IsWho words.who) → IsFirstBad words 1
+  bad_address : (master : MasterId) → IsWho words.who master → HasNoValue (IsAddressWord words.address) → IsFirstBad words 2
+  bad_command : (master : MasterId) (address : Address) → IsWho words.who master → IsAddressWord words.address address
+      → HasNoValue (IsCommandWord words.command) → IsFirstBad words 3
+  bad_data : (master : MasterId) (address : Address) (command : ℕ) → IsWho words.who master
+      → IsAddressWord words.address address → IsCommandWord words.command command → HasNoValue (IsDataWord words.payload)
+      → IsFirstBad words 4
+
+-- Reading the words gives the frame that they ask for, or tells the first bad one.
+abbrev pub RequestOutcome : MessageWords → Result FrameParts CliFault → Type 0
+RequestOutcome words (Ok frame) = IsRequestOf words frame
+RequestOutcome words (Err (BadWord number)) = IsFirstBad words number
+RequestOutcome words (Err Write) = ⊥
+RequestOutcome words (Err Memory) = ⊥
+RequestOutcome words (Err Read) = ⊥
+RequestOutcome words (Err TooLong) = ⊥
+RequestOutcome words (Err (BadHex place)) = ⊥
+
+-- What a call of `encode_text` with this result has done to its writer: at `Ok` the text of the words was written, where a
+-- write failed a front of it, and nothing where a word is bad, the first of which is told, or where the words have a
+-- request but memory for its line was refused.
+abbrev pub EncodeOutcome : MessageWords → ℕ → Stream → Stream → Result (Unit {0}) CliFault → Type 0
+EncodeOutcome words preambles writer writer_after (Ok done) =
+    (text : List ℕ) × IsEncoding words preambles text × WritesAll writer writer_after text
+EncodeOutcome words preambles writer writer_after (Err Write) =
+    (text : List ℕ) × IsEncoding words preambles text × FailsToWrite writer writer_after text
+EncodeOutcome words preambles writer writer_after (Err Memory) =
+    (frame : FrameParts) × IsRequestOf words frame × WritesNothing writer writer_after
+EncodeOutcome words preambles writer writer_after (Err (BadWord number)) =
+    IsFirstBad words number × WritesNothing writer writer_after
+EncodeOutcome words preambles writer writer_after (Err Read) = ⊥
+EncodeOutcome words preambles writer writer_after (Err TooLong) = ⊥
+EncodeOutcome words preambles writer writer_after (Err (BadHex place)) = ⊥

@@ -1,0 +1,90 @@
+//! `hart encode`: a message to send.
+
+ghost use Rattle.std.specs.Prelude.{◌≡◌, ◌≤◌, ℕ, List};
+ghost use Rattle.hart_cli.specs.Encode.{EncodeOutcome, IsEncoding, MessageWords, RequestOutcome};
+
+use crate::fault::CliFault;
+use crate::output::{message_line, write_all};
+use crate::stream::Sink;
+use crate::words::{read_address, read_command, read_data, read_who};
+use hart_frame::{Expansion, Frame, FrameKind, bodies_are_told_apart};
+use std::alloc::Global;
+
+/// Writes the request that four words write, with so many preamble bytes, as one line of hex.
+///
+/// The request is an STX with burst bit 0 and no expansion bytes. An absent DATA is the empty word.
+///
+/// # Errors
+///
+/// [`CliFault::BadWord`] with the number of the first bad word: 1 is WHO, 2 ADDRESS, 3 COMMAND, 4 DATA;
+/// then [`CliFault::Write`], and [`CliFault::Memory`] wherever a growth is refused. At a fault nothing is written, except at
+/// `Write`, where a front of the line is, short of its end.
+pub fn encode_text<W: Sink>(
+    alloc: Global,
+    who: &str,
+    address: &str,
+    command: &str,
+    payload: &str,
+    preambles: u8,
+    writer: &mut W,
+) -> Result<(), CliFault>
+    requires enough { 5 ≤ preambles }
+    requires few { preambles ≤ 20 }
+    ensures { EncodeOutcome
+        (record { who = who.now; address = address.now; command = command.now; payload = payload.now })
+        preambles
+        (record { bytes = W.written writer.old; failures = W.failures writer.old })
+        (record { bytes = W.written writer.new; failures = W.failures writer.new })
+        result }
+{
+    let request = read_request(who, address, command, payload)?;
+    let line = message_line(alloc, &request, preambles)?;
+    write_all(writer, line.as_bytes()).map_err(|_| CliFault::Write)
+}
+
+/// Four words have one text at most, so that what `encode_text` writes is determined by them.
+pub fn one_encoding()
+    ensures { (words : MessageWords) (preambles : ℕ) (xs ys : List ℕ)
+        → IsEncoding words preambles xs → IsEncoding words preambles ys → xs ≡ ys }
+{
+    // It does nothing when it runs: the law of bodies is what this one rests on.
+    bodies_are_told_apart();
+}
+
+/// The request that four words write.
+///
+/// # Errors
+///
+/// [`CliFault::BadWord`] with the number of the first bad word.
+fn read_request(who: &str, address: &str, command: &str, payload: &str) -> Result<Frame, CliFault>
+    ensures { RequestOutcome
+        (record { who = who.now; address = address.now; command = command.now; payload = payload.now })
+        result }
+{
+    let Some(master) = read_who(who) else {
+        return Err(CliFault::BadWord { number: 1 });
+    };
+    let Some(address) = read_address(address) else {
+        return Err(CliFault::BadWord { number: 2 });
+    };
+    let Some(command) = read_command(command) else {
+        return Err(CliFault::BadWord { number: 3 });
+    };
+    let Some(payload) = read_data(payload) else {
+        return Err(CliFault::BadWord { number: 4 });
+    };
+    let expansion = Expansion::new();
+    Ok(Frame::new(
+        FrameKind::Stx,
+        master,
+        false,
+        address,
+        expansion,
+        command,
+        payload,
+    )
+    .unwrap())
+}
+
+#[cfg(test)]
+mod tests;

@@ -1,0 +1,122 @@
+ghost use Rattle.std.specs.Prelude.{◌≤◌};
+
+use super::*;
+use crate::stream::fakes::Trickle;
+use std::test::Fail;
+
+/// What `encode_text` answers for these four words, and what it wrote where there is this much room.
+fn encoded(
+    alloc: Global,
+    words: [&str; 4],
+    preambles: u8,
+    room: u64,
+) -> (Result<(), CliFault>, Trickle)
+    requires enough { 5 ≤ preambles }
+    requires few { preambles ≤ 20 }
+{
+    let [who, address, command, payload] = words;
+    let mut writer = Trickle::new(alloc, room);
+    let result = encode_text(
+        alloc,
+        who,
+        address,
+        command,
+        payload,
+        preambles,
+        &mut writer,
+    );
+    (result, writer)
+}
+
+#[test]
+fn requests_are_written(rt: HostRuntime) {
+    let rows = [
+        (["P", "@0", "0", ""], "FF FF FF FF FF 02 80 00 00 82\n"),
+        (["S", "@07", "000", ""], "FF FF FF FF FF 02 07 00 00 05\n"),
+        (
+            ["P", "37420A1B2C", "19", "012345"],
+            "FF FF FF FF FF 82 B7 42 0A 1B 2C 13 03 01 23 45 3D\n",
+        ),
+        (
+            ["S", "37420a1b2c", "019", "0a0B0c"],
+            "FF FF FF FF FF 82 37 42 0A 1B 2C 13 03 0A 0B 0C D7\n",
+        ),
+        (
+            ["S", "F7420A1B2C", "6", "0501"],
+            "FF FF FF FF FF 82 37 42 0A 1B 2C 06 02 05 01 CA\n",
+        ),
+        (
+            ["P", "37420A1B2C", "38", "0001"],
+            "FF FF FF FF FF 82 B7 42 0A 1B 2C 26 02 00 01 6F\n",
+        ),
+        (
+            ["P", "all", "11", "415350B71C31"],
+            "FF FF FF FF FF 82 80 00 00 00 00 0B 06 41 53 50 B7 1C 31 D7\n",
+        ),
+    ];
+    for (words, line) in rows {
+        let (result, writer) = encoded(rt.alloc(), words, 5, 1000);
+        assert_eq!(rt; result, Ok(()), "at {line}");
+        assert_eq!(rt; writer.taken(), line.as_bytes(), "at {line}");
+    }
+}
+
+#[test]
+fn preamble_bytes_are_as_many_as_asked_for(rt: HostRuntime) {
+    let words = ["P", "37420A1B2C", "19", "012345"];
+    let line = "FF FF FF FF FF FF FF FF FF FF FF FF FF FF FF FF FF FF FF FF \
+        82 B7 42 0A 1B 2C 13 03 01 23 45 3D\n";
+    let (result, writer) = encoded(rt.alloc(), words, 20, 1000);
+    assert_eq!(rt; result, Ok(()));
+    assert_eq!(rt; writer.taken(), line.as_bytes());
+    let (result, writer) = encoded(rt.alloc(), words, 6, 1000);
+    assert_eq!(rt; result, Ok(()));
+    assert_eq!(rt; writer.taken(), &line.as_bytes()[42..]);
+}
+
+#[test]
+fn the_longest_data_are_written(rt: HostRuntime) -> Result<(), Fail> {
+    let alloc = rt.alloc();
+    let payload = "00".repeat(alloc, 255)?;
+    let words = ["P", "4000000000", "0", payload.as_str()];
+    let (result, writer) = encoded(alloc, words, 20, 1000);
+    assert_eq!(rt; result, Ok(()));
+    let preamble = "FF ".repeat(alloc, 20)?;
+    let zeros = "00 ".repeat(alloc, 255)?;
+    let line = format!(in alloc; "{preamble}82 80 00 00 00 00 00 FF {zeros}FD\n")?;
+    assert_eq!(rt; writer.taken(), line.as_bytes());
+    Ok(())
+}
+
+#[test]
+fn the_first_bad_word_is_told(rt: HostRuntime) {
+    let rows = [
+        (["p", "@0", "0", ""], 1),
+        (["", "@64", "256", "0"], 1),
+        (["P", "@64", "0", ""], 2),
+        (["P", "", "256", "0"], 2),
+        (["S", "all", "256", ""], 3),
+        (["S", "all", "", "0"], 3),
+        (["S", "all", "0", "0"], 4),
+        (["@0", "P", "0", ""], 1),
+        (["P", "0", "@0", ""], 2),
+    ];
+    for (words, number) in rows {
+        let (result, writer) = encoded(rt.alloc(), words, 5, 1000);
+        assert_eq!(rt; result, Err(CliFault::BadWord { number }));
+        assert!(rt; writer.taken().is_empty());
+        assert_eq!(rt; writer.failures(), 0);
+    }
+}
+
+#[test]
+fn a_failed_write_leaves_a_front_of_the_line(rt: HostRuntime) {
+    let line = "FF FF FF FF FF 02 80 00 00 82\n".as_bytes();
+    for (room, _) in line.iter().enumerate() {
+        let words = ["P", "@0", "0", ""];
+        let (result, writer) = encoded(rt.alloc(), words, 5, room as u64);
+        assert_eq!(rt; result, Err(CliFault::Write));
+        assert_eq!(rt; writer.taken(), &line[..room]);
+        assert_eq!(rt; writer.failures(), 1);
+    }
+}

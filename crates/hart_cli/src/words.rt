@@ -1,0 +1,92 @@
+//! The words of a message to send.
+
+ghost use Rattle.std.specs.Prelude.{MatchOption};
+ghost use Rattle.hart_cli.specs.Words.{IsAddressWord, IsCommandWord, IsDataWord, IsDecimal, IsDeviceWord, HasNoValue, IsPollingWord, IsWho};
+
+use hart_frame::Payload;
+use hart_values::{Address, MasterId, PollingAddress, UniqueAddress};
+use hex::FromHex;
+
+/// The master that WHO names: `P` the primary and `S` the secondary.
+pub fn read_who(word: &str) -> Option<MasterId>
+    ensures { MatchOption result (HasNoValue (IsWho word.now)) (IsWho word.now) }
+{
+    match word {
+        "P" => Some(MasterId::Primary),
+        "S" => Some(MasterId::Secondary),
+        _ => None,
+    }
+}
+
+/// The address that ADDRESS writes: `@` and a polling address, the ten hex digits of a device, or `all`.
+pub fn read_address(word: &str) -> Option<Address>
+    ensures { MatchOption result (HasNoValue (IsAddressWord word.now)) (IsAddressWord word.now) }
+{
+    if word == "all" {
+        return Address::unique(0, 0).ok();
+    }
+    if let Some(polling) = read_polling(word) {
+        return Some(Address::Polling(polling));
+    }
+    Some(Address::Unique(read_device(word)?))
+}
+
+/// The polling address that is written `@` and one or two digits.
+fn read_polling(word: &str) -> Option<PollingAddress>
+    ensures { MatchOption result (HasNoValue (IsPollingWord word.now)) (IsPollingWord word.now) }
+{
+    let Some(digits) = word.strip_prefix('@') else {
+        return None;
+    };
+    PollingAddress::new(read_decimal(digits, 2)?).ok()
+}
+
+/// The device that is written in ten hex digits.
+fn read_device(word: &str) -> Option<UniqueAddress>
+    ensures { MatchOption result (HasNoValue (IsDeviceWord word.now)) (IsDeviceWord word.now) }
+{
+    let Ok(bytes) = <[u8; 5]>::from_hex(word) else {
+        return None;
+    };
+    let [type_high, type_low, id_high, id_middle, id_low] = bytes;
+    let expanded_type = u16::from_be_bytes([type_high, type_low]);
+    let device_id = u32::from_be_bytes([0, id_high, id_middle, id_low]);
+    UniqueAddress::new(expanded_type, device_id).ok()
+}
+
+/// The command that COMMAND writes, in one to three digits.
+pub fn read_command(word: &str) -> Option<u8>
+    ensures { MatchOption result (HasNoValue (IsCommandWord word.now)) (IsCommandWord word.now) }
+{
+    read_decimal(word, 3)
+}
+
+/// The number up to 255 that a word writes in decimal, in at most so many digits.
+fn read_decimal(word: &str, most_digits: usize) -> Option<u8>
+    ensures { MatchOption result
+        (HasNoValue (IsDecimal word.now most_digits 255)) (IsDecimal word.now most_digits 255) }
+{
+    // `parse` takes a plus sign too, which is no digit.
+    if word.len() > most_digits || word.starts_with('+') {
+        return None;
+    }
+    word.parse().ok()
+}
+
+/// The bytes that DATA writes in plain hex, at most 255.
+pub fn read_data(word: &str) -> Option<Payload>
+    ensures { MatchOption result (HasNoValue (IsDataWord word.now)) (IsDataWord word.now) }
+{
+    let mut room = [0; 255];
+    if word.len() > 2 * room.len() {
+        return None;
+    }
+    let bytes = &mut room[..word.len() / 2];
+    if hex::decode_to_slice(word, bytes).is_err() {
+        return None;
+    }
+    Payload::from_slice(bytes)
+}
+
+#[cfg(test)]
+mod tests;
