@@ -1,0 +1,152 @@
+-- The frames of characters, one after another, and their lines.
+use Rattle.std.proofs.Common.{◌≡◌, ◌≢◌, ℕ, List, [], ◌∷◌, ◌++◌, Option, Result, Ok, Err, refl, sym, ap, ◌∙◌, append_assoc, subst}
+use Rattle.std.proofs.lemmas.List.{append-nil}
+use Rattle.std.specs.Result.{IsErrAnd}
+use Rattle.std.specs.Io.KnownBytes.{Appends}
+use Rattle.hart_frame.specs.Character.{Character}
+use Rattle.hart_frame.specs.Frames.{AreFrames, HasNoFrame, IsFirst}
+use Rattle.hart_frame.specs.declared.found.Found.{Found}
+use Rattle.hart_cli.specs.declared.fault.CliFault.{CliFault}
+use Rattle.hart_cli.specs.declared.fault.CliFault.TheVariants.{Memory}
+use Rattle.hart_cli.specs.declared.input.InputEnd.{InputEnd}
+use Rattle.hart_cli.specs.Dump.{AreFirstLines, AreLines, FramesUpTo, IsDump}
+use Rattle.hart_cli.specs.DumpText.{dump_line, dump_text}
+use Rattle.hart_cli.specs.Hearing.{Hears}
+use Rattle.hart_cli.specs.Stream.{FailsToWrite, Stream, WritesAll, count_after_failure}
+use Rattle.hart_cli.proofs.KnownBytesLemmas.{Appends-append, Appends-nothing}
+
+-- one frame more
+FramesUpTo-more : (chars : List Character) (from to : ℕ) (frames : List Found) (next : Found) → FramesUpTo chars from frames to
+    → IsFirst next chars to → FramesUpTo chars from (frames ++ next ∷ []) next.stop
+FramesUpTo-more chars from to frames next (FramesUpTo.nothing place) is_next =
+    FramesUpTo.first from next [] next.stop is_next (FramesUpTo.nothing next.stop)
+FramesUpTo-more chars from to frames next (FramesUpTo.first start found later stop is_first up_to) is_next =
+    FramesUpTo.first from found (later ++ next ∷ []) next.stop is_first (FramesUpTo-more chars found.stop to later next up_to is_next)
+
+-- where no frame follows, they are all
+AreFrames-all : (chars : List Character) (from to : ℕ) (frames : List Found) → FramesUpTo chars from frames to
+    → HasNoFrame chars to → AreFrames chars from frames
+AreFrames-all chars from to frames (FramesUpTo.nothing place) no_more = AreFrames.none from no_more
+AreFrames-all chars from to frames (FramesUpTo.first start found later stop is_first up_to) no_more =
+    AreFrames.first from found later is_first (AreFrames-all chars found.stop to later up_to no_more)
+
+-- the text with one line more
+dump_text-more : (frames : List Found) (next : Found) → dump_text (frames ++ next ∷ []) ≡ dump_text frames ++ dump_line next
+dump_text-more [] next = append-nil (dump_line next)
+dump_text-more (found ∷ frames) next =
+    ap (λ (text : List ℕ). dump_line found ++ text) (dump_text-more frames next) ∙ sym (append_assoc (dump_line found) (dump_text frames) (dump_line next))
+
+-- the lines of the frames before a place were written
+pub record LinesSoFar (chars : List Character) (place : ℕ) (old new : Stream) : Type 0 where
+  pub frames : List Found
+  pub begins : FramesUpTo chars 0 frames place
+  pub written : WritesAll old new (dump_text frames)
+
+-- a line more was written
+pub LinesSoFar-more : (chars : List Character) (place : ℕ) (old middle new : Stream) (next : Found) (line : List ℕ) → LinesSoFar chars place old middle
+    → IsFirst next chars place → line ≡ dump_line next → WritesAll middle new line → LinesSoFar chars next.stop old new
+LinesSoFar-more chars place old middle new next line so_far is_next is_line written = record {
+  frames = so_far.frames ++ next ∷ [];
+  begins = FramesUpTo-more chars 0 place so_far.frames next so_far.begins is_next;
+  written =
+      let appended = Appends-append old.bytes middle.bytes new.bytes (dump_text so_far.frames) line so_far.written.0 written.0 in
+      let text : dump_text so_far.frames ++ line ≡ dump_text (so_far.frames ++ next ∷ []) =
+      ap (λ (text : List ℕ). dump_text so_far.frames ++ text) is_line ∙ sym (dump_text-more so_far.frames next) in
+      let P : List ℕ → Type 0 = λ text. Appends old.bytes new.bytes text in
+      (subst P text appended, written.1 ∙ so_far.written.1);
+}
+
+-- at first none were
+pub LinesSoFar-none : (chars : List Character) (stream : Stream) → LinesSoFar chars 0 stream stream
+LinesSoFar-none chars stream = record {
+  frames = [];
+  begins = FramesUpTo.nothing 0;
+  written = (Appends-nothing stream.bytes, refl);
+}
+
+-- where no frame follows, all were
+pub AreLines-written : (chars : List Character) (place : ℕ) (old new : Stream) → LinesSoFar chars place old new → HasNoFrame chars place
+    → (lines : List ℕ) × AreLines chars lines × WritesAll old new lines
+AreLines-written chars place old new so_far no_more = (
+  dump_text so_far.frames,
+  record {
+    frames = so_far.frames;
+    are_frames = AreFrames-all chars 0 place so_far.frames so_far.begins no_more;
+    text = refl;
+  },
+  so_far.written,
+)
+
+-- a line is not empty
+line_ends : (text : List ℕ) → text ++ 10 ∷ [] ≢ []
+line_ends [] e = cc
+line_ends (byte ∷ text) e = cc
+
+-- where the next line could not be built, the lines before it were written
+pub FirstLines-unbuilt : (chars : List Character) (place : ℕ) (old new : Stream) (next : Found) → LinesSoFar chars place old new
+    → IsFirst next chars place → (lines : List ℕ) × AreFirstLines chars lines [] × WritesAll old new lines
+FirstLines-unbuilt chars place old new next so_far is_next = (
+  dump_text so_far.frames,
+  record {
+    frames = so_far.frames;
+    place = place;
+    begins = so_far.begins;
+    next = next;
+    is_next = is_next;
+    back = dump_line next;
+    short = line_ends _;
+    line = refl;
+    text = sym (append-nil (dump_text so_far.frames));
+  },
+  so_far.written,
+)
+
+-- where a write of the next line failed, a front of it was written too
+pub FirstLines-unwritten : (chars : List Character) (place : ℕ) (old middle new : Stream) (next : Found) (line : List ℕ)
+    → LinesSoFar chars place old middle → IsFirst next chars place → line ≡ dump_line next → FailsToWrite middle new line
+    → (lines front : List ℕ) × AreFirstLines chars lines front
+    × Appends old.bytes new.bytes lines × (new.failures ≡ count_after_failure old.failures)
+FirstLines-unwritten chars place old middle new next line so_far is_next is_line fails = (
+  dump_text so_far.frames ++ fails.0.front,
+  fails.0.front,
+  record {
+    frames = so_far.frames;
+    place = place;
+    begins = so_far.begins;
+    next = next;
+    is_next = is_next;
+    back = fails.0.back;
+    short = fails.0.short;
+    line = sym is_line ∙ fails.0.split;
+    text = refl;
+  },
+  Appends-append old.bytes middle.bytes new.bytes (dump_text so_far.frames) fails.0.front so_far.written.0 fails.0.written,
+  fails.1 ∙ ap count_after_failure so_far.written.1,
+)
+
+-- a growth that was refused is told as want of memory
+pub memory_told : {T : Type 0} (result : Result T CliFault) → IsErrAnd result (λ fault. fault ≡ Memory) → result ≡ Err Memory
+memory_told (Ok done) told = absurd told
+memory_told (Err fault) told = ap Err told
+
+-- the law of frames: a list has one list of frames
+abbrev pub OneFrames : Type 0
+OneFrames = (chars : List Character) (from : ℕ) (xs ys : List Found) → AreFrames chars from xs → AreFrames chars from ys → xs ≡ ys
+
+-- the law of items: an input is heard in one way
+abbrev pub OneHearing : Type 0
+OneHearing = (text : List ℕ) (end : InputEnd) (xs ys : List Character) (f g : Option CliFault)
+    → Hears text end xs f → Hears text end ys g → (xs ≡ ys) × (f ≡ g)
+
+-- characters have one text
+AreLines-one : OneFrames → (chars : List Character) (xs ys : List ℕ) → AreLines chars xs → AreLines chars ys → xs ≡ ys
+AreLines-one frames chars xs ys p q =
+    p.text ∙ ap dump_text (frames chars 0 p.frames q.frames p.are_frames q.are_frames) ∙ sym q.text
+
+-- an input has one text and one fault
+pub IsDump-one : OneFrames → OneHearing → (input : List ℕ) (end : InputEnd) (f g : Option CliFault) (xs ys : List ℕ)
+    → IsDump input end f xs → IsDump input end g ys → (f ≡ g) × (xs ≡ ys)
+IsDump-one frames hearings input end f g xs ys p q =
+    let same = hearings input end p.chars q.chars f g p.hears q.hears in
+    let P : List Character → Type 0 = λ chars. AreLines chars xs in
+    (same.1, AreLines-one frames q.chars xs ys (subst P same.0 p.are_lines) q.are_lines)

@@ -1,0 +1,58 @@
+-- The lines of `hart dump`, an own profile.
+use Rattle.std.specs.Prelude.{ℕ, ◌/◌, ◌%◌, ◌==◌, ◌&&◌, Bool, true, false, if◌then◌else◌, List, [], ◌∷◌, ◌++◌, codes, decimal}
+use Rattle.std.specs.List.{flat_map, join_with_byte}
+use Rattle.hex.specs.Hex.{encode_upper}
+use Rattle.hart_values.specs.DeviceNumbers.{DeviceNumbers}
+use Rattle.hart_values.specs.declared.address.Address.{Address}
+use Rattle.hart_values.specs.declared.address.Address.TheVariants.{Polling, Unique}
+use Rattle.hart_values.specs.declared.master_id.MasterId.{MasterId}
+use Rattle.hart_values.specs.declared.master_id.MasterId.TheVariants.{Primary, Secondary}
+use Rattle.hart_frame.specs.declared.kind.FrameKind.{FrameKind}
+use Rattle.hart_frame.specs.declared.kind.FrameKind.TheVariants.{Stx, Ack}
+use Rattle.hart_frame.specs.declared.found.Found.{Found}
+
+-- The word of a kind of frame.
+abbrev pub kind_word : FrameKind → List ℕ
+kind_word Stx = codes "STX"
+kind_word Ack = codes "ACK"
+
+-- The word of a master is P for the primary and S for the secondary.
+abbrev pub master_word : MasterId → List ℕ
+master_word Primary = codes "P"
+master_word Secondary = codes "S"
+
+-- The word of a burst bit.
+abbrev pub burst_word : Bool → List ℕ
+burst_word false = codes "0"
+burst_word true = codes "1"
+
+-- The ten digits of a device are four of its expanded type, whose upper two bits are zero, and six of its id.
+abbrev pub device_digits : DeviceNumbers → List ℕ
+device_digits numbers = encode_upper (
+    numbers.expanded_type / 256 ∷ numbers.expanded_type % 256
+    ∷ numbers.device_id / 65536 ∷ numbers.device_id / 256 % 256 ∷ numbers.device_id % 256 ∷ []
+    )
+
+-- The word of an address is `@` and a polling address in decimal, the ten digits of a device, or `all` for broadcast.
+abbrev pub address_word : Address → List ℕ
+address_word (Polling number) = 64 ∷ decimal number
+address_word (Unique numbers) =
+    if numbers.expanded_type == 0 && numbers.device_id == 0 then codes "all" else device_digits numbers
+
+-- The word of bytes is their upper case hex, or `-` where there are none.
+abbrev pub bytes_word : List ℕ → List ℕ
+bytes_word [] = codes "-"
+bytes_word (byte ∷ bytes) = encode_upper (byte ∷ bytes)
+
+-- The line of a frame is these nine words with one space between two of them, and a line feed.
+abbrev pub dump_line : Found → List ℕ
+dump_line found = join_with_byte 32 (
+    decimal found.start ∷ decimal found.stop
+    ∷ kind_word found.frame.kind ∷ master_word found.frame.master ∷ burst_word found.frame.burst
+    ∷ address_word found.frame.address ∷ bytes_word found.frame.expansion
+    ∷ decimal found.frame.command ∷ bytes_word found.frame.payload ∷ []
+    ) ++ 10 ∷ []
+
+-- The text of frames is a line for each.
+abbrev pub dump_text : List Found → List ℕ
+dump_text frames = flat_map dump_line frames
