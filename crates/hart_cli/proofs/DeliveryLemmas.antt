@@ -1,73 +1,54 @@
--- A delivery has one reading as preamble bytes and a body.
-use Rattle.std.proofs.Common.{◌≡◌, ℕ, zero, suc, ◌≤◌, inl, List, [], ◌∷◌, ◌++◌, length, replicate, refl, sym, ap, ◌∙◌, arith, subst}
-use Rattle.std.proofs.lemmas.List.{take_all}
+-- A delivery with exactly one frame.
+use Rattle.std.proofs.Common.{◌≡◌, ℕ, List, [], ◌∷◌, sym, ap, ◌∙◌, subst}
 use Rattle.hart_values.specs.declared.master_id.MasterId.{MasterId}
-use Rattle.hart_frame.specs.FrameParts.{FrameParts}
-use Rattle.hart_frame.specs.Delimiter.{delimiter_of, kind_code, address_type}
-use Rattle.hart_frame.specs.Body.{IsBody, BeginsWithBody}
-use Rattle.hart_frame.specs.Refusal.{IsDecodedDelimiter}
+use Rattle.hart_frame.specs.Character.{Character}
+use Rattle.hart_frame.specs.Frames.{AreFrames, HasNoFrame, IsFirst}
+use Rattle.hart_frame.specs.declared.found.Found.{Found}
 use Rattle.hart_cli.specs.Delivery.{AsksForIdentity, IsRequest}
-use Rattle.hart_cli.specs.Preamble.{BeginsOtherwise}
 
--- the same number of preamble bytes, and the same bytes behind them
-pub record SameSplit (n m : ℕ) (rest other : List ℕ) : Type 0 where
-  pub preambles : n ≡ m
-  pub rests : rest ≡ other
+-- the law of first frames
+abbrev pub OneFirst : Type 0
+OneFirst = (f g : Found) (chars : List Character) (from : ℕ) → IsFirst f chars from → IsFirst g chars from → f ≡ g
 
-same_split : (n m : ℕ) (rest other : List ℕ) → BeginsOtherwise 255 rest → BeginsOtherwise 255 other
-    → replicate n 255 ++ rest ≡ replicate m 255 ++ other → SameSplit n m rest other
-same_split zero zero rest other p q e = record { preambles = refl; rests = e }
-same_split zero (suc m) rest other p q e = let begins : BeginsOtherwise 255 (255 ∷ (replicate m 255 ++ other)) = subst (BeginsOtherwise 255) e p in absurd (begins refl)
-same_split (suc n) zero rest other p q e = let begins : BeginsOtherwise 255 (255 ∷ (replicate n 255 ++ rest)) = subst (BeginsOtherwise 255) (sym e) q in absurd (begins refl)
-same_split (suc n) (suc m) rest other p q e =
-    let tails : replicate n 255 ++ rest ≡ replicate m 255 ++ other = cc in
-    let same = same_split n m rest other p q tails in
-    record { preambles = ap suc same.preambles; rests = same.rests }
+-- of one frame alone, it is the first, and no frame follows
+alone_is_first : (chars : List Character) (from : ℕ) (found : Found) → AreFrames chars from (found ∷ []) → IsFirst found chars from
+alone_is_first chars from found (AreFrames.first start first later is_first others) = is_first
 
--- the delimiter of a frame that asks for the identity
-delimiter-asks : (frame : FrameParts) → AsksForIdentity frame → delimiter_of frame ≡ 2
-delimiter-asks frame asks =
-    let kind = ap kind_code asks.kind in
-    let form = ap address_type asks.address in
-    let none = ap length asks.expansion in
-    omega (arith, kind, form, none)
+alone_is_last : (chars : List Character) (from : ℕ) (found : Found) → AreFrames chars from (found ∷ []) → HasNoFrame chars found.stop
+alone_is_last chars from found (AreFrames.first start first later is_first (AreFrames.none stop no_more)) = no_more
 
--- a body of such a frame does not begin with FF
-pub body-begins : (frame : FrameParts) (body : List ℕ) → AsksForIdentity frame → IsBody frame body → BeginsOtherwise 255 body
-body-begins frame body asks is =
-    let two = delimiter-asks frame asks in
-    let whole = is.parts ∙ ap (λ (xs : List ℕ). xs ++ is.check ∷ []) is.checked_part.parts in
-    let begins : BeginsOtherwise 255 ((delimiter_of frame ∷ is.checked_part.address ++ frame.expansion ++ frame.command ∷ length frame.payload ∷ frame.payload) ++ is.check ∷ [])
-    = λ same. omega (arith, same, two) in
-    subst (BeginsOtherwise 255) (sym whole) begins
+-- the request that a frame alone is
+pub IsRequest-alone : (chars : List Character) (found : Found) (master : MasterId) → IsFirst found chars 0 → HasNoFrame chars found.stop
+    → AsksForIdentity found.frame → found.frame.master ≡ master → IsRequest master chars
+IsRequest-alone chars found master is_first no_more asks sender = record {
+  found = found;
+  alone = AreFrames.first 0 found [] is_first (AreFrames.none found.stop no_more);
+  asks = asks;
+  sender = sender;
+}
 
--- what a request is, told by the split of its delivery
-pub record Splits (master : MasterId) (preambles : ℕ) (rest : List ℕ) : Type 0 where
-  pub frame : FrameParts
-  pub enough : 2 ≤ preambles
-  pub asks : AsksForIdentity frame
-  pub decoded : IsDecodedDelimiter (delimiter_of frame)
-  pub body : IsBody frame rest
-  pub sender : frame.master ≡ master
+-- there is none where no frame stands
+pub silent-none : (chars : List Character) (master : MasterId) → HasNoFrame chars 0 → IsRequest master chars → ⊥
+silent-none chars master no_frame request = no_frame request.found (alone_is_first chars 0 request.found request.alone).stands
 
-pub split_request : (master : MasterId) (delivery : List ℕ) (preambles : ℕ) (rest : List ℕ) → delivery ≡ replicate preambles 255 ++ rest
-    → BeginsOtherwise 255 rest → IsRequest master delivery → Splits master preambles rest
-split_request master delivery preambles rest parts otherwise request =
-    let body = request.message.body in
-    let same = same_split preambles request.preambles rest body otherwise
-    (body-begins request.frame body request.asks request.message.is_body) (sym parts ∙ request.message.parts) in
-    let P : List ℕ → Type 0 = λ xs. IsBody request.frame xs in
-    record {
-      frame = request.frame;
-      enough = omega (arith, same.preambles, request.enough);
-      asks = request.asks;
-      decoded = inl (delimiter-asks request.frame request.asks);
-      body = subst P (sym same.rests) request.message.is_body;
-      sender = request.sender;
-    }
+-- nor where a second frame follows the first
+pub silent-several : OneFirst → (chars : List Character) (found second : Found) (master : MasterId) → IsFirst found chars 0
+    → IsFirst second chars found.stop → IsRequest master chars → ⊥
+silent-several law chars found second master is_first is_second request =
+    let same = law found request.found chars 0 is_first (alone_is_first chars 0 request.found request.alone) in
+    let P : Found → Type 0 = λ f. IsFirst second chars f.stop in
+    alone_is_last chars 0 request.found request.alone second (subst P same is_second).stands
 
--- a body begins itself
-pub BeginsWithBody-whole : (frame : FrameParts) (body : List ℕ) → IsBody frame body → BeginsWithBody body frame (length body)
-BeginsWithBody-whole frame body is =
-    let P : List ℕ → Type 0 = λ xs. IsBody frame xs in
-    record { within = omega arith; body = subst P (sym (take_all (length body) body (omega arith))) is }
+-- nor where the first frame does not ask
+pub silent-other : OneFirst → (chars : List Character) (found : Found) (master : MasterId) → IsFirst found chars 0
+    → (AsksForIdentity found.frame → ⊥) → IsRequest master chars → ⊥
+silent-other law chars found master is_first other request =
+    let same = law request.found found chars 0 (alone_is_first chars 0 request.found request.alone) is_first in
+    let P : Found → Type 0 = λ f. AsksForIdentity f.frame in
+    other (subst P same request.asks)
+
+-- a delivery is the request of one master at most
+pub IsRequest-one : OneFirst → (m n : MasterId) (chars : List Character) → IsRequest m chars → IsRequest n chars → m ≡ n
+IsRequest-one law m n chars p q =
+    let same = law p.found q.found chars 0 (alone_is_first chars 0 p.found p.alone) (alone_is_first chars 0 q.found q.alone) in
+    sym p.sender ∙ ap (λ (f : Found). f.frame.master) same ∙ q.sender

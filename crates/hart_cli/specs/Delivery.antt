@@ -1,10 +1,12 @@
 -- Who is answered, and with what, an own profile: Command 0 at polling address 0.
-use Rattle.std.specs.Prelude.{◌≡◌, ℕ, ◌≤◌, false, List, [], ◌∷◌}
+use Rattle.std.specs.Prelude.{◌≡◌, false, List, [], ◌∷◌}
 use Rattle.hart_values.specs.declared.master_id.MasterId.{MasterId}
 use Rattle.hart_values.specs.declared.address.Address.TheVariants.{Polling}
 use Rattle.hart_frame.specs.declared.kind.FrameKind.TheVariants.{Stx, Ack}
+use Rattle.hart_frame.specs.declared.found.Found.{Found}
+use Rattle.hart_frame.specs.Character.{Character}
 use Rattle.hart_frame.specs.FrameParts.{FrameParts}
-use Rattle.hart_frame.specs.Message.{IsMessage}
+use Rattle.hart_frame.specs.Frames.{AreFrames}
 use Rattle.hart_cli.specs.Identity.{identity_data, bench_identity}
 
 -- A frame asks for the identity where it is an STX to polling address 0 with no expansion bytes and Command 0, whatever
@@ -15,15 +17,12 @@ pub record AsksForIdentity (frame : FrameParts) : Type 0 where
   pub expansion : frame.expansion ≡ []
   pub command : frame.command ≡ 0
 
--- A delivery asks for the identity where it is two or more preamble bytes and one body of such a frame of this master,
--- and nothing else.
-pub record IsRequest (master : MasterId) (delivery : List ℕ) : Type 0 where
-  pub frame : FrameParts
-  pub preambles : ℕ
-  pub message : IsMessage frame preambles delivery
-  pub enough : 2 ≤ preambles
-  pub asks : AsksForIdentity frame
-  pub sender : frame.master ≡ master
+-- A delivery asks for the identity where its frames are one alone, and this one, of this master, asks for it.
+pub record IsRequest (master : MasterId) (delivery : List Character) : Type 0 where
+  pub found : Found
+  pub alone : AreFrames delivery 0 (found ∷ [])
+  pub asks : AsksForIdentity found.frame
+  pub sender : found.frame.master ≡ master
 
 -- The reply to Command 0 is an ACK to the request's master, with polling address 0, burst bit 0 and no expansion bytes;
 -- its payload is response code 0, device status 0 and the identity of the bench device.

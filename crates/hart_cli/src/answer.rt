@@ -1,17 +1,17 @@
 //! `hart answer`: the device's reply to one delivery.
 ghost use Rattle.std.specs.Prelude.{◌≡◌, ℕ, List, IfOk};
 ghost use Rattle.std.specs.String.{string_bytes};
-ghost use Rattle.hart_cli.specs.Answer.{IsAnswer, IsReplyText, Outcome};
+ghost use Rattle.hart_cli.specs.Answer.{AnswerOutcome, IsAnswer, IsReplyText};
 ghost use Rattle.hart_cli.specs.Delivery.{identity_reply};
 
 use crate::delivery::requesting_master;
 use crate::fault::CliFault;
 use crate::identity::Identity;
-use crate::input::read_input;
-use crate::items::{one_reading, read_items};
-use crate::output::{hex_line, write_all};
+use crate::input::{InputEnd, read_input};
+use crate::items::{hear, one_hearing};
+use crate::output::{message_line, write_all};
 use crate::stream::{Sink, Source};
-use hart_frame::{Expansion, Frame, FrameKind, Message, bodies_are_told_apart, encode};
+use hart_frame::{Expansion, Frame, FrameKind, bodies_are_told_apart, frames_are_told_apart};
 use hart_values::{Address, MasterId};
 use std::alloc::{AllocError, Global};
 
@@ -27,7 +27,7 @@ pub fn answer<R: Source, W: Sink>(
     reader: &mut R,
     writer: &mut W,
 ) -> Result<(), CliFault>
-    ensures { Outcome
+    ensures { AnswerOutcome
         (record { bytes = R.remaining reader.old; failures = R.failures reader.old })
         (record { bytes = R.remaining reader.new; failures = R.failures reader.new })
         (record { bytes = W.written writer.old; failures = W.failures writer.old })
@@ -35,31 +35,41 @@ pub fn answer<R: Source, W: Sink>(
         result }
 {
     let input = read_input(alloc, reader)?;
-    let delivery = read_items(alloc, &input)?;
-    let Some(master) = requesting_master(&delivery) else {
+    match input.end {
+        InputEnd::Ended => {}
+        InputEnd::Failed => return Err(CliFault::Read),
+        InputEnd::TooLong => return Err(CliFault::TooLong),
+    }
+    let delivery = hear(alloc, input)?;
+    if let Some(fault) = delivery.fault {
+        return Err(fault);
+    }
+    let Some(master) = requesting_master(&delivery.chars) else {
         return Ok(());
     };
     let line = reply_line(alloc, master)?;
-    write_all(writer, line.as_bytes()).map_err(|_| CliFault::Write)
+    let Ok(()) = write_all(writer, line.as_bytes()) else {
+        return Err(CliFault::Write);
+    };
+    Ok(())
 }
 
 /// An input has one answer at most, so that what `answer` writes is determined by what it reads.
 pub fn one_answer()
     ensures { (input xs ys : List ℕ) → IsAnswer input xs → IsAnswer input ys → xs ≡ ys }
 {
-    // They do nothing when they run: the laws of bodies and of items are what this one rests on.
+    // They do nothing when they run: the laws of bodies, of frames and of items are what this one rests on.
     bodies_are_told_apart();
-    one_reading();
+    frames_are_told_apart();
+    one_hearing();
 }
 
 /// The line of the reply to this master.
 fn reply_line(alloc: Global, master: MasterId) -> Result<String, AllocError>
     ensures { IfOk result (λ line. IsReplyText master (string_bytes line)) }
 {
-    let mut message = Message::new();
     let preambles = Identity::bench().response_preambles;
-    encode(&reply_to(master), preambles, &mut message).unwrap();
-    hex_line(alloc, message.as_slice())
+    message_line(alloc, &reply_to(master), preambles)
 }
 
 /// The bench device's reply to this master.

@@ -1,59 +1,29 @@
 //! Who is answered: Command 0 at polling address 0.
-ghost use Rattle.std.specs.Prelude.{◌≡◌, ◌↔◌, ◌++◌, replicate, Some, IsTrue, IfSome, IfNone};
+ghost use Rattle.std.specs.Prelude.{◌↔◌, IsTrue, IfSome, IfNone};
 ghost use Rattle.hart_values.specs.declared.master_id.MasterId.{MasterId};
-ghost use Rattle.hart_frame.specs.FrameParts.{FrameParts};
-ghost use Rattle.hart_frame.specs.Delimiter.{delimiter_of};
-ghost use Rattle.hart_frame.specs.Body.{IsBody};
-ghost use Rattle.hart_frame.specs.Refusal.{IsDecodedDelimiter};
 ghost use Rattle.hart_cli.specs.Delivery.{AsksForIdentity, IsRequest};
-ghost use Rattle.hart_cli.specs.Preamble.{BeginsOtherwise};
 
-use hart_frame::{Frame, FrameKind, decode};
+use hart_frame::{Char, Frame, FrameKind, first_frame, frames_are_told_apart};
 use hart_values::{Address, MasterId};
 
-const PREAMBLE: u8 = 0xFF;
-
 /// The master that asks for the identity by this delivery, or `None` where it is anything else.
-pub fn requesting_master(delivery: &[u8]) -> Option<MasterId>
+pub fn requesting_master(delivery: &[Char]) -> Option<MasterId>
     ensures asks { IfSome result (λ master. IsRequest master delivery.now) }
     ensures silent { IfNone result ((master : MasterId) → IsRequest master delivery.now → ⊥) }
 {
-    let (preambles, rest) = split_preamble(delivery);
-    if preambles < 2 {
-        return None;
-    }
-    let Some(frame) = whole_frame(rest) else {
+    // It does nothing when it runs: by this law the frames that are found are the only ones.
+    frames_are_told_apart();
+    let Some(found) = first_frame(delivery, 0) else {
         return None;
     };
-    if asks_for_identity(&frame) {
-        Some(frame.master())
+    if let Some(_second) = first_frame(delivery, found.stop) {
+        return None;
+    }
+    if asks_for_identity(&found.frame) {
+        Some(found.frame.master())
     } else {
         None
     }
-}
-
-/// The frame of a body that is all of these bytes.
-fn whole_frame(body: &[u8]) -> Option<Frame>
-    ensures accepts { IfSome result (λ frame. IsBody frame body.now) }
-    ensures only { (frame : FrameParts) → IsDecodedDelimiter (delimiter_of frame) → IsBody frame body.now
-        → result ≡ Some frame }
-{
-    let Ok((frame, len)) = decode(body) else {
-        return None;
-    };
-    if len == body.len() { Some(frame) } else { None }
-}
-
-/// The number of preamble bytes at the front, and what follows them.
-fn split_preamble(delivery: &[u8]) -> (usize, &[u8])
-    ensures parts { delivery.now ≡ replicate result.0 255 ++ result.1.now }
-    ensures no_more { BeginsOtherwise 255 result.1.now }
-{
-    let preambles = delivery
-        .iter()
-        .take_while(|byte| **byte == PREAMBLE)
-        .count();
-    (preambles, &delivery[preambles..])
 }
 
 /// Whether the frame asks for the identity.

@@ -1,34 +1,47 @@
-use Rattle.std.proofs.Common.{ℕ, List, [], inr, refl, subst, rules}
+use Rattle.std.proofs.Common.{[], List, inl, inr, refl, subst}
+use Rattle.std.specs.String.{string_bytes}
+use Rattle.hart_frame.specs.Character.{Character}
 use Rattle.hart_values.specs.declared.master_id.MasterId.{MasterId}
-use Rattle.hart_cli.specs.Items.{ReadsAs}
 use Rattle.hart_cli.specs.Delivery.{IsRequest}
+use Rattle.hart_cli.proofs.AnswerLemmas.{AnswerOutcome-fault, HasAnswer-read}
 use Rattle.hart_cli.proofs.KnownBytesLemmas.{Appends-nothing}
 use Rattle.hart_cli.proofs.answer.answer.Goals as goal
 
-pub returns-in_default : goal.returns-in_default
-returns-in_default g c =
-    let delivery = c.in_ok-delivery.delivery.items in
-    let Reads : List ℕ → Type 0 = λ text. ReadsAs text delivery in
-    let Silent : List ℕ → Type 0 = λ bytes. (master : MasterId) → IsRequest master bytes → ⊥ in
-    record {
-      answered = record {
-        input = c.in_ok-input.input.items;
-        whole = c.in_ok-input.ensures.whole;
-        text = [];
-        answer = record {
-          delivery = delivery;
-          reads = subst Reads c.deref.ensures.value c.in_ok-delivery.ensures.ok;
-          text_for = inr (subst Silent c.deref-2.ensures.value c.in_default.ensures.silent, refl);
-        };
-        written = Appends-nothing _;
-      };
-      unwritten = search rules;
-      in_part = search rules;
-      read_failed = search rules;
-      read_well = search rules;
-      write_failed = search rules;
-      wrote_well = search rules;
-      within = search rules;
-      too_long = search rules;
-      bad_hex = search rules;
-    }
+pub returns-in-Some : goal.returns-in-Some
+returns-in-Some g c =
+    AnswerOutcome-fault
+    (record { bytes = g.R.Source.remaining c.args.reader.now; failures = g.R.Source.failures c.args.reader.now })
+    (record { bytes = g.R.Source.remaining c.read_input.new.reader; failures = g.R.Source.failures c.read_input.new.reader })
+    (record { bytes = g.W.Sink.written c.args.writer.now; failures = g.W.Sink.failures c.args.writer.now })
+    _ _ _ _ c.in-Some.fault c.in-Ended.is c.in-Some.is c.in_ok-input.ensures.reads c.in_ok-delivery.ensures
+
+pub returns-in_default-requesting_master : goal.returns-in_default-requesting_master
+returns-in_default-requesting_master g c =
+    let Silent : List Character → Type 0 = λ chars. (master : MasterId) → IsRequest master chars → ⊥ in
+    let silent = subst Silent c.deref.ensures.value c.in_default-requesting_master.ensures.silent in (
+      [],
+      HasAnswer-read _ _ _ _ _ _ [] c.in-Ended.is c.in_default.is c.in_ok-input.ensures.reads c.in_ok-delivery.ensures (inr (silent, refl)),
+      (Appends-nothing _, refl),
+    )
+
+pub returns-in_default-write_all : goal.returns-in_default-write_all
+returns-in_default-write_all g c =
+    let master = c.in-Some-requesting_master.master in
+    let Asks : List Character → Type 0 = λ chars. IsRequest master chars in
+    let asks = subst Asks c.deref.ensures.value c.in-Some-requesting_master.ensures.asks in (
+      string_bytes c.in_ok-line.line,
+      HasAnswer-read _ _ _ _ _ _ _ c.in-Ended.is c.in_default.is c.in_ok-input.ensures.reads c.in_ok-delivery.ensures
+          (inl (master, asks, c.in_ok-line.ensures)),
+      (rw c.as_bytes.ensures.value at c.in_default-write_all.ensures.err, c.in_default-write_all.ensures.count),
+    )
+
+pub returns : goal.returns
+returns g c =
+    let master = c.in-Some-requesting_master.master in
+    let Asks : List Character → Type 0 = λ chars. IsRequest master chars in
+    let asks = subst Asks c.deref.ensures.value c.in-Some-requesting_master.ensures.asks in (
+      string_bytes c.in_ok-line.line,
+      HasAnswer-read _ _ _ _ _ _ _ c.in-Ended.is c.in_default.is c.in_ok-input.ensures.reads c.in_ok-delivery.ensures
+          (inl (master, asks, c.in_ok-line.ensures)),
+      (rw c.as_bytes.ensures.value at c.in-Ok.ensures.ok, c.in-Ok.ensures.count),
+    )

@@ -1,25 +1,22 @@
-use Rattle.std.proofs.Common.{◌≡◌, arith, sym, ◌∙◌, subst}
-use Rattle.std.proofs.lemmas.Bool.{false≢true}
-use Rattle.hart_cli.specs.Delivery.{AsksForIdentity}
-use Rattle.hart_cli.proofs.DeliveryLemmas.{split_request}
+use Rattle.std.proofs.Common.{refl, sym}
+use Rattle.std.proofs.lemmas.Bool.{iff_false}
+use Rattle.hart_cli.proofs.DeliveryLemmas.{IsRequest-alone, silent-none, silent-other, silent-several}
 use Rattle.hart_cli.proofs.delivery.requesting_master.Goals as goal
 
-pub returns-then-preambles-lt2-clause-silent : goal.returns-then-preambles-lt2-clause-silent
-returns-then-preambles-lt2-clause-silent c = λ master request.
-    let told = split_request master c.args.delivery.now c.split_preamble-preambles.result.0 c.split_preamble-preambles.result.1.now c.split_preamble-preambles.ensures.parts c.split_preamble-preambles.ensures.no_more request in
-    omega (arith, told.enough, c.if-preambles-lt2.true)
-
 pub returns-in_default-clause-silent : goal.returns-in_default-clause-silent
-returns-in_default-clause-silent c = λ master request.
-    let told = split_request master c.args.delivery.now c.split_preamble-preambles.result.0 c.split_preamble-preambles.result.1.now c.split_preamble-preambles.ensures.parts c.split_preamble-preambles.ensures.no_more request in
-    c.in_default.not-Some told.frame (c.whole_frame.ensures.only told.frame told.decoded told.body)
+returns-in_default-clause-silent c = λ master. silent-none _ master c.in_default.ensures.first
+
+pub returns-in-Some-first_frame-clause-silent : goal.returns-in-Some-first_frame-clause-silent
+returns-in-Some-first_frame-clause-silent c = λ master.
+    silent-several c.frames_are_told_apart.ensures.one_first _ c.in-Some.found c.in-Some-first_frame._second master c.in-Some.ensures.first
+    c.in-Some-first_frame.ensures.first
+
+pub returns-then-asks_for_identity-clause-asks : goal.returns-then-asks_for_identity-clause-asks
+returns-then-asks_for_identity-clause-asks c =
+    IsRequest-alone _ c.in-Some.found c.master.result c.in-Some.ensures.first c.in_default-first_frame.ensures.first
+    (c.if-asks_for_identity.ensures.0 refl) (sym c.master.ensures)
 
 pub returns-else-asks_for_identity-clause-silent : goal.returns-else-asks_for_identity-clause-silent
-returns-else-asks_for_identity-clause-silent c = λ master request.
-    let told = split_request master c.args.delivery.now c.split_preamble-preambles.result.0 c.split_preamble-preambles.result.1.now c.split_preamble-preambles.ensures.parts c.split_preamble-preambles.ensures.no_more request in
-    let found = c.whole_frame.ensures.only told.frame told.decoded told.body in
-    let read = c.in-Some.is in
-    let same : told.frame ≡ c.in-Some.frame = cc in
-    let asks = subst AsksForIdentity same told.asks in
-    let holds = c.asks_for_identity.ensures.1 asks in
-    absurd (false≢true (sym c.if-asks_for_identity.false ∙ holds))
+returns-else-asks_for_identity-clause-silent c = λ master.
+    silent-other c.frames_are_told_apart.ensures.one_first _ c.in-Some.found master c.in-Some.ensures.first
+    (iff_false c.asks_for_identity.ensures c.if-asks_for_identity.false)
