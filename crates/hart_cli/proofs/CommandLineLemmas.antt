@@ -1,30 +1,27 @@
 -- Which subcommand a command line without a fault enters.
-use Rattle.std.proofs.Common.{◌≡◌, ◌≢◌, ◌∙◌, ◌∷◌, [], ap, Bool, codes, false, fold, List, None, Option, option_map, refl, Some, sym, true, ℕ, is_some, cond, ◌||◌}
+use Rattle.std.proofs.Common.{◌≡◌, ◌≢◌, ◌∙◌, ◌∷◌, [], ap, ap₂, arith, rules, inl, inr, subst, unwrap_or, Bool, ◌⊎◌, codes, false, fold, List, None, Option, option_map, refl, Some, sym, true, ℕ, is_some, cond, ◌||◌}
 use Rattle.std.specs.Str.{bytes_eq}
+use Rattle.std.specs.Str.Parse.{digits_value, without_leading_plus}
 use Rattle.std.specs.Box.{box_value}
+use Rattle.std.specs.Option.{option_map_or}
 use Rattle.std.proofs.lemmas.Slice.Eq.{bytes_eq-Decides}
 use Rattle.clap.specs.Words.{App, HasMatchesOf, Kinds, Row, Text, app_of, built, fault_of, is_simple, is_simple_and_free, subcommand_name_of, subcommand_of, subcommand_rows, subcommand_rows_of}
 use Rattle.clap.specs.Kinds.{check_kinds, or_else}
-use Rattle.clap.specs.Faults.{built_fault, check_fault, defaults_fault, entered_fault, other_fault, settle_fault, step_fault, turn_fault, walk_fault, word_fault}
+use Rattle.clap.specs.Faults.{built_fault, check_fault, level_fault, defaults_fault, entered_fault, other_fault, settle_fault, step_fault, turn_fault, walk_fault, word_fault}
 use Rattle.clap.specs.Walk.{Held, Names, Outcome, Rule, Step, Waiting, Walk, after_flag, after_step, long_or_other, plain_word, short_or_plain, subcommand_met, subcommand_or_other, to_positional, walked, walked_from, word_met}
 use Rattle.clap.specs.Walk.{done, waits, plain, refused, idle, option, positional, next, trailing, subcommand, value}
 use Rattle.clap.specs.Lexer.{long_of}
-use Rattle.clap.specs.Walk.{finished, nothing_held, settled, stop_after, walk, walk_from}
+use Rattle.clap.specs.Walk.{finished, nothing_held, settled, rows_after, stop_after, walk, walk_from}
 use Rattle.clap.specs.Simple.{Shape, entered, names_of, rows_at}
 use Rattle.clap.specs.declared.builder.command.Command.{Command}
 use Rattle.clap.specs.declared.parser.matches.ArgMatches.{ArgMatches}
 use Rattle.clap.specs.declared.parser.matches.ArgMatches.TheViews.{out-ArgMatches, out-SubCommand}
 use Rattle.clap.proofs.OnLiterals.{clap_on_literals}
-use Rattle.hart_cli.specs.CommandLine.{Calls, hart_app}
-
--- the two parts of a list of faults that is empty
-first_empty : (a b : Kinds) → or_else a b ≡ [] → a ≡ []
-first_empty [] b e = refl
-first_empty (k ∷ ks) b e = e
-
-second_empty : (a b : Kinds) → or_else a b ≡ [] → b ≡ []
-second_empty [] b e = e
-second_empty (k ∷ ks) b e = cc
+use Rattle.hart_cli.specs.CommandLine.{Call, Calls, GivesValues, HasWords, hart_app, name_of}
+use Rattle.hart_cli.specs.CommandLine.{Answer, Dump, Encode}
+use Rattle.hart_cli.specs.Encode.{MessageWords}
+use Rattle.hart_cli.proofs.FaultlessRowLemmas.{first_empty, second_empty}
+use Rattle.hart_cli.proofs.EncodeRowLemmas.{encode_has_words, encode_shape}
 
 -- the subcommand that a step enters
 abbrev entered_name : Step → Option Text
@@ -124,6 +121,7 @@ subcommand_entered s rows false wanted faultless = absurd (wanted_is_fault _ _ _
 -- what no fault in the words says of where the walk stops
 pub no_fault_enters : (a : App) (words : List Text) → a.top.disable_help_subcommand ≡ false → a.top.subcommand_required ≡ true → built_fault a nothing_held words ≡ []
     → NotHelp (stop_after a.top.rules (names_of a) words) × (is_some (entered a (stop_after a.top.rules (names_of a) words)) ≡ true)
+    × (entered_fault a (stop_after a.top.rules (names_of a) words) ≡ [])
 no_fault_enters a words enabled wanted faultless =
     let end = walk a.top.rules (names_of a) nothing_held words in
     let enters = is_some (entered a end.stopped) in
@@ -137,45 +135,190 @@ no_fault_enters a words enabled wanted faultless =
     let past_settling = second_empty settling (or_else filling checking) past_below in (
       walk_is_not_help a.top (names_of a) (walk_from nothing_held) words enabled (first_empty walking _ faultless) tt,
       subcommand_entered a.top (finished a.top.rules end.held) enters wanted (second_empty filling checking past_settling),
+      first_empty below (or_else settling (or_else filling checking)) past_walk,
     )
 
--- the one of two commands whose test holds, as `find` chooses it
-abbrev chosen : Bool → Bool → List Shape → Option Shape
-chosen is_first is_second (s ∷ t ∷ rest) = cond (is_first || false) (Some s) (cond (is_second || false) (Some t) None)
-chosen is_first is_second _ = None
+-- the one of four commands whose test holds, as `find` chooses it
+abbrev chosen : Bool → Bool → Bool → Bool → List Shape → Option Shape
+chosen is_first is_second is_third is_fourth (s ∷ t ∷ u ∷ v ∷ rest) =
+    cond (is_first || false) (Some s) (cond (is_second || false) (Some t) (cond (is_third || false) (Some u) (cond (is_fourth || false) (Some v) None)))
+chosen is_first is_second is_third is_fourth _ = None
 
--- of `answer` and `help`, a walk that did not stop at `help` enters `answer`
-answer_entered : (stop : Option (Text × List Text)) → NotHelp stop → is_some (entered (built hart_app) stop) ≡ true
-    → option_map (λ met. met.0) (entered (built hart_app) stop) ≡ Some (codes "answer")
-answer_entered None other some = cc
-answer_entered (Some p) other some = first (bytes_eq (codes "answer") p.0) (bytes_eq (codes "help") p.0) (λ is. other (sym ((bytes_eq-Decides (codes "help") p.0).0 is))) some
+-- the command entered is one of three, and that of `encode` has its words
+abbrev pub Enters : Option (Text × List Row) → Type 0
+Enters met =
+    ((rows : List Row) × (met ≡ Some (codes "answer", rows)))
+    ⊎ (((rows : List Row) × (met ≡ Some (codes "dump", rows)))
+    ⊎ ((rows : List Row) × (met ≡ Some (codes "encode", rows)) × HasWords rows))
+
+-- a walk that did not stop at `help` enters one of the others
+call_entered : (stop : Option (Text × List Text)) → NotHelp stop → is_some (entered (built hart_app) stop) ≡ true → entered_fault (built hart_app) stop ≡ []
+    → Enters (entered (built hart_app) stop)
+call_entered None other some none = cc
+call_entered (Some p) other some none =
+    by_name (bytes_eq (codes "answer") p.0) (bytes_eq (codes "dump") p.0) (bytes_eq (codes "encode") p.0) (bytes_eq (codes "help") p.0)
+    (λ is. other (sym ((bytes_eq-Decides (codes "help") p.0).0 is))) some none
   where
-    found : Bool → Bool → Option (Text × List Row)
-    found is_answer is_help = option_map (λ s. rows_at s p.1) (chosen is_answer is_help (built hart_app).subs)
+    found : Bool → Bool → Bool → Bool → Option Shape
+    found is_answer is_dump is_encode is_help = chosen is_answer is_dump is_encode is_help (built hart_app).subs
 
-    first : (is_answer is_help : Bool) → is_help ≢ true → is_some (found is_answer is_help) ≡ true → option_map (λ met. met.0) (found is_answer is_help) ≡ Some (codes "answer")
-    first true is_help other some = refl
-    first false true other some = absurd (other refl)
-    first false false other some = cc
+    by_name : (is_answer is_dump is_encode is_help : Bool) → is_help ≢ true → is_some (option_map (λ s. rows_at s p.1) (found is_answer is_dump is_encode is_help)) ≡ true
+        → option_map_or (λ s. level_fault s [] nothing_held p.1 false []) (found is_answer is_dump is_encode is_help) [] ≡ []
+        → Enters (option_map (λ s. rows_at s p.1) (found is_answer is_dump is_encode is_help))
+    by_name true is_dump is_encode is_help other some none = inl (_, refl)
+    by_name false true is_encode is_help other some none = inr (inl (_, refl))
+    by_name false false true is_help other some none = inr (inr (rows_after encode_shape.rules [] p.1, refl, encode_has_words p.1 none))
+    by_name false false false true other some none = absurd (other refl)
+    by_name false false false false other some none = cc
 
 -- the name in the matches is that of the subcommand entered
 subcommand_name-rows : (m : ArgMatches) → option_map (λ met. met.0) (subcommand_rows_of m) ≡ subcommand_name_of m
 subcommand_name-rows m = elim (out-ArgMatches m).subcommand as (λ o. option_map (λ met. met.0) (subcommand_rows o) ≡ option_map (λ b. (out-SubCommand (box_value b)).name.now) o) [ None ↦ refl | Some b ↦ refl ]
 
--- matches of the command `hart` are those of a call of `answer`
-pub names_answer : (command : Command) (words : List Text) (m : ArgMatches) → app_of command ≡ hart_app
+-- what the matches of the command `hart` are
+pub record MeetsCall (words : List Text) (m : ArgMatches) : Type 0 where
+  pub no_fault : fault_of hart_app words ≡ []
+  pub same : subcommand_rows_of m ≡ subcommand_of hart_app words
+  pub enters : Enters (subcommand_of hart_app words)
+
+pub meets_call : (command : Command) (words : List Text) (m : ArgMatches) → app_of command ≡ hart_app
     → (is_simple_and_free (app_of command) ≡ true → fault_of (app_of command) words ≡ []) → HasMatchesOf (app_of command) words m
-    → Calls (codes "answer") words × (subcommand_name_of m ≡ Some (codes "answer"))
-names_answer command words m is_hart faultless matches =
+    → MeetsCall words m
+meets_call command words m is_hart faultless matches =
     let no_fault : fault_of hart_app words ≡ [] = ap (λ a. fault_of a words) (sym is_hart) ∙ faultless (ap is_simple_and_free is_hart) in
     let enters = no_fault_enters (built hart_app) words refl refl no_fault in
-    let named : option_map (λ met. met.0) (subcommand_of hart_app words) ≡ Some (codes "answer") = answer_entered _ enters.0 enters.1 in
-    let rows : subcommand_rows_of m ≡ subcommand_of hart_app words = (matches (ap is_simple is_hart)).1 ∙ ap (λ a. subcommand_of a words) is_hart in (
-      record { no_fault = no_fault; named = named },
-      sym (subcommand_name-rows m) ∙ ap (option_map (λ met. met.0)) rows ∙ named,
-    )
+    record {
+      no_fault = no_fault;
+      same = (matches (ap is_simple is_hart)).1 ∙ ap (λ a. subcommand_of a words) is_hart;
+      enters = call_entered _ enters.0 enters.1 enters.2;
+    }
 
--- the word `answer` alone is a call of `answer`
-pub answer_alone : Calls (codes "answer") (codes "answer" ∷ [])
+-- the name and the rows of a subcommand, from each alone
+joined : (met : Option (Text × List Row)) (name : Text) (rows : List Row) → Some name ≡ option_map (λ p. p.0) met → Some rows ≡ option_map (λ p. p.1) met
+    → met ≡ Some (name, rows)
+joined None name rows named with_rows = cc
+joined (Some p) name rows named with_rows =
+    ap₂ (λ n r. Some (n, r)) (ap (λ o. unwrap_or o name) (sym named)) (ap (λ o. unwrap_or o rows) (sym with_rows))
+
+-- what `subcommand()` gives is what the words name
+pub met_by_words : (words : List Text) (m : ArgMatches) (name : Text) (rows : List Row) → MeetsCall words m → Some name ≡ subcommand_name_of m
+    → Some rows ≡ option_map (λ p. p.1) (subcommand_rows_of m) → subcommand_of hart_app words ≡ Some (name, rows)
+met_by_words words m name rows meets named with_rows = sym meets.same ∙ joined (subcommand_rows_of m) name rows (named ∙ sym (subcommand_name-rows m)) with_rows
+
+-- a call whose name is known
+pub call_named : (words : List Text) (m : ArgMatches) (call : Call) (name : Text) (rows : List Row) → MeetsCall words m
+    → subcommand_of hart_app words ≡ Some (name, rows) → name ≡ name_of call → GivesValues call rows → Calls call words
+call_named words m call name rows meets is named values =
+    record { no_fault = meets.no_fault; rows = rows; named = is ∙ ap (λ n. Some (n, rows)) named; values = values }
+
+-- and where it gives nothing, they name nothing
+pub met_nothing : (words : List Text) (m : ArgMatches) → MeetsCall words m → None ≡ subcommand_name_of m → ⊥
+met_nothing words m meets none = nothing (subcommand_of hart_app words) meets.enters (ap (option_map (λ p. p.0)) (sym meets.same) ∙ subcommand_name-rows m ∙ sym none)
+  where
+    nothing : (met : Option (Text × List Row)) → Enters met → option_map (λ p. p.0) met ≡ None → ⊥
+    nothing None enters named = elim enters [ inl e ↦ cc | inr (inl e) ↦ cc | inr (inr e) ↦ cc ]
+    nothing (Some p) enters named = cc
+
+same_name : (a b : Text) (rows others : List Row) (met : Option (Text × List Row)) → met ≡ Some (a, rows) → met ≡ Some (b, others) → a ≡ b
+same_name a b rows others met first second = ap (λ (o : Option (Text × List Row)). (unwrap_or {T = Text × List Row} o (a, rows)).0) (sym first ∙ second)
+
+same_rows : (a b : Text) (rows others : List Row) (met : Option (Text × List Row)) → met ≡ Some (a, rows) → met ≡ Some (b, others) → rows ≡ others
+same_rows a b rows others met first second = ap (λ (o : Option (Text × List Row)). (unwrap_or {T = Text × List Row} o (a, rows)).1) (sym first ∙ second)
+
+differ : (a b : Text) → bytes_eq a b ≡ false → a ≢ b
+differ a b other same = let is = (bytes_eq-Decides a b).1 same in cc
+
+-- the subcommand named `encode` has its words
+pub encode_entered : (met : Option (Text × List Row)) (name : Text) (rows : List Row) → Enters met → met ≡ Some (name, rows) → name ≡ codes "encode" → HasWords rows
+encode_entered met name rows enters is named = elim enters [
+  | inl e ↦ absurd (differ (codes "answer") (codes "encode") refl (same_name _ _ _ _ met e.1 is ∙ named))
+  | inr (inl e) ↦ absurd (differ (codes "dump") (codes "encode") refl (same_name _ _ _ _ met e.1 is ∙ named))
+  | inr (inr e) ↦ subst HasWords (same_rows _ _ _ _ met e.1 is) e.2
+]
+
+-- there is no other subcommand
+pub no_other_entered : (met : Option (Text × List Row)) (name : Text) (rows : List Row) → Enters met → met ≡ Some (name, rows) → name ≢ codes "answer"
+    → name ≢ codes "dump" → name ≢ codes "encode" → ⊥
+no_other_entered met name rows enters is no_answer no_dump no_encode = elim enters [
+  | inl e ↦ no_answer (sym (same_name _ _ _ _ met e.1 is))
+  | inr (inl e) ↦ no_dump (sym (same_name _ _ _ _ met e.1 is))
+  | inr (inr e) ↦ no_encode (sym (same_name _ _ _ _ met e.1 is))
+]
+
+-- the matches give one call
+same_call : (a b : Call) (rows : List Row) → name_of a ≡ name_of b → GivesValues a rows → GivesValues b rows → a ≡ b
+same_call Answer Answer rows names one other = refl
+same_call Answer Dump rows names one other = absurd (differ (codes "answer") (codes "dump") refl names)
+same_call Answer (Encode words preambles) rows names one other = absurd (differ (codes "answer") (codes "encode") refl names)
+same_call Dump Answer rows names one other = absurd (differ (codes "dump") (codes "answer") refl names)
+same_call Dump Dump rows names one other = refl
+same_call Dump (Encode words preambles) rows names one other = absurd (differ (codes "dump") (codes "encode") refl names)
+same_call (Encode words preambles) Answer rows names one other = absurd (differ (codes "encode") (codes "answer") refl names)
+same_call (Encode words preambles) Dump rows names one other = absurd (differ (codes "encode") (codes "dump") refl names)
+same_call (Encode words preambles) (Encode others number) rows names one other =
+    ap₂ Encode (ap₂ (λ (p q : Text × Text). record { who = p.0; address = p.1; command = q.0; payload = q.1 })
+    (ap₂ (λ (x y : Text). (x, y)) (same_text words.who others.who one.who other.who) (same_text words.address others.address one.address other.address))
+    (ap₂ (λ (x y : Text). (x, y)) (same_text words.command others.command one.command other.command) (sym one.payload ∙ other.payload)))
+    (one.value ∙ ap (λ t. digits_value 10 (without_leading_plus t)) (same_text one.number other.number one.given other.given) ∙ sym other.value)
+  where
+    same_text : {given : Option Text} (x y : Text) → given ≡ Some x → given ≡ Some y → x ≡ y
+    same_text x y first second = ap (λ o. unwrap_or o x) (sym first ∙ second)
+
+-- so words make one call at most
+pub words_make_one_call : (a b : Call) (words : List Text) → Calls a words → Calls b words → a ≡ b
+words_make_one_call a b words one other =
+    same_call a b one.rows (same_name _ _ _ _ _ one.named other.named) one.values
+    (subst (GivesValues b) (same_rows _ _ _ _ _ other.named one.named) other.values)
+
+-- the words `answer` and `dump` alone are calls of these
+pub answer_alone : Calls Answer (codes "answer" ∷ [])
 unfolding clap_on_literals
-answer_alone = record { no_fault = refl; named = refl }
+answer_alone = record { no_fault = refl; rows = []; named = refl; values = tt }
+
+pub dump_alone : Calls Dump (codes "dump" ∷ [])
+unfolding clap_on_literals
+dump_alone = record { no_fault = refl; rows = []; named = refl; values = tt }
+
+-- and the words of `encode`, without and with a number of preamble bytes
+abbrev identify : MessageWords
+identify = record { who = codes "P"; address = codes "@0"; command = codes "0"; payload = [] }
+
+pub encode_alone : Calls (Encode identify 5) (codes "encode" ∷ codes "P" ∷ codes "@0" ∷ codes "0" ∷ [])
+unfolding clap_on_literals
+encode_alone = record {
+  no_fault = refl;
+  rows = _;
+  named = refl;
+  values = record {
+    who = refl;
+    address = refl;
+    command = refl;
+    payload = refl;
+    number = codes "5";
+    given = refl;
+    digits = search rules;
+    value = refl;
+    enough = omega arith;
+    few = omega arith;
+  };
+}
+
+pub encode_with_20 : Calls (Encode identify 20) (codes "encode" ∷ codes "P" ∷ codes "@0" ∷ codes "0" ∷ codes "--preambles" ∷ codes "20" ∷ [])
+unfolding clap_on_literals
+encode_with_20 = record {
+  no_fault = refl;
+  rows = _;
+  named = refl;
+  values = record {
+    who = refl;
+    address = refl;
+    command = refl;
+    payload = refl;
+    number = codes "20";
+    given = refl;
+    digits = search rules;
+    value = refl;
+    enough = omega arith;
+    few = omega arith;
+  };
+}

@@ -1,6 +1,15 @@
-pub mod KnownBytesLemmas
-pub mod ItemsLemmas
-pub mod HexTextLemmas
-pub mod DeliveryLemmas
-pub mod CommandLineLemmas
-pub mod AnswerLemmas
+mod AnswerLemmas
+mod CommandLineLemmas
+mod DeliveryLemmas
+mod DigitsLemmas
+mod DumpLemmas
+mod EncodeLemmas
+mod EncodeRowLemmas
+mod FaultlessRowLemmas
+mod HearingLemmas
+mod HexTextLemmas
+mod ItemsLemmas
+mod KnownBytesLemmas
+mod LineLemmas
+mod MessageLineLemmas
+mod WordsLemmas

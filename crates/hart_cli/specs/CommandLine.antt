@@ -1,11 +1,41 @@
--- What the words behind the program's name ask for, as clap reads them, and with which status the program ends, an own
--- profile.
-use Rattle.std.specs.Prelude.{◌≡◌, [], ℕ, List, Some, Result, Ok, Err, true, codes, option_map}
-use Rattle.clap.specs.Words.{App, Text, fault_of, new_app, subcommand_of, with_subcommand}
+-- What the words behind the program's name ask for, as clap reads them, and what the program does with them, an own profile.
+use Rattle.std.specs.Prelude.{◌≡◌, ◌≤◌, [], ◌∷◌, ℕ, IfErr, List, Some, Result, Ok, Err, true, codes, is_some, pos, unwrap_or}
+use Rattle.std.specs.Str.Parse.{IsNumeral, digits_value, without_leading_plus}
+use Rattle.clap.specs.Words.{App, Row, Rule, Text, fault_of, first_of, new_app, new_rule, one_of, subcommand_of, with_rule, with_subcommand}
+use Rattle.clap.specs.declared.builder.value_parser.ValueParser.TheVariants.{Signed}
+use Rattle.hart_cli.specs.Answer.{AnswerOutcome}
+use Rattle.hart_cli.specs.Dump.{DumpOutcome}
+use Rattle.hart_cli.specs.Encode.{EncodeOutcome, MessageWords}
+use Rattle.hart_cli.specs.FaultText.{fault_line}
+use Rattle.hart_cli.specs.Stream.{Stream, WritesUnlessFailed}
 use Rattle.hart_cli.specs.declared.fault.CliFault.{CliFault}
+use Rattle.hart_cli.specs.declared.program.command_line.Call.{Call as CallMade}
+use Rattle.hart_cli.specs.declared.program.command_line.Call.TheVariants as made
 
--- The command `hart` takes words without the program's name, wants one of its subcommands named, and helps where there is
--- no word at all.
+-- A word that has to be there.
+abbrev pub required_rule : Text → Rule
+required_rule id = record (new_rule id) { required = true }
+
+-- The number of preamble bytes is told by `--preambles`, lies between 5 and 20, and is 5 where it is not told.
+abbrev pub preambles_rule : Rule
+preambles_rule = record (new_rule (codes "preambles")) {
+  long = Some (codes "preambles");
+  value_names = 1;
+  defaults = codes "5" ∷ [];
+  parser = Some (Signed (pos 5) (pos 20));
+}
+
+-- The command `encode` takes three words, a fourth where it is given, and the number of preamble bytes.
+abbrev pub encode_app : App
+encode_app =
+    let who = with_rule (new_app (codes "encode")) (required_rule (codes "WHO")) in
+    let address = with_rule who (required_rule (codes "ADDRESS")) in
+    let command = with_rule address (required_rule (codes "COMMAND")) in
+    let payload = with_rule command (new_rule (codes "DATA")) in
+    with_rule payload preambles_rule
+
+-- The command `hart` takes words without the program's name, wants one of its three subcommands named, and helps where
+-- there is no word at all; `answer` and `dump` take no words.
 abbrev pub hart_app : App
 hart_app =
     let plain = new_app (codes "hart") in
@@ -14,14 +44,87 @@ hart_app =
       subcommand_required = true;
       arg_required_else_help = true;
     } in
-    with_subcommand (record plain { top = top }) (new_app (codes "answer")).top
+    let answer = with_subcommand (record plain { top = top }) (new_app (codes "answer")).top in
+    let dump = with_subcommand answer (new_app (codes "dump")).top in
+    with_subcommand dump encode_app.top
 
--- The words call a subcommand where clap finds matches for them, and this is the subcommand that they name.
-pub record Calls (subcommand : Text) (words : List Text) : Type 0 where
+-- A call of the program; that of `encode` has the words of a message and the number of preamble bytes.
+pub data Call : Type 0 where
+  Answer : Call
+  Dump : Call
+  Encode : (words : MessageWords) → (preambles : ℕ) → Call
+
+-- Each call has a subcommand of its own.
+abbrev pub name_of : Call → Text
+name_of Answer = codes "answer"
+name_of Dump = codes "dump"
+name_of (Encode words preambles) = codes "encode"
+
+-- The matches of `encode` have these words, an absent DATA being empty, and this number of preamble bytes: from 5 to 20, in
+-- decimal digits, behind a plus sign at most.
+pub record GivesWords (rows : List Row) (words : MessageWords) (preambles : ℕ) : Type 0 where
+  pub who : first_of (codes "WHO") rows ≡ Some words.who
+  pub address : first_of (codes "ADDRESS") rows ≡ Some words.address
+  pub command : first_of (codes "COMMAND") rows ≡ Some words.command
+  pub payload : unwrap_or (first_of (codes "DATA") rows) [] ≡ words.payload
+  pub number : Text
+  pub given : first_of (codes "preambles") rows ≡ Some number
+  pub digits : IsNumeral 10 (without_leading_plus number)
+  pub value : preambles ≡ digits_value 10 (without_leading_plus number)
+  pub enough : 5 ≤ preambles
+  pub few : preambles ≤ 20
+
+-- The matches of a call's subcommand have what the call has; those of `answer` and `dump` have nothing for it.
+abbrev pub GivesValues : Call → List Row → Type 0
+GivesValues Answer rows = Unit {0}
+GivesValues Dump rows = Unit {0}
+GivesValues (Encode words preambles) rows = GivesWords rows words preambles
+
+-- The words make a call where clap finds no fault in them, and they name its subcommand, whose matches have what it has.
+pub record Calls (call : Call) (words : List Text) : Type 0 where
   pub no_fault : fault_of hart_app words ≡ []
-  pub named : option_map (λ met. met.0) (subcommand_of hart_app words) ≡ Some subcommand
+  pub rows : List Row
+  pub named : subcommand_of hart_app words ≡ Some (name_of call, rows)
+  pub values : GivesValues call rows
+
+-- What a call with this result has done to the reader and the writer; that of `encode` leaves the reader.
+abbrev pub CallOutcome : Call → Stream → Stream → Stream → Stream → Result (Unit {0}) CliFault → Type 0
+CallOutcome Answer reader reader_after writer writer_after result =
+    AnswerOutcome reader reader_after writer writer_after result
+CallOutcome Dump reader reader_after writer writer_after result =
+    DumpOutcome reader reader_after writer writer_after result
+CallOutcome (Encode words preambles) reader reader_after writer writer_after result =
+    (reader_after ≡ reader) × EncodeOutcome words preambles writer writer_after result
 
 -- The status is 0 after a call that did its work, and 1 after a fault.
-abbrev pub status_of : Result Unit CliFault → ℕ
+abbrev pub status_of : Result (Unit {0}) CliFault → ℕ
 status_of (Ok done) = 0
 status_of (Err fault) = 1
+
+-- The program made the call that the words make, ended with the status of its result, and told its fault, if any.
+pub record Ran (words : List Text) (reader reader_after writer writer_after errors errors_after : Stream) (status : ℕ) : Type 0 where
+  pub call : Call
+  pub calls : Calls call words
+  pub result : Result (Unit {0}) CliFault
+  pub outcome : CallOutcome call reader reader_after writer writer_after result
+  pub ends : status ≡ status_of result
+  pub tells : IfErr result (λ fault. WritesUnlessFailed errors.bytes errors_after.bytes errors.failures errors_after.failures (fault_line fault))
+
+-- The call that the program's own word for it means.
+abbrev pub call_of : CallMade → Call
+call_of made.Answer = Answer
+call_of made.Dump = Dump
+call_of (made.Encode w) =
+    Encode (record { who = w.who.now; address = w.address.now; command = w.command.now; payload = w.payload.now }) w.preambles
+
+-- The matches of `encode` have its three words, and a number of preamble bytes that clap let pass and reads as it is written.
+pub record HasWords (rows : List Row) : Type 0 where
+  pub who : is_some (first_of (codes "WHO") rows) ≡ true
+  pub address : is_some (first_of (codes "ADDRESS") rows) ≡ true
+  pub command : is_some (first_of (codes "COMMAND") rows) ≡ true
+  pub number : Text
+  pub given : first_of (codes "preambles") rows ≡ Some number
+  pub read : one_of (codes "preambles") rows ≡ Some number
+  pub digits : IsNumeral 10 (without_leading_plus number)
+  pub enough : 5 ≤ digits_value 10 (without_leading_plus number)
+  pub few : digits_value 10 (without_leading_plus number) ≤ 20

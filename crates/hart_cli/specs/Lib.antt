@@ -2,10 +2,15 @@ pub mod Stream
 pub mod Plain
 pub mod Input
 pub mod Items
+pub mod Hearing
 pub mod HexText
+pub mod MessageLine
 pub mod Identity
 pub mod Delivery
-pub mod Preamble
 pub mod Answer
+pub mod DumpText
+pub mod Dump
+pub mod Words
+pub mod Encode
 pub mod FaultText
 pub mod CommandLine

@@ -6,14 +6,18 @@
 
 mod answer;
 mod delivery;
+mod dump;
+mod encode;
 mod fault;
 mod identity;
 mod input;
 mod items;
+mod line;
 mod output;
 mod plain;
 mod program;
 mod stream;
+mod words;
 
 use crate::plain::Plain;
 use crate::program::{NO_CALL, program};

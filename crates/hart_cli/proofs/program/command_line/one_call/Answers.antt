@@ -1,0 +1,5 @@
+use Rattle.hart_cli.proofs.CommandLineLemmas.{words_make_one_call}
+use Rattle.hart_cli.proofs.program.command_line.one_call.Goals as goal
+
+pub returns : goal.returns
+returns c = words_make_one_call

@@ -1,0 +1,264 @@
+//! The call that the words behind the program's name ask for, and the texts of its help.
+
+ghost use Rattle.std.specs.Prelude.{◌≡◌, ◌∷◌, [], ℕ, IfErr, IfOk, List, codes, false, map, string_bytes};
+ghost use Rattle.clap.specs.Words.{HasKind, app_of, fault_of, found_of, new_app, rows_of, rule_of};
+ghost use Rattle.hart_cli.specs.CommandLine.{Answer, Call as SomeCall, Calls, Dump, Encode, GivesWords, HasWords};
+ghost use Rattle.hart_cli.specs.CommandLine.{call_of, encode_app, hart_app, preambles_rule, required_rule};
+ghost use Rattle.hart_cli.specs.Encode.{MessageWords};
+
+use clap::{Arg, ArgMatches, Command, value_parser};
+use std::alloc::{AllocError, Global};
+
+const HART_ABOUT: &str = "A HART field device on the bench, and the messages on its line";
+
+const HART_HELP: &str =
+    "For the input and the output of a command, and an example: hart COMMAND --help";
+
+const ANSWER_ABOUT: &str = "Answer one message, given in hex on the standard input";
+
+const ANSWER_HELP: &str = "\
+Answer one message as the device on the bench does.
+
+Goes in, on the standard input: what the device hears on the line, the message
+with the FF bytes in front of it and its check byte, and noise around it. Each
+byte is two hex digits of either case, and behind them, where the byte came
+damaged, ! and two hex digits of fault bits (see hart dump --help). Spaces, tabs
+and line ends may stand between bytes.
+
+Comes out, on the standard output: the reply of the device in upper case hex,
+or nothing where the device keeps silent. It answers where it hears one message
+and no other, which asks for its identity (command 0) at polling address 0.";
+
+const ANSWER_EXAMPLE: &str = "\
+Example:
+  echo \"FF FF FF FF FF 02 80 00 00 82\" | hart answer";
+
+const DUMP_ABOUT: &str = "List the messages in what was heard, given in hex on the standard input";
+
+const DUMP_HELP: &str = "\
+List the messages in what was heard on a line.
+
+Goes in, on the standard input: the bytes that were heard, noise among them.
+Each is two hex digits of either case, and behind them, where the receiver found
+it damaged, ! and two hex digits of fault bits, as in FF!40. The fault bits are
+  40  vertical parity
+  20  overrun
+  10  framing
+  02  buffer overflow
+or a sum of these, in hex. Spaces, tabs and line ends may stand between bytes.
+
+Comes out, on the standard output: a line for each message that came without
+damage, of nine fields with one space between them.
+  START      place of its first byte behind the FF bytes; bytes count from 0
+  END        place behind its check byte
+  KIND       STX for a request of a master, ACK for a reply of a device
+  WHO        the master: P for the primary, S for the secondary
+  BURST      burst bit, 0 or 1
+  ADDRESS    @ and the polling address; or ten hex digits, four of the type of
+             the device and six of its id; or all, for every device
+  EXPANSION  expansion bytes in hex, or - for none
+  COMMAND    number of the command
+  PAYLOAD    data in hex, or - for none; an ACK begins with its two status bytes
+Where it cannot read the input further it stops, behind the lines of the
+messages before, and tells the place in the text of the input, counted from 0.";
+
+const DUMP_EXAMPLE: &str = "\
+Example:
+  echo \"FF FF 02 80 00 00 82\" | hart dump
+writes
+  2 7 STX P 0 @0 - 0 -";
+
+const ENCODE_ABOUT: &str = "Write the message that asks a device, in hex";
+
+const ENCODE_HELP: &str = "\
+Write the message of a master that asks a device, ready to be sent.
+
+Goes in, on the command line: who asks, which device, with which command, and
+the data of the command.
+
+Comes out, on the standard output: the message in upper case hex, with the FF
+bytes in front of it and its check byte. A word that cannot be read is told by
+its number: 1 is WHO, 2 ADDRESS, 3 COMMAND and 4 DATA.";
+
+const ENCODE_EXAMPLE: &str = "\
+Example:
+  hart encode P @0 0
+writes
+  FF FF FF FF FF 02 80 00 00 82";
+
+const WHO_HELP: &str = "The master that asks: P for the primary, S for the secondary";
+
+const ADDRESS_HELP: &str = "\
+The device that is asked: @ and its polling address, @0 to @63; or
+ten hex digits, four of its type and six of its id; or all, for every
+device";
+
+const COMMAND_HELP: &str = "The number of the command, 0 to 255";
+
+const DATA_HELP: &str = "\
+The data of the command in hex, two digits for each byte, at most 255
+bytes; left out where there are none";
+
+const PREAMBLES_HELP: &str = "How many FF bytes stand in front of the message, 5 to 20";
+
+/// The word `answer` alone is a call of `answer`.
+pub fn answer_alone_is_call()
+    ensures { Calls Answer (codes "answer" ∷ []) }
+{}
+
+/// The word `dump` alone is a call of `dump`.
+pub fn dump_alone_is_call()
+    ensures { Calls Dump (codes "dump" ∷ []) }
+{}
+
+/// Three words behind `encode` are a call of `encode` with no data and 5 preamble bytes.
+pub fn three_words_are_call()
+    ensures { Calls
+        (Encode (record { who = codes "P"; address = codes "@0"; command = codes "0"; payload = [] }) 5)
+        (codes "encode" ∷ codes "P" ∷ codes "@0" ∷ codes "0" ∷ []) }
+{}
+
+/// With `--preambles` behind them they are a call with so many preamble bytes.
+pub fn preambles_are_told()
+    ensures { Calls
+        (Encode (record { who = codes "P"; address = codes "@0"; command = codes "0"; payload = [] }) 20)
+        (codes "encode" ∷ codes "P" ∷ codes "@0" ∷ codes "0" ∷ codes "--preambles" ∷ codes "20" ∷ []) }
+{}
+
+/// Words make one call at most, so that what the program does is determined by them.
+pub fn one_call()
+    ensures { (a b : SomeCall) (words : List (List ℕ)) → Calls a words → Calls b words → a ≡ b }
+{}
+
+/// The calls that a command line can make.
+#[derive(Clone, Copy)]
+pub enum Call<'a> {
+    /// `hart answer`.
+    Answer,
+    /// `hart dump`.
+    Dump,
+    /// `hart encode`.
+    Encode(EncodeWords<'a>),
+}
+
+/// What `hart encode` was given: the words of a message, as they were written, and its number of preamble bytes.
+#[derive(Clone, Copy)]
+pub struct EncodeWords<'a> {
+    /// WHO, the master that asks.
+    pub who: &'a str,
+    /// ADDRESS, the device that is asked.
+    pub address: &'a str,
+    /// COMMAND, the number of the command.
+    pub command: &'a str,
+    /// DATA, empty where it is absent.
+    pub payload: &'a str,
+    /// How many preamble bytes stand in front of the message, from 5 to 20.
+    pub preambles: u8,
+}
+
+/// The call that the words make.
+///
+/// # Errors
+///
+/// What clap tells where it finds no matches for them, help among it, or where memory is refused.
+pub fn requested_call<'a>(alloc: Global, words: &'a [String]) -> Result<Call<'a>, clap::Error>
+    ensures call { IfOk result (λ call. Calls (call_of call) (map string_bytes words.entry.now)) }
+    ensures refused { IfErr result (HasKind (fault_of hart_app (map string_bytes words.entry.now))) }
+{
+    let matches = hart_command(alloc)?.try_get_matches_from(words)?;
+    let Some((name, given)) = matches.subcommand() else {
+        unreachable!();
+    };
+    match name {
+        "answer" => Ok(Call::Answer),
+        "dump" => Ok(Call::Dump),
+        "encode" => Ok(Call::Encode(encode_words(given))),
+        _ => unreachable!(),
+    }
+}
+
+// The words of `hart encode`, which clap let pass.
+fn encode_words<'a>(given: &ArgMatches<'a>) -> EncodeWords<'a>
+    requires { HasWords (rows_of (found_of given.now)) }
+    ensures { GivesWords (rows_of (found_of given.now))
+        (record {
+          who = result.who.now;
+          address = result.address.now;
+          command = result.command.now;
+          payload = result.payload.now;
+        }) result.preambles }
+{
+    EncodeWords {
+        who: given.get_str("WHO").unwrap(),
+        address: given.get_str("ADDRESS").unwrap(),
+        command: given.get_str("COMMAND").unwrap(),
+        payload: given.get_str("DATA").unwrap_or(""),
+        preambles: given.get_one::<u8>("preambles").unwrap(),
+    }
+}
+
+// What the words are matched against.
+fn hart_command<'a>(alloc: Global) -> Result<Command<'a>, AllocError>
+    ensures { IfOk result (λ command. app_of command ≡ hart_app) }
+{
+    let hart = Command::new(alloc, "hart")
+        .about(HART_ABOUT)
+        .after_help(HART_HELP)
+        .no_binary_name(true)
+        .subcommand_required(true)
+        .arg_required_else_help(true)
+        .subcommand(plain_command(alloc, "answer", ANSWER_ABOUT, ANSWER_HELP, ANSWER_EXAMPLE))?
+        .subcommand(plain_command(alloc, "dump", DUMP_ABOUT, DUMP_HELP, DUMP_EXAMPLE))?
+        .subcommand(encode_command(alloc)?)?;
+    // The words do not tell clap the program's name, which the usage of a subcommand shows.
+    hart.bin_name("hart")
+}
+
+// `hart encode` with its words.
+fn encode_command<'a>(alloc: Global) -> Result<Command<'a>, AllocError>
+    ensures { IfOk result (λ command. app_of command ≡ encode_app) }
+{
+    plain_command(alloc, "encode", ENCODE_ABOUT, ENCODE_HELP, ENCODE_EXAMPLE)
+        .arg(required_word(alloc, "WHO", WHO_HELP))?
+        .arg(required_word(alloc, "ADDRESS", ADDRESS_HELP))?
+        .arg(required_word(alloc, "COMMAND", COMMAND_HELP))?
+        .arg(Arg::new(alloc, "DATA").help(DATA_HELP))?
+        .arg(preambles_option(alloc))
+}
+
+// A subcommand without words of its own.
+fn plain_command<'a>(
+    alloc: Global,
+    name: &'a str,
+    about: &'a str,
+    help: &'a str,
+    example: &'a str,
+) -> Command<'a>
+    ensures { app_of result ≡ new_app name.entry.now }
+{
+    Command::new(alloc, name)
+        .about(about)
+        .long_about(help)
+        .after_long_help(example)
+}
+
+// A word that has to be there.
+fn required_word<'a>(alloc: Global, id: &'a str, help: &'a str) -> Arg<'a>
+    ensures rule { rule_of result ≡ required_rule id.entry.now }
+    ensures local { result.global ≡ false }
+{
+    Arg::new(alloc, id).required(true).help(help)
+}
+
+// How many preamble bytes stand in front of a message.
+fn preambles_option<'a>(alloc: Global) -> Arg<'a>
+    ensures rule { rule_of result ≡ preambles_rule }
+    ensures local { result.global ≡ false }
+{
+    Arg::new(alloc, "preambles")
+        .long("preambles")
+        .value_name("N")
+        .value_parser(value_parser!(u8).range(5..=20))
+        .default_value("5")
+        .help(PREAMBLES_HELP)
+}
