@@ -3,12 +3,13 @@
 #   make                      builds the proved program and leaves it as ./hart
 #   make check                runs every proof and every test
 #   make install PREFIX=DIR   puts hart into DIR/bin
+#   make bench                measures hart dump; it asserts no time
 
 PREFIX ?= /usr/local
 CLI := crates/hart_cli
 SOURCES := crates.txt $(shell find crates -name out -prune -o \( -name '*.rt' -o -name '*.antt' \) -print)
 
-.PHONY: all check refused-growths install clean
+.PHONY: all check refused-growths bench install clean
 
 all: hart
 
@@ -23,6 +24,9 @@ check: refused-growths
 # Each allocation of the built program is refused in turn: it may end early, but not write something else.
 refused-growths: hart
 	sh tools/refused-growths.sh
+
+bench: hart
+	python3 bench/dump.py
 
 install: hart
 	install -d $(PREFIX)/bin
