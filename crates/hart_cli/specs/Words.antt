@@ -52,6 +52,6 @@ IsCommandWord word command = IsDecimal word 3 255 command
 abbrev pub IsDataWord : List ℕ → List ℕ → Type 0
 IsDataWord word bytes = (decode_of word ≡ Ok bytes) × (length bytes ≤ 255)
 
--- No value is one of these.
+-- There is no value of which this holds.
 abbrev pub HasNoValue : {T : Type 0} → (T → Type 0) → Type 0
 HasNoValue {T} IsValue = (value : T) → IsValue value → ⊥

@@ -49,7 +49,7 @@ ended text heard chars place e within r n =
           (subst (λ (xs : List ℕ). HasBadHex xs chars place) e (bad_hex_from heard chars place within r n (λ none. some (rest ∙ none))));
     }
 
--- an input that broke off has bad hex, or a piece may begin in it
+-- an input that was cut short has bad hex, or a piece may begin in it
 record Broken (text rest : List ℕ) (chars : List Character) (place : ℕ) : Type 0 where
   so_far : MayBegin rest → ReadsSoFarAs text chars
   decided : (MayBegin rest → ⊥) → IsDecidedBadHexAt text chars place
