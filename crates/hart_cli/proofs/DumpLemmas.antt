@@ -9,11 +9,17 @@ use Rattle.hart_frame.specs.declared.found.Found.{Found}
 use Rattle.hart_cli.specs.declared.fault.CliFault.{CliFault}
 use Rattle.hart_cli.specs.declared.fault.CliFault.TheVariants.{Memory}
 use Rattle.hart_cli.specs.declared.input.InputEnd.{InputEnd}
-use Rattle.hart_cli.specs.Dump.{AreFirstLines, AreLines, FramesUpTo, IsDump}
+use Rattle.hart_cli.specs.Dump.{AreFirstLines, AreLines, IsDump}
 use Rattle.hart_cli.specs.DumpText.{dump_line, dump_text}
 use Rattle.hart_cli.specs.Hearing.{Hears}
 use Rattle.hart_cli.specs.Stream.{FailsToWrite, Stream, WritesAll, count_after_failure}
 use Rattle.hart_cli.proofs.KnownBytesLemmas.{Appends-append, Appends-nothing}
+
+-- the frames of a list from one place on begin with these, the last of which ends at the other place
+pub data FramesUpTo (chars : List Character) : ℕ → List Found → ℕ → Type 0 where
+  nothing : (place : ℕ) → FramesUpTo chars place [] place
+  first : (from : ℕ) (found : Found) (later : List Found) (to : ℕ) → IsFirst found chars from
+      → FramesUpTo chars found.stop later to → FramesUpTo chars from (found ∷ later) to
 
 -- one frame more
 FramesUpTo-more : (chars : List Character) (from to : ℕ) (frames : List Found) (next : Found) → FramesUpTo chars from frames to
@@ -23,18 +29,23 @@ FramesUpTo-more chars from to frames next (FramesUpTo.nothing place) is_next =
 FramesUpTo-more chars from to frames next (FramesUpTo.first start found later stop is_first up_to) is_next =
     FramesUpTo.first from found (later ++ next ∷ []) next.stop is_first (FramesUpTo-more chars found.stop to later next up_to is_next)
 
--- where no frame follows, they are all
-AreFrames-all : (chars : List Character) (from to : ℕ) (frames : List Found) → FramesUpTo chars from frames to
-    → HasNoFrame chars to → AreFrames chars from frames
-AreFrames-all chars from to frames (FramesUpTo.nothing place) no_more = AreFrames.none from no_more
-AreFrames-all chars from to frames (FramesUpTo.first start found later stop is_first up_to) no_more =
-    AreFrames.first from found later is_first (AreFrames-all chars found.stop to later up_to no_more)
+-- with the frames that follow they are all
+AreFrames-join : (chars : List Character) (from to : ℕ) (frames others : List Found) → FramesUpTo chars from frames to
+    → AreFrames chars to others → AreFrames chars from (frames ++ others)
+AreFrames-join chars from to frames others (FramesUpTo.nothing place) rest = rest
+AreFrames-join chars from to frames others (FramesUpTo.first start found later stop is_first up_to) rest =
+    AreFrames.first from found (later ++ others) is_first (AreFrames-join chars found.stop to later others up_to rest)
+
+-- the text of frames and of more frames
+dump_text-append : (frames others : List Found) → dump_text (frames ++ others) ≡ dump_text frames ++ dump_text others
+dump_text-append [] others = refl
+dump_text-append (found ∷ frames) others =
+    ap (λ (text : List ℕ). dump_line found ++ text) (dump_text-append frames others)
+    ∙ sym (append_assoc (dump_line found) (dump_text frames) (dump_text others))
 
 -- the text with one line more
 dump_text-more : (frames : List Found) (next : Found) → dump_text (frames ++ next ∷ []) ≡ dump_text frames ++ dump_line next
-dump_text-more [] next = append-nil (dump_line next)
-dump_text-more (found ∷ frames) next =
-    ap (λ (text : List ℕ). dump_line found ++ text) (dump_text-more frames next) ∙ sym (append_assoc (dump_line found) (dump_text frames) (dump_line next))
+dump_text-more frames next = dump_text-append frames (next ∷ []) ∙ ap (λ (text : List ℕ). dump_text frames ++ text) (append-nil (dump_line next))
 
 -- the lines of the frames before a place were written
 pub record LinesSoFar (chars : List Character) (place : ℕ) (old new : Stream) : Type 0 where
@@ -71,58 +82,72 @@ AreLines-written chars place old new so_far no_more = (
   dump_text so_far.frames,
   record {
     frames = so_far.frames;
-    are_frames = AreFrames-all chars 0 place so_far.frames so_far.begins no_more;
+    are_frames = subst (AreFrames chars 0) (append-nil so_far.frames) (AreFrames-join chars 0 place so_far.frames [] so_far.begins (AreFrames.none place no_more));
     text = refl;
   },
   so_far.written,
 )
 
--- a line is not empty
-line_ends : (text : List ℕ) → text ++ 10 ∷ [] ≢ []
-line_ends [] e = cc
-line_ends (byte ∷ text) e = cc
+-- the law of frames: a list has its frames
+abbrev pub HasFrames : Type 0
+HasFrames = (chars : List Character) (from : ℕ) → (frames : List Found) × AreFrames chars from frames
+
+-- the frames so far, the next and those behind it are all
+AreFrames-next : (law : HasFrames) (chars : List Character) (place : ℕ) (frames : List Found) (next : Found) → FramesUpTo chars 0 frames place
+    → IsFirst next chars place → AreFrames chars 0 (frames ++ next ∷ (law chars next.stop).0)
+AreFrames-next law chars place frames next begins is_next =
+    let later = law chars next.stop in
+    AreFrames-join chars 0 place frames (next ∷ later.0) begins (AreFrames.first place next later.0 is_next later.1)
 
 -- where the next line could not be built, the lines before it were written
-pub FirstLines-unbuilt : (chars : List Character) (place : ℕ) (old new : Stream) (next : Found) → LinesSoFar chars place old new
-    → IsFirst next chars place → (lines : List ℕ) × AreFirstLines chars lines [] × WritesAll old new lines
-FirstLines-unbuilt chars place old new next so_far is_next = (
+pub FirstLines-unbuilt : (law : HasFrames) (chars : List Character) (place : ℕ) (old new : Stream) (next : Found) → LinesSoFar chars place old new
+    → IsFirst next chars place → (lines : List ℕ) × AreFirstLines chars lines × WritesAll old new lines
+FirstLines-unbuilt law chars place old new next so_far is_next = (
   dump_text so_far.frames,
   record {
     frames = so_far.frames;
-    place = place;
-    begins = so_far.begins;
-    next = next;
-    is_next = is_next;
-    back = dump_line next;
-    short = line_ends _;
-    line = refl;
-    text = sym (append-nil (dump_text so_far.frames));
+    others = next ∷ (law chars next.stop).0;
+    are_frames = AreFrames-next law chars place so_far.frames next so_far.begins is_next;
+    short = λ none. absurd cc;
+    text = refl;
   },
   so_far.written,
 )
 
--- where a write of the next line failed, a front of it was written too
-pub FirstLines-unwritten : (chars : List Character) (place : ℕ) (old middle new : Stream) (next : Found) (line : List ℕ)
+-- what was not written is not empty
+back_stays : (back more : List ℕ) → back ≢ [] → back ++ more ≢ []
+back_stays [] more some none = some refl
+back_stays (byte ∷ back) more some none = absurd cc
+
+-- where a write of the next line failed, a front of all lines was written
+pub FirstLines-unwritten : (law : HasFrames) (chars : List Character) (place : ℕ) (old middle new : Stream) (next : Found) (line : List ℕ)
     → LinesSoFar chars place old middle → IsFirst next chars place → line ≡ dump_line next → FailsToWrite middle new line
-    → (lines front : List ℕ) × AreFirstLines chars lines front
-    × Appends old.bytes new.bytes lines × (new.failures ≡ count_after_failure old.failures)
-FirstLines-unwritten chars place old middle new next line so_far is_next is_line fails = (
-  dump_text so_far.frames ++ fails.0.front,
-  fails.0.front,
-  record {
-    frames = so_far.frames;
-    place = place;
-    begins = so_far.begins;
-    next = next;
-    is_next = is_next;
-    back = fails.0.back;
-    short = fails.0.short;
-    line = sym is_line ∙ fails.0.split;
-    text = refl;
-  },
-  Appends-append old.bytes middle.bytes new.bytes (dump_text so_far.frames) fails.0.front so_far.written.0 fails.0.written,
-  fails.1 ∙ ap count_after_failure so_far.written.1,
-)
+    → (lines : List ℕ) × AreLines chars lines × FailsToWrite old new lines
+FirstLines-unwritten law chars place old middle new next line so_far is_next is_line fails =
+    let before = dump_text so_far.frames in
+    let later = (law chars next.stop).0 in
+    let front = fails.0.front in
+    let back = fails.0.back in
+    let split : dump_text (next ∷ later) ≡ front ++ (back ++ dump_text later) =
+    ap (λ (text : List ℕ). text ++ dump_text later) (sym is_line ∙ fails.0.split) ∙ append_assoc front back (dump_text later) in (
+      dump_text (so_far.frames ++ next ∷ later),
+      record {
+        frames = so_far.frames ++ next ∷ later;
+        are_frames = AreFrames-next law chars place so_far.frames next so_far.begins is_next;
+        text = refl;
+      },
+      (
+        record {
+          front = before ++ front;
+          back = back ++ dump_text later;
+          split = dump_text-append so_far.frames (next ∷ later) ∙ ap (λ (text : List ℕ). before ++ text) split
+              ∙ sym (append_assoc before front (back ++ dump_text later));
+          short = back_stays back (dump_text later) fails.0.short;
+          written = Appends-append old.bytes middle.bytes new.bytes before front so_far.written.0 fails.0.written;
+        },
+        fails.1 ∙ ap count_after_failure so_far.written.1,
+      ),
+    )
 
 -- a growth that was refused is told as want of memory
 pub memory_told : {T : Type 0} (result : Result T CliFault) → IsErrAnd result (λ fault. fault ≡ Memory) → result ≡ Err Memory

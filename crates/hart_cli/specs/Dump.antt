@@ -1,16 +1,15 @@
--- What `hart dump` writes for what it reads, an own profile.
-use Rattle.std.specs.Prelude.{◌≡◌, ◌≢◌, ◌⊎◌, ℕ, List, [], ◌∷◌, ◌++◌, Option, Some, None, Result, Ok, Err}
-use Rattle.std.specs.Io.KnownBytes.{Appends}
+-- What `hart dump` writes for what it reads (own profile).
+use Rattle.std.specs.Prelude.{◌≡◌, ◌≢◌, ◌⊎◌, ℕ, List, [], ◌++◌, Option, Some, None, Result, Ok, Err}
 use Rattle.hart_frame.specs.Character.{Character}
-use Rattle.hart_frame.specs.Frames.{AreFrames, IsFirst}
+use Rattle.hart_frame.specs.Frames.{AreFrames}
 use Rattle.hart_frame.specs.declared.found.Found.{Found}
 use Rattle.hart_cli.specs.declared.fault.CliFault.{CliFault}
 use Rattle.hart_cli.specs.declared.fault.CliFault.TheVariants.{BadHex, BadWord, Memory, Read, TooLong, Write}
 use Rattle.hart_cli.specs.declared.input.InputEnd.{InputEnd}
-use Rattle.hart_cli.specs.DumpText.{dump_line, dump_text}
+use Rattle.hart_cli.specs.DumpText.{dump_text}
 use Rattle.hart_cli.specs.Hearing.{Hears}
 use Rattle.hart_cli.specs.Input.{LacksMemory, Reads}
-use Rattle.hart_cli.specs.Stream.{Stream, WritesAll, WritesNothing, count_after_failure}
+use Rattle.hart_cli.specs.Stream.{FailsToWrite, Stream, WritesAll, WritesNothing}
 
 -- The lines of some characters are those of the frames in them.
 pub record AreLines (chars : List Character) (lines : List ℕ) : Type 0 where
@@ -18,24 +17,13 @@ pub record AreLines (chars : List Character) (lines : List ℕ) : Type 0 where
   pub are_frames : AreFrames chars 0 frames
   pub text : lines ≡ dump_text frames
 
--- The frames of a list of characters, from one place on, begin with these frames, the last of which ends at the other
--- place; so much can be told where a call ended early and the other frames were not looked for.
-pub data FramesUpTo (chars : List Character) : ℕ → List Found → ℕ → Type 0 where
-  nothing : (place : ℕ) → FramesUpTo chars place [] place
-  first : (from : ℕ) (found : Found) (later : List Found) (to : ℕ) → IsFirst found chars from
-      → FramesUpTo chars found.stop later to → FramesUpTo chars from (found ∷ later) to
-
--- Of the lines of some characters, those of some first frames, and of the line of the next frame a front, short of its end.
-pub record AreFirstLines (chars : List Character) (lines front : List ℕ) : Type 0 where
+-- The first lines of some characters are those of some first frames in them, and not of all.
+pub record AreFirstLines (chars : List Character) (lines : List ℕ) : Type 0 where
   pub frames : List Found
-  pub place : ℕ
-  pub begins : FramesUpTo chars 0 frames place
-  pub next : Found
-  pub is_next : IsFirst next chars place
-  pub back : List ℕ
-  pub short : back ≢ []
-  pub line : dump_line next ≡ front ++ back
-  pub text : lines ≡ dump_text frames ++ front
+  pub others : List Found
+  pub are_frames : AreFrames chars 0 (frames ++ others)
+  pub short : others ≢ []
+  pub text : lines ≡ dump_text frames
 
 -- An input that came to its end in this way has this fault, if any, and these lines: those of its characters before the
 -- fault.
@@ -60,14 +48,13 @@ pub record DumpsAll (reader reader_after writer writer_after : Stream) (result :
   pub tells : result ≡ result_of fault
   pub written : WritesAll writer writer_after lines
 
--- Where a write failed, the lines of some first frames were written and a front of the next; where memory for the next line
--- was refused, nothing of it.
+-- Where a write failed, a front of the lines was written, short of their end; where memory for a line was refused, the first
+-- lines, and nothing of that one.
 abbrev pub WritesFirstLines : List Character → Stream → Stream → Result (Unit {0}) CliFault → Type 0
 WritesFirstLines chars writer writer_after (Err Write) =
-    (lines front : List ℕ) × AreFirstLines chars lines front
-    × Appends writer.bytes writer_after.bytes lines × (writer_after.failures ≡ count_after_failure writer.failures)
+    (lines : List ℕ) × AreLines chars lines × FailsToWrite writer writer_after lines
 WritesFirstLines chars writer writer_after (Err Memory) =
-    (lines : List ℕ) × AreFirstLines chars lines [] × WritesAll writer writer_after lines
+    (lines : List ℕ) × AreFirstLines chars lines × WritesAll writer writer_after lines
 WritesFirstLines chars writer writer_after (Err Read) = ⊥
 WritesFirstLines chars writer writer_after (Err TooLong) = ⊥
 WritesFirstLines chars writer writer_after (Err (BadHex place)) = ⊥
@@ -90,7 +77,8 @@ pub record DumpsNothing (reader reader_after writer writer_after : Stream) (resu
   pub read : LacksMemory reader reader_after ⊎ ((input : List ℕ) × (end : InputEnd) × Reads reader reader_after input end)
   pub unwritten : WritesNothing writer writer_after
 
--- What a call of `dump` with this result has done to its reader and its writer.
+-- A call of `dump` wrote all lines and told the input's fault, ended at a line that it could not write or build, or wrote
+-- nothing for want of memory.
 abbrev pub DumpOutcome : Stream → Stream → Stream → Stream → Result (Unit {0}) CliFault → Type 0
 DumpOutcome reader reader_after writer writer_after result =
     DumpsAll reader reader_after writer writer_after result

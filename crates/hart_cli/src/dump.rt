@@ -11,7 +11,7 @@ use crate::items::{hear, one_hearing};
 use crate::line::frame_line;
 use crate::output::write_all;
 use crate::stream::{Sink, Source};
-use hart_frame::{Char, first_frame, frames_are_told_apart};
+use hart_frame::{Char, every_list_has_frames, first_frame, frames_are_told_apart};
 use std::alloc::Global;
 
 /// Reads what was heard on a line as hex items, and writes a line for each frame in it.
@@ -64,6 +64,8 @@ fn write_frames<W: Sink>(alloc: Global, chars: &[Char], writer: &mut W) -> Resul
         (record { bytes = W.written writer.new; failures = W.failures writer.new })
         (Err fault)) }
 {
+    // It does nothing when it runs: by this law what was written is a front of the lines of all frames.
+    every_list_has_frames();
     let mut place = 0;
     while let Some(found) = first_frame(chars, place) {
         let line = frame_line(alloc, &found)?;

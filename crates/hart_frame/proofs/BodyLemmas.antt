@@ -1,7 +1,7 @@
 -- What a body consists of.
 use Rattle.std.proofs.Common.{◌≡◌, ℕ, ◌+◌, ◌-◌, ◌<◌, ◌≤◌, List, [], ◌∷◌, ◌++◌, length, take, get_or, refl, ap, ◌∙◌, arith}
 use Rattle.std.specs.List.{All}
-use Rattle.std.proofs.lemmas.List.Elements.{All-push, All-take}
+use Rattle.std.proofs.lemmas.List.Elements.{All-push}
 use Rattle.std.proofs.lemmas.List.{take_more}
 use Rattle.hart_frame.specs.FrameParts.{FrameParts}
 use Rattle.hart_frame.specs.Parity.{IsCheckByte}
@@ -22,7 +22,7 @@ IsBody-push frame checked check part fits check_byte = record {
 
 -- what the check byte covers, and one more byte with which the check byte of all is 0, is a body at the front
 pub BeginsWithBody-front : (bytes : List ℕ) (frame : FrameParts) (len : ℕ) → 1 ≤ len → len ≤ length bytes
-    → All (λ byte. byte < 256) bytes → IsCheckedPart frame (take (len - 1) bytes) → IsCheckByte (take len bytes) 0
+    → All (λ byte. byte < 256) (take len bytes) → IsCheckedPart frame (take (len - 1) bytes) → IsCheckByte (take len bytes) 0
     → BeginsWithBody bytes frame len
 BeginsWithBody-front bytes frame len some within fits part check = record {
   within = within;
@@ -31,7 +31,7 @@ BeginsWithBody-front bytes frame len some within fits part check = record {
     check = get_or bytes (len - 1) 0;
     checked_part = part;
     parts = ap (λ n. take n bytes) (let last : len ≡ len - 1 + 1 = omega arith in last) ∙ take_more bytes (len - 1) 0 (omega arith);
-    bytes_fit = All-take (λ byte. byte < 256) len bytes fits;
+    bytes_fit = fits;
     parity = even-check (take len bytes) check;
   };
 }

@@ -10,8 +10,8 @@ use Rattle.hart_frame.specs.Character.{Character, faultless}
 use Rattle.hart_frame.specs.Heard.{bytes_of, BeginsWithHeard}
 use Rattle.hart_frame.specs.Layout.{body_length}
 use Rattle.hart_frame.specs.Refusal.{IsDelimiter, HasByteCount}
-use Rattle.hart_frame.proofs.ToldApart.{BeginsWithBody-append}
-use Rattle.hart_frame.proofs.Only.{tells, IsDelimiter-of}
+use Rattle.hart_frame.proofs.BodiesApart.{BeginsWithBody-append}
+use Rattle.hart_frame.proofs.RefusalLemmas.{tells, IsDelimiter-of}
 
 -- faultless characters have the bytes that they were made of
 pub bytes_of-faultless : (bytes : List ℕ) → bytes_of (faultless bytes) ≡ bytes

@@ -10,7 +10,7 @@ use Rattle.hart_frame.specs.Delimiter.{delimiter_of, kind_code}
 use Rattle.hart_frame.specs.Layout.{Describes, delimiter_in, body_length}
 use Rattle.hart_frame.specs.Refusal.{HasCheckByte, IsDelimiter}
 use Rattle.hart_frame.specs.Body.{IsCheckedPart}
-use Rattle.hart_frame.proofs.ToldApart.{length-address}
+use Rattle.hart_frame.proofs.BodiesApart.{length-address}
 
 -- a range and the next range are one range
 slice_range-join : (xs : List ℕ) (a b c : ℕ) → a ≤ b → b ≤ c → slice_range xs a b ++ slice_range xs b c ≡ slice_range xs a c
@@ -45,7 +45,7 @@ cut xs i j k low middle high within =
     ∙ ap (λ (ys : List ℕ). slice_range xs 0 j ++ ys) back ∙ slice_range-join xs 0 j k (omega arith) (omega arith) ∙ all)
 
 -- what stands in the bytes where the layout says
-pub record StandsIn (bytes : List ℕ) (layout : Layout) (frame : FrameParts) : Type 0 where
+pub record StandsByLayout (bytes : List ℕ) (layout : Layout) (frame : FrameParts) : Type 0 where
   pub kind : frame.kind ≡ layout.kind
   pub address : IsAddressBytes frame.master frame.burst frame.address (slice_range bytes 1 layout.address_end)
   pub expansion : frame.expansion ≡ slice_range bytes layout.address_end layout.command_place
@@ -54,7 +54,7 @@ pub record StandsIn (bytes : List ℕ) (layout : Layout) (frame : FrameParts) : 
   pub payload_fits : IsLongEnough frame.kind frame.payload
 
 -- how long a range is
-length-slice_range : (xs : List ℕ) (a b : ℕ) → a ≤ b → b ≤ length xs → length (slice_range xs a b) ≡ b - a
+pub length-slice_range : (xs : List ℕ) (a b : ℕ) → a ≤ b → b ≤ length xs → length (slice_range xs a b) ≡ b - a
 length-slice_range xs a b ab within = length-take-le (b - a) (drop a xs) (omega (arith, length-drop a xs))
 
 -- a delimiter that is decoded is made of its parts
@@ -72,7 +72,7 @@ joined address {d} {e} {c} {f} {l} {m} {xs} {ys} {ps} {qs} delimiters expansions
 
 -- what stands in the bytes by their layout is what the check byte covers
 pub IsCheckedPart-in : (bytes : List ℕ) (layout : Layout) (frame : FrameParts) → Describes layout bytes → HasCheckByte bytes
-    → StandsIn bytes layout frame → IsCheckedPart frame (take (body_length bytes - 1) bytes)
+    → StandsByLayout bytes layout frame → IsCheckedPart frame (take (body_length bytes - 1) bytes)
 IsCheckedPart-in bytes layout frame describes whole stands =
     let i = layout.address_end in
     let j = layout.command_place in

@@ -1,8 +1,10 @@
 pub mod ParityLemmas
 pub mod BodyLemmas
-pub mod ToldApart
+pub mod BodiesApart
 pub mod LayoutLemmas
-pub mod Only
+pub mod RefusalLemmas
 pub mod HeardLemmas
 pub mod PlaceLemmas
 pub mod FramesApart
+pub mod BodiesFound
+pub mod FramesFound

@@ -39,22 +39,25 @@ StandsIn-heard chars (x ∷ y ∷ rest) place first second f len within is long 
       stop = omega (arith, front_len, heard.whole);
     }
 
--- and what stands there is heard there
+-- what stands at a place begins there
+pub StandsIn-at : (chars : List Character) (place from : ℕ) (found : Found) (stands : StandsIn found chars from)
+    → found.start ≡ place + 2 → drop place chars ≡ faultless (255 ∷ 255 ∷ stands.body) ++ stands.rest
+StandsIn-at chars place from found stands start =
+    let whole : chars ≡ stands.front ++ (faultless (255 ∷ 255 ∷ stands.body) ++ stands.rest) =
+    stands.split ∙ append_assoc stands.front (faultless (255 ∷ 255 ∷ stands.body)) stands.rest in
+    ap (drop place) whole ∙ drop_at stands.front (faultless (255 ∷ 255 ∷ stands.body) ++ stands.rest) place (omega (arith, start, stands.start))
+
+-- and is heard there
 pub StandsIn-hears : (chars tail : List Character) (place from : ℕ) (found : Found) (stands : StandsIn found chars from)
     → found.start ≡ place + 2 → tail ≡ drop place chars
     → BeginsWithHeard (take (length tail - 2) (drop 2 tail)) found.frame (length stands.body)
-StandsIn-hears chars tail place from found stands start is =
-    let whole : chars ≡ stands.front ++ (faultless (255 ∷ 255 ∷ stands.body) ++ stands.rest) =
-    stands.split ∙ append_assoc stands.front (faultless (255 ∷ 255 ∷ stands.body)) stands.rest in
-    let here : drop place chars ≡ faultless (255 ∷ 255 ∷ stands.body) ++ stands.rest =
-    ap (drop place) whole ∙ drop_at stands.front (faultless (255 ∷ 255 ∷ stands.body) ++ stands.rest) place (omega (arith, start, stands.start)) in
-    record {
-      body = stands.body;
-      rest = stands.rest;
-      split = take_rest tail 2 ∙ ap (drop 2) (is ∙ here);
-      is_body = stands.is_body;
-      whole = refl;
-    }
+StandsIn-hears chars tail place from found stands start is = record {
+  body = stands.body;
+  rest = stands.rest;
+  split = take_rest tail 2 ∙ ap (drop 2) (is ∙ StandsIn-at chars place from found stands start);
+  is_body = stands.is_body;
+  whole = refl;
+}
 
 -- what stands behind a place stands in the list from that place on
 pub StandsIn-from : (found : Found) (chars : List Character) (place from : ℕ) → StandsIn found chars place → from + 2 ≤ found.start

@@ -4,7 +4,7 @@ use Rattle.hart_frame.specs.FrameParts.{FrameParts}
 use Rattle.hart_frame.specs.Body.{IsBody}
 use Rattle.hart_frame.specs.Character.{Character, faultless}
 
--- The bytes of characters, whatever faults these have.
+-- Characters have these bytes, whatever their faults.
 abbrev pub bytes_of : List Character → List ℕ
 bytes_of chars = map (λ character. character.byte) chars
 

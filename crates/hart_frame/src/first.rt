@@ -13,8 +13,9 @@ use crate::{Char, Found};
 /// then the first from the `stop` of that on, and so forth.
 pub fn first_frame(chars: &[Char], from: usize) -> Option<Found>
     ensures first { MatchOption result (HasNoFrame chars.now from) (λ found. IsFirst found chars.now from) }
-    ensures places { IfSome result (λ found.
-        (from + 2 ≤ found.start) × (found.start < found.stop) × (found.stop ≤ length chars.now)) }
+    ensures start { IfSome result (λ found. from + 2 ≤ found.start) }
+    ensures order { IfSome result (λ found. found.start < found.stop) }
+    ensures within { IfSome result (λ found. found.stop ≤ length chars.now) }
 {
     let mut place = from;
     while place < chars.len() {

@@ -33,3 +33,8 @@ pub fn frames_are_told_apart()
     // It does nothing when it runs: the law of bodies is what this one rests on.
     bodies_are_told_apart();
 }
+
+/// Every list of characters has its frames, from each place on.
+pub fn every_list_has_frames()
+    ensures { (chars : List Character) (from : ℕ) → (frames : List Found) × AreFrames chars from frames }
+{}

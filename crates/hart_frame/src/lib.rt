@@ -33,7 +33,7 @@ pub use first::first_frame;
 pub use found::Found;
 pub use frame::{Expansion, Frame, Payload};
 pub use kind::FrameKind;
-pub use laws::{bodies_are_told_apart, frames_are_told_apart};
+pub use laws::{bodies_are_told_apart, every_list_has_frames, frames_are_told_apart};
 pub use message::{Message, encode};
 pub use parity::check_byte;
 

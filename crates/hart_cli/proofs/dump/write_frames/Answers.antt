@@ -6,7 +6,7 @@ pub loop-found-init : goal.loop-found-init
 loop-found-init g c = LinesSoFar-none _ _
 
 pub loop-found-smaller : goal.loop-found-smaller
-loop-found-smaller g c = omega (arith, c.in-Some.ensures.places)
+loop-found-smaller g c = omega (arith, c.in-Some.ensures.start, c.in-Some.ensures.order, c.in-Some.ensures.within)
 
 pub loop-found-preserved : goal.loop-found-preserved
 loop-found-preserved g c =
@@ -15,11 +15,11 @@ loop-found-preserved g c =
 
 pub returns-in_err-line-clause-first : goal.returns-in_err-line-clause-first
 returns-in_err-line-clause-first g c =
-    rw (memory_told _ c.from_residual.ensures.1) (FirstLines-unbuilt _ _ _ _ c.in-Some.found c.loop-found.invariant c.in-Some.ensures.first)
+    rw (memory_told _ c.from_residual.ensures.1) (FirstLines-unbuilt c.every_list_has_frames.ensures _ _ _ _ c.in-Some.found c.loop-found.invariant c.in-Some.ensures.first)
 
 pub returns-in_default-write_all-clause-first : goal.returns-in_default-write_all-clause-first
 returns-in_default-write_all-clause-first g c =
-    FirstLines-unwritten _ _ _ _ _ c.in-Some.found _ c.loop-found.invariant c.in-Some.ensures.first
+    FirstLines-unwritten c.every_list_has_frames.ensures _ _ _ _ _ c.in-Some.found _ c.loop-found.invariant c.in-Some.ensures.first
     (c.as_bytes.ensures.value ∙ c.in_ok-line.ensures) (c.in_default-write_all.ensures.err, c.in_default-write_all.ensures.count)
 
 pub returns-clause-all : goal.returns-clause-all

@@ -1,4 +1,4 @@
-use Rattle.hart_frame.proofs.Only.{only}
+use Rattle.hart_frame.proofs.RefusalLemmas.{only}
 use Rattle.hart_frame.proofs.body.decode.Goals as goal
 
 pub returns-clause-only : goal.returns-clause-only

@@ -2,7 +2,7 @@ use Rattle.std.proofs.Common.{◌≡◌, ◌+◌, ℕ, ap, ◌∙◌, subst, sym
 use Rattle.std.specs.List.{slice_range}
 use Rattle.hart_values.specs.AddressBytes.{IsAddressBytes}
 use Rattle.hart_frame.specs.FrameParts.{FrameParts, IsLongEnough}
-use Rattle.hart_frame.proofs.LayoutLemmas.{IsCheckedPart-in, StandsIn}
+use Rattle.hart_frame.proofs.LayoutLemmas.{IsCheckedPart-in, StandsByLayout}
 use Rattle.hart_frame.proofs.body.frame_in.Goals as goal
 
 pub returns : goal.returns
@@ -17,7 +17,7 @@ returns c =
     let count : c.from.result ≡ layout.byte_count = search rules in
     let HasAddress : FrameParts → Type 0 = λ f. IsAddressBytes f.master f.burst f.address (slice_range bytes 1 layout.address_end) in
     let HasPayload : FrameParts → Type 0 = λ f. IsLongEnough f.kind f.payload in
-    let stands : StandsIn bytes layout c.unwrap.result = record {
+    let stands : StandsByLayout bytes layout c.unwrap.result = record {
       kind = ap (λ (f : FrameParts). f.kind) made;
       address = subst HasAddress (sym made) read;
       expansion = ap (λ (f : FrameParts). f.expansion) made ∙ expansion;

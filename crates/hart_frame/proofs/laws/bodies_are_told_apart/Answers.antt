@@ -1,6 +1,6 @@
 use Rattle.std.proofs.Common.{[], ◌++◌, refl, sym}
 use Rattle.std.proofs.lemmas.List.{append-nil}
-use Rattle.hart_frame.proofs.ToldApart.{bodies_apart, IsBody-one, BeginsWithBody-one, BeginsWithBody-append}
+use Rattle.hart_frame.proofs.BodiesApart.{bodies_apart, IsBody-one, BeginsWithBody-one, BeginsWithBody-append}
 use Rattle.hart_frame.proofs.laws.bodies_are_told_apart.Goals as goal
 
 pub returns : goal.returns

@@ -12,7 +12,7 @@ use Rattle.hart_frame.specs.Parity.{HasEvenParity}
 use Rattle.hart_frame.specs.Layout.{delimiter_in, byte_count_place, byte_count_in, body_length}
 use Rattle.hart_frame.specs.Refusal.{IsRefusedWith, IsDelimiter}
 use Rattle.hart_frame.specs.Body.{IsCheckedPart, BeginsWithBody}
-use Rattle.hart_frame.proofs.ToldApart.{length-address, address_type-lt, kind_code-is, spread}
+use Rattle.hart_frame.proofs.BodiesApart.{length-address, address_type-lt, kind_code-is, spread}
 
 -- what a list that begins with a frame's body tells of it
 pub record Tells (bytes : List ℕ) (f : FrameParts) (len : ℕ) : Type 0 where
@@ -78,7 +78,7 @@ not_short Stx payload long short ack = omega arith
 not_short Ack payload long short ack = omega arith
 
 -- a list that begins with a body is refused with no fault
-not_refused : (bytes : List ℕ) (f : FrameParts) (len : ℕ) (fault : FrameFault)
+pub not_refused : (bytes : List ℕ) (f : FrameParts) (len : ℕ) (fault : FrameFault)
     → BeginsWithBody bytes f len → IsRefusedWith bytes fault → ⊥
 not_refused bytes f len TooShortReply begins refused = refused
 not_refused bytes f len BadPreamble begins refused = refused

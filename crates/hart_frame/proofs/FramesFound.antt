@@ -1,0 +1,223 @@
+-- Every list of characters has its frames.
+use Rattle.std.proofs.Common.{◌≡◌, ◌≢◌, ℕ, zero, suc, ◌+◌, ◌<◌, ◌≤◌, ◌⊎◌, inl, inr, List, [], ◌∷◌, ◌++◌, length, take, drop, refl, sym, ap, ◌∙◌, arith, subst}
+use Rattle.std.proofs.lemmas.List.{take-append-drop, take-map, take_rest, length-take-le}
+use Rattle.hart_frame.specs.FrameParts.{FrameParts}
+use Rattle.hart_frame.specs.Body.{IsBody, BeginsWithBody}
+use Rattle.hart_frame.specs.Character.{Character, faultless}
+use Rattle.hart_frame.specs.Heard.{bytes_of, BeginsWithHeard}
+use Rattle.hart_frame.specs.Place.{StandsIn}
+use Rattle.hart_frame.specs.Frames.{AreFrames, HasNoFrame, IsFirst}
+use Rattle.hart_frame.specs.declared.found.Found.{Found}
+use Rattle.hart_frame.proofs.BodiesFound.{body_decided}
+use Rattle.hart_frame.proofs.HeardLemmas.{BeginsWithBody-heard, bytes_of-faultless, take-heard}
+use Rattle.hart_frame.proofs.RefusalLemmas.{tells}
+use Rattle.hart_frame.proofs.PlaceLemmas.{preamble, StandsIn-at, StandsIn-heard, StandsIn-hears, StandsIn-from, StandsIn-within, start-later}
+
+-- the first of faultless characters has no fault, and the others are faultless
+pub record FaultlessFirst (first : Character) (others : List Character) : Type 0 where
+  pub faults : first.faults ≡ 0
+  pub rest : List ℕ
+  pub others_are : others ≡ faultless rest
+
+faultless_first : (first : Character) (others : List Character) (bytes : List ℕ) → first ∷ others ≡ faultless bytes → FaultlessFirst first others
+faultless_first first others [] same = absurd cc
+faultless_first first others (byte ∷ bytes) same =
+    let here : first ≡ record { byte = byte; faults = 0 } = cc in
+    record {
+      faults = ap (λ (character : Character). character.faults) here;
+      rest = bytes;
+      others_are = cc;
+    }
+
+-- a faultless character is made of its byte
+faultless_made : (first : Character) (others : List Character) (rest : List ℕ) → first.faults ≡ 0 → others ≡ faultless rest
+    → first ∷ others ≡ faultless (first.byte ∷ rest)
+faultless_made first others rest faults same =
+    let of : ℕ → ℕ → List Character → List Character = λ b f cs. (record { byte = b; faults = f }) ∷ cs in
+    let all : of first.byte first.faults others ≡ of first.byte 0 (faultless rest) = cc in
+    all
+
+pub record Faultless (chars : List Character) : Type 0 where
+  pub bytes : List ℕ
+  pub are : chars ≡ faultless bytes
+
+-- whether characters are faultless
+faultless_decided : (chars : List Character) → Faultless chars ⊎ (Faultless chars → ⊥)
+faultless_decided [] = inl (record { bytes = []; are = refl })
+faultless_decided (first ∷ others) =
+    let cases : (first.faults ≡ 0) ⊎ (0 < first.faults) = grind arith in
+    elim cases [
+      | inr faulty ↦ inr (λ all. let split = faultless_first first others all.bytes all.are in omega (arith, split.faults, faulty))
+      | inl clear ↦ elim (faultless_decided others) [
+        | inl rest ↦ inl (record { bytes = first.byte ∷ rest.bytes; are = faultless_made first others rest.bytes clear rest.are })
+        | inr damaged ↦ inr (λ all.
+            let split = faultless_first first others all.bytes all.are in
+            damaged (record { bytes = split.rest; are = split.others_are }))
+      ]
+    ]
+
+-- characters begin with some body that is heard
+pub record HeardAhead (chars : List Character) : Type 0 where
+  pub frame : FrameParts
+  pub len : ℕ
+  pub begins : BeginsWithHeard chars frame len
+
+abbrev pub NothingHeard : List Character → Type 0
+NothingHeard chars = (f : FrameParts) (len : ℕ) → BeginsWithHeard chars f len → ⊥
+
+heard_whole : (chars : List Character) (f : FrameParts) (len : ℕ) → BeginsWithBody (bytes_of chars) f len → Faultless (take len chars)
+    → BeginsWithHeard chars f len
+heard_whole chars f len begins all =
+    let bytes : all.bytes ≡ take len (bytes_of chars) =
+    sym (bytes_of-faultless all.bytes) ∙ ap bytes_of (sym all.are) ∙ sym (take-map (λ (character : Character). character.byte) len chars) in
+    let Is : List ℕ → Type 0 = λ xs. IsBody f xs in
+    record {
+      body = all.bytes;
+      rest = drop len chars;
+      split = sym (take-append-drop len chars) ∙ ap (λ (xs : List Character). xs ++ drop len chars) all.are;
+      is_body = subst Is (sym bytes) begins.body;
+      whole = sym (ap length bytes ∙ length-take-le len (bytes_of chars) begins.within);
+    }
+
+damaged_body : (chars : List Character) (f : FrameParts) (len : ℕ) → BeginsWithBody (bytes_of chars) f len → (Faultless (take len chars) → ⊥)
+    → NothingHeard chars
+damaged_body chars f len begins damaged g other heard =
+    let also = BeginsWithBody-heard chars g other heard in
+    let same : len ≡ other = omega (arith, (tells (bytes_of chars) f len begins).whole, (tells (bytes_of chars) g other also).whole) in
+    damaged (record { bytes = heard.body; are = ap (λ (n : ℕ). take n chars) same ∙ take-heard chars g other heard })
+
+heard_decided : (chars : List Character) → HeardAhead chars ⊎ NothingHeard chars
+heard_decided chars = elim (body_decided (bytes_of chars)) [
+  | inr none ↦ inr (λ f len heard. none f len (BeginsWithBody-heard chars f len heard))
+  | inl ahead ↦ elim (faultless_decided (take ahead.len chars)) [
+    | inl all ↦ inl (record { frame = ahead.frame; len = ahead.len; begins = heard_whole chars ahead.frame ahead.len ahead.begins all })
+    | inr damaged ↦ inr (damaged_body chars ahead.frame ahead.len ahead.begins damaged)
+  ]
+]
+
+-- a frame stands right at a place
+pub record Here (chars : List Character) (place : ℕ) : Type 0 where
+  pub found : Found
+  pub stands : StandsIn found chars place
+  pub start : found.start ≡ place + 2
+
+abbrev pub NothingHere : List Character → ℕ → Type 0
+NothingHere chars place = (found : Found) → StandsIn found chars place → found.start ≡ place + 2 → ⊥
+
+-- two equal fronts of two have equal parts
+pub record SamePair (x y : Character) (rest : List Character) (a b : Character) (more : List Character) : Type 0 where
+  pub first : x ≡ a
+  pub second : y ≡ b
+
+same_pair : (x y : Character) (rest : List Character) (a b : Character) (more : List Character) → x ∷ y ∷ rest ≡ a ∷ b ∷ more
+    → SamePair x y rest a b more
+same_pair x y rest a b more same = record { first = cc; second = cc }
+
+-- whether a character is a faultless preamble byte
+preamble_decided : (x : Character) → (x ≡ preamble) ⊎ (x ≡ preamble → ⊥)
+preamble_decided x =
+    let bytes : (x.byte ≡ 255) ⊎ (x.byte ≢ 255) = grind arith in
+    let faults : (x.faults ≡ 0) ⊎ (x.faults ≢ 0) = grind arith in
+    elim bytes [
+      | inr other ↦ inr (λ is. other (ap (λ (c : Character). c.byte) is))
+      | inl preamble_byte ↦ elim faults [
+        | inr faulty ↦ inr (λ is. faulty (ap (λ (c : Character). c.faults) is))
+        | inl clear ↦ inl (
+            let of : ℕ → ℕ → Character = λ b f. record { byte = b; faults = f } in
+            let all : of x.byte x.faults ≡ of 255 0 = cc in
+            all)
+      ]
+    ]
+
+-- what is heard behind two preamble bytes stands there
+here_heard : (chars : List Character) (x y : Character) (rest : List Character) (place : ℕ) → place ≤ length chars
+    → x ∷ y ∷ rest ≡ drop place chars → x ≡ preamble → y ≡ preamble → HeardAhead rest → Here chars place
+here_heard chars x y rest place within is first second ahead =
+    let Heard : List Character → Type 0 = λ cs. BeginsWithHeard cs ahead.frame ahead.len in
+    let behind = take_rest (x ∷ y ∷ rest) 2 in
+    record {
+      found = record { start = place + 2; stop = place + 2 + ahead.len; frame = ahead.frame };
+      stands = StandsIn-heard chars (x ∷ y ∷ rest) place x y ahead.frame ahead.len within is (omega arith) refl refl first second
+          (subst Heard (sym behind) ahead.begins);
+      start = refl;
+    }
+
+nothing_here : (chars : List Character) (x y : Character) (rest : List Character) (place : ℕ) → x ∷ y ∷ rest ≡ drop place chars
+    → NothingHeard rest → NothingHere chars place
+nothing_here chars x y rest place is none found stands start =
+    let Heard : List Character → Type 0 = λ cs. BeginsWithHeard cs found.frame (length stands.body) in
+    none found.frame (length stands.body)
+    (subst Heard (take_rest (x ∷ y ∷ rest) 2) (StandsIn-hears chars (x ∷ y ∷ rest) place place found stands start is))
+
+-- whether a frame stands right at a place
+here_decided : (chars tail : List Character) (place : ℕ) → place ≤ length chars → tail ≡ drop place chars
+    → Here chars place ⊎ NothingHere chars place
+here_decided chars [] place within is =
+    inr (λ found stands start. let at = is ∙ StandsIn-at chars place place found stands start in absurd cc)
+here_decided chars (x ∷ []) place within is =
+    inr (λ found stands start. let at = is ∙ StandsIn-at chars place place found stands start in absurd cc)
+here_decided chars (x ∷ y ∷ rest) place within is = elim (preamble_decided x) [
+  | inr other ↦ inr (λ found stands start.
+      other (same_pair x y rest preamble preamble _ (is ∙ StandsIn-at chars place place found stands start)).first)
+  | inl first ↦ elim (preamble_decided y) [
+    | inr other ↦ inr (λ found stands start.
+        other (same_pair x y rest preamble preamble _ (is ∙ StandsIn-at chars place place found stands start)).second)
+    | inl second ↦ elim (heard_decided rest) [
+      | inl ahead ↦ inl (here_heard chars x y rest place within is first second ahead)
+      | inr none ↦ inr (nothing_here chars x y rest place is none)
+    ]
+  ]
+]
+
+-- a list has a first frame from a place on
+pub record HasFirst (chars : List Character) (from : ℕ) : Type 0 where
+  pub found : Found
+  pub is_first : IsFirst found chars from
+
+-- no frame stands before a place
+abbrev pub NoneBefore : List Character → ℕ → ℕ → Type 0
+NoneBefore chars from place = (found : Found) → StandsIn found chars from → place + 2 ≤ found.start
+
+past_end : (chars : List Character) (from place : ℕ) → length chars ≤ place → NoneBefore chars from place → HasNoFrame chars from
+past_end chars from place end none found stands =
+    let within = StandsIn-within found chars from stands in
+    omega (arith, end, none found stands, within.some, within.within)
+
+search : (chars : List Character) (from fuel place : ℕ) → from ≤ place → length chars ≤ place + fuel → NoneBefore chars from place
+    → HasFirst chars from ⊎ HasNoFrame chars from
+search chars from zero place behind enough none = inr (past_end chars from place (omega (arith, enough)) none)
+search chars from (suc fuel) place behind enough none =
+    let cases : (place ≤ length chars) ⊎ (length chars < place) = grind arith in
+    elim cases [
+      | inr past ↦ inr (past_end chars from place (omega (arith, past)) none)
+      | inl within ↦ elim (here_decided chars (drop place chars) place within refl) [
+        | inl here ↦ inl (record {
+          found = here.found;
+          is_first = record {
+            stands = StandsIn-from here.found chars place from here.stands (omega (arith, behind, here.start));
+            least = λ other stands. omega (arith, here.start, none other stands);
+          };
+        })
+        | inr nothing ↦ search chars from fuel (place + 1) (omega (arith, behind)) (omega (arith, enough))
+            (λ found stands. start-later found chars from place stands (none found stands) (nothing found))
+      ]
+    ]
+
+-- whether a frame stands in a list from a place on
+first_decided : (chars : List Character) (from : ℕ) → HasFirst chars from ⊎ HasNoFrame chars from
+first_decided chars from =
+    search chars from (length chars) from (omega arith) (omega arith) (λ found stands. (StandsIn-within found chars from stands).behind)
+
+frames_found : (chars : List Character) (fuel from : ℕ) → length chars ≤ from + fuel → (frames : List Found) × AreFrames chars from frames
+frames_found chars zero from enough =
+    ([], AreFrames.none from (past_end chars from from (omega (arith, enough)) (λ found stands. (StandsIn-within found chars from stands).behind)))
+frames_found chars (suc fuel) from enough = elim (first_decided chars from) [
+  | inr none ↦ ([], AreFrames.none from none)
+  | inl has ↦
+      let within = StandsIn-within has.found chars from has.is_first.stands in
+      let later = frames_found chars fuel has.found.stop (omega (arith, enough, within.behind, within.some)) in
+      (has.found ∷ later.0, AreFrames.first from has.found later.0 has.is_first later.1)
+]
+
+pub AreFrames-found : (chars : List Character) (from : ℕ) → (frames : List Found) × AreFrames chars from frames
+AreFrames-found chars from = frames_found chars (length chars) from (omega arith)
