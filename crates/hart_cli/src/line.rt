@@ -8,6 +8,9 @@ use hart_values::{Address, MasterId, UniqueAddress};
 use itoa::Buffer;
 use std::alloc::{AllocError, Global};
 
+/// The room that a line has from the start, enough for a short message, so that such a line need not grow.
+const LINE_ROOM: usize = 64;
+
 /// The line of a frame: its two places, then its parts, one space between two of them, and a line feed.
 ///
 /// # Errors
@@ -17,7 +20,7 @@ pub fn frame_line(alloc: Global, found: &Found) -> Result<String, AllocError>
     ensures { IfOk result (λ line. string_bytes line ≡ dump_line found.now) }
 {
     let frame = &found.frame;
-    let mut line = String::new(alloc);
+    let mut line = String::with_capacity(alloc, LINE_ROOM)?;
     push_word(&mut line, Buffer::new().format(found.start))?;
     push_word(&mut line, Buffer::new().format(found.stop))?;
     push_word(&mut line, kind_word(frame.kind()))?;

@@ -8,7 +8,7 @@ pub returns : goal.returns
 unfolding encode
 returns c =
     let all = nine_words _ _ _ _ _ _ _ _ _ _ _ _ _ _ _ _ _ _ _ _ _
-    (c.new-line.ensures.bytes) (c.in_ok-push_word.ensures) (c.in_ok-push_word-2.ensures) (c.in_ok-push_word-3.ensures) (c.in_ok-push_word-4.ensures)
+    (c.in_ok-line.ensures.bytes) (c.in_ok-push_word.ensures) (c.in_ok-push_word-2.ensures) (c.in_ok-push_word-3.ensures) (c.in_ok-push_word-4.ensures)
     (c.in_ok-push_word-5.ensures) (c.in_ok-push_address.ensures) (c.in_ok-push_bytes.ensures) (c.in_ok-push.ensures.bytes)
     (c.in_ok-push_word-6.ensures) (c.in_ok-push_bytes-2.ensures) (c.in_ok-push-2.ensures.bytes) in
     let kind = c.kind_word.ensures ∙ ap kind_word c.kind.ensures in
