@@ -7,9 +7,6 @@ ghost use Rattle.hart_cli.specs.HexText.{hex_line};
 ghost use Rattle.hart_cli.specs.MessageLine.{IsMessageLine};
 ghost use Rattle.hart_cli.specs.Stream.{CountsFailure, WritesFront};
 
-#[cfg(test)]
-mod tests;
-
 use crate::stream::{Failed, Sink};
 use hart_frame::{Frame, Message, encode};
 use std::alloc::{AllocError, Global};

@@ -87,6 +87,3 @@ pub fn read_data(word: &str) -> Option<Payload>
     }
     Payload::from_slice(bytes)
 }
-
-#[cfg(test)]
-mod tests;

@@ -1,6 +1,6 @@
 use super::*;
 use crate::plain::Plain;
-use crate::stream::fakes::{Drip, Tape, Trickle};
+use crate::stream::fakes::{Tape, Trickle};
 use std::test::Fail;
 
 const TWO_FRAMES: &str = "FF FF 02 80 00 00 82 FF FF 02 00 00 00 02 ";
@@ -18,53 +18,6 @@ fn dumped(alloc: Global, input: &str, room: u64) -> (Result<(), CliFault>, Trick
 }
 
 #[test]
-fn frames_are_found_in_noise(rt: HostRuntime) {
-    let rows = [
-        ("", ""),
-        (TWO_FRAMES, BOTH_LINES),
-        (
-            "FF FF 02 80 7D 00 FF FF 02 00 00 00 02",
-            "2 7 STX P 0 @0 - 125 -\n",
-        ),
-        ("FF FF!40 02 80 00 00 82", ""),
-        (
-            "FF FF 82 B7 42 0A 1B 2C 13 FF FF FF FF FF FF 02 80 00 00 82",
-            "15 20 STX P 0 @0 - 0 -\n",
-        ),
-        (
-            "FF FF 82 B7 42 0A 1B 2C 13 03 01 23 45 3D",
-            "2 14 STX P 0 37420A1B2C - 19 012345\n",
-        ),
-        (
-            "FF FF 86 77 42 0A 1B 2C 13 05 00 40 01 23 45 BF",
-            "2 16 ACK S 1 37420A1B2C - 19 0040012345\n",
-        ),
-        (
-            "FF FF E2 80 00 00 00 00 AA BB CC 0B 01 FF 4A",
-            "2 15 STX P 0 all AABBCC 11 FF\n",
-        ),
-        ("FF FF 22 BF 55 00 00 C8", "2 8 STX P 0 @63 55 0 -\n"),
-    ];
-    for (input, want) in rows {
-        let (result, writer) = dumped(rt.alloc(), input, u64::MAX);
-        assert_eq!(rt; result, Ok(()), "on {input}");
-        assert_eq!(rt; writer.taken(), want.as_bytes(), "on {input}");
-    }
-}
-
-#[test]
-fn a_long_silence_behind_a_frame_is_no_frame(rt: HostRuntime) -> Result<(), Fail> {
-    let alloc = rt.alloc();
-    let zeros = " 00".repeat(alloc, 246)?;
-    let start = "FF FF 82 B7 42 0A 1B 2C 13 FF FF FF FF FF FF 02 80 00 00 82";
-    let input = format!(in alloc; "{start}{zeros}")?;
-    let (result, writer) = dumped(alloc, input.as_str(), u64::MAX);
-    assert_eq!(rt; result, Ok(()));
-    assert_eq!(rt; writer.taken(), b"15 20 STX P 0 @0 - 0 -\n".as_slice());
-    Ok(())
-}
-
-#[test]
 fn the_longest_body_is_dumped(rt: HostRuntime) -> Result<(), Fail> {
     let alloc = rt.alloc();
     let preamble = "FF".repeat(alloc, 20)?;
@@ -75,22 +28,6 @@ fn the_longest_body_is_dumped(rt: HostRuntime) -> Result<(), Fail> {
     let line = format!(in alloc; "20 287 STX P 0 all 000000 0 {payload}\n")?;
     assert_eq!(rt; writer.taken(), line.as_bytes());
     Ok(())
-}
-
-#[test]
-fn bad_hex_comes_behind_the_frames_before_it(rt: HostRuntime) {
-    let rows = [
-        ("FF FF 0G", "", 6),
-        ("FF FF 02 80 00 00 82 8", FIRST_LINE, 21),
-        ("FF FF 02 80 00 00 82!08", "", 18),
-        ("FFFF0280000082 G FFFF0200000002", FIRST_LINE, 15),
-        ("02!08", "", 0),
-    ];
-    for (input, want, place) in rows {
-        let (result, writer) = dumped(rt.alloc(), input, u64::MAX);
-        assert_eq!(rt; result, Err(CliFault::BadHex { place }), "on {input}");
-        assert_eq!(rt; writer.taken(), want.as_bytes(), "on {input}");
-    }
 }
 
 #[test]
@@ -130,16 +67,6 @@ fn a_failed_write_leaves_a_front_of_the_lines(rt: HostRuntime) {
         assert_eq!(rt; writer.taken(), &lines[..room]);
         assert_eq!(rt; writer.failures(), 1);
     }
-}
-
-#[test]
-fn an_input_without_end_is_too_long(rt: HostRuntime) {
-    let mut reader = Drip::new(None);
-    let mut writer = Trickle::new(rt.alloc(), u64::MAX);
-    let result = dump(rt.alloc(), &mut reader, &mut writer);
-    assert_eq!(rt; result, Err(CliFault::TooLong));
-    assert_eq!(rt; reader.given(), 1_048_577);
-    assert!(rt; writer.taken().is_empty());
 }
 
 #[test]

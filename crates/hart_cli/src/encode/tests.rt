@@ -33,6 +33,8 @@ fn requests_are_written(rt: HostRuntime) {
     let rows = [
         (["P", "@0", "0", ""], "FF FF FF FF FF 02 80 00 00 82\n"),
         (["S", "@07", "000", ""], "FF FF FF FF FF 02 07 00 00 05\n"),
+        (["P", "@7", "0", ""], "FF FF FF FF FF 02 87 00 00 85\n"),
+        (["S", "@63", "255", ""], "FF FF FF FF FF 02 3F FF 00 C2\n"),
         (
             ["P", "37420A1B2C", "19", "012345"],
             "FF FF FF FF FF 82 B7 42 0A 1B 2C 13 03 01 23 45 3D\n",
@@ -50,6 +52,10 @@ fn requests_are_written(rt: HostRuntime) {
             "FF FF FF FF FF 82 B7 42 0A 1B 2C 26 02 00 01 6F\n",
         ),
         (
+            ["S", "3FFFFFFFFF", "1", ""],
+            "FF FF FF FF FF 82 3F FF FF FF FF 01 00 BC\n",
+        ),
+        (
             ["P", "all", "11", "415350B71C31"],
             "FF FF FF FF FF 82 80 00 00 00 00 0B 06 41 53 50 B7 1C 31 D7\n",
         ),
@@ -59,19 +65,6 @@ fn requests_are_written(rt: HostRuntime) {
         assert_eq!(rt; result, Ok(()), "at {line}");
         assert_eq!(rt; writer.taken(), line.as_bytes(), "at {line}");
     }
-}
-
-#[test]
-fn preamble_bytes_are_as_many_as_asked_for(rt: HostRuntime) {
-    let words = ["P", "37420A1B2C", "19", "012345"];
-    let line = "FF FF FF FF FF FF FF FF FF FF FF FF FF FF FF FF FF FF FF FF \
-        82 B7 42 0A 1B 2C 13 03 01 23 45 3D\n";
-    let (result, writer) = encoded(rt.alloc(), words, 20, 1000);
-    assert_eq!(rt; result, Ok(()));
-    assert_eq!(rt; writer.taken(), line.as_bytes());
-    let (result, writer) = encoded(rt.alloc(), words, 6, 1000);
-    assert_eq!(rt; result, Ok(()));
-    assert_eq!(rt; writer.taken(), &line.as_bytes()[42..]);
 }
 
 #[test]
@@ -92,14 +85,44 @@ fn the_longest_data_are_written(rt: HostRuntime) -> Result<(), Fail> {
 fn the_first_bad_word_is_told(rt: HostRuntime) {
     let rows = [
         (["p", "@0", "0", ""], 1),
-        (["", "@64", "256", "0"], 1),
+        (["", "@0", "0", ""], 1),
+        (["PS", "@0", "0", ""], 1),
+        (["D", "@0", "0", ""], 1),
         (["P", "@64", "0", ""], 2),
-        (["P", "", "256", "0"], 2),
+        (["P", "@", "0", ""], 2),
+        (["P", "@007", "0", ""], 2),
+        (["P", "@+7", "0", ""], 2),
+        (["P", "@-1", "0", ""], 2),
+        (["P", "@7 ", "0", ""], 2),
+        (["P", "@ 7", "0", ""], 2),
+        (["P", "@0x1", "0", ""], 2),
+        (["P", "@\u{663}", "0", ""], 2),
+        (["P", "7", "0", ""], 2),
+        (["P", "", "0", ""], 2),
+        (["P", "37420A1B2", "0", ""], 2),
+        (["P", "37420A1B2C0", "0", ""], 2),
+        (["P", "37420A1B2C00", "0", ""], 2),
+        (["P", "3742 A1B2C", "0", ""], 2),
+        (["P", "37420A1B2G", "0", ""], 2),
+        (["P", "ALL", "0", ""], 2),
+        (["P", "all ", "0", ""], 2),
         (["S", "all", "256", ""], 3),
-        (["S", "all", "", "0"], 3),
+        (["S", "all", "", ""], 3),
+        (["S", "all", "0000", ""], 3),
+        (["S", "all", "-0", ""], 3),
+        (["S", "all", "+1", ""], 3),
+        (["S", "all", "1a", ""], 3),
         (["S", "all", "0", "0"], 4),
+        (["S", "all", "0", "012"], 4),
+        (["S", "all", "0", "0G"], 4),
+        (["S", "all", "0", "01 2"], 4),
+        (["S", "all", "0", " "], 4),
+        (["S", "all", "0", "-"], 4),
+        (["", "@64", "256", "0"], 1),
         (["@0", "P", "0", ""], 1),
+        (["P", "", "256", "0"], 2),
         (["P", "0", "@0", ""], 2),
+        (["S", "all", "", "0"], 3),
     ];
     for (words, number) in rows {
         let (result, writer) = encoded(rt.alloc(), words, 5, 1000);
@@ -107,6 +130,18 @@ fn the_first_bad_word_is_told(rt: HostRuntime) {
         assert!(rt; writer.taken().is_empty());
         assert_eq!(rt; writer.failures(), 0);
     }
+}
+
+#[test]
+fn longer_data_are_a_bad_word(rt: HostRuntime) -> Result<(), Fail> {
+    let alloc = rt.alloc();
+    for payload in ["7F".repeat(alloc, 256)?, "7".repeat(alloc, 511)?] {
+        let words = ["P", "all", "0", payload.as_str()];
+        let (result, writer) = encoded(alloc, words, 5, 1000);
+        assert_eq!(rt; result, Err(CliFault::BadWord { number: 4 }));
+        assert!(rt; writer.taken().is_empty());
+    }
+    Ok(())
 }
 
 #[test]

@@ -5,43 +5,28 @@ ghost use Rattle.std.specs.Prelude.{Some, None};
 use super::{Failed, Sink, Source};
 use std::alloc::Global;
 
-/// Gives one space a read and never ends, but fails once it has given so many bytes.
+/// Gives one space a read, and never ends.
 #[derive(Drop)]
 pub struct Drip {
     given: u64,
-    fails_after: Option<u64>,
-    failures: u64,
 }
 
 impl Drip {
-    /// `None` for a reader that never fails.
-    pub fn new(fails_after: Option<u64>) -> Drip {
-        Drip {
-            given: 0,
-            fails_after,
-            failures: 0,
-        }
+    pub fn new() -> Drip {
+        Drip { given: 0 }
     }
 
     pub fn given(&self) -> u64 {
         self.given
-    }
-
-    pub fn failures(&self) -> u64 {
-        self.failures
     }
 }
 
 impl Source for Drip {
     ghost remaining = { λ _. None };
 
-    ghost failures = { λ drip. drip.failures };
+    ghost failures = { λ _. 0 };
 
     fn read(&mut self, buffer: &mut [u8]) -> Result<usize, Failed> {
-        if self.fails_after == Some(self.given) {
-            self.failures = self.failures.saturating_add(1);
-            return Err(Failed);
-        }
         let Some(first) = buffer.first_mut() else {
             return Ok(0);
         };

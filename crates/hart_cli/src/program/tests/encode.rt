@@ -8,7 +8,7 @@ pub const IDENTIFY: &str = "FF FF FF FF FF 02 80 00 00 82\n";
 #[test]
 fn words_give_a_message(rt: HostRuntime) -> Result<(), Fail> {
     let with_7 = "FF FF FF FF FF FF FF 02 80 00 00 82\n";
-    let rows: [(&[&str], &str); 11] = [
+    let rows: [(&[&str], &str); 10] = [
         (&["encode", "P", "@0", "0"], IDENTIFY),
         (&["encode", "P", "@0", "0", ""], IDENTIFY),
         (&["encode", "P", "@0", "0", "--preambles", "5"], IDENTIFY),
@@ -23,10 +23,6 @@ fn words_give_a_message(rt: HostRuntime) -> Result<(), Fail> {
         (
             &["encode", "S", "@0", "0"],
             "FF FF FF FF FF 02 00 00 00 02\n",
-        ),
-        (
-            &["encode", "P", "37420a1b2c", "19", "012345"],
-            "FF FF FF FF FF 82 B7 42 0A 1B 2C 13 03 01 23 45 3D\n",
         ),
         (
             &["encode", "P", "all", "11", "415350B71C31"],
