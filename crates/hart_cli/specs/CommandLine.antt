@@ -1,4 +1,4 @@
--- What the words behind the program's name ask for, as clap reads them, and what the program does with them, an own profile.
+-- What the words behind the program's name ask for, as clap reads them, and what the program does with them (own profile).
 use Rattle.std.specs.Prelude.{◌≡◌, ◌≤◌, [], ◌∷◌, ℕ, IfErr, List, Some, Result, Ok, Err, true, codes, is_some, pos, unwrap_or}
 use Rattle.std.specs.Str.Parse.{IsNumeral, digits_value, without_leading_plus}
 use Rattle.clap.specs.Words.{App, Row, Rule, Text, fault_of, first_of, new_app, new_rule, one_of, subcommand_of, with_rule, with_subcommand}
@@ -12,7 +12,7 @@ use Rattle.hart_cli.specs.declared.fault.CliFault.{CliFault}
 use Rattle.hart_cli.specs.declared.program.command_line.Call.{Call as CallMade}
 use Rattle.hart_cli.specs.declared.program.command_line.Call.TheVariants as made
 
--- A word that has to be there.
+-- A required word has to be there.
 abbrev pub required_rule : Text → Rule
 required_rule id = record (new_rule id) { required = true }
 
@@ -108,9 +108,9 @@ pub record Ran (words : List Text) (reader reader_after writer writer_after erro
   pub result : Result (Unit {0}) CliFault
   pub outcome : CallOutcome call reader reader_after writer writer_after result
   pub ends : status ≡ status_of result
-  pub tells : IfErr result (λ fault. WritesUnlessFailed errors.bytes errors_after.bytes errors.failures errors_after.failures (fault_line fault))
+  pub tells : IfErr result (λ fault. WritesUnlessFailed errors errors_after (fault_line fault))
 
--- The call that the program's own word for it means.
+-- What the code calls a call is this call.
 abbrev pub call_of : CallMade → Call
 call_of made.Answer = Answer
 call_of made.Dump = Dump

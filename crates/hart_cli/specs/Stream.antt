@@ -1,4 +1,4 @@
--- Readers and writers as contracts see them, an own profile.
+-- Readers and writers as contracts see them (own profile).
 use Rattle.std.specs.Prelude.{◌≡◌, ◌≢◌, ◌⊎◌, ℕ, ◌+◌, ◌-◌, ◌^◌, min, List, [], ◌++◌, Option, Result, MatchResult}
 use Rattle.std.specs.Io.KnownBytes.{Appends, Keeps}
 use Rattle.hart_cli.specs.declared.stream.Failed.{Failed}
@@ -20,12 +20,6 @@ pub record WritesFront (old new : Option (List ℕ)) (text : List ℕ) : Type 0 
   pub short : back ≢ []
   pub written : Appends old new front
 
--- The whole text was written and no write failed, or one failed and a front of the text was written.
-abbrev pub WritesUnlessFailed : Option (List ℕ) → Option (List ℕ) → ℕ → ℕ → List ℕ → Type 0
-WritesUnlessFailed old new failures_old failures_new text =
-    (Appends old new text × (failures_new ≡ failures_old))
-    ⊎ (WritesFront old new text × (failures_new ≡ count_after_failure failures_old))
-
 -- A reader or a writer is, to contracts, the bytes left to read or written so far, where they are told, and how often it
 -- has failed.
 pub record Stream : Type 0 where
@@ -39,6 +33,10 @@ WritesAll old new text = Appends old.bytes new.bytes text × (new.failures ≡ o
 -- A write failed, and a front of the text, short of its end, was written before.
 abbrev pub FailsToWrite : Stream → Stream → List ℕ → Type 0
 FailsToWrite old new text = WritesFront old.bytes new.bytes text × (new.failures ≡ count_after_failure old.failures)
+
+-- The whole text was written, or a write failed behind a front of it.
+abbrev pub WritesUnlessFailed : Stream → Stream → List ℕ → Type 0
+WritesUnlessFailed old new text = WritesAll old new text ⊎ FailsToWrite old new text
 
 -- Nothing was written, and no write failed.
 abbrev pub WritesNothing : Stream → Stream → Type 0

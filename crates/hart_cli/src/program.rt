@@ -48,7 +48,8 @@ pub fn program<R: Source, W: Sink, E: Sink>(
         (record { bytes = E.written errors.old; failures = E.failures errors.old })
         (record { bytes = E.written errors.new; failures = E.failures errors.new })
         result }
-    ensures unmatched { result ≡ 2 → (reader.new ≡ reader.old) × (writer.new ≡ writer.old) }
+    ensures unread { result ≡ 2 → reader.new ≡ reader.old }
+    ensures unwritten { result ≡ 2 → writer.new ≡ writer.old }
     ensures quiet { result ≡ 0 → errors.new ≡ errors.old }
 {
     match requested_call(alloc, words) {
@@ -75,8 +76,10 @@ pub fn program<R: Source, W: Sink, E: Sink>(
 // Tells a fault to `errors`, and gives the status of what the call answered.
 fn finish<E: Sink>(outcome: Result<(), CliFault>, errors: &mut E) -> u8
     ensures status { result ≡ status_of outcome }
-    ensures fault { IfErr outcome (λ fault. WritesUnlessFailed (E.written errors.old) (E.written errors.new)
-        (E.failures errors.old) (E.failures errors.new) (fault_line fault)) }
+    ensures fault { IfErr outcome (λ fault. WritesUnlessFailed
+        (record { bytes = E.written errors.old; failures = E.failures errors.old })
+        (record { bytes = E.written errors.new; failures = E.failures errors.new })
+        (fault_line fault)) }
     ensures quiet { result ≡ 0 → errors.new ≡ errors.old }
 {
     match outcome {
