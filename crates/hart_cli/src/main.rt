@@ -28,7 +28,7 @@ fn main(rt: HostRuntime) -> ExitCode {
     let words = match words_after_name(&rt) {
         Ok(words) => words,
         Err(error) => {
-            let _ = eprintln!(rt; "error: {error}");
+            let _ = eprintln!(rt; "error: the words cannot be read: {error}");
             return ExitCode::from(NO_CALL);
         }
     };

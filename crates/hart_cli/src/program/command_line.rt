@@ -11,8 +11,11 @@ use std::alloc::{AllocError, Global};
 
 const HART_ABOUT: &str = "A HART field device on the bench, and the messages on its line";
 
-const HART_HELP: &str =
-    "For the input and the output of a command, and an example: hart COMMAND --help";
+const HART_HELP: &str = "\
+For the input and the output of a command, and an example: hart COMMAND --help
+
+It ends with 0 where the work was done, 1 after a fault, and 2 where the words
+name no command or ask for help.";
 
 const ANSWER_ABOUT: &str = "Answer one message, given in hex on the standard input";
 
@@ -20,10 +23,10 @@ const ANSWER_HELP: &str = "\
 Answer one message as the device on the bench does.
 
 Goes in, on the standard input: what the device hears on the line, the message
-with the FF bytes in front of it and its check byte, and noise around it. Each
-byte is two hex digits of either case, and behind them, where the byte came
-damaged, ! and two hex digits of fault bits (see hart dump --help). Spaces, tabs
-and line ends may stand between bytes.
+with its preamble bytes FF and its check byte, and noise around it. Each byte is
+two hex digits of either case, and behind them, where the byte came damaged, !
+and two hex digits of fault bits (see hart dump --help). Spaces, tabs and line
+ends may stand between bytes. It has at most 1048576 bytes of text.
 
 Comes out, on the standard output: the reply of the device in upper case hex,
 or nothing where the device keeps silent. It answers where it hears one message
@@ -31,7 +34,9 @@ and no other, which asks for its identity (command 0) at polling address 0.";
 
 const ANSWER_EXAMPLE: &str = "\
 Example:
-  echo \"FF FF FF FF FF 02 80 00 00 82\" | hart answer";
+  echo \"FF FF FF FF FF 02 80 00 00 82\" | hart answer
+writes
+  FF FF FF FF FF 06 80 00 18 00 00 FE 37 42 05 07 01 02 18 00 0A 1B 2C 05 04 00 00 00 00 37 00 37 01 31";
 
 const DUMP_ABOUT: &str = "List the messages in what was heard, given in hex on the standard input";
 
@@ -46,10 +51,12 @@ it damaged, ! and two hex digits of fault bits, as in FF!40. The fault bits are
   10  framing
   02  buffer overflow
 or a sum of these, in hex. Spaces, tabs and line ends may stand between bytes.
+It has at most 1048576 bytes of text.
 
 Comes out, on the standard output: a line for each message that came without
 damage, of nine fields with one space between them.
-  START      place of its first byte behind the FF bytes; bytes count from 0
+  START      place of its delimiter, the first byte behind its preamble bytes FF,
+             counted from 0
   END        place behind its check byte
   KIND       STX for a request of a master, ACK for a reply of a device
   WHO        the master: P for the primary, S for the secondary
@@ -59,8 +66,9 @@ damage, of nine fields with one space between them.
   EXPANSION  expansion bytes in hex, or - for none
   COMMAND    number of the command
   PAYLOAD    data in hex, or - for none; an ACK begins with its two status bytes
-Where it cannot read the input further it stops, behind the lines of the
-messages before, and tells the place in the text of the input, counted from 0.";
+Where the input holds anything else, is longer, or fails, the lines of the
+messages before are written, and standard error says why: bad hex at N, where N
+is a place in the text of the input, counted from 0; input too long; read fault.";
 
 const DUMP_EXAMPLE: &str = "\
 Example:
@@ -68,17 +76,18 @@ Example:
 writes
   2 7 STX P 0 @0 - 0 -";
 
-const ENCODE_ABOUT: &str = "Write the message that asks a device, in hex";
+const ENCODE_ABOUT: &str = "Write a request to a device, in hex";
 
 const ENCODE_HELP: &str = "\
-Write the message of a master that asks a device, ready to be sent.
+Write a request of a master to a device, ready to be sent.
 
 Goes in, on the command line: who asks, which device, with which command, and
 the data of the command.
 
-Comes out, on the standard output: the message in upper case hex, with the FF
-bytes in front of it and its check byte. A word that cannot be read is told by
-its number: 1 is WHO, 2 ADDRESS, 3 COMMAND and 4 DATA.";
+Comes out, on the standard output: the message in upper case hex, with its
+preamble bytes FF and its check byte. Where a word cannot be read nothing is
+written, and standard error tells its number, as in bad word 2: 1 is WHO,
+2 ADDRESS, 3 COMMAND and 4 DATA.";
 
 const ENCODE_EXAMPLE: &str = "\
 Example:
@@ -99,7 +108,8 @@ const DATA_HELP: &str = "\
 The data of the command in hex, two digits for each byte, at most 255
 bytes; left out where there are none";
 
-const PREAMBLES_HELP: &str = "How many FF bytes stand in front of the message, 5 to 20";
+const PREAMBLES_HELP: &str =
+    "The number of preamble bytes FF that the message begins with, 5 to 20";
 
 /// The word `answer` alone is a call of `answer`.
 pub fn answer_alone_is_call()

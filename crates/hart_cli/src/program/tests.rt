@@ -120,7 +120,7 @@ fn a_failed_write_is_told(rt: HostRuntime) -> Result<(), Fail> {
 fn an_input_without_end_is_too_long(rt: HostRuntime) -> Result<(), Fail> {
     for word in ["answer", "dump"] {
         let words = arguments(rt.alloc(), &[word])?;
-        let mut reader = Drip::new(None);
+        let mut reader = Drip::new();
         let mut output = Trickle::new(rt.alloc(), u64::MAX);
         let mut errors = Trickle::new(rt.alloc(), u64::MAX);
         let status = program(
@@ -212,7 +212,7 @@ fn texts_of_clap_go_to_errors(rt: HostRuntime) -> Result<(), Fail> {
     let examples = [
         (
             "answer",
-            "  echo \"FF FF FF FF FF 02 80 00 00 82\" | hart answer\n",
+            "  echo \"FF FF FF FF FF 02 80 00 00 82\" | hart answer\nwrites\n  FF FF FF FF FF 06 80 00 18 00 00 FE 37 42 05 07 01 02 18 00 0A 1B 2C 05 04 00 00 00 00 37 00 37 01 31\n",
         ),
         (
             "dump",
