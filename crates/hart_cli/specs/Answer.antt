@@ -1,4 +1,4 @@
--- What `hart answer` writes for what it reads, an own profile.
+-- What `hart answer` writes for what it reads (own profile).
 use Rattle.std.specs.Prelude.{◌≡◌, ◌⊎◌, ℕ, List, [], Result, Ok, Err}
 use Rattle.hart_values.specs.declared.master_id.MasterId.{MasterId}
 use Rattle.hart_frame.specs.Character.{Character}
@@ -41,9 +41,8 @@ pub record MeetsBadHex (reader reader_after : Stream) (place : ℕ) : Type 0 whe
   pub chars : List Character
   pub bad_hex : IsBadHexAt input chars place
 
--- What a call of `answer` with this result has done to its reader and its writer: at `Ok` the answer to the whole input was
--- written, and where a write failed a front of it; at every other fault nothing was, and the input has that fault, or memory
--- was refused.
+-- A call of `answer` wrote the answer to its whole input at `Ok`, a front of it where a write failed, and nothing where it
+-- told the input's fault or where memory was refused.
 abbrev pub AnswerOutcome : Stream → Stream → Stream → Stream → Result (Unit {0}) CliFault → Type 0
 AnswerOutcome reader reader_after writer writer_after (Ok done) =
     (text : List ℕ) × HasAnswer reader reader_after text × WritesAll writer writer_after text

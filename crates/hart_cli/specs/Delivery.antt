@@ -1,4 +1,4 @@
--- Who is answered, and with what, an own profile: Command 0 at polling address 0.
+-- Who is answered, and with what (own profile): Command 0 at polling address 0.
 use Rattle.std.specs.Prelude.{◌≡◌, false, List, [], ◌∷◌}
 use Rattle.hart_values.specs.declared.master_id.MasterId.{MasterId}
 use Rattle.hart_values.specs.declared.address.Address.TheVariants.{Polling}

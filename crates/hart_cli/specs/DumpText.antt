@@ -1,4 +1,4 @@
--- The lines of `hart dump`, an own profile.
+-- The lines of `hart dump` (own profile).
 use Rattle.std.specs.Prelude.{ℕ, ◌/◌, ◌%◌, ◌==◌, ◌&&◌, Bool, true, false, if◌then◌else◌, List, [], ◌∷◌, ◌++◌, codes, decimal}
 use Rattle.std.specs.List.{flat_map, join_with_byte}
 use Rattle.hex.specs.Hex.{encode_upper}
@@ -11,7 +11,7 @@ use Rattle.hart_frame.specs.declared.kind.FrameKind.{FrameKind}
 use Rattle.hart_frame.specs.declared.kind.FrameKind.TheVariants.{Stx, Ack}
 use Rattle.hart_frame.specs.declared.found.Found.{Found}
 
--- The word of a kind of frame.
+-- The word of a kind of frame is STX or ACK.
 abbrev pub kind_word : FrameKind → List ℕ
 kind_word Stx = codes "STX"
 kind_word Ack = codes "ACK"
@@ -21,7 +21,7 @@ abbrev pub master_word : MasterId → List ℕ
 master_word Primary = codes "P"
 master_word Secondary = codes "S"
 
--- The word of a burst bit.
+-- The word of a burst bit is 1 where it is set, and 0 where it is not.
 abbrev pub burst_word : Bool → List ℕ
 burst_word false = codes "0"
 burst_word true = codes "1"

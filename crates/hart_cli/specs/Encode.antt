@@ -1,4 +1,4 @@
--- What `hart encode` writes for its words, an own profile.
+-- What `hart encode` writes for its words (own profile).
 use Rattle.std.specs.Prelude.{◌≡◌, ℕ, false, List, [], Result, Ok, Err}
 use Rattle.hart_values.specs.declared.address.Address.{Address}
 use Rattle.hart_values.specs.declared.master_id.MasterId.{MasterId}
@@ -10,7 +10,7 @@ use Rattle.hart_cli.specs.MessageLine.{IsMessageLine}
 use Rattle.hart_cli.specs.Stream.{FailsToWrite, Stream, WritesAll, WritesNothing}
 use Rattle.hart_cli.specs.Words.{IsAddressWord, IsCommandWord, IsDataWord, HasNoValue, IsWho}
 
--- The four words of a message to send.
+-- A message to send is told by four words.
 pub record MessageWords : Type 0 where
   pub who : List ℕ
   pub address : List ℕ
@@ -53,9 +53,8 @@ RequestOutcome words (Err Read) = ⊥
 RequestOutcome words (Err TooLong) = ⊥
 RequestOutcome words (Err (BadHex place)) = ⊥
 
--- What a call of `encode_text` with this result has done to its writer: at `Ok` the text of the words was written, where a
--- write failed a front of it, and nothing where a word is bad, the first of which is told, or where the words have a
--- request but memory for its line was refused.
+-- A call of `encode_text` wrote the text of its words at `Ok`, a front of it where a write failed, and nothing where it told
+-- the first bad word or where memory for the line was refused.
 abbrev pub EncodeOutcome : MessageWords → ℕ → Stream → Stream → Result (Unit {0}) CliFault → Type 0
 EncodeOutcome words preambles writer writer_after (Ok done) =
     (text : List ℕ) × IsEncoding words preambles text × WritesAll writer writer_after text

@@ -1,4 +1,4 @@
--- The texts of faults, an own profile.
+-- The texts of faults (own profile).
 use Rattle.std.specs.Prelude.{◌++◌, ◌∷◌, [], ℕ, List, codes, decimal}
 use Rattle.hart_cli.specs.declared.fault.CliFault.{CliFault}
 use Rattle.hart_cli.specs.declared.fault.CliFault.TheVariants.{Read, Write, TooLong, BadHex, Memory, BadWord}

@@ -1,4 +1,4 @@
--- What an input was heard as, an own profile: its characters up to the first fault of the input, and that fault. The fault
+-- What an input was heard as (own profile): its characters up to the first fault of the input, and that fault. The fault
 -- bits of a character are no fault of the input.
 use Rattle.std.specs.Prelude.{ℕ, List, Option, Some, None}
 use Rattle.hart_frame.specs.Character.{Character}
@@ -8,9 +8,8 @@ use Rattle.hart_cli.specs.declared.fault.CliFault.TheVariants as faults
 use Rattle.hart_cli.specs.declared.input.InputEnd.{InputEnd}
 use Rattle.hart_cli.specs.declared.input.InputEnd.TheVariants as ends
 
--- An input that ended reads as its characters, or has bad hex behind them. In one cut short, by a read that failed or by the
--- limit, bad hex comes first where it is decided by then; otherwise the characters are those of the items that are whole so
--- far.
+-- An input that ended reads as its characters, or has bad hex behind them; one that was cut short has bad hex behind them
+-- where that is decided by then, and reads as the characters of the items that are whole so far where it is not.
 pub data Hears (text : List ℕ) : InputEnd → List Character → Option CliFault → Type 0 where
   all : (chars : List Character) → ReadsAs text chars → Hears text ends.Ended chars None
   bad_hex : (chars : List Character) (place : ℕ) → IsBadHexAt text chars place

@@ -1,4 +1,4 @@
--- Bytes as hex text, an own profile.
+-- Bytes as hex text (own profile).
 use Rattle.std.specs.Prelude.{ℕ, List, [], ◌∷◌, ◌++◌, map}
 use Rattle.std.specs.List.{join_with_byte}
 use Rattle.hex.specs.Hex.{encode_upper}

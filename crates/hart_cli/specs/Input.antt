@@ -1,4 +1,4 @@
--- How an input was read, and how it came to its end, an own profile.
+-- How an input was read, and how it came to its end (own profile).
 use Rattle.std.specs.Prelude.{◌≡◌, ◌≢◌, ℕ, ◌+◌, ◌≤◌, List, [], ◌++◌, length}
 use Rattle.std.specs.Io.KnownBytes.{Consumes, IsAtEnd}
 use Rattle.hart_cli.specs.Stream.{Stream, count_after_failure}

@@ -1,4 +1,4 @@
--- Texts of hex items, an own profile: pieces end to end, each a separator or an item of two hex digits, behind which a `!`
+-- Texts of hex items (own profile): pieces end to end, each a separator or an item of two hex digits, behind which a `!`
 -- and two more hex digits may tell fault bits.
 use Rattle.std.specs.Prelude.{◌≡◌, ◌≢◌, ℕ, ◌+◌, ◌*◌, ◌⊎◌, List, [], ◌∷◌, ◌++◌, length, Option, unwrap_or, IsTrue, ⊤}
 use Rattle.std.specs.Option.{option_to_list}
@@ -12,25 +12,25 @@ pub data Piece : Type 0 where
   Item : (high low : ℕ) → Piece
   FaultyItem : (high low fault_high fault_low : ℕ) → Piece
 
--- The bytes that spell a piece; 33 is the `!`.
+-- A piece is spelled by these bytes, of which 33 is the `!`.
 abbrev pub spelling : Piece → List ℕ
 spelling (Separator byte) = byte ∷ []
 spelling (Item high low) = high ∷ low ∷ []
 spelling (FaultyItem high low fault_high fault_low) = high ∷ low ∷ 33 ∷ fault_high ∷ fault_low ∷ []
 
--- A space, a tab, a carriage return or a line feed.
+-- A separator is a space, a tab, a carriage return or a line feed.
 abbrev pub IsSeparator : ℕ → Type 0
 IsSeparator byte = (byte ≡ 32) ⊎ (byte ≡ 9) ⊎ (byte ≡ 13) ⊎ (byte ≡ 10)
 
--- Both are hex digits, of either case.
+-- Two bytes are digits where both are hex digits, of either case.
 abbrev pub AreDigits : ℕ → ℕ → Type 0
 AreDigits high low = IsTrue (is_hex_digit high) × IsTrue (is_hex_digit low)
 
--- The value of a hex digit.
+-- A hex digit has this value.
 abbrev pub hex_value : ℕ → ℕ
 hex_value digit = unwrap_or (hex_digit_value digit) 0
 
--- The byte that two digits write.
+-- Two digits write this byte.
 abbrev pub byte_of : ℕ → ℕ → ℕ
 byte_of high low = 16 * hex_value high + hex_value low
 
@@ -50,8 +50,8 @@ meaning (Item high low) = record { byte = byte_of high low; faults = 0 } ∷ []
 meaning (FaultyItem high low fault_high fault_low) =
     record { byte = byte_of high low; faults = byte_of fault_high fault_low } ∷ []
 
--- A separator is whole whatever follows it. An item is whole where a further byte follows it, which for one without fault
--- bits is no `!`: that would belong to it.
+-- A separator is whole whatever follows it, and an item where a further byte follows it, which for one without fault bits is
+-- no `!`, as that would belong to it.
 abbrev pub IsWholeBefore : List ℕ → Piece → Type 0
 IsWholeBefore tail (Separator byte) = ⊤
 IsWholeBefore [] (Item high low) = ⊥

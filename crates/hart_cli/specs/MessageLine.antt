@@ -1,4 +1,4 @@
--- The text of a message, an own profile.
+-- The text of a message (own profile).
 use Rattle.std.specs.Prelude.{◌≡◌, ℕ, List}
 use Rattle.hart_frame.specs.FrameParts.{FrameParts}
 use Rattle.hart_frame.specs.Message.{IsMessage}

@@ -1,4 +1,4 @@
--- The words of `hart encode`, an own profile.
+-- The words of `hart encode` (own profile).
 use Rattle.std.specs.Prelude.{◌≡◌, ◌⊎◌, ℕ, ◌+◌, ◌*◌, ◌%◌, ◌≤◌, List, [], ◌∷◌, length, codes, Ok}
 use Rattle.std.specs.Str.Parse.{IsNumeral, digits_value}
 use Rattle.hex.specs.Hex.{decode_of}

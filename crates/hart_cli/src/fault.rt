@@ -14,22 +14,22 @@ use thiserror::Error;
 /// Why a call ended early.
 #[derive(Clone, Copy, Debug, PartialEq, Eq, Error)]
 pub enum CliFault {
-    /// The reader failed.
+    /// Fault 1: the reader failed.
     #[error("read fault")]
     Read,
-    /// The writer failed.
+    /// Fault 2: the writer failed.
     #[error("write fault")]
     Write,
-    /// The input has more bytes than `INPUT_LIMIT`.
+    /// Fault 3: the input has more bytes than `INPUT_LIMIT`.
     #[error("input too long")]
     TooLong,
-    /// At this byte of the input, counted from 0, begins the first thing that is neither a separator nor an item.
+    /// Fault 4: at this byte of the input, counted from 0, begins the first thing that is neither a separator nor an item.
     #[error("bad hex at {place}")]
     BadHex { place: usize },
-    /// A growth was refused.
+    /// Fault 7: memory was refused.
     #[error("out of memory")]
     Memory,
-    /// This word of a message to send is bad: 1 is WHO, 2 ADDRESS, 3 COMMAND and 4 DATA.
+    /// Fault 8: this word of a message to send is bad: 1 is WHO, 2 ADDRESS, 3 COMMAND and 4 DATA.
     #[error("bad word {number}")]
     BadWord { number: u8 },
 }

@@ -1,4 +1,4 @@
-//! The text of an input: hex items, with separators where they please.
+//! The text of an input: hex items, and separators between them.
 ghost use Rattle.std.specs.Prelude.{◌≡◌, ◌↔◌, ◌≤◌, ℕ, List, drop, length, Option, IfOk, IsTrue, MatchOption};
 ghost use Rattle.hart_frame.specs.Character.{Character};
 ghost use Rattle.hart_cli.specs.Hearing.{Hears};
@@ -24,7 +24,7 @@ pub struct Hearing {
     pub fault: Option<CliFault>,
 }
 
-/// An input is heard in one way: as these characters, and with this fault or none.
+/// An input that came to its end in one way is heard as one list of characters, with one fault or none.
 pub fn one_hearing()
     ensures { (text : List ℕ) (end : InputEnd) (xs ys : List Character) (f g : Option CliFault)
         → Hears text end xs f → Hears text end ys g → (xs ≡ ys) × (f ≡ g) }
