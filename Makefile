@@ -1,4 +1,4 @@
-# hart: a HART field device and the masters that configure it, proved.
+# hart: the HART protocol on the wire, proved.
 #
 #   make                      builds the proved program and leaves it as ./hart
 #   make check                runs every proof and every test
