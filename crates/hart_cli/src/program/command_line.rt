@@ -26,7 +26,7 @@ Goes in, on the standard input: what the device hears on the line, the message
 with its preamble bytes FF and its check byte, and noise around it. Each byte is
 two hex digits of either case, and behind them, where the byte came damaged, !
 and two hex digits of fault bits (see hart dump --help). Spaces, tabs and line
-ends may stand between bytes. It has at most 1048576 bytes of text.
+ends may stand between bytes. The text has at most 1048576 bytes.
 
 Comes out, on the standard output: the reply of the device in upper case hex,
 or nothing where the device keeps silent. It answers where it hears one message
@@ -51,7 +51,7 @@ it damaged, ! and two hex digits of fault bits, as in FF!40. The fault bits are
   10  framing
   02  buffer overflow
 or a sum of these, in hex. Spaces, tabs and line ends may stand between bytes.
-It has at most 1048576 bytes of text.
+The text has at most 1048576 bytes.
 
 Comes out, on the standard output: a line for each message that came without
 damage, of nine fields with one space between them.

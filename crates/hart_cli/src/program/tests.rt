@@ -10,6 +10,13 @@ mod answer;
 mod dump;
 mod encode;
 
+/// The words of each call, and what it writes where it reads a request for the identity.
+const CALLS: [(&[&str], &str); 3] = [
+    (&["answer"], answer::REPLY_TO_PRIMARY),
+    (&["dump"], "2 7 STX P 0 @0 - 0 -\n"),
+    (&["encode", "P", "@0", "0"], encode::IDENTIFY),
+];
+
 /// What a run of `program` left behind.
 #[derive(Drop)]
 struct Run {
@@ -98,12 +105,7 @@ fn a_failed_read_is_told(rt: HostRuntime) -> Result<(), Fail> {
 
 #[test]
 fn a_failed_write_is_told(rt: HostRuntime) -> Result<(), Fail> {
-    let rows: [(&[&str], &str); 3] = [
-        (&["answer"], answer::REPLY_TO_PRIMARY),
-        (&["dump"], "2 7 STX P 0 @0 - 0 -\n"),
-        (&["encode", "P", "@0", "0"], encode::IDENTIFY),
-    ];
-    for (words, want) in rows {
+    for (words, want) in CALLS {
         for room in [0u64, 1, 20] {
             let reader = Tape::new(b"FFFF0280000082", None);
             let run = run_program(rt.alloc(), words, reader, room, u64::MAX)?;
@@ -140,12 +142,7 @@ fn an_input_without_end_is_too_long(rt: HostRuntime) -> Result<(), Fail> {
 
 #[test]
 fn readers_and_writers_of_the_standard_library_serve(rt: HostRuntime) -> Result<(), Fail> {
-    let rows: [(&[&str], &str); 3] = [
-        (&["answer"], answer::REPLY_TO_PRIMARY),
-        (&["dump"], "2 7 STX P 0 @0 - 0 -\n"),
-        (&["encode", "P", "@0", "0"], encode::IDENTIFY),
-    ];
-    for (words, want) in rows {
+    for (words, want) in CALLS {
         let words = arguments(rt.alloc(), words)?;
         let mut reader = Plain::new(b"FFFF0280000082".as_slice());
         let mut output = Plain::new(Vec::new(rt.alloc()));
