@@ -12,7 +12,7 @@ use Rattle.hart_cli.specs.declared.fault.CliFault.{CliFault}
 use Rattle.hart_cli.specs.declared.program.command_line.Call.{Call as CallMade}
 use Rattle.hart_cli.specs.declared.program.command_line.Call.TheVariants as made
 
--- A required word has to be there.
+-- The rule of a required word has its name, and the word has to be there.
 abbrev pub required_rule : Text → Rule
 required_rule id = record (new_rule id) { required = true }
 
@@ -48,7 +48,7 @@ hart_app =
     let dump = with_subcommand answer (new_app (codes "dump")).top in
     with_subcommand dump encode_app.top
 
--- A call of the program; that of `encode` has the words of a message and the number of preamble bytes.
+-- The program has three calls, of which that of `encode` has the words of a message and the number of preamble bytes.
 pub data Call : Type 0 where
   Answer : Call
   Dump : Call
@@ -87,7 +87,7 @@ pub record Calls (call : Call) (words : List Text) : Type 0 where
   pub named : subcommand_of hart_app words ≡ Some (name_of call, rows)
   pub values : GivesValues call rows
 
--- What a call with this result has done to the reader and the writer; that of `encode` leaves the reader.
+-- A call with this result had the outcome of its own kind on the reader and the writer; that of `encode` leaves the reader.
 abbrev pub CallOutcome : Call → Stream → Stream → Stream → Stream → Result (Unit {0}) CliFault → Type 0
 CallOutcome Answer reader reader_after writer writer_after result =
     AnswerOutcome reader reader_after writer writer_after result
@@ -110,7 +110,7 @@ pub record Ran (words : List Text) (reader reader_after writer writer_after erro
   pub ends : status ≡ status_of result
   pub tells : IfErr result (λ fault. WritesUnlessFailed errors errors_after (fault_line fault))
 
--- What the code calls a call is this call.
+-- A value of the code's own type of calls means this call.
 abbrev pub call_of : CallMade → Call
 call_of made.Answer = Answer
 call_of made.Dump = Dump

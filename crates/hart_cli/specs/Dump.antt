@@ -17,7 +17,7 @@ pub record AreLines (chars : List Character) (lines : List ℕ) : Type 0 where
   pub are_frames : AreFrames chars 0 frames
   pub text : lines ≡ dump_text frames
 
--- The first lines of some characters are those of some first frames in them, and not of all.
+-- First lines of some characters are those of some first frames in them, and not of all.
 pub record AreFirstLines (chars : List Character) (lines : List ℕ) : Type 0 where
   pub frames : List Found
   pub others : List Found
@@ -48,8 +48,8 @@ pub record DumpsAll (reader reader_after writer writer_after : Stream) (result :
   pub tells : result ≡ result_of fault
   pub written : WritesAll writer writer_after lines
 
--- Where a write failed, a front of the lines was written, short of their end; where memory for a line was refused, the first
--- lines, and nothing of that one.
+-- Where a write failed, a front of the lines was written, short of their end; where memory for a line was refused, some
+-- first lines, and not all.
 abbrev pub WritesFirstLines : List Character → Stream → Stream → Result (Unit {0}) CliFault → Type 0
 WritesFirstLines chars writer writer_after (Err Write) =
     (lines : List ℕ) × AreLines chars lines × FailsToWrite writer writer_after lines
@@ -77,7 +77,7 @@ pub record DumpsNothing (reader reader_after writer writer_after : Stream) (resu
   pub read : LacksMemory reader reader_after ⊎ ((input : List ℕ) × (end : InputEnd) × Reads reader reader_after input end)
   pub unwritten : WritesNothing writer writer_after
 
--- A call of `dump` wrote all lines and told the input's fault, ended at a line that it could not write or build, or wrote
+-- A call of `dump` wrote all lines and told the input's fault, if any, ended at a line that it could not write or build, or wrote
 -- nothing for want of memory.
 abbrev pub DumpOutcome : Stream → Stream → Stream → Stream → Result (Unit {0}) CliFault → Type 0
 DumpOutcome reader reader_after writer writer_after result =

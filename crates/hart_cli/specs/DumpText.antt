@@ -11,7 +11,7 @@ use Rattle.hart_frame.specs.declared.kind.FrameKind.{FrameKind}
 use Rattle.hart_frame.specs.declared.kind.FrameKind.TheVariants.{Stx, Ack}
 use Rattle.hart_frame.specs.declared.found.Found.{Found}
 
--- The word of a kind of frame is STX or ACK.
+-- The word of a kind of frame is `STX` for an STX and `ACK` for an ACK.
 abbrev pub kind_word : FrameKind → List ℕ
 kind_word Stx = codes "STX"
 kind_word Ack = codes "ACK"

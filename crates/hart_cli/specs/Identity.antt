@@ -14,7 +14,7 @@ identity_data identity =
     ++ identity.private_label
     ++ identity.device_profile ∷ []
 
--- The bench device, an own profile.
+-- The bench device has these fields (own profile).
 abbrev pub bench_identity : Identity
 bench_identity = record {
   expanded_type = 0x37 ∷ 0x42 ∷ [];

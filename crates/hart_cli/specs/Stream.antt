@@ -34,7 +34,7 @@ WritesAll old new text = Appends old.bytes new.bytes text × (new.failures ≡ o
 abbrev pub FailsToWrite : Stream → Stream → List ℕ → Type 0
 FailsToWrite old new text = WritesFront old.bytes new.bytes text × (new.failures ≡ count_after_failure old.failures)
 
--- The whole text was written, or a write failed behind a front of it.
+-- The whole text was written and no write failed, or one failed behind a front of the text, short of its end.
 abbrev pub WritesUnlessFailed : Stream → Stream → List ℕ → Type 0
 WritesUnlessFailed old new text = WritesAll old new text ⊎ FailsToWrite old new text
 

@@ -1,4 +1,4 @@
-//! The text of an input: hex items, and separators between them.
+//! The text of an input: hex items, and separators where there are any.
 ghost use Rattle.std.specs.Prelude.{◌≡◌, ◌↔◌, ◌≤◌, ℕ, List, drop, length, Option, IfOk, IsTrue, MatchOption};
 ghost use Rattle.hart_frame.specs.Character.{Character};
 ghost use Rattle.hart_cli.specs.Hearing.{Hears};

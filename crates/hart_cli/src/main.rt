@@ -1,4 +1,4 @@
-//! `hart`, a HART field device on the command line: what a technician types, and what comes back.
+//! `hart`, HART messages on the command line: what a technician types, and what comes back.
 //!
 //! Each call of the program is a module of its own, over any reader and writer; here stand only the arguments and the
 //! standard streams.

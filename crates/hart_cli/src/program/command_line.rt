@@ -9,13 +9,13 @@ ghost use Rattle.hart_cli.specs.Encode.{MessageWords};
 use clap::{Arg, ArgMatches, Command, value_parser};
 use std::alloc::{AllocError, Global};
 
-const HART_ABOUT: &str = "A HART field device on the bench, and the messages on its line";
+const HART_ABOUT: &str = "Find HART messages in what was heard, write one, and answer one";
 
 const HART_HELP: &str = "\
 For the input and the output of a command, and an example: hart COMMAND --help
 
 It ends with 0 where the work was done, 1 after a fault, and 2 where the words
-name no command or ask for help.";
+make no call, ask for help or cannot be read.";
 
 const ANSWER_ABOUT: &str = "Answer one message, given in hex on the standard input";
 
@@ -26,7 +26,7 @@ Goes in, on the standard input: what the device hears on the line, the message
 with its preamble bytes FF and its check byte, and noise around it. Each byte is
 two hex digits of either case, and behind them, where the byte came damaged, !
 and two hex digits of fault bits (see hart dump --help). Spaces, tabs and line
-ends may stand between bytes. The text has at most 1048576 bytes.
+ends may stand between bytes. The input has at most 1048576 bytes of text.
 
 Comes out, on the standard output: the reply of the device in upper case hex,
 or nothing where the device keeps silent. It answers where it hears one message
@@ -51,7 +51,7 @@ it damaged, ! and two hex digits of fault bits, as in FF!40. The fault bits are
   10  framing
   02  buffer overflow
 or a sum of these, in hex. Spaces, tabs and line ends may stand between bytes.
-The text has at most 1048576 bytes.
+The input has at most 1048576 bytes of text.
 
 Comes out, on the standard output: a line for each message that came without
 damage, of nine fields with one space between them.
