@@ -1,4 +1,4 @@
-# hart: the HART protocol on the wire, proved.
+# hart: HART messages, found, read and written by proved code.
 #
 #   make                      builds the proved program and leaves it as ./hart
 #   make check                runs every proof and every test
