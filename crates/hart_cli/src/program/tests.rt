@@ -104,6 +104,19 @@ fn a_failed_read_is_told(rt: HostRuntime) -> Result<(), Fail> {
 }
 
 #[test]
+fn nothing_is_read_behind_the_end(rt: HostRuntime) -> Result<(), Fail> {
+    let input = "FFFF0280000082";
+    for (words, want) in CALLS {
+        // The read behind the one that finds the end would fail.
+        let reader = Tape::new(input.as_bytes(), Some(input.len() + 1));
+        let run = run_program(rt.alloc(), words, reader, u64::MAX, u64::MAX)?;
+        assert_eq!(rt; run.status, DONE, "for {want}");
+        assert_eq!(rt; run.output.taken(), want.as_bytes());
+    }
+    Ok(())
+}
+
+#[test]
 fn a_failed_write_is_told(rt: HostRuntime) -> Result<(), Fail> {
     for (words, want) in CALLS {
         for room in [0u64, 1, 20] {
