@@ -43,7 +43,9 @@ pub use comm_faults::CommFaults;
 pub use device_status::DeviceStatus;
 pub use fault::ValueFault;
 pub use hart_date::HartDate;
-pub use laws::{address_bytes_are_told_apart, packed_text_and_bytes_determine_each_other};
+pub use laws::{
+    address_bytes_are_told_apart, packed_text_and_bytes_determine_each_other, the_test_tells_dates,
+};
 pub use loop_mode::LoopMode;
 pub use master_id::MasterId;
 pub use packed_text::PackedText;
