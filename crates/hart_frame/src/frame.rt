@@ -1,14 +1,11 @@
 ghost use Rattle.std.specs.Prelude.{◌≡◌, ◌≤◌, ◌↔◌, length, IsOk, IfOk, IfErr};
 
 use crate::{FrameFault, FrameKind};
-use hart_values::{Address, ByteList, MasterId};
+use hart_values::{Address, ByteList, MasterId, Payload};
 use std::marker::Model;
 
 /// The expansion bytes of a frame, at most 3.
 pub type Expansion = ByteList<3>;
-
-/// The payload of a frame, at most 255 bytes.
-pub type Payload = ByteList<255>;
 
 /// What one message says: a request of a master or the reply of a device (HCF_SPEC-081).
 #[derive(Debug, Drop, PartialEq, Eq)]

@@ -38,7 +38,7 @@ mod unique_address;
 
 pub use address::{Address, AddressBytes};
 pub use bits32::Bits32;
-pub use byte_list::ByteList;
+pub use byte_list::{ByteList, Payload};
 pub use comm_faults::CommFaults;
 pub use device_status::DeviceStatus;
 pub use fault::ValueFault;
