@@ -35,7 +35,7 @@ pub use frame::{Expansion, Frame};
 pub use hart_values::Payload;
 pub use kind::FrameKind;
 pub use laws::{bodies_are_told_apart, every_list_has_frames, frames_are_told_apart};
-pub use message::{Message, encode};
+pub use message::{LEAST_PREAMBLES, MOST_PREAMBLES, Message, encode};
 pub use parity::check_byte;
 
 #[cfg(test)]
