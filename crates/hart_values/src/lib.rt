@@ -2,8 +2,8 @@
 //!
 //! Each value here is one of the standard's. Where it has bytes of a form of its own, they are a relation of `specs/`. A
 //! pair of calls goes both ways: for an address, [`Address::bytes`] and [`Address::read`], for a text,
-//! [`PackedText::from_text`] and [`PackedText::write_text`], and for a date, [`HartDate::from_bytes`] and
-//! [`HartDate::as_bytes`]. Status bytes are only read.
+//! [`PackedText::from_text`] and [`PackedText::write_text`], for a date, [`HartDate::from_bytes`] and
+//! [`HartDate::as_bytes`], and for a status, [`Status::bytes`] and [`Status::read`].
 //!
 //! ```rust
 //! let address = Address::unique(0x3742, 0x0A1B2C)?;
