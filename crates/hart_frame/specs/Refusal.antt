@@ -1,7 +1,8 @@
 -- Why the bytes of a list are not decoded: the first thing that is wrong, from its front (own profile).
 use Rattle.std.specs.Prelude.{◌≡◌, ℕ, ◌/◌, ◌%◌, ◌<◌, ◌≤◌, ◌⊎◌, List, length, take}
 use Rattle.hart_frame.specs.declared.fault.FrameFault.{FrameFault}
-use Rattle.hart_frame.specs.declared.fault.FrameFault.TheVariants.{TooShortReply, BadPreamble, BadDelimiter, Truncated, BadCheck, ShortReply}
+use Rattle.hart_frame.specs.declared.fault.FrameFault.TheVariants.{TooShortReply, BadPreamble, BadDelimiter}
+use Rattle.hart_frame.specs.declared.fault.FrameFault.TheVariants.{Truncated, BadCheck, ShortReply}
 use Rattle.hart_frame.specs.Layout.{delimiter_in, byte_count_place, byte_count_in, body_length}
 use Rattle.hart_frame.specs.Parity.{HasEvenParity}
 
