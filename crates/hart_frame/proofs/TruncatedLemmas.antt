@@ -106,7 +106,7 @@ CanBecomeBody-counted bytes fit good short =
     let long : length (bytes ++ zeros) ≡ length bytes + missing = length-append bytes zeros ∙ ap (λ (n : ℕ). length bytes + n) (length-replicate missing 0) in
     let fits = All-append (λ byte. byte < 256) bytes zeros fit (All-replicate (λ byte. byte < 256) missing 0 (omega arith)) in
     CanBecomeBody-front bytes zeros (
-      CanBecomeBody-last (bytes ++ zeros) fits (HasGoodByteCount-append bytes zeros good) (omega (arith, place, count, long, short))
+    CanBecomeBody-last (bytes ++ zeros) fits (HasGoodByteCount-append bytes zeros good) (omega (arith, place, count, long, short))
     )
 
 -- bytes that end before their byte count get one of 2
@@ -130,7 +130,7 @@ CanBecomeBody-begun bytes fit has short =
     let front_fits = All-append (λ byte. byte < 256) bytes zeros fit (All-replicate (λ byte. byte < 256) missing 0 (omega arith)) in
     let fits : AreBytes whole = All-push (λ byte. byte < 256) front 2 front_fits (omega arith) in
     CanBecomeBody-front bytes zeros (
-      CanBecomeBody-front front (2 ∷ []) (CanBecomeBody-counted whole fits good (omega (arith, long, place, count, front_long)))
+    CanBecomeBody-front front (2 ∷ []) (CanBecomeBody-counted whole fits good (omega (arith, long, place, count, front_long)))
     )
 
 -- no bytes get the delimiter of an STX
@@ -138,7 +138,7 @@ CanBecomeBody-none : (bytes : List ℕ) → length bytes ≡ 0 → CanBecomeBody
 CanBecomeBody-none [] none =
     let stx : List ℕ = 2 ∷ [] in
     CanBecomeBody-front [] stx (
-      CanBecomeBody-begun stx (All-replicate (λ byte. byte < 256) 1 2 (omega arith)) (omega arith, (refl, inl refl)) (omega arith)
+    CanBecomeBody-begun stx (All-replicate (λ byte. byte < 256) 1 2 (omega arith)) (omega arith, (refl, inl refl)) (omega arith)
     )
 CanBecomeBody-none (byte ∷ bytes) none = absurd (omega (arith, none))
 
