@@ -1,7 +1,9 @@
 # hart: HART messages, found, read and written by proved code.
 #
 #   make                      builds the proved program and leaves it as ./hart
-#   make check                runs every proof and every test
+#   make check                runs every proof and every test, and ends with the count of what passed and what failed
+#   make refused-growths      refuses each allocation of ./hart in turn, as make check does to the program that it proves
+#   make streams              runs ./hart on streams that fail, as make check does
 #   make install PREFIX=DIR   puts hart into DIR/bin
 #   make bench                measures hart dump; it asserts no time
 
@@ -9,7 +11,7 @@ PREFIX ?= /usr/local
 CLI := crates/hart_cli
 SOURCES := crates.txt $(shell find crates -name out -prune -o \( -name '*.rt' -o -name '*.antt' \) -print)
 
-.PHONY: all check refused-growths bench install clean
+.PHONY: all check refused-growths streams bench install clean
 
 all: hart
 
@@ -17,13 +19,12 @@ hart: $(SOURCES)
 	cd $(CLI) && rt run -- answer < stdin > out.tmp && cmp out.tmp stdout && rm out.tmp
 	cp $(CLI)/out/hart_cli $@
 
-# The gate comes last, so that its count is the last line.
-check: refused-growths
-	rt ci
+# The program is proved and built once, by the gate, and then run.
+check:
+	bash tools/check.sh
 
-# Each allocation of the built program is refused in turn: it may end early, but not write something else.
-refused-growths: hart
-	sh tools/refused-growths.sh
+refused-growths streams: hart
+	sh tools/$@.sh
 
 bench: hart
 	python3 bench/dump.py

@@ -2,9 +2,11 @@
 # Runs each call of the built program again and again, and refuses one allocation each time: the first, the second, and so
 # on. A run may do without and write what it would have, or end with `out of memory`, status 1 or 2, and a front of whole
 # lines written. That it succeeds with ample memory is the last run, in which none is left to refuse.
+#
+# Usage: tools/refused-growths.sh [PROGRAM]; PROGRAM is the ./hart of the repository if absent. It needs cc.
 set -eu
+program=$(realpath "${1:-$(dirname "$0")/../hart}")
 cd "$(dirname "$0")/.."
-program=$PWD/hart
 work=$(mktemp -d)
 trap 'rm -rf "$work"' EXIT
 cc -shared -fPIC -O1 -o "$work/refuse_growth.so" tools/refuse_growth.c -ldl
@@ -42,7 +44,10 @@ refuse_each() {
         [ "$status" -eq 0 ] || told=$((told + 1))
         number=$((number + 1))
     done
-    [ "$status" -eq 0 ] && [ "$told" -gt 0 ]
+    if [ "$status" -ne 0 ] || [ "$told" -eq 0 ]; then
+        echo "hart $*: status $status with ample memory, and $told of $((number - 1)) growths ended with out of memory" >&2
+        exit 1
+    fi
     echo "hart $*: $((number - 1)) growths refused in turn, of which $told ended with out of memory"
 }
 

@@ -1,0 +1,38 @@
+#!/usr/bin/env bash
+# Runs the gate, and then, on the program that the gate has built, what only runs of it show. The last line is the gate's
+# count, in which each script that failed here is one failure more; the status is the worst of all.
+set -u
+cd "$(dirname "$0")/.." || exit 1
+program=crates/hart_cli/out/hart_cli
+log=$(mktemp)
+trap 'rm -f "$log"' EXIT
+
+# The worst status so far.
+worst=0
+note() {
+    [ "$1" -le "$worst" ] || worst=$1
+}
+
+# What stands there after the gate was built by it.
+rm -f "$program"
+rt ci | tee "$log"
+note "${PIPESTATUS[0]}"
+
+count=$(grep -xE '[0-9]+ passed, [0-9]+ failed' "$log" | tail -n 1)
+read -r passed _ failed _ <<<"${count:-0 passed, 1 failed}"
+
+if [ -f "$program" ]; then
+    for script in tools/refused-growths.sh tools/streams.sh; do
+        if ! sh "$script" "$program"; then
+            echo "$script: FAILED"
+            note 1
+            failed=$((failed + 1))
+        fi
+    done
+else
+    echo "The gate built no program, so none was run."
+    note 1
+fi
+
+echo "$passed passed, $failed failed"
+exit "$worst"
