@@ -1,0 +1,7 @@
+pub mod SizeLemmas
+pub mod RequestLemmas
+pub mod ChunkLemmas
+pub mod PartsLemmas
+pub mod ReplyLemmas
+pub mod WellMade
+pub mod RequestMade

@@ -1,0 +1,42 @@
+-- The identity of a device, as a reply tells it in 22 bytes (HCF_SPEC-127).
+use Rattle.std.specs.Prelude.{ℕ, ◌≡◌, List, [], ◌∷◌, ◌++◌, length, slice_index, slice_range}
+use Rattle.hart_commands.specs.declared.identity.IdentityContent.{IdentityContent}
+
+-- After the first byte each field stands in its place.
+abbrev pub identity_of : List ℕ → IdentityContent
+identity_of bytes = record {
+  expanded_device_type = slice_range bytes 1 3;
+  request_preambles = slice_index bytes 3;
+  protocol_revision = slice_index bytes 4;
+  device_revision = slice_index bytes 5;
+  software_revision = slice_index bytes 6;
+  hardware_and_signalling = slice_index bytes 7;
+  flags = slice_index bytes 8;
+  device_id = slice_range bytes 9 12;
+  response_preambles = slice_index bytes 12;
+  device_variables = slice_index bytes 13;
+  configuration_change_counter = slice_range bytes 14 16;
+  extended_device_status = slice_index bytes 16;
+  manufacturer = slice_range bytes 17 19;
+  private_label_distributor = slice_range bytes 19 21;
+  device_profile = slice_index bytes 21;
+}
+
+-- An identity is written as 254 and its fields, one after another.
+abbrev pub identity_bytes : IdentityContent → List ℕ
+identity_bytes i =
+    254 ∷ i.expanded_device_type
+    ++ i.request_preambles ∷ i.protocol_revision ∷ i.device_revision ∷ i.software_revision
+    ∷ i.hardware_and_signalling ∷ i.flags ∷ i.device_id
+    ++ i.response_preambles ∷ i.device_variables ∷ i.configuration_change_counter
+    ++ i.extended_device_status ∷ i.manufacturer
+    ++ i.private_label_distributor
+    ++ i.device_profile ∷ []
+
+-- The type, the counter, the manufacturer and the label of an identity have two bytes each, its device id has three.
+pub record IsIdentity (i : IdentityContent) : Type 0 where
+  pub expanded_device_type : length i.expanded_device_type ≡ 2
+  pub device_id : length i.device_id ≡ 3
+  pub configuration_change_counter : length i.configuration_change_counter ≡ 2
+  pub manufacturer : length i.manufacturer ≡ 2
+  pub private_label_distributor : length i.private_label_distributor ≡ 2

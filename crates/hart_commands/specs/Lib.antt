@@ -1,0 +1,10 @@
+pub mod Each
+pub mod TagBytes
+pub mod RequestData
+pub mod RequestCode
+pub mod Registers
+pub mod Values
+pub mod IdentityBytes
+pub mod SensorBytes
+pub mod OutputBytes
+pub mod ReplyData

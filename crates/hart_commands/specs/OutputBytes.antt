@@ -1,0 +1,31 @@
+-- What a reply tells of the loop current output, in 18 bytes (HCF_SPEC-127).
+use Rattle.std.specs.Prelude.{ℕ, ◌≡◌, List, [], ◌∷◌, ◌++◌, length, slice_index}
+use Rattle.hart_commands.specs.declared.output.OutputContent.{OutputContent}
+use Rattle.hart_commands.specs.Values.{float_at}
+
+-- An alarm code, a transfer function, a unit, the upper and the lower range value, the damping, a write protect code, a byte that
+-- the standard reserves, and channel flags, each in its place.
+abbrev pub output_of : List ℕ → OutputContent
+output_of bytes = record {
+  alarm_code = slice_index bytes 0;
+  transfer_function = slice_index bytes 1;
+  unit = slice_index bytes 2;
+  upper_range_value = float_at bytes 3;
+  lower_range_value = float_at bytes 7;
+  damping = float_at bytes 11;
+  write_protect_code = slice_index bytes 15;
+  reserved = slice_index bytes 16;
+  channel_flags = slice_index bytes 17;
+}
+
+-- They are written one after another.
+abbrev pub output_bytes : OutputContent → List ℕ
+output_bytes o =
+    o.alarm_code ∷ o.transfer_function ∷ o.unit ∷ o.upper_range_value.0 ++ o.lower_range_value.0 ++ o.damping.0
+    ++ o.write_protect_code ∷ o.reserved ∷ o.channel_flags ∷ []
+
+-- Each float has four bytes.
+pub record IsOutput (o : OutputContent) : Type 0 where
+  pub upper_range_value : length o.upper_range_value.0 ≡ 4
+  pub lower_range_value : length o.lower_range_value.0 ≡ 4
+  pub damping : length o.damping.0 ≡ 4

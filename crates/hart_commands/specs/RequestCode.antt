@@ -1,0 +1,28 @@
+-- The response code of a request (HCF_SPEC-127; the order is of the own profile).
+use Rattle.std.specs.Prelude.{ℕ, ◌==◌, ◌||◌, ◌&&◌, if◌then◌else◌, Bool, Ok, Err, Some}
+use Rattle.hart_commands.specs.declared.request.Request.{Request}
+use Rattle.hart_commands.specs.declared.request.Request.TheVariants.{ResetChanged}
+use Rattle.hart_commands.specs.RequestData.{Reading}
+
+-- The configuration writes are Commands 6, 17, 18 and 19.
+abbrev pub is_write : ℕ → Bool
+is_write command = (command == 6) || (command == 17) || (command == 18) || (command == 19)
+
+-- A given counter of Command 38 that is not the device's is refused with code 9; nothing else is, where the data are good.
+abbrev pub counter_code : Request → ℕ → ℕ
+counter_code (ResetChanged (Some given)) counter = if given == counter then 0 else 9
+counter_code _ counter = 0
+
+-- What the data are read as is judged: bad data by their code, and a request by the counter that it names.
+abbrev pub judged : Reading → ℕ → ℕ
+judged (Err code) counter = code
+judged (Ok request) counter = counter_code request counter
+
+-- A command that is not in the table is told first, then too few data bytes, then a write under protection, then what the
+-- data and the counter say; otherwise the code is 0.
+abbrev pub request_code : ℕ → Reading → Bool → ℕ → ℕ
+request_code command reading protected counter =
+    let code = judged reading counter in
+    if (code == 64) || (code == 5) then code
+    else if protected && is_write command then 7
+    else code

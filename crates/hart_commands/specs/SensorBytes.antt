@@ -1,0 +1,25 @@
+-- What a reply tells of the sensor, in 16 bytes (HCF_SPEC-127).
+use Rattle.std.specs.Prelude.{ℕ, ◌≡◌, List, ◌∷◌, ◌++◌, length, slice_index, slice_range}
+use Rattle.hart_commands.specs.declared.sensor.SensorContent.{SensorContent}
+use Rattle.hart_commands.specs.Values.{float_at}
+
+-- A serial number, a unit, the upper and the lower limit and the minimum span, each in its place.
+abbrev pub sensor_of : List ℕ → SensorContent
+sensor_of bytes = record {
+  serial_number = slice_range bytes 0 3;
+  unit = slice_index bytes 3;
+  upper_limit = float_at bytes 4;
+  lower_limit = float_at bytes 8;
+  minimum_span = float_at bytes 12;
+}
+
+-- They are written one after another.
+abbrev pub sensor_bytes : SensorContent → List ℕ
+sensor_bytes s = s.serial_number ++ s.unit ∷ s.upper_limit.0 ++ s.lower_limit.0 ++ s.minimum_span.0
+
+-- The serial number has three bytes, and each float four.
+pub record IsSensor (s : SensorContent) : Type 0 where
+  pub serial_number : length s.serial_number ≡ 3
+  pub upper_limit : length s.upper_limit.0 ≡ 4
+  pub lower_limit : length s.lower_limit.0 ≡ 4
+  pub minimum_span : length s.minimum_span.0 ≡ 4

@@ -1,0 +1,31 @@
+-- The bytes of one variable in a reply (HCF_SPEC-127).
+use Rattle.std.specs.Prelude.{ℕ, ◌+◌, List, [], ◌∷◌, ◌++◌, slice_index, slice_range}
+use Rattle.hart_values.specs.declared.bits32.Bits32.{Bits32}
+use Rattle.hart_commands.specs.declared.value.UnitValue.{UnitValue}
+use Rattle.hart_commands.specs.declared.value.VariableReading.{VariableReading}
+
+-- A float is four bytes from a place on, kept as they come.
+abbrev pub float_at : List ℕ → ℕ → Bits32
+float_at bytes place = record { 0 = slice_range bytes place (place + 4) }
+
+-- Five bytes hold a unit and a value.
+abbrev pub unit_value_of : List ℕ → UnitValue
+unit_value_of bytes = record { unit = slice_index bytes 0; value = float_at bytes 1 }
+
+-- A unit and a value are written as five bytes.
+abbrev pub unit_value_bytes : UnitValue → List ℕ
+unit_value_bytes v = v.unit ∷ v.value.0
+
+-- Eight bytes hold a variable code, its classification, its unit, its value and its status.
+abbrev pub variable_of : List ℕ → VariableReading
+variable_of bytes = record {
+  code = slice_index bytes 0;
+  classification = slice_index bytes 1;
+  unit = slice_index bytes 2;
+  value = float_at bytes 3;
+  status = slice_index bytes 7;
+}
+
+-- A variable is written as eight bytes.
+abbrev pub variable_bytes : VariableReading → List ℕ
+variable_bytes v = v.code ∷ v.classification ∷ v.unit ∷ (v.value.0 ++ v.status ∷ [])

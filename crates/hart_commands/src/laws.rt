@@ -1,0 +1,41 @@
+//! Laws over the definitions alone, for the crates above.
+ghost use Rattle.std.specs.Prelude.{◌≡◌, ◌↔◌, ◌++◌, List, ℕ, Ok, Some, IsTrue, IsSome};
+ghost use Rattle.hart_commands.specs.RequestData.{IsRequest, MayFollow, command_of};
+ghost use Rattle.hart_commands.specs.RequestData.{request_reading, request_data};
+ghost use Rattle.hart_commands.specs.RequestCode.{is_write};
+ghost use Rattle.hart_commands.specs.Registers.{overwrite_of};
+ghost use Rattle.hart_commands.specs.ReplyData.{IsReply};
+ghost use Rattle.hart_commands.specs.ReplyData.{reply_reading, reply_payload};
+ghost use Rattle.hart_commands.specs.declared.request.Request.{Request};
+ghost use Rattle.hart_commands.specs.declared.reply.Reply.{Reply};
+
+use hart_values::the_test_tells_dates;
+
+/// The data that a request is written as are read as that request, whatever may follow them.
+pub fn written_data_are_read_again()
+    ensures { (request : Request) (rest : List ℕ) → IsRequest request → MayFollow request rest
+        → request_reading (command_of request) (request_data request ++ rest) ≡ Ok request }
+{
+    the_test_tells_dates();
+}
+
+/// What is read of a command and its data is a well-made request of that command.
+pub fn requests_have_their_command()
+    ensures { (command : ℕ) (bytes : List ℕ) (request : Request)
+        → request_reading command bytes ≡ Ok request → (command_of request ≡ command) × IsRequest request }
+{
+    the_test_tells_dates();
+}
+
+/// A request has an overwrite exactly where its command is a configuration write.
+pub fn writes_have_overwrites()
+    ensures { (request : Request) → IsTrue (is_write (command_of request)) ↔ IsSome (overwrite_of request) }
+{}
+
+/// The payload that a reply is written as is read as that reply, for every well-made reply; and every reply that is read is
+/// well made.
+pub fn written_payloads_are_read_again()
+    ensures again { (reply : Reply) → IsReply reply → reply_reading reply.command (reply_payload reply) ≡ Some reply }
+    ensures well_made { (command : ℕ) (payload : List ℕ) (reply : Reply)
+        → reply_reading command payload ≡ Some reply → IsReply reply × (reply.command ≡ command) }
+{}

@@ -1,0 +1,50 @@
+//! What the data bytes of HART messages mean: requests, replies and what a write overwrites (HCF_SPEC-127).
+//!
+//! The tables of the standard, command by command, are definitions of `specs/`: what the data bytes of a request ask, or
+//! with which response code they are refused, and what the payload of a reply tells. [`Request::read`] and [`Reply::read`]
+//! give exactly that, and `write` goes the way back.
+//!
+//! ```rust
+//! let request = Request::read(19, &[0x01, 0x23, 0x45, 0x67])?;
+//! assert_eq!(rt; request, Request::WriteAssembly([0x01, 0x23, 0x45]));
+//! let mut data = Payload::new();
+//! request.write(&mut data);
+//! assert_eq!(rt; data.as_slice(), [0x01, 0x23, 0x45].as_slice());
+//! ```
+//!
+//! Who answers, and with what, is not of this crate. No call of it takes memory.
+#![tactic(auto)]
+
+mod code_list;
+mod content;
+mod identity;
+mod laws;
+mod output;
+mod overwrite;
+mod refusal;
+mod register;
+mod reply;
+mod request;
+mod sensor;
+mod short_list;
+mod tag_bytes;
+mod value;
+
+pub use code_list::CodeList;
+pub use content::ReplyContent;
+pub use identity::IdentityContent;
+pub use laws::{
+    requests_have_their_command, writes_have_overwrites, written_data_are_read_again,
+    written_payloads_are_read_again,
+};
+pub use output::OutputContent;
+pub use overwrite::{Overwrite, is_write, writes_of};
+pub use register::Register;
+pub use reply::Reply;
+pub use request::Request;
+pub use sensor::SensorContent;
+pub use short_list::ShortList;
+pub use value::{UnitValue, VariableReading};
+
+#[cfg(test)]
+mod tests;

@@ -1,0 +1,78 @@
+ghost use Rattle.std.specs.Prelude.{◌≡◌, ◌≤◌, ◌++◌, length};
+ghost use Rattle.hart_commands.specs.OutputBytes.{output_of, output_bytes};
+
+use hart_values::{Bits32, Payload};
+
+/// What a device tells of its loop current output (HCF_SPEC-127, Command 15).
+#[derive(Clone, Copy, Debug, PartialEq, Eq)]
+pub struct OutputContent {
+    /// What the loop current does at an alarm.
+    pub alarm_code: u8,
+    /// The code of the transfer function.
+    pub transfer_function: u8,
+    /// The code of the unit of the range values.
+    pub unit: u8,
+    /// The value at the upper end of the loop current.
+    pub upper_range_value: Bits32,
+    /// The value at the lower end of the loop current.
+    pub lower_range_value: Bits32,
+    /// The damping, in seconds.
+    pub damping: Bits32,
+    /// Whether the device is write protected: 0 no, 1 yes.
+    pub write_protect_code: u8,
+    /// A byte that the standard reserves, 250.
+    pub reserved: u8,
+    /// The flags of the analog channel.
+    pub channel_flags: u8,
+}
+
+impl OutputContent {
+    /// What 18 bytes tell.
+    pub(crate) fn from_bytes(bytes: [u8; 18]) -> Self
+        ensures { result ≡ output_of bytes }
+    {
+        let [
+            alarm_code,
+            transfer_function,
+            unit,
+            u0,
+            u1,
+            u2,
+            u3,
+            l0,
+            l1,
+            l2,
+            l3,
+            d0,
+            d1,
+            d2,
+            d3,
+            write_protect_code,
+            reserved,
+            channel_flags,
+        ] = bytes;
+        OutputContent {
+            alarm_code,
+            transfer_function,
+            unit,
+            upper_range_value: Bits32([u0, u1, u2, u3]),
+            lower_range_value: Bits32([l0, l1, l2, l3]),
+            damping: Bits32([d0, d1, d2, d3]),
+            write_protect_code,
+            reserved,
+            channel_flags,
+        }
+    }
+
+    /// Adds the 18 bytes at the end of a payload.
+    pub(crate) fn push_to(&self, payload: &mut Payload)
+        requires { length payload.old ≤ 200 }
+        ensures { payload.new ≡ payload.old ++ output_bytes self.now }
+    {
+        payload.extend_from_slice(&[self.alarm_code, self.transfer_function, self.unit]);
+        payload.extend_from_slice(&self.upper_range_value.0);
+        payload.extend_from_slice(&self.lower_range_value.0);
+        payload.extend_from_slice(&self.damping.0);
+        payload.extend_from_slice(&[self.write_protect_code, self.reserved, self.channel_flags]);
+    }
+}

@@ -1,0 +1,84 @@
+ghost use Rattle.std.specs.Prelude.{◌≡◌, IfSome};
+ghost use Rattle.hart_commands.specs.RequestData.{is_known};
+ghost use Rattle.hart_commands.specs.ReplyData.{IsReply, reply_reading, reply_payload};
+
+use crate::refusal::NOT_IMPLEMENTED;
+use crate::reply::reading::read_content;
+use crate::reply::writing::push_content;
+use crate::{ReplyContent, Request};
+use hart_values::{DeviceStatus, Payload, ResponseCode};
+
+mod reading;
+mod writing;
+
+/// What a device replies to a command (HCF_SPEC-127).
+#[derive(Debug, Drop, PartialEq, Eq)]
+pub struct Reply {
+    /// The number of the command that is replied to.
+    pub command: u8,
+    /// The response code, 0 being success.
+    pub code: ResponseCode,
+    /// The state of the device.
+    pub status: DeviceStatus,
+    /// What is told: with code 0 the content of the command, otherwise [`ReplyContent::Refused`].
+    pub content: ReplyContent,
+}
+
+impl Reply {
+    /// The reply to a command that a payload holds, or `None` where it holds none: where it has fewer than two bytes, where
+    /// bit 7 of the first is set, where the command is none of 0 to 3, 6 to 9, 11 to 19, 38 and 48, or where
+    /// with code 0 the data are no content of the command.
+    ///
+    /// Data behind those of the content are ignored, and with a code other than 0 all data are.
+    pub fn read(command: u8, payload: &[u8]) -> Option<Self>
+        ensures read { result ≡ reply_reading command payload.now }
+        ensures well_made { IfSome result IsReply }
+    {
+        reply_in(command, payload)
+    }
+
+    /// Replaces `payload` by the two status bytes and the data of the content.
+    ///
+    /// A reply that [`Reply::read`] can give is read again; one that no device says, as with a content of another command, may
+    /// be written too.
+    pub fn write(&self, payload: &mut Payload)
+        ensures { payload.new ≡ reply_payload self.now }
+    {
+        payload.clear();
+        payload.push(self.code.value());
+        payload.push(self.status.0);
+        push_content(&self.content, payload);
+    }
+}
+
+/// The reply to a command that a payload holds.
+fn reply_in(command: u8, payload: &[u8]) -> Option<Reply>
+    ensures { result ≡ reply_reading command payload.now }
+{
+    let (first, rest) = payload.split_first()?;
+    let (second, bytes) = rest.split_first()?;
+    let code = ResponseCode::new(*first).ok()?;
+    let content = if code.value() == 0 {
+        read_content(command, bytes)?
+    } else if is_known(command) {
+        ReplyContent::Refused
+    } else {
+        return None;
+    };
+    Some(Reply {
+        command,
+        code,
+        status: DeviceStatus(*second),
+        content,
+    })
+}
+
+/// Whether a command is in the table.
+fn is_known(command: u8) -> bool
+    ensures { result ≡ is_known command }
+{
+    match Request::read(command, &[]) {
+        Ok(_) => true,
+        Err(code) => code.value() != NOT_IMPLEMENTED,
+    }
+}

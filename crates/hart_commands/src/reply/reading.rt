@@ -1,0 +1,153 @@
+//! The lines of the table of replies.
+ghost use Rattle.std.specs.Prelude.{◌≡◌, ◌<◌, ◌≤◌, IfSome, List, ℕ, length, take, drop, map};
+ghost use Rattle.hart_commands.specs.ReplyData.{content_reading, identity_reading, primary_reading, current_reading, dynamic_reading, polling_reading, variables_reading, message_reading, tag_reading, sensor_reading, output_reading, more_reading};
+
+use crate::identity::FIRST_BYTE;
+use crate::tag_bytes::tag_parts;
+use crate::{
+    IdentityContent, OutputContent, ReplyContent, SensorContent, ShortList, UnitValue,
+    VariableReading,
+};
+use hart_values::{Bits32, ByteList, PackedText};
+
+/// The content of a reply with code 0, by its command's line of the table.
+pub fn read_content(command: u8, bytes: &[u8]) -> Option<ReplyContent>
+    ensures { result ≡ content_reading command bytes.now }
+{
+    match command {
+        0 | 11 => read_identity(bytes),
+        1 => read_primary(bytes),
+        2 => read_current(bytes),
+        3 => read_dynamic(bytes),
+        6 | 7 => read_polling(bytes),
+        8 => Some(ReplyContent::Classes(*bytes.first_chunk()?)),
+        9 => read_variables(bytes),
+        12 | 17 => read_message(bytes),
+        13 | 18 => read_tag(bytes),
+        14 => read_sensor(bytes),
+        15 => read_output(bytes),
+        16 | 19 => Some(ReplyContent::Assembly(*bytes.first_chunk()?)),
+        38 => Some(ReplyContent::Counter(*bytes.first_chunk()?)),
+        48 => read_more(bytes),
+        _ => None,
+    }
+}
+
+/// Commands 0 and 11: an identity, which begins with 254.
+fn read_identity(bytes: &[u8]) -> Option<ReplyContent>
+    ensures { result ≡ identity_reading bytes.now }
+{
+    let identity = bytes.first_chunk::<22>()?;
+    if identity[0] != FIRST_BYTE {
+        return None;
+    }
+    Some(ReplyContent::Identity(IdentityContent::from_bytes(*identity)))
+}
+
+/// Command 1: the primary variable.
+fn read_primary(bytes: &[u8]) -> Option<ReplyContent>
+    ensures { result ≡ primary_reading bytes.now }
+{
+    Some(ReplyContent::Primary(UnitValue::from_bytes(*bytes.first_chunk()?)))
+}
+
+/// Command 2: the loop current and the percent of range.
+fn read_current(bytes: &[u8]) -> Option<ReplyContent>
+    ensures { result ≡ current_reading bytes.now }
+{
+    let [a, b, c, d, e, f, g, h] = *bytes.first_chunk::<8>()?;
+    Some(ReplyContent::Current {
+        loop_current: Bits32([a, b, c, d]),
+        percent_of_range: Bits32([e, f, g, h]),
+    })
+}
+
+/// Command 3: the loop current, and one to four variables.
+fn read_dynamic(bytes: &[u8]) -> Option<ReplyContent>
+    ensures { result ≡ dynamic_reading bytes.now }
+{
+    if bytes.len() < 9 {
+        return None;
+    }
+    let (loop_current, rest) = bytes.split_first_chunk::<4>()?;
+    let (groups, _) = rest.as_chunks::<5>();
+    let mut values = ShortList::new();
+    for group in &groups[..groups.len().min(4)] {
+        values.push(UnitValue::from_bytes(*group));
+    }
+    Some(ReplyContent::Dynamic {
+        loop_current: Bits32(*loop_current),
+        values,
+    })
+}
+
+/// Commands 6 and 7: a polling address and a loop current mode, as they come.
+fn read_polling(bytes: &[u8]) -> Option<ReplyContent>
+    ensures { result ≡ polling_reading bytes.now }
+{
+    let [address, mode] = *bytes.first_chunk::<2>()?;
+    Some(ReplyContent::Polling { address, mode })
+}
+
+/// Command 9: the extended device status, one to eight variables and their time stamp, which ends the data.
+fn read_variables(bytes: &[u8]) -> Option<ReplyContent>
+    ensures { result ≡ variables_reading bytes.now }
+{
+    let (extended_device_status, rest) = bytes.split_first()?;
+    let (groups, time_stamp) = rest.as_chunks::<8>();
+    if groups.is_empty() || 8 < groups.len() || time_stamp.len() != 4 {
+        return None;
+    }
+    let mut variables = ShortList::new();
+    for group in groups {
+        variables.push(VariableReading::from_bytes(*group));
+    }
+    Some(ReplyContent::Variables {
+        extended_device_status: *extended_device_status,
+        variables,
+        time_stamp: *time_stamp.first_chunk()?,
+    })
+}
+
+/// Commands 12 and 17: the message.
+fn read_message(bytes: &[u8]) -> Option<ReplyContent>
+    ensures { result ≡ message_reading bytes.now }
+{
+    Some(ReplyContent::Message(PackedText::from_bytes(*bytes.first_chunk()?)))
+}
+
+/// Commands 13 and 18: a tag, a descriptor and a date, as it comes.
+fn read_tag(bytes: &[u8]) -> Option<ReplyContent>
+    ensures { result ≡ tag_reading bytes.now }
+{
+    let (tag, descriptor, date) = tag_parts(bytes)?;
+    Some(ReplyContent::Tag {
+        tag: PackedText::from_bytes(tag),
+        descriptor: PackedText::from_bytes(descriptor),
+        date,
+    })
+}
+
+/// Command 14: the sensor.
+fn read_sensor(bytes: &[u8]) -> Option<ReplyContent>
+    ensures { result ≡ sensor_reading bytes.now }
+{
+    Some(ReplyContent::Sensor(SensorContent::from_bytes(*bytes.first_chunk()?)))
+}
+
+/// Command 15: the loop current output.
+fn read_output(bytes: &[u8]) -> Option<ReplyContent>
+    ensures { result ≡ output_reading bytes.now }
+{
+    Some(ReplyContent::Output(OutputContent::from_bytes(*bytes.first_chunk()?)))
+}
+
+/// Command 48: the additional status bytes, one to 25.
+fn read_more(bytes: &[u8]) -> Option<ReplyContent>
+    ensures { result ≡ more_reading bytes.now }
+{
+    if bytes.is_empty() {
+        return None;
+    }
+    Some(ReplyContent::More(ByteList::from_slice(&bytes[..bytes.len().min(25)])?))
+}

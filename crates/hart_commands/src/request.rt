@@ -1,0 +1,203 @@
+ghost use Rattle.std.specs.Prelude.{◌≡◌, IfOk};
+ghost use Rattle.hart_commands.specs.RequestData.{IsRequest, request_reading, command_of, request_data, mode_byte};
+
+use crate::CodeList;
+use crate::refusal::{NOT_IMPLEMENTED, code};
+use crate::request::reading::{needed, read_codes, read_polling, read_reset, read_tag};
+use hart_values::{HartDate, LoopMode, PackedText, Payload, PollingAddress, ResponseCode};
+
+mod reading;
+
+/// What a master asks of a device: a command and its data (HCF_SPEC-127).
+#[derive(Debug, Drop, PartialEq, Eq)]
+pub enum Request {
+    /// Command 0: who the device is.
+    Identify,
+    /// Command 1: the primary variable.
+    ReadPrimary,
+    /// Command 2: the loop current and the percent of range.
+    ReadCurrent,
+    /// Command 3: the loop current and the dynamic variables.
+    ReadDynamic,
+    /// Command 6, a write: the polling address and the loop current mode.
+    SetPolling {
+        address: PollingAddress,
+        mode: LoopMode,
+    },
+    /// Command 7: the polling address and the loop current mode.
+    ReadPolling,
+    /// Command 8: the classifications of the dynamic variables.
+    ReadClasses,
+    /// Command 9: the device variables of these codes.
+    ReadVariables(CodeList),
+    /// Command 11: who the device with this tag is.
+    IdentifyByTag(PackedText<6>),
+    /// Command 12: the message.
+    ReadMessage,
+    /// Command 13: the tag, the descriptor and the date.
+    ReadTag,
+    /// Command 14: the sensor.
+    ReadSensor,
+    /// Command 15: the loop current output.
+    ReadOutput,
+    /// Command 16: the final assembly number.
+    ReadAssembly,
+    /// Command 17, a write: the message.
+    WriteMessage(PackedText<24>),
+    /// Command 18, a write: the tag, the descriptor and the date.
+    WriteTag {
+        tag: PackedText<6>,
+        descriptor: PackedText<12>,
+        date: HartDate,
+    },
+    /// Command 19, a write: the final assembly number.
+    WriteAssembly([u8; 3]),
+    /// Command 38: that this master has seen the changes of the configuration, up to this configuration change counter, if
+    /// it names one.
+    ResetChanged(Option<u16>),
+    /// Command 48: the additional status bytes.
+    ReadMore,
+}
+
+impl Request {
+    /// The request that a command asks by these data bytes. Bytes behind those that the command needs are ignored.
+    ///
+    /// # Errors
+    ///
+    /// The first of these response codes that holds, which can be told without a device: 64 where the command is none of 0
+    /// to 3, 6 to 9, 11 to 19, 38 and 48; 5 where there are too few bytes; 2 for an address above 63 and then 12 for a mode above 1 of Command 6; 9 for a
+    /// bad date of Command 18.
+    pub fn read(command: u8, bytes: &[u8]) -> Result<Self, ResponseCode>
+        ensures read { result ≡ request_reading command bytes.now }
+        ensures well_made { IfOk result IsRequest }
+    {
+        Ok(match command {
+            0 => Request::Identify,
+            1 => Request::ReadPrimary,
+            2 => Request::ReadCurrent,
+            3 => Request::ReadDynamic,
+            6 => read_polling(bytes)?,
+            7 => Request::ReadPolling,
+            8 => Request::ReadClasses,
+            9 => read_codes(bytes)?,
+            11 => Request::IdentifyByTag(PackedText::from_bytes(needed(bytes)?)),
+            12 => Request::ReadMessage,
+            13 => Request::ReadTag,
+            14 => Request::ReadSensor,
+            15 => Request::ReadOutput,
+            16 => Request::ReadAssembly,
+            17 => Request::WriteMessage(PackedText::from_bytes(needed(bytes)?)),
+            18 => read_tag(bytes)?,
+            19 => Request::WriteAssembly(needed(bytes)?),
+            38 => read_reset(bytes)?,
+            48 => Request::ReadMore,
+            _ => return Err(code(NOT_IMPLEMENTED)),
+        })
+    }
+
+    /// The number of the command that asks it.
+    pub fn command(&self) -> u8
+        ensures { result ≡ command_of self.now }
+    {
+        match self {
+            Request::Identify => 0,
+            Request::ReadPrimary => 1,
+            Request::ReadCurrent => 2,
+            Request::ReadDynamic => 3,
+            Request::SetPolling { .. } => 6,
+            Request::ReadPolling => 7,
+            Request::ReadClasses => 8,
+            Request::ReadVariables(_) => 9,
+            Request::IdentifyByTag(_) => 11,
+            Request::ReadMessage => 12,
+            Request::ReadTag => 13,
+            Request::ReadSensor => 14,
+            Request::ReadOutput => 15,
+            Request::ReadAssembly => 16,
+            Request::WriteMessage(_) => 17,
+            Request::WriteTag { .. } => 18,
+            Request::WriteAssembly(_) => 19,
+            Request::ResetChanged(_) => 38,
+            Request::ReadMore => 48,
+        }
+    }
+
+    /// The same request.
+    pub fn copy(&self) -> Self
+        ensures { result ≡ self.now }
+    {
+        match self {
+            Request::Identify => Request::Identify,
+            Request::ReadPrimary => Request::ReadPrimary,
+            Request::ReadCurrent => Request::ReadCurrent,
+            Request::ReadDynamic => Request::ReadDynamic,
+            Request::SetPolling { address, mode } => Request::SetPolling {
+                address: *address,
+                mode: *mode,
+            },
+            Request::ReadPolling => Request::ReadPolling,
+            Request::ReadClasses => Request::ReadClasses,
+            Request::ReadVariables(codes) => Request::ReadVariables(codes.copy()),
+            Request::IdentifyByTag(tag) => Request::IdentifyByTag(*tag),
+            Request::ReadMessage => Request::ReadMessage,
+            Request::ReadTag => Request::ReadTag,
+            Request::ReadSensor => Request::ReadSensor,
+            Request::ReadOutput => Request::ReadOutput,
+            Request::ReadAssembly => Request::ReadAssembly,
+            Request::WriteMessage(message) => Request::WriteMessage(*message),
+            Request::WriteTag {
+                tag,
+                descriptor,
+                date,
+            } => Request::WriteTag {
+                tag: *tag,
+                descriptor: *descriptor,
+                date: *date,
+            },
+            Request::WriteAssembly(assembly) => Request::WriteAssembly(*assembly),
+            Request::ResetChanged(counter) => Request::ResetChanged(*counter),
+            Request::ReadMore => Request::ReadMore,
+        }
+    }
+
+    /// Replaces `data` by the bytes that ask it: those that the command needs, and none behind them. Command 6 is always
+    /// written with both of its bytes.
+    pub fn write(&self, data: &mut Payload)
+        ensures written { «data».new ≡ request_data self.now }
+        ensures well_made { IsRequest self.now }
+    {
+        data.clear();
+        match self {
+            Request::SetPolling { address, mode } => {
+                data.extend_from_slice(&[address.number(), mode_byte(*mode)]);
+            }
+            Request::ReadVariables(codes) => data.extend_from_slice(codes.as_slice()),
+            Request::IdentifyByTag(tag) => data.extend_from_slice(tag.as_bytes()),
+            Request::WriteMessage(message) => data.extend_from_slice(message.as_bytes()),
+            Request::WriteTag {
+                tag,
+                descriptor,
+                date,
+            } => {
+                data.extend_from_slice(tag.as_bytes());
+                data.extend_from_slice(descriptor.as_bytes());
+                data.extend_from_slice(date.as_bytes());
+            }
+            Request::WriteAssembly(assembly) => data.extend_from_slice(assembly),
+            Request::ResetChanged(Some(counter)) => {
+                data.extend_from_slice(&counter.to_be_bytes());
+            }
+            _ => {}
+        }
+    }
+}
+
+/// The byte of a loop current mode: 0 disabled, 1 enabled.
+pub(crate) fn mode_byte(mode: LoopMode) -> u8
+    ensures { result ≡ mode_byte mode }
+{
+    match mode {
+        LoopMode::Disabled => 0,
+        LoopMode::Enabled => 1,
+    }
+}

@@ -1,0 +1,75 @@
+//! The lines of the table of requests whose data have parts.
+ghost use Rattle.std.specs.Prelude.{◌≡◌, ◌≤◌, ◌↔◌, length, take, IsOk, IfOk, IfErr};
+ghost use Rattle.hart_commands.specs.RequestData.{polling_reading, codes_reading, tag_reading, reset_reading};
+
+use crate::refusal::{INVALID_DATE, INVALID_MODE, INVALID_SELECTION, TOO_FEW_BYTES, code};
+use crate::tag_bytes::tag_parts;
+use crate::{CodeList, Request};
+use hart_values::{HartDate, LoopMode, PackedText, PollingAddress, ResponseCode};
+
+/// The first `N` bytes, or the code that tells of too few.
+pub fn needed<const N: usize>(all: &[u8]) -> Result<[u8; N], ResponseCode>
+    ensures accepted { IsOk result ↔ (N ≤ length all.now) }
+    ensures first { IfOk result (λ bytes. bytes ≡ take N all.now) }
+    ensures refused { IfErr result (λ code. code ≡ TOO_FEW_BYTES) }
+{
+    match all.first_chunk::<N>() {
+        Some(bytes) => Ok(*bytes),
+        None => Err(code(TOO_FEW_BYTES)),
+    }
+}
+
+/// Command 6: a polling address and, from today's masters, a loop current mode.
+pub fn read_polling(bytes: &[u8]) -> Result<Request, ResponseCode>
+    ensures { result ≡ polling_reading bytes.now }
+{
+    let Some(address) = bytes.first() else {
+        return Err(code(TOO_FEW_BYTES));
+    };
+    let Ok(address) = PollingAddress::new(*address) else {
+        return Err(code(INVALID_SELECTION));
+    };
+    let mode = match bytes.get(1) {
+        None if address.number() == 0 => LoopMode::Enabled,
+        None | Some(0) => LoopMode::Disabled,
+        Some(1) => LoopMode::Enabled,
+        Some(_) => return Err(code(INVALID_MODE)),
+    };
+    Ok(Request::SetPolling { address, mode })
+}
+
+/// Command 9: the codes of device variables.
+pub fn read_codes(bytes: &[u8]) -> Result<Request, ResponseCode>
+    ensures { result ≡ codes_reading bytes.now }
+{
+    match CodeList::new(&bytes[..bytes.len().min(8)]) {
+        Ok(codes) => Ok(Request::ReadVariables(codes)),
+        Err(_) => Err(code(TOO_FEW_BYTES)),
+    }
+}
+
+/// Command 18: a tag, a descriptor and a date.
+pub fn read_tag(bytes: &[u8]) -> Result<Request, ResponseCode>
+    ensures { result ≡ tag_reading bytes.now }
+{
+    let parts = tag_parts(bytes).ok_or(code(TOO_FEW_BYTES))?;
+    let (tag, descriptor, date) = parts;
+    match HartDate::from_bytes(date) {
+        Ok(date) => Ok(Request::WriteTag {
+            tag: PackedText::from_bytes(tag),
+            descriptor: PackedText::from_bytes(descriptor),
+            date,
+        }),
+        Err(_) => Err(code(INVALID_DATE)),
+    }
+}
+
+/// Command 38: no counter, or one of two bytes.
+pub fn read_reset(bytes: &[u8]) -> Result<Request, ResponseCode>
+    ensures { result ≡ reset_reading bytes.now }
+{
+    if bytes.is_empty() {
+        return Ok(Request::ResetChanged(None));
+    }
+    Ok(Request::ResetChanged(Some(u16::from_be_bytes(needed(bytes)?))))
+}

@@ -1,0 +1,64 @@
+ghost use Rattle.std.specs.Prelude.{◌≡◌, ◌≤◌, ◌++◌, length};
+ghost use Rattle.hart_commands.specs.SensorBytes.{sensor_of, sensor_bytes};
+
+use hart_values::{Bits32, Payload};
+
+/// What a device tells of its sensor (HCF_SPEC-127, Command 14).
+#[derive(Clone, Copy, Debug, PartialEq, Eq)]
+pub struct SensorContent {
+    /// The serial number of the transducer.
+    pub serial_number: [u8; 3],
+    /// The code of the unit of the limits and of the span.
+    pub unit: u8,
+    /// The upper limit of the transducer.
+    pub upper_limit: Bits32,
+    /// The lower limit of the transducer.
+    pub lower_limit: Bits32,
+    /// The minimum span of the transducer.
+    pub minimum_span: Bits32,
+}
+
+impl SensorContent {
+    /// What 16 bytes tell.
+    pub(crate) fn from_bytes(bytes: [u8; 16]) -> Self
+        ensures { result ≡ sensor_of bytes }
+    {
+        let [
+            s0,
+            s1,
+            s2,
+            unit,
+            u0,
+            u1,
+            u2,
+            u3,
+            l0,
+            l1,
+            l2,
+            l3,
+            m0,
+            m1,
+            m2,
+            m3,
+        ] = bytes;
+        SensorContent {
+            serial_number: [s0, s1, s2],
+            unit,
+            upper_limit: Bits32([u0, u1, u2, u3]),
+            lower_limit: Bits32([l0, l1, l2, l3]),
+            minimum_span: Bits32([m0, m1, m2, m3]),
+        }
+    }
+
+    /// Adds the 16 bytes at the end of a payload.
+    pub(crate) fn push_to(&self, payload: &mut Payload)
+        requires { length payload.old ≤ 200 }
+        ensures { payload.new ≡ payload.old ++ sensor_bytes self.now }
+    {
+        payload.extend_from_slice(&self.serial_number);
+        payload.push(self.unit);
+        payload.extend_from_slice(&self.upper_limit.0);
+        payload.extend_from_slice(&self.lower_limit.0);
+        payload.extend_from_slice(&self.minimum_span.0);
+    }
+}

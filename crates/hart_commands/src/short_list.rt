@@ -1,0 +1,49 @@
+ghost use Rattle.std.specs.Prelude.{◌≡◌, ◌+◌, ◌<◌, ◌≤◌, [], ◌∷◌, ◌++◌, length};
+
+use arrayvec::ArrayVec;
+use std::marker::Model;
+
+/// A list of at most `N` items, which lie in the value itself.
+///
+/// Contracts see the list of the items.
+#[derive(Debug, Drop, PartialEq, Eq)]
+pub struct ShortList<T, const N: usize> {
+    items: ArrayVec<T, N>,
+}
+
+impl<T, const N: usize> Model for ShortList<T, N> {
+    ghost use Rattle.std.specs.Prelude.{List};
+
+    ghost Value = { List T };
+
+    ghost view = { λ list. list.items.items };
+
+    ghost inverse = { λ xs. record { items = record { items = xs } } };
+}
+
+impl<T: Copy + Default, const N: usize> ShortList<T, N> {
+    /// The list of no items.
+    pub fn new() -> Self
+        ensures { result ≡ [] }
+    {
+        ShortList {
+            items: ArrayVec::new(),
+        }
+    }
+
+    /// Adds an item at the end.
+    pub fn push(&mut self, item: T)
+        requires { length self.old < N }
+        ensures { self.new ≡ self.old ++ item ∷ [] }
+    {
+        self.items.push(item);
+    }
+
+    /// The items, in order.
+    pub fn as_slice(&self) -> &[T]
+        ensures value { result.now ≡ self.now }
+        ensures fits { length result.now ≤ N }
+    {
+        self.items.as_slice()
+    }
+}

@@ -1,0 +1,15 @@
+ghost use Rattle.std.specs.Prelude.{◌≡◌, ◌≤◌, ◌↔◌, length, IsSome, IfSome};
+ghost use Rattle.hart_commands.specs.TagBytes.{tag_in, descriptor_in, date_in};
+
+/// The tag, the descriptor and the date that stand at the front of these bytes, or `None` where the bytes are too few.
+pub fn tag_parts(bytes: &[u8]) -> Option<([u8; 6], [u8; 12], [u8; 3])>
+    ensures accepted { IsSome result ↔ (21 ≤ length bytes.now) }
+    ensures tag { IfSome result (λ parts. parts.0 ≡ tag_in bytes.now) }
+    ensures descriptor { IfSome result (λ parts. parts.1 ≡ descriptor_in bytes.now) }
+    ensures date { IfSome result (λ parts. parts.2 ≡ date_in bytes.now) }
+{
+    let (tag, rest) = bytes.split_first_chunk::<6>()?;
+    let (descriptor, rest) = rest.split_first_chunk::<12>()?;
+    let date = rest.first_chunk::<3>()?;
+    Some((*tag, *descriptor, *date))
+}
