@@ -1,0 +1,206 @@
+use super::*;
+use hart_values::Payload;
+use std::test::Fail;
+
+/// The data of Command 18 but for the year: the tag PUMP-101, sixteen spaces and 29 February.
+const TAG_WITHOUT_YEAR: [u8; 20] = [
+    0x41, 0x53, 0x50, 0xB7, 0x1C, 0x31, 0x82, 0x08, 0x20, 0x82, 0x08, 0x20, 0x82, 0x08, 0x20, 0x82,
+    0x08, 0x20, 0x1D, 0x02,
+];
+
+/// The same with the year 2000.
+const TAG: [u8; 21] = [
+    0x41, 0x53, 0x50, 0xB7, 0x1C, 0x31, 0x82, 0x08, 0x20, 0x82, 0x08, 0x20, 0x82, 0x08, 0x20, 0x82,
+    0x08, 0x20, 0x1D, 0x02, 0x64,
+];
+
+/// The same with the year 1900, which is no leap year.
+const BAD_DATE: [u8; 21] = [
+    0x41, 0x53, 0x50, 0xB7, 0x1C, 0x31, 0x82, 0x08, 0x20, 0x82, 0x08, 0x20, 0x82, 0x08, 0x20, 0x82,
+    0x08, 0x20, 0x1D, 0x02, 0x00,
+];
+
+/// Commands with data, and the data that the requests are written as.
+const REQUESTS: &[(u8, &[u8], &[u8])] = &[
+    (0, &[], &[]),
+    (6, &[0x05], &[0x05, 0x00]),
+    (6, &[0x00], &[0x00, 0x01]),
+    (6, &[0x05, 0x01, 0x77], &[0x05, 0x01]),
+    (6, &[0x3F, 0x00], &[0x3F, 0x00]),
+    (9, &[1, 2, 3, 4, 5, 6, 7, 8, 9], &[1, 2, 3, 4, 5, 6, 7, 8]),
+    (9, &[0xF5], &[0xF5]),
+    (18, &TAG, &TAG),
+    (19, &[0x01, 0x23, 0x45, 0x67], &[0x01, 0x23, 0x45]),
+    (38, &[], &[]),
+    (38, &[0x00, 0x01], &[0x00, 0x01]),
+    (38, &[0x00, 0x01, 0x99], &[0x00, 0x01]),
+    (48, &[0x01], &[]),
+];
+
+#[test]
+fn requests_are_read_and_written(rt: HostRuntime) -> Result<(), Fail> {
+    for (command, bytes, want) in REQUESTS {
+        let request = Request::read(*command, bytes)?;
+        let mut data = Payload::new();
+        request.write(&mut data);
+        assert_eq!(rt; request.command(), *command, "of {bytes:?}");
+        assert_eq!(rt; data.as_slice(), *want, "of {command} with {bytes:?}");
+    }
+    Ok(())
+}
+
+/// Commands with data, and the code that refuses them.
+const REFUSED: &[(u8, &[u8], u8)] = &[
+    (6, &[], 5),
+    (6, &[0x40, 0x01], 2),
+    (6, &[0x40, 0x02], 2),
+    (6, &[0x3F, 0x02], 12),
+    (9, &[], 5),
+    (18, &BAD_DATE, 9),
+    (18, &TAG_WITHOUT_YEAR, 5),
+    (19, &[0x01, 0x23], 5),
+    (38, &[0x00], 5),
+    (4, &[], 64),
+    (5, &[], 64),
+    (10, &[], 64),
+    (20, &[], 64),
+    (21, &[], 64),
+    (22, &[], 64),
+    (31, &[], 64),
+    (255, &[], 64),
+];
+
+#[test]
+fn bad_data_are_refused(rt: HostRuntime) {
+    for (command, bytes, want) in REFUSED {
+        let code = Request::read(*command, bytes)
+            .err()
+            .map(|code| code.value());
+        assert_eq!(rt; code, Some(*want), "of {command} with {bytes:?}");
+    }
+}
+
+/// The identity of a device, in 22 bytes and three that follow.
+const IDENTITY: [u8; 27] = [
+    0x00, 0x00, 0xFE, 0x37, 0x42, 0x05, 0x07, 0x01, 0x02, 0x18, 0x00, 0x0A, 0x1B, 0x2C, 0x05, 0x04,
+    0x00, 0x00, 0x00, 0x00, 0x37, 0x00, 0x37, 0x01, 0x55, 0x55, 0x55,
+];
+
+/// The same with another first byte.
+const NO_IDENTITY: [u8; 24] = [
+    0x00, 0x00, 0xFD, 0x37, 0x42, 0x05, 0x07, 0x01, 0x02, 0x18, 0x00, 0x0A, 0x1B, 0x2C, 0x05, 0x04,
+    0x00, 0x00, 0x00, 0x00, 0x37, 0x00, 0x37, 0x01,
+];
+
+/// Two status bytes and zeros.
+const ZEROS: [u8; 80] = [0; 80];
+
+/// A command, a payload's length and the length of the payload that its reply is written as.
+const LENGTHS: &[(u8, usize, usize)] = &[
+    (3, 2 + 9, 2 + 9),
+    (3, 2 + 13, 2 + 9),
+    (3, 2 + 14, 2 + 14),
+    (3, 2 + 19, 2 + 19),
+    (3, 2 + 24, 2 + 24),
+    (3, 2 + 29, 2 + 24),
+    (9, 2 + 13, 2 + 13),
+    (9, 2 + 21, 2 + 21),
+    (9, 2 + 69, 2 + 69),
+    (48, 2 + 1, 2 + 1),
+    (48, 2 + 25, 2 + 25),
+    (48, 2 + 26, 2 + 25),
+];
+
+#[test]
+fn replies_of_every_length_are_read(rt: HostRuntime) -> Result<(), Fail> {
+    for (command, len, want) in LENGTHS {
+        let bytes = ZEROS.get(..*len).ok_or("at most 80 bytes")?;
+        let reply = Reply::read(*command, bytes).ok_or("a reply")?;
+        let mut payload = Payload::new();
+        reply.write(&mut payload);
+        assert_eq!(rt; payload.len(), *want, "of {command} with {len} bytes");
+    }
+    Ok(())
+}
+
+/// Commands and payloads that hold no reply.
+const NO_REPLIES: &[(u8, &[u8])] = &[
+    (0, &NO_IDENTITY),
+    (0, &[0, 0, 0xFE]),
+    (3, &[0, 0, 1, 2, 3, 4, 5, 6, 7, 8]),
+    (9, &[0, 0, 1, 2, 3, 4, 5, 6, 7, 8, 9, 10, 11, 12]),
+    (48, &[0, 0]),
+    (19, &[0x88, 0x00]),
+    (19, &[0x00]),
+    (5, &[0x40, 0x00]),
+];
+
+#[test]
+fn other_payloads_are_no_replies(rt: HostRuntime) {
+    for (command, payload) in NO_REPLIES {
+        assert!(rt;
+            Reply::read(*command, payload).is_none(),
+            "of {command} with {payload:?}"
+        );
+    }
+}
+
+#[test]
+fn an_identity_has_its_parts(rt: HostRuntime) -> Result<(), Fail> {
+    let reply = Reply::read(0, &IDENTITY).ok_or("an identity")?;
+    let want = IdentityContent {
+        expanded_device_type: [0x37, 0x42],
+        request_preambles: 5,
+        protocol_revision: 7,
+        device_revision: 1,
+        software_revision: 2,
+        hardware_and_signalling: 0x18,
+        flags: 0,
+        device_id: [0x0A, 0x1B, 0x2C],
+        response_preambles: 5,
+        device_variables: 4,
+        configuration_change_counter: [0, 0],
+        extended_device_status: 0,
+        manufacturer: [0x00, 0x37],
+        private_label_distributor: [0x00, 0x37],
+        device_profile: 1,
+    };
+    assert_eq!(rt; reply.content, ReplyContent::Identity(want));
+    let mut payload = Payload::new();
+    reply.write(&mut payload);
+    assert_eq!(rt; payload.as_slice(), &IDENTITY[..24]);
+    Ok(())
+}
+
+#[test]
+fn a_refusal_tells_its_code(rt: HostRuntime) -> Result<(), Fail> {
+    let reply = Reply::read(19, &[0x07, 0x40]).ok_or("a refusal")?;
+    assert_eq!(rt; (reply.code.value(), reply.status.0), (7, 0x40));
+    assert_eq!(rt; reply.content, ReplyContent::Refused);
+    Ok(())
+}
+
+/// Each register, and what a write of TAG gives it.
+const NAMED: &[(Register, Option<&[u8]>)] = &[
+    (Register::Polling, None),
+    (Register::Mode, None),
+    (Register::Message, None),
+    (Register::Tag, Some(&[0x41, 0x53, 0x50, 0xB7, 0x1C, 0x31])),
+    (
+        Register::Descriptor,
+        Some(&[
+            0x82, 0x08, 0x20, 0x82, 0x08, 0x20, 0x82, 0x08, 0x20, 0x82, 0x08, 0x20,
+        ]),
+    ),
+    (Register::Date, Some(&[0x1D, 0x02, 0x64])),
+    (Register::Assembly, None),
+];
+
+#[test]
+fn a_write_names_its_registers(rt: HostRuntime) -> Result<(), Fail> {
+    let overwrite = writes_of(&Request::read(18, &TAG)?).ok_or("a write")?;
+    for (register, want) in NAMED {
+        assert_eq!(rt; overwrite.get(*register), *want, "of {register:?}");
+    }
+    Ok(())
+}
