@@ -11,9 +11,12 @@ pub chunks-flat_map : {X : Type 0} (n : ℕ) (bytes_of : X → List ℕ) (of : L
     → map of (first_chunks n (length xs) (flat_map bytes_of xs ++ rest)) ≡ xs
 chunks-flat_map n bytes_of of P size back [] rest all = refl
 chunks-flat_map {X} n bytes_of of P size back (x ∷ xs) rest all =
-    let whole : (bytes_of x ++ flat_map bytes_of xs) ++ rest ≡ bytes_of x ++ (flat_map bytes_of xs ++ rest) = append_assoc (bytes_of x) (flat_map bytes_of xs) rest in
-    let front : take n ((bytes_of x ++ flat_map bytes_of xs) ++ rest) ≡ bytes_of x = rw whole (take_at (bytes_of x) (flat_map bytes_of xs ++ rest) n (size x all.0)) in
-    let behind : drop n ((bytes_of x ++ flat_map bytes_of xs) ++ rest) ≡ flat_map bytes_of xs ++ rest = rw whole (drop_at (bytes_of x) (flat_map bytes_of xs ++ rest) n (size x all.0)) in
+    let whole : (bytes_of x ++ flat_map bytes_of xs) ++ rest ≡ bytes_of x ++ (flat_map bytes_of xs ++ rest) =
+    append_assoc (bytes_of x) (flat_map bytes_of xs) rest in
+    let front : take n ((bytes_of x ++ flat_map bytes_of xs) ++ rest) ≡ bytes_of x =
+    rw whole (take_at (bytes_of x) (flat_map bytes_of xs ++ rest) n (size x all.0)) in
+    let behind : drop n ((bytes_of x ++ flat_map bytes_of xs) ++ rest) ≡ flat_map bytes_of xs ++ rest =
+    rw whole (drop_at (bytes_of x) (flat_map bytes_of xs ++ rest) n (size x all.0)) in
     let others = chunks-flat_map n bytes_of of P size back xs rest all.1 in
     rw (front, behind, others, back x all.0) refl
 

@@ -33,13 +33,15 @@ same : (m n : ℕ) → m ≡ n → eqb m n ≡ true
 same m n h = grind (arith, nat_tests)
 
 -- a content of so many bytes is read from them
-having-exactly : (size : ℕ) (told : List ℕ → ReplyContent) (bytes : List ℕ) → length bytes ≡ size → having size told bytes ≡ Some (told bytes)
+having-exactly : (size : ℕ) (told : List ℕ → ReplyContent) (bytes : List ℕ) → length bytes ≡ size
+    → having size told bytes ≡ Some (told bytes)
 having-exactly size told bytes long = rw (above (length bytes) size (omega arith), take_all size bytes (omega arith)) refl
 
 identity_is_read : (bytes : List ℕ) → length (254 ∷ bytes) ≡ 22
     → identity_reading (254 ∷ bytes) ≡ Some (Identity (identity_of (254 ∷ bytes)))
 identity_is_read bytes long =
-    rw (above (length (254 ∷ bytes)) 22 (omega arith)) (ap (λ xs. Some (Identity (identity_of xs))) (take_all 22 (254 ∷ bytes) (omega arith)))
+    rw (above (length (254 ∷ bytes)) 22 (omega arith))
+    (ap (λ xs. Some (Identity (identity_of xs))) (take_all 22 (254 ∷ bytes) (omega arith)))
 
 current_is_read : (current percent : Bits32) → length current.0 ≡ 4 → length percent.0 ≡ 4
     → current_reading (current.0 ++ percent.0) ≡ Some (Current current percent)
@@ -53,8 +55,10 @@ dynamic_is_read : (current : Bits32) (values : List UnitValue) → length curren
     → dynamic_reading (current.0 ++ flat_map unit_value_bytes values) ≡ Some (Dynamic current values)
 dynamic_is_read current values four some few all =
     let groups : List ℕ = flat_map unit_value_bytes values in
-    let long : length groups ≡ length values * 5 = length-flat_map 5 unit_value_bytes (λ v. length v.value.0 ≡ 4) unit_value-size values all in
-    let enough : ltb (length (current.0 ++ groups)) 9 ≡ false = above (length (current.0 ++ groups)) 9 (omega (arith, length-append current.0 groups)) in
+    let long : length groups ≡ length values * 5 =
+    length-flat_map 5 unit_value_bytes (λ v. length v.value.0 ≡ 4) unit_value-size values all in
+    let enough : ltb (length (current.0 ++ groups)) 9 ≡ false =
+    above (length (current.0 ++ groups)) 9 (omega (arith, length-append current.0 groups)) in
     let front : take 4 (current.0 ++ groups) ≡ current.0 = take_at current.0 groups 4 four in
     let behind : drop 4 (current.0 ++ groups) ≡ groups = drop_at current.0 groups 4 four in
     let count : min (length groups / 5) 4 ≡ length values = omega arith in
@@ -68,13 +72,22 @@ variables_are_read : (status : ℕ) (variables : List VariableReading) (time : L
     → variables_reading (status ∷ (flat_map variable_bytes variables ++ time)) ≡ Some (Variables status variables time)
 variables_are_read status variables time some few all four =
     let groups : List ℕ = flat_map variable_bytes variables in
-    let long : length groups ≡ length variables * 8 = length-flat_map 8 variable_bytes (λ v. length v.value.0 ≡ 4) variable-size variables all in
+    let long : length groups ≡ length variables * 8 =
+    length-flat_map 8 variable_bytes (λ v. length v.value.0 ≡ 4) variable-size variables all in
     let whole : length (status ∷ (groups ++ time)) ≡ 5 + 8 * length variables = omega (arith, length-append groups time) in
     let count : (length (status ∷ (groups ++ time)) - 5) / 8 ≡ length variables = omega arith in
-    let after : drop (1 + 8 * length variables) (status ∷ (groups ++ time)) ≡ time = drop_at (status ∷ groups) time (1 + 8 * length variables) (omega arith) in
+    let after : drop (1 + 8 * length variables) (status ∷ (groups ++ time)) ≡ time =
+    drop_at (status ∷ groups) time (1 + 8 * length variables) (omega arith) in
     let read : map variable_of (first_chunks 8 (length variables) (groups ++ time)) ≡ variables =
     chunks-flat_map 8 variable_bytes variable_of (λ v. length v.value.0 ≡ 4) variable-size variable-back variables time all in
-    rw (count, below 0 (length variables) some, below (length variables) 9 (omega arith), same (length (status ∷ (groups ++ time))) (5 + 8 * length variables) whole, after, read) refl
+    rw (
+      count,
+      below 0 (length variables) some,
+      below (length variables) 9 (omega arith),
+      same (length (status ∷ (groups ++ time))) (5 + 8 * length variables) whole,
+      after,
+      read,
+    ) refl
 
 tag_is_read : (tag descriptor date : List ℕ) → length tag ≡ 6 → length descriptor ≡ 12 → length date ≡ 3
     → tag_reading (tag ++ descriptor ++ date) ≡ Some (Tag tag descriptor date)
@@ -95,7 +108,8 @@ content_is_read command (Identity identity) (inl by) is =
 content_is_read command (Identity identity) (inr by) is =
     rw by (identity_is_read _ (identity-back identity is).1 ∙ ap (λ i. Some (Identity i)) (identity-back identity is).0)
 content_is_read command (Primary value) by is =
-    rw by (having-exactly 5 (λ xs. Primary (unit_value_of xs)) (unit_value_bytes value) (unit_value-size value is) ∙ ap (λ v. Some (Primary v)) (unit_value-back value is))
+    rw by (having-exactly 5 (λ xs. Primary (unit_value_of xs)) (unit_value_bytes value) (unit_value-size value is)
+    ∙ ap (λ v. Some (Primary v)) (unit_value-back value is))
 content_is_read command (Current current percent) by is = rw by (current_is_read current percent is.0 is.1)
 content_is_read command (Dynamic current values) by is = rw by (dynamic_is_read current values is.0 is.1 is.2 is.3)
 content_is_read command (Polling address mode) (inl by) is = rw by refl
@@ -107,9 +121,11 @@ content_is_read command (Message message) (inr by) is = rw by (having-exactly 24
 content_is_read command (Tag tag descriptor date) (inl by) is = rw by (tag_is_read tag descriptor date is.0 is.1 is.2)
 content_is_read command (Tag tag descriptor date) (inr by) is = rw by (tag_is_read tag descriptor date is.0 is.1 is.2)
 content_is_read command (Sensor sensor) by is =
-    rw by (having-exactly 16 (λ xs. Sensor (sensor_of xs)) (sensor_bytes sensor) (sensor-back sensor is).1 ∙ ap (λ s. Some (Sensor s)) (sensor-back sensor is).0)
+    rw by (having-exactly 16 (λ xs. Sensor (sensor_of xs)) (sensor_bytes sensor) (sensor-back sensor is).1
+    ∙ ap (λ s. Some (Sensor s)) (sensor-back sensor is).0)
 content_is_read command (Output output) by is =
-    rw by (having-exactly 18 (λ xs. Output (output_of xs)) (output_bytes output) (output-back output is).1 ∙ ap (λ o. Some (Output o)) (output-back output is).0)
+    rw by (having-exactly 18 (λ xs. Output (output_of xs)) (output_bytes output) (output-back output is).1
+    ∙ ap (λ o. Some (Output o)) (output-back output is).0)
 content_is_read command (Assembly assembly) (inl by) is = rw by (having-exactly 3 Assembly assembly is)
 content_is_read command (Assembly assembly) (inr by) is = rw by (having-exactly 3 Assembly assembly is)
 content_is_read command (Counter counter) by is = rw by (having-exactly 2 Counter counter is)
@@ -118,6 +134,12 @@ content_is_read command (More (byte ∷ bytes)) by is = rw by (ap (λ xs. Some (
 content_is_read command Refused by is = absurd by
 
 pub written_is_read : (reply : Reply) → IsReply reply → reply_reading reply.command (reply_payload reply) ≡ Some reply
-written_is_read reply (inl success) = rw (success.0, content_is_read reply.command reply.content success.1 success.2) (let code = success.0 in cc)
+written_is_read reply (inl success) =
+    rw (success.0, content_is_read reply.command reply.content success.1 success.2) (let code = success.0 in cc)
 written_is_read reply (inr refused) =
-    rw (above 127 reply.code (omega (arith, refused.1)), apart reply.code 0 (λ e. absurd (omega (arith, refused.0))), refused.2, refused.3) (let content = refused.3 in cc)
+    rw (
+      above 127 reply.code (omega (arith, refused.1)),
+      apart reply.code 0 (λ e. absurd (omega (arith, refused.0))),
+      refused.2,
+      refused.3,
+    ) (let content = refused.3 in cc)

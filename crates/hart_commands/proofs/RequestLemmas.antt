@@ -31,7 +31,8 @@ pub record HasParts (bytes tag descriptor date : List ℕ) : Type 0 where
 pub parts-append : (tag descriptor date rest : List ℕ) → length tag ≡ 6 → length descriptor ≡ 12 → length date ≡ 3
     → HasParts (tag ++ descriptor ++ date ++ rest) tag descriptor date
 parts-append tag descriptor date rest six twelve three =
-    let behind_tag : drop 6 (tag ++ (descriptor ++ (date ++ rest))) ≡ descriptor ++ (date ++ rest) = drop_at tag (descriptor ++ (date ++ rest)) 6 six in
+    let behind_tag : drop 6 (tag ++ (descriptor ++ (date ++ rest))) ≡ descriptor ++ (date ++ rest) =
+    drop_at tag (descriptor ++ (date ++ rest)) 6 six in
     let both : (tag ++ descriptor) ++ date ++ rest ≡ tag ++ (descriptor ++ (date ++ rest)) = simp append_assoc in
     let eighteen : drop 18 ((tag ++ descriptor) ++ (date ++ rest)) ≡ date ++ rest =
     drop_at (tag ++ descriptor) (date ++ rest) 18 (omega (arith, length-append tag descriptor)) in
@@ -54,7 +55,8 @@ pub written_is_read : ((bytes : List ℕ) → IsDateBytes bytes → is_date byte
 written_is_read dates (SetPolling address Disabled) rest is may = let t : ltb 63 address ≡ false = grind (arith, nat_tests) in rw t refl
 written_is_read dates (SetPolling address Enabled) rest is may = let t : ltb 63 address ≡ false = grind (arith, nat_tests) in rw t refl
 written_is_read dates (ReadVariables []) rest is may = absurd (omega (arith, is.0))
-written_is_read dates (ReadVariables (code ∷ codes)) rest is may = ap (λ xs. Ok (ReadVariables xs)) (take-codes (code ∷ codes) rest is.1 may)
+written_is_read dates (ReadVariables (code ∷ codes)) rest is may =
+    ap (λ xs. Ok (ReadVariables xs)) (take-codes (code ∷ codes) rest is.1 may)
 written_is_read dates (IdentifyByTag tag) rest is may = needing-append 6 IdentifyByTag tag rest is
 written_is_read dates (WriteMessage message) rest is may = needing-append 24 WriteMessage message rest is
 written_is_read dates (WriteTag tag descriptor date) rest is may =

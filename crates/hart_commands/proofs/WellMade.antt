@@ -85,7 +85,8 @@ is_either m a b t = go (eqb m a) refl t
 identity-told : (command : ℕ) (bytes : List ℕ) → (command ≡ 0) ⊎ (command ≡ 11) → IfSome (identity_reading bytes) (IsTold command)
 identity-told command bytes by = go 22 (cases_lt (length bytes) 22) refl
   where
-    named : (size : ℕ) → size ≡ 22 → size ≤ length bytes → (b : Bool) → IfSome (if b then Some (Identity (identity_of (take size bytes))) else None) (IsTold command)
+    named : (size : ℕ) → size ≡ 22 → size ≤ length bytes → (b : Bool)
+        → IfSome (if b then Some (Identity (identity_of (take size bytes))) else None) (IsTold command)
     named size is more true = (by, identity-sized (take size bytes) (omega (arith, length-take-le size bytes more)))
     named size is more false = tt
 
@@ -122,8 +123,11 @@ three_tests false b c e = absurd (cc)
 variables-told : (bytes : List ℕ) → IfSome (variables_reading bytes) (IsTold 9)
 variables-told bytes =
     let groups : ℕ = (length bytes - 5) / 8 in
-    let count : length (map variable_of (first_chunks 8 groups (drop 1 bytes))) ≡ groups = length-chunks 8 groups variable_of (drop 1 bytes) in
-    by_test _ (Some (Variables (slice_index bytes 0) (map variable_of (first_chunks 8 groups (drop 1 bytes))) (drop (1 + 8 * groups) bytes))) None (IsTold 9)
+    let count : length (map variable_of (first_chunks 8 groups (drop 1 bytes))) ≡ groups =
+    length-chunks 8 groups variable_of (drop 1 bytes) in
+    by_test _
+    (Some (Variables (slice_index bytes 0) (map variable_of (first_chunks 8 groups (drop 1 bytes))) (drop (1 + 8 * groups) bytes)))
+    None (IsTold 9)
     (λ t.
     let tests = three_tests (ltb 0 groups) (ltb groups 9) (eqb (length bytes) (5 + 8 * groups)) t in
     let some : 0 < groups = (let h = tests.0 in grind (arith, nat_tests)) in
@@ -133,7 +137,8 @@ variables-told bytes =
       (
         omega arith,
         omega arith,
-        chunks-sized 8 groups variable_of (λ v. length v.value.0 ≡ 4) (λ xs eight. float-sized xs 3 (omega arith)) (drop 1 bytes) (omega (arith, length-drop 1 bytes)),
+        chunks-sized 8 groups variable_of (λ v. length v.value.0 ≡ 4) (λ xs eight. float-sized xs 3 (omega arith)) (drop 1 bytes)
+            (omega (arith, length-drop 1 bytes)),
         omega (arith, length-drop (1 + 8 * groups) bytes),
       ),
     ))
@@ -180,13 +185,15 @@ content-told command bytes =
     by_test _ (more_reading bytes) None (IsTold command) (λ t. rw (is_one command 48 t) (more-told bytes)) (λ f. tt))))))))))))))
 
 -- a reply_reading, where it gives a reply, gives a well-made one to this command
-pub reading-told : (command : ℕ) (payload : List ℕ) → IfSome (reply_reading command payload) (λ reply. IsReply reply × (reply.command ≡ command))
+pub reading-told : (command : ℕ) (payload : List ℕ)
+    → IfSome (reply_reading command payload) (λ reply. IsReply reply × (reply.command ≡ command))
 reading-told command [] = tt
 reading-told command (code ∷ []) = tt
 reading-told command (code ∷ status ∷ bytes) =
     by_test _ _ _ _ (λ t. tt) (λ small.
     by_test _ _ _ _ (λ t. success (content_reading command bytes) (is_one code 0 t) (content-told command bytes)) (λ refused.
-    by_test (is_known command) (Some (telling Refused)) None Told (λ known. (inr (positive refused, below_128 small, known, refl), refl)) (λ f. tt)))
+    by_test (is_known command) (Some (telling Refused)) None Told (λ known. (inr (positive refused, below_128 small, known, refl), refl))
+    (λ f. tt)))
   where
     telling : ReplyContent → Reply
     telling content = record { command = command; code = code; status = record { 0 = status }; content = content }
@@ -206,7 +213,8 @@ reading-told command (code ∷ status ∷ bytes) =
     below_128 f = grind (arith, nat_tests)
 
 -- the same of a reply that was read
-pub read-told : (command : ℕ) (payload : List ℕ) (reply : Reply) → reply_reading command payload ≡ Some reply → IsReply reply × (reply.command ≡ command)
+pub read-told : (command : ℕ) (payload : List ℕ) (reply : Reply) → reply_reading command payload ≡ Some reply
+    → IsReply reply × (reply.command ≡ command)
 read-told command payload reply e =
     let P : Option Reply → Type 0 = λ o. IfSome o (λ r. IsReply r × (r.command ≡ command)) in subst P e (reading-told command payload)
 
