@@ -29,7 +29,7 @@ impl Reply {
     /// bit 7 of the first is set, where the command is none of 0 to 3, 6 to 9, 11 to 19, 38 and 48, or where
     /// with code 0 the data are no content of the command.
     ///
-    /// Data behind those of the content are ignored, and with a code other than 0 all data are.
+    /// Data after those of the content are ignored, and with a code other than 0 all data are.
     pub fn read(command: u8, payload: &[u8]) -> Option<Self>
         ensures read { result ≡ reply_reading command payload.now }
         ensures well_made { IfSome result IsReply }

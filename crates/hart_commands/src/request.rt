@@ -60,13 +60,13 @@ pub enum Request {
 }
 
 impl Request {
-    /// The request that a command asks by these data bytes. Bytes behind those that the command needs are ignored.
+    /// The request that a command asks by these data bytes. Bytes after those that the command needs are ignored.
     ///
     /// # Errors
     ///
     /// The first of these response codes that holds, which can be told without a device: 64 where the command is none of 0
-    /// to 3, 6 to 9, 11 to 19, 38 and 48; 5 where there are too few bytes; 2 for an address above 63 and then 12 for a mode above 1 of Command 6; 9 for a
-    /// bad date of Command 18.
+    /// to 3, 6 to 9, 11 to 19, 38 and 48; 5 where there are too few bytes; 2 for an address above 63 of Command 6, and then 12
+    /// for a mode above 1; 9 for a bad date of Command 18.
     pub fn read(command: u8, bytes: &[u8]) -> Result<Self, ResponseCode>
         ensures read { result ≡ request_reading command bytes.now }
         ensures well_made { IfOk result IsRequest }
@@ -160,7 +160,7 @@ impl Request {
         }
     }
 
-    /// Replaces `data` by the bytes that ask it: those that the command needs, and none behind them. Command 6 is always
+    /// Replaces `data` by the bytes that ask it: those that the command needs, and none after them. Command 6 is always
     /// written with both of its bytes.
     pub fn write(&self, data: &mut Payload)
         ensures written { «data».new ≡ request_data self.now }
