@@ -28,10 +28,8 @@ pub fn answer<R: Source, W: Sink>(
     writer: &mut W,
 ) -> Result<(), CliFault>
     ensures { AnswerOutcome
-        (record { bytes = R.remaining reader.old; failures = R.failures reader.old })
-        (record { bytes = R.remaining reader.new; failures = R.failures reader.new })
-        (record { bytes = W.written writer.old; failures = W.failures writer.old })
-        (record { bytes = W.written writer.new; failures = W.failures writer.new })
+        (R.stream reader.old) (R.stream reader.new)
+        (W.stream writer.old) (W.stream writer.new)
         result }
 {
     let input = read_input(alloc, reader)?;

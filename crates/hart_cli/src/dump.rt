@@ -27,10 +27,8 @@ pub fn dump<R: Source, W: Sink>(
     writer: &mut W,
 ) -> Result<(), CliFault>
     ensures { DumpOutcome
-        (record { bytes = R.remaining reader.old; failures = R.failures reader.old })
-        (record { bytes = R.remaining reader.new; failures = R.failures reader.new })
-        (record { bytes = W.written writer.old; failures = W.failures writer.old })
-        (record { bytes = W.written writer.new; failures = W.failures writer.new })
+        (R.stream reader.old) (R.stream reader.new)
+        (W.stream writer.old) (W.stream writer.new)
         result }
 {
     let input = read_input(alloc, reader)?;
@@ -56,12 +54,10 @@ pub fn one_dump()
 /// Writes a line for each frame of the characters.
 fn write_frames<W: Sink>(alloc: Global, chars: &[Char], writer: &mut W) -> Result<(), CliFault>
     ensures all { OnOk result ((lines : List ℕ) × AreLines chars.now lines × WritesAll
-        (record { bytes = W.written writer.old; failures = W.failures writer.old })
-        (record { bytes = W.written writer.new; failures = W.failures writer.new })
+        (W.stream writer.old) (W.stream writer.new)
         lines) }
     ensures first { IfErr result (λ fault. WritesFirstLines chars.now
-        (record { bytes = W.written writer.old; failures = W.failures writer.old })
-        (record { bytes = W.written writer.new; failures = W.failures writer.new })
+        (W.stream writer.old) (W.stream writer.new)
         (Err fault)) }
 {
     // It does nothing when it runs: by this law what was written is a front of the lines of all frames.

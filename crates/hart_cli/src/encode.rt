@@ -33,8 +33,7 @@ pub fn encode_text<W: Sink>(
     ensures { EncodeOutcome
         (record { who = who.now; address = address.now; command = command.now; payload = payload.now })
         preambles
-        (record { bytes = W.written writer.old; failures = W.failures writer.old })
-        (record { bytes = W.written writer.new; failures = W.failures writer.new })
+        (W.stream writer.old) (W.stream writer.new)
         result }
 {
     let request = read_request(who, address, command, payload)?;

@@ -42,12 +42,10 @@ pub struct Input {
 /// `AllocError` if a growth was refused.
 pub fn read_input<R: Source>(alloc: Global, reader: &mut R) -> Result<Input, AllocError>
     ensures reads { IfOk result (λ input. Reads
-        (record { bytes = R.remaining reader.old; failures = R.failures reader.old })
-        (record { bytes = R.remaining reader.new; failures = R.failures reader.new })
+        (R.stream reader.old) (R.stream reader.new)
         input.text.items input.end) }
     ensures lacks_memory { OnErr result (LacksMemory
-        (record { bytes = R.remaining reader.old; failures = R.failures reader.old })
-        (record { bytes = R.remaining reader.new; failures = R.failures reader.new })) }
+        (R.stream reader.old) (R.stream reader.new)) }
 {
     let mut text = Vec::new(alloc);
     let mut buffer = [0; BUFFER_LEN];

@@ -2,10 +2,9 @@
 
 ghost use Rattle.std.specs.Prelude.{◌≡◌, ◌≤◌, IfOk, OnOk, OnErr};
 ghost use Rattle.std.specs.String.{string_bytes};
-ghost use Rattle.std.specs.Io.KnownBytes.{Appends};
 ghost use Rattle.hart_cli.specs.HexText.{hex_line};
 ghost use Rattle.hart_cli.specs.MessageLine.{IsMessageLine};
-ghost use Rattle.hart_cli.specs.Stream.{CountsFailure, WritesFront};
+ghost use Rattle.hart_cli.specs.Stream.{FailsToWrite, WritesAll};
 
 use crate::stream::{Failed, Sink};
 use hart_frame::{Frame, Message, encode};
@@ -51,10 +50,8 @@ pub fn message_line(alloc: Global, frame: &Frame, preambles: u8) -> Result<Strin
 ///
 /// `Failed` at the first write that fails. A front of the text is written then.
 pub fn write_all<W: Sink>(writer: &mut W, text: &[u8]) -> Result<(), Failed>
-    ensures ok { OnOk result (Appends (W.written writer.old) (W.written writer.new) text.now) }
-    ensures err { OnErr result
-        (WritesFront (W.written writer.old) (W.written writer.new) text.now) }
-    ensures count { CountsFailure (W.failures writer.old) (W.failures writer.new) result }
+    ensures ok { OnOk result (WritesAll (W.stream writer.old) (W.stream writer.new) text.now) }
+    ensures err { OnErr result (FailsToWrite (W.stream writer.old) (W.stream writer.new) text.now) }
 {
     let mut rest = text;
     while !rest.is_empty() {

@@ -49,9 +49,7 @@ impl<T> Plain<T> {
 impl<R: Read> Source for Plain<R> {
     ghost use Rattle.hart_cli.specs.Plain.{plain_failures, plain_inner};
 
-    ghost remaining = { λ plain. R.remaining (plain_inner plain) };
-
-    ghost failures = { plain_failures };
+    ghost stream = { λ plain. record { bytes = R.remaining (plain_inner plain); failures = plain_failures plain } };
 
     fn read(&mut self, buffer: &mut [u8]) -> Result<usize, Failed> {
         match self.inner.read(buffer) {
@@ -64,9 +62,7 @@ impl<R: Read> Source for Plain<R> {
 impl<W: Write> Sink for Plain<W> {
     ghost use Rattle.hart_cli.specs.Plain.{plain_failures, plain_inner};
 
-    ghost written = { λ plain. W.contents (plain_inner plain) };
-
-    ghost failures = { plain_failures };
+    ghost stream = { λ plain. record { bytes = W.contents (plain_inner plain); failures = plain_failures plain } };
 
     fn write(&mut self, bytes: &[u8]) -> Result<usize, Failed> {
         match self.inner.write(bytes) {

@@ -41,12 +41,9 @@ pub fn program<R: Source, W: Sink, E: Sink>(
     errors: &mut E,
 ) -> u8
     ensures ran { result ≢ 2 → Ran (map string_bytes words.now)
-        (record { bytes = R.remaining reader.old; failures = R.failures reader.old })
-        (record { bytes = R.remaining reader.new; failures = R.failures reader.new })
-        (record { bytes = W.written writer.old; failures = W.failures writer.old })
-        (record { bytes = W.written writer.new; failures = W.failures writer.new })
-        (record { bytes = E.written errors.old; failures = E.failures errors.old })
-        (record { bytes = E.written errors.new; failures = E.failures errors.new })
+        (R.stream reader.old) (R.stream reader.new)
+        (W.stream writer.old) (W.stream writer.new)
+        (E.stream errors.old) (E.stream errors.new)
         result }
     ensures unread { result ≡ 2 → reader.new ≡ reader.old }
     ensures unwritten { result ≡ 2 → writer.new ≡ writer.old }
@@ -77,8 +74,7 @@ pub fn program<R: Source, W: Sink, E: Sink>(
 fn finish<E: Sink>(outcome: Result<(), CliFault>, errors: &mut E) -> u8
     ensures status { result ≡ status_of outcome }
     ensures fault { IfErr outcome (λ fault. WritesUnlessFailed
-        (record { bytes = E.written errors.old; failures = E.failures errors.old })
-        (record { bytes = E.written errors.new; failures = E.failures errors.new })
+        (E.stream errors.old) (E.stream errors.new)
         (fault_line fault)) }
     ensures quiet { result ≡ 0 → errors.new ≡ errors.old }
 {

@@ -10,9 +10,9 @@ use Rattle.hart_cli.proofs.answer.answer.Goals as goal
 pub returns-in-Some : goal.returns-in-Some
 returns-in-Some g c =
     AnswerOutcome-fault
-    (record { bytes = g.R.Source.remaining c.args.reader.now; failures = g.R.Source.failures c.args.reader.now })
-    (record { bytes = g.R.Source.remaining c.read_input.new.reader; failures = g.R.Source.failures c.read_input.new.reader })
-    (record { bytes = g.W.Sink.written c.args.writer.now; failures = g.W.Sink.failures c.args.writer.now })
+    (g.R.Source.stream c.args.reader.now)
+    (g.R.Source.stream c.read_input.new.reader)
+    (g.W.Sink.stream c.args.writer.now)
     _ _ _ _ c.in-Some.fault c.in-Ended.is c.in-Some.is c.in_ok-input.ensures.reads c.in_ok-delivery.ensures
 
 pub returns-in_default-requesting_master : goal.returns-in_default-requesting_master
@@ -32,7 +32,7 @@ returns-in_default-write_all g c =
       string_bytes c.in_ok-line.line,
       HasAnswer-read _ _ _ _ _ _ _ c.in-Ended.is c.in_default.is c.in_ok-input.ensures.reads c.in_ok-delivery.ensures
           (inl (master, asks, c.in_ok-line.ensures)),
-      (rw c.as_bytes.ensures.value at c.in_default-write_all.ensures.err, c.in_default-write_all.ensures.count),
+      rw c.as_bytes.ensures.value at c.in_default-write_all.ensures.err,
     )
 
 pub returns : goal.returns
@@ -43,5 +43,5 @@ returns g c =
       string_bytes c.in_ok-line.line,
       HasAnswer-read _ _ _ _ _ _ _ c.in-Ended.is c.in_default.is c.in_ok-input.ensures.reads c.in_ok-delivery.ensures
           (inl (master, asks, c.in_ok-line.ensures)),
-      (rw c.as_bytes.ensures.value at c.in-Ok.ensures.ok, c.in-Ok.ensures.count),
+      rw c.as_bytes.ensures.value at c.in-Ok.ensures.ok,
     )

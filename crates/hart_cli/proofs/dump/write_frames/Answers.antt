@@ -11,7 +11,7 @@ loop-found-smaller g c = omega (arith, c.in-Some.ensures.start, c.in-Some.ensure
 pub loop-found-preserved : goal.loop-found-preserved
 loop-found-preserved g c =
     LinesSoFar-more _ _ _ _ _ c.in-Some.found _ c.loop-found.invariant c.in-Some.ensures.first
-    (c.as_bytes.ensures.value ∙ c.in_ok-line.ensures) (c.in-Ok.ensures.ok, c.in-Ok.ensures.count)
+    (c.as_bytes.ensures.value ∙ c.in_ok-line.ensures) c.in-Ok.ensures.ok
 
 pub returns-in_err-line-clause-first : goal.returns-in_err-line-clause-first
 returns-in_err-line-clause-first g c =
@@ -20,7 +20,7 @@ returns-in_err-line-clause-first g c =
 pub returns-in_default-write_all-clause-first : goal.returns-in_default-write_all-clause-first
 returns-in_default-write_all-clause-first g c =
     FirstLines-unwritten c.every_list_has_frames.ensures _ _ _ _ _ c.in-Some.found _ c.loop-found.invariant c.in-Some.ensures.first
-    (c.as_bytes.ensures.value ∙ c.in_ok-line.ensures) (c.in_default-write_all.ensures.err, c.in_default-write_all.ensures.count)
+    (c.as_bytes.ensures.value ∙ c.in_ok-line.ensures) c.in_default-write_all.ensures.err
 
 pub returns-clause-all : goal.returns-clause-all
 returns-clause-all g c = AreLines-written _ _ _ _ c.loop-found.invariant c.in_default.ensures.first
