@@ -54,16 +54,15 @@ RequestOutcome words (Err TooLong) = ⊥
 RequestOutcome words (Err (BadHex place)) = ⊥
 
 -- A call of `encode_text` wrote the text of its words at `Ok`, a front of it where a write failed, and nothing where it told
--- the first bad word, or where the words have a request and memory for its line was refused.
+-- the first bad word.
 abbrev pub EncodeOutcome : MessageWords → ℕ → Stream → Stream → Result (Unit {0}) CliFault → Type 0
 EncodeOutcome words preambles writer writer_after (Ok done) =
     (text : List ℕ) × IsEncoding words preambles text × WritesAll writer writer_after text
 EncodeOutcome words preambles writer writer_after (Err Write) =
     (text : List ℕ) × IsEncoding words preambles text × FailsToWrite writer writer_after text
-EncodeOutcome words preambles writer writer_after (Err Memory) =
-    (frame : FrameParts) × IsRequestOf words frame × WritesNothing writer writer_after
 EncodeOutcome words preambles writer writer_after (Err (BadWord number)) =
     IsFirstBad words number × WritesNothing writer writer_after
+EncodeOutcome words preambles writer writer_after (Err Memory) = ⊥
 EncodeOutcome words preambles writer writer_after (Err Read) = ⊥
 EncodeOutcome words preambles writer writer_after (Err TooLong) = ⊥
 EncodeOutcome words preambles writer writer_after (Err (BadHex place)) = ⊥

@@ -34,7 +34,11 @@ WritesAll old new text = Appends old.bytes new.bytes text × (new.failures ≡ o
 abbrev pub FailsToWrite : Stream → Stream → List ℕ → Type 0
 FailsToWrite old new text = WritesFront old.bytes new.bytes text × (new.failures ≡ count_after_failure old.failures)
 
--- The whole text was written and no write failed, or one failed behind a front of the text, short of its end.
+-- At `Ok` the whole text was written, and otherwise a write failed after a front of it.
+abbrev pub Writes : {T E : Type 0} → Stream → Stream → List ℕ → Result T E → Type 0
+Writes old new text result = MatchResult result (λ _. WritesAll old new text) (λ _. FailsToWrite old new text)
+
+-- The whole text was written and no write failed, or one failed after a front of the text, short of its end.
 abbrev pub WritesUnlessFailed : Stream → Stream → List ℕ → Type 0
 WritesUnlessFailed old new text = WritesAll old new text ⊎ FailsToWrite old new text
 

@@ -17,10 +17,10 @@ use std::alloc::Global;
 /// # Errors
 ///
 /// [`CliFault::BadWord`] with the number of the first bad word: 1 is WHO, 2 ADDRESS, 3 COMMAND, 4 DATA;
-/// then [`CliFault::Write`], and [`CliFault::Memory`] wherever a growth is refused. At a fault nothing is written, except at
-/// `Write`, where a front of the line is, short of its end.
+/// then [`CliFault::Write`]. At a bad word nothing is written, and at `Write` a front of the line, short of its end. No memory
+/// is taken.
 pub fn encode_text<W: Sink>(
-    alloc: Global,
+    _alloc: Global,
     who: &str,
     address: &str,
     command: &str,
@@ -37,8 +37,8 @@ pub fn encode_text<W: Sink>(
         result }
 {
     let request = read_request(who, address, command, payload)?;
-    let line = message_line(alloc, &request, preambles)?;
-    write_all(writer, line.as_bytes()).map_err(|_| CliFault::Write)
+    write_all(writer, message_line(&request, preambles).as_slice())?;
+    Ok(())
 }
 
 /// Four words have one text at most, so that what `encode_text` writes is determined by them.

@@ -1,11 +1,12 @@
 //! Why a call of the command line ended early.
 
 ghost use Rattle.std.specs.Prelude.{◌≡◌};
-ghost use Rattle.hart_cli.specs.declared.fault.CliFault.TheVariants.{Memory};
+ghost use Rattle.hart_cli.specs.declared.fault.CliFault.TheVariants.{Memory, Write};
 
 #[cfg(test)]
 mod tests;
 
+use crate::stream::Failed;
 use arrayvec::ArrayString;
 use itoa::Buffer;
 use std::alloc::{AllocError, AllocFailed};
@@ -61,6 +62,15 @@ impl CliFault {
         }
         line.push_str("\n");
         line
+    }
+}
+
+impl From<Failed> for CliFault {
+    ghost from_gives = { λ _ e. e ≡ Write };
+
+    /// What a writer answers is a fault of the writer: a reader's failure is an end of the input.
+    fn from(_failed: Failed) -> CliFault {
+        CliFault::Write
     }
 }
 

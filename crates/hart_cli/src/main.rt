@@ -9,6 +9,7 @@ mod delivery;
 mod dump;
 mod encode;
 mod fault;
+mod hex_text;
 mod identity;
 mod input;
 mod items;
