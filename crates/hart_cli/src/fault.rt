@@ -3,9 +3,6 @@
 ghost use Rattle.std.specs.Prelude.{◌≡◌};
 ghost use Rattle.hart_cli.specs.declared.fault.CliFault.TheVariants.{Memory, Write};
 
-#[cfg(test)]
-mod tests;
-
 use crate::stream::Failed;
 use arrayvec::ArrayString;
 use itoa::Buffer;
@@ -35,7 +32,7 @@ pub enum CliFault {
     BadWord { number: u8 },
 }
 
-// The longest line is that of the longest place: 11 characters, 20 digits and a line feed.
+/// The longest line is that of the longest place: 11 characters, 20 digits and a line feed.
 const LONGEST_LINE: usize = 32;
 
 impl CliFault {
@@ -89,3 +86,6 @@ impl<T: Drop> From<AllocFailed<T>> for CliFault {
         CliFault::Memory
     }
 }
+
+#[cfg(test)]
+mod tests;

@@ -3,16 +3,12 @@
 ghost use Rattle.std.specs.Prelude.{◌≡◌};
 ghost use Rattle.hart_cli.specs.Stream.{count_after_failure};
 
-#[cfg(test)]
-mod tests;
-
 use crate::stream::{Failed, Sink, Source};
 use std::io::{Read, Write};
 
 /// A reader or writer of the standard library, with a count of its failures.
 ///
-/// Each error is a failure, an interruption too, and so is a write that takes no byte. Nothing is
-/// tried again.
+/// Each error is a failure, an interruption too, and so is a write that takes no byte. Nothing is tried again.
 #[derive(Drop)]
 pub struct Plain<T> {
     inner: T,
@@ -37,6 +33,7 @@ impl<T> Plain<T> {
         self.inner
     }
 
+    /// Counts a failure.
     fn fail(&mut self) -> Failed
         ensures inner { plain_inner self.new ≡ plain_inner self.old }
         ensures failures { plain_failures self.new ≡ count_after_failure (plain_failures self.old) }
@@ -72,3 +69,6 @@ impl<W: Write> Sink for Plain<W> {
         }
     }
 }
+
+#[cfg(test)]
+mod tests;

@@ -5,9 +5,6 @@ ghost use Rattle.std.specs.Io.{ReadsAtMost, WritesAtMost};
 ghost use Rattle.std.specs.Io.KnownBytes.{ReadConsumes, WriteAppends};
 ghost use Rattle.hart_cli.specs.Stream.{CountsFailure, Stream};
 
-#[cfg(test)]
-pub mod fakes;
-
 /// A read or a write failed.
 #[derive(Clone, Copy, Debug, PartialEq, Eq)]
 pub struct Failed;
@@ -47,3 +44,6 @@ pub trait Sink {
         ensures bytes { WriteAppends (stream self.old).bytes (stream self.new).bytes result bytes.now }
         ensures count { CountsFailure (stream self.old) (stream self.new) result };
 }
+
+#[cfg(test)]
+pub mod fakes;
