@@ -14,7 +14,7 @@ use Rattle.hart_frame.specs.declared.kind.FrameKind.TheVariants.{Stx, Ack}
 use Rattle.hart_frame.specs.declared.layout.Layout.{Layout}
 use Rattle.hart_frame.specs.FrameParts.{FrameParts, IsLongEnough}
 use Rattle.hart_frame.specs.Delimiter.{kind_code}
-use Rattle.hart_frame.specs.Body.{IsCheckedPart, BeginsWithBody}
+use Rattle.hart_frame.specs.Body.{IsCheckedPart, BeginsWithBody, HasNoBody}
 use Rattle.hart_frame.specs.Layout.{Describes, delimiter_in, address_end, command_place, byte_count_place, byte_count_in, body_length}
 use Rattle.hart_frame.specs.Refusal.{IsDelimiter, IsRefusedWith, HasByteCount, HasGoodByteCount, HasCheckByte}
 use Rattle.hart_frame.specs.Parity.{IsCheckByte}
@@ -154,7 +154,7 @@ pub record HeldFrame (bytes : List ℕ) : Type 0 where
   pub frame : FrameParts
   pub part : IsCheckedPart frame (take (body_length bytes - 1) bytes)
 
-held_frame : (bytes : List ℕ) → Fit bytes (body_length bytes) → HasCheckByte bytes → HeldFrame bytes
+pub held_frame : (bytes : List ℕ) → Fit bytes (body_length bytes) → HasCheckByte bytes → HeldFrame bytes
 held_frame bytes fits whole =
     let told = held_kind (delimiter_in bytes) whole.0.0.0.1 in
     let i = address_end bytes in
@@ -193,15 +193,11 @@ pub record BodyAhead (bytes : List ℕ) : Type 0 where
   pub len : ℕ
   pub begins : BeginsWithBody bytes frame len
 
--- bytes begin with none
-abbrev pub NoBodyAhead : List ℕ → Type 0
-NoBodyAhead bytes = (f : FrameParts) (len : ℕ) → BeginsWithBody bytes f len → ⊥
-
-refused_for : (bytes : List ℕ) (fault : FrameFault) → IsRefusedWith bytes fault → NoBodyAhead bytes
+refused_for : (bytes : List ℕ) (fault : FrameFault) → IsRefusedWith bytes fault → HasNoBody bytes
 refused_for bytes fault refused f len begins = not_refused bytes f len fault begins refused
 
 -- where the bytes fit up to the check byte, it decides
-checked : (bytes : List ℕ) → HasCheckByte bytes → Fit bytes (body_length bytes) → BodyAhead bytes ⊎ NoBodyAhead bytes
+checked : (bytes : List ℕ) → HasCheckByte bytes → Fit bytes (body_length bytes) → BodyAhead bytes ⊎ HasNoBody bytes
 checked bytes whole fits =
     let len = body_length bytes in
     let front = take len bytes in
@@ -227,14 +223,14 @@ checked bytes whole fits =
     ]
 
 -- otherwise one of them does not fit
-unfit : (bytes : List ℕ) → Unfit bytes (body_length bytes) → NoBodyAhead bytes
+unfit : (bytes : List ℕ) → Unfit bytes (body_length bytes) → HasNoBody bytes
 unfit bytes large f len begins =
     let told = tells bytes f len begins in
     let long = length-take-le len bytes begins.within in
     let small : get_or (take len bytes) large.place 0 < 256 = All-get_or (λ byte. byte < 256) (take len bytes) large.place 0 (omega (arith, long, told.whole, large.below)) begins.body.bytes_fit in
     omega (arith, small, get_or-take len bytes large.place 0 (omega (arith, told.whole, large.below)), large.large)
 
-counted : (bytes : List ℕ) → HasGoodByteCount bytes → BodyAhead bytes ⊎ NoBodyAhead bytes
+counted : (bytes : List ℕ) → HasGoodByteCount bytes → BodyAhead bytes ⊎ HasNoBody bytes
 counted bytes good =
     let cases : (body_length bytes ≤ length bytes) ⊎ (length bytes < body_length bytes) = grind arith in
     elim cases [
@@ -245,7 +241,7 @@ counted bytes good =
       ]
     ]
 
-with_byte_count : (bytes : List ℕ) → HasByteCount bytes → BodyAhead bytes ⊎ NoBodyAhead bytes
+with_byte_count : (bytes : List ℕ) → HasByteCount bytes → BodyAhead bytes ⊎ HasNoBody bytes
 with_byte_count bytes has = elim has.0.1.1 [
   | inl stx ↦ counted bytes (has, inl stx)
   | inr ack ↦
@@ -271,7 +267,7 @@ delimiter_decided byte =
     ]
 
 -- whether bytes begin with a body
-pub body_decided : (bytes : List ℕ) → BodyAhead bytes ⊎ NoBodyAhead bytes
+pub body_decided : (bytes : List ℕ) → BodyAhead bytes ⊎ HasNoBody bytes
 body_decided bytes =
     let some : (length bytes ≡ 0) ⊎ (0 < length bytes) = grind arith in
     let long : (byte_count_place bytes < length bytes) ⊎ (length bytes ≤ byte_count_place bytes) = grind arith in

@@ -8,3 +8,4 @@ pub mod PlaceLemmas
 pub mod FramesApart
 pub mod BodiesFound
 pub mod FramesFound
+pub mod TruncatedLemmas

@@ -30,3 +30,14 @@ pub record IsBody (frame : FrameParts) (bytes : List ℕ) : Type 0 where
 pub record BeginsWithBody (bytes : List ℕ) (frame : FrameParts) (count : ℕ) : Type 0 where
   pub within : count ≤ length bytes
   pub body : IsBody frame (take count bytes)
+
+-- No body stands at the front of a list.
+abbrev pub HasNoBody : List ℕ → Type 0
+HasNoBody bytes = (frame : FrameParts) (count : ℕ) → BeginsWithBody bytes frame count → ⊥
+
+-- A list can become a body where some bytes behind it make one that stands at the front.
+pub record CanBecomeBody (bytes : List ℕ) : Type 0 where
+  pub rest : List ℕ
+  pub frame : FrameParts
+  pub count : ℕ
+  pub begins : BeginsWithBody (bytes ++ rest) frame count

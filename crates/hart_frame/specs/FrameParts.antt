@@ -1,5 +1,5 @@
 -- What a contract sees of a frame (HCF_SPEC-081).
-use Rattle.std.specs.Prelude.{ℕ, ◌≤◌, Bool, List, length}
+use Rattle.std.specs.Prelude.{ℕ, ◌≤◌, Bool, false, List, [], length}
 use Rattle.hart_values.specs.declared.master_id.MasterId.{MasterId}
 use Rattle.hart_values.specs.declared.address.Address.{Address}
 use Rattle.hart_frame.specs.declared.kind.FrameKind.{FrameKind}
@@ -19,3 +19,28 @@ pub record FrameParts : Type 0 where
 abbrev pub IsLongEnough : FrameKind → List ℕ → Type 0
 IsLongEnough Stx payload = Unit {0}
 IsLongEnough Ack payload = 2 ≤ length payload
+
+-- A request is an STX from a master to an address, with the burst bit clear and no expansion bytes.
+abbrev pub request_parts : MasterId → Address → ℕ → List ℕ → FrameParts
+request_parts master address command payload = record {
+  kind = Stx;
+  master = master;
+  burst = false;
+  address = address;
+  expansion = [];
+  command = command;
+  payload = payload;
+}
+
+-- A reply to a frame is an ACK with its master bit, its address and its command, with the burst bit clear and no
+-- expansion bytes.
+abbrev pub reply_parts : FrameParts → List ℕ → FrameParts
+reply_parts frame payload = record {
+  kind = Ack;
+  master = frame.master;
+  burst = false;
+  address = frame.address;
+  expansion = [];
+  command = frame.command;
+  payload = payload;
+}

@@ -1,4 +1,4 @@
--- Bodies as they are heard (HCF_SPEC-081).
+-- Bodies as they are heard (HCF_SPEC-081). For private calls alone: public ones speak of places.
 use Rattle.std.specs.Prelude.{◌≡◌, ℕ, List, ◌++◌, length, map}
 use Rattle.hart_frame.specs.FrameParts.{FrameParts}
 use Rattle.hart_frame.specs.Body.{IsBody}

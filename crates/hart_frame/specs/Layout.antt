@@ -27,6 +27,8 @@ byte_count_in bytes = slice_index bytes (byte_count_place bytes)
 abbrev pub body_length : List ℕ → ℕ
 body_length bytes = byte_count_place bytes + byte_count_in bytes + 2
 
+-- For private calls alone:
+
 -- A layout of a list has the kind, the places and the byte count that the list tells.
 pub record Describes (layout : Layout) (bytes : List ℕ) : Type 0 where
   pub kind : kind_code layout.kind ≡ delimiter_in bytes % 8

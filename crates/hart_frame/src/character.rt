@@ -59,6 +59,6 @@ impl Char {
     pub fn is_faultless(self) -> bool
         ensures { IsTrue result ↔ (self.faults ≡ 0) }
     {
-        matches!(self.faults, 0)
+        self.faults == 0
     }
 }

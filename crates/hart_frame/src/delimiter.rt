@@ -1,5 +1,5 @@
 //! The first byte of a body: bit 7 the address type, bits 6 and 5 the number of expansion bytes, bits 2 to 0 the kind.
-ghost use Rattle.std.specs.Prelude.{◌≡◌, ◌+◌, ◌*◌, ◌/◌, ◌%◌, ◌↔◌, IsSome, IfSome};
+ghost use Rattle.std.specs.Prelude.{◌≡◌, ◌≤◌, ◌+◌, ◌*◌, ◌/◌, ◌%◌, ◌↔◌, IsSome, IfSome};
 ghost use Rattle.hart_frame.specs.Delimiter.{delimiter_of, kind_code};
 ghost use Rattle.hart_frame.specs.Refusal.{IsDelimiter};
 
@@ -24,6 +24,17 @@ pub(crate) struct Delimiter {
     pub(crate) address_len: usize,
     /// The number of expansion bytes, at most 3.
     pub(crate) expansion_len: usize,
+    ghost address_fits: { address_len ≤ 5 },
+    ghost expansion_fits: { expansion_len ≤ 3 },
+}
+
+impl Delimiter {
+    /// The place of the command: behind the delimiter, the address bytes and the expansion bytes.
+    pub(crate) fn command_place(self) -> usize
+        ensures { result ≡ 1 + self.address_len + self.expansion_len }
+    {
+        1 + self.address_len + self.expansion_len
+    }
 }
 
 /// The delimiter of the frame's body.

@@ -1,14 +1,11 @@
 ghost use Rattle.std.specs.Prelude.{◌≡◌, ◌≤◌, ◌↔◌, length, IsOk, IfOk, IfErr};
 
 use crate::{FrameFault, FrameKind};
-use hart_values::{Address, ByteList, MasterId};
+use hart_values::{Address, ByteList, MasterId, Payload};
 use std::marker::Model;
 
 /// The expansion bytes of a frame, at most 3.
 pub type Expansion = ByteList<3>;
-
-/// The payload of a frame, at most 255 bytes.
-pub type Payload = ByteList<255>;
 
 /// What one message says: a request of a master or the reply of a device (HCF_SPEC-081).
 #[derive(Debug, Drop, PartialEq, Eq)]
@@ -51,7 +48,7 @@ impl Model for Frame {
 }
 
 impl Frame {
-    ghost use Rattle.hart_frame.specs.FrameParts.{IsLongEnough};
+    ghost use Rattle.hart_frame.specs.FrameParts.{IsLongEnough, request_parts, reply_parts};
 
     /// The frame of these parts.
     ///
@@ -91,6 +88,40 @@ impl Frame {
             command,
             payload,
         })
+    }
+
+    /// The request of this master to this address: an STX with the burst bit clear and without expansion bytes.
+    pub fn request(master: MasterId, address: Address, command: u8, payload: Payload) -> Self
+        ensures { result ≡ request_parts master address command payload }
+    {
+        Frame {
+            kind: FrameKind::Stx,
+            master,
+            burst: false,
+            address,
+            expansion: Expansion::new(),
+            command,
+            payload,
+        }
+    }
+
+    /// The reply to this frame: an ACK with its master bit, its address and its command, with the burst bit clear and without
+    /// expansion bytes.
+    ///
+    /// The payload begins with the two status bytes.
+    pub fn reply(&self, payload: Payload) -> Self
+        requires { 2 ≤ length payload }
+        ensures { result ≡ reply_parts self.now payload }
+    {
+        Frame {
+            kind: FrameKind::Ack,
+            master: self.master,
+            burst: false,
+            address: self.address,
+            expansion: Expansion::new(),
+            command: self.command,
+            payload,
+        }
     }
 
     /// Whether it is a request or a reply.

@@ -31,7 +31,7 @@ fn told_len(chars: &[Char]) -> Option<usize>
     ensures fits { IfSome result (λ len. len ≤ 267) }
 {
     let delimiter = read_delimiter(chars.first()?.byte())?;
-    let count_place = delimiter.address_len + delimiter.expansion_len + 2;
+    let count_place = delimiter.command_place() + 1;
     let byte_count = chars.get(count_place)?.byte();
     Some(count_place + usize::from(byte_count) + 2)
 }

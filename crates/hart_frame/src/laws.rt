@@ -1,9 +1,10 @@
 //! Laws over the definitions alone, for the crates above.
-ghost use Rattle.std.specs.Prelude.{◌≡◌, List, ℕ, [], ◌++◌, length};
+ghost use Rattle.std.specs.Prelude.{◌≡◌, ◌<◌, ◌↔◌, List, ℕ, [], ◌++◌, length, All};
 ghost use Rattle.hart_frame.specs.FrameParts.{FrameParts};
-ghost use Rattle.hart_frame.specs.Body.{IsBody, BeginsWithBody};
+ghost use Rattle.hart_frame.specs.Body.{IsBody, BeginsWithBody, CanBecomeBody, HasNoBody};
 ghost use Rattle.hart_frame.specs.Character.{Character};
 ghost use Rattle.hart_frame.specs.Frames.{AreFrames, IsFirst};
+ghost use Rattle.hart_frame.specs.Refusal.{IsTruncated};
 ghost use Rattle.hart_frame.specs.declared.found.Found.{Found};
 
 use hart_values::address_bytes_are_told_apart;
@@ -22,6 +23,12 @@ pub fn bodies_are_told_apart()
     // It does nothing when it runs: the law of addresses is what this one rests on.
     address_bytes_are_told_apart();
 }
+
+/// Bytes are refused as truncated exactly where no body stands at their front and some bytes behind them would make one.
+pub fn truncated_bytes_can_become_a_body()
+    ensures { (bytes : List ℕ) → All (λ byte. byte < 256) bytes
+        → IsTruncated bytes ↔ (CanBecomeBody bytes × HasNoBody bytes) }
+{}
 
 /// Frames of a list are told apart: a list has one first frame at most from a place on, and one list of frames.
 pub fn frames_are_told_apart()

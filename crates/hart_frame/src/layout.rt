@@ -30,15 +30,14 @@ impl Layout {
     {
         let first = bytes.first().ok_or(FrameFault::Truncated)?;
         let delimiter = read_delimiter(*first).ok_or(FrameFault::BadDelimiter)?;
-        let address_end = 1 + delimiter.address_len;
-        let command_place = address_end + delimiter.expansion_len;
+        let command_place = delimiter.command_place();
         let byte_count = *bytes.get(command_place + 1).ok_or(FrameFault::Truncated)?;
         if delimiter.kind == FrameKind::Ack && byte_count < 2 {
             return Err(FrameFault::ShortReply);
         }
         Ok(Layout {
             kind: delimiter.kind,
-            address_end,
+            address_end: 1 + delimiter.address_len,
             command_place,
             byte_count,
         })

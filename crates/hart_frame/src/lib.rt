@@ -31,10 +31,13 @@ pub use character::Char;
 pub use fault::FrameFault;
 pub use first::first_frame;
 pub use found::Found;
-pub use frame::{Expansion, Frame, Payload};
+pub use frame::{Expansion, Frame};
+pub use hart_values::Payload;
 pub use kind::FrameKind;
-pub use laws::{bodies_are_told_apart, every_list_has_frames, frames_are_told_apart};
-pub use message::{Message, encode};
+pub use laws::{
+    bodies_are_told_apart, every_list_has_frames, frames_are_told_apart, truncated_bytes_can_become_a_body,
+};
+pub use message::{LEAST_PREAMBLES, MOST_PREAMBLES, Message, encode};
 pub use parity::check_byte;
 
 #[cfg(test)]

@@ -1,6 +1,6 @@
 ghost use Rattle.std.specs.Prelude.{◌≡◌, ◌+◌, ◌<◌, ◌≤◌, ◌↔◌, ◌++◌, List, ℕ, length, replicate, IsOk, IfErr, OnOk, OnErr};
 ghost use Rattle.hart_frame.specs.Body.{IsBody, IsCheckedPart};
-ghost use Rattle.hart_frame.specs.Message.{IsMessage};
+ghost use Rattle.hart_frame.specs.Message.{IsMessage, IsPreambleCount};
 
 use crate::delimiter::delimiter_byte;
 use crate::{Frame, FrameFault, check_byte};
@@ -9,20 +9,27 @@ use hart_values::ByteList;
 /// A message on the line: at most 20 preamble bytes and a body of at most 267 bytes.
 pub type Message = ByteList<287>;
 
+/// The least number of preamble bytes that a sender puts.
+pub const LEAST_PREAMBLES: u8 = 5;
+
+/// The greatest number of preamble bytes that a sender puts.
+pub const MOST_PREAMBLES: u8 = 20;
+
 pub(crate) const PREAMBLE: u8 = 0xFF;
 
 /// Writes the frame as a message: this number of preamble bytes `FF`, and its body. What `output` held is replaced.
 ///
 /// # Errors
 ///
-/// [`FrameFault::BadPreamble`] where `preambles` is outside 5 to 20. The output is then as it was.
+/// [`FrameFault::BadPreamble`] where `preambles` is outside [`LEAST_PREAMBLES`] to [`MOST_PREAMBLES`]. The output is then
+/// as it was.
 pub fn encode(frame: &Frame, preambles: u8, output: &mut Message) -> Result<(), FrameFault>
-    ensures accepted { IsOk result ↔ ((5 ≤ preambles) × (preambles ≤ 20)) }
+    ensures accepted { IsOk result ↔ IsPreambleCount preambles }
     ensures written { OnOk result (IsMessage frame.now preambles output.new) }
     ensures refused { IfErr result (λ fault. fault ≡ FrameFault.BadPreamble) }
     ensures unchanged { OnErr result (output.new ≡ output.old) }
 {
-    if preambles < 5 || preambles > 20 {
+    if preambles < LEAST_PREAMBLES || preambles > MOST_PREAMBLES {
         return Err(FrameFault::BadPreamble);
     }
     output.clear();
@@ -34,7 +41,7 @@ pub fn encode(frame: &Frame, preambles: u8, output: &mut Message) -> Result<(), 
 /// Adds preamble bytes to an empty message.
 fn push_preamble(preambles: u8, output: &mut Message)
     requires empty { length output.old ≡ 0 }
-    requires room { preambles ≤ 20 }
+    requires room { preambles ≤ MOST_PREAMBLES }
     ensures { output.new ≡ replicate preambles 255 }
 {
     for _ in 0..preambles {
@@ -44,7 +51,7 @@ fn push_preamble(preambles: u8, output: &mut Message)
 
 /// Adds the frame's body.
 fn push_body(frame: &Frame, output: &mut Message)
-    requires { length output.old ≤ 20 }
+    requires { length output.old ≤ MOST_PREAMBLES }
     ensures { (body : List ℕ) × IsBody frame.now body × (output.new ≡ output.old ++ body) }
 {
     let start = output.len();
@@ -55,7 +62,7 @@ fn push_body(frame: &Frame, output: &mut Message)
 
 /// Adds what stands in the frame's body before the check byte.
 fn push_checked_part(frame: &Frame, output: &mut Message)
-    requires { length output.old ≤ 20 }
+    requires { length output.old ≤ MOST_PREAMBLES }
     ensures parts { (checked : List ℕ) × IsCheckedPart frame.now checked × (output.new ≡ output.old ++ checked) }
     ensures room { length output.new < 287 }
 {

@@ -1,6 +1,6 @@
 -- Dates in three bytes: the day, the month, and the year less 1900 (HCF_SPEC-127). That three zeros are
 -- a date, "not set", and that a day must be one of the calendar, is of the own profile.
-use Rattle.std.specs.Prelude.{◌≡◌, ℕ, ◌+◌, ◌-◌, ◌%◌, ◌<◌, ◌≤◌, ◌⊎◌, ◌==◌, ◌&&◌, ◌||◌, not, Bool, if◌then◌else◌, List, [], ◌∷◌, length, slice_index}
+use Rattle.std.specs.Prelude.{◌≡◌, ℕ, ◌+◌, ◌-◌, ◌%◌, ◌<◌, ◌≤◌, ◌⊎◌, ◌==◌, ◌&&◌, ◌||◌, not, nat_le, nat_lt, Bool, false, if◌then◌else◌, List, [], ◌∷◌, length, slice_index}
 
 -- A year is a leap year where it is divisible by 4 and not by 100, or by 400.
 abbrev pub is_leap_year : ℕ → Bool
@@ -32,3 +32,14 @@ IsDateBytes bytes =
     × (slice_index bytes 2 < 256)
     × ((bytes ≡ not_set)
     ⊎ IsCalendarDay (slice_index bytes 0) (slice_index bytes 1) (1900 + slice_index bytes 2))
+
+-- The test of a day of the calendar is true where the calendar has it.
+abbrev pub is_calendar_day : (day month year : ℕ) → Bool
+is_calendar_day day month year =
+    nat_le 1 month && nat_le month 12 && nat_le 1 day && nat_le day (slice_index (month_lengths year) (month - 1))
+
+-- The test of a date is true for the bytes of a date and false for every other list.
+abbrev pub is_date : List ℕ → Bool
+is_date (day ∷ month ∷ year ∷ []) =
+    nat_lt year 256 && (((day == 0) && (month == 0) && (year == 0)) || is_calendar_day day month (1900 + year))
+is_date _ = false

@@ -9,6 +9,9 @@ pub struct ByteList<const N: usize> {
     bytes: ArrayVec<u8, N>,
 }
 
+/// The payload or the data bytes of a message: at most 255 bytes (HCF_SPEC-081).
+pub type Payload = ByteList<255>;
+
 impl<const N: usize> Model for ByteList<N> {
     ghost use Rattle.std.specs.Prelude.{List, ℕ, ◌<◌, All};
 

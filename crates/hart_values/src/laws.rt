@@ -1,6 +1,7 @@
 //! Laws over the definitions alone, for the crates above.
-ghost use Rattle.std.specs.Prelude.{◌≡◌, Bool, List, ℕ};
+ghost use Rattle.std.specs.Prelude.{◌≡◌, ◌↔◌, Bool, true, false, List, ℕ};
 ghost use Rattle.hart_values.specs.AddressBytes.{IsAddressBytes};
+ghost use Rattle.hart_values.specs.Calendar.{IsDateBytes, is_date};
 ghost use Rattle.hart_values.specs.Packing.{IsPacked};
 ghost use Rattle.hart_values.specs.declared.master_id.MasterId.{MasterId};
 ghost use Rattle.hart_values.specs.declared.address.Address.{Address};
@@ -19,4 +20,10 @@ pub fn packed_text_and_bytes_determine_each_other()
         → IsPacked text bytes → IsPacked text others → bytes ≡ others }
     ensures one_text { (text others bytes : List ℕ)
         → IsPacked text bytes → IsPacked others bytes → text ≡ others }
+{}
+
+/// The test of a date is true exactly for the bytes of a date, and false exactly for what is none.
+pub fn the_test_tells_dates()
+    ensures date { (bytes : List ℕ) → (is_date bytes ≡ true) ↔ IsDateBytes bytes }
+    ensures no_date { (bytes : List ℕ) → (is_date bytes ≡ false) ↔ (¬ IsDateBytes bytes) }
 {}

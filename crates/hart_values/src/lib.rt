@@ -2,8 +2,8 @@
 //!
 //! Each value here is one of the standard's. Where it has bytes of a form of its own, they are a relation of `specs/`. A
 //! pair of calls goes both ways: for an address, [`Address::bytes`] and [`Address::read`], for a text,
-//! [`PackedText::from_text`] and [`PackedText::write_text`], and for a date, [`HartDate::from_bytes`] and
-//! [`HartDate::as_bytes`]. Status bytes are only read.
+//! [`PackedText::from_text`] and [`PackedText::write_text`], for a date, [`HartDate::from_bytes`] and
+//! [`HartDate::as_bytes`], and for a status, [`Status::bytes`] and [`Status::read`].
 //!
 //! ```rust
 //! let address = Address::unique(0x3742, 0x0A1B2C)?;
@@ -38,12 +38,14 @@ mod unique_address;
 
 pub use address::{Address, AddressBytes};
 pub use bits32::Bits32;
-pub use byte_list::ByteList;
+pub use byte_list::{ByteList, Payload};
 pub use comm_faults::CommFaults;
 pub use device_status::DeviceStatus;
 pub use fault::ValueFault;
 pub use hart_date::HartDate;
-pub use laws::{address_bytes_are_told_apart, packed_text_and_bytes_determine_each_other};
+pub use laws::{
+    address_bytes_are_told_apart, packed_text_and_bytes_determine_each_other, the_test_tells_dates,
+};
 pub use loop_mode::LoopMode;
 pub use master_id::MasterId;
 pub use packed_text::PackedText;

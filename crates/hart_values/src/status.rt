@@ -1,4 +1,4 @@
-ghost use Rattle.std.specs.Prelude.{◌≡◌};
+ghost use Rattle.std.specs.Prelude.{◌≡◌, ℕ, slice_index};
 
 use crate::{CommFaults, DeviceStatus, ResponseCode};
 
@@ -26,6 +26,17 @@ impl Status {
         match ResponseCode::new(first) {
             Ok(code) => Status::Code(code, DeviceStatus(second)),
             Err(_) => Status::Faulty(CommFaults::new(first & !FAULTS_BIT).unwrap()),
+        }
+    }
+
+    /// The two bytes that hold the status, the second one 0 beside communication faults.
+    pub fn bytes(self) -> [u8; 2]
+        ensures held { IsStatusBytes self result }
+        ensures nothing_beside_faults { (faults : ℕ) → self ≡ Status.Faulty faults → slice_index result 1 ≡ 0 }
+    {
+        match self {
+            Status::Code(code, device) => [code.value(), device.0],
+            Status::Faulty(faults) => [FAULTS_BIT | faults.value(), 0],
         }
     }
 }

@@ -1,37 +1,32 @@
 //! What is heard on the line.
 use super::*;
 
-/// The characters of a line on which these were heard: the fault bits of each are in the high byte, its byte in the low.
-/// They are the first so many of the 300.
-fn heard(line: &[u16]) -> Option<([Char; 300], usize)> {
-    let mut chars = [Char::new(0, 0)?; 300];
-    for (place, both) in chars.iter_mut().zip(line) {
-        *place = Char::new((both % 256) as u8, (both / 256) as u8)?;
-    }
-    if line.len() > 300 {
-        return None;
-    }
-    Some((chars, line.len()))
-}
-
-/// Where the first frame from that place on starts and stops.
-fn place_in(chars: &[Char], from: usize) -> Option<(usize, usize)> {
-    let found = first_frame(chars, from)?;
-    Some((found.start, found.stop))
-}
+/// Fault bits, and whether a character can have them.
+const FAULT_BITS: &[(u8, bool)] = &[
+    (0x00, true),
+    (0x40, true),
+    (0x20, true),
+    (0x10, true),
+    (0x02, true),
+    (0x72, true),
+    (0x08, false),
+    (0x80, false),
+    (0x01, false),
+    (0x04, false),
+    (0x73, false),
+    (0xFF, false),
+];
 
 #[test]
-fn fault_bits_are_four(rt: HostRuntime) -> Result<(), Fail> {
-    for faults in [0x00, 0x40, 0x20, 0x10, 0x02, 0x72] {
-        let character = Char::new(0xA5, faults).ok_or("fault bits")?;
-        assert_eq!(rt; character.byte(), 0xA5);
-        assert_eq!(rt; character.faults(), faults);
-        assert_eq!(rt; character.is_faultless(), faults == 0, "of {faults}");
+fn fault_bits_are_four(rt: HostRuntime) {
+    for (faults, known) in FAULT_BITS {
+        let made = Char::new(0xA5, *faults);
+        assert_eq!(rt; made.is_some(), *known, "of {faults}");
+        if let Some(character) = made {
+            assert!(rt; character.byte() == 0xA5 && character.faults() == *faults);
+            assert_eq!(rt; character.is_faultless(), *faults == 0);
+        }
     }
-    for faults in [0x08, 0x80, 0x01, 0x04, 0x73, 0xFF] {
-        assert_eq!(rt; Char::new(0xA5, faults), None, "of {faults}");
-    }
-    Ok(())
 }
 
 /// Two messages, one behind the other.
@@ -53,75 +48,61 @@ const INSIDE: &[u16] = &[
     0x80, 0x00, 0x00, 0x82,
 ];
 
+/// A line, how many characters of it are heard, the place to search from, and where the first frame starts and stops.
+///
+/// Of a character on a line the high byte is the fault bits. Behind the line faultless characters 00 are heard.
+const HEARD: &[(&[u16], usize, usize, Option<(usize, usize)>)] = &[
+    (&[], 0, 0, None),
+    (&[0xFF], 1, 0, None),
+    (&[0xFF, 0xFF], 2, 0, None),
+    (TWO, 14, 0, Some((2, 7))),
+    (TWO, 14, 1, Some((9, 14))),
+    (TWO, 14, 7, Some((9, 14))),
+    (TWO, 14, 8, None),
+    (TWO, 14, 14, None),
+    (TWO, 14, 15, None),
+    (TWO, 14, usize::MAX - 1, None),
+    (TWO, 14, usize::MAX, None),
+    (SHARED, 13, 0, Some((2, 7))),
+    (SHARED, 13, 6, Some((8, 13))),
+    (SHARED, 13, 7, None),
+    (ONE, 7, 1, None),
+    (ONE, 6, 0, None),
+    (INSIDE, 20, 0, Some((15, 20))),
+    (INSIDE, 20, 13, Some((15, 20))),
+    (INSIDE, 20, 14, None),
+    (INSIDE, 265, 0, Some((15, 20))),
+    (INSIDE, 266, 0, Some((15, 20))),
+    (INSIDE, 300, 20, None),
+    (&[0x40FF, 0xFF, 0x02, 0x80, 0x00, 0x00, 0x82], 7, 0, None),
+    (&[0xFF, 0x40FF, 0x02, 0x80, 0x00, 0x00, 0x82], 7, 0, None),
+    (&[0xFF, 0xFF, 0x2002, 0x80, 0x00, 0x00, 0x82], 7, 0, None),
+    (&[0xFF, 0xFF, 0x02, 0x80, 0x00, 0x1000, 0x82], 7, 0, None),
+    (&[0xFF, 0xFF, 0x02, 0x80, 0x00, 0x00, 0x0282], 7, 0, None),
+    (
+        &[0x7200, 0xFF, 0xFF, 0x02, 0x80, 0x00, 0x00, 0x82, 0x4000],
+        9,
+        0,
+        Some((3, 8)),
+    ),
+];
+
+/// The characters of a line and of what is heard behind it.
+fn heard(line: &[u16]) -> Option<[Char; 300]> {
+    let mut chars = [Char::new(0, 0)?; 300];
+    for (place, both) in chars.iter_mut().zip(line) {
+        *place = Char::new((both % 256) as u8, (both / 256) as u8)?;
+    }
+    Some(chars)
+}
+
 #[test]
 fn the_first_frame_is_found(rt: HostRuntime) -> Result<(), Fail> {
-    let rows: [(&[u16], usize, Option<(usize, usize)>); 26] = [
-        (&[], 0, None),
-        (&[0xFF], 0, None),
-        (&[0xFF, 0xFF], 0, None),
-        (TWO, 0, Some((2, 7))),
-        (TWO, 1, Some((9, 14))),
-        (TWO, 7, Some((9, 14))),
-        (TWO, 8, None),
-        (TWO, 14, None),
-        (TWO, 15, None),
-        (TWO, usize::MAX - 1, None),
-        (TWO, usize::MAX, None),
-        (SHARED, 0, Some((2, 7))),
-        (SHARED, 6, Some((8, 13))),
-        (SHARED, 7, None),
-        (ONE, 0, Some((2, 7))),
-        (ONE, 1, None),
-        (&ONE[..6], 0, None),
-        (INSIDE, 0, Some((15, 20))),
-        (INSIDE, 13, Some((15, 20))),
-        (INSIDE, 14, None),
-        (&[0x40FF, 0xFF, 0x02, 0x80, 0x00, 0x00, 0x82], 0, None),
-        (&[0xFF, 0x40FF, 0x02, 0x80, 0x00, 0x00, 0x82], 0, None),
-        (&[0xFF, 0xFF, 0x2002, 0x80, 0x00, 0x00, 0x82], 0, None),
-        (&[0xFF, 0xFF, 0x02, 0x80, 0x00, 0x1000, 0x82], 0, None),
-        (&[0xFF, 0xFF, 0x02, 0x80, 0x00, 0x00, 0x0282], 0, None),
-        (
-            &[0x7200, 0xFF, 0xFF, 0x02, 0x80, 0x00, 0x00, 0x82, 0x4000],
-            0,
-            Some((3, 8)),
-        ),
-    ];
-    for (line, from, want) in rows {
-        let (chars, len) = heard(line).ok_or("a short line")?;
-        let chars = chars.get(..len).ok_or("a line")?;
-        assert_eq!(rt; place_in(chars, from), want, "of {line:?} from {from}");
-    }
-    Ok(())
-}
-
-#[test]
-fn a_message_inside_a_false_one_is_found(rt: HostRuntime) -> Result<(), Fail> {
-    let (chars, _) = heard(INSIDE).ok_or("a short line")?;
-    assert_eq!(rt; place_in(&chars[..265], 0), Some((15, 20)));
-    assert_eq!(rt; place_in(&chars[..266], 0), Some((15, 20)));
-    assert_eq!(rt; place_in(&chars, 20), None);
-    Ok(())
-}
-
-#[test]
-fn what_is_written_is_found(rt: HostRuntime) -> Result<(), Fail> {
-    let identify = short_frame(FrameKind::Stx, 0, &[]).ok_or("a frame")?;
-    let reply = short_frame(FrameKind::Ack, 19, &[0, 0, 0xFF, 0xFF, 0x02]).ok_or("a frame")?;
-    let longest = longest_frame().ok_or("a frame")?;
-    for frame in [identify, reply, longest] {
-        for preambles in [5, 20] {
-            let mut message = Message::new();
-            encode(&frame, preambles, &mut message)?;
-            let mut chars = [Char::new(0, 0).ok_or("a character")?; 300];
-            for (place, byte) in chars.iter_mut().zip(message.as_slice()) {
-                *place = Char::new(*byte, 0).ok_or("a character")?;
-            }
-            let found = first_frame(&chars, 0).ok_or("a found frame")?;
-            assert!(rt; found.frame == frame);
-            assert_eq!(rt; found.start, usize::from(preambles));
-            assert_eq!(rt; found.stop, message.len());
-        }
+    for (line, count, from, want) in HEARD {
+        let chars = heard(line).ok_or("a line")?;
+        let chars = chars.get(..*count).ok_or("at most 300 characters")?;
+        let places = first_frame(chars, *from).map(|found| (found.start, found.stop));
+        assert_eq!(rt; places, *want, "of {line:?} from {from}");
     }
     Ok(())
 }

@@ -13,8 +13,8 @@ returns-clause-told c =
     let told = c.in_ok-delimiter.ensures in
     let delimiter : delimiter_in bytes ≡ c.byte.result =
     byte_at chars 0 c.in_ok-first.field-0.now item.3.0 item.1 ∙ sym c.byte.ensures in
-    let place : byte_count_place bytes ≡ c.in_ok-delimiter.delimiter.address_len + c.in_ok-delimiter.delimiter.expansion_len + 2 =
-    omega (arith, delimiter, told.address, told.expansion) in
+    let place : byte_count_place bytes ≡ c.command_place-count_place.result + 1 =
+    omega (arith, delimiter, told.address, told.expansion, c.command_place-count_place.ensures) in
     let count : byte_count_in bytes ≡ c.byte-byte_count.result =
     ap (λ (n : ℕ). get_or bytes n 0) place ∙ byte_at chars _ c.in_ok-get.field-0.now lookup.3.0 lookup.1 ∙ sym c.byte-byte_count.ensures in
     omega (arith, place, count, c.from.ensures)

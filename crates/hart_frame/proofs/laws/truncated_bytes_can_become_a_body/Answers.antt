@@ -1,0 +1,10 @@
+use Rattle.hart_frame.specs.declared.fault.FrameFault.TheVariants.{Truncated}
+use Rattle.hart_frame.proofs.RefusalLemmas.{not_refused}
+use Rattle.hart_frame.proofs.TruncatedLemmas.{CanBecomeBody-truncated, IsTruncated-only}
+use Rattle.hart_frame.proofs.laws.truncated_bytes_can_become_a_body.Goals as goal
+
+pub returns : goal.returns
+returns c = λ bytes fit. (
+  λ truncated. (CanBecomeBody-truncated bytes fit truncated, λ f len begins. not_refused bytes f len Truncated begins truncated),
+  λ both. IsTruncated-only bytes both.0 both.1,
+)
