@@ -3,6 +3,7 @@ use Rattle.std.specs.Prelude.{◌≡◌, ◌≤◌, [], ◌∷◌, ℕ, List, So
 use Rattle.std.specs.Str.Parse.{IsNumeral, digits_value, without_leading_plus}
 use Rattle.clap.specs.Words.{App, Row, Rule, Text, fault_of, first_of, new_app, new_rule, one_of, subcommand_of, with_rule, with_subcommand}
 use Rattle.clap.specs.declared.builder.value_parser.ValueParser.TheVariants.{Signed}
+use Rattle.hart_frame.specs.Message.{IsPreambleCount}
 use Rattle.hart_cli.specs.Encode.{MessageWords}
 use Rattle.hart_cli.specs.declared.program.command_line.RequestedCall.{RequestedCall}
 use Rattle.hart_cli.specs.declared.program.command_line.RequestedCall.TheVariants as requested
@@ -67,8 +68,7 @@ pub record GivesWords (rows : List Row) (words : MessageWords) (preambles : ℕ)
   pub given : first_of (codes "preambles") rows ≡ Some number
   pub digits : IsNumeral 10 (without_leading_plus number)
   pub value : preambles ≡ digits_value 10 (without_leading_plus number)
-  pub enough : 5 ≤ preambles
-  pub few : preambles ≤ 20
+  pub count : IsPreambleCount preambles
 
 -- The matches of a call's subcommand have what the call has; those of `answer` and `dump` have nothing for it.
 abbrev pub GivesValues : Call → List Row → Type 0

@@ -1,13 +1,14 @@
 //! `hart encode`: a message to send.
 
-ghost use Rattle.std.specs.Prelude.{◌≡◌, ◌≤◌, ℕ, List};
+ghost use Rattle.std.specs.Prelude.{◌≡◌, ℕ, List};
+ghost use Rattle.hart_frame.specs.Message.{IsPreambleCount};
 ghost use Rattle.hart_cli.specs.Encode.{EncodeOutcome, IsEncoding, MessageWords, RequestOutcome};
 
 use crate::fault::CliFault;
 use crate::output::{message_line, write_all};
 use crate::stream::Sink;
 use crate::words::{read_address, read_command, read_data, read_who};
-use hart_frame::{Expansion, Frame, FrameKind, bodies_are_told_apart};
+use hart_frame::{Frame, bodies_are_told_apart};
 use std::alloc::Global;
 
 /// Writes the request that four words write, with so many preamble bytes, as one line of hex.
@@ -28,8 +29,7 @@ pub fn encode_text<W: Sink>(
     preambles: u8,
     writer: &mut W,
 ) -> Result<(), CliFault>
-    requires enough { 5 ≤ preambles }
-    requires few { preambles ≤ 20 }
+    requires { IsPreambleCount preambles }
     ensures { EncodeOutcome
         (record { who = who.now; address = address.now; command = command.now; payload = payload.now })
         preambles
@@ -72,17 +72,7 @@ fn read_request(who: &str, address: &str, command: &str, payload: &str) -> Resul
     let Some(payload) = read_data(payload) else {
         return Err(CliFault::BadWord { number: 4 });
     };
-    let expansion = Expansion::new();
-    Ok(Frame::new(
-        FrameKind::Stx,
-        master,
-        false,
-        address,
-        expansion,
-        command,
-        payload,
-    )
-    .unwrap())
+    Ok(Frame::request(master, address, command, payload))
 }
 
 #[cfg(test)]

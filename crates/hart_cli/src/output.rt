@@ -1,6 +1,6 @@
 //! Making the line of a message, and writing a whole text.
 
-ghost use Rattle.std.specs.Prelude.{◌≤◌};
+ghost use Rattle.hart_frame.specs.Message.{IsPreambleCount};
 ghost use Rattle.hart_cli.specs.MessageLine.{IsMessageLine};
 ghost use Rattle.hart_cli.specs.Stream.{Writes};
 
@@ -10,8 +10,7 @@ use hart_frame::{Frame, Message, encode};
 
 /// The line of the frame's message with so many preamble bytes.
 pub fn message_line(frame: &Frame, preambles: u8) -> HexLine
-    requires enough { 5 ≤ preambles }
-    requires few { preambles ≤ 20 }
+    requires { IsPreambleCount preambles }
     ensures { IsMessageLine frame.now preambles result }
 {
     let mut message = Message::new();

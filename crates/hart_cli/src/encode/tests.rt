@@ -1,4 +1,4 @@
-ghost use Rattle.std.specs.Prelude.{◌≤◌};
+ghost use Rattle.hart_frame.specs.Message.{IsPreambleCount};
 
 use super::*;
 use crate::stream::fakes::Trickle;
@@ -86,8 +86,7 @@ fn encoded(
     preambles: u8,
     room: u64,
 ) -> (Result<(), CliFault>, Trickle)
-    requires enough { 5 ≤ preambles }
-    requires few { preambles ≤ 20 }
+    requires { IsPreambleCount preambles }
 {
     let [who, address, command, payload] = words;
     let mut writer = Trickle::new(alloc, room);

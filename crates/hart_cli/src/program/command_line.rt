@@ -7,6 +7,7 @@ ghost use Rattle.hart_cli.specs.CommandLine.{call_of, encode_app, hart_app, prea
 ghost use Rattle.hart_cli.specs.Encode.{MessageWords};
 
 use clap::{Arg, ArgMatches, Command, value_parser};
+use hart_frame::{LEAST_PREAMBLES, MOST_PREAMBLES};
 use std::alloc::{AllocError, Global};
 
 /// The version that `hart --version` shows.
@@ -280,7 +281,9 @@ fn preambles_option<'a>(alloc: Global) -> Arg<'a>
     Arg::new(alloc, "preambles")
         .long("preambles")
         .value_name("N")
-        .value_parser(value_parser!(u8).range(5..=20))
+        .value_parser(value_parser!(u8).range(
+            i64::from(LEAST_PREAMBLES)..=i64::from(MOST_PREAMBLES),
+        ))
         .default_value("5")
         .help(PREAMBLES_HELP)
 }
