@@ -46,7 +46,8 @@ dump_text-append (found ∷ frames) others =
 
 -- the text with one line more
 dump_text-more : (frames : List Found) (next : Found) → dump_text (frames ++ next ∷ []) ≡ dump_text frames ++ dump_line next
-dump_text-more frames next = dump_text-append frames (next ∷ []) ∙ ap (λ (text : List ℕ). dump_text frames ++ text) (append-nil (dump_line next))
+dump_text-more frames next = dump_text-append frames (next ∷ [])
+    ∙ ap (λ (text : List ℕ). dump_text frames ++ text) (append-nil (dump_line next))
 
 -- the lines of the frames before a place were written
 pub record LinesSoFar (chars : List Character) (place : ℕ) (old new : Stream) : Type 0 where
@@ -55,7 +56,8 @@ pub record LinesSoFar (chars : List Character) (place : ℕ) (old new : Stream) 
   pub written : WritesAll old new (dump_text frames)
 
 -- a line more was written
-pub LinesSoFar-more : (chars : List Character) (place : ℕ) (old middle new : Stream) (next : Found) (line : List ℕ) → LinesSoFar chars place old middle
+pub LinesSoFar-more : (chars : List Character) (place : ℕ) (old middle new : Stream) (next : Found) (line : List ℕ)
+    → LinesSoFar chars place old middle
     → IsFirst next chars place → line ≡ dump_line next → WritesAll middle new line → LinesSoFar chars next.stop old new
 LinesSoFar-more chars place old middle new next line so_far is_next is_line written = record {
   frames = so_far.frames ++ next ∷ [];
@@ -83,7 +85,8 @@ AreLines-written chars place old new so_far no_more = (
   dump_text so_far.frames,
   record {
     frames = so_far.frames;
-    are_frames = subst (AreFrames chars 0) (append-nil so_far.frames) (AreFrames-join chars 0 place so_far.frames [] so_far.begins (AreFrames.none place no_more));
+    are_frames = subst (AreFrames chars 0) (append-nil so_far.frames)
+        (AreFrames-join chars 0 place so_far.frames [] so_far.begins (AreFrames.none place no_more));
     text = refl;
   },
   so_far.written,
@@ -94,7 +97,8 @@ abbrev pub HasFrames : Type 0
 HasFrames = (chars : List Character) (from : ℕ) → (frames : List Found) × AreFrames chars from frames
 
 -- the frames so far, the next and those behind it are all
-AreFrames-next : (law : HasFrames) (chars : List Character) (place : ℕ) (frames : List Found) (next : Found) → FramesUpTo chars 0 frames place
+AreFrames-next : (law : HasFrames) (chars : List Character) (place : ℕ) (frames : List Found) (next : Found)
+    → FramesUpTo chars 0 frames place
     → IsFirst next chars place → AreFrames chars 0 (frames ++ next ∷ (law chars next.stop).0)
 AreFrames-next law chars place frames next begins is_next =
     let later = law chars next.stop in

@@ -36,7 +36,7 @@ abbrev pub DumpsUpTo : CliFault → Stream → Stream → Stream → Stream → 
 DumpsUpTo fault reader reader_after writer writer_after =
     (lines : List ℕ) × HasDump reader reader_after (Some fault) lines × WritesAll writer writer_after lines
 
--- Memory for an input was refused while it was read, and memory for its characters once it was.
+-- Memory was refused: for an input while it was read, or for its characters once it was.
 abbrev pub LacksMemoryForInput : Stream → Stream → Type 0
 LacksMemoryForInput reader reader_after =
     LacksMemory reader reader_after ⊎ ((input : List ℕ) × (end : InputEnd) × Reads reader reader_after input end)

@@ -20,8 +20,8 @@ use std::alloc::Global;
 /// # Errors
 ///
 /// [`CliFault::Read`], [`CliFault::TooLong`], then [`CliFault::BadHex`], then [`CliFault::Write`], and
-/// [`CliFault::Memory`] where memory for the input or its characters is refused. At a fault nothing is written, except at `Write`, where a front of
-/// the line is, short of its end.
+/// [`CliFault::Memory`] where memory for the input or its characters is refused. At a fault nothing is written, except at
+/// `Write`, where a front of the line is, short of its end.
 pub fn answer<R: Source, W: Sink>(
     alloc: Global,
     reader: &mut R,

@@ -239,7 +239,7 @@ const TEXTS: &[(&[&str], &str, &str)] = &[
     (
         &["answer", "--help"],
         "Answer one message as the device on the bench does.\n",
-        "  echo \"FF FF FF FF FF 02 80 00 00 82\" | hart answer\nwrites\n  FF FF FF FF FF 06 80 00 18 00 00 FE 37 42 05 07 01 02 18 00 0A 1B 2C 05 04 00 00 00 00 37 00 37 01 31\n",
+        "05 04 00 00 00 00 37 00 37 01 31\n",
     ),
     (
         &["dump", "--help"],

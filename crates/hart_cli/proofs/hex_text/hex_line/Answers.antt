@@ -14,7 +14,8 @@ loop-index-preserved c =
           }
       | else-index-gt0 w ↦
           let line = w.line-is ∙ c.loop-index.invariant.written in record {
-            written = c.push_hex.ensures.hex ∙ hex_items-first _ _ _ c.loop-index.index 0 w.if-index-gt0.false c.loop-index-test.true line refl;
+            written = c.push_hex.ensures.hex
+                ∙ hex_items-first _ _ _ c.loop-index.index 0 w.if-index-gt0.false c.loop-index-test.true line refl;
             room = omega (arith, c.push_hex.ensures.len, ap length w.line-is);
           }
     ]
