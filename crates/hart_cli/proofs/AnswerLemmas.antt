@@ -1,5 +1,6 @@
 -- The answer to an input, of which there is one at most.
-use Rattle.std.proofs.Common.{◌≡◌, ℕ, List, Option, None, Some, Err, inl, inr, refl, sym, ap, ◌∙◌, subst}
+use Rattle.std.proofs.Common.{◌≡◌, ℕ, List, Option, None, Some, Result, Ok, Err, inl, inr, refl, sym, ap, ◌∙◌, subst}
+use Rattle.std.specs.Result.{IsErrAnd}
 use Rattle.hart_frame.specs.Character.{Character}
 use Rattle.hart_cli.specs.declared.fault.CliFault.{CliFault}
 use Rattle.hart_cli.specs.declared.fault.CliFault.TheVariants.{BadHex}
@@ -70,3 +71,8 @@ AnswerOutcome-fault reader reader_after writer input end chars told fault ended 
 AnswerOutcome-fault reader reader_after writer input end chars told fault ended is_told read (Hears.failure _ reads) = cc
 AnswerOutcome-fault reader reader_after writer input end chars told fault ended is_told read (Hears.bad_hex_within_limit _ place bad) = cc
 AnswerOutcome-fault reader reader_after writer input end chars told fault ended is_told read (Hears.limit _ reads) = cc
+
+-- a fault that is told of its cause alone
+pub told_as : {T : Type 0} (result : Result T CliFault) (cause : CliFault) → IsErrAnd result (λ fault. fault ≡ cause) → result ≡ Err cause
+told_as (Ok done) cause told = absurd told
+told_as (Err fault) cause told = ap Err told

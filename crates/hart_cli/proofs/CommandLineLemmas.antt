@@ -1,14 +1,18 @@
 -- Which subcommand a command line without a fault enters.
-use Rattle.std.proofs.Common.{◌≡◌, ◌≢◌, ◌∙◌, ◌∷◌, [], ap, ap₂, arith, rules, inl, inr, subst, unwrap_or, Bool, ◌⊎◌, codes, false, fold, List, None, Option, option_map, refl, Some, sym, true, ℕ, is_some, cond, ◌||◌}
+use Rattle.std.proofs.Common.{◌≡◌, ◌≢◌, ◌∙◌, ◌∷◌, [], ap, ap₂, arith, rules, inl, inr, subst, unwrap_or, Bool, ◌⊎◌, codes, false, fold}
+use Rattle.std.proofs.Common.{List, None, Option, option_map, refl, Some, sym, true, ℕ, is_some, cond, ◌||◌}
 use Rattle.std.specs.Str.{bytes_eq}
 use Rattle.std.specs.Str.Parse.{digits_value, without_leading_plus}
 use Rattle.std.specs.Box.{box_value}
 use Rattle.std.specs.Option.{option_map_or}
 use Rattle.std.proofs.lemmas.Slice.Eq.{bytes_eq-Decides}
-use Rattle.clap.specs.Words.{App, HasMatchesOf, Kinds, Row, Text, app_of, built, fault_of, is_simple, is_simple_and_free, subcommand_name_of, subcommand_of, subcommand_rows, subcommand_rows_of}
+use Rattle.clap.specs.Words.{App, HasMatchesOf, Kinds, Row, Text, app_of, built, fault_of, is_simple, is_simple_and_free}
+use Rattle.clap.specs.Words.{subcommand_name_of, subcommand_of, subcommand_rows, subcommand_rows_of}
 use Rattle.clap.specs.Kinds.{check_kinds, or_else}
-use Rattle.clap.specs.Faults.{built_fault, check_fault, level_fault, defaults_fault, entered_fault, other_fault, settle_fault, step_fault, turn_fault, walk_fault, word_fault}
-use Rattle.clap.specs.Walk.{Held, Names, Outcome, Rule, Step, Waiting, Walk, after_flag, after_step, long_or_other, plain_word, short_or_plain, subcommand_met, subcommand_or_other, to_positional, walked, walked_from, word_met}
+use Rattle.clap.specs.Faults.{built_fault, check_fault, level_fault, defaults_fault, entered_fault, other_fault, settle_fault, step_fault}
+use Rattle.clap.specs.Faults.{turn_fault, walk_fault, word_fault}
+use Rattle.clap.specs.Walk.{Held, Names, Outcome, Rule, Step, Waiting, Walk, after_flag, after_step, long_or_other, plain_word}
+use Rattle.clap.specs.Walk.{short_or_plain, subcommand_met, subcommand_or_other, to_positional, walked, walked_from, word_met}
 use Rattle.clap.specs.Walk.{done, waits, plain, refused, idle, option, positional, next, trailing, subcommand, value}
 use Rattle.clap.specs.Lexer.{long_of}
 use Rattle.clap.specs.Walk.{finished, nothing_held, settled, rows_after, stop_after, walk, walk_from}
@@ -28,22 +32,26 @@ abbrev entered_name : Step → Option Text
 entered_name (subcommand name) = Some name
 entered_name _ = None
 
-plain_enters_none : (rules : List Rule) (waiting : Waiting) (word : Text) (h : Held) → entered_name (plain_word rules waiting word h).1 ≡ None
+plain_enters_none : (rules : List Rule) (waiting : Waiting) (word : Text) (h : Held)
+    → entered_name (plain_word rules waiting word h).1 ≡ None
 plain_enters_none rules idle word h = refl
 plain_enters_none rules (option id) word h = refl
 plain_enters_none rules positional word h = refl
 
-flag_enters_none : (rules : List Rule) (waiting : Waiting) (word : Text) (h : Held) (o : Outcome) → entered_name (after_flag rules waiting word h o).1 ≡ None
+flag_enters_none : (rules : List Rule) (waiting : Waiting) (word : Text) (h : Held) (o : Outcome)
+    → entered_name (after_flag rules waiting word h o).1 ≡ None
 flag_enters_none rules waiting word h done = refl
 flag_enters_none rules waiting word h (waits id) = refl
 flag_enters_none rules waiting word h plain = plain_enters_none rules waiting word h
 flag_enters_none rules waiting word h refused = plain_enters_none rules waiting word h
 
-short_enters_none : (rules : List Rule) (waiting : Waiting) (word : Text) (flags : Option Text) (h : Held) → entered_name (short_or_plain rules waiting word flags h).1 ≡ None
+short_enters_none : (rules : List Rule) (waiting : Waiting) (word : Text) (flags : Option Text) (h : Held)
+    → entered_name (short_or_plain rules waiting word flags h).1 ≡ None
 short_enters_none rules waiting word (Some flags) h = flag_enters_none rules waiting word _ _
 short_enters_none rules waiting word None h = plain_enters_none rules waiting word h
 
-long_enters_none : (rules : List Rule) (waiting : Waiting) (word : Text) (long : Option (Text × Option Text)) (h : Held) → entered_name (long_or_other rules waiting word long h).1 ≡ None
+long_enters_none : (rules : List Rule) (waiting : Waiting) (word : Text) (long : Option (Text × Option Text)) (h : Held)
+    → entered_name (long_or_other rules waiting word long h).1 ≡ None
 long_enters_none rules waiting word (Some p) h = flag_enters_none rules waiting word _ _
 long_enters_none rules waiting word None h = short_enters_none rules waiting word _ h
 
@@ -53,7 +61,8 @@ NotHelp None = Unit {0}
 NotHelp (Some p) = p.0 ≢ codes "help"
 
 -- a word that names `help` is at fault, since it asks for help
-met_is_not_help : (s : Shape) (met : Option Text) (waiting : Waiting) (position : ℕ) (word : Text) (h : Held) → s.disable_help_subcommand ≡ false
+met_is_not_help : (s : Shape) (met : Option Text) (waiting : Waiting) (position : ℕ) (word : Text) (h : Held)
+    → s.disable_help_subcommand ≡ false
     → other_fault s met word h ≡ [] → entered_name (subcommand_or_other s.rules met waiting position word h).1 ≢ Some (codes "help")
 met_is_not_help s (Some name) waiting position word h enabled faultless is =
     let named : name ≡ codes "help" = cc in
@@ -61,21 +70,26 @@ met_is_not_help s (Some name) waiting position word h enabled faultless is =
     cc
 met_is_not_help s None waiting position word h enabled faultless is = dashes (bytes_eq word (45 ∷ 45 ∷ [])) is
   where
-    dashes : (b : Bool) → entered_name (cond b (h, trailing position) (long_or_other s.rules waiting word (long_of word) h)).1 ≢ Some (codes "help")
+    dashes : (b : Bool) → entered_name (cond b (h, trailing position) (long_or_other s.rules waiting word (long_of word) h)).1 ≢ Some
+        (codes "help")
     dashes true e = cc
     dashes false e = let none = long_enters_none s.rules waiting word (long_of word) h in cc
 
-word_is_not_help : (s : Shape) (names : Names) (is_trailing : Bool) (waiting : Waiting) (position : ℕ) (word : Text) (h : Held) → s.disable_help_subcommand ≡ false
-    → word_fault s names is_trailing waiting word h ≡ [] → entered_name (word_met s.rules names is_trailing waiting position word h).1 ≢ Some (codes "help")
+word_is_not_help : (s : Shape) (names : Names) (is_trailing : Bool) (waiting : Waiting) (position : ℕ) (word : Text) (h : Held)
+    → s.disable_help_subcommand ≡ false
+    → word_fault s names is_trailing waiting word h ≡ []
+    → entered_name (word_met s.rules names is_trailing waiting position word h).1 ≢ Some (codes "help")
 word_is_not_help s names true waiting position word h enabled faultless is = cc
 word_is_not_help s names false waiting position word h enabled faultless is =
     met_is_not_help s (subcommand_met names waiting word) waiting position word h enabled faultless is
 
-positional_is_not_help : (rules : List Rule) (a : Option Rule) (word : Text) (w : Walk) (h : Held) → NotHelp w.stopped → NotHelp (to_positional rules a word w h).stopped
+positional_is_not_help : (rules : List Rule) (a : Option Rule) (word : Text) (w : Walk) (h : Held) → NotHelp w.stopped
+    → NotHelp (to_positional rules a word w h).stopped
 positional_is_not_help rules None word w h before = before
 positional_is_not_help rules (Some a) word w h before = tt
 
-step_is_not_help : (rules : List Rule) (word : Text) (w : Walk) (h : Held) (step : Step) → NotHelp w.stopped → entered_name step ≢ Some (codes "help")
+step_is_not_help : (rules : List Rule) (word : Text) (w : Walk) (h : Held) (step : Step) → NotHelp w.stopped
+    → entered_name step ≢ Some (codes "help")
     → NotHelp (after_step rules word w h step).stopped
 step_is_not_help rules word w h (next waiting) before other = before
 step_is_not_help rules word w h (trailing position) before other = before
@@ -93,7 +107,8 @@ turn_is_not_help s names w word enabled faultless before = from w.stopped faultl
     here : Kinds
     here = word_fault s names w.is_trailing w.waiting word w.held
 
-    from : (stopped : Option (Text × List Text)) → cond (is_some stopped) [] (or_else here (step_fault s w.position met.0 met.1)) ≡ [] → NotHelp stopped
+    from : (stopped : Option (Text × List Text)) → cond (is_some stopped) [] (or_else here (step_fault s w.position met.0 met.1)) ≡ []
+        → NotHelp stopped
         → NotHelp (walked_from s.rules names stopped w word).stopped
     from (Some p) none other = other
     from None none other = step_is_not_help s.rules word w met.0 met.1 before
@@ -108,18 +123,21 @@ walk_is_not_help s names w (word ∷ rest) enabled faultless before =
     (turn_is_not_help s names w word enabled (first_empty (turn_fault s names w word) _ faultless) before)
 
 -- the last checks fail where a subcommand is wanted
-wanted_is_fault : (wants_help wants_subcommand wants_argument : Bool) → wants_subcommand ≡ true → check_kinds wants_help wants_subcommand wants_argument ≢ []
+wanted_is_fault : (wants_help wants_subcommand wants_argument : Bool) → wants_subcommand ≡ true
+    → check_kinds wants_help wants_subcommand wants_argument ≢ []
 wanted_is_fault true wants_subcommand wants_argument wanted none = cc
 wanted_is_fault false true wants_argument wanted none = cc
 wanted_is_fault false false wants_argument wanted none = cc
 
 -- where a subcommand is wanted, one is entered
-subcommand_entered : (s : Shape) (rows : List Row) (entered_one : Bool) → s.subcommand_required ≡ true → check_fault s rows entered_one ≡ [] → entered_one ≡ true
+subcommand_entered : (s : Shape) (rows : List Row) (entered_one : Bool) → s.subcommand_required ≡ true
+    → check_fault s rows entered_one ≡ [] → entered_one ≡ true
 subcommand_entered s rows true wanted faultless = refl
 subcommand_entered s rows false wanted faultless = absurd (wanted_is_fault _ _ _ wanted faultless)
 
 -- what no fault in the words says of where the walk stops
-pub no_fault_enters : (a : App) (words : List Text) → a.top.disable_help_subcommand ≡ false → a.top.subcommand_required ≡ true → built_fault a nothing_held words ≡ []
+pub no_fault_enters : (a : App) (words : List Text) → a.top.disable_help_subcommand ≡ false → a.top.subcommand_required ≡ true
+    → built_fault a nothing_held words ≡ []
     → NotHelp (stop_after a.top.rules (names_of a) words) × (is_some (entered a (stop_after a.top.rules (names_of a) words)) ≡ true)
     × (entered_fault a (stop_after a.top.rules (names_of a) words) ≡ [])
 no_fault_enters a words enabled wanted faultless =
@@ -141,7 +159,8 @@ no_fault_enters a words enabled wanted faultless =
 -- the one of four commands whose test holds, as `find` chooses it
 abbrev chosen : Bool → Bool → Bool → Bool → List Shape → Option Shape
 chosen is_first is_second is_third is_fourth (s ∷ t ∷ u ∷ v ∷ rest) =
-    cond (is_first || false) (Some s) (cond (is_second || false) (Some t) (cond (is_third || false) (Some u) (cond (is_fourth || false) (Some v) None)))
+    cond (is_first || false) (Some s)
+    (cond (is_second || false) (Some t) (cond (is_third || false) (Some u) (cond (is_fourth || false) (Some v) None)))
 chosen is_first is_second is_third is_fourth _ = None
 
 -- the command entered is one of three, and that of `encode` has its words
@@ -152,7 +171,8 @@ Enters met =
     ⊎ ((rows : List Row) × (met ≡ Some (codes "encode", rows)) × HasWords rows))
 
 -- a walk that did not stop at `help` enters one of the others
-call_entered : (stop : Option (Text × List Text)) → NotHelp stop → is_some (entered (built hart_app) stop) ≡ true → entered_fault (built hart_app) stop ≡ []
+call_entered : (stop : Option (Text × List Text)) → NotHelp stop → is_some (entered (built hart_app) stop) ≡ true
+    → entered_fault (built hart_app) stop ≡ []
     → Enters (entered (built hart_app) stop)
 call_entered None other some none = cc
 call_entered (Some p) other some none =
@@ -162,7 +182,8 @@ call_entered (Some p) other some none =
     found : Bool → Bool → Bool → Bool → Option Shape
     found is_answer is_dump is_encode is_help = chosen is_answer is_dump is_encode is_help (built hart_app).subs
 
-    by_name : (is_answer is_dump is_encode is_help : Bool) → is_help ≢ true → is_some (option_map (λ s. rows_at s p.1) (found is_answer is_dump is_encode is_help)) ≡ true
+    by_name : (is_answer is_dump is_encode is_help : Bool) → is_help ≢ true
+        → is_some (option_map (λ s. rows_at s p.1) (found is_answer is_dump is_encode is_help)) ≡ true
         → option_map_or (λ s. level_fault s [] nothing_held p.1 false []) (found is_answer is_dump is_encode is_help) [] ≡ []
         → Enters (option_map (λ s. rows_at s p.1) (found is_answer is_dump is_encode is_help))
     by_name true is_dump is_encode is_help other some none = inl (_, refl)
@@ -173,7 +194,10 @@ call_entered (Some p) other some none =
 
 -- the name in the matches is that of the subcommand entered
 subcommand_name-rows : (m : ArgMatches) → option_map (λ met. met.0) (subcommand_rows_of m) ≡ subcommand_name_of m
-subcommand_name-rows m = elim (out-ArgMatches m).subcommand as (λ o. option_map (λ met. met.0) (subcommand_rows o) ≡ option_map (λ b. (out-SubCommand (box_value b)).name.now) o) [ None ↦ refl | Some b ↦ refl ]
+subcommand_name-rows m =
+    elim (out-ArgMatches m).subcommand as
+    (λ o. option_map (λ met. met.0) (subcommand_rows o) ≡ option_map (λ b. (out-SubCommand (box_value b)).name.now) o)
+    [ None ↦ refl | Some b ↦ refl ]
 
 -- what the matches of the command `hart` are
 pub record MeetsCall (words : List Text) (m : ArgMatches) : Type 0 where
@@ -194,16 +218,19 @@ meets_call command words m is_hart faultless matches =
     }
 
 -- the name and the rows of a subcommand, from each alone
-joined : (met : Option (Text × List Row)) (name : Text) (rows : List Row) → Some name ≡ option_map (λ p. p.0) met → Some rows ≡ option_map (λ p. p.1) met
+joined : (met : Option (Text × List Row)) (name : Text) (rows : List Row) → Some name ≡ option_map (λ p. p.0) met
+    → Some rows ≡ option_map (λ p. p.1) met
     → met ≡ Some (name, rows)
 joined None name rows named with_rows = cc
 joined (Some p) name rows named with_rows =
     ap₂ (λ n r. Some (n, r)) (ap (λ o. unwrap_or o name) (sym named)) (ap (λ o. unwrap_or o rows) (sym with_rows))
 
 -- what `subcommand()` gives is what the words name
-pub met_by_words : (words : List Text) (m : ArgMatches) (name : Text) (rows : List Row) → MeetsCall words m → Some name ≡ subcommand_name_of m
+pub met_by_words : (words : List Text) (m : ArgMatches) (name : Text) (rows : List Row) → MeetsCall words m
+    → Some name ≡ subcommand_name_of m
     → Some rows ≡ option_map (λ p. p.1) (subcommand_rows_of m) → subcommand_of hart_app words ≡ Some (name, rows)
-met_by_words words m name rows meets named with_rows = sym meets.same ∙ joined (subcommand_rows_of m) name rows (named ∙ sym (subcommand_name-rows m)) with_rows
+met_by_words words m name rows meets named with_rows = sym meets.same
+    ∙ joined (subcommand_rows_of m) name rows (named ∙ sym (subcommand_name-rows m)) with_rows
 
 -- a call whose name is known
 pub call_named : (words : List Text) (m : ArgMatches) (call : Call) (name : Text) (rows : List Row) → MeetsCall words m
@@ -213,23 +240,28 @@ call_named words m call name rows meets is named values =
 
 -- and where it gives nothing, they name nothing
 pub met_nothing : (words : List Text) (m : ArgMatches) → MeetsCall words m → None ≡ subcommand_name_of m → ⊥
-met_nothing words m meets none = nothing (subcommand_of hart_app words) meets.enters (ap (option_map (λ p. p.0)) (sym meets.same) ∙ subcommand_name-rows m ∙ sym none)
+met_nothing words m meets none =
+    nothing (subcommand_of hart_app words) meets.enters (ap (option_map (λ p. p.0)) (sym meets.same) ∙ subcommand_name-rows m ∙ sym none)
   where
     nothing : (met : Option (Text × List Row)) → Enters met → option_map (λ p. p.0) met ≡ None → ⊥
     nothing None enters named = elim enters [ inl e ↦ cc | inr (inl e) ↦ cc | inr (inr e) ↦ cc ]
     nothing (Some p) enters named = cc
 
 same_name : (a b : Text) (rows others : List Row) (met : Option (Text × List Row)) → met ≡ Some (a, rows) → met ≡ Some (b, others) → a ≡ b
-same_name a b rows others met first second = ap (λ (o : Option (Text × List Row)). (unwrap_or {T = Text × List Row} o (a, rows)).0) (sym first ∙ second)
+same_name a b rows others met first second =
+    ap (λ (o : Option (Text × List Row)). (unwrap_or {T = Text × List Row} o (a, rows)).0) (sym first ∙ second)
 
-same_rows : (a b : Text) (rows others : List Row) (met : Option (Text × List Row)) → met ≡ Some (a, rows) → met ≡ Some (b, others) → rows ≡ others
-same_rows a b rows others met first second = ap (λ (o : Option (Text × List Row)). (unwrap_or {T = Text × List Row} o (a, rows)).1) (sym first ∙ second)
+same_rows : (a b : Text) (rows others : List Row) (met : Option (Text × List Row)) → met ≡ Some (a, rows) → met ≡ Some (b, others)
+    → rows ≡ others
+same_rows a b rows others met first second =
+    ap (λ (o : Option (Text × List Row)). (unwrap_or {T = Text × List Row} o (a, rows)).1) (sym first ∙ second)
 
 differ : (a b : Text) → bytes_eq a b ≡ false → a ≢ b
 differ a b other same = let is = (bytes_eq-Decides a b).1 same in cc
 
 -- the subcommand named `encode` has its words
-pub encode_entered : (met : Option (Text × List Row)) (name : Text) (rows : List Row) → Enters met → met ≡ Some (name, rows) → name ≡ codes "encode" → HasWords rows
+pub encode_entered : (met : Option (Text × List Row)) (name : Text) (rows : List Row) → Enters met → met ≡ Some (name, rows)
+    → name ≡ codes "encode" → HasWords rows
 encode_entered met name rows enters is named = elim enters [
   | inl e ↦ absurd (differ (codes "answer") (codes "encode") refl (same_name _ _ _ _ met e.1 is ∙ named))
   | inr (inl e) ↦ absurd (differ (codes "dump") (codes "encode") refl (same_name _ _ _ _ met e.1 is ∙ named))
@@ -237,7 +269,8 @@ encode_entered met name rows enters is named = elim enters [
 ]
 
 -- there is no other subcommand
-pub no_other_entered : (met : Option (Text × List Row)) (name : Text) (rows : List Row) → Enters met → met ≡ Some (name, rows) → name ≢ codes "answer"
+pub no_other_entered : (met : Option (Text × List Row)) (name : Text) (rows : List Row) → Enters met → met ≡ Some (name, rows)
+    → name ≢ codes "answer"
     → name ≢ codes "dump" → name ≢ codes "encode" → ⊥
 no_other_entered met name rows enters is no_answer no_dump no_encode = elim enters [
   | inl e ↦ no_answer (sym (same_name _ _ _ _ met e.1 is))
@@ -257,9 +290,11 @@ same_call (Encode words preambles) Answer rows names one other = absurd (differ 
 same_call (Encode words preambles) Dump rows names one other = absurd (differ (codes "encode") (codes "dump") refl names)
 same_call (Encode words preambles) (Encode others number) rows names one other =
     ap₂ Encode (ap₂ (λ (p q : Text × Text). record { who = p.0; address = p.1; command = q.0; payload = q.1 })
-    (ap₂ (λ (x y : Text). (x, y)) (same_text words.who others.who one.who other.who) (same_text words.address others.address one.address other.address))
+    (ap₂ (λ (x y : Text). (x, y)) (same_text words.who others.who one.who other.who)
+    (same_text words.address others.address one.address other.address))
     (ap₂ (λ (x y : Text). (x, y)) (same_text words.command others.command one.command other.command) (sym one.payload ∙ other.payload)))
-    (one.value ∙ ap (λ t. digits_value 10 (without_leading_plus t)) (same_text one.number other.number one.given other.given) ∙ sym other.value)
+    (one.value ∙ ap (λ t. digits_value 10 (without_leading_plus t)) (same_text one.number other.number one.given other.given)
+    ∙ sym other.value)
   where
     same_text : {given : Option Text} (x y : Text) → given ≡ Some x → given ≡ Some y → x ≡ y
     same_text x y first second = ap (λ o. unwrap_or o x) (sym first ∙ second)
@@ -298,12 +333,12 @@ encode_alone = record {
     given = refl;
     digits = search rules;
     value = refl;
-    enough = omega arith;
-    few = omega arith;
+    count = (omega arith, omega arith);
   };
 }
 
-pub encode_with_20 : Calls (Encode identify 20) (codes "encode" ∷ codes "P" ∷ codes "@0" ∷ codes "0" ∷ codes "--preambles" ∷ codes "20" ∷ [])
+pub encode_with_20 : Calls (Encode identify 20)
+    (codes "encode" ∷ codes "P" ∷ codes "@0" ∷ codes "0" ∷ codes "--preambles" ∷ codes "20" ∷ [])
 unfolding clap_on_literals
 encode_with_20 = record {
   no_fault = refl;
@@ -318,7 +353,6 @@ encode_with_20 = record {
     given = refl;
     digits = search rules;
     value = refl;
-    enough = omega arith;
-    few = omega arith;
+    count = (omega arith, omega arith);
   };
 }

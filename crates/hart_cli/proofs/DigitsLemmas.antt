@@ -1,5 +1,6 @@
 -- The byte of two digits, and fault bits by their digits.
-use Rattle.std.proofs.Common.{◌≡◌, ℕ, ◌+◌, ◌*◌, true, List, [], ◌∷◌, get_or, Option, Some, None, Result, Ok, is_some, unwrap_or, refl, sym, ap, ◌∙◌}
+use Rattle.std.proofs.Common.{◌≡◌, ℕ, ◌+◌, ◌*◌, true, List, [], ◌∷◌, get_or, Option, Some, None, Result, Ok, is_some, unwrap_or, refl}
+use Rattle.std.proofs.Common.{sym, ap, ◌∙◌}
 use Rattle.std.proofs.Math.Nat.{mul_comm}
 use Rattle.std.specs.Result.{result_ok}
 use Rattle.hart_cli.specs.Items.{AreDigits, byte_of}

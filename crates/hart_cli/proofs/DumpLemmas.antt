@@ -1,5 +1,5 @@
 -- The frames of characters, one after another, and their lines.
-use Rattle.std.proofs.Common.{◌≡◌, ◌≢◌, ℕ, List, [], ◌∷◌, ◌++◌, Option, Result, Ok, Err, refl, sym, ap, ◌∙◌, append_assoc, subst}
+use Rattle.std.proofs.Common.{◌≡◌, ◌≢◌, ℕ, List, [], ◌∷◌, ◌++◌, Option, Some, Result, Ok, Err, refl, sym, ap, ◌∙◌, append_assoc, subst}
 use Rattle.std.proofs.lemmas.List.{append-nil}
 use Rattle.std.specs.Result.{IsErrAnd}
 use Rattle.std.specs.Io.KnownBytes.{Appends}
@@ -7,12 +7,13 @@ use Rattle.hart_frame.specs.Character.{Character}
 use Rattle.hart_frame.specs.Frames.{AreFrames, HasNoFrame, IsFirst}
 use Rattle.hart_frame.specs.declared.found.Found.{Found}
 use Rattle.hart_cli.specs.declared.fault.CliFault.{CliFault}
-use Rattle.hart_cli.specs.declared.fault.CliFault.TheVariants.{Memory}
+use Rattle.hart_cli.specs.declared.fault.CliFault.TheVariants.{BadHex, Read, TooLong}
 use Rattle.hart_cli.specs.declared.input.InputEnd.{InputEnd}
-use Rattle.hart_cli.specs.Dump.{AreFirstLines, AreLines, IsDump}
+use Rattle.hart_cli.specs.Dump.{AreLines, DumpOutcome, HasDump, IsDump}
 use Rattle.hart_cli.specs.DumpText.{dump_line, dump_text}
 use Rattle.hart_cli.specs.Hearing.{Hears}
-use Rattle.hart_cli.specs.Stream.{FailsToWrite, Stream, WritesAll, count_after_failure}
+use Rattle.hart_cli.specs.Input.{Reads}
+use Rattle.hart_cli.specs.Stream.{FailsToWrite, Stream, Writes, WritesAll, count_after_failure}
 use Rattle.hart_cli.proofs.KnownBytesLemmas.{Appends-append, Appends-nothing}
 
 -- the frames of a list from one place on begin with these, the last of which ends at the other place
@@ -45,7 +46,8 @@ dump_text-append (found ∷ frames) others =
 
 -- the text with one line more
 dump_text-more : (frames : List Found) (next : Found) → dump_text (frames ++ next ∷ []) ≡ dump_text frames ++ dump_line next
-dump_text-more frames next = dump_text-append frames (next ∷ []) ∙ ap (λ (text : List ℕ). dump_text frames ++ text) (append-nil (dump_line next))
+dump_text-more frames next = dump_text-append frames (next ∷ [])
+    ∙ ap (λ (text : List ℕ). dump_text frames ++ text) (append-nil (dump_line next))
 
 -- the lines of the frames before a place were written
 pub record LinesSoFar (chars : List Character) (place : ℕ) (old new : Stream) : Type 0 where
@@ -54,7 +56,8 @@ pub record LinesSoFar (chars : List Character) (place : ℕ) (old new : Stream) 
   pub written : WritesAll old new (dump_text frames)
 
 -- a line more was written
-pub LinesSoFar-more : (chars : List Character) (place : ℕ) (old middle new : Stream) (next : Found) (line : List ℕ) → LinesSoFar chars place old middle
+pub LinesSoFar-more : (chars : List Character) (place : ℕ) (old middle new : Stream) (next : Found) (line : List ℕ)
+    → LinesSoFar chars place old middle
     → IsFirst next chars place → line ≡ dump_line next → WritesAll middle new line → LinesSoFar chars next.stop old new
 LinesSoFar-more chars place old middle new next line so_far is_next is_line written = record {
   frames = so_far.frames ++ next ∷ [];
@@ -82,7 +85,8 @@ AreLines-written chars place old new so_far no_more = (
   dump_text so_far.frames,
   record {
     frames = so_far.frames;
-    are_frames = subst (AreFrames chars 0) (append-nil so_far.frames) (AreFrames-join chars 0 place so_far.frames [] so_far.begins (AreFrames.none place no_more));
+    are_frames = subst (AreFrames chars 0) (append-nil so_far.frames)
+        (AreFrames-join chars 0 place so_far.frames [] so_far.begins (AreFrames.none place no_more));
     text = refl;
   },
   so_far.written,
@@ -93,26 +97,18 @@ abbrev pub HasFrames : Type 0
 HasFrames = (chars : List Character) (from : ℕ) → (frames : List Found) × AreFrames chars from frames
 
 -- the frames so far, the next and those behind it are all
-AreFrames-next : (law : HasFrames) (chars : List Character) (place : ℕ) (frames : List Found) (next : Found) → FramesUpTo chars 0 frames place
+AreFrames-next : (law : HasFrames) (chars : List Character) (place : ℕ) (frames : List Found) (next : Found)
+    → FramesUpTo chars 0 frames place
     → IsFirst next chars place → AreFrames chars 0 (frames ++ next ∷ (law chars next.stop).0)
 AreFrames-next law chars place frames next begins is_next =
     let later = law chars next.stop in
     AreFrames-join chars 0 place frames (next ∷ later.0) begins (AreFrames.first place next later.0 is_next later.1)
 
--- where the next line could not be built, the lines before it were written
-pub FirstLines-unbuilt : (law : HasFrames) (chars : List Character) (place : ℕ) (old new : Stream) (next : Found) → LinesSoFar chars place old new
-    → IsFirst next chars place → (lines : List ℕ) × AreFirstLines chars lines × WritesAll old new lines
-FirstLines-unbuilt law chars place old new next so_far is_next = (
-  dump_text so_far.frames,
-  record {
-    frames = so_far.frames;
-    others = next ∷ (law chars next.stop).0;
-    are_frames = AreFrames-next law chars place so_far.frames next so_far.begins is_next;
-    short = λ none. absurd cc;
-    text = refl;
-  },
-  so_far.written,
-)
+-- a failure that is handed on is one of the text that was being written
+Writes-handed_on : {T E : Type 0} (result : Result T E) (P : E → Type 0) (old new : Stream) (text : List ℕ) → IsErrAnd result P
+    → FailsToWrite old new text → Writes old new text result
+Writes-handed_on (Ok done) P old new text err fails = absurd err
+Writes-handed_on (Err failed) P old new text err fails = fails
 
 -- what was not written is not empty
 back_stays : (back more : List ℕ) → back ≢ [] → back ++ more ≢ []
@@ -120,10 +116,11 @@ back_stays [] more some none = some refl
 back_stays (byte ∷ back) more some none = absurd cc
 
 -- where a write of the next line failed, a front of all lines was written
-pub FirstLines-unwritten : (law : HasFrames) (chars : List Character) (place : ℕ) (old middle new : Stream) (next : Found) (line : List ℕ)
-    → LinesSoFar chars place old middle → IsFirst next chars place → line ≡ dump_line next → FailsToWrite middle new line
-    → (lines : List ℕ) × AreLines chars lines × FailsToWrite old new lines
-FirstLines-unwritten law chars place old middle new next line so_far is_next is_line fails =
+pub AreLines-unwritten : {T E : Type 0} (law : HasFrames) (chars : List Character) (place : ℕ) (old middle new : Stream) (next : Found)
+    (line : List ℕ) (result : Result T E) (P : E → Type 0) → LinesSoFar chars place old middle → IsFirst next chars place
+    → line ≡ dump_line next → FailsToWrite middle new line → IsErrAnd result P
+    → (lines : List ℕ) × AreLines chars lines × Writes old new lines result
+AreLines-unwritten law chars place old middle new next line result P so_far is_next is_line fails err =
     let before = dump_text so_far.frames in
     let later = (law chars next.stop).0 in
     let front = fails.0.front in
@@ -136,7 +133,7 @@ FirstLines-unwritten law chars place old middle new next line so_far is_next is_
         are_frames = AreFrames-next law chars place so_far.frames next so_far.begins is_next;
         text = refl;
       },
-      (
+      Writes-handed_on result P _ _ _ err (
         record {
           front = before ++ front;
           back = back ++ dump_text later;
@@ -149,10 +146,46 @@ FirstLines-unwritten law chars place old middle new next line so_far is_next is_
       ),
     )
 
--- a growth that was refused is told as want of memory
-pub memory_told : {T : Type 0} (result : Result T CliFault) → IsErrAnd result (λ fault. fault ≡ Memory) → result ≡ Err Memory
-memory_told (Ok done) told = absurd told
-memory_told (Err fault) told = ap Err told
+-- an input that was read and heard has its lines
+HasDump-heard : (reader reader_after : Stream) (input : List ℕ) (end : InputEnd) (chars : List Character) (fault : Option CliFault)
+    (lines : List ℕ) → Reads reader reader_after input end → Hears input end chars fault → AreLines chars lines
+    → HasDump reader reader_after fault lines
+HasDump-heard reader reader_after input end chars fault lines reads hears are_lines = record {
+  input = input;
+  end = end;
+  reads = reads;
+  is_dump = record { chars = chars; hears = hears; are_lines = are_lines };
+}
+
+-- an input with a fault was dumped up to there
+told_lines : (reader reader_after writer writer_after : Stream) (input : List ℕ) (end : InputEnd) (chars : List Character)
+    (told : Option CliFault) (fault : CliFault) (lines : List ℕ) → told ≡ Some fault → Hears input end chars told
+    → HasDump reader reader_after told lines → WritesAll writer writer_after lines
+    → DumpOutcome reader reader_after writer writer_after (Err fault)
+told_lines r r' w w' input end chars told fault lines is_told (Hears.all _ reads) dump written = cc
+told_lines r r' w w' input end chars told fault lines is_told (Hears.bad_hex _ place bad) dump written =
+    let same : BadHex place ≡ fault = cc in
+    subst (λ (cause : CliFault). DumpOutcome r r' w w' (Err cause)) same (lines, dump, written)
+told_lines r r' w w' input end chars told fault lines is_told (Hears.bad_hex_before_failure _ place bad) dump written =
+    let same : BadHex place ≡ fault = cc in
+    subst (λ (cause : CliFault). DumpOutcome r r' w w' (Err cause)) same (lines, dump, written)
+told_lines r r' w w' input end chars told fault lines is_told (Hears.failure _ reads) dump written =
+    let same : Read ≡ fault = cc in
+    subst (λ (cause : CliFault). DumpOutcome r r' w w' (Err cause)) same (lines, dump, written)
+told_lines r r' w w' input end chars told fault lines is_told (Hears.bad_hex_within_limit _ place bad) dump written =
+    let same : BadHex place ≡ fault = cc in
+    subst (λ (cause : CliFault). DumpOutcome r r' w w' (Err cause)) same (lines, dump, written)
+told_lines r r' w w' input end chars told fault lines is_told (Hears.limit _ reads) dump written =
+    let same : TooLong ≡ fault = cc in
+    subst (λ (cause : CliFault). DumpOutcome r r' w w' (Err cause)) same (lines, dump, written)
+
+pub DumpOutcome-fault : (reader reader_after writer writer_after : Stream) (input : List ℕ) (end : InputEnd) (chars : List Character)
+    (told : Option CliFault) (fault : CliFault) (lines : List ℕ) → told ≡ Some fault → Reads reader reader_after input end
+    → Hears input end chars told → AreLines chars lines → WritesAll writer writer_after lines
+    → DumpOutcome reader reader_after writer writer_after (Err fault)
+DumpOutcome-fault r r' w w' input end chars told fault lines is_told reads hears are_lines written =
+    told_lines r r' w w' input end chars told fault lines is_told hears
+    (HasDump-heard r r' input end chars told lines reads hears are_lines) written
 
 -- the law of frames: a list has one list of frames
 abbrev pub OneFrames : Type 0

@@ -1,5 +1,6 @@
 -- What the rows of `hart encode` hold where clap finds no fault in its words.
-use Rattle.std.proofs.Common.{◌≡◌, ◌∙◌, ◌≤◌, ap₂, arith, length, option_map, unwrap_or, ◌++◌, ◌∷◌, [], Bool, IfSome, List, None, Option, Some, ap, codes, cond, false, find, fold, is_some, not, refl, slice_get, subst, sym, true, ℕ, ◌||◌, pos}
+use Rattle.std.proofs.Common.{◌≡◌, ◌∙◌, ◌≤◌, ap₂, arith, length, option_map, unwrap_or, ◌++◌, ◌∷◌, [], Bool, IfSome, List, None, Option}
+use Rattle.std.proofs.Common.{Some, ap, codes, cond, false, find, fold, is_some, not, refl, slice_get, subst, sym, true, ℕ, ◌||◌, pos}
 use Rattle.std.proofs.lemmas.Int.{ints}
 use Rattle.std.specs.Str.Parse.{IsNumeral, digits_value, starts_with_minus, without_leading_plus}
 use Rattle.std.specs.Option.{option_and_then, option_map_or}
@@ -15,14 +16,16 @@ use Rattle.clap.specs.declared.builder.value_parser.ValueParser.TheVariants.{Sig
 use Rattle.clap.specs.Simple.{Shape, built, filled, help_rule, new_rule, new_shape, with_index}
 use Rattle.clap.specs.Takes.{is_given}
 use Rattle.clap.specs.ValueTests.{is_signed_in}
-use Rattle.clap.specs.Walk.{Row, Rule, Text, at_row, default_rows, first_of, has_row, more_values, nothing_held, reading_by, row_text, rows_after, settled, walk, with_default, with_values, without}
+use Rattle.clap.specs.Walk.{Row, Rule, Text, at_row, default_rows, first_of, has_row, more_values, nothing_held, reading_by, row_text}
+use Rattle.clap.specs.Walk.{rows_after, settled, walk, with_default, with_values, without}
 use Rattle.clap.specs.declared.builder.value_parser.Reading.{Reading}
 use Rattle.clap.specs.declared.builder.value_parser.Reading.TheVariants as reading
 use Rattle.clap.specs.declared.error.kind.ErrorKind.TheVariants as kind
 use Rattle.clap.specs.declared.parser.matches.ValueSource.{ValueSource}
 use Rattle.clap.specs.declared.parser.matches.ValueSource.TheVariants.{CommandLine, DefaultValue}
 use Rattle.hart_cli.specs.CommandLine.{HasWords, hart_app, preambles_rule}
-use Rattle.hart_cli.proofs.FaultlessRowLemmas.{Each, KeepsDefault, KeepsUse, each_at_row, each_found, faultless_rows, first_empty, second_empty}
+use Rattle.hart_cli.proofs.FaultlessRowLemmas.{Each, KeepsDefault, KeepsUse, each_at_row, each_found, faultless_rows, first_empty}
+use Rattle.hart_cli.proofs.FaultlessRowLemmas.{second_empty}
 
 -- the row has a value, and that of the preamble bytes is in its range and read without a minus sign
 record Passed (r : Row) : Type 0 where
@@ -60,7 +63,8 @@ without_passed id rows all = each_at_row Passed id (λ _. []) [] rows (λ r pass
 abbrev word_at : Bool → Text → ℕ → Rule
 word_at required id i = with_index i (filled (record (new_rule id) { required = required }))
 
-word_keeps_use : (again required : Bool) (id : Text) (i : ℕ) → bytes_eq id (codes "preambles") ≡ false → KeepsUse Passed again (word_at required id i)
+word_keeps_use : (again required : Bool) (id : Text) (i : ℕ) → bytes_eq id (codes "preambles") ≡ false
+    → KeepsUse Passed again (word_at required id i)
 word_keeps_use again required id i other [] rows none all = cc
 word_keeps_use again required id i other (v ∷ vs) rows none all =
     with_passed id reading.AsWritten CommandLine v vs (without id rows) (λ is. cc) (without_passed id rows all)
@@ -71,7 +75,8 @@ same_default true rows = refl
 same_default false rows = refl
 
 no_default : (a : Rule) (rows : List Row) → a.defaults ≡ [] → with_default rows a ≡ rows
-no_default a rows none = ap (λ values. cond (has_row a.id rows) rows (default_rows a.id (reading_by a) values rows)) none ∙ same_default (has_row a.id rows) rows
+no_default a rows none = ap (λ values. cond (has_row a.id rows) rows (default_rows a.id (reading_by a) values rows)) none
+    ∙ same_default (has_row a.id rows) rows
 
 no_defaults : (rules : List Rule) (rows : List Row) → Each (λ a. a.defaults ≡ []) rules → fold with_default rows rules ≡ rows
 no_defaults [] rows none = refl
@@ -100,7 +105,8 @@ option_keeps_use again (v ∷ vs) rows none all =
     let used_once = second_empty (range_kinds 1 1 (length (v ∷ vs))) _ none in
     let passes = second_empty (repeat_fault again (codes "preambles") rows) _ used_once in
     let first_passes = first_empty (value_kinds false in_range v) _ passes in
-    with_passed (codes "preambles") reading.WithoutMinus CommandLine v vs (without (codes "preambles") rows) (λ is. (accepted _ first_passes, refl))
+    with_passed (codes "preambles") reading.WithoutMinus CommandLine v vs (without (codes "preambles") rows)
+    (λ is. (accepted _ first_passes, refl))
     (without_passed (codes "preambles") rows all)
 
 option_keeps_default : KeepsDefault Passed number_rule
@@ -164,14 +170,16 @@ asked_words : (rows : List Row) → check_fault encode_shape rows false ≡ []
     → (is_given (codes "WHO") rows ≡ true) × (is_given (codes "ADDRESS") rows ≡ true) × (is_given (codes "COMMAND") rows ≡ true)
 asked_words rows none = each (is_given (codes "WHO") rows) (is_given (codes "ADDRESS") rows) (is_given (codes "COMMAND") rows) none
   where
-    each : (a b c : Bool) → cond (not a || (not b || (not c || false))) (kind.MissingRequiredArgument ∷ []) [] ≡ [] → (a ≡ true) × (b ≡ true) × (c ≡ true)
+    each : (a b c : Bool) → cond (not a || (not b || (not c || false))) (kind.MissingRequiredArgument ∷ []) [] ≡ []
+        → (a ≡ true) × (b ≡ true) × (c ≡ true)
     each true true true none = (refl, refl, refl)
     each true true false none = cc
     each true false c none = cc
     each false b c none = cc
 
 -- a word that is given has a value
-given_value : (r : Option Row) → IfSome r Passed → option_map_or (λ r. explicit_source r.source) r false ≡ true → is_some (option_and_then (λ r. slice_get r.values 0) r) ≡ true
+given_value : (r : Option Row) → IfSome r Passed → option_map_or (λ r. explicit_source r.source) r false ≡ true
+    → is_some (option_and_then (λ r. slice_get r.values 0) r) ≡ true
 given_value None passed given = cc
 given_value (Some r) passed given = ap is_some passed.is_first
 
@@ -179,7 +187,8 @@ given_first : (id : Text) (rows : List Row) → Each Passed rows → is_given id
 given_first id rows all given = given_value _ (each_found Passed (λ r. bytes_eq r.id id) rows all) given
 
 -- the default leaves a row of the preamble bytes
-added_row : (rows : List Row) (change : Row → Row) (new : Row) → ((r : Row) → (change r).id ≡ r.id) → bytes_eq new.id (codes "preambles") ≡ true
+added_row : (rows : List Row) (change : Row → Row) (new : Row) → ((r : Row) → (change r).id ≡ r.id)
+    → bytes_eq new.id (codes "preambles") ≡ true
     → has_row (codes "preambles") (at_row (codes "preambles") (λ r. change r ∷ []) (new ∷ []) rows) ≡ true
 added_row [] change new same is = ap (λ b. b || false) is
 added_row (r ∷ rest) change new same is = here (bytes_eq r.id (codes "preambles")) refl (added_row rest change new same is)
@@ -189,14 +198,16 @@ added_row (r ∷ rest) change new same is = here (bytes_eq r.id (codes "preamble
 
     here : (b : Bool) → bytes_eq r.id (codes "preambles") ≡ b → has_row (codes "preambles") tail ≡ true
         → has_row (codes "preambles") (cond b (change r ∷ rest) (r ∷ tail)) ≡ true
-    here true found later = ap (λ id. bytes_eq id (codes "preambles") || has_row (codes "preambles") rest) (same r) ∙ ap (λ b. b || has_row (codes "preambles") rest) found
+    here true found later = ap (λ id. bytes_eq id (codes "preambles") || has_row (codes "preambles") rest) (same r)
+        ∙ ap (λ b. b || has_row (codes "preambles") rest) found
     here false found later = ap (λ b. b || has_row (codes "preambles") tail) found ∙ later
 
 default_row : (rows : List Row) → has_row (codes "preambles") (with_default rows number_rule) ≡ true
 default_row rows = here (has_row (codes "preambles") rows) refl
   where
     here : (b : Bool) → has_row (codes "preambles") rows ≡ b
-        → has_row (codes "preambles") (cond b rows (with_values (codes "preambles") reading.WithoutMinus DefaultValue (codes "5" ∷ []) rows)) ≡ true
+        → has_row (codes "preambles")
+        (cond b rows (with_values (codes "preambles") reading.WithoutMinus DefaultValue (codes "5" ∷ []) rows)) ≡ true
     here true is = is
     here false is = added_row rows _ _ (λ r. refl) refl
 
@@ -217,11 +228,18 @@ held_row : (id : Text) (rows : List Row) → Each Passed rows → has_row id row
 held_row id [] all has = cc
 held_row id (r ∷ rest) all has = here (bytes_eq r.id id) refl has (λ has. held_row id rest all.1 has)
   where
-    here : (b : Bool) → bytes_eq r.id id ≡ b → (b || has_row id rest) ≡ true → (has_row id rest ≡ true → Holds id rest) → Holds id (r ∷ rest)
-    here true is has later = record { row = r; is_found = ap (λ b. cond b (Some r) (find (λ r. bytes_eq r.id id) rest)) is; named = is; passed = all.0 }
+    here : (b : Bool) → bytes_eq r.id id ≡ b → (b || has_row id rest) ≡ true → (has_row id rest ≡ true → Holds id rest)
+        → Holds id (r ∷ rest)
+    here true is has later =
+        record { row = r; is_found = ap (λ b. cond b (Some r) (find (λ r. bytes_eq r.id id) rest)) is; named = is; passed = all.0 }
     here false is has later =
         let found = later has in
-        record { row = found.row; is_found = ap (λ b. cond b (Some r) (find (λ r. bytes_eq r.id id) rest)) is ∙ found.is_found; named = found.named; passed = found.passed }
+        record {
+          row = found.row;
+          is_found = ap (λ b. cond b (Some r) (find (λ r. bytes_eq r.id id) rest)) is ∙ found.is_found;
+          named = found.named;
+          passed = found.passed;
+        }
 
 -- a number in the range has no minus sign
 record IsNumber (text : Text) : Type 0 where
@@ -245,16 +263,19 @@ kept_minus [] other = refl
 kept_minus (x ∷ xs) other = ap (λ b. unwrap_or (cond b (Some xs) None) (x ∷ xs)) other
 
 -- the matches of `encode` have its words where clap finds no fault in them
-pub encode_has_words : (words : List Text) → level_fault encode_shape [] nothing_held words false [] ≡ [] → HasWords (rows_after encode_shape.rules [] words)
+pub encode_has_words : (words : List Text) → level_fault encode_shape [] nothing_held words false [] ≡ []
+    → HasWords (rows_after encode_shape.rules [] words)
 encode_has_words words faultless =
     let rows = rows_after encode_shape.rules [] words in
     let facts = faultless_rows Passed encode_shape [] words false [] uses_keep defaults_keep faultless in
     let asked = asked_words rows facts.1 in
-    let held = held_row (codes "preambles") rows facts.0 (rows_have_number (settled encode_shape.rules (walk encode_shape.rules [] nothing_held words).held).rows) in
+    let held = held_row (codes "preambles") rows facts.0
+    (rows_have_number (settled encode_shape.rules (walk encode_shape.rules [] nothing_held words).held).rows) in
     let passed = held.passed.in_range held.named in
     let number = is_number held.passed.first (accepts-Accepts false in_range held.passed.first passed.0) in
     let is_read : row_text held.row ≡ Some held.passed.first =
-    ap₂ (λ how t. option_map (read_as how) t) passed.1 held.passed.is_first ∙ ap (λ t. Some t) (kept_minus held.passed.first number.no_minus) in
+    ap₂ (λ how t. option_map (read_as how) t) passed.1 held.passed.is_first
+    ∙ ap (λ t. Some t) (kept_minus held.passed.first number.no_minus) in
     record {
       who = given_first (codes "WHO") rows facts.0 asked.0;
       address = given_first (codes "ADDRESS") rows facts.0 asked.1;

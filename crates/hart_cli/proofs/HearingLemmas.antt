@@ -29,7 +29,8 @@ as_it_stands : (text : List ℕ) (chars : List Character) (place : ℕ) → IsDe
 as_it_stands text chars place h = subst (λ (us : List ℕ). HasBadHex us chars place) (append-nil text) (h [])
 
 -- bad hex is decided at one place
-one_decided : (text : List ℕ) (xs ys : List Character) (p q : ℕ) → IsDecidedBadHexAt text xs p → IsDecidedBadHexAt text ys q → (xs ≡ ys) × (p ≡ q)
+one_decided : (text : List ℕ) (xs ys : List Character) (p q : ℕ) → IsDecidedBadHexAt text xs p → IsDecidedBadHexAt text ys q
+    → (xs ≡ ys) × (p ≡ q)
 one_decided text xs ys p q h k = one_place text xs ys p q (as_it_stands text xs p h) (as_it_stands text ys q k)
 
 -- a text reads so far as one list of characters

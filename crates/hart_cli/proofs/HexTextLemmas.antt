@@ -1,12 +1,28 @@
--- One more byte in a line of hex.
-use Rattle.std.proofs.Common.{◌≡◌, ℕ, zero, suc, ◌<◌, ◌≤◌, ◌+◌, List, [], ◌∷◌, ◌++◌, length, take, map, get_or, refl, sym, ap, ◌∙◌, append_assoc, arith}
+-- Upper case hex, and one more byte in a line of it.
+use Rattle.std.proofs.Common.{◌≡◌, ℕ, zero, suc, ◌<◌, ◌≤◌, ◌+◌, ◌/◌, ◌%◌, List, [], ◌∷◌, ◌++◌, length, take, map, get_or, refl, sym, ap}
+use Rattle.std.proofs.Common.{ap₂, ◌∙◌, append_assoc, arith}
+use Rattle.std.proofs.Math.ListN.{get_or-map}
+use Rattle.std.specs.Char.{to_ascii_uppercase}
 use Rattle.std.specs.List.{join_with_byte}
 use Rattle.std.proofs.lemmas.List.{map_more}
 use Rattle.hart_cli.specs.HexText.{hex_items}
-use Rattle.hex.specs.Hex.{encode_upper}
+use Rattle.hex.specs.Hex.{encode_lower, encode_upper, encode_with, lower_digits, upper_digits}
+
+-- a digit in upper case
+upper_digit : (n : ℕ) → to_ascii_uppercase (get_or lower_digits n 0) ≡ get_or upper_digits n 0
+upper_digit n = sym (get_or-map to_ascii_uppercase lower_digits n 0)
+
+-- lower case digits in upper case
+pub upper-encode_lower : (bytes : List ℕ) → map to_ascii_uppercase (encode_lower bytes) ≡ encode_upper bytes
+unfolding encode_with
+upper-encode_lower [] = refl
+upper-encode_lower (byte ∷ bytes) =
+    ap₂ (λ (digit : ℕ) (digits : List ℕ). digit ∷ digits) (upper_digit (byte / 16))
+    (ap₂ (λ (digit : ℕ) (digits : List ℕ). digit ∷ digits) (upper_digit (byte % 16)) (upper-encode_lower bytes))
 
 -- one more part after the last of one or more
-join_with_byte-push : (c : ℕ) (x : List ℕ) (xs : List (List ℕ)) (y : List ℕ) → join_with_byte c ((x ∷ xs) ++ y ∷ []) ≡ join_with_byte c (x ∷ xs) ++ c ∷ y
+join_with_byte-push : (c : ℕ) (x : List ℕ) (xs : List (List ℕ)) (y : List ℕ)
+    → join_with_byte c ((x ∷ xs) ++ y ∷ []) ≡ join_with_byte c (x ∷ xs) ++ c ∷ y
 join_with_byte-push c x [] y = refl
 join_with_byte-push c x (z ∷ zs) y =
     ap (λ (ws : List ℕ). x ++ c ∷ ws) (join_with_byte-push c z zs y) ∙ sym (append_assoc x (c ∷ join_with_byte c (z ∷ zs)) (c ∷ y))

@@ -1,8 +1,10 @@
 -- Texts of items: a text reads in one way, and what follows a text leaves what was read.
-use Rattle.std.proofs.Common.{◌≡◌, ℕ, ◌+◌, ◌<◌, ◌≤◌, ◌-◌, inl, inr, true, List, [], ◌∷◌, ◌++◌, length, take, drop, Option, refl, sym, ap, ◌∙◌, subst, arith}
+use Rattle.std.proofs.Common.{◌≡◌, ℕ, ◌+◌, ◌<◌, ◌≤◌, ◌-◌, inl, inr, true, List, [], ◌∷◌, ◌++◌, length, take, drop, Option, refl, sym, ap}
+use Rattle.std.proofs.Common.{◌∙◌, subst, arith}
 use Rattle.std.proofs.lemmas.List.{append-nil, append_assoc, drop-drop, length-append, length-drop, take_rest}
 use Rattle.hart_frame.specs.Character.{Character}
-use Rattle.hart_cli.specs.Items.{BeginsAs, BeginsWith, FaultyItem, IsSeparator, IsWholeBefore, Item, meaning, NoPieceBegins, nothing, Piece, piece, ReadsUpTo, Separator, spelling}
+use Rattle.hart_cli.specs.Items.{BeginsAs, BeginsWith, FaultyItem, IsSeparator, IsWholeBefore, Item, meaning, NoPieceBegins, nothing}
+use Rattle.hart_cli.specs.Items.{Piece, piece, ReadsUpTo, Separator, spelling}
 use Rattle.std.proofs.Math.Seq.{drop-append_seam}
 use Rattle.std.specs.Option.{option_to_list}
 use Rattle.hex.specs.Hex.{is_hex_digit}
@@ -62,7 +64,8 @@ pub ReadsUpTo-more : (text : List ℕ) (chars : List Character) (rest more : Lis
     → ReadsUpTo (text ++ more) chars (rest ++ more)
 ReadsUpTo-more _ _ _ more (nothing rest) = nothing (rest ++ more)
 ReadsUpTo-more _ _ _ more (piece text first tail chars rest h r) =
-    piece (text ++ more) first (tail ++ more) chars (rest ++ more) (BeginsWith-more text tail more first h) (ReadsUpTo-more tail chars rest more r)
+    piece (text ++ more) first (tail ++ more) chars (rest ++ more) (BeginsWith-more text tail more first h)
+    (ReadsUpTo-more tail chars rest more r)
 
 -- a text reads up to its rest and on
 pub ReadsUpTo-on : (text : List ℕ) (xs : List Character) (rest : List ℕ) (ys : List Character) (last : List ℕ) → ReadsUpTo text xs rest
@@ -101,7 +104,8 @@ goes_on _ _ _ _ _ (piece text p s cs rest h r) (piece _ q t ds last k l) n =
     }
 
 -- nothing is read where no piece begins
-stays : (rest : List ℕ) (chars : List Character) (last : List ℕ) → ReadsUpTo rest chars last → NoPieceBegins rest → (chars ≡ []) × (rest ≡ last)
+stays : (rest : List ℕ) (chars : List Character) (last : List ℕ) → ReadsUpTo rest chars last → NoPieceBegins rest
+    → (chars ≡ []) × (rest ≡ last)
 stays _ _ _ (nothing last) n = (refl, refl)
 stays _ _ _ (piece rest p tail cs last h r) n = absurd (n p tail h)
 

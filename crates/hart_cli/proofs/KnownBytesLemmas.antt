@@ -32,7 +32,8 @@ AppendsUpTo-more a b c text rest n m e h k =
     let left : take m (drop n rest) ≡ drop n rest = ap (λ (i : ℕ). take i (drop n rest)) e ∙ take_rest rest n in
     record {
       front = h.front ++ take n rest;
-      split = h.split ∙ ap (λ (xs : List ℕ). h.front ++ xs) (sym (take-append-drop n rest)) ∙ sym (append_assoc h.front (take n rest) (drop n rest))
+      split = h.split ∙ ap (λ (xs : List ℕ). h.front ++ xs) (sym (take-append-drop n rest))
+          ∙ sym (append_assoc h.front (take n rest) (drop n rest))
           ∙ ap (λ (xs : List ℕ). (h.front ++ take n rest) ++ xs) (sym left);
       appended = Appends-append a b c h.front (take n rest) h.appended k;
     }

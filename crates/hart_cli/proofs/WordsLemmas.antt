@@ -1,8 +1,20 @@
 -- The device that ten hex digits write.
-use Rattle.std.proofs.Common.{◌≡◌, ℕ, ◌+◌, ◌*◌, ◌%◌, ◌<◌, ◌^◌, List, [], ◌∷◌, length, get_or, Ok, refl, sym, ap, ◌∙◌, arith}
+use Rattle.std.proofs.Common.{◌≡◌, ℕ, ◌+◌, ◌*◌, ◌%◌, ◌<◌, ◌^◌, List, [], ◌∷◌, length, get_or, None, Some, Result, Ok, Err, refl, sym, ap}
+use Rattle.std.proofs.Common.{◌∙◌, arith}
+use Rattle.std.specs.Result.{result_ok}
 use Rattle.hex.specs.Hex.{decode_of, decode_sized}
 use Rattle.hex.proofs.HexLemmas.{decode_of-ok, decode_sized-ok, decode_sized-twice}
 use Rattle.hart_cli.specs.Words.{IsDeviceWord}
+
+-- what `ok` gives is the value of an `Ok`
+pub ok_some : {T E : Type 0} (result : Result T E) (value : T) → result_ok result ≡ Some value → result ≡ Ok value
+ok_some (Ok other) value is = cc
+ok_some (Err fault) value is = cc
+
+-- and where it gives nothing there was none
+pub ok_none : {T E : Type 0} (result : Result T E) (value : T) → result_ok result ≡ None → result ≡ Ok value → ⊥
+ok_none (Ok other) value is same = cc
+ok_none (Err fault) value is same = cc
 
 -- a list of five is written out
 five_written_out : (xs : List ℕ) → length xs ≡ 5

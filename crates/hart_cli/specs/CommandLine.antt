@@ -1,16 +1,12 @@
--- What the words behind the program's name ask for, as clap reads them, and what the program does with them (own profile).
-use Rattle.std.specs.Prelude.{◌≡◌, ◌≤◌, [], ◌∷◌, ℕ, IfErr, List, Some, Result, Ok, Err, true, codes, is_some, pos, unwrap_or}
+-- What the words after the program's name ask for, as clap reads them (own profile).
+use Rattle.std.specs.Prelude.{◌≡◌, ◌≤◌, [], ◌∷◌, ℕ, List, Some, true, codes, is_some, pos, unwrap_or}
 use Rattle.std.specs.Str.Parse.{IsNumeral, digits_value, without_leading_plus}
 use Rattle.clap.specs.Words.{App, Row, Rule, Text, fault_of, first_of, new_app, new_rule, one_of, subcommand_of, with_rule, with_subcommand}
 use Rattle.clap.specs.declared.builder.value_parser.ValueParser.TheVariants.{Signed}
-use Rattle.hart_cli.specs.Answer.{AnswerOutcome}
-use Rattle.hart_cli.specs.Dump.{DumpOutcome}
-use Rattle.hart_cli.specs.Encode.{EncodeOutcome, MessageWords}
-use Rattle.hart_cli.specs.FaultText.{fault_line}
-use Rattle.hart_cli.specs.Stream.{Stream, WritesUnlessFailed}
-use Rattle.hart_cli.specs.declared.fault.CliFault.{CliFault}
-use Rattle.hart_cli.specs.declared.program.command_line.Call.{Call as CallMade}
-use Rattle.hart_cli.specs.declared.program.command_line.Call.TheVariants as made
+use Rattle.hart_frame.specs.Message.{IsPreambleCount}
+use Rattle.hart_cli.specs.Encode.{MessageWords}
+use Rattle.hart_cli.specs.declared.program.command_line.RequestedCall.{RequestedCall}
+use Rattle.hart_cli.specs.declared.program.command_line.RequestedCall.TheVariants as requested
 
 -- The rule of a required word has its name, and the word has to be there.
 abbrev pub required_rule : Text → Rule
@@ -34,13 +30,14 @@ encode_app =
     let payload = with_rule command (new_rule (codes "DATA")) in
     with_rule payload preambles_rule
 
--- The command `hart` takes words without the program's name, wants one of its three subcommands named, and helps where
--- there is no word at all; `answer` and `dump` take no words.
+-- The command `hart` takes words without the program's name, has a version, wants one of its three subcommands named, and
+-- helps where there is no word at all; `answer` and `dump` take no words.
 abbrev pub hart_app : App
 hart_app =
     let plain = new_app (codes "hart") in
     let top = record plain.top {
       no_binary_name = true;
+      has_version = true;
       subcommand_required = true;
       arg_required_else_help = true;
     } in
@@ -61,7 +58,7 @@ name_of Dump = codes "dump"
 name_of (Encode words preambles) = codes "encode"
 
 -- The matches of `encode` have these words, an absent DATA being empty, and this number of preamble bytes: from 5 to 20, in
--- decimal digits, behind a plus sign at most.
+-- decimal digits, after a plus sign at most.
 pub record GivesWords (rows : List Row) (words : MessageWords) (preambles : ℕ) : Type 0 where
   pub who : first_of (codes "WHO") rows ≡ Some words.who
   pub address : first_of (codes "ADDRESS") rows ≡ Some words.address
@@ -71,8 +68,7 @@ pub record GivesWords (rows : List Row) (words : MessageWords) (preambles : ℕ)
   pub given : first_of (codes "preambles") rows ≡ Some number
   pub digits : IsNumeral 10 (without_leading_plus number)
   pub value : preambles ≡ digits_value 10 (without_leading_plus number)
-  pub enough : 5 ≤ preambles
-  pub few : preambles ≤ 20
+  pub count : IsPreambleCount preambles
 
 -- The matches of a call's subcommand have what the call has; those of `answer` and `dump` have nothing for it.
 abbrev pub GivesValues : Call → List Row → Type 0
@@ -87,34 +83,13 @@ pub record Calls (call : Call) (words : List Text) : Type 0 where
   pub named : subcommand_of hart_app words ≡ Some (name_of call, rows)
   pub values : GivesValues call rows
 
--- A call with this result had the outcome of its own kind on the reader and the writer; that of `encode` leaves the reader.
-abbrev pub CallOutcome : Call → Stream → Stream → Stream → Stream → Result (Unit {0}) CliFault → Type 0
-CallOutcome Answer reader reader_after writer writer_after result =
-    AnswerOutcome reader reader_after writer writer_after result
-CallOutcome Dump reader reader_after writer writer_after result =
-    DumpOutcome reader reader_after writer writer_after result
-CallOutcome (Encode words preambles) reader reader_after writer writer_after result =
-    (reader_after ≡ reader) × EncodeOutcome words preambles writer writer_after result
+-- For private calls alone: what the code has of a call, and what it knows of the matches.
 
--- The status is 0 after a call that did its work, and 1 after a fault.
-abbrev pub status_of : Result (Unit {0}) CliFault → ℕ
-status_of (Ok done) = 0
-status_of (Err fault) = 1
-
--- The program made the call that the words make, ended with the status of its result, and told its fault, if any.
-pub record Ran (words : List Text) (reader reader_after writer writer_after errors errors_after : Stream) (status : ℕ) : Type 0 where
-  pub call : Call
-  pub calls : Calls call words
-  pub result : Result (Unit {0}) CliFault
-  pub outcome : CallOutcome call reader reader_after writer writer_after result
-  pub ends : status ≡ status_of result
-  pub tells : IfErr result (λ fault. WritesUnlessFailed errors errors_after (fault_line fault))
-
--- A value of the code's own type of calls means this call.
-abbrev pub call_of : CallMade → Call
-call_of made.Answer = Answer
-call_of made.Dump = Dump
-call_of (made.Encode w) =
+-- What the code has of a requested call means this call.
+abbrev pub call_of : RequestedCall → Call
+call_of requested.Answer = Answer
+call_of requested.Dump = Dump
+call_of (requested.Encode w) =
     Encode (record { who = w.who.now; address = w.address.now; command = w.command.now; payload = w.payload.now }) w.preambles
 
 -- The matches of `encode` have its three words, and a number of preamble bytes that clap let pass and reads as it is written.

@@ -43,6 +43,22 @@ pub data IsFirstBad (words : MessageWords) : ℕ → Type 0 where
       → IsAddressWord words.address address → IsCommandWord words.command command → HasNoValue (IsDataWord words.payload)
       → IsFirstBad words 4
 
+-- A call of `encode_text` wrote the text of its words at `Ok`, a front of it where a write failed, and nothing where it told
+-- the first bad word.
+abbrev pub EncodeOutcome : MessageWords → ℕ → Stream → Stream → Result (Unit {0}) CliFault → Type 0
+EncodeOutcome words preambles writer writer_after (Ok done) =
+    (text : List ℕ) × IsEncoding words preambles text × WritesAll writer writer_after text
+EncodeOutcome words preambles writer writer_after (Err Write) =
+    (text : List ℕ) × IsEncoding words preambles text × FailsToWrite writer writer_after text
+EncodeOutcome words preambles writer writer_after (Err (BadWord number)) =
+    IsFirstBad words number × WritesNothing writer writer_after
+EncodeOutcome words preambles writer writer_after (Err Memory) = ⊥
+EncodeOutcome words preambles writer writer_after (Err Read) = ⊥
+EncodeOutcome words preambles writer writer_after (Err TooLong) = ⊥
+EncodeOutcome words preambles writer writer_after (Err (BadHex place)) = ⊥
+
+-- For private calls alone: what reading the words answers.
+
 -- Reading the words gives the frame that they ask for, or tells the first bad one.
 abbrev pub RequestOutcome : MessageWords → Result FrameParts CliFault → Type 0
 RequestOutcome words (Ok frame) = IsRequestOf words frame
@@ -52,18 +68,3 @@ RequestOutcome words (Err Memory) = ⊥
 RequestOutcome words (Err Read) = ⊥
 RequestOutcome words (Err TooLong) = ⊥
 RequestOutcome words (Err (BadHex place)) = ⊥
-
--- A call of `encode_text` wrote the text of its words at `Ok`, a front of it where a write failed, and nothing where it told
--- the first bad word, or where the words have a request and memory for its line was refused.
-abbrev pub EncodeOutcome : MessageWords → ℕ → Stream → Stream → Result (Unit {0}) CliFault → Type 0
-EncodeOutcome words preambles writer writer_after (Ok done) =
-    (text : List ℕ) × IsEncoding words preambles text × WritesAll writer writer_after text
-EncodeOutcome words preambles writer writer_after (Err Write) =
-    (text : List ℕ) × IsEncoding words preambles text × FailsToWrite writer writer_after text
-EncodeOutcome words preambles writer writer_after (Err Memory) =
-    (frame : FrameParts) × IsRequestOf words frame × WritesNothing writer writer_after
-EncodeOutcome words preambles writer writer_after (Err (BadWord number)) =
-    IsFirstBad words number × WritesNothing writer writer_after
-EncodeOutcome words preambles writer writer_after (Err Read) = ⊥
-EncodeOutcome words preambles writer writer_after (Err TooLong) = ⊥
-EncodeOutcome words preambles writer writer_after (Err (BadHex place)) = ⊥

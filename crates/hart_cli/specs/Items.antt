@@ -1,4 +1,4 @@
--- Texts of hex items (own profile): pieces end to end, each a separator or an item of two hex digits, behind which a `!`
+-- Texts of hex items (own profile): pieces end to end, each a separator or an item of two hex digits, after which a `!`
 -- and two more hex digits may tell fault bits.
 use Rattle.std.specs.Prelude.{◌≡◌, ◌≢◌, ℕ, ◌+◌, ◌*◌, ◌⊎◌, List, [], ◌∷◌, ◌++◌, length, Option, unwrap_or, IsTrue, ⊤}
 use Rattle.std.specs.Option.{option_to_list}
@@ -74,14 +74,6 @@ pub data ReadsUpTo : List ℕ → List Character → List ℕ → Type 0 where
 abbrev pub NoPieceBegins : List ℕ → Type 0
 NoPieceBegins text = (piece : Piece) (tail : List ℕ) → BeginsWith text piece tail → ⊥
 
--- A text begins with a piece of this length, which means this character or none.
-pub record BeginsAs (text : List ℕ) (char : Option Character) (len : ℕ) : Type 0 where
-  pub piece : Piece
-  pub tail : List ℕ
-  pub begins : BeginsWith text piece tail
-  pub long : length (spelling piece) ≡ len
-  pub means : meaning piece ≡ option_to_list char
-
 -- A piece begins a text once the right bytes follow it.
 pub record MayBegin (text : List ℕ) : Type 0 where
   pub more : List ℕ
@@ -89,7 +81,7 @@ pub record MayBegin (text : List ℕ) : Type 0 where
   pub tail : List ℕ
   pub begins : BeginsWith (text ++ more) piece tail
 
--- A text has bad hex at a place, behind these characters, where it reads as them up to there, and what begins there is
+-- A text has bad hex at a place, after these characters, where it reads as them up to there, and what begins there is
 -- neither its end nor a piece.
 pub record HasBadHex (text : List ℕ) (chars : List Character) (place : ℕ) : Type 0 where
   pub rest : List ℕ
@@ -98,7 +90,7 @@ pub record HasBadHex (text : List ℕ) (chars : List Character) (place : ℕ) : 
   pub more : rest ≢ []
   pub no_piece : NoPieceBegins rest
 
--- The end of an input makes its last item whole, as a space behind it would.
+-- The end of an input makes its last item whole, as a space after it would.
 abbrev pub closed : List ℕ → List ℕ
 closed text = text ++ 32 ∷ []
 
@@ -121,3 +113,13 @@ pub record ReadsSoFarAs (text : List ℕ) (chars : List Character) : Type 0 wher
   pub reads : ReadsUpTo text chars rest
   pub no_piece : NoPieceBegins rest
   pub open_end : MayBegin rest
+
+-- For private calls alone: what reading one piece answers.
+
+-- A text begins with a piece of this length, which means this character or none.
+pub record BeginsAs (text : List ℕ) (char : Option Character) (len : ℕ) : Type 0 where
+  pub piece : Piece
+  pub tail : List ℕ
+  pub begins : BeginsWith text piece tail
+  pub long : length (spelling piece) ≡ len
+  pub means : meaning piece ≡ option_to_list char

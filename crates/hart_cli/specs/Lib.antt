@@ -14,3 +14,4 @@ pub mod Words
 pub mod Encode
 pub mod FaultText
 pub mod CommandLine
+pub mod Program

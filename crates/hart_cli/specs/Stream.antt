@@ -7,10 +7,16 @@ use Rattle.hart_cli.specs.declared.stream.Failed.{Failed}
 abbrev pub count_after_failure : ℕ → ℕ
 count_after_failure count = min (count + 1) (2 ^ 64 - 1)
 
+-- A reader or a writer is, to contracts, the bytes left to read or written so far, where they are told, and how often it
+-- has failed.
+pub record Stream : Type 0 where
+  pub bytes : Option (List ℕ)
+  pub failures : ℕ
+
 -- A failure raises the count by one, and a success leaves it.
-abbrev pub CountsFailure : {T : Type 0} → ℕ → ℕ → Result T Failed → Type 0
+abbrev pub CountsFailure : {T : Type 0} → Stream → Stream → Result T Failed → Type 0
 CountsFailure old new result =
-    MatchResult result (λ _. new ≡ old) (λ _. new ≡ count_after_failure old)
+    MatchResult result (λ _. new.failures ≡ old.failures) (λ _. new.failures ≡ count_after_failure old.failures)
 
 -- A front of the text, short of its end, was written, and nothing else.
 pub record WritesFront (old new : Option (List ℕ)) (text : List ℕ) : Type 0 where
@@ -20,12 +26,6 @@ pub record WritesFront (old new : Option (List ℕ)) (text : List ℕ) : Type 0 
   pub short : back ≢ []
   pub written : Appends old new front
 
--- A reader or a writer is, to contracts, the bytes left to read or written so far, where they are told, and how often it
--- has failed.
-pub record Stream : Type 0 where
-  pub bytes : Option (List ℕ)
-  pub failures : ℕ
-
 -- The whole text was written, and no write failed.
 abbrev pub WritesAll : Stream → Stream → List ℕ → Type 0
 WritesAll old new text = Appends old.bytes new.bytes text × (new.failures ≡ old.failures)
@@ -34,7 +34,11 @@ WritesAll old new text = Appends old.bytes new.bytes text × (new.failures ≡ o
 abbrev pub FailsToWrite : Stream → Stream → List ℕ → Type 0
 FailsToWrite old new text = WritesFront old.bytes new.bytes text × (new.failures ≡ count_after_failure old.failures)
 
--- The whole text was written and no write failed, or one failed behind a front of the text, short of its end.
+-- At `Ok` the whole text was written, and otherwise a write failed after a front of it.
+abbrev pub Writes : {T E : Type 0} → Stream → Stream → List ℕ → Result T E → Type 0
+Writes old new text result = MatchResult result (λ _. WritesAll old new text) (λ _. FailsToWrite old new text)
+
+-- The whole text was written and no write failed, or one failed after a front of the text, short of its end.
 abbrev pub WritesUnlessFailed : Stream → Stream → List ℕ → Type 0
 WritesUnlessFailed old new text = WritesAll old new text ⊎ FailsToWrite old new text
 

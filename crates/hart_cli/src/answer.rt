@@ -1,11 +1,11 @@
 //! `hart answer`: the device's reply to one delivery.
-ghost use Rattle.std.specs.Prelude.{◌≡◌, ℕ, List, IfOk};
-ghost use Rattle.std.specs.String.{string_bytes};
+ghost use Rattle.std.specs.Prelude.{◌≡◌, ℕ, List};
 ghost use Rattle.hart_cli.specs.Answer.{AnswerOutcome, IsAnswer, IsReplyText};
 ghost use Rattle.hart_cli.specs.Delivery.{identity_reply};
 
 use crate::delivery::requesting_master;
 use crate::fault::CliFault;
+use crate::hex_text::HexLine;
 use crate::identity::Identity;
 use crate::input::{InputEnd, read_input};
 use crate::items::{hear, one_hearing};
@@ -13,25 +13,23 @@ use crate::output::{message_line, write_all};
 use crate::stream::{Sink, Source};
 use hart_frame::{Expansion, Frame, FrameKind, bodies_are_told_apart, frames_are_told_apart};
 use hart_values::{Address, MasterId};
-use std::alloc::{AllocError, Global};
+use std::alloc::Global;
 
 /// Reads a delivery as hex items, and writes the device's reply to it as one line of hex, or nothing.
 ///
 /// # Errors
 ///
 /// [`CliFault::Read`], [`CliFault::TooLong`], then [`CliFault::BadHex`], then [`CliFault::Write`], and
-/// [`CliFault::Memory`] wherever a growth is refused. At a fault nothing is written, except at `Write`, where a front of
-/// the line is, short of its end.
+/// [`CliFault::Memory`] where memory for the input or its characters is refused. At a fault nothing is written, except at
+/// `Write`, where a front of the line is, short of its end.
 pub fn answer<R: Source, W: Sink>(
     alloc: Global,
     reader: &mut R,
     writer: &mut W,
 ) -> Result<(), CliFault>
     ensures { AnswerOutcome
-        (record { bytes = R.remaining reader.old; failures = R.failures reader.old })
-        (record { bytes = R.remaining reader.new; failures = R.failures reader.new })
-        (record { bytes = W.written writer.old; failures = W.failures writer.old })
-        (record { bytes = W.written writer.new; failures = W.failures writer.new })
+        (R.stream reader.old) (R.stream reader.new)
+        (W.stream writer.old) (W.stream writer.new)
         result }
 {
     let input = read_input(alloc, reader)?;
@@ -47,10 +45,7 @@ pub fn answer<R: Source, W: Sink>(
     let Some(master) = requesting_master(&delivery.chars) else {
         return Ok(());
     };
-    let line = reply_line(alloc, master)?;
-    let Ok(()) = write_all(writer, line.as_bytes()) else {
-        return Err(CliFault::Write);
-    };
+    write_all(writer, reply_line(master).as_slice())?;
     Ok(())
 }
 
@@ -65,11 +60,11 @@ pub fn one_answer()
 }
 
 /// The line of the reply to this master.
-fn reply_line(alloc: Global, master: MasterId) -> Result<String, AllocError>
-    ensures { IfOk result (λ line. IsReplyText master (string_bytes line)) }
+fn reply_line(master: MasterId) -> HexLine
+    ensures { IsReplyText master result }
 {
     let preambles = Identity::bench().response_preambles;
-    message_line(alloc, &reply_to(master), preambles)
+    message_line(&reply_to(master), preambles)
 }
 
 /// The bench device's reply to this master.

@@ -1,7 +1,7 @@
 //! `hart dump`: the frames of what was heard, a line each.
-ghost use Rattle.std.specs.Prelude.{◌≡◌, ℕ, List, Option, OnOk, IfErr, Err};
-ghost use Rattle.hart_cli.specs.Dump.{AreLines, DumpOutcome, IsDump, WritesFirstLines};
-ghost use Rattle.hart_cli.specs.Stream.{WritesAll};
+ghost use Rattle.std.specs.Prelude.{◌≡◌, ℕ, List, Option};
+ghost use Rattle.hart_cli.specs.Dump.{AreLines, DumpOutcome, IsDump};
+ghost use Rattle.hart_cli.specs.Stream.{Writes};
 ghost use Rattle.hart_cli.specs.declared.fault.CliFault.{CliFault};
 ghost use Rattle.hart_cli.specs.declared.input.InputEnd.{InputEnd};
 
@@ -10,7 +10,7 @@ use crate::input::read_input;
 use crate::items::{hear, one_hearing};
 use crate::line::frame_line;
 use crate::output::write_all;
-use crate::stream::{Sink, Source};
+use crate::stream::{Failed, Sink, Source};
 use hart_frame::{Char, every_list_has_frames, first_frame, frames_are_told_apart};
 use std::alloc::Global;
 
@@ -19,23 +19,22 @@ use std::alloc::Global;
 /// # Errors
 ///
 /// The first fault of the input, in the order of its bytes: [`CliFault::Read`], [`CliFault::TooLong`] or
-/// [`CliFault::BadHex`]. The lines of the frames before it are written first, and where that ends early the fault is
-/// [`CliFault::Write`] or [`CliFault::Memory`], with a front of these lines written.
+/// [`CliFault::BadHex`]. The lines of the frames before it are written first, and where that fails the fault is
+/// [`CliFault::Write`], with a front of these lines written. [`CliFault::Memory`] where memory for the input or its characters
+/// is refused; nothing is written then.
 pub fn dump<R: Source, W: Sink>(
     alloc: Global,
     reader: &mut R,
     writer: &mut W,
 ) -> Result<(), CliFault>
     ensures { DumpOutcome
-        (record { bytes = R.remaining reader.old; failures = R.failures reader.old })
-        (record { bytes = R.remaining reader.new; failures = R.failures reader.new })
-        (record { bytes = W.written writer.old; failures = W.failures writer.old })
-        (record { bytes = W.written writer.new; failures = W.failures writer.new })
+        (R.stream reader.old) (R.stream reader.new)
+        (W.stream writer.old) (W.stream writer.new)
         result }
 {
     let input = read_input(alloc, reader)?;
     let heard = hear(alloc, input)?;
-    write_frames(alloc, &heard.chars, writer)?;
+    write_frames(&heard.chars, writer)?;
     match heard.fault {
         Some(fault) => Err(fault),
         None => Ok(()),
@@ -54,24 +53,19 @@ pub fn one_dump()
 }
 
 /// Writes a line for each frame of the characters.
-fn write_frames<W: Sink>(alloc: Global, chars: &[Char], writer: &mut W) -> Result<(), CliFault>
-    ensures all { OnOk result ((lines : List ℕ) × AreLines chars.now lines × WritesAll
-        (record { bytes = W.written writer.old; failures = W.failures writer.old })
-        (record { bytes = W.written writer.new; failures = W.failures writer.new })
-        lines) }
-    ensures first { IfErr result (λ fault. WritesFirstLines chars.now
-        (record { bytes = W.written writer.old; failures = W.failures writer.old })
-        (record { bytes = W.written writer.new; failures = W.failures writer.new })
-        (Err fault)) }
+///
+/// # Errors
+///
+/// `Failed` at the first write that fails. A front of the lines is written then.
+fn write_frames<W: Sink>(chars: &[Char], writer: &mut W) -> Result<(), Failed>
+    ensures { (lines : List ℕ) × AreLines chars.now lines
+        × Writes (W.stream writer.old) (W.stream writer.new) lines result }
 {
-    // It does nothing when it runs: by this law what was written is a front of the lines of all frames.
+    // It does nothing when it runs: by this law there are lines of all frames, of which a front was written.
     every_list_has_frames();
     let mut place = 0;
     while let Some(found) = first_frame(chars, place) {
-        let line = frame_line(alloc, &found)?;
-        let Ok(()) = write_all(writer, line.as_bytes()) else {
-            return Err(CliFault::Write);
-        };
+        write_all(writer, frame_line(&found).as_slice())?;
         place = found.stop;
     }
     Ok(())

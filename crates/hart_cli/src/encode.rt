@@ -1,13 +1,14 @@
 //! `hart encode`: a message to send.
 
-ghost use Rattle.std.specs.Prelude.{◌≡◌, ◌≤◌, ℕ, List};
+ghost use Rattle.std.specs.Prelude.{◌≡◌, ℕ, List};
+ghost use Rattle.hart_frame.specs.Message.{IsPreambleCount};
 ghost use Rattle.hart_cli.specs.Encode.{EncodeOutcome, IsEncoding, MessageWords, RequestOutcome};
 
 use crate::fault::CliFault;
 use crate::output::{message_line, write_all};
 use crate::stream::Sink;
 use crate::words::{read_address, read_command, read_data, read_who};
-use hart_frame::{Expansion, Frame, FrameKind, bodies_are_told_apart};
+use hart_frame::{Frame, bodies_are_told_apart};
 use std::alloc::Global;
 
 /// Writes the request that four words write, with so many preamble bytes, as one line of hex.
@@ -17,10 +18,10 @@ use std::alloc::Global;
 /// # Errors
 ///
 /// [`CliFault::BadWord`] with the number of the first bad word: 1 is WHO, 2 ADDRESS, 3 COMMAND, 4 DATA;
-/// then [`CliFault::Write`], and [`CliFault::Memory`] wherever a growth is refused. At a fault nothing is written, except at
-/// `Write`, where a front of the line is, short of its end.
+/// then [`CliFault::Write`]. At a bad word nothing is written, and at `Write` a front of the line, short of its end. No memory
+/// is taken.
 pub fn encode_text<W: Sink>(
-    alloc: Global,
+    _alloc: Global,
     who: &str,
     address: &str,
     command: &str,
@@ -28,18 +29,16 @@ pub fn encode_text<W: Sink>(
     preambles: u8,
     writer: &mut W,
 ) -> Result<(), CliFault>
-    requires enough { 5 ≤ preambles }
-    requires few { preambles ≤ 20 }
+    requires { IsPreambleCount preambles }
     ensures { EncodeOutcome
         (record { who = who.now; address = address.now; command = command.now; payload = payload.now })
         preambles
-        (record { bytes = W.written writer.old; failures = W.failures writer.old })
-        (record { bytes = W.written writer.new; failures = W.failures writer.new })
+        (W.stream writer.old) (W.stream writer.new)
         result }
 {
     let request = read_request(who, address, command, payload)?;
-    let line = message_line(alloc, &request, preambles)?;
-    write_all(writer, line.as_bytes()).map_err(|_| CliFault::Write)
+    write_all(writer, message_line(&request, preambles).as_slice())?;
+    Ok(())
 }
 
 /// Four words have one text at most, so that what `encode_text` writes is determined by them.
@@ -73,17 +72,7 @@ fn read_request(who: &str, address: &str, command: &str, payload: &str) -> Resul
     let Some(payload) = read_data(payload) else {
         return Err(CliFault::BadWord { number: 4 });
     };
-    let expansion = Expansion::new();
-    Ok(Frame::new(
-        FrameKind::Stx,
-        master,
-        false,
-        address,
-        expansion,
-        command,
-        payload,
-    )
-    .unwrap())
+    Ok(Frame::request(master, address, command, payload))
 }
 
 #[cfg(test)]

@@ -1,11 +1,9 @@
 //! Why a call of the command line ended early.
 
 ghost use Rattle.std.specs.Prelude.{◌≡◌};
-ghost use Rattle.hart_cli.specs.declared.fault.CliFault.TheVariants.{Memory};
+ghost use Rattle.hart_cli.specs.declared.fault.CliFault.TheVariants.{Memory, Write};
 
-#[cfg(test)]
-mod tests;
-
+use crate::stream::Failed;
 use arrayvec::ArrayString;
 use itoa::Buffer;
 use std::alloc::{AllocError, AllocFailed};
@@ -34,7 +32,7 @@ pub enum CliFault {
     BadWord { number: u8 },
 }
 
-// The longest line is that of the longest place: 11 characters, 20 digits and a line feed.
+/// The longest line is that of the longest place: 11 characters, 20 digits and a line feed.
 const LONGEST_LINE: usize = 32;
 
 impl CliFault {
@@ -64,6 +62,15 @@ impl CliFault {
     }
 }
 
+impl From<Failed> for CliFault {
+    ghost from_gives = { λ _ e. e ≡ Write };
+
+    /// What a writer answers is a fault of the writer: a reader's failure is an end of the input.
+    fn from(_failed: Failed) -> CliFault {
+        CliFault::Write
+    }
+}
+
 impl From<AllocError> for CliFault {
     ghost from_gives = { λ _ e. e ≡ Memory };
 
@@ -79,3 +86,6 @@ impl<T: Drop> From<AllocFailed<T>> for CliFault {
         CliFault::Memory
     }
 }
+
+#[cfg(test)]
+mod tests;

@@ -2,15 +2,13 @@
 ghost use Rattle.std.specs.Prelude.{IfOk, OnErr};
 ghost use Rattle.hart_cli.specs.Input.{LacksMemory, Reads};
 
-#[cfg(test)]
-mod tests;
-
 use crate::stream::Source;
 use std::alloc::{AllocError, Global};
 
 /// The most bytes that an input may have.
 pub const INPUT_LIMIT: usize = 1_048_576;
 
+/// The most bytes that one read may give.
 const BUFFER_LEN: usize = 4096;
 
 /// How an input came to its end.
@@ -20,7 +18,7 @@ pub enum InputEnd {
     Ended,
     /// A read failed.
     Failed,
-    /// A further byte was there behind the [`INPUT_LIMIT`].
+    /// A further byte was there after [`INPUT_LIMIT`] of them.
     TooLong,
 }
 
@@ -42,12 +40,10 @@ pub struct Input {
 /// `AllocError` if a growth was refused.
 pub fn read_input<R: Source>(alloc: Global, reader: &mut R) -> Result<Input, AllocError>
     ensures reads { IfOk result (λ input. Reads
-        (record { bytes = R.remaining reader.old; failures = R.failures reader.old })
-        (record { bytes = R.remaining reader.new; failures = R.failures reader.new })
+        (R.stream reader.old) (R.stream reader.new)
         input.text.items input.end) }
     ensures lacks_memory { OnErr result (LacksMemory
-        (record { bytes = R.remaining reader.old; failures = R.failures reader.old })
-        (record { bytes = R.remaining reader.new; failures = R.failures reader.new })) }
+        (R.stream reader.old) (R.stream reader.new)) }
 {
     let mut text = Vec::new(alloc);
     let mut buffer = [0; BUFFER_LEN];
@@ -75,3 +71,6 @@ pub fn read_input<R: Source>(alloc: Global, reader: &mut R) -> Result<Input, All
         text.extend_from_slice(&buffer[..given])?;
     }
 }
+
+#[cfg(test)]
+mod tests;

@@ -6,9 +6,6 @@ ghost use Rattle.hart_cli.specs.Items.{AreDigits, BeginsAs, byte_of, IsSeparator
 ghost use Rattle.hart_cli.specs.declared.fault.CliFault.{CliFault};
 ghost use Rattle.hart_cli.specs.declared.input.InputEnd.{InputEnd};
 
-#[cfg(test)]
-mod tests;
-
 use crate::fault::CliFault;
 use crate::input::{Input, InputEnd};
 use hart_frame::Char;
@@ -60,14 +57,14 @@ pub fn hear(alloc: Global, input: Input) -> Result<Hearing, AllocError>
     Ok(Hearing { chars, fault })
 }
 
-// The characters of a text up to a place.
+/// The characters of a text up to a place.
 #[derive(Drop)]
 struct Reading {
     chars: Vec<Char>,
     place: usize,
 }
 
-// Reads a text up to the place where no piece begins.
+/// Reads a text up to the place where no piece begins.
 fn read_pieces(alloc: Global, text: &[u8]) -> Result<Reading, AllocError>
     ensures { IfOk result (λ reading.
         (reading.place ≤ length text.now)
@@ -85,14 +82,14 @@ fn read_pieces(alloc: Global, text: &[u8]) -> Result<Reading, AllocError>
     Ok(Reading { chars, place })
 }
 
-// What a piece means, and its length.
+/// What a piece means, and its length.
 #[derive(Drop)]
 struct Lead {
     char: Option<Char>,
     len: usize,
 }
 
-// The piece that begins a text, or `None` where none does.
+/// The piece that begins a text, or `None` where none does.
 fn leading_piece(text: &[u8]) -> Option<Lead>
     ensures { MatchOption result (NoPieceBegins text.now) (λ lead. BeginsAs text.now lead.char lead.len) }
 {
@@ -125,13 +122,14 @@ fn leading_piece(text: &[u8]) -> Option<Lead>
     })
 }
 
+/// Whether a byte is a space, a tab, a carriage return or a line feed.
 fn is_separator(byte: u8) -> bool
     ensures { IsTrue result ↔ IsSeparator byte }
 {
     matches!(byte, b' ' | b'\t' | b'\r' | b'\n')
 }
 
-// Whether a piece begins a text once the right bytes follow it, where none does as it stands.
+/// Whether a piece begins a text once the right bytes follow it, where none does as it stands.
 fn may_begin(text: &[u8]) -> bool
     requires { NoPieceBegins text.now }
     ensures { IsTrue result ↔ MayBegin text.now }
@@ -145,10 +143,13 @@ fn may_begin(text: &[u8]) -> bool
     leading_piece(&item).is_some()
 }
 
-// The byte that two hex digits write.
+/// The byte that two hex digits write.
 fn byte_of_digits(high: u8, low: u8) -> Option<u8>
     ensures { MatchOption result (AreDigits high low → ⊥) (λ byte. AreDigits high low × (byte ≡ byte_of high low)) }
 {
     let [byte] = <[u8; 1]>::from_hex([high, low]).ok()?;
     Some(byte)
 }
+
+#[cfg(test)]
+mod tests;

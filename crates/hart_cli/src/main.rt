@@ -9,6 +9,7 @@ mod delivery;
 mod dump;
 mod encode;
 mod fault;
+mod hex_text;
 mod identity;
 mod input;
 mod items;
@@ -45,7 +46,7 @@ fn main(rt: HostRuntime) -> ExitCode {
     ExitCode::from(status)
 }
 
-// The arguments behind the program's name.
+/// The arguments after the program's name.
 fn words_after_name(rt: &HostRuntime) -> io::Result<Vec<String>> {
     let words = env::args(rt)?.skip(1).collect(rt.alloc())?;
     Ok(words)

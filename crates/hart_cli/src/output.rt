@@ -1,48 +1,21 @@
-//! Making and writing the text of an output.
+//! Making the line of a message, and writing a whole text.
 
-ghost use Rattle.std.specs.Prelude.{◌≡◌, ◌≤◌, IfOk, OnOk, OnErr};
-ghost use Rattle.std.specs.String.{string_bytes};
-ghost use Rattle.std.specs.Io.KnownBytes.{Appends};
-ghost use Rattle.hart_cli.specs.HexText.{hex_line};
+ghost use Rattle.hart_frame.specs.Message.{IsPreambleCount};
 ghost use Rattle.hart_cli.specs.MessageLine.{IsMessageLine};
-ghost use Rattle.hart_cli.specs.Stream.{CountsFailure, WritesFront};
+ghost use Rattle.hart_cli.specs.Stream.{Writes};
 
+use crate::hex_text::{HexLine, hex_line};
 use crate::stream::{Failed, Sink};
 use hart_frame::{Frame, Message, encode};
-use std::alloc::{AllocError, Global};
-
-/// The bytes in upper case hex as one line.
-///
-/// # Errors
-///
-/// `AllocError` if memory for the line is refused.
-pub fn hex_line(alloc: Global, bytes: &[u8]) -> Result<String, AllocError>
-    ensures { IfOk result (λ line. string_bytes line ≡ hex_line bytes.now) }
-{
-    let mut line = String::new(alloc);
-    for (index, byte) in bytes.iter().enumerate() {
-        if index > 0 {
-            line.push(' ')?;
-        }
-        line.push_str(hex::encode_upper(alloc, [*byte])?.as_str())?;
-    }
-    line.push('\n')?;
-    Ok(line)
-}
 
 /// The line of the frame's message with so many preamble bytes.
-///
-/// # Errors
-///
-/// `AllocError` if memory for the line is refused.
-pub fn message_line(alloc: Global, frame: &Frame, preambles: u8) -> Result<String, AllocError>
-    requires enough { 5 ≤ preambles }
-    requires few { preambles ≤ 20 }
-    ensures { IfOk result (λ line. IsMessageLine frame.now preambles (string_bytes line)) }
+pub fn message_line(frame: &Frame, preambles: u8) -> HexLine
+    requires { IsPreambleCount preambles }
+    ensures { IsMessageLine frame.now preambles result }
 {
     let mut message = Message::new();
     encode(frame, preambles, &mut message).unwrap();
-    hex_line(alloc, message.as_slice())
+    hex_line(message.as_slice())
 }
 
 /// Writes a whole text.
@@ -51,10 +24,7 @@ pub fn message_line(alloc: Global, frame: &Frame, preambles: u8) -> Result<Strin
 ///
 /// `Failed` at the first write that fails. A front of the text is written then.
 pub fn write_all<W: Sink>(writer: &mut W, text: &[u8]) -> Result<(), Failed>
-    ensures ok { OnOk result (Appends (W.written writer.old) (W.written writer.new) text.now) }
-    ensures err { OnErr result
-        (WritesFront (W.written writer.old) (W.written writer.new) text.now) }
-    ensures count { CountsFailure (W.failures writer.old) (W.failures writer.new) result }
+    ensures { Writes (W.stream writer.old) (W.stream writer.new) text.now result }
 {
     let mut rest = text;
     while !rest.is_empty() {

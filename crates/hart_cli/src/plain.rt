@@ -3,16 +3,12 @@
 ghost use Rattle.std.specs.Prelude.{◌≡◌};
 ghost use Rattle.hart_cli.specs.Stream.{count_after_failure};
 
-#[cfg(test)]
-mod tests;
-
 use crate::stream::{Failed, Sink, Source};
 use std::io::{Read, Write};
 
 /// A reader or writer of the standard library, with a count of its failures.
 ///
-/// Each error is a failure, an interruption too, and so is a write that takes no byte. Nothing is
-/// tried again.
+/// Each error is a failure, an interruption too, and so is a write that takes no byte. Nothing is tried again.
 #[derive(Drop)]
 pub struct Plain<T> {
     inner: T,
@@ -37,6 +33,7 @@ impl<T> Plain<T> {
         self.inner
     }
 
+    /// Counts a failure.
     fn fail(&mut self) -> Failed
         ensures inner { plain_inner self.new ≡ plain_inner self.old }
         ensures failures { plain_failures self.new ≡ count_after_failure (plain_failures self.old) }
@@ -49,9 +46,7 @@ impl<T> Plain<T> {
 impl<R: Read> Source for Plain<R> {
     ghost use Rattle.hart_cli.specs.Plain.{plain_failures, plain_inner};
 
-    ghost remaining = { λ plain. R.remaining (plain_inner plain) };
-
-    ghost failures = { plain_failures };
+    ghost stream = { λ plain. record { bytes = R.remaining (plain_inner plain); failures = plain_failures plain } };
 
     fn read(&mut self, buffer: &mut [u8]) -> Result<usize, Failed> {
         match self.inner.read(buffer) {
@@ -64,9 +59,7 @@ impl<R: Read> Source for Plain<R> {
 impl<W: Write> Sink for Plain<W> {
     ghost use Rattle.hart_cli.specs.Plain.{plain_failures, plain_inner};
 
-    ghost written = { λ plain. W.contents (plain_inner plain) };
-
-    ghost failures = { plain_failures };
+    ghost stream = { λ plain. record { bytes = W.contents (plain_inner plain); failures = plain_failures plain } };
 
     fn write(&mut self, bytes: &[u8]) -> Result<usize, Failed> {
         match self.inner.write(bytes) {
@@ -76,3 +69,6 @@ impl<W: Write> Sink for Plain<W> {
         }
     }
 }
+
+#[cfg(test)]
+mod tests;

@@ -1,7 +1,7 @@
 //! The program: which call the words make, and with which number it ends.
 
 ghost use Rattle.std.specs.Prelude.{◌≡◌, ◌≢◌, IfErr, map, string_bytes};
-ghost use Rattle.hart_cli.specs.CommandLine.{Ran, status_of};
+ghost use Rattle.hart_cli.specs.Program.{Ran, status_of};
 ghost use Rattle.hart_cli.specs.FaultText.{fault_line};
 ghost use Rattle.hart_cli.specs.Stream.{WritesUnlessFailed};
 
@@ -13,7 +13,7 @@ use crate::encode::encode_text;
 use crate::fault::CliFault;
 use crate::output::write_all;
 use crate::stream::{Sink, Source};
-use command_line::{Call, EncodeWords, requested_call};
+use command_line::{EncodeWords, RequestedCall, requested_call};
 use std::alloc::Global;
 use std::fmt;
 use std::fmt::Write;
@@ -27,7 +27,7 @@ pub const FAULT: u8 = 1;
 /// The status where the words name no call, ask for help, or were not read for want of memory.
 pub const NO_CALL: u8 = 2;
 
-/// Makes the call that the words behind the program's name ask for, and gives the program's status.
+/// Makes the call that the words after the program's name ask for, and gives the program's status.
 ///
 /// `answer` and `dump` read from `reader` and write to `writer`; `encode` reads its words alone. The fault of a call goes to
 /// `errors` as a line. Where clap finds no matches for the words, reader and writer are not touched, and clap's own text, help
@@ -41,21 +41,18 @@ pub fn program<R: Source, W: Sink, E: Sink>(
     errors: &mut E,
 ) -> u8
     ensures ran { result ≢ 2 → Ran (map string_bytes words.now)
-        (record { bytes = R.remaining reader.old; failures = R.failures reader.old })
-        (record { bytes = R.remaining reader.new; failures = R.failures reader.new })
-        (record { bytes = W.written writer.old; failures = W.failures writer.old })
-        (record { bytes = W.written writer.new; failures = W.failures writer.new })
-        (record { bytes = E.written errors.old; failures = E.failures errors.old })
-        (record { bytes = E.written errors.new; failures = E.failures errors.new })
+        (R.stream reader.old) (R.stream reader.new)
+        (W.stream writer.old) (W.stream writer.new)
+        (E.stream errors.old) (E.stream errors.new)
         result }
     ensures unread { result ≡ 2 → reader.new ≡ reader.old }
     ensures unwritten { result ≡ 2 → writer.new ≡ writer.old }
     ensures quiet { result ≡ 0 → errors.new ≡ errors.old }
 {
     match requested_call(alloc, words) {
-        Ok(Call::Answer) => finish(answer(alloc, reader, writer), errors),
-        Ok(Call::Dump) => finish(dump(alloc, reader, writer), errors),
-        Ok(Call::Encode(words)) => {
+        Ok(RequestedCall::Answer) => finish(answer(alloc, reader, writer), errors),
+        Ok(RequestedCall::Dump) => finish(dump(alloc, reader, writer), errors),
+        Ok(RequestedCall::Encode(words)) => {
             let EncodeWords {
                 who,
                 address,
@@ -73,12 +70,11 @@ pub fn program<R: Source, W: Sink, E: Sink>(
     }
 }
 
-// Tells a fault to `errors`, and gives the status of what the call answered.
+/// Tells a fault to `errors`, and gives the status of what the call answered.
 fn finish<E: Sink>(outcome: Result<(), CliFault>, errors: &mut E) -> u8
     ensures status { result ≡ status_of outcome }
     ensures fault { IfErr outcome (λ fault. WritesUnlessFailed
-        (record { bytes = E.written errors.old; failures = E.failures errors.old })
-        (record { bytes = E.written errors.new; failures = E.failures errors.new })
+        (E.stream errors.old) (E.stream errors.new)
         (fault_line fault)) }
     ensures quiet { result ≡ 0 → errors.new ≡ errors.old }
 {
@@ -92,12 +88,12 @@ fn finish<E: Sink>(outcome: Result<(), CliFault>, errors: &mut E) -> u8
     }
 }
 
-// Writes clap's text piece by piece, so that it takes no memory. A failed write ends it.
+/// Writes clap's text piece by piece, so that it takes no memory. A failed write ends it.
 fn show<E: Sink>(error: &clap::Error, errors: &mut E) {
     let _ = write!(Text { sink: errors }, "{error}");
 }
 
-// A sink as a writer of formatted text.
+/// A sink as a writer of formatted text.
 #[derive(Drop)]
 struct Text<'a, E> {
     sink: &'a mut E,

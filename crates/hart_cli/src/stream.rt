@@ -1,12 +1,9 @@
 //! Readers and writers as the command line sees them: what they give, take and fail at.
 
-ghost use Rattle.std.specs.Prelude.{ℕ, ◌≤◌, ◌<◌, List, Option, IfOk, length};
+ghost use Rattle.std.specs.Prelude.{◌<◌, IfOk, length};
 ghost use Rattle.std.specs.Io.{ReadsAtMost, WritesAtMost};
 ghost use Rattle.std.specs.Io.KnownBytes.{ReadConsumes, WriteAppends};
-ghost use Rattle.hart_cli.specs.Stream.{CountsFailure};
-
-#[cfg(test)]
-pub mod fakes;
+ghost use Rattle.hart_cli.specs.Stream.{CountsFailure, Stream};
 
 /// A read or a write failed.
 #[derive(Clone, Copy, Debug, PartialEq, Eq)]
@@ -14,11 +11,8 @@ pub struct Failed;
 
 /// Bytes come from here.
 pub trait Source {
-    // The bytes that are left, where they are told.
-    ghost remaining: { Self → Option (List ℕ) };
-
-    // How often a read has failed.
-    ghost failures: { Self → ℕ };
+    // The bytes that are left, where they are told, and how often a read has failed.
+    ghost stream: { Self → Stream };
 
     /// Puts the next bytes at the front of the buffer, and gives their number; none at a buffer
     /// with room is the end.
@@ -29,17 +23,14 @@ pub trait Source {
     /// other time does it change.
     fn read(&mut self, buffer: &mut [u8]) -> Result<usize, Failed>
         ensures bound { ReadsAtMost result buffer.new }
-        ensures bytes { ReadConsumes (remaining self.old) (remaining self.new) result buffer.new }
-        ensures count { CountsFailure (failures self.old) (failures self.new) result };
+        ensures bytes { ReadConsumes (stream self.old).bytes (stream self.new).bytes result buffer.new }
+        ensures count { CountsFailure (stream self.old) (stream self.new) result };
 }
 
 /// Bytes go to here.
 pub trait Sink {
-    // The bytes that were written, where they are told.
-    ghost written: { Self → Option (List ℕ) };
-
-    // How often a write has failed.
-    ghost failures: { Self → ℕ };
+    // The bytes that were written, where they are told, and how often a write has failed.
+    ghost stream: { Self → Stream };
 
     /// Writes a front of the bytes, and gives its length: at least one byte, where there is one.
     ///
@@ -50,6 +41,9 @@ pub trait Sink {
     fn write(&mut self, bytes: &[u8]) -> Result<usize, Failed>
         ensures bound { WritesAtMost result bytes.now }
         ensures progress { IfOk result (λ taken. 0 < length bytes.now → 0 < taken) }
-        ensures bytes { WriteAppends (written self.old) (written self.new) result bytes.now }
-        ensures count { CountsFailure (failures self.old) (failures self.new) result };
+        ensures bytes { WriteAppends (stream self.old).bytes (stream self.new).bytes result bytes.now }
+        ensures count { CountsFailure (stream self.old) (stream self.new) result };
 }
+
+#[cfg(test)]
+pub mod fakes;

@@ -35,9 +35,7 @@ pub fn read_address(word: &str) -> Option<Address>
 fn read_polling(word: &str) -> Option<PollingAddress>
     ensures { MatchOption result (HasNoValue (IsPollingWord word.now)) (IsPollingWord word.now) }
 {
-    let Some(digits) = word.strip_prefix('@') else {
-        return None;
-    };
+    let digits = word.strip_prefix('@')?;
     PollingAddress::new(read_decimal(digits, 2)?).ok()
 }
 
@@ -45,9 +43,7 @@ fn read_polling(word: &str) -> Option<PollingAddress>
 fn read_device(word: &str) -> Option<UniqueAddress>
     ensures { MatchOption result (HasNoValue (IsDeviceWord word.now)) (IsDeviceWord word.now) }
 {
-    let Ok(bytes) = <[u8; 5]>::from_hex(word) else {
-        return None;
-    };
+    let bytes = <[u8; 5]>::from_hex(word).ok()?;
     let [type_high, type_low, id_high, id_middle, id_low] = bytes;
     let expanded_type = u16::from_be_bytes([type_high, type_low]);
     let device_id = u32::from_be_bytes([0, id_high, id_middle, id_low]);
@@ -82,8 +78,6 @@ pub fn read_data(word: &str) -> Option<Payload>
         return None;
     }
     let bytes = &mut room[..word.len() / 2];
-    if hex::decode_to_slice(word, bytes).is_err() {
-        return None;
-    }
+    hex::decode_to_slice(word, bytes).ok()?;
     Payload::from_slice(bytes)
 }

@@ -9,6 +9,22 @@ const FIRST_LINE: &str = "2 7 STX P 0 @0 - 0 -\n";
 
 const BOTH_LINES: &str = "2 7 STX P 0 @0 - 0 -\n9 14 STX S 0 @0 - 0 -\n";
 
+/// An input, the number of the read that fails, the fault that is told, and the lines before it. The first frame ends with
+/// the digits at 18 and 19, which the byte at 20 makes whole.
+const FAILED_READS: &[(&str, usize, CliFault, &str)] = &[
+    (TWO_FRAMES, 0, CliFault::Read, ""),
+    (TWO_FRAMES, 20, CliFault::Read, ""),
+    (TWO_FRAMES, 21, CliFault::Read, FIRST_LINE),
+    (TWO_FRAMES, 41, CliFault::Read, FIRST_LINE),
+    (TWO_FRAMES, 42, CliFault::Read, BOTH_LINES),
+    (
+        "FF FF 02 80 00 00 82 8G ",
+        24,
+        CliFault::BadHex { place: 21 },
+        FIRST_LINE,
+    ),
+];
+
 /// What `dump` answers for this input, and what it wrote where there is this much room.
 fn dumped(alloc: Global, input: &str, room: u64) -> (Result<(), CliFault>, Trickle) {
     let mut reader = Tape::new(input.as_bytes(), None);
@@ -31,31 +47,14 @@ fn the_longest_body_is_dumped(rt: HostRuntime) -> Result<(), Fail> {
 }
 
 #[test]
-fn a_failed_read_comes_behind_the_frames_before_it(rt: HostRuntime) {
-    for (read, _) in TWO_FRAMES.as_bytes().iter().enumerate() {
-        let mut reader = Tape::new(TWO_FRAMES.as_bytes(), Some(read));
+fn a_failed_read_comes_after_what_was_decided_before_it(rt: HostRuntime) {
+    for (input, read, fault, lines) in FAILED_READS {
+        let mut reader = Tape::new(input.as_bytes(), Some(*read));
         let mut writer = Trickle::new(rt.alloc(), u64::MAX);
         let result = dump(rt.alloc(), &mut reader, &mut writer);
-        // The first frame ends with the digits at 18 and 19, which the byte at 20 makes whole.
-        let want = if read < 21 { "" } else { FIRST_LINE };
-        assert_eq!(rt; result, Err(CliFault::Read), "at read {read}");
-        assert_eq!(rt; writer.taken(), want.as_bytes(), "at read {read}");
+        assert_eq!(rt; result, Err(*fault), "at read {read}");
+        assert_eq!(rt; writer.taken(), lines.as_bytes(), "at read {read}");
     }
-    let mut reader = Tape::new(TWO_FRAMES.as_bytes(), Some(TWO_FRAMES.len()));
-    let mut writer = Trickle::new(rt.alloc(), u64::MAX);
-    let result = dump(rt.alloc(), &mut reader, &mut writer);
-    assert_eq!(rt; result, Err(CliFault::Read));
-    assert_eq!(rt; writer.taken(), BOTH_LINES.as_bytes());
-}
-
-#[test]
-fn bad_hex_comes_before_a_later_failed_read(rt: HostRuntime) {
-    let input = "FF FF 02 80 00 00 82 8G ";
-    let mut reader = Tape::new(input.as_bytes(), Some(input.len()));
-    let mut writer = Trickle::new(rt.alloc(), u64::MAX);
-    let result = dump(rt.alloc(), &mut reader, &mut writer);
-    assert_eq!(rt; result, Err(CliFault::BadHex { place: 21 }));
-    assert_eq!(rt; writer.taken(), FIRST_LINE.as_bytes());
 }
 
 #[test]

@@ -1,8 +1,83 @@
-ghost use Rattle.std.specs.Prelude.{◌≤◌};
+ghost use Rattle.hart_frame.specs.Message.{IsPreambleCount};
 
 use super::*;
 use crate::stream::fakes::Trickle;
 use std::test::Fail;
+
+/// Four words, and the line of their request with 5 preamble bytes.
+const REQUESTS: &[([&str; 4], &str)] = &[
+    (["P", "@0", "0", ""], "FF FF FF FF FF 02 80 00 00 82\n"),
+    (["S", "@07", "000", ""], "FF FF FF FF FF 02 07 00 00 05\n"),
+    (["P", "@7", "0", ""], "FF FF FF FF FF 02 87 00 00 85\n"),
+    (["S", "@63", "255", ""], "FF FF FF FF FF 02 3F FF 00 C2\n"),
+    (
+        ["P", "37420A1B2C", "19", "012345"],
+        "FF FF FF FF FF 82 B7 42 0A 1B 2C 13 03 01 23 45 3D\n",
+    ),
+    (
+        ["S", "37420a1b2c", "019", "0a0B0c"],
+        "FF FF FF FF FF 82 37 42 0A 1B 2C 13 03 0A 0B 0C D7\n",
+    ),
+    (
+        ["S", "F7420A1B2C", "6", "0501"],
+        "FF FF FF FF FF 82 37 42 0A 1B 2C 06 02 05 01 CA\n",
+    ),
+    (
+        ["P", "37420A1B2C", "38", "0001"],
+        "FF FF FF FF FF 82 B7 42 0A 1B 2C 26 02 00 01 6F\n",
+    ),
+    (
+        ["S", "3FFFFFFFFF", "1", ""],
+        "FF FF FF FF FF 82 3F FF FF FF FF 01 00 BC\n",
+    ),
+    (
+        ["P", "all", "11", "415350B71C31"],
+        "FF FF FF FF FF 82 80 00 00 00 00 0B 06 41 53 50 B7 1C 31 D7\n",
+    ),
+];
+
+/// Four words, and the number of the first bad one.
+const BAD_WORDS: &[([&str; 4], u8)] = &[
+    (["p", "@0", "0", ""], 1),
+    (["", "@0", "0", ""], 1),
+    (["PS", "@0", "0", ""], 1),
+    (["D", "@0", "0", ""], 1),
+    (["P", "@64", "0", ""], 2),
+    (["P", "@", "0", ""], 2),
+    (["P", "@007", "0", ""], 2),
+    (["P", "@+7", "0", ""], 2),
+    (["P", "@-1", "0", ""], 2),
+    (["P", "@7 ", "0", ""], 2),
+    (["P", "@ 7", "0", ""], 2),
+    (["P", "@0x1", "0", ""], 2),
+    (["P", "@\u{663}", "0", ""], 2),
+    (["P", "7", "0", ""], 2),
+    (["P", "", "0", ""], 2),
+    (["P", "37420A1B2", "0", ""], 2),
+    (["P", "37420A1B2C0", "0", ""], 2),
+    (["P", "37420A1B2C00", "0", ""], 2),
+    (["P", "3742 A1B2C", "0", ""], 2),
+    (["P", "37420A1B2G", "0", ""], 2),
+    (["P", "ALL", "0", ""], 2),
+    (["P", "all ", "0", ""], 2),
+    (["S", "all", "256", ""], 3),
+    (["S", "all", "", ""], 3),
+    (["S", "all", "0000", ""], 3),
+    (["S", "all", "-0", ""], 3),
+    (["S", "all", "+1", ""], 3),
+    (["S", "all", "1a", ""], 3),
+    (["S", "all", "0", "0"], 4),
+    (["S", "all", "0", "012"], 4),
+    (["S", "all", "0", "0G"], 4),
+    (["S", "all", "0", "01 2"], 4),
+    (["S", "all", "0", " "], 4),
+    (["S", "all", "0", "-"], 4),
+    (["", "@64", "256", "0"], 1),
+    (["@0", "P", "0", ""], 1),
+    (["P", "", "256", "0"], 2),
+    (["P", "0", "@0", ""], 2),
+    (["S", "all", "", "0"], 3),
+];
 
 /// What `encode_text` answers for these four words, and what it wrote where there is this much room.
 fn encoded(
@@ -11,8 +86,7 @@ fn encoded(
     preambles: u8,
     room: u64,
 ) -> (Result<(), CliFault>, Trickle)
-    requires enough { 5 ≤ preambles }
-    requires few { preambles ≤ 20 }
+    requires { IsPreambleCount preambles }
 {
     let [who, address, command, payload] = words;
     let mut writer = Trickle::new(alloc, room);
@@ -30,38 +104,8 @@ fn encoded(
 
 #[test]
 fn requests_are_written(rt: HostRuntime) {
-    let rows = [
-        (["P", "@0", "0", ""], "FF FF FF FF FF 02 80 00 00 82\n"),
-        (["S", "@07", "000", ""], "FF FF FF FF FF 02 07 00 00 05\n"),
-        (["P", "@7", "0", ""], "FF FF FF FF FF 02 87 00 00 85\n"),
-        (["S", "@63", "255", ""], "FF FF FF FF FF 02 3F FF 00 C2\n"),
-        (
-            ["P", "37420A1B2C", "19", "012345"],
-            "FF FF FF FF FF 82 B7 42 0A 1B 2C 13 03 01 23 45 3D\n",
-        ),
-        (
-            ["S", "37420a1b2c", "019", "0a0B0c"],
-            "FF FF FF FF FF 82 37 42 0A 1B 2C 13 03 0A 0B 0C D7\n",
-        ),
-        (
-            ["S", "F7420A1B2C", "6", "0501"],
-            "FF FF FF FF FF 82 37 42 0A 1B 2C 06 02 05 01 CA\n",
-        ),
-        (
-            ["P", "37420A1B2C", "38", "0001"],
-            "FF FF FF FF FF 82 B7 42 0A 1B 2C 26 02 00 01 6F\n",
-        ),
-        (
-            ["S", "3FFFFFFFFF", "1", ""],
-            "FF FF FF FF FF 82 3F FF FF FF FF 01 00 BC\n",
-        ),
-        (
-            ["P", "all", "11", "415350B71C31"],
-            "FF FF FF FF FF 82 80 00 00 00 00 0B 06 41 53 50 B7 1C 31 D7\n",
-        ),
-    ];
-    for (words, line) in rows {
-        let (result, writer) = encoded(rt.alloc(), words, 5, 1000);
+    for (words, line) in REQUESTS {
+        let (result, writer) = encoded(rt.alloc(), *words, 5, 1000);
         assert_eq!(rt; result, Ok(()), "at {line}");
         assert_eq!(rt; writer.taken(), line.as_bytes(), "at {line}");
     }
@@ -83,49 +127,9 @@ fn the_longest_data_are_written(rt: HostRuntime) -> Result<(), Fail> {
 
 #[test]
 fn the_first_bad_word_is_told(rt: HostRuntime) {
-    let rows = [
-        (["p", "@0", "0", ""], 1),
-        (["", "@0", "0", ""], 1),
-        (["PS", "@0", "0", ""], 1),
-        (["D", "@0", "0", ""], 1),
-        (["P", "@64", "0", ""], 2),
-        (["P", "@", "0", ""], 2),
-        (["P", "@007", "0", ""], 2),
-        (["P", "@+7", "0", ""], 2),
-        (["P", "@-1", "0", ""], 2),
-        (["P", "@7 ", "0", ""], 2),
-        (["P", "@ 7", "0", ""], 2),
-        (["P", "@0x1", "0", ""], 2),
-        (["P", "@\u{663}", "0", ""], 2),
-        (["P", "7", "0", ""], 2),
-        (["P", "", "0", ""], 2),
-        (["P", "37420A1B2", "0", ""], 2),
-        (["P", "37420A1B2C0", "0", ""], 2),
-        (["P", "37420A1B2C00", "0", ""], 2),
-        (["P", "3742 A1B2C", "0", ""], 2),
-        (["P", "37420A1B2G", "0", ""], 2),
-        (["P", "ALL", "0", ""], 2),
-        (["P", "all ", "0", ""], 2),
-        (["S", "all", "256", ""], 3),
-        (["S", "all", "", ""], 3),
-        (["S", "all", "0000", ""], 3),
-        (["S", "all", "-0", ""], 3),
-        (["S", "all", "+1", ""], 3),
-        (["S", "all", "1a", ""], 3),
-        (["S", "all", "0", "0"], 4),
-        (["S", "all", "0", "012"], 4),
-        (["S", "all", "0", "0G"], 4),
-        (["S", "all", "0", "01 2"], 4),
-        (["S", "all", "0", " "], 4),
-        (["S", "all", "0", "-"], 4),
-        (["", "@64", "256", "0"], 1),
-        (["@0", "P", "0", ""], 1),
-        (["P", "", "256", "0"], 2),
-        (["P", "0", "@0", ""], 2),
-        (["S", "all", "", "0"], 3),
-    ];
-    for (words, number) in rows {
-        let (result, writer) = encoded(rt.alloc(), words, 5, 1000);
+    for (words, number) in BAD_WORDS {
+        let (result, writer) = encoded(rt.alloc(), *words, 5, 1000);
+        let number = *number;
         assert_eq!(rt; result, Err(CliFault::BadWord { number }));
         assert!(rt; writer.taken().is_empty());
         assert_eq!(rt; writer.failures(), 0);
@@ -134,13 +138,10 @@ fn the_first_bad_word_is_told(rt: HostRuntime) {
 
 #[test]
 fn longer_data_are_a_bad_word(rt: HostRuntime) -> Result<(), Fail> {
-    let alloc = rt.alloc();
-    for payload in ["7F".repeat(alloc, 256)?, "7".repeat(alloc, 511)?] {
-        let words = ["P", "all", "0", payload.as_str()];
-        let (result, writer) = encoded(alloc, words, 5, 1000);
-        assert_eq!(rt; result, Err(CliFault::BadWord { number: 4 }));
-        assert!(rt; writer.taken().is_empty());
-    }
+    let payload = "7F".repeat(rt.alloc(), 256)?;
+    let (result, writer) = encoded(rt.alloc(), ["P", "all", "0", payload.as_str()], 5, 1000);
+    assert_eq!(rt; result, Err(CliFault::BadWord { number: 4 }));
+    assert!(rt; writer.taken().is_empty());
     Ok(())
 }
 

@@ -1,25 +1,27 @@
 use super::CliFault;
 use std::test::Fail;
 
+/// Each fault and its line.
+const ROWS: &[(CliFault, &str)] = &[
+    (CliFault::Read, "read fault\n"),
+    (CliFault::Write, "write fault\n"),
+    (CliFault::TooLong, "input too long\n"),
+    (CliFault::BadHex { place: 0 }, "bad hex at 0\n"),
+    (
+        CliFault::BadHex { place: usize::MAX },
+        "bad hex at 18446744073709551615\n",
+    ),
+    (CliFault::Memory, "out of memory\n"),
+    (CliFault::BadWord { number: 1 }, "bad word 1\n"),
+    (CliFault::BadWord { number: u8::MAX }, "bad word 255\n"),
+];
+
 #[test]
 fn each_line_is_the_display_and_a_line_feed(rt: HostRuntime) -> Result<(), Fail> {
-    let faults = [
-        (CliFault::Read, "read fault\n"),
-        (CliFault::Write, "write fault\n"),
-        (CliFault::TooLong, "input too long\n"),
-        (CliFault::BadHex { place: 0 }, "bad hex at 0\n"),
-        (
-            CliFault::BadHex { place: usize::MAX },
-            "bad hex at 18446744073709551615\n",
-        ),
-        (CliFault::Memory, "out of memory\n"),
-        (CliFault::BadWord { number: 1 }, "bad word 1\n"),
-        (CliFault::BadWord { number: u8::MAX }, "bad word 255\n"),
-    ];
-    for (fault, line) in faults {
-        assert_eq!(rt; fault.line().as_str(), line);
+    for (fault, line) in ROWS {
+        assert_eq!(rt; fault.line().as_str(), *line);
         let display = format!(in rt.alloc(); "{fault}\n")?;
-        assert_eq!(rt; display.as_str(), line);
+        assert_eq!(rt; display.as_str(), *line);
     }
     Ok(())
 }

@@ -1,13 +1,75 @@
 use super::*;
 use std::test::Fail;
 
-// A character as its byte and its fault bits.
+/// A character as its byte and its fault bits.
 type Pair = (u8, u8);
 
-// A text, the characters that are heard, and the place of bad hex, if any.
+/// A text, the characters that are heard, and the place of bad hex, if any.
 type Case = (&'static str, &'static [Pair], Option<usize>);
 
-// What is heard of a text, and the fault.
+/// Inputs that ended.
+const ENDED: &[Case] = &[
+    ("", &[], None),
+    (" \t\r\n", &[], None),
+    ("8282", &[(0x82, 0), (0x82, 0)], None),
+    (
+        "\tfF Ff\r\n aB0c ",
+        &[(0xFF, 0), (0xFF, 0), (0xAB, 0), (0x0C, 0)],
+        None,
+    ),
+    ("FF!40 ", &[(0xFF, 0x40)], None),
+    ("ff!72", &[(0xFF, 0x72)], None),
+    (
+        "02!4080!0200",
+        &[(0x02, 0x40), (0x80, 0x02), (0x00, 0)],
+        None,
+    ),
+    ("!", &[], Some(0)),
+    ("0", &[], Some(0)),
+    ("0!40", &[], Some(0)),
+    ("82!0", &[], Some(0)),
+    ("82!8", &[], Some(0)),
+    ("82!4 ", &[], Some(0)),
+    ("02!08", &[], Some(0)),
+    ("02!00", &[], Some(0)),
+    ("FF0G", &[(0xFF, 0)], Some(2)),
+    ("82 8", &[(0x82, 0)], Some(3)),
+    ("82 !40", &[(0x82, 0)], Some(3)),
+    ("FF FF 0G", &[(0xFF, 0), (0xFF, 0)], Some(6)),
+    ("FF!40!40", &[(0xFF, 0x40)], Some(5)),
+    ("FF\n\n!FF", &[(0xFF, 0)], Some(4)),
+    ("FF,FF", &[(0xFF, 0)], Some(2)),
+    ("FF\u{b}FF", &[(0xFF, 0)], Some(2)),
+];
+
+/// Inputs that a failed read or the limit broke off.
+const BROKEN_OFF: &[Case] = &[
+    ("", &[], None),
+    ("8", &[], None),
+    ("82", &[], None),
+    ("82!", &[], None),
+    ("82!0", &[], None),
+    ("82!7", &[], None),
+    ("82!40", &[], None),
+    ("82 ", &[(0x82, 0)], None),
+    ("82 8", &[(0x82, 0)], None),
+    ("8282", &[(0x82, 0)], None),
+    ("82!40 ", &[(0x82, 0x40)], None),
+    ("82!408", &[(0x82, 0x40)], None),
+    ("FF!40 82!02", &[(0xFF, 0x40)], None),
+    ("!", &[], Some(0)),
+    ("0G", &[], Some(0)),
+    ("0!", &[], Some(0)),
+    ("82!8", &[], Some(0)),
+    ("82!G", &[], Some(0)),
+    ("82!0 ", &[], Some(0)),
+    ("02!08", &[], Some(0)),
+    ("02!00", &[], Some(0)),
+    ("82 !", &[(0x82, 0)], Some(3)),
+    ("FF!40!40", &[(0xFF, 0x40)], Some(5)),
+];
+
+/// What is heard of a text, and the fault.
 fn heard(
     alloc: Global,
     text: &str,
@@ -25,42 +87,9 @@ fn heard(
 
 #[test]
 fn an_input_that_ended_is_heard_up_to_bad_hex(rt: HostRuntime) -> Result<(), Fail> {
-    let cases: [Case; 23] = [
-        ("", &[], None),
-        (" \t\r\n", &[], None),
-        ("8282", &[(0x82, 0), (0x82, 0)], None),
-        (
-            "\tfF Ff\r\n aB0c ",
-            &[(0xFF, 0), (0xFF, 0), (0xAB, 0), (0x0C, 0)],
-            None,
-        ),
-        ("FF!40 ", &[(0xFF, 0x40)], None),
-        ("ff!72", &[(0xFF, 0x72)], None),
-        (
-            "02!4080!0200",
-            &[(0x02, 0x40), (0x80, 0x02), (0x00, 0)],
-            None,
-        ),
-        ("!", &[], Some(0)),
-        ("0", &[], Some(0)),
-        ("0!40", &[], Some(0)),
-        ("82!0", &[], Some(0)),
-        ("82!8", &[], Some(0)),
-        ("82!4 ", &[], Some(0)),
-        ("02!08", &[], Some(0)),
-        ("02!00", &[], Some(0)),
-        ("FF0G", &[(0xFF, 0)], Some(2)),
-        ("82 8", &[(0x82, 0)], Some(3)),
-        ("82 !40", &[(0x82, 0)], Some(3)),
-        ("FF FF 0G", &[(0xFF, 0), (0xFF, 0)], Some(6)),
-        ("FF!40!40", &[(0xFF, 0x40)], Some(5)),
-        ("FF\n\n!FF", &[(0xFF, 0)], Some(4)),
-        ("FF,FF", &[(0xFF, 0)], Some(2)),
-        ("FF\u{b}FF", &[(0xFF, 0)], Some(2)),
-    ];
-    for (text, pairs, place) in cases {
+    for (text, pairs, place) in ENDED {
         let (chars, fault) = heard(rt.alloc(), text, InputEnd::Ended)?;
-        assert_eq!(rt; chars.as_slice(), pairs, "at {text}");
+        assert_eq!(rt; chars.as_slice(), *pairs, "at {text}");
         let want = place.map(|place| CliFault::BadHex { place });
         assert_eq!(rt; fault, want, "at {text}");
     }
@@ -69,42 +98,14 @@ fn an_input_that_ended_is_heard_up_to_bad_hex(rt: HostRuntime) -> Result<(), Fai
 
 #[test]
 fn an_input_that_broke_off_keeps_its_whole_items(rt: HostRuntime) -> Result<(), Fail> {
-    let cases: [Case; 23] = [
-        ("", &[], None),
-        ("8", &[], None),
-        ("82", &[], None),
-        ("82!", &[], None),
-        ("82!0", &[], None),
-        ("82!7", &[], None),
-        ("82!40", &[], None),
-        ("82 ", &[(0x82, 0)], None),
-        ("82 8", &[(0x82, 0)], None),
-        ("8282", &[(0x82, 0)], None),
-        ("82!40 ", &[(0x82, 0x40)], None),
-        ("82!408", &[(0x82, 0x40)], None),
-        ("FF!40 82!02", &[(0xFF, 0x40)], None),
-        ("!", &[], Some(0)),
-        ("0G", &[], Some(0)),
-        ("0!", &[], Some(0)),
-        ("82!8", &[], Some(0)),
-        ("82!G", &[], Some(0)),
-        ("82!0 ", &[], Some(0)),
-        ("02!08", &[], Some(0)),
-        ("02!00", &[], Some(0)),
-        ("82 !", &[(0x82, 0)], Some(3)),
-        ("FF!40!40", &[(0xFF, 0x40)], Some(5)),
-    ];
-    let ends = [
-        (InputEnd::Failed, CliFault::Read),
-        (InputEnd::TooLong, CliFault::TooLong),
-    ];
-    for (text, pairs, place) in cases {
-        for (end, broke_off) in ends {
-            let (chars, fault) = heard(rt.alloc(), text, end)?;
-            assert_eq!(rt; chars.as_slice(), pairs, "at {text}");
-            let want = place.map_or(broke_off, |place| CliFault::BadHex { place });
-            assert_eq!(rt; fault, Some(want), "at {text}");
-        }
+    for (text, pairs, place) in BROKEN_OFF {
+        let (chars, fault) = heard(rt.alloc(), text, InputEnd::Failed)?;
+        let (others, limit) = heard(rt.alloc(), text, InputEnd::TooLong)?;
+        assert_eq!(rt; chars.as_slice(), *pairs, "at {text}");
+        assert_eq!(rt; others.as_slice(), *pairs, "at {text}");
+        let bad_hex = place.map(|place| CliFault::BadHex { place });
+        assert_eq!(rt; fault, bad_hex.or(Some(CliFault::Read)), "at {text}");
+        assert_eq!(rt; limit, bad_hex.or(Some(CliFault::TooLong)), "at {text}");
     }
     Ok(())
 }

@@ -2,44 +2,40 @@ ghost use Rattle.std.specs.Prelude.{◌≡◌, IfOk};
 
 use super::*;
 use std::io;
-use std::io::{Cursor, ErrorKind};
+use std::io::ErrorKind;
 use std::test::Fail;
 
-/// Is interrupted at its first call, and gives or takes one byte at each later one.
+/// How many bytes a call is given room for, or is given: none, one, many, and as many as the input reads at once.
+const SIZES: &[usize] = &[0, 1, 1000, 4096];
+
+/// Counts the calls that are made of it, and gives or takes all that it can, or fails each time.
 #[derive(Drop)]
-struct Interrupted {
-    is_over: bool,
+struct Counted {
+    calls: u64,
+    fails: bool,
 }
 
-impl Interrupted {
-    fn one_byte(&mut self) -> io::Result<usize>
-        ensures { IfOk result (λ n. n ≡ 1) }
+impl Counted {
+    fn call(&mut self, all: usize) -> io::Result<usize>
+        ensures { IfOk result (λ n. n ≡ all) }
     {
-        if self.is_over {
-            return Ok(1);
+        self.calls = self.calls.saturating_add(1);
+        if self.fails {
+            return Err(ErrorKind::Interrupted.into());
         }
-        self.is_over = true;
-        Err(ErrorKind::Interrupted.into())
+        Ok(all)
     }
 }
 
-impl Read for Interrupted {
+impl Read for Counted {
     fn read(&mut self, buf: &mut [u8]) -> io::Result<usize> {
-        if buf.is_empty() {
-            Ok(0)
-        } else {
-            self.one_byte()
-        }
+        self.call(buf.len())
     }
 }
 
-impl Write for Interrupted {
+impl Write for Counted {
     fn write(&mut self, buf: &[u8]) -> io::Result<usize> {
-        if buf.is_empty() {
-            Ok(0)
-        } else {
-            self.one_byte()
-        }
+        self.call(buf.len())
     }
 
     fn flush(&mut self) -> io::Result<()> {
@@ -47,32 +43,41 @@ impl Write for Interrupted {
     }
 }
 
-#[test]
-fn bytes_come_and_go(rt: HostRuntime) -> Result<(), Fail> {
-    let mut reader = Plain::new(Cursor::new([7, 8, 9]));
-    let mut buffer = [0; 2];
-    assert_eq!(rt; reader.read(&mut buffer), Ok(2));
-    assert_eq!(rt; buffer, [7, 8]);
-    assert_eq!(rt; reader.read(&mut buffer), Ok(1));
-    assert_eq!(rt; reader.read(&mut buffer), Ok(0));
-    assert_eq!(rt; reader.into_inner().position(), 3);
+/// A `Plain` over a reader and writer that counts its calls.
+fn counting(fails: bool) -> Plain<Counted> {
+    Plain::new(Counted { calls: 0, fails })
+}
 
-    let mut writer = Plain::new(Vec::new(rt.alloc()));
-    assert_eq!(rt; writer.write(b"hart"), Ok(4));
-    assert_eq!(rt; writer.into_inner().as_slice(), b"hart".as_slice());
+#[test]
+fn each_call_is_one_call_of_what_is_inside(rt: HostRuntime) -> Result<(), Fail> {
+    for size in SIZES {
+        let mut bytes = vec![in rt.alloc(); 0; *size]?;
+        let mut reader = counting(false);
+        assert_eq!(rt; reader.read(bytes.as_mut_slice()), Ok(*size));
+        assert_eq!(rt; reader.failures, 0);
+        assert_eq!(rt; reader.into_inner().calls, 1);
+        let mut writer = counting(false);
+        assert_eq!(rt; writer.write(bytes.as_slice()), Ok(*size));
+        assert_eq!(rt; writer.failures, 0);
+        assert_eq!(rt; writer.into_inner().calls, 1);
+    }
     Ok(())
 }
 
 #[test]
-fn an_interruption_is_a_failure_and_not_tried_again(rt: HostRuntime) {
-    let mut reader = Plain::new(Interrupted { is_over: false });
-    assert_eq!(rt; reader.read(&mut [0]), Err(Failed));
-    assert_eq!(rt; reader.failures, 1);
-    assert_eq!(rt; reader.read(&mut [0]), Ok(1));
-    let mut writer = Plain::new(Interrupted { is_over: false });
-    assert_eq!(rt; writer.write(b"hart"), Err(Failed));
-    assert_eq!(rt; writer.failures, 1);
-    assert_eq!(rt; writer.write(b"hart"), Ok(1));
+fn each_error_is_a_failure_and_not_tried_again(rt: HostRuntime) -> Result<(), Fail> {
+    for size in SIZES {
+        let mut bytes = vec![in rt.alloc(); 0; *size]?;
+        let mut reader = counting(true);
+        assert_eq!(rt; reader.read(bytes.as_mut_slice()), Err(Failed));
+        assert_eq!(rt; reader.failures, 1);
+        assert_eq!(rt; reader.into_inner().calls, 1);
+        let mut writer = counting(true);
+        assert_eq!(rt; writer.write(bytes.as_slice()), Err(Failed));
+        assert_eq!(rt; writer.failures, 1);
+        assert_eq!(rt; writer.into_inner().calls, 1);
+    }
+    Ok(())
 }
 
 #[test]

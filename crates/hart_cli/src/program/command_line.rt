@@ -1,13 +1,17 @@
-//! The call that the words behind the program's name ask for, and the texts of its help.
+//! The call that the words after the program's name ask for, and the texts of its help.
 
 ghost use Rattle.std.specs.Prelude.{◌≡◌, ◌∷◌, [], ℕ, IfErr, IfOk, List, codes, false, map, string_bytes};
 ghost use Rattle.clap.specs.Words.{HasKind, app_of, fault_of, found_of, new_app, rows_of, rule_of};
-ghost use Rattle.hart_cli.specs.CommandLine.{Answer, Call as SomeCall, Calls, Dump, Encode, GivesWords, HasWords};
+ghost use Rattle.hart_cli.specs.CommandLine.{Answer, Call, Calls, Dump, Encode, GivesWords, HasWords};
 ghost use Rattle.hart_cli.specs.CommandLine.{call_of, encode_app, hart_app, preambles_rule, required_rule};
 ghost use Rattle.hart_cli.specs.Encode.{MessageWords};
 
 use clap::{Arg, ArgMatches, Command, value_parser};
+use hart_frame::{LEAST_PREAMBLES, MOST_PREAMBLES};
 use std::alloc::{AllocError, Global};
+
+/// The version that `hart --version` shows.
+const VERSION: &str = "0.1.0";
 
 const HART_ABOUT: &str = "Find HART messages in what was heard, write one, and answer one";
 
@@ -24,7 +28,7 @@ Answer one message as the device on the bench does.
 
 Goes in, on the standard input: what the device hears on the line, the message
 with its preamble bytes FF and its check byte, and noise around it. Each byte is
-two hex digits of either case, and behind them, where the byte came damaged, !
+two hex digits of either case, and after them, where the byte came damaged, !
 and two hex digits of fault bits (see hart dump --help). Spaces, tabs and line
 ends may stand between bytes. The input has at most 1048576 bytes of text.
 
@@ -44,20 +48,21 @@ const DUMP_HELP: &str = "\
 List the messages in what was heard on a line.
 
 Goes in, on the standard input: the bytes that were heard, noise among them.
-Each is two hex digits of either case, and behind them, where the receiver found
+Each is two hex digits of either case, and after them, where the receiver found
 it damaged, ! and two hex digits of fault bits, as in FF!40. The fault bits are
   40  vertical parity
   20  overrun
   10  framing
   02  buffer overflow
 or a sum of these, in hex. Spaces, tabs and line ends may stand between bytes.
-The input has at most 1048576 bytes of text.
+The input has at most 1048576 bytes of text. Raw bytes are not hex: a capture of
+them goes in through xxd -p.
 
 Comes out, on the standard output: a line for each message that came without
 damage, of nine fields with one space between them.
-  START      place of its delimiter, the first byte behind its preamble bytes FF,
+  START      place of its delimiter, the first byte after its preamble bytes FF,
              counted from 0
-  END        place behind its check byte
+  END        place after its check byte
   KIND       STX for a request of a master, ACK for a reply of a device
   WHO        the master: P for the primary, S for the secondary
   BURST      burst bit, 0 or 1
@@ -71,7 +76,11 @@ messages before are written, and standard error says why: bad hex at N, where N
 is a place in the text of the input, counted from 0; input too long; read fault.";
 
 const DUMP_EXAMPLE: &str = "\
-Example:
+Examples:
+  hart dump < FILE
+for a file of hex text, and
+  xxd -p FILE | hart dump
+for one of raw bytes, which are not hex;
   echo \"FF FF 02 80 00 00 82\" | hart dump
 writes
   2 7 STX P 0 @0 - 0 -";
@@ -121,14 +130,14 @@ pub fn dump_alone_is_call()
     ensures { Calls Dump (codes "dump" ∷ []) }
 {}
 
-/// Three words behind `encode` are a call of `encode` with no data and 5 preamble bytes.
+/// Three words after `encode` are a call of `encode` with no data and 5 preamble bytes.
 pub fn three_words_are_call()
     ensures { Calls
         (Encode (record { who = codes "P"; address = codes "@0"; command = codes "0"; payload = [] }) 5)
         (codes "encode" ∷ codes "P" ∷ codes "@0" ∷ codes "0" ∷ []) }
 {}
 
-/// With `--preambles` behind them they are a call with so many preamble bytes.
+/// With `--preambles` after them they are a call with so many preamble bytes.
 pub fn preambles_are_told()
     ensures { Calls
         (Encode (record { who = codes "P"; address = codes "@0"; command = codes "0"; payload = [] }) 20)
@@ -137,12 +146,12 @@ pub fn preambles_are_told()
 
 /// Words make one call at most, so that what the program does is determined by them.
 pub fn one_call()
-    ensures { (a b : SomeCall) (words : List (List ℕ)) → Calls a words → Calls b words → a ≡ b }
+    ensures { (a b : Call) (words : List (List ℕ)) → Calls a words → Calls b words → a ≡ b }
 {}
 
 /// The calls that a command line can make.
 #[derive(Clone, Copy)]
-pub enum Call<'a> {
+pub enum RequestedCall<'a> {
     /// `hart answer`.
     Answer,
     /// `hart dump`.
@@ -171,7 +180,10 @@ pub struct EncodeWords<'a> {
 /// # Errors
 ///
 /// What clap tells where it finds no matches for them, help among it, or where memory is refused.
-pub fn requested_call<'a>(alloc: Global, words: &'a [String]) -> Result<Call<'a>, clap::Error>
+pub fn requested_call<'a>(
+    alloc: Global,
+    words: &'a [String],
+) -> Result<RequestedCall<'a>, clap::Error>
     ensures call { IfOk result (λ call. Calls (call_of call) (map string_bytes words.entry.now)) }
     ensures refused { IfErr result (HasKind (fault_of hart_app (map string_bytes words.entry.now))) }
 {
@@ -180,14 +192,14 @@ pub fn requested_call<'a>(alloc: Global, words: &'a [String]) -> Result<Call<'a>
         unreachable!();
     };
     match name {
-        "answer" => Ok(Call::Answer),
-        "dump" => Ok(Call::Dump),
-        "encode" => Ok(Call::Encode(encode_words(given))),
+        "answer" => Ok(RequestedCall::Answer),
+        "dump" => Ok(RequestedCall::Dump),
+        "encode" => Ok(RequestedCall::Encode(encode_words(given))),
         _ => unreachable!(),
     }
 }
 
-// The words of `hart encode`, which clap let pass.
+/// The words of `hart encode`, which clap let pass.
 fn encode_words<'a>(given: &ArgMatches<'a>) -> EncodeWords<'a>
     requires { HasWords (rows_of (found_of given.now)) }
     ensures { GivesWords (rows_of (found_of given.now))
@@ -207,12 +219,13 @@ fn encode_words<'a>(given: &ArgMatches<'a>) -> EncodeWords<'a>
     }
 }
 
-// What the words are matched against.
+/// What the words are matched against.
 fn hart_command<'a>(alloc: Global) -> Result<Command<'a>, AllocError>
     ensures { IfOk result (λ command. app_of command ≡ hart_app) }
 {
     let hart = Command::new(alloc, "hart")
         .about(HART_ABOUT)
+        .version(VERSION)
         .after_help(HART_HELP)
         .no_binary_name(true)
         .subcommand_required(true)
@@ -224,7 +237,7 @@ fn hart_command<'a>(alloc: Global) -> Result<Command<'a>, AllocError>
     hart.bin_name("hart")
 }
 
-// `hart encode` with its words.
+/// `hart encode` with its words.
 fn encode_command<'a>(alloc: Global) -> Result<Command<'a>, AllocError>
     ensures { IfOk result (λ command. app_of command ≡ encode_app) }
 {
@@ -236,7 +249,7 @@ fn encode_command<'a>(alloc: Global) -> Result<Command<'a>, AllocError>
         .arg(preambles_option(alloc))
 }
 
-// A subcommand without words of its own.
+/// A subcommand without words of its own.
 fn plain_command<'a>(
     alloc: Global,
     name: &'a str,
@@ -252,7 +265,7 @@ fn plain_command<'a>(
         .after_long_help(example)
 }
 
-// A word that has to be there.
+/// A word that has to be there.
 fn required_word<'a>(alloc: Global, id: &'a str, help: &'a str) -> Arg<'a>
     ensures rule { rule_of result ≡ required_rule id.entry.now }
     ensures local { result.global ≡ false }
@@ -260,7 +273,7 @@ fn required_word<'a>(alloc: Global, id: &'a str, help: &'a str) -> Arg<'a>
     Arg::new(alloc, id).required(true).help(help)
 }
 
-// How many preamble bytes stand in front of a message.
+/// How many preamble bytes stand in front of a message.
 fn preambles_option<'a>(alloc: Global) -> Arg<'a>
     ensures rule { rule_of result ≡ preambles_rule }
     ensures local { result.global ≡ false }
@@ -268,7 +281,9 @@ fn preambles_option<'a>(alloc: Global) -> Arg<'a>
     Arg::new(alloc, "preambles")
         .long("preambles")
         .value_name("N")
-        .value_parser(value_parser!(u8).range(5..=20))
+        .value_parser(value_parser!(u8).range(
+            i64::from(LEAST_PREAMBLES)..=i64::from(MOST_PREAMBLES),
+        ))
         .default_value("5")
         .help(PREAMBLES_HELP)
 }

@@ -11,7 +11,7 @@ mod dump;
 mod encode;
 
 /// The words of each call, and what it writes where it reads a request for the identity.
-const CALLS: [(&[&str], &str); 3] = [
+const CALLS: &[(&[&str], &str)] = &[
     (&["answer"], answer::REPLY_TO_PRIMARY),
     (&["dump"], "2 7 STX P 0 @0 - 0 -\n"),
     (&["encode", "P", "@0", "0"], encode::IDENTIFY),
@@ -67,47 +67,61 @@ fn run_on(alloc: Global, words: &[&str], input: &str) -> Result<Run, AllocError>
     run_program(alloc, words, reader, u64::MAX, u64::MAX)
 }
 
+/// Words, an input, and the line of the fault that they come to, with nothing written.
+const FAULTS: &[(&[&str], &str, &str)] = &[
+    (&["answer"], "FF FF 0G", "bad hex at 6\n"),
+    (&["dump"], "FF FF 0G", "bad hex at 6\n"),
+    (&["answer"], "FF FF 02 80 00 00 8", "bad hex at 18\n"),
+    (&["dump"], "FF FF 02 80 00 00 8", "bad hex at 18\n"),
+    (&["dump"], "02!08", "bad hex at 0\n"),
+    (&["answer"], "FF!40!40", "bad hex at 5\n"),
+    (&["answer"], "F F", "bad hex at 0\n"),
+    (&["dump"], "\u{e9}", "bad hex at 0\n"),
+    (&["encode", "p", "@64", "0"], "", "bad word 1\n"),
+    (&["encode", "P", "@64", "0"], "", "bad word 2\n"),
+    (&["encode", "P", "@0", "256"], "", "bad word 3\n"),
+    (&["encode", "P", "@0", "0", "0"], "", "bad word 4\n"),
+];
+
 #[test]
-fn bad_hex_is_told_at_its_place(rt: HostRuntime) -> Result<(), Fail> {
-    let rows = [
-        ("FF FF 0G", "bad hex at 6\n"),
-        ("FF FF 02 80 00 00 8", "bad hex at 18\n"),
-        ("02!08", "bad hex at 0\n"),
-        ("FF!40!40", "bad hex at 5\n"),
-        ("F F", "bad hex at 0\n"),
-        ("\u{e9}", "bad hex at 0\n"),
-    ];
-    for (input, want) in rows {
-        for word in ["answer", "dump"] {
-            let run = run_on(rt.alloc(), &[word], input)?;
-            assert_eq!(rt; run.status, FAULT, "{word} on {input}");
-            assert_eq!(rt; run.errors.taken(), want.as_bytes(), "{word} on {input}");
-            assert!(rt; run.output.taken().is_empty(), "{word} on {input}");
-        }
+fn a_fault_is_told_at_its_place(rt: HostRuntime) -> Result<(), Fail> {
+    for (words, input, want) in FAULTS {
+        let run = run_on(rt.alloc(), words, input)?;
+        assert_eq!(rt; run.status, FAULT, "on {input} for {want}");
+        assert_eq!(rt; run.errors.taken(), want.as_bytes(), "on {input}");
+        assert!(rt; run.output.taken().is_empty(), "on {input} for {want}");
     }
     Ok(())
 }
+
+/// A subcommand, and the number of the read that fails.
+const FAILED_READS: &[(&str, usize)] = &[
+    ("answer", 0),
+    ("answer", 7),
+    ("answer", 14),
+    ("dump", 0),
+    ("dump", 7),
+    ("dump", 14),
+];
 
 #[test]
 fn a_failed_read_is_told(rt: HostRuntime) -> Result<(), Fail> {
-    for word in ["answer", "dump"] {
-        for read in [0, 7, 14] {
-            let reader = Tape::new(b"FFFF0280000082", Some(read));
-            let run = run_program(rt.alloc(), &[word], reader, u64::MAX, u64::MAX)?;
-            assert_eq!(rt; run.status, FAULT, "{word} at read {read}");
-            assert_eq!(rt; run.reads, read);
-            assert_eq!(rt; run.errors.taken(), b"read fault\n".as_slice());
-            assert!(rt; run.output.taken().is_empty(), "{word} at read {read}");
-        }
+    for (word, read) in FAILED_READS {
+        let reader = Tape::new(b"FFFF0280000082", Some(*read));
+        let run = run_program(rt.alloc(), &[*word], reader, u64::MAX, u64::MAX)?;
+        assert_eq!(rt; run.status, FAULT, "{word} at read {read}");
+        assert_eq!(rt; run.reads, *read);
+        assert_eq!(rt; run.errors.taken(), b"read fault\n".as_slice());
+        assert!(rt; run.output.taken().is_empty(), "{word} at read {read}");
     }
     Ok(())
 }
 
 #[test]
-fn nothing_is_read_behind_the_end(rt: HostRuntime) -> Result<(), Fail> {
+fn nothing_is_read_after_the_end(rt: HostRuntime) -> Result<(), Fail> {
     let input = "FFFF0280000082";
     for (words, want) in CALLS {
-        // The read behind the one that finds the end would fail.
+        // The read after the one that finds the end would fail.
         let reader = Tape::new(input.as_bytes(), Some(input.len() + 1));
         let run = run_program(rt.alloc(), words, reader, u64::MAX, u64::MAX)?;
         assert_eq!(rt; run.status, DONE, "for {want}");
@@ -119,14 +133,12 @@ fn nothing_is_read_behind_the_end(rt: HostRuntime) -> Result<(), Fail> {
 #[test]
 fn a_failed_write_is_told(rt: HostRuntime) -> Result<(), Fail> {
     for (words, want) in CALLS {
-        for room in [0u64, 1, 20] {
-            let reader = Tape::new(b"FFFF0280000082", None);
-            let run = run_program(rt.alloc(), words, reader, room, u64::MAX)?;
-            assert_eq!(rt; run.status, FAULT, "with room for {room} of {want}");
-            assert_eq!(rt; run.errors.taken(), b"write fault\n".as_slice());
-            assert_eq!(rt; run.output.taken().len() as u64, room);
-            assert!(rt; want.as_bytes().starts_with(run.output.taken()));
-        }
+        let reader = Tape::new(b"FFFF0280000082", None);
+        let run = run_program(rt.alloc(), words, reader, 20, u64::MAX)?;
+        assert_eq!(rt; run.status, FAULT, "for {want}");
+        assert_eq!(rt; run.errors.taken(), b"write fault\n".as_slice());
+        assert_eq!(rt; run.output.taken().len(), 20);
+        assert!(rt; want.as_bytes().starts_with(run.output.taken()));
     }
     Ok(())
 }
@@ -174,35 +186,39 @@ fn readers_and_writers_of_the_standard_library_serve(rt: HostRuntime) -> Result<
     Ok(())
 }
 
+/// Words that make no call.
+const NO_CALLS: &[&[&str]] = &[
+    &[],
+    &["frob"],
+    &[""],
+    &["--help"],
+    &["-h"],
+    &["--version"],
+    &["-V"],
+    &["dump", "--version"],
+    &["help"],
+    &["help", "answer"],
+    &["help", "dump"],
+    &["help", "encode"],
+    &["answer", "--help"],
+    &["answer", "extra"],
+    &["answer", "dump"],
+    &["dump", "--help"],
+    &["dump", "extra"],
+    &["encode", "--help"],
+    &["encode", "P", "@0"],
+    &["encode", "P", "@0", "0", "00", "extra"],
+    &["encode", "P", "@0", "0", "--preambles", "4"],
+    &["encode", "P", "@0", "0", "--preambles", "21"],
+    &["encode", "P", "@0", "0", "--preambles", "x"],
+    &["encode", "P", "@0", "0", "--preambles"],
+    &["encode", "P", "@0", "0", "--preambles=-7"],
+    &["encode", "--preambles=7", "P", "@0", "0", "--preambles=7"],
+];
+
 #[test]
 fn words_that_make_no_call_touch_no_stream(rt: HostRuntime) -> Result<(), Fail> {
-    let lines: [&[&str]; 24] = [
-        &[],
-        &["frob"],
-        &[""],
-        &["--help"],
-        &["-h"],
-        &["--version"],
-        &["help"],
-        &["help", "answer"],
-        &["help", "dump"],
-        &["help", "encode"],
-        &["answer", "--help"],
-        &["answer", "extra"],
-        &["answer", "dump"],
-        &["dump", "--help"],
-        &["dump", "extra"],
-        &["encode", "--help"],
-        &["encode", "P", "@0"],
-        &["encode", "P", "@0", "0", "00", "extra"],
-        &["encode", "P", "@0", "0", "--preambles", "4"],
-        &["encode", "P", "@0", "0", "--preambles", "21"],
-        &["encode", "P", "@0", "0", "--preambles", "x"],
-        &["encode", "P", "@0", "0", "--preambles"],
-        &["encode", "P", "@0", "0", "--preambles=-7"],
-        &["encode", "--preambles=7", "P", "@0", "0", "--preambles=7"],
-    ];
-    for words in lines {
+    for words in NO_CALLS {
         let run = run_on(rt.alloc(), words, "FFFF0280000082")?;
         assert_eq!(rt; run.status, NO_CALL);
         assert_eq!(rt; run.reads, 0);
@@ -212,47 +228,57 @@ fn words_that_make_no_call_touch_no_stream(rt: HostRuntime) -> Result<(), Fail> 
     Ok(())
 }
 
+/// Words, and how the text that clap writes for them begins and ends.
+const TEXTS: &[(&[&str], &str, &str)] = &[
+    (
+        &["frob"],
+        "error: unrecognized subcommand 'frob'\n\nUsage: hart <COMMAND>\n",
+        "\n\nFor more information, try '--help'.\n",
+    ),
+    (&["--version"], "hart 0.1.0\n", "hart 0.1.0\n"),
+    (
+        &["answer", "--help"],
+        "Answer one message as the device on the bench does.\n",
+        "05 04 00 00 00 00 37 00 37 01 31\n",
+    ),
+    (
+        &["dump", "--help"],
+        "List the messages in what was heard on a line.\n",
+        "  echo \"FF FF 02 80 00 00 82\" | hart dump\nwrites\n  2 7 STX P 0 @0 - 0 -\n",
+    ),
+    (
+        &["encode", "--help"],
+        "Write a request of a master to a device, ready to be sent.\n",
+        "  hart encode P @0 0\nwrites\n  FF FF FF FF FF 02 80 00 00 82\n",
+    ),
+];
+
 #[test]
 fn texts_of_clap_go_to_errors(rt: HostRuntime) -> Result<(), Fail> {
-    let refusal = run_on(rt.alloc(), &["frob"], "")?;
-    assert_eq!(rt;
-        refusal.errors.taken(),
-        b"error: unrecognized subcommand 'frob'\n\nUsage: hart <COMMAND>\n\nFor more information, try '--help'.\n".as_slice()
-    );
-    let examples = [
-        (
-            "answer",
-            "  echo \"FF FF FF FF FF 02 80 00 00 82\" | hart answer\nwrites\n  FF FF FF FF FF 06 80 00 18 00 00 FE 37 42 05 07 01 02 18 00 0A 1B 2C 05 04 00 00 00 00 37 00 37 01 31\n",
-        ),
-        (
-            "dump",
-            "  echo \"FF FF 02 80 00 00 82\" | hart dump\nwrites\n  2 7 STX P 0 @0 - 0 -\n",
-        ),
-        (
-            "encode",
-            "  hart encode P @0 0\nwrites\n  FF FF FF FF FF 02 80 00 00 82\n",
-        ),
-    ];
-    for (word, example) in examples {
-        let help = run_on(rt.alloc(), &[word, "--help"], "")?;
+    for (words, start, end) in TEXTS {
+        let run = run_on(rt.alloc(), words, "")?;
         assert!(rt;
-            help.errors.taken().ends_with(example.as_bytes()),
-            "of {word}"
+            run.errors.taken().starts_with(start.as_bytes()),
+            "at {start}"
         );
+        assert!(rt; run.errors.taken().ends_with(end.as_bytes()), "at {start}");
     }
     Ok(())
 }
 
+/// A word, how much room there is for errors, and the status.
+const FAILED_ERRORS: &[(&str, u64, u8)] = &[
+    ("answer", 0, FAULT),
+    ("dump", 4, FAULT),
+    ("frob", 0, NO_CALL),
+];
+
 #[test]
 fn a_failed_write_of_errors_leaves_the_status(rt: HostRuntime) -> Result<(), Fail> {
-    for (words, room, want) in [
-        (["answer"], 0, FAULT),
-        (["dump"], 4, FAULT),
-        (["frob"], 0, NO_CALL),
-    ] {
+    for (word, room, want) in FAILED_ERRORS {
         let reader = Tape::new(b"!", None);
-        let run = run_program(rt.alloc(), words.as_slice(), reader, u64::MAX, room)?;
-        assert_eq!(rt; run.status, want);
+        let run = run_program(rt.alloc(), &[*word], reader, u64::MAX, *room)?;
+        assert_eq!(rt; run.status, *want);
         assert!(rt; b"bad hex at 0\n".starts_with(run.errors.taken()));
     }
     Ok(())

@@ -22,9 +22,7 @@ impl Drip {
 }
 
 impl Source for Drip {
-    ghost remaining = { λ _. None };
-
-    ghost failures = { λ _. 0 };
+    ghost stream = { λ _. record { bytes = None; failures = 0 } };
 
     fn read(&mut self, buffer: &mut [u8]) -> Result<usize, Failed> {
         let Some(first) = buffer.first_mut() else {
@@ -62,9 +60,7 @@ impl<'a> Tape<'a> {
 }
 
 impl Source for Tape<'_> {
-    ghost remaining = { λ _. None };
-
-    ghost failures = { λ tape. tape.failures };
+    ghost stream = { λ tape. record { bytes = None; failures = tape.failures } };
 
     fn read(&mut self, buffer: &mut [u8]) -> Result<usize, Failed> {
         if self.fails_at == Some(self.reads) {
@@ -111,9 +107,7 @@ impl Trickle {
 }
 
 impl Sink for Trickle {
-    ghost written = { λ trickle. Some trickle.taken.items };
-
-    ghost failures = { λ trickle. trickle.failures };
+    ghost stream = { λ trickle. record { bytes = Some trickle.taken.items; failures = trickle.failures } };
 
     fn write(&mut self, bytes: &[u8]) -> Result<usize, Failed> {
         let Some(first) = bytes.first() else {

@@ -1,10 +1,12 @@
-use Rattle.std.proofs.Common.{inr, rules}
-use Rattle.hart_cli.proofs.DumpLemmas.{memory_told}
+use Rattle.std.proofs.Common.{List, subst}
+use Rattle.hart_frame.specs.Character.{Character}
+use Rattle.hart_cli.specs.Dump.{AreLines}
+use Rattle.hart_cli.proofs.DumpLemmas.{DumpOutcome-fault}
 use Rattle.hart_cli.proofs.dump.dump.Goals as goal
 
-pub returns-in_err-heard : goal.returns-in_err-heard
-returns-in_err-heard g c = inr (inr (record {
-  refused = memory_told _ c.from_residual-in_err-heard.ensures.1;
-  read = inr (c.in_ok-input.input.text.items, c.in_ok-input.input.end, c.in_ok-input.ensures.reads);
-  unwritten = search rules;
-}))
+pub returns-in-Some : goal.returns-in-Some
+returns-in-Some g c =
+    let wrote = c.in_ok-write_frames.ensures in
+    let Lines : List Character → Type 0 = λ chars. AreLines chars wrote.0 in
+    DumpOutcome-fault _ _ _ _ _ _ _ _ c.in-Some.fault wrote.0 c.in-Some.is c.in_ok-input.ensures.reads c.in_ok-heard.ensures
+    (subst Lines c.deref.ensures.value wrote.1) wrote.2

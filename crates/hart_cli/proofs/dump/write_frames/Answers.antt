@@ -1,5 +1,5 @@
 use Rattle.std.proofs.Common.{◌∙◌, arith}
-use Rattle.hart_cli.proofs.DumpLemmas.{AreLines-written, FirstLines-unbuilt, FirstLines-unwritten, LinesSoFar-more, LinesSoFar-none, memory_told}
+use Rattle.hart_cli.proofs.DumpLemmas.{AreLines-unwritten, AreLines-written, LinesSoFar-more, LinesSoFar-none}
 use Rattle.hart_cli.proofs.dump.write_frames.Goals as goal
 
 pub loop-found-init : goal.loop-found-init
@@ -11,16 +11,12 @@ loop-found-smaller g c = omega (arith, c.in-Some.ensures.start, c.in-Some.ensure
 pub loop-found-preserved : goal.loop-found-preserved
 loop-found-preserved g c =
     LinesSoFar-more _ _ _ _ _ c.in-Some.found _ c.loop-found.invariant c.in-Some.ensures.first
-    (c.as_bytes.ensures.value ∙ c.in_ok-line.ensures) (c.in-Ok.ensures.ok, c.in-Ok.ensures.count)
+    (c.as_slice.ensures.value ∙ c.frame_line.ensures) c.in_ok-write_all.ensures
 
-pub returns-in_err-line-clause-first : goal.returns-in_err-line-clause-first
-returns-in_err-line-clause-first g c =
-    rw (memory_told _ c.from_residual.ensures.1) (FirstLines-unbuilt c.every_list_has_frames.ensures _ _ _ _ c.in-Some.found c.loop-found.invariant c.in-Some.ensures.first)
+pub returns-in_err-write_all : goal.returns-in_err-write_all
+returns-in_err-write_all g c =
+    AreLines-unwritten c.every_list_has_frames.ensures _ _ _ _ _ c.in-Some.found _ _ _ c.loop-found.invariant c.in-Some.ensures.first
+    (c.as_slice.ensures.value ∙ c.frame_line.ensures) c.in_err-write_all.ensures c.from_residual.ensures.1
 
-pub returns-in_default-write_all-clause-first : goal.returns-in_default-write_all-clause-first
-returns-in_default-write_all-clause-first g c =
-    FirstLines-unwritten c.every_list_has_frames.ensures _ _ _ _ _ c.in-Some.found _ c.loop-found.invariant c.in-Some.ensures.first
-    (c.as_bytes.ensures.value ∙ c.in_ok-line.ensures) (c.in_default-write_all.ensures.err, c.in_default-write_all.ensures.count)
-
-pub returns-clause-all : goal.returns-clause-all
-returns-clause-all g c = AreLines-written _ _ _ _ c.loop-found.invariant c.in_default.ensures.first
+pub returns : goal.returns
+returns g c = AreLines-written _ _ _ _ c.loop-found.invariant c.in_default.ensures.first

@@ -4,8 +4,8 @@ use Rattle.hart_cli.proofs.dump.write_frames.Given as goal
 
 abbrev pub invariant-loop-found : goal.invariant-loop-found
 invariant-loop-found g l = LinesSoFar l.chars l.place
-    (record { bytes = g.W.Sink.written l.initial.writer; failures = g.W.Sink.failures l.initial.writer })
-    (record { bytes = g.W.Sink.written l.writer; failures = g.W.Sink.failures l.writer })
+    (g.W.Sink.stream l.initial.writer)
+    (g.W.Sink.stream l.writer)
 
 abbrev pub decreases-loop-found : goal.decreases-loop-found
 decreases-loop-found g l = length l.chars - l.place

@@ -1,4 +1,5 @@
-use Rattle.std.proofs.Common.{◌≡◌, ◌≤◌, ◌<◌, ◌+◌, ◌-◌, ℕ, List, ◌++◌, length, take, drop, Result, Ok, Err, OnErr, sym, ap, ◌∙◌, subst, arith, append_assoc, length-append, length-drop, length-take, take-take}
+use Rattle.std.proofs.Common.{◌≡◌, ◌≤◌, ◌<◌, ◌+◌, ◌-◌, ℕ, List, ◌++◌, length, take, drop, Result, Ok, Err, OnErr, sym, ap, ◌∙◌, subst}
+use Rattle.std.proofs.Common.{arith, append_assoc, length-append, length-drop, length-take, take-take}
 use Rattle.std.proofs.lemmas.List.{take-append-drop, length-take-le}
 use Rattle.std.specs.Io.KnownBytes.{Consumes}
 use Rattle.hart_cli.specs.Input.{LacksMemory, input_limit, most_beyond, ReadsPastLimit, ReadsWell}
@@ -47,7 +48,7 @@ lacks_memory (Err x) a b c text bytes given h k within soon =
 pub returns-in_err-extend_from_slice-clause-lacks_memory : goal.returns-in_err-extend_from_slice-clause-lacks_memory
 returns-in_err-extend_from_slice-clause-lacks_memory g c =
     lacks_memory _ _
-    (record { bytes = g.R.Source.remaining c.loop-given.reader; failures = g.R.Source.failures c.loop-given.reader })
+    (g.R.Source.stream c.loop-given.reader)
     _ c.loop-given.text.items c.read.new.buffer c.in-Ok.given
     (c.loop-given.invariant.consumed, c.loop-given.invariant.same_failures)
     (c.in-Ok.ensures.bytes.0, c.in-Ok.ensures.count) (omega (arith, c.loop-given.text.ok.0)) (omega arith)
@@ -55,7 +56,7 @@ returns-in_err-extend_from_slice-clause-lacks_memory g c =
 pub returns-in_err-extend_from_slice-2-clause-lacks_memory : goal.returns-in_err-extend_from_slice-2-clause-lacks_memory
 returns-in_err-extend_from_slice-2-clause-lacks_memory g c =
     lacks_memory _ _
-    (record { bytes = g.R.Source.remaining c.loop-given.reader; failures = g.R.Source.failures c.loop-given.reader })
+    (g.R.Source.stream c.loop-given.reader)
     _ c.loop-given.text.items c.read.new.buffer c.in-Ok.given
     (c.loop-given.invariant.consumed, c.loop-given.invariant.same_failures)
     (c.in-Ok.ensures.bytes.0, c.in-Ok.ensures.count) (omega (arith, c.loop-given.text.ok.0)) (omega arith)
@@ -63,7 +64,7 @@ returns-in_err-extend_from_slice-2-clause-lacks_memory g c =
 pub returns-then-given-room-clause-reads : goal.returns-then-given-room-clause-reads
 returns-then-given-room-clause-reads g c =
     past_limit _
-    (record { bytes = g.R.Source.remaining c.loop-given.reader; failures = g.R.Source.failures c.loop-given.reader })
+    (g.R.Source.stream c.loop-given.reader)
     _ c.loop-given.text.items c.read.new.buffer _ c.in-Ok.given (input_limit - c.len-room.result)
     (c.loop-given.invariant.consumed, c.loop-given.invariant.same_failures)
     (c.in-Ok.ensures.bytes.0, c.in-Ok.ensures.count) (omega (arith, c.loop-given.text.ok.0)) (omega arith)

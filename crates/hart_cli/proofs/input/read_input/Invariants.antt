@@ -5,10 +5,10 @@ use Rattle.hart_cli.proofs.input.read_input.Given as goal
 
 abbrev pub invariant-loop-given : goal.invariant-loop-given
 invariant-loop-given g l = record {
-  consumed : Consumes (g.R.Source.remaining l.initial.reader) (g.R.Source.remaining l.reader) l.text.items;
+  consumed : Consumes (g.R.Source.stream l.initial.reader).bytes (g.R.Source.stream l.reader).bytes l.text.items;
   within : vec_len l.text ≤ INPUT_LIMIT;
   buffer_length : length l.buffer ≡ BUFFER_LEN;
-  same_failures : g.R.Source.failures l.reader ≡ g.R.Source.failures l.initial.reader;
+  same_failures : (g.R.Source.stream l.reader).failures ≡ (g.R.Source.stream l.initial.reader).failures;
 }
 
 abbrev pub decreases-loop-given : goal.decreases-loop-given

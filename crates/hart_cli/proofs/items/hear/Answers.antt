@@ -1,4 +1,5 @@
-use Rattle.std.proofs.Common.{◌≡◌, ℕ, ◌≤◌, ◌-◌, List, [], ◌∷◌, length, take, drop, Option, Some, None, Bool, true, false, Vec, Global, refl, sym, ap, ◌∙◌, subst, arith}
+use Rattle.std.proofs.Common.{◌≡◌, ℕ, ◌≤◌, ◌-◌, List, [], ◌∷◌, length, take, drop, Option, Some, None, Bool, true, false, Vec, Global}
+use Rattle.std.proofs.Common.{refl, sym, ap, ◌∙◌, subst, arith}
 use Rattle.std.proofs.lemmas.List.{take_rest}
 use Rattle.std.specs.Bool.{◌==◌}
 use Rattle.std.proofs.lemmas.Bool.{eqb-true, iff_false}
@@ -12,7 +13,8 @@ use Rattle.hart_cli.specs.declared.fault.CliFault.TheVariants as faults
 use Rattle.hart_cli.specs.declared.input.InputEnd.{InputEnd}
 use Rattle.hart_cli.specs.declared.input.InputEnd.TheVariants as ends
 use Rattle.hart_cli.proofs.HearingLemmas.{bad_hex_from, decided_from}
-use Rattle.hart_cli.proofs.items.hear.Goals.{then-eq+in_ok-push, else-eq, in-Ended, in-Failed, in-TooLong, in_default, in_default-2, in_default-3}
+use Rattle.hart_cli.proofs.items.hear.Goals.{then-eq+in_ok-push, else-eq, in-Ended, in-Failed, in-TooLong, in_default, in_default-2}
+use Rattle.hart_cli.proofs.items.hear.Goals.{in_default-3}
 use Rattle.hart_cli.proofs.items.hear.Goals as goal
 
 -- a hearing at an end and a fault that are known by equations
@@ -96,7 +98,9 @@ returns c =
       | in_default w ↦ hears_at _ _ _ _ _ _ w.in-Ended.is w.fault-is
           ((at_end w.in-Ended.is).bad (something_left _ _ w.is_empty.ensures w.if-is_empty.false))
       | in_default-2 w ↦ hears_at _ _ _ _ _ _ w.in-Failed.is w.fault-is
-          (bad_hex_before_failure _ _ ((at_failure w.in-Failed.is).decided (λ may. iff_false c.may_begin-is_open.ensures w.if-is_open.false may)))
+          (bad_hex_before_failure _ _
+          ((at_failure w.in-Failed.is).decided (λ may. iff_false c.may_begin-is_open.ensures w.if-is_open.false may)))
       | in_default-3 w ↦ hears_at _ _ _ _ _ _ w.in-TooLong.is w.fault-is
-          (bad_hex_within_limit _ _ ((at_limit w.in-TooLong.is).decided (λ may. iff_false c.may_begin-is_open.ensures w.if-is_open-2.false may)))
+          (bad_hex_within_limit _ _
+          ((at_limit w.in-TooLong.is).decided (λ may. iff_false c.may_begin-is_open.ensures w.if-is_open-2.false may)))
     ]

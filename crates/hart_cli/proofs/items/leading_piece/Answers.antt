@@ -17,7 +17,8 @@ begins_as_separator (x ∷ text) some s = record {
 
 -- a faultless item begins a text
 begins_as_item : (text : List ℕ) (char : Character) (byte : ℕ) → 3 ≤ length text → AreDigits (get_or text 0 0) (get_or text 1 0)
-    → byte ≡ byte_of (get_or text 0 0) (get_or text 1 0) → get_or text 2 0 ≢ 33 → char ≡ record { byte = byte; faults = 0 } → BeginsAs text (Some char) 2
+    → byte ≡ byte_of (get_or text 0 0) (get_or text 1 0) → get_or text 2 0 ≢ 33 → char ≡ record { byte = byte; faults = 0 }
+    → BeginsAs text (Some char) 2
 begins_as_item [] char byte some d b n e = absurd (omega arith)
 begins_as_item (x ∷ []) char byte some d b n e = absurd (omega arith)
 begins_as_item (x ∷ y ∷ []) char byte some d b n e = absurd (omega arith)
@@ -66,7 +67,8 @@ no_piece_begins text s m f (FaultyItem x y v w) [] h = absurd (h.whole refl)
 no_piece_begins text s m f (FaultyItem x y v w) (u ∷ tail) h =
     let e = h.spelled in
     let long : 6 ≤ length text = subst (λ (xs : List ℕ). 6 ≤ length xs) (sym e) (omega arith) in
-    let g : (xs : List ℕ) → xs ≡ x ∷ y ∷ 33 ∷ v ∷ w ∷ u ∷ tail → AreDigits (get_or xs 3 0) (get_or xs 4 0) = λ xs k. subst (λ (zs : List ℕ). AreDigits (get_or zs 3 0) (get_or zs 4 0)) (sym k) h.valid.1 in
+    let g : (xs : List ℕ) → xs ≡ x ∷ y ∷ 33 ∷ v ∷ w ∷ u ∷ tail → AreDigits (get_or xs 3 0) (get_or xs 4 0) =
+    λ xs k. subst (λ (zs : List ℕ). AreDigits (get_or zs 3 0) (get_or zs 4 0)) (sym k) h.valid.1 in
     f long (g text e)
     (subst (λ (zs : List ℕ). byte_of (get_or zs 3 0) (get_or zs 4 0) ≢ 0) (sym e) h.valid.2)
     (subst (λ (zs : List ℕ). AreFaultBits (byte_of (get_or zs 3 0) (get_or zs 4 0))) (sym e) h.valid.3)
@@ -78,35 +80,41 @@ returns-then-is_separator c =
 
 pub returns-then-next-ne33 : goal.returns-then-next-ne33
 returns-then-next-ne33 c =
-    begins_as_item _ _ _ c.in-len3-up.len_at_least c.in_ok-byte.ensures.0 c.in_ok-byte.ensures.1 c.if-next-ne33.true c.in_ok-char.ensures.kept
+    begins_as_item _ _ _ c.in-len3-up.len_at_least c.in_ok-byte.ensures.0 c.in_ok-byte.ensures.1 c.if-next-ne33.true
+    c.in_ok-char.ensures.kept
 
 pub returns : goal.returns
 returns c =
     begins_as_faulty _ _ _ _ c.in-len6-up.len_at_least c.in_ok-byte.ensures.0 c.in_ok-byte.ensures.1 c.if-next-ne33.false
-    c.in_ok-faults.ensures.0 c.in_ok-faults.ensures.1 c.if-faults-eq0.false (c.in_ok-char-2.ensures.accepted.0 refl) c.in_ok-char-2.ensures.kept
+    c.in_ok-faults.ensures.0 c.in_ok-faults.ensures.1 c.if-faults-eq0.false
+    (c.in_ok-char-2.ensures.accepted.0 refl) c.in_ok-char-2.ensures.kept
 
 pub returns-in_default-text : goal.returns-in_default-text
 returns-in_default-text c =
     let found = c.in_ok-first.ensures.item.3 in
-    no_piece_begins _ (λ s. iff_false c.is_separator.ensures c.if-is_separator.false (subst IsSeparator (sym (found.1 0)) s)) c.if-next-ne33.false
+    no_piece_begins _ (λ s. iff_false c.is_separator.ensures c.if-is_separator.false (subst IsSeparator (sym (found.1 0)) s))
+    c.if-next-ne33.false
     (λ long d z a. omega arith)
 
 pub returns-in_err-faults : goal.returns-in_err-faults
 returns-in_err-faults c =
     let found = c.in_ok-first.ensures.item.3 in
     rw (c.from_residual-in_err-faults.ensures)
-    (no_piece_begins _ (λ s. iff_false c.is_separator.ensures c.if-is_separator.false (subst IsSeparator (sym (found.1 0)) s)) c.if-next-ne33.false
+    (no_piece_begins _ (λ s. iff_false c.is_separator.ensures c.if-is_separator.false (subst IsSeparator (sym (found.1 0)) s))
+    c.if-next-ne33.false
     (λ long d z a. c.in_err-faults.ensures d))
 
 pub returns-then-faults-eq0 : goal.returns-then-faults-eq0
 returns-then-faults-eq0 c =
     let found = c.in_ok-first.ensures.item.3 in
-    no_piece_begins _ (λ s. iff_false c.is_separator.ensures c.if-is_separator.false (subst IsSeparator (sym (found.1 0)) s)) c.if-next-ne33.false
+    no_piece_begins _ (λ s. iff_false c.is_separator.ensures c.if-is_separator.false (subst IsSeparator (sym (found.1 0)) s))
+    c.if-next-ne33.false
     (λ long d z a. z (sym c.in_ok-faults.ensures.1 ∙ c.if-faults-eq0.true))
 
 pub returns-in_err-char-2 : goal.returns-in_err-char-2
 returns-in_err-char-2 c =
     let found = c.in_ok-first.ensures.item.3 in
     rw (c.from_residual-in_err-char-2.ensures)
-    (no_piece_begins _ (λ s. iff_false c.is_separator.ensures c.if-is_separator.false (subst IsSeparator (sym (found.1 0)) s)) c.if-next-ne33.false
+    (no_piece_begins _ (λ s. iff_false c.is_separator.ensures c.if-is_separator.false (subst IsSeparator (sym (found.1 0)) s))
+    c.if-next-ne33.false
     (λ long d z a. let k = c.in_err-char-2.ensures.accepted.1 (subst AreFaultBits (sym c.in_ok-faults.ensures.1) a) in cc k))

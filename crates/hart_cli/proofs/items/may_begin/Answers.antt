@@ -1,7 +1,9 @@
-use Rattle.std.proofs.Common.{◌≡◌, ◌≢◌, inl, inr, ℕ, zero, suc, ◌+◌, ◌*◌, ◌<◌, List, [], ◌∷◌, ◌++◌, length, drop, Option, Some, None, Bool, true, false, is_some, IsTrue, MatchOption, refl, sym, ap, ◌∙◌, subst, arith}
+use Rattle.std.proofs.Common.{◌≡◌, ◌≢◌, inl, inr, ℕ, zero, suc, ◌+◌, ◌*◌, ◌<◌, List, [], ◌∷◌, ◌++◌, length, drop, Option, Some, None}
+use Rattle.std.proofs.Common.{Bool, true, false, is_some, IsTrue, MatchOption, refl, sym, ap, ◌∙◌, subst, arith}
 use Rattle.std.specs.Int.{bit_at}
 use Rattle.hart_frame.specs.Character.{AreFaultBits, IsFaultBit}
-use Rattle.hart_cli.specs.Items.{AreDigits, BeginsAs, BeginsWith, byte_of, FaultyItem, hex_value, Item, MayBegin, NoPieceBegins, Piece, Separator, spelling}
+use Rattle.hart_cli.specs.Items.{AreDigits, BeginsAs, BeginsWith, byte_of, FaultyItem, hex_value, Item, MayBegin, NoPieceBegins, Piece}
+use Rattle.hart_cli.specs.Items.{Separator, spelling}
 use Rattle.hart_cli.specs.declared.items.Lead.{Lead}
 use Rattle.hex.specs.Hex.{is_hex_digit}
 use Rattle.hart_cli.proofs.items.may_begin.Goals as goal
@@ -67,7 +69,8 @@ stands_already (a ∷ b ∷ c ∷ d ∷ f ∷ z ∷ text) more tail (FaultyItem 
     n (FaultyItem x y v w) (z ∷ text) (record { valid = h.valid; spelled = cc; whole = λ k. cc k })
 
 -- a separator stands at the front of a text already
-separator_stands : (a : ℕ) (text more tail : List ℕ) (x : ℕ) → BeginsWith ((a ∷ text) ++ more) (Separator x) tail → NoPieceBegins (a ∷ text) → ⊥
+separator_stands : (a : ℕ) (text more tail : List ℕ) (x : ℕ) → BeginsWith ((a ∷ text) ++ more) (Separator x) tail
+    → NoPieceBegins (a ∷ text) → ⊥
 separator_stands a text more tail x h n =
     let e = h.spelled in
     let same : a ≡ x = cc in
@@ -77,7 +80,12 @@ separator_stands a text more tail x h n =
 begins_filled : (text : List ℕ) (x y : ℕ) → AreDigits x y → text ≡ x ∷ y ∷ 33 ∷ 48 ∷ 50 ∷ 32 ∷ [] → NoPieceBegins text → ⊥
 begins_filled text x y d e n =
     n (FaultyItem x y 48 50) (32 ∷ []) (record {
-      valid = (d, (refl, refl), omega arith, two_fits 0 2 (record { byte = omega arith; only = λ bit below set. sets_fault_bits 0 bit (omega arith) below set }));
+      valid = (
+        d,
+        (refl, refl),
+        omega arith,
+        two_fits 0 2 (record { byte = omega arith; only = λ bit below set. sets_fault_bits 0 bit (omega arith) below set }),
+      );
       spelled = e;
       whole = λ k. cc k;
     })
@@ -93,7 +101,8 @@ begins_faulty text x y v w d f z a e n =
     n (FaultyItem x y v w) (32 ∷ []) (record { valid = (d, f, z, a); spelled = e; whole = λ k. cc k })
 
 -- what some bytes complete, these do
-filled : (text more tail : List ℕ) (p : Piece) → NoPieceBegins text → BeginsWith (text ++ more) p tail → NoPieceBegins (text ++ filling text) → ⊥
+filled : (text more tail : List ℕ) (p : Piece) → NoPieceBegins text → BeginsWith (text ++ more) p tail
+    → NoPieceBegins (text ++ filling text) → ⊥
 filled [] more tail p n h m = begins_filled _ 48 48 (refl, refl) refl m
 filled (a ∷ text) more tail (Separator x) n h m = separator_stands a text more tail x h n
 filled (a ∷ []) more tail (Item x y) n h m =

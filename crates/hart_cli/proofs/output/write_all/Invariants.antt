@@ -4,8 +4,8 @@ use Rattle.hart_cli.proofs.output.write_all.Given as goal
 
 abbrev pub invariant-loop-rest : goal.invariant-loop-rest
 invariant-loop-rest g l =
-    AppendsUpTo (g.W.Sink.written l.initial.writer) (g.W.Sink.written l.writer) l.text l.rest
-    × (g.W.Sink.failures l.writer ≡ g.W.Sink.failures l.initial.writer)
+    AppendsUpTo (g.W.Sink.stream l.initial.writer).bytes (g.W.Sink.stream l.writer).bytes l.text l.rest
+    × ((g.W.Sink.stream l.writer).failures ≡ (g.W.Sink.stream l.initial.writer).failures)
 
 abbrev pub decreases-loop-rest : goal.decreases-loop-rest
 decreases-loop-rest g l = length l.rest

@@ -14,12 +14,15 @@ local c a is plain = (plain_fields c (ap (λ (a : App). a.top.is_plain) is ∙ p
 pub returns : goal.returns
 returns c =
     let bare : app_of c.about.result ≡ new_app (codes "hart") = ap app_of_fields c.about.ensures ∙ c.new.ensures.app in
-    let helped : app_of c.after_help.result ≡ new_app (codes "hart") = ap app_of_fields c.after_help.ensures ∙ bare in
+    let told = ap app_of_fields c.version.ensures ∙ ap (on_top (λ s. record s { has_version = true })) bare in
+    let helped = ap app_of_fields c.after_help.ensures ∙ told in
     let unnamed = ap app_of_fields c.no_binary_name.ensures ∙ ap (on_top (λ s. record s { no_binary_name = true })) helped in
     let required = ap app_of_fields c.subcommand_required.ensures ∙ ap (on_top (λ s. record s { subcommand_required = true })) unnamed in
     let top = ap app_of_fields c.arg_required_else_help.ensures ∙ ap (on_top (λ s. record s { arg_required_else_help = true })) required in
-    let one = c.in_ok-subcommand.ensures.shape (local _ _ c.plain_command.ensures refl) ∙ ap₂ with_subcommand top (ap (λ (a : App). a.top) c.plain_command.ensures) in
-    let two = c.in_ok-subcommand-2.ensures.shape (local _ _ c.plain_command-2.ensures refl) ∙ ap₂ with_subcommand one (ap (λ (a : App). a.top) c.plain_command-2.ensures) in
+    let one = c.in_ok-subcommand.ensures.shape (local _ _ c.plain_command.ensures refl)
+    ∙ ap₂ with_subcommand top (ap (λ (a : App). a.top) c.plain_command.ensures) in
+    let two = c.in_ok-subcommand-2.ensures.shape (local _ _ c.plain_command-2.ensures refl)
+    ∙ ap₂ with_subcommand one (ap (λ (a : App). a.top) c.plain_command-2.ensures) in
     let encode = c.in_ok-encode_command.ensures in
     let three = c.in_ok-hart.ensures.shape (local _ _ encode refl) ∙ ap₂ with_subcommand two (ap (λ (a : App). a.top) encode) in
     IfOk-weaker c.bin_name.result _ _ (λ command given. ap app_of_fields given.0 ∙ three) c.bin_name.ensures

@@ -13,9 +13,12 @@ with_parser a b p others is = ap rule_of others ∙ ap (λ o. record (rule_of a)
 
 pub returns-clause-rule : goal.returns-clause-rule
 returns-clause-rule c =
-    let narrowed : c.range.result ≡ Signed (pos 5) (pos 20) = rw (c.value_parser.ensures, c.new-2.ensures.start, c.new-2.ensures.end) at c.range.ensures in
+    let narrowed : c.range.result ≡ Signed (pos 5) (pos 20) =
+    rw (c.value_parser.ensures, c.new-2.ensures.start, c.new-2.ensures.end, c.from.ensures, c.from-2.ensures) at c.range.ensures in
     let given = c.value_parser-2.ensures.given in
-    let parser_is = with_parser c.value_name.result c.value_parser-2.result _ c.value_parser-2.ensures.others (given.1 ∙ ap (λ (q : ValueParser). Some q) (given.2 ∙ narrowed)) in
-    let named_is : rule_of c.value_name.result ≡ record (new_rule (codes "preambles")) { long = Some (codes "preambles"); value_names = 1 } = search rules in
+    let parser_is = with_parser c.value_name.result c.value_parser-2.result _ c.value_parser-2.ensures.others
+    (given.1 ∙ ap (λ (q : ValueParser). Some q) (given.2 ∙ narrowed)) in
+    let named_is : rule_of c.value_name.result ≡
+    record (new_rule (codes "preambles")) { long = Some (codes "preambles"); value_names = 1 } = search rules in
     ap rule_of c.help.ensures ∙ ap rule_of c.default_value.ensures ∙ ap (λ (r : Rule). record r { defaults = codes "5" ∷ [] }) parser_is
     ∙ ap (λ (r : Rule). record r { parser = Some (Signed (pos 5) (pos 20)); defaults = codes "5" ∷ [] }) named_is

@@ -25,11 +25,13 @@ pub returns-in-encode-clause-call : goal.returns-in-encode-clause-call
 returns-in-encode-clause-call c =
     let matched = c.in_ok-matches.ensures in
     let meets = meets_call _ (map string_bytes c.args.words.now) _ c.in_ok-hart_command.ensures matched.kinds matched.matches in
-    call_named _ _ (Encode _ _) _ _ meets (met_by_words _ _ _ _ meets c.in-Some.ensures.name c.in-Some.ensures.rows) c.in-encode.is c.encode_words.ensures
+    call_named _ _ (Encode _ _) _ _ meets (met_by_words _ _ _ _ meets c.in-Some.ensures.name c.in-Some.ensures.rows) c.in-encode.is
+    c.encode_words.ensures
 
 pub unreachable-requires-in_default-name : goal.unreachable-requires-in_default-name
 unreachable-requires-in_default-name c =
     let matched = c.in_ok-matches.ensures in
     let meets = meets_call _ (map string_bytes c.args.words.now) _ c.in_ok-hart_command.ensures matched.kinds matched.matches in
-    no_other_entered _ _ _ meets.enters (met_by_words _ _ _ _ meets c.in-Some.ensures.name c.in-Some.ensures.rows) c.in_default-name.not-answer
+    no_other_entered _ _ _ meets.enters (met_by_words _ _ _ _ meets c.in-Some.ensures.name c.in-Some.ensures.rows)
+    c.in_default-name.not-answer
     c.in_default-name.not-dump c.in_default-name.not-encode
