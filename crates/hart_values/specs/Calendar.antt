@@ -1,6 +1,7 @@
 -- Dates in three bytes: the day, the month, and the year less 1900 (HCF_SPEC-127). That three zeros are
 -- a date, "not set", and that a day must be one of the calendar, is of the own profile.
-use Rattle.std.specs.Prelude.{◌≡◌, ℕ, ◌+◌, ◌-◌, ◌%◌, ◌<◌, ◌≤◌, ◌⊎◌, ◌==◌, ◌&&◌, ◌||◌, not, nat_le, nat_lt, Bool, false, if◌then◌else◌, List, [], ◌∷◌, length, slice_index}
+use Rattle.std.specs.Prelude.{◌≡◌, ℕ, ◌+◌, ◌-◌, ◌%◌, ◌<◌, ◌≤◌, ◌⊎◌, List, [], ◌∷◌, length, slice_index}
+use Rattle.std.specs.Prelude.{Bool, false, not, ◌==◌, ◌&&◌, ◌||◌, nat_le, nat_lt, if◌then◌else◌}
 
 -- A year is a leap year where it is divisible by 4 and not by 100, or by 400.
 abbrev pub is_leap_year : ℕ → Bool
