@@ -184,7 +184,7 @@ content-told command bytes =
     by_test _ _ _ _ (λ t. having-told 2 Counter bytes (IsTold command) (λ xs long. (is_one command 38 t, long))) (λ f.
     by_test _ (more_reading bytes) None (IsTold command) (λ t. rw (is_one command 48 t) (more-told bytes)) (λ f. tt))))))))))))))
 
--- a reply_reading, where it gives a reply, gives a well-made one to this command
+-- a reading, where it gives a reply, gives a well-made one to this command
 pub reading-told : (command : ℕ) (payload : List ℕ)
     → IfSome (reply_reading command payload) (λ reply. IsReply reply × (reply.command ≡ command))
 reading-told command [] = tt

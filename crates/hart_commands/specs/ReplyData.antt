@@ -135,7 +135,7 @@ content_bytes (Counter counter) = counter
 content_bytes (More status) = status
 content_bytes Refused = []
 
--- The reply_payload payload of a reply is its response code, its device status and the data of its content.
+-- The payload of a reply is its response code, its device status and the data of its content.
 abbrev pub reply_payload : Reply → List ℕ
 reply_payload reply = reply.code ∷ reply.status.0 ∷ content_bytes reply.content
 
