@@ -1,0 +1,101 @@
+-- The registers that lists of overwrites leave.
+use Rattle.std.proofs.Common.{◌≡◌, ℕ, ◌<◌, zero, suc, ap, ◌∙◌, sym, refl, subst, arith, Option, None, Some, List, [], ◌∷◌, ◌++◌, length, unwrap_or}
+use Rattle.std.specs.List.{Contains, slice_index_or}
+use Rattle.std.specs.Option.{option_or}
+use Rattle.hart_commands.specs.Registers.{Contents, NamedBytes, bytes_in, each_register, named_in, overwritten, last_named, registers_of}
+use Rattle.hart_commands.specs.declared.register.Register.{Register}
+use Rattle.hart_commands.specs.declared.register.Register.TheVariants.{Polling, Mode, Message, Tag, Descriptor, Date, Assembly}
+
+pub bytes_in-each_register : (bytes : Register → List ℕ) (register : Register) → bytes_in (each_register bytes) register ≡ bytes register
+bytes_in-each_register bytes Polling = refl
+bytes_in-each_register bytes Mode = refl
+bytes_in-each_register bytes Message = refl
+bytes_in-each_register bytes Tag = refl
+bytes_in-each_register bytes Descriptor = refl
+bytes_in-each_register bytes Date = refl
+bytes_in-each_register bytes Assembly = refl
+
+-- Contents are told by the bytes of each register.
+pub contents-each_register : (contents : Contents) (bytes : Register → List ℕ)
+    → ((register : Register) → bytes_in contents register ≡ bytes register) → contents ≡ each_register bytes
+contents-each_register contents bytes same =
+    ap (λ xs. let c : Contents = record { polling = xs; mode = contents.mode; message = contents.message; tag = contents.tag; descriptor = contents.descriptor; date = contents.date; assembly = contents.assembly } in c) (same Polling)
+    ∙ ap (λ xs. let c : Contents = record { polling = bytes Polling; mode = xs; message = contents.message; tag = contents.tag; descriptor = contents.descriptor; date = contents.date; assembly = contents.assembly } in c) (same Mode)
+    ∙ ap (λ xs. let c : Contents = record { polling = bytes Polling; mode = bytes Mode; message = xs; tag = contents.tag; descriptor = contents.descriptor; date = contents.date; assembly = contents.assembly } in c) (same Message)
+    ∙ ap (λ xs. let c : Contents = record { polling = bytes Polling; mode = bytes Mode; message = bytes Message; tag = xs; descriptor = contents.descriptor; date = contents.date; assembly = contents.assembly } in c) (same Tag)
+    ∙ ap (λ xs. let c : Contents = record { polling = bytes Polling; mode = bytes Mode; message = bytes Message; tag = bytes Tag; descriptor = xs; date = contents.date; assembly = contents.assembly } in c) (same Descriptor)
+    ∙ ap (λ xs. let c : Contents = record { polling = bytes Polling; mode = bytes Mode; message = bytes Message; tag = bytes Tag; descriptor = bytes Descriptor; date = xs; assembly = contents.assembly } in c) (same Date)
+    ∙ ap (λ xs. let c : Contents = record { polling = bytes Polling; mode = bytes Mode; message = bytes Message; tag = bytes Tag; descriptor = bytes Descriptor; date = bytes Date; assembly = xs } in c) (same Assembly)
+
+pub same_bytes : (f g : Register → List ℕ) → ((register : Register) → f register ≡ g register) → each_register f ≡ each_register g
+same_bytes f g same = contents-each_register (each_register f) g (λ register. bytes_in-each_register f register ∙ same register)
+
+-- After an overwrite a register holds the bytes that it names, or what it held.
+pub bytes_in-overwritten : (overwrite : NamedBytes) (old : Contents) (register : Register)
+    → bytes_in (overwritten overwrite old) register ≡ unwrap_or (named_in overwrite register) (bytes_in old register)
+bytes_in-overwritten overwrite old = bytes_in-each_register (λ register. unwrap_or (named_in overwrite register) (bytes_in old register))
+
+pub bytes_in-registers_of : (overwrites : List NamedBytes) (initial : Contents) (register : Register)
+    → bytes_in (registers_of overwrites initial) register ≡ unwrap_or (last_named overwrites register) (bytes_in initial register)
+bytes_in-registers_of overwrites initial = bytes_in-each_register (λ register. unwrap_or (last_named overwrites register) (bytes_in initial register))
+
+pub unwrap_or-option_or : {A : Type 0} (a b : Option A) (d : A) → unwrap_or (option_or a b) d ≡ unwrap_or a (unwrap_or b d)
+unwrap_or-option_or None b d = refl
+unwrap_or-option_or (Some x) b d = refl
+
+pub option_or-None : {A : Type 0} (a : Option A) → option_or a None ≡ a
+option_or-None None = refl
+option_or-None (Some x) = refl
+
+pub option_or-assoc : {A : Type 0} (a b c : Option A) → option_or (option_or a b) c ≡ option_or a (option_or b c)
+option_or-assoc None b c = refl
+option_or-assoc (Some x) b c = refl
+
+-- A new overwrite comes last.
+pub last_named-append : (overwrites : List NamedBytes) (overwrite : NamedBytes) (register : Register)
+    → last_named (overwrites ++ overwrite ∷ []) register ≡ option_or (named_in overwrite register) (last_named overwrites register)
+last_named-append [] overwrite register = sym (option_or-None (named_in overwrite register))
+last_named-append (o ∷ os) overwrite register =
+    ap (λ x. option_or x (named_in o register)) (last_named-append os overwrite register)
+    ∙ option_or-assoc (named_in overwrite register) (last_named os register) (named_in o register)
+
+-- One that comes again later changes nothing.
+pub last_named-again : (later : List NamedBytes) (overwrite : NamedBytes) (register : Register) (k : ℕ)
+    → k < length later → slice_index_or later k overwrite ≡ overwrite
+    → option_or (last_named later register) (named_in overwrite register) ≡ last_named later register
+last_named-again [] overwrite register k within there = absurd (omega arith)
+last_named-again (o ∷ os) overwrite register zero within there =
+    subst (λ (x : NamedBytes). option_or (option_or (last_named os register) (named_in x register)) (named_in overwrite register)
+    ≡ option_or (last_named os register) (named_in x register)) (sym there)
+    (option_or-assoc (last_named os register) (named_in overwrite register) (named_in overwrite register)
+    ∙ ap (option_or (last_named os register)) (twice (named_in overwrite register)))
+  where
+    twice : {A : Type 0} (a : Option A) → option_or a a ≡ a
+    twice None = refl
+    twice (Some x) = refl
+last_named-again (o ∷ os) overwrite register (suc k) within there =
+    let earlier = last_named-again os overwrite register k (omega arith) there in
+    again_below (last_named os register) (named_in overwrite register) (named_in o register) earlier
+  where
+    again_below : {A : Type 0} (a b c : Option A) → option_or a b ≡ a → option_or (option_or a c) b ≡ option_or a c
+    again_below None None c h = option_or-None c
+    again_below None (Some x) c h = cc
+    again_below (Some x) b c h = refl
+
+pub registers_of-cons : (overwrite : NamedBytes) (later : List NamedBytes) (initial : Contents)
+    → registers_of (overwrite ∷ later) initial ≡ registers_of later (overwritten overwrite initial)
+registers_of-cons overwrite later initial = same_bytes _ _ (λ register.
+    unwrap_or-option_or (last_named later register) (named_in overwrite register) (bytes_in initial register)
+    ∙ ap (unwrap_or (last_named later register)) (sym (bytes_in-overwritten overwrite initial register)))
+
+pub registers_of-append : (overwrites : List NamedBytes) (overwrite : NamedBytes) (initial : Contents)
+    → registers_of (overwrites ++ overwrite ∷ []) initial ≡ overwritten overwrite (registers_of overwrites initial)
+registers_of-append overwrites overwrite initial = same_bytes _ _ (λ register.
+    ap (λ x. unwrap_or x (bytes_in initial register)) (last_named-append overwrites overwrite register)
+    ∙ unwrap_or-option_or (named_in overwrite register) (last_named overwrites register) (bytes_in initial register)
+    ∙ ap (unwrap_or (named_in overwrite register)) (sym (bytes_in-registers_of overwrites initial register)))
+
+pub registers_of-again : (overwrite : NamedBytes) (later : List NamedBytes) (initial : Contents) → Contains later overwrite
+    → registers_of (overwrite ∷ later) initial ≡ registers_of later initial
+registers_of-again overwrite later initial there = same_bytes _ _ (λ register.
+    ap (λ x. unwrap_or x (bytes_in initial register)) (last_named-again later overwrite register there.0 there.1 there.2))

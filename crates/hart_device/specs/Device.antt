@@ -1,0 +1,46 @@
+-- What a contract sees of a device, and how a command changes it (HCF_SPEC-127).
+use Rattle.std.specs.Prelude.{ℕ, ◌+◌, ◌%◌, ◌^◌, Bool, true, false, Option, None, Some}
+use Rattle.hart_values.specs.declared.master_id.MasterId.{MasterId}
+use Rattle.hart_commands.specs.Each.{Each, with_master}
+use Rattle.hart_commands.specs.Registers.{Contents, NamedBytes, overwritten}
+use Rattle.hart_device.specs.declared.identity_parts.IdentityParts.{IdentityParts}
+use Rattle.hart_device.specs.declared.values.RegisterValues.{RegisterValues}
+use Rattle.hart_device.specs.Values.{values_of}
+
+-- A device is who it is, what its registers hold, its configuration change counter, for each master whether the configuration
+-- has changed since it was told, and whether it is write protected.
+pub record DeviceState : Type 0 where
+  pub identity : IdentityParts
+  pub contents : Contents
+  pub counter : ℕ
+  pub changed : Each Bool
+  pub protected : Bool
+
+-- A new device holds the values that it is given, has counted nothing and told nothing, and is not protected.
+abbrev pub new_device : IdentityParts → RegisterValues → DeviceState
+new_device identity values = record {
+  identity = identity;
+  contents = values_of values;
+  counter = 0;
+  changed = record { primary = false; secondary = false };
+  protected = false;
+}
+
+-- A command has no effect, or executes the overwrite of a configuration write, or resets the configuration-changed bit of the
+-- master that asks.
+pub data Effect : Type 0 where
+  Nothing : Effect
+  Executes : (overwrite : NamedBytes) → Effect
+  Resets : Effect
+
+-- An execution overwrites the registers, adds one to the counter, in which 65535 is followed by 0, and sets both masters'
+-- configuration-changed bits, also where the registers held these bytes before; a reset clears the bit of the asking master
+-- alone; all else stays as it is.
+abbrev pub after : MasterId → Effect → DeviceState → DeviceState
+after master Nothing state = state
+after master (Executes overwrite) state = record state {
+  contents = overwritten overwrite state.contents;
+  counter = (state.counter + 1) % 2 ^ 16;
+  changed = record { primary = true; secondary = true };
+}
+after master Resets state = record state { changed = with_master master false state.changed }

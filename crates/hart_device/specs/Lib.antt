@@ -1,0 +1,10 @@
+pub mod Identity
+pub mod Process
+pub mod Values
+pub mod Device
+pub mod Status
+pub mod Variables
+pub mod Content
+pub mod Answer
+pub mod Delivery
+pub mod Bench

@@ -1,0 +1,29 @@
+-- The device status, the second status byte of a reply (HCF_SPEC-099; what bit 10 stands for is of the own profile).
+use Rattle.std.specs.Prelude.{ℕ, Bool, ◌==◌, bit_and, bit_or, slice_index, if◌then◌else◌}
+use Rattle.hart_values.specs.declared.master_id.MasterId.{MasterId}
+use Rattle.hart_commands.specs.Each.{of_master}
+use Rattle.hart_device.specs.declared.process.Process.{Process}
+use Rattle.hart_device.specs.Device.{DeviceState}
+use Rattle.hart_device.specs.Process.{has_more_status}
+
+-- The bits of the process are hex 80 device malfunction, 04 loop current saturated, 02 non-primary variable out of limits and 01
+-- primary variable out of limits; the other bits that are handed in are not used.
+abbrev pub process_bits : ℕ
+process_bits = 0x87
+
+-- A bit of the device status, where something holds.
+abbrev pub bit_where : Bool → ℕ → ℕ
+bit_where holds bit = if holds then bit else 0
+
+-- The loop current is fixed where the loop current mode is 0.
+abbrev pub is_loop_current_fixed : DeviceState → Bool
+is_loop_current_fixed state = slice_index state.contents.mode 0 == 0
+
+-- Beside the bits of the process a device shows a master hex 40 where the configuration has changed since this master was told,
+-- 10 where more status is available, and 08 where the loop current is fixed.
+abbrev pub device_status : DeviceState → Process → MasterId → ℕ
+device_status state process master =
+    bit_or (bit_or (bit_or (bit_and process.status process_bits)
+    (bit_where (of_master master state.changed) 0x40))
+    (bit_where (has_more_status process) 0x10))
+    (bit_where (is_loop_current_fixed state) 0x08)

@@ -1,0 +1,58 @@
+-- The device variables that Command 9 asks for by their codes (HCF_SPEC-127; what the status of 244 and 245 is, and that 0 to 3
+-- stand for the dynamic variables too, is of the own profile).
+use Rattle.std.specs.Prelude.{ℕ, ◌-◌, ◌==◌, ◌&&◌, nat_lt, if◌then◌else◌, List, [], ◌∷◌, Option, Some, None, slice_get, unwrap_or}
+use Rattle.hart_values.specs.declared.bits32.Bits32.{Bits32}
+use Rattle.hart_commands.specs.declared.value.VariableReading.{VariableReading}
+use Rattle.hart_device.specs.declared.process.Process.{Process}
+use Rattle.hart_device.specs.declared.process.ProcessVariable.{ProcessVariable}
+use Rattle.hart_device.specs.Process.{dynamic_variables}
+
+-- The percent of range is in unit 57, and has the status of the first variable.
+abbrev pub percent_variable : Process → ProcessVariable
+percent_variable process =
+    record { classification = 0; unit = 57; value = process.percent_of_range; status = process.first.status }
+
+-- The loop current is in unit 39, and has the status of the first variable.
+abbrev pub current_variable : Process → ProcessVariable
+current_variable process =
+    record { classification = 0; unit = 39; value = process.loop_current; status = process.first.status }
+
+-- A variable that is not there has unit 250, the value 7F A0 00 00 and the status hex 30.
+abbrev pub missing_variable : ProcessVariable
+missing_variable = record {
+  classification = 0;
+  unit = 250;
+  value = record { 0 = 0x7F ∷ 0xA0 ∷ 0x00 ∷ 0x00 ∷ [] };
+  status = 0x30;
+}
+
+-- The codes 0 to 3 and the codes 246 to 249 are the places of the dynamic variables.
+abbrev pub place_of : ℕ → Option ℕ
+place_of code =
+    if nat_lt code 4 then Some code
+    else if nat_lt 245 code && nat_lt code 250 then Some (code - 246)
+    else None
+
+-- The dynamic variable at a place, if it is there.
+abbrev pub dynamic_at : Process → Option ℕ → Option ProcessVariable
+dynamic_at process None = None
+dynamic_at process (Some place) = slice_get (dynamic_variables process) place
+
+-- The variable of a code: 244 is the percent of range and 245 the loop current.
+abbrev pub variable_of_code : Process → ℕ → ProcessVariable
+variable_of_code process code =
+    if code == 244 then percent_variable process
+    else if code == 245 then current_variable process
+    else unwrap_or (dynamic_at process (place_of code)) missing_variable
+
+-- What is told of a code that was asked: that code, and its variable.
+abbrev pub variable_reading : Process → ℕ → VariableReading
+variable_reading process code =
+    let variable = variable_of_code process code in
+    record {
+      code = code;
+      classification = variable.classification;
+      unit = variable.unit;
+      value = variable.value;
+      status = variable.status;
+    }

@@ -1,0 +1,48 @@
+//! Laws over the definitions alone, for the crates above.
+ghost use Rattle.std.specs.Prelude.{◌≡◌, ◌≢◌, false, true, List, [], ◌∷◌, ◌++◌, Contains, Ok, Some, unwrap_or};
+ghost use Rattle.hart_frame.specs.FrameParts.{FrameParts};
+ghost use Rattle.hart_commands.specs.Registers.{Contents, NamedBytes, bytes_in, last_named, overwrite_of, overwritten, registers_of};
+ghost use Rattle.hart_commands.specs.declared.register.Register.{Register};
+ghost use Rattle.hart_commands.specs.declared.request.Request.{Request};
+ghost use Rattle.hart_device.specs.Answer.{code_of, effect_of, is_answered, reading_of, state_after};
+ghost use Rattle.hart_device.specs.Device.{DeviceState, Nothing, Executes};
+
+/// A command that is refused, or not answered, has no effect, and leaves the device as it is.
+pub fn refused_commands_change_nothing()
+    ensures refused { (state : DeviceState) (frame : FrameParts) → code_of state frame ≢ 0 → effect_of state frame ≡ Nothing }
+    ensures silent { (state : DeviceState) (frame : FrameParts) → is_answered state frame ≡ false → effect_of state frame ≡ Nothing }
+    ensures stays { (state : DeviceState) (frame : FrameParts) → effect_of state frame ≡ Nothing → state_after state frame ≡ state }
+{}
+
+/// A configuration write that is answered with code 0 executes its own overwrite, and nothing else executes one.
+pub fn writes_execute_their_overwrite()
+    ensures executes { (state : DeviceState) (frame : FrameParts) (request : Request) (overwrite : NamedBytes)
+        → is_answered state frame ≡ true → code_of state frame ≡ 0
+        → reading_of frame ≡ Ok request → overwrite_of request ≡ Some overwrite
+        → effect_of state frame ≡ Executes overwrite }
+    ensures only { (state : DeviceState) (frame : FrameParts) (overwrite : NamedBytes)
+        → effect_of state frame ≡ Executes overwrite
+        → (is_answered state frame ≡ true) × (code_of state frame ≡ 0)
+        × (request : Request) × (reading_of frame ≡ Ok request) × (overwrite_of request ≡ Some overwrite) }
+{}
+
+/// An overwrite, another and the first again leave what the other and then the first leave.
+pub fn overwrites_absorb()
+    ensures { (first other : NamedBytes) (old : Contents)
+        → overwritten first (overwritten other (overwritten first old)) ≡ overwritten first (overwritten other old) }
+{}
+
+/// The registers of a list of overwrites are made from its front, and from its end; and an overwrite that comes again later
+/// changes nothing.
+pub fn registers_of_lists()
+    ensures each { (overwrites : List NamedBytes) (initial : Contents) (register : Register)
+        → bytes_in (registers_of overwrites initial) register
+        ≡ unwrap_or (last_named overwrites register) (bytes_in initial register) }
+    ensures none { (initial : Contents) → registers_of [] initial ≡ initial }
+    ensures first { (overwrite : NamedBytes) (later : List NamedBytes) (initial : Contents)
+        → registers_of (overwrite ∷ later) initial ≡ registers_of later (overwritten overwrite initial) }
+    ensures last { (overwrites : List NamedBytes) (overwrite : NamedBytes) (initial : Contents)
+        → registers_of (overwrites ++ overwrite ∷ []) initial ≡ overwritten overwrite (registers_of overwrites initial) }
+    ensures again { (overwrite : NamedBytes) (later : List NamedBytes) (initial : Contents)
+        → Contains later overwrite → registers_of (overwrite ∷ later) initial ≡ registers_of later initial }
+{}

@@ -1,0 +1,48 @@
+//! A HART field device (HCF_SPEC-081, HCF_SPEC-099, HCF_SPEC-127): its registers, what it answers to what it hears, and its
+//! state afterwards.
+//!
+//! A [`Device`] is an [`Identity`], registers in a [`RegisterStore`], a configuration change counter, for each master whether
+//! the configuration has changed since it was told, and whether the device is write protected. What the device measures is
+//! handed in with each request, as a [`Process`].
+//!
+//! ```rust
+//! let mut device: Device<FieldRegisters> = Device::new(bench::identity(), &bench::register_values());
+//! let own = Address::Unique(bench::identity().unique_address());
+//! let request = Frame::request(MasterId::Primary, own, 7, Payload::new());
+//! let reply = device.receive(&request, &bench::process()).ok_or("silence")?;
+//! assert_eq!(rt; reply.payload(), [0, 0, 0, 1].as_slice());
+//! ```
+//!
+//! No call of this crate takes memory.
+#![tactic(auto)]
+
+pub mod bench;
+mod device;
+mod fault;
+mod field_registers;
+mod identity;
+mod identity_parts;
+mod laws;
+mod process;
+mod registers;
+mod request_code;
+mod status;
+mod told;
+mod values;
+mod variables;
+
+pub use device::Device;
+pub use fault::DeviceFault;
+pub use field_registers::FieldRegisters;
+pub use identity::Identity;
+pub use identity_parts::IdentityParts;
+pub use laws::{
+    overwrites_absorb, refused_commands_change_nothing, registers_of_lists,
+    writes_execute_their_overwrite,
+};
+pub use process::{OutputValues, Process, ProcessVariable};
+pub use registers::RegisterStore;
+pub use values::RegisterValues;
+
+#[cfg(test)]
+mod tests;

@@ -1,0 +1,28 @@
+ghost use Rattle.std.specs.Prelude.{◌≡◌, length, unwrap_or};
+ghost use Rattle.hart_commands.specs.Registers.{Contents, bytes_in, named_in, size_of};
+ghost use Rattle.hart_commands.specs.declared.register.Register.{Register};
+ghost use Rattle.hart_device.specs.Values.{values_of};
+
+use crate::RegisterValues;
+use hart_commands::{Overwrite, Register};
+
+/// What holds the registers of a device, however it lays them out.
+///
+/// Contracts see the contents: the bytes of each register.
+pub trait RegisterStore {
+    ghost contents: { Self → Contents };
+
+    /// A store in which each register holds its value.
+    fn with(values: &RegisterValues) -> Self
+        ensures { (register : Register) → bytes_in (contents result) register ≡ bytes_in (values_of values.now) register };
+
+    /// The bytes of a register.
+    fn get(&self, register: Register) -> &[u8]
+        ensures value { result.now ≡ bytes_in (contents self.now) register }
+        ensures size { length result.now ≡ size_of register };
+
+    /// Gives each register that the overwrite names the bytes that it gives it; every other holds what it held.
+    fn overwrite(&mut self, overwrite: &Overwrite)
+        ensures { (register : Register) → bytes_in (contents self.new) register
+            ≡ unwrap_or (named_in overwrite.now register) (bytes_in (contents self.old) register) };
+}

@@ -1,0 +1,378 @@
+use super::*;
+use hart_commands::Register;
+use hart_frame::{Char, Frame, Payload};
+use hart_values::{Address, LoopMode, MasterId, PackedText, PollingAddress};
+use std::test::Fail;
+
+/// The payload of the reply to Command 0, before anything is counted.
+const IDENTITY: &[u8] = &[
+    0x00, 0x00, 0xFE, 0x37, 0x42, 0x05, 0x07, 0x01, 0x02, 0x18, 0x00, 0x0A, 0x1B, 0x2C, 0x05, 0x04,
+    0x00, 0x00, 0x00, 0x00, 0x37, 0x00, 0x37, 0x01,
+];
+
+/// A tag, a descriptor, and a day that the calendar has not.
+const BAD_DATE: &[u8] = &[
+    0x41, 0x53, 0x50, 0xB7, 0x1C, 0x31, 0x82, 0x08, 0x20, 0x82, 0x08, 0x20, 0x82, 0x08, 0x20, 0x82,
+    0x08, 0x20, 0x1D, 0x02, 0x00,
+];
+
+/// Thirty-two spaces in packed text.
+const SPACES: &[u8] = &[
+    0x82, 0x08, 0x20, 0x82, 0x08, 0x20, 0x82, 0x08, 0x20, 0x82, 0x08, 0x20, 0x82, 0x08, 0x20, 0x82,
+    0x08, 0x20, 0x82, 0x08, 0x20, 0x82, 0x08, 0x20,
+];
+
+/// The payload of the reply to a write of thirty-two spaces.
+const SPACES_WRITTEN: &[u8] = &[
+    0x00, 0x40, 0x82, 0x08, 0x20, 0x82, 0x08, 0x20, 0x82, 0x08, 0x20, 0x82, 0x08, 0x20, 0x82, 0x08,
+    0x20, 0x82, 0x08, 0x20, 0x82, 0x08, 0x20, 0x82, 0x08, 0x20,
+];
+
+/// A command, its data, and the payload of the reply.
+type Row<'a> = (u8, &'a [u8], &'a [u8]);
+
+/// What a new bench device replies.
+const BENCH: &[Row] = &[
+    (0, &[], IDENTITY),
+    (1, &[], &[0x00, 0x00, 0x20, 0x41, 0xC8, 0x00, 0x00]),
+    (
+        2,
+        &[],
+        &[0x00, 0x00, 0x41, 0x40, 0x00, 0x00, 0x42, 0x48, 0x00, 0x00],
+    ),
+    (
+        3,
+        &[],
+        &[
+            0x00, 0x00, 0x41, 0x40, 0x00, 0x00, 0x20, 0x41, 0xC8, 0x00, 0x00,
+        ],
+    ),
+    (4, &[], &[0x40, 0x00]),
+    (6, &[], &[0x05, 0x00]),
+    (6, &[0x40, 0x01], &[0x02, 0x00]),
+    (6, &[0x3F, 0x02], &[0x0C, 0x00]),
+    (6, &[0x05], &[0x00, 0x48, 0x05, 0x00]),
+    (7, &[], &[0x00, 0x00, 0x00, 0x01]),
+    (8, &[], &[0x00; 6]),
+    (
+        9,
+        &[0xF5, 0x09],
+        &[
+            0x00, 0x00, 0x00, 0xF5, 0x00, 0x27, 0x41, 0x40, 0x00, 0x00, 0xC0, 0x09, 0x00, 0xFA,
+            0x7F, 0xA0, 0x00, 0x00, 0x30, 0x00, 0x00, 0x00, 0x00,
+        ],
+    ),
+    (
+        14,
+        &[],
+        &[
+            0x00, 0x00, 0x00, 0x00, 0x00, 0x20, 0x43, 0x48, 0x00, 0x00, 0x00, 0x00, 0x00, 0x00,
+            0x41, 0x20, 0x00, 0x00,
+        ],
+    ),
+    (
+        15,
+        &[],
+        &[
+            0x00, 0x00, 0x00, 0x00, 0x20, 0x42, 0xC8, 0x00, 0x00, 0x00, 0x00, 0x00, 0x00, 0x3F,
+            0x80, 0x00, 0x00, 0x00, 0xFA, 0x00,
+        ],
+    ),
+    (17, SPACES, SPACES_WRITTEN),
+    (18, BAD_DATE, &[0x09, 0x00]),
+    (19, &[0x01, 0x23, 0x45], &[0x00, 0x40, 0x01, 0x23, 0x45]),
+    (19, &[0x01, 0x23], &[0x05, 0x00]),
+    (
+        19,
+        &[0x01, 0x23, 0x45, 0x67],
+        &[0x00, 0x40, 0x01, 0x23, 0x45],
+    ),
+    (38, &[], &[0x00, 0x00, 0x00, 0x00]),
+    (38, &[0x00], &[0x05, 0x00]),
+    (38, &[0x00, 0x01], &[0x09, 0x00]),
+    (48, &[], &[0x00; 27]),
+];
+
+/// What a new bench device replies that is write protected.
+const PROTECTED: &[Row] = &[
+    (17, &[], &[0x05, 0x00]),
+    (18, BAD_DATE, &[0x07, 0x00]),
+    (19, &[0x01, 0x23, 0x45], &[0x07, 0x00]),
+    (20, &[], &[0x40, 0x00]),
+    (38, &[], &[0x00, 0x00, 0x00, 0x00]),
+    (
+        15,
+        &[],
+        &[
+            0x00, 0x00, 0x00, 0x00, 0x20, 0x42, 0xC8, 0x00, 0x00, 0x00, 0x00, 0x00, 0x00, 0x3F,
+            0x80, 0x00, 0x00, 0x01, 0xFA, 0x00,
+        ],
+    ),
+];
+
+/// A new bench device whose registers hold these values.
+fn device_of(values: &RegisterValues) -> Device<FieldRegisters> {
+    Device::new(bench::identity(), values)
+}
+
+/// The primary master's request of a command to the bench device at its own address.
+fn request(command: u8, data: &[u8]) -> Result<Frame, Fail> {
+    let payload = Payload::from_slice(data).ok_or("too long")?;
+    let own = Address::Unique(bench::identity().unique_address());
+    Ok(Frame::request(MasterId::Primary, own, command, payload))
+}
+
+/// The reply of a device to this request.
+fn asked(device: &mut Device<FieldRegisters>, command: u8, data: &[u8]) -> Result<Frame, Fail> {
+    let reply = device.receive(&request(command, data)?, &bench::process());
+    Ok(reply.ok_or("silence")?)
+}
+
+#[test]
+fn requests_are_answered(rt: HostRuntime) -> Result<(), Fail> {
+    for (command, data, payload) in BENCH {
+        let mut device = device_of(&bench::register_values());
+        let reply = asked(&mut device, *command, data)?;
+        assert_eq!(rt;
+            reply.payload(),
+            *payload,
+            "of command {command} with {data:?}"
+        );
+    }
+    for (command, data, payload) in PROTECTED {
+        let mut device = device_of(&bench::register_values());
+        device.protect(true);
+        let reply = asked(&mut device, *command, data)?;
+        assert_eq!(rt;
+            reply.payload(),
+            *payload,
+            "of command {command} with {data:?}"
+        );
+        assert!(rt; device.counter() == 0 && device.is_protected());
+    }
+    Ok(())
+}
+
+#[test]
+fn a_reset_clears_the_bit_of_its_master(rt: HostRuntime) -> Result<(), Fail> {
+    let mut device = device_of(&bench::register_values());
+    let _written = asked(&mut device, 19, &[0x01, 0x23, 0x45])?;
+    let reply = asked(&mut device, 38, &[0x00, 0x01])?;
+    assert_eq!(rt; reply.payload(), [0x00, 0x00, 0x00, 0x01].as_slice());
+    assert!(rt; !device.changed(MasterId::Primary) && device.changed(MasterId::Secondary));
+    assert_eq!(rt; device.counter(), 1);
+    assert_eq!(rt;
+        device.registers().get(Register::Assembly),
+        [0x01, 0x23, 0x45].as_slice()
+    );
+    Ok(())
+}
+
+#[test]
+fn the_counter_goes_round(rt: HostRuntime) -> Result<(), Fail> {
+    let mut device = device_of(&bench::register_values());
+    let write = request(19, &[0x01, 0x23, 0x45])?;
+    for _ in 0..65_536u32 {
+        let _reply = device.receive(&write, &bench::process()).ok_or("silence")?;
+    }
+    assert_eq!(rt; device.counter(), 0);
+    Ok(())
+}
+
+#[test]
+fn a_polling_address_is_answered_by_its_device(rt: HostRuntime) -> Result<(), Fail> {
+    let mut device = device_of(&RegisterValues {
+        polling: PollingAddress::new(5)?,
+        mode: LoopMode::Disabled,
+        ..bench::register_values()
+    });
+    let reply = asked(&mut device, 7, &[])?;
+    assert_eq!(rt; reply.payload(), [0x00, 0x08, 0x05, 0x00].as_slice());
+    for (address, command, answered) in [(0, 0, false), (5, 0, true), (5, 1, false)] {
+        let at = Address::polling(address)?;
+        let frame = Frame::request(MasterId::Secondary, at, command, Payload::new());
+        let reply = device.receive(&frame, &bench::process());
+        assert_eq!(rt;
+            reply.is_some(),
+            answered,
+            "at {address} with command {command}"
+        );
+    }
+    Ok(())
+}
+
+#[test]
+fn additional_status_is_shown(rt: HostRuntime) -> Result<(), Fail> {
+    for (place, status) in [(0, 0x10), (5, 0x10), (6, 0x00), (7, 0x10), (24, 0x10)] {
+        let mut device = device_of(&bench::register_values());
+        let mut process = bench::process();
+        assert!(rt; place < 25);
+        process.additional_status[place] = 1;
+        let reply = device
+            .receive(&request(48, &[])?, &process)
+            .ok_or("silence")?;
+        assert_eq!(rt;
+            reply.payload().get(1).copied(),
+            Some(status),
+            "of byte {place}"
+        );
+    }
+    Ok(())
+}
+
+/// The data of Command 11, and whether they are answered at the broadcast address by a device with the tag PUMP-101.
+const TAGS: &[(&[u8], bool)] = &[
+    (&[0x41, 0x53, 0x50, 0xB7, 0x1C, 0x31], true),
+    (&[0x41, 0x53, 0x50, 0xB7, 0x1C, 0x31, 0x00], true),
+    (&[0x41, 0x53, 0x50, 0xB7, 0x1C], false),
+    (&[0x82, 0x08, 0x20, 0x82, 0x08, 0x20], false),
+];
+
+#[test]
+fn a_tag_is_answered_by_its_device(rt: HostRuntime) -> Result<(), Fail> {
+    let mut device = device_of(&RegisterValues {
+        tag: PackedText::from_bytes([0x41, 0x53, 0x50, 0xB7, 0x1C, 0x31]),
+        ..bench::register_values()
+    });
+    let all = Address::unique(0, 0)?;
+    for (tag, answered) in TAGS {
+        let payload = Payload::from_slice(tag).ok_or("too long")?;
+        let frame = Frame::request(MasterId::Primary, all, 11, payload);
+        let reply = device.receive(&frame, &bench::process());
+        assert_eq!(rt; reply.is_some(), *answered, "of {tag:?}");
+        if let Some(reply) = reply {
+            assert_eq!(rt; reply.payload(), IDENTITY);
+            assert!(rt; reply.address() == all);
+        }
+    }
+    let identify = Frame::request(MasterId::Primary, all, 0, Payload::new());
+    assert!(rt; device.receive(&identify, &bench::process()).is_none());
+    assert!(rt;
+        device
+            .receive(&request(11, SPACES)?, &bench::process())
+            .is_none()
+    );
+    Ok(())
+}
+
+/// What is heard at once, and whether a bench device answers.
+const DELIVERIES: &[(&[u8], bool)] = &[
+    (&[], false),
+    (&[0xFF, 0xFF, 0x02, 0x80, 0x00, 0x00, 0x82], true),
+    (&[0xFF, 0xFF, 0x02, 0x00, 0x00, 0x00, 0x02, 0x55], true),
+    (&[0xFF, 0xFF, 0x02, 0x80, 0x00, 0x00, 0x83], false),
+    (
+        &[
+            0xFF, 0xFF, 0x02, 0x80, 0x00, 0x00, 0x82, 0xFF, 0xFF, 0x02, 0x80, 0x00, 0x00, 0x82,
+        ],
+        false,
+    ),
+];
+
+#[test]
+fn a_delivery_has_one_frame(rt: HostRuntime) -> Result<(), Fail> {
+    for (bytes, answered) in DELIVERIES {
+        let mut device = device_of(&bench::register_values());
+        let mut chars = [Char::new(0, 0).ok_or("faults")?; 16];
+        for (character, byte) in chars.iter_mut().zip(bytes.iter()) {
+            *character = Char::new(*byte, 0).ok_or("faults")?;
+        }
+        let delivery = chars.get(..bytes.len()).ok_or("too long")?;
+        let reply = device.hear(delivery, &bench::process());
+        assert_eq!(rt; reply.is_some(), *answered, "to {bytes:?}");
+        if let Some(reply) = reply {
+            assert_eq!(rt; reply.payload(), IDENTITY);
+        }
+    }
+    Ok(())
+}
+
+/// The parts of an identity that are at the ends of their ranges.
+const PARTS: IdentityParts = IdentityParts {
+    expanded_device_type: 0x4000,
+    device_id: 0x00FF_FFFF,
+    request_preambles: 5,
+    response_preambles: 20,
+    device_revision: 255,
+    software_revision: 255,
+    hardware_revision: 31,
+    signalling_code: 7,
+    flags: 255,
+    device_variables: 255,
+    manufacturer: 0xFFFF,
+    private_label_distributor: 0xFFFF,
+    device_profile: 255,
+};
+
+/// Parts that are not like these in one way, and the fault.
+const REFUSED: &[(IdentityParts, DeviceFault)] = &[
+    (
+        IdentityParts {
+            device_id: 0,
+            ..PARTS
+        },
+        DeviceFault::BroadcastAddress,
+    ),
+    (
+        IdentityParts {
+            device_id: 0,
+            signalling_code: 8,
+            ..PARTS
+        },
+        DeviceFault::OutOfRange,
+    ),
+    (
+        IdentityParts {
+            device_id: 0x0100_0000,
+            ..PARTS
+        },
+        DeviceFault::OutOfRange,
+    ),
+    (
+        IdentityParts {
+            hardware_revision: 32,
+            ..PARTS
+        },
+        DeviceFault::OutOfRange,
+    ),
+    (
+        IdentityParts {
+            request_preambles: 4,
+            ..PARTS
+        },
+        DeviceFault::OutOfRange,
+    ),
+    (
+        IdentityParts {
+            response_preambles: 21,
+            ..PARTS
+        },
+        DeviceFault::OutOfRange,
+    ),
+];
+
+#[test]
+fn identities_are_refused(rt: HostRuntime) {
+    assert!(rt; Identity::new(PARTS).is_ok());
+    for (parts, fault) in REFUSED {
+        assert_eq!(rt; Identity::new(*parts).err(), Some(*fault), "of {parts:?}");
+    }
+}
+
+/// Each fault, and its text.
+const FAULTS: &[(DeviceFault, &str)] = &[
+    (DeviceFault::BroadcastAddress, "broadcast address"),
+    (DeviceFault::OutOfRange, "out of range"),
+    (DeviceFault::BadVersion, "bad version"),
+    (DeviceFault::BadLength, "bad length"),
+    (DeviceFault::BadField, "bad field"),
+];
+
+#[test]
+fn faults_have_texts(rt: HostRuntime) -> Result<(), Fail> {
+    for (fault, text) in FAULTS {
+        let told = fault.to_string(rt.alloc())?;
+        assert_eq!(rt; told.as_str(), *text);
+    }
+    Ok(())
+}
