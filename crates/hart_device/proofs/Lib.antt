@@ -1,1 +1,2 @@
 pub mod RegistersLemmas
+pub mod EffectLemmas

@@ -1,12 +1,15 @@
 -- The registers that lists of overwrites leave.
-use Rattle.std.proofs.Common.{◌≡◌, ℕ, ◌<◌, zero, suc, ap, ◌∙◌, sym, refl, subst, arith, Option, None, Some, List, [], ◌∷◌, ◌++◌, length, unwrap_or}
+use Rattle.std.proofs.Common.{◌≡◌, ℕ, ◌<◌, zero, suc, ap, ◌∙◌, sym, refl, subst, arith, Option, None, Some, unwrap_or}
+use Rattle.std.proofs.Common.{List, [], ◌∷◌, ◌++◌, length}
 use Rattle.std.specs.List.{Contains, slice_index_or}
 use Rattle.std.specs.Option.{option_or}
-use Rattle.hart_commands.specs.Registers.{Contents, NamedBytes, bytes_in, each_register, named_in, overwritten, last_named, registers_of}
+use Rattle.hart_commands.specs.Registers.{Contents, NamedBytes, bytes_in, each_register, named_in, overwritten}
+use Rattle.hart_commands.specs.Registers.{last_named, registers_of}
 use Rattle.hart_commands.specs.declared.register.Register.{Register}
 use Rattle.hart_commands.specs.declared.register.Register.TheVariants.{Polling, Mode, Message, Tag, Descriptor, Date, Assembly}
 
-pub bytes_in-each_register : (bytes : Register → List ℕ) (register : Register) → bytes_in (each_register bytes) register ≡ bytes register
+pub bytes_in-each_register : (bytes : Register → List ℕ) (register : Register)
+    → bytes_in (each_register bytes) register ≡ bytes register
 bytes_in-each_register bytes Polling = refl
 bytes_in-each_register bytes Mode = refl
 bytes_in-each_register bytes Message = refl
@@ -15,17 +18,35 @@ bytes_in-each_register bytes Descriptor = refl
 bytes_in-each_register bytes Date = refl
 bytes_in-each_register bytes Assembly = refl
 
+-- Contents are these lists, in the order of the registers.
+abbrev contents_from : (polling mode message tag descriptor date assembly : List ℕ) → Contents
+contents_from polling mode message tag descriptor date assembly = record {
+  polling = polling;
+  mode = mode;
+  message = message;
+  tag = tag;
+  descriptor = descriptor;
+  date = date;
+  assembly = assembly;
+}
+
 -- Contents are told by the bytes of each register.
 pub contents-each_register : (contents : Contents) (bytes : Register → List ℕ)
     → ((register : Register) → bytes_in contents register ≡ bytes register) → contents ≡ each_register bytes
 contents-each_register contents bytes same =
-    ap (λ xs. let c : Contents = record { polling = xs; mode = contents.mode; message = contents.message; tag = contents.tag; descriptor = contents.descriptor; date = contents.date; assembly = contents.assembly } in c) (same Polling)
-    ∙ ap (λ xs. let c : Contents = record { polling = bytes Polling; mode = xs; message = contents.message; tag = contents.tag; descriptor = contents.descriptor; date = contents.date; assembly = contents.assembly } in c) (same Mode)
-    ∙ ap (λ xs. let c : Contents = record { polling = bytes Polling; mode = bytes Mode; message = xs; tag = contents.tag; descriptor = contents.descriptor; date = contents.date; assembly = contents.assembly } in c) (same Message)
-    ∙ ap (λ xs. let c : Contents = record { polling = bytes Polling; mode = bytes Mode; message = bytes Message; tag = xs; descriptor = contents.descriptor; date = contents.date; assembly = contents.assembly } in c) (same Tag)
-    ∙ ap (λ xs. let c : Contents = record { polling = bytes Polling; mode = bytes Mode; message = bytes Message; tag = bytes Tag; descriptor = xs; date = contents.date; assembly = contents.assembly } in c) (same Descriptor)
-    ∙ ap (λ xs. let c : Contents = record { polling = bytes Polling; mode = bytes Mode; message = bytes Message; tag = bytes Tag; descriptor = bytes Descriptor; date = xs; assembly = contents.assembly } in c) (same Date)
-    ∙ ap (λ xs. let c : Contents = record { polling = bytes Polling; mode = bytes Mode; message = bytes Message; tag = bytes Tag; descriptor = bytes Descriptor; date = bytes Date; assembly = xs } in c) (same Assembly)
+    let old = contents in
+    let new : Contents = each_register bytes in
+    ap (λ x. contents_from x old.mode old.message old.tag old.descriptor old.date old.assembly) (same Polling)
+    ∙ ap (λ x. contents_from new.polling x old.message old.tag old.descriptor old.date old.assembly) (same Mode)
+    ∙ ap (λ x. contents_from new.polling new.mode x old.tag old.descriptor old.date old.assembly) (same Message)
+    ∙ ap (λ x. contents_from new.polling new.mode new.message x old.descriptor old.date old.assembly) (same Tag)
+    ∙ ap (λ x. contents_from new.polling new.mode new.message new.tag x old.date old.assembly) (same Descriptor)
+    ∙ ap (λ x. contents_from new.polling new.mode new.message new.tag new.descriptor x old.assembly) (same Date)
+    ∙ ap (λ x. contents_from new.polling new.mode new.message new.tag new.descriptor new.date x) (same Assembly)
+
+pub same_contents : (contents others : Contents)
+    → ((register : Register) → bytes_in contents register ≡ bytes_in others register) → contents ≡ others
+same_contents contents others same = contents-each_register contents (bytes_in others) same
 
 pub same_bytes : (f g : Register → List ℕ) → ((register : Register) → f register ≡ g register) → each_register f ≡ each_register g
 same_bytes f g same = contents-each_register (each_register f) g (λ register. bytes_in-each_register f register ∙ same register)
@@ -37,7 +58,8 @@ bytes_in-overwritten overwrite old = bytes_in-each_register (λ register. unwrap
 
 pub bytes_in-registers_of : (overwrites : List NamedBytes) (initial : Contents) (register : Register)
     → bytes_in (registers_of overwrites initial) register ≡ unwrap_or (last_named overwrites register) (bytes_in initial register)
-bytes_in-registers_of overwrites initial = bytes_in-each_register (λ register. unwrap_or (last_named overwrites register) (bytes_in initial register))
+bytes_in-registers_of overwrites initial =
+    bytes_in-each_register (λ register. unwrap_or (last_named overwrites register) (bytes_in initial register))
 
 pub unwrap_or-option_or : {A : Type 0} (a b : Option A) (d : A) → unwrap_or (option_or a b) d ≡ unwrap_or a (unwrap_or b d)
 unwrap_or-option_or None b d = refl

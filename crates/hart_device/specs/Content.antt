@@ -1,10 +1,11 @@
 -- What a device tells in answer to a request (HCF_SPEC-127).
-use Rattle.std.specs.Prelude.{ℕ, Bool, if◌then◌else◌, List, [], ◌∷◌, map, slice_index}
+use Rattle.std.specs.Prelude.{ℕ, Bool, if◌then◌else◌, [], ◌∷◌, map, slice_get, slice_index}
+use Rattle.std.specs.Option.{option_map_or}
 use Rattle.hart_commands.specs.declared.content.ReplyContent.{ReplyContent}
 use Rattle.hart_commands.specs.declared.content.ReplyContent.TheVariants as told
 use Rattle.hart_commands.specs.declared.output.OutputContent.{OutputContent}
 use Rattle.hart_commands.specs.declared.request.Request.{Request}
-use Rattle.hart_commands.specs.declared.request.Request.TheVariants.{Identify, ReadPrimary, ReadCurrent, ReadDynamic, SetPolling, ReadPolling, ReadClasses, ReadVariables, IdentifyByTag, ReadMessage, ReadTag, ReadSensor, ReadOutput, ReadAssembly, WriteMessage, WriteTag, WriteAssembly, ResetChanged, ReadMore}
+use Rattle.hart_commands.specs.declared.request.Request.TheVariants as asked
 use Rattle.hart_commands.specs.declared.value.UnitValue.{UnitValue}
 use Rattle.hart_device.specs.declared.process.OutputValues.{OutputValues}
 use Rattle.hart_device.specs.declared.process.Process.{Process}
@@ -25,7 +26,7 @@ unit_value variable = record { unit = variable.unit; value = variable.value }
 
 -- The classification of the dynamic variable at a place, 0 where there is none (own profile).
 abbrev pub class_at : Process → ℕ → ℕ
-class_at process place = slice_index (map (λ variable. variable.classification) (dynamic_variables process)) place
+class_at process place = option_map_or (λ variable. variable.classification) (slice_get (dynamic_variables process) place) 0
 
 -- The classifications of the four dynamic variables.
 abbrev pub classes_told : Process → ReplyContent
@@ -57,23 +58,23 @@ output_content output protected = record {
 
 -- What a device in this state tells with code 0 in answer to a request, a line for each.
 abbrev pub content_told : DeviceState → Process → Request → ReplyContent
-content_told state process Identify = identity_told state process
-content_told state process ReadPrimary = told.Primary (unit_value process.first)
-content_told state process ReadCurrent = told.Current process.loop_current process.percent_of_range
-content_told state process ReadDynamic = told.Dynamic process.loop_current (map unit_value (dynamic_variables process))
-content_told state process (SetPolling address mode) = polling_told state
-content_told state process ReadPolling = polling_told state
-content_told state process ReadClasses = classes_told process
-content_told state process (ReadVariables codes) =
+content_told state process asked.Identify = identity_told state process
+content_told state process asked.ReadPrimary = told.Primary (unit_value process.first)
+content_told state process asked.ReadCurrent = told.Current process.loop_current process.percent_of_range
+content_told state process asked.ReadDynamic = told.Dynamic process.loop_current (map unit_value (dynamic_variables process))
+content_told state process (asked.SetPolling address mode) = polling_told state
+content_told state process asked.ReadPolling = polling_told state
+content_told state process asked.ReadClasses = classes_told process
+content_told state process (asked.ReadVariables codes) =
     told.Variables (extended_device_status process) (map (variable_reading process) codes) process.time_stamp
-content_told state process (IdentifyByTag tag) = identity_told state process
-content_told state process ReadMessage = told.Message state.contents.message
-content_told state process ReadTag = tag_told state
-content_told state process ReadSensor = told.Sensor process.sensor
-content_told state process ReadOutput = told.Output (output_content process.output state.protected)
-content_told state process ReadAssembly = told.Assembly state.contents.assembly
-content_told state process (WriteMessage message) = told.Message state.contents.message
-content_told state process (WriteTag tag descriptor date) = tag_told state
-content_told state process (WriteAssembly assembly) = told.Assembly state.contents.assembly
-content_told state process (ResetChanged counter) = told.Counter (two_bytes state.counter)
-content_told state process ReadMore = told.More process.additional_status
+content_told state process (asked.IdentifyByTag tag) = identity_told state process
+content_told state process asked.ReadMessage = told.Message state.contents.message
+content_told state process asked.ReadTag = tag_told state
+content_told state process asked.ReadSensor = told.Sensor process.sensor
+content_told state process asked.ReadOutput = told.Output (output_content process.output state.protected)
+content_told state process asked.ReadAssembly = told.Assembly state.contents.assembly
+content_told state process (asked.WriteMessage message) = told.Message state.contents.message
+content_told state process (asked.WriteTag tag descriptor date) = tag_told state
+content_told state process (asked.WriteAssembly assembly) = told.Assembly state.contents.assembly
+content_told state process (asked.ResetChanged counter) = told.Counter (two_bytes state.counter)
+content_told state process asked.ReadMore = told.More process.additional_status

@@ -5,7 +5,8 @@ ghost use Rattle.hart_frame.specs.declared.found.Found.{Found};
 ghost use Rattle.hart_commands.specs.Each.{of_master};
 ghost use Rattle.hart_commands.specs.Registers.{bytes_in, size_of};
 ghost use Rattle.hart_commands.specs.ReplyData.{reply_payload};
-ghost use Rattle.hart_device.specs.Answer.{answer_of, asked_effect, content_with, is_addressed, is_answered_with, is_paired, names_another, reply_with, state_after};
+ghost use Rattle.hart_device.specs.Answer.{answer_of, asked_effect, content_with, is_addressed, is_answered_with, is_paired};
+ghost use Rattle.hart_device.specs.Answer.{names_another, reply_with, state_after};
 ghost use Rattle.hart_device.specs.Content.{content_told, polling_told, tag_told};
 ghost use Rattle.hart_device.specs.Delivery.{answer_to, state_after_frames};
 ghost use Rattle.hart_device.specs.Device.{after, new_device};
@@ -17,7 +18,9 @@ use crate::told::{additional_status, classes, output_content, unit_value, unit_v
 use crate::variables::variable_readings;
 use crate::{Identity, Process, RegisterStore, RegisterValues};
 use hart_commands::{Register, Reply, ReplyContent, Request, writes_of};
-use hart_frame::{Char, Frame, FrameKind, Payload, first_frame, frames_are_told_apart};
+use hart_frame::{
+    Char, Frame, FrameKind, Payload, every_list_has_frames, first_frame, frames_are_told_apart,
+};
 use hart_values::{Address, DeviceStatus, MasterId, PackedText, ResponseCode};
 use std::marker::Model;
 
@@ -119,10 +122,13 @@ impl<S: RegisterStore> Device<S> {
         ensures state { (frames : List Found) → AreFrames delivery.now 0 frames
             → self.new ≡ state_after_frames self.old frames }
     {
-        // It does nothing when it runs: by this law the frames that are found are the only ones.
+        // They do nothing when they run: by these laws the frames that are found are the only ones.
         frames_are_told_apart();
-        let found = first_frame(delivery, 0)?;
-        if first_frame(delivery, found.stop).is_some() {
+        every_list_has_frames();
+        let Some(found) = first_frame(delivery, 0) else {
+            return None;
+        };
+        if let Some(_second) = first_frame(delivery, found.stop) {
             return None;
         }
         self.receive(&found.frame, process)

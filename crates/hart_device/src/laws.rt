@@ -10,7 +10,8 @@ ghost use Rattle.hart_device.specs.Device.{DeviceState, Nothing, Executes};
 /// A command that is refused, or not answered, has no effect, and leaves the device as it is.
 pub fn refused_commands_change_nothing()
     ensures refused { (state : DeviceState) (frame : FrameParts) → code_of state frame ≢ 0 → effect_of state frame ≡ Nothing }
-    ensures silent { (state : DeviceState) (frame : FrameParts) → is_answered state frame ≡ false → effect_of state frame ≡ Nothing }
+    ensures silent { (state : DeviceState) (frame : FrameParts)
+        → is_answered state frame ≡ false → effect_of state frame ≡ Nothing }
     ensures stays { (state : DeviceState) (frame : FrameParts) → effect_of state frame ≡ Nothing → state_after state frame ≡ state }
 {}
 

@@ -1,6 +1,6 @@
 //! What a device measures, and what it knows of its parts: handed in with each request, so that a device holds none of it.
 ghost use Rattle.std.specs.Prelude.{◌≡◌};
-ghost use Rattle.hart_device.specs.Process.{extended_device_status, has_more_status};
+ghost use Rattle.hart_device.specs.Process.{extended_device_status, has_more_status, is_any_set};
 
 use hart_commands::{SensorContent, ShortList};
 use hart_values::Bits32;
@@ -86,10 +86,15 @@ impl Process {
     pub(crate) fn has_more_status(&self) -> bool
         ensures { result ≡ has_more_status self.now }
     {
-        let (before, behind) = (
-            &self.additional_status[..EXTENDED_DEVICE_STATUS],
-            &self.additional_status[EXTENDED_DEVICE_STATUS + 1..],
-        );
-        before.iter().any(|byte| *byte != 0) || behind.iter().any(|byte| *byte != 0)
+        let (before, _) = self.additional_status.split_at(EXTENDED_DEVICE_STATUS);
+        let (_, behind) = self.additional_status.split_at(EXTENDED_DEVICE_STATUS + 1);
+        is_any_set(before) || is_any_set(behind)
     }
+}
+
+/// Whether one of some bytes is not zero.
+fn is_any_set(bytes: &[u8]) -> bool
+    ensures { result ≡ is_any_set bytes.now }
+{
+    bytes.iter().any(|byte| *byte != 0)
 }

@@ -49,10 +49,7 @@ pub(crate) fn classes(process: &Process) -> [u8; 4]
 fn class_at(process: &Process, place: u8) -> u8
     ensures { result ≡ class_at process.now place }
 {
-    match dynamic_variable(process, place) {
-        Some(variable) => variable.classification,
-        None => 0,
-    }
+    dynamic_variable(process, place).map_or(0, |variable| variable.classification)
 }
 
 /// The loop current output, with the write protect code.
