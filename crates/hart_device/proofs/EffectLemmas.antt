@@ -1,13 +1,17 @@
 -- What a command does to a device.
-use Rattle.std.proofs.Common.{◌≡◌, ◌≢◌, ℕ, ap, refl, Bool, true, false, ◌==◌, ◌&&◌, if◌then◌else◌, Option, None, Some, Ok, Err, arith}
+use Rattle.std.proofs.Common.{◌≡◌, ◌≢◌, ℕ, ap, ◌∙◌, refl, sym, arith}
+use Rattle.std.proofs.Common.{Bool, true, false, ◌==◌, ◌&&◌, ◌||◌, if◌then◌else◌}
+use Rattle.std.proofs.Common.{Option, None, Some, IfSome, Ok, Err}
 use Rattle.std.proofs.lemmas.Bool.{eqb-true}
 use Rattle.std.proofs.lemmas.Bool.Decides.{nat_tests}
+use Rattle.hart_commands.specs.RequestCode.{counter_code, is_write, judged}
 use Rattle.hart_commands.specs.RequestData.{Reading}
+use Rattle.hart_frame.specs.FrameParts.{FrameParts}
 use Rattle.hart_commands.specs.Registers.{NamedBytes, overwrite_of}
 use Rattle.hart_commands.specs.declared.request.Request.{Request}
 use Rattle.hart_commands.specs.declared.request.Request.TheVariants.{ResetChanged}
-use Rattle.hart_device.specs.Answer.{asked_effect, executed}
-use Rattle.hart_device.specs.Device.{Effect, Nothing, Executes, Resets}
+use Rattle.hart_device.specs.Answer.{asked_effect, code_of, effect_of, executed, is_answered, reading_of}
+use Rattle.hart_device.specs.Device.{DeviceState, Effect, Nothing, Executes, Resets}
 
 pub refused : (answered : Bool) (code : ℕ) (effect : Effect) → code ≢ 0
     → (if answered && (code == 0) then effect else Nothing) ≡ Nothing
@@ -18,7 +22,7 @@ executed_only None overwrite is = cc
 executed_only (Some x) overwrite is = cc
 
 -- Only a write executes an overwrite, and that is its own.
-pub executes_only : (reading : Reading) (overwrite : NamedBytes) → asked_effect reading ≡ Executes overwrite
+executes_only : (reading : Reading) (overwrite : NamedBytes) → asked_effect reading ≡ Executes overwrite
     → (request : Request) × (reading ≡ Ok request) × (overwrite_of request ≡ Some overwrite)
 executes_only (Err code) overwrite is = cc
 executes_only (Ok (ResetChanged counter)) overwrite is = cc
@@ -30,6 +34,7 @@ pub write_executes : (request : Request) (overwrite : NamedBytes) → overwrite_
 write_executes (ResetChanged counter) overwrite is = cc
 write_executes request overwrite is = ap executed is
 
+-- Where the effect of an answer is one, the answer has code 0 and that is what was asked.
 executes_where : (answered zero : Bool) (effect : Effect) (overwrite : NamedBytes)
     → (if answered && zero then effect else Nothing) ≡ Executes overwrite
     → (answered ≡ true) × (zero ≡ true) × (effect ≡ Executes overwrite)
@@ -45,3 +50,48 @@ effect_executes_only answered code reading overwrite is =
     let zero : code ≡ 0 = eqb-true code 0 parts.1 in
     let write = executes_only reading overwrite parts.2 in
     (parts.0, zero, write.0, write.1, write.2)
+
+resets_where : (answered zero : Bool) (effect : Effect) → (if answered && zero then effect else Nothing) ≡ Resets
+    → (answered ≡ true) × (zero ≡ true) × (effect ≡ Resets)
+resets_where true true effect is = (refl, refl, is)
+resets_where true false effect is = cc
+resets_where false zero effect is = cc
+
+executed_resets : (named : Option NamedBytes) → executed named ≡ Resets → ⊥
+executed_resets None is = cc
+executed_resets (Some x) is = cc
+
+asked_resets : (reading : Reading) → asked_effect reading ≡ Resets → (counter : Option ℕ) × (reading ≡ Ok (ResetChanged counter))
+asked_resets (Err code) is = cc
+asked_resets (Ok (ResetChanged counter)) is = (counter, refl)
+asked_resets (Ok request) is = absurd (executed_resets (overwrite_of request) is)
+
+-- Code 0 is what the data and the counter say.
+judged_zero : (code : ℕ) (first protected : Bool) → (if first then code else if protected then 7 else code) ≡ 0 → code ≡ 0
+judged_zero code true protected is = is
+judged_zero code false true is = absurd (omega arith)
+judged_zero code false false is = is
+
+same_counter : (given counter : ℕ) (same : Bool) → (given == counter) ≡ same → ◌≡◌ {A = ℕ} (if same then 0 else 9) 0 → given ≡ counter
+same_counter given counter true test is = eqb-true given counter test
+same_counter given counter false test is = absurd (omega arith)
+
+named_counter : (named : Option ℕ) (counter : ℕ) → counter_code (ResetChanged named) counter ≡ 0
+    → IfSome named (λ n. n ≡ counter)
+named_counter None counter is = tt
+named_counter (Some given) counter is = same_counter given counter (given == counter) refl is
+
+pub resets_only : (state : DeviceState) (frame : FrameParts) → effect_of state frame ≡ Resets
+    → (is_answered state frame ≡ true) × (code_of state frame ≡ 0)
+    × (counter : Option ℕ) × (reading_of frame ≡ Ok (ResetChanged counter)) × IfSome counter (λ n. n ≡ state.counter)
+resets_only state frame is =
+    let code = code_of state frame in
+    let parts = resets_where (is_answered state frame) (code == 0) (asked_effect (reading_of frame)) is in
+    let zero : code ≡ 0 = eqb-true code 0 parts.1 in
+    let asked = asked_resets (reading_of frame) parts.2 in
+    let judged_code = judged (reading_of frame) state.counter in
+    let good : judged_code ≡ 0 =
+    judged_zero judged_code ((judged_code == 64) || (judged_code == 5)) (state.protected && is_write frame.command) zero in
+    let named : counter_code (ResetChanged asked.0) state.counter ≡ 0 =
+    ap (λ reading. judged reading state.counter) (sym asked.1) ∙ good in
+    (parts.0, zero, asked.0, asked.1, named_counter asked.0 state.counter named)

@@ -1,2 +1,3 @@
 pub mod RegistersLemmas
 pub mod EffectLemmas
+pub mod DeliveryLemmas

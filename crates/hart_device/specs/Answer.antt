@@ -12,7 +12,6 @@ use Rattle.hart_frame.specs.declared.kind.FrameKind.TheVariants.{Stx, Ack}
 use Rattle.hart_commands.specs.declared.reply.Reply.{Reply}
 use Rattle.hart_commands.specs.declared.content.ReplyContent.{ReplyContent}
 use Rattle.hart_commands.specs.declared.content.ReplyContent.TheVariants.{Refused}
-use Rattle.hart_commands.specs.declared.request.Request.{Request}
 use Rattle.hart_commands.specs.declared.request.Request.TheVariants.{IdentifyByTag, ResetChanged}
 use Rattle.hart_commands.specs.Registers.{NamedBytes, overwrite_of}
 use Rattle.hart_commands.specs.ReplyData.{reply_payload}

@@ -1,5 +1,5 @@
 -- What a device does with a delivery, which is what it heard at once (own profile).
-use Rattle.std.specs.Prelude.{List, [], ◌∷◌, Option, Some, None}
+use Rattle.std.specs.Prelude.{List, [], ◌∷◌, Option, None}
 use Rattle.hart_frame.specs.FrameParts.{FrameParts}
 use Rattle.hart_frame.specs.declared.found.Found.{Found}
 use Rattle.hart_device.specs.declared.process.Process.{Process}

@@ -1,5 +1,5 @@
 -- What a contract sees of a device, and how a command changes it (HCF_SPEC-127).
-use Rattle.std.specs.Prelude.{ℕ, ◌+◌, ◌%◌, ◌^◌, Bool, true, false, Option, None, Some}
+use Rattle.std.specs.Prelude.{ℕ, ◌+◌, ◌%◌, ◌^◌, Bool, true, false}
 use Rattle.hart_values.specs.declared.master_id.MasterId.{MasterId}
 use Rattle.hart_commands.specs.Each.{Each, with_master}
 use Rattle.hart_commands.specs.Registers.{Contents, NamedBytes, overwritten}

@@ -1,5 +1,5 @@
 -- The bytes of the values that the registers begin with (HCF_SPEC-127).
-use Rattle.std.specs.Prelude.{ℕ, List, [], ◌∷◌}
+use Rattle.std.specs.Prelude.{[], ◌∷◌}
 use Rattle.hart_commands.specs.RequestData.{mode_byte}
 use Rattle.hart_commands.specs.Registers.{Contents}
 use Rattle.hart_device.specs.declared.values.RegisterValues.{RegisterValues}

@@ -1,7 +1,6 @@
 -- The device variables that Command 9 asks for by their codes (HCF_SPEC-127; what the status of 244 and 245 is, and that 0 to 3
 -- stand for the dynamic variables too, is of the own profile).
 use Rattle.std.specs.Prelude.{ℕ, ◌-◌, ◌==◌, ◌&&◌, nat_lt, if◌then◌else◌, [], ◌∷◌, Option, Some, None, slice_get, unwrap_or}
-use Rattle.hart_values.specs.declared.bits32.Bits32.{Bits32}
 use Rattle.hart_commands.specs.declared.value.VariableReading.{VariableReading}
 use Rattle.hart_device.specs.declared.process.Process.{Process}
 use Rattle.hart_device.specs.declared.process.ProcessVariable.{ProcessVariable}

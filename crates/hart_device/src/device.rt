@@ -24,6 +24,12 @@ use hart_frame::{
 use hart_values::{Address, DeviceStatus, MasterId, PackedText, ResponseCode};
 use std::marker::Model;
 
+/// The command by which a master finds the device at a polling address.
+const IDENTIFY: u8 = 0;
+
+/// The command by which a master finds the device of a tag.
+const IDENTIFY_BY_TAG: u8 = 11;
+
 /// A HART field device (HCF_SPEC-081, HCF_SPEC-127), over any store of its registers.
 ///
 /// Contracts see who it is, the contents of its registers, the configuration change counter, the configuration-changed bit of
@@ -183,11 +189,11 @@ impl<S: RegisterStore> Device<S> {
     {
         match address {
             Address::Polling(polling) => {
-                command == 0 && self.byte(Register::Polling) == polling.number()
+                command == IDENTIFY && self.byte(Register::Polling) == polling.number()
             }
             Address::Unique(unique) => {
                 unique == self.identity.unique_address()
-                    || (command == 11 && address.is_broadcast())
+                    || (command == IDENTIFY_BY_TAG && address.is_broadcast())
             }
         }
     }

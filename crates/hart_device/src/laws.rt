@@ -1,11 +1,12 @@
 //! Laws over the definitions alone, for the crates above.
-ghost use Rattle.std.specs.Prelude.{◌≡◌, ◌≢◌, false, true, List, [], ◌∷◌, ◌++◌, Contains, Ok, Some, unwrap_or};
+ghost use Rattle.std.specs.Prelude.{◌≡◌, ◌≢◌, ℕ, false, true, List, [], ◌∷◌, ◌++◌, Contains, Ok, Option, Some, IfSome, unwrap_or};
 ghost use Rattle.hart_frame.specs.FrameParts.{FrameParts};
 ghost use Rattle.hart_commands.specs.Registers.{Contents, NamedBytes, bytes_in, last_named, overwrite_of, overwritten, registers_of};
 ghost use Rattle.hart_commands.specs.declared.register.Register.{Register};
 ghost use Rattle.hart_commands.specs.declared.request.Request.{Request};
+ghost use Rattle.hart_commands.specs.declared.request.Request.TheVariants.{ResetChanged};
 ghost use Rattle.hart_device.specs.Answer.{code_of, effect_of, is_answered, reading_of, state_after};
-ghost use Rattle.hart_device.specs.Device.{DeviceState, Nothing, Executes};
+ghost use Rattle.hart_device.specs.Device.{DeviceState, Nothing, Executes, Resets};
 
 /// A command that is refused, or not answered, has no effect, and leaves the device as it is.
 pub fn refused_commands_change_nothing()
@@ -25,6 +26,17 @@ pub fn writes_execute_their_overwrite()
         → effect_of state frame ≡ Executes overwrite
         → (is_answered state frame ≡ true) × (code_of state frame ≡ 0)
         × (request : Request) × (reading_of frame ≡ Ok request) × (overwrite_of request ≡ Some overwrite) }
+{}
+
+/// Command 38 that is answered with code 0 resets, and nothing else does; the counter that it names, if any, is the device's.
+pub fn resets_name_this_counter()
+    ensures resets { (state : DeviceState) (frame : FrameParts) (counter : Option ℕ)
+        → is_answered state frame ≡ true → code_of state frame ≡ 0 → reading_of frame ≡ Ok (ResetChanged counter)
+        → effect_of state frame ≡ Resets }
+    ensures only { (state : DeviceState) (frame : FrameParts)
+        → effect_of state frame ≡ Resets
+        → (is_answered state frame ≡ true) × (code_of state frame ≡ 0)
+        × (counter : Option ℕ) × (reading_of frame ≡ Ok (ResetChanged counter)) × IfSome counter (λ n. n ≡ state.counter) }
 {}
 
 /// An overwrite, another and the first again leave what the other and then the first leave.

@@ -38,7 +38,7 @@ pub use identity::Identity;
 pub use identity_parts::IdentityParts;
 pub use laws::{
     overwrites_absorb, refused_commands_change_nothing, registers_of_lists,
-    writes_execute_their_overwrite,
+    resets_name_this_counter, writes_execute_their_overwrite,
 };
 pub use process::{OutputValues, Process, ProcessVariable};
 pub use registers::RegisterStore;

@@ -1,0 +1,5 @@
+use Rattle.hart_device.proofs.EffectLemmas.{resets_only}
+use Rattle.hart_device.proofs.laws.resets_name_this_counter.Goals as goal
+
+pub returns-clause-only : goal.returns-clause-only
+returns-clause-only c = λ state frame. resets_only state frame
