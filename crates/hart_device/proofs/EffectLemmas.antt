@@ -1,17 +1,20 @@
 -- What a command does to a device.
-use Rattle.std.proofs.Common.{◌≡◌, ◌≢◌, ℕ, ap, ◌∙◌, refl, sym, arith}
+use Rattle.std.proofs.Common.{◌≡◌, ◌≢◌, ℕ, List, ap, ◌∙◌, refl, sym, subst, arith, slice_get}
 use Rattle.std.proofs.Common.{Bool, true, false, ◌==◌, ◌&&◌, ◌||◌, if◌then◌else◌}
 use Rattle.std.proofs.Common.{Option, None, Some, IfSome, Ok, Err}
 use Rattle.std.proofs.lemmas.Bool.{eqb-true}
 use Rattle.std.proofs.lemmas.Bool.Decides.{nat_tests}
 use Rattle.hart_commands.specs.RequestCode.{counter_code, is_write, judged}
 use Rattle.hart_commands.specs.RequestData.{Reading}
-use Rattle.hart_frame.specs.FrameParts.{FrameParts}
+use Rattle.hart_values.specs.declared.master_id.MasterId.{MasterId}
+use Rattle.hart_frame.specs.FrameParts.{FrameParts, reply_parts}
+use Rattle.hart_commands.specs.ReplyData.{reply_payload}
+use Rattle.hart_commands.specs.declared.reply.Reply.{Reply}
 use Rattle.hart_commands.specs.Registers.{NamedBytes, overwrite_of}
 use Rattle.hart_commands.specs.declared.request.Request.{Request}
 use Rattle.hart_commands.specs.declared.request.Request.TheVariants.{ResetChanged}
 use Rattle.hart_device.specs.Answer.{asked_effect, code_of, effect_of, executed, is_answered, reading_of}
-use Rattle.hart_device.specs.Device.{DeviceState, Effect, Nothing, Executes, Resets}
+use Rattle.hart_device.specs.Device.{DeviceState, Effect, Nothing, Executes, Resets, after}
 
 pub refused : (answered : Bool) (code : ℕ) (effect : Effect) → code ≢ 0
     → (if answered && (code == 0) then effect else Nothing) ≡ Nothing
@@ -95,3 +98,34 @@ resets_only state frame is =
     let named : counter_code (ResetChanged asked.0) state.counter ≡ 0 =
     ap (λ reading. judged reading state.counter) (sym asked.1) ∙ good in
     (parts.0, zero, asked.0, asked.1, named_counter asked.0 state.counter named)
+
+-- No effect changes who the device is, or whether it is protected.
+pub after_identity : (master : MasterId) (effect : Effect) (state : DeviceState) → (after master effect state).identity ≡ state.identity
+after_identity master Nothing state = refl
+after_identity master (Executes overwrite) state = refl
+after_identity master Resets state = refl
+
+pub after_protected : (master : MasterId) (effect : Effect) (state : DeviceState) → (after master effect state).protected ≡ state.protected
+after_protected master Nothing state = refl
+after_protected master (Executes overwrite) state = refl
+after_protected master Resets state = refl
+
+-- What is answered where a test holds is the reply, and the test holds.
+pub told_where : {A : Type 0} (holds : Bool) (told reply : A) → (if holds then Some told else None) ≡ Some reply
+    → (holds ≡ true) × (told ≡ reply)
+told_where true told reply is = (refl, cc)
+told_where false told reply is = cc
+
+pub silent_where : {A : Type 0} (holds : Bool) (told : A) → (if holds then Some told else None) ≡ None → holds ≡ false
+silent_where true told is = cc
+silent_where false told is = refl
+
+-- A reply's payload begins with its code.
+pub answered_where : (holds : Bool) (frame reply : FrameParts) (told : Reply)
+    → (if holds then Some (reply_parts frame (reply_payload told)) else None) ≡ Some reply
+    → (holds ≡ true) × (reply ≡ reply_parts frame reply.payload) × (slice_get reply.payload 0 ≡ Some told.code)
+answered_where holds frame reply told is =
+    let parts = told_where holds (reply_parts frame (reply_payload told)) reply is in
+    let payload : reply_payload told ≡ reply.payload = ap (λ (f : FrameParts). f.payload) parts.1 in
+    let P : List ℕ → Type 0 = λ bytes. slice_get bytes 0 ≡ Some told.code in
+    (parts.0, sym parts.1 ∙ ap (reply_parts frame) payload, subst P payload refl)

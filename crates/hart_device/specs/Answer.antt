@@ -23,7 +23,7 @@ use Rattle.hart_device.specs.Device.{DeviceState, Effect, Nothing, Executes, Res
 use Rattle.hart_device.specs.Identity.{own_numbers}
 use Rattle.hart_device.specs.Status.{device_status}
 
--- A request is an STX; an ACK is another device's reply.
+-- A request is an STX; an ACK is a device's reply.
 abbrev pub is_request : FrameKind → Bool
 is_request Stx = true
 is_request Ack = false
@@ -32,7 +32,7 @@ is_request Ack = false
 abbrev pub same_numbers : DeviceNumbers → DeviceNumbers → Bool
 same_numbers a b = (a.expanded_type == b.expanded_type) && (a.device_id == b.device_id)
 
--- The broadcast address has two zeros.
+-- The broadcast address is the unique address whose numbers are both zero; a polling address is none.
 abbrev pub is_broadcast : Address → Bool
 is_broadcast (Polling number) = false
 is_broadcast (Unique numbers) = same_numbers numbers (record { expanded_type = 0; device_id = 0 })
@@ -58,7 +58,7 @@ reading_of frame = request_reading frame.command frame.payload
 abbrev pub code_of : DeviceState → FrameParts → ℕ
 code_of state frame = request_code frame.command (reading_of frame) state.protected state.counter
 
--- Command 11 may name a tag that is not the device's.
+-- Command 11 names another device where its tag is not the bytes of the register Tag; every other request names none.
 abbrev pub names_another : DeviceState → Reading → Bool
 names_another state (Ok (IdentifyByTag tag)) = not (bytes_eq state.contents.tag tag)
 names_another state _ = false
@@ -69,7 +69,7 @@ abbrev pub is_answered_with : DeviceState → FrameParts → Reading → ℕ →
 is_answered_with state frame reading code =
     is_addressed state frame && not (names_another state reading) && not (is_broadcast frame.address && not (code == 0))
 
--- A frame is answered by what its data are read as, and by its code.
+-- A frame is answered, with what its data are read as and the code that it has in this state.
 abbrev pub is_answered : DeviceState → FrameParts → Bool
 is_answered state frame = is_answered_with state frame (reading_of frame) (code_of state frame)
 
@@ -78,7 +78,8 @@ abbrev pub executed : Option NamedBytes → Effect
 executed None = Nothing
 executed (Some overwrite) = Executes overwrite
 
--- What a request does with code 0: Command 38 resets, and a configuration write executes its overwrite.
+-- What a request does with code 0: Command 38 resets, a configuration write executes its overwrite, and every other request, as
+-- bad data, has no effect.
 abbrev pub asked_effect : Reading → Effect
 asked_effect (Ok (ResetChanged counter)) = Resets
 asked_effect (Ok request) = executed (overwrite_of request)

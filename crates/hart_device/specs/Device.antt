@@ -1,4 +1,5 @@
--- What a contract sees of a device, and how a command changes it (HCF_SPEC-127).
+-- What a contract sees of a device, and how a command changes it (HCF_SPEC-127; that Command 38 is no write, and that a write
+-- counts also where the value was there already, is of the own profile).
 use Rattle.std.specs.Prelude.{ℕ, ◌+◌, ◌%◌, ◌^◌, Bool, true, false}
 use Rattle.hart_values.specs.declared.master_id.MasterId.{MasterId}
 use Rattle.hart_commands.specs.Each.{Each, with_master}
@@ -7,8 +8,8 @@ use Rattle.hart_device.specs.declared.identity_parts.IdentityParts.{IdentityPart
 use Rattle.hart_device.specs.declared.values.RegisterValues.{RegisterValues}
 use Rattle.hart_device.specs.Values.{values_of}
 
--- A device is who it is, what its registers hold, its configuration change counter, for each master whether the configuration
--- has changed since it was told, and whether it is write protected.
+-- A device is who it is, what its registers hold, its configuration change counter, for each master its configuration-changed
+-- bit, which is set where the configuration has changed since this master last reset it, and whether it is write protected.
 pub record DeviceState : Type 0 where
   pub identity : IdentityParts
   pub contents : Contents
@@ -16,7 +17,8 @@ pub record DeviceState : Type 0 where
   pub changed : Each Bool
   pub protected : Bool
 
--- A new device holds the values that it is given, has counted nothing and told nothing, and is not protected.
+-- A new device holds the values that it is given; its counter is 0, no master's configuration-changed bit is set, and it is not
+-- protected.
 abbrev pub new_device : IdentityParts → RegisterValues → DeviceState
 new_device identity values = record {
   identity = identity;

@@ -23,7 +23,7 @@ abbrev pub own_numbers : IdentityParts → DeviceNumbers
 own_numbers parts = record { expanded_type = parts.expanded_device_type % 2 ^ 14; device_id = parts.device_id }
 
 -- Parts are an identity where they are in range and the device's unique address is not the broadcast address.
-pub record IsIdentity (parts : IdentityParts) : Type 0 where
+pub record AreIdentityParts (parts : IdentityParts) : Type 0 where
   pub in_range : IsInRange parts
   pub own_address : ¬ (Unique (own_numbers parts) ≡ broadcast)
 

@@ -13,7 +13,7 @@ dynamic_variables process = process.first ∷ process.others
 abbrev pub extended_device_status : Process → ℕ
 extended_device_status process = slice_index process.additional_status 6
 
--- One of some bytes is not zero.
+-- Some byte of a list is not zero.
 abbrev pub is_any_set : List ℕ → Bool
 is_any_set bytes = list_any (λ byte. not (byte == 0)) bytes
 

@@ -19,7 +19,7 @@ bit_where holds bit = if holds then bit else 0
 abbrev pub is_loop_current_fixed : DeviceState → Bool
 is_loop_current_fixed state = slice_index state.contents.mode 0 == 0
 
--- Beside the bits of the process a device shows a master hex 40 where the configuration has changed since this master was told,
+-- Beside the bits of the process a device shows a master hex 40 where its configuration-changed bit is set,
 -- 10 where more status is available, and 08 where the loop current is fixed.
 abbrev pub device_status : DeviceState → Process → MasterId → ℕ
 device_status state process master =

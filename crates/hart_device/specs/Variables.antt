@@ -1,4 +1,4 @@
--- The device variables that Command 9 asks for by their codes (HCF_SPEC-127; what the status of 244 and 245 is, and that 0 to 3
+-- The device variables that Command 9 asks for by their codes (HCF_SPEC-127; what classification and status 244 and 245 have, and that 0 to 3
 -- stand for the dynamic variables too, is of the own profile).
 use Rattle.std.specs.Prelude.{ℕ, ◌-◌, ◌==◌, ◌&&◌, nat_lt, if◌then◌else◌, [], ◌∷◌, Option, Some, None, slice_get, unwrap_or}
 use Rattle.hart_commands.specs.declared.value.VariableReading.{VariableReading}
@@ -16,7 +16,7 @@ abbrev pub current_variable : Process → ProcessVariable
 current_variable process =
     record { classification = 0; unit = 39; value = process.loop_current; status = process.first.status }
 
--- A variable that is not there has unit 250, the value 7F A0 00 00 and the status hex 30.
+-- A variable that is not there has classification 0, unit 250, the value 7F A0 00 00 and the status hex 30.
 abbrev pub missing_variable : ProcessVariable
 missing_variable = record {
   classification = 0;
@@ -37,7 +37,8 @@ abbrev pub dynamic_at : Process → Option ℕ → Option ProcessVariable
 dynamic_at process None = None
 dynamic_at process (Some place) = slice_get (dynamic_variables process) place
 
--- The variable of a code: 244 is the percent of range and 245 the loop current.
+-- The variable of a code: 244 is the percent of range, 245 the loop current, and 246 to 249 and 0 to 3 are dynamic variables; of
+-- any other code, or of a dynamic variable that the process lacks, it is not there.
 abbrev pub variable_of_code : Process → ℕ → ProcessVariable
 variable_of_code process code =
     if code == 244 then percent_variable process

@@ -142,7 +142,7 @@ impl<S: RegisterStore> Device<S> {
 
     /// What the device answers to a frame, or silence, `None`, which changes nothing.
     ///
-    /// The reply is told of the state after the command.
+    /// The reply tells the state after the command.
     pub fn receive(&mut self, frame: &Frame, process: &Process) -> Option<Frame>
         ensures answer { result ≡ answer_of self.old process.now frame.now }
         ensures state { self.new ≡ state_after self.old frame.now }

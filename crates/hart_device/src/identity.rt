@@ -1,6 +1,6 @@
 ghost use Rattle.std.specs.Prelude.{◌≡◌, ◌<◌, ◌^◌, ◌↔◌, IsOk, IfOk, IfErr, IsTrue};
 ghost use Rattle.hart_frame.specs.Message.{IsPreambleCount};
-ghost use Rattle.hart_device.specs.Identity.{IsIdentity, IsIdentityFault, IsInRange, own_numbers, identity_content, three_bytes};
+ghost use Rattle.hart_device.specs.Identity.{AreIdentityParts, IsIdentityFault, IsInRange, own_numbers, identity_content, three_bytes};
 
 use crate::{DeviceFault, IdentityParts};
 use hart_commands::IdentityContent;
@@ -21,13 +21,13 @@ pub struct Identity {
 
 impl Model for Identity {
     ghost use Rattle.hart_device.specs.declared.identity_parts.IdentityParts.{IdentityParts};
-    ghost use Rattle.hart_device.specs.Identity.{IsIdentity};
+    ghost use Rattle.hart_device.specs.Identity.{AreIdentityParts};
 
     ghost Value = { IdentityParts };
 
     ghost view = { λ identity. identity.parts };
 
-    ghost invariant = { λ identity. IsIdentity identity.parts };
+    ghost invariant = { λ identity. AreIdentityParts identity.parts };
 
     ghost inverse = { λ parts. record { parts = parts } };
 }
@@ -41,7 +41,7 @@ impl Identity {
     /// hardware revision is above 31 or the signalling code is above 7; then [`DeviceFault::BroadcastAddress`] where the lower
     /// 14 bits of the type and the device id are all zero.
     pub fn new(parts: IdentityParts) -> Result<Self, DeviceFault>
-        ensures accepted { IsOk result ↔ IsIdentity parts }
+        ensures accepted { IsOk result ↔ AreIdentityParts parts }
         ensures kept { IfOk result (λ identity. identity ≡ parts) }
         ensures refused { IfErr result (λ fault. IsIdentityFault parts fault) }
     {

@@ -1,11 +1,12 @@
 //! Laws over the definitions alone, for the crates above.
-ghost use Rattle.std.specs.Prelude.{◌≡◌, ◌≢◌, ℕ, false, true, List, [], ◌∷◌, ◌++◌, Contains, Ok, Option, Some, IfSome, unwrap_or};
-ghost use Rattle.hart_frame.specs.FrameParts.{FrameParts};
+ghost use Rattle.std.specs.Prelude.{◌≡◌, ◌≢◌, ℕ, false, true, List, [], ◌∷◌, ◌++◌, Contains, Ok, Option, None, Some, IfSome, slice_get, unwrap_or};
+ghost use Rattle.hart_frame.specs.FrameParts.{FrameParts, reply_parts};
 ghost use Rattle.hart_commands.specs.Registers.{Contents, NamedBytes, bytes_in, last_named, overwrite_of, overwritten, registers_of};
 ghost use Rattle.hart_commands.specs.declared.register.Register.{Register};
 ghost use Rattle.hart_commands.specs.declared.request.Request.{Request};
 ghost use Rattle.hart_commands.specs.declared.request.Request.TheVariants.{ResetChanged};
-ghost use Rattle.hart_device.specs.Answer.{code_of, effect_of, is_answered, reading_of, state_after};
+ghost use Rattle.hart_device.specs.Answer.{answer_of, code_of, effect_of, is_answered, reading_of, state_after};
+ghost use Rattle.hart_device.specs.declared.process.Process.{Process};
 ghost use Rattle.hart_device.specs.Device.{DeviceState, Nothing, Executes, Resets};
 
 /// A command that is refused, or not answered, has no effect, and leaves the device as it is.
@@ -14,6 +15,23 @@ pub fn refused_commands_change_nothing()
     ensures silent { (state : DeviceState) (frame : FrameParts)
         → is_answered state frame ≡ false → effect_of state frame ≡ Nothing }
     ensures stays { (state : DeviceState) (frame : FrameParts) → effect_of state frame ≡ Nothing → state_after state frame ≡ state }
+{}
+
+/// An answer is a reply to the frame, whose first byte is the frame's response code; silence means that the frame is not
+/// answered.
+pub fn answers_tell_their_code()
+    ensures answered { (state : DeviceState) (process : Process) (frame reply : FrameParts)
+        → answer_of state process frame ≡ Some reply
+        → (is_answered state frame ≡ true) × (reply ≡ reply_parts frame reply.payload)
+        × (slice_get reply.payload 0 ≡ Some (code_of state frame)) }
+    ensures silent { (state : DeviceState) (process : Process) (frame : FrameParts)
+        → answer_of state process frame ≡ None → is_answered state frame ≡ false }
+{}
+
+/// No frame changes who the device is, or whether it is protected.
+pub fn frames_leave_identity_and_protection()
+    ensures identity { (state : DeviceState) (frame : FrameParts) → (state_after state frame).identity ≡ state.identity }
+    ensures protected { (state : DeviceState) (frame : FrameParts) → (state_after state frame).protected ≡ state.protected }
 {}
 
 /// A configuration write that is answered with code 0 executes its own overwrite, and nothing else executes one.

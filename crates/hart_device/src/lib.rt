@@ -2,7 +2,7 @@
 //! state afterwards.
 //!
 //! A [`Device`] is an [`Identity`], registers in a [`RegisterStore`], a configuration change counter, for each master whether
-//! the configuration has changed since it was told, and whether the device is write protected. What the device measures is
+//! the configuration has changed since it last reset this, and whether the device is write protected. What the device measures is
 //! handed in with each request, as a [`Process`].
 //!
 //! ```rust
@@ -37,8 +37,9 @@ pub use field_registers::FieldRegisters;
 pub use identity::Identity;
 pub use identity_parts::IdentityParts;
 pub use laws::{
-    overwrites_absorb, refused_commands_change_nothing, registers_of_lists,
-    resets_name_this_counter, writes_execute_their_overwrite,
+    answers_tell_their_code, frames_leave_identity_and_protection, overwrites_absorb,
+    refused_commands_change_nothing, registers_of_lists, resets_name_this_counter,
+    writes_execute_their_overwrite,
 };
 pub use process::{OutputValues, Process, ProcessVariable};
 pub use registers::RegisterStore;

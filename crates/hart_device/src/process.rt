@@ -9,7 +9,7 @@ use hart_values::Bits32;
 const EXTENDED_DEVICE_STATUS: usize = 6;
 
 /// A dynamic variable (HCF_SPEC-127).
-#[derive(Clone, Copy, Debug, PartialEq, Eq)]
+#[derive(Clone, Copy, Debug, Default, PartialEq, Eq)]
 pub struct ProcessVariable {
     /// The classification.
     pub classification: u8,
@@ -19,17 +19,6 @@ pub struct ProcessVariable {
     pub value: Bits32,
     /// The status.
     pub status: u8,
-}
-
-impl Default for ProcessVariable {
-    fn default() -> Self {
-        ProcessVariable {
-            classification: 0,
-            unit: 0,
-            value: Bits32([0; 4]),
-            status: 0,
-        }
-    }
 }
 
 /// The values of the loop current output (HCF_SPEC-127, Command 15).
@@ -87,8 +76,8 @@ impl Process {
         ensures { result ≡ has_more_status self.now }
     {
         let (before, _) = self.additional_status.split_at(EXTENDED_DEVICE_STATUS);
-        let (_, behind) = self.additional_status.split_at(EXTENDED_DEVICE_STATUS + 1);
-        is_any_set(before) || is_any_set(behind)
+        let (_, after) = self.additional_status.split_at(EXTENDED_DEVICE_STATUS + 1);
+        is_any_set(before) || is_any_set(after)
     }
 }
 
