@@ -2,6 +2,13 @@
 use Rattle.std.proofs.Common.{◌≡◌, ℕ, List, Option, None, Some, Result, Ok, Err, inl, inr, refl, sym, ap, ◌∙◌, subst}
 use Rattle.std.specs.Result.{IsErrAnd}
 use Rattle.hart_frame.specs.Character.{Character}
+use Rattle.hart_frame.specs.FrameParts.{FrameParts}
+use Rattle.hart_frame.specs.Frames.{AreFrames}
+use Rattle.hart_frame.specs.declared.found.Found.{Found}
+use Rattle.hart_device.specs.Bench.{bench_process}
+use Rattle.hart_device.specs.Delivery.{answer_to}
+use Rattle.hart_device.specs.Device.{DeviceState}
+use Rattle.hart_device.specs.declared.process.Process.{Process}
 use Rattle.hart_cli.specs.declared.fault.CliFault.{CliFault}
 use Rattle.hart_cli.specs.declared.fault.CliFault.TheVariants.{BadHex}
 use Rattle.hart_cli.specs.declared.input.InputEnd.{InputEnd}
@@ -9,28 +16,44 @@ use Rattle.hart_cli.specs.declared.input.InputEnd.TheVariants.{Ended}
 use Rattle.hart_cli.specs.Input.{Reads}
 use Rattle.hart_cli.specs.Items.{ReadsAs}
 use Rattle.hart_cli.specs.Stream.{Stream}
-use Rattle.hart_cli.specs.Delivery.{identity_reply}
 use Rattle.hart_cli.specs.Hearing.{Hears}
-use Rattle.hart_cli.specs.Answer.{AnswerOutcome, HasAnswer, IsAnswer, IsTextFor}
-use Rattle.hart_cli.proofs.DeliveryLemmas.{IsRequest-one, OneFirst}
+use Rattle.hart_cli.specs.Answer.{AnswerOutcome, HasAnswer, IsAnswer, IsAnswerText, IsTextFor, bench_device}
 use Rattle.hart_cli.proofs.DumpLemmas.{OneHearing}
 use Rattle.hart_cli.proofs.KnownBytesLemmas.{Keeps-same}
 use Rattle.hart_cli.proofs.MessageLineLemmas.{IsMessageLine-one, OneBody}
 
+-- the law of frames: a list has one list of frames
+abbrev pub OneList : Type 0
+OneList = (chars : List Character) (from : ℕ) (founds others : List Found) → AreFrames chars from founds → AreFrames chars from others
+    → founds ≡ others
+
+-- an answer has one text
+IsAnswerText-one : OneBody → (answer : Option FrameParts) (xs ys : List ℕ) → IsAnswerText answer xs → IsAnswerText answer ys → xs ≡ ys
+IsAnswerText-one bodies None xs ys p q = p ∙ sym q
+IsAnswerText-one bodies (Some reply) xs ys p q = IsMessageLine-one bodies reply reply _ xs ys refl p q
+
 -- a delivery has one text
-IsTextFor-one : OneFirst → OneBody → (delivery : List Character) (xs ys : List ℕ) → IsTextFor delivery xs → IsTextFor delivery ys → xs ≡ ys
-IsTextFor-one firsts bodies delivery xs ys (inl p) (inl q) =
-    IsMessageLine-one bodies _ _ _ xs ys (ap identity_reply (IsRequest-one firsts p.0 q.0 delivery p.1 q.1)) p.2 q.2
-IsTextFor-one firsts bodies delivery xs ys (inl p) (inr q) = absurd (q.0 p.0 p.1)
-IsTextFor-one firsts bodies delivery xs ys (inr p) (inl q) = absurd (p.0 q.0 q.1)
-IsTextFor-one firsts bodies delivery xs ys (inr p) (inr q) = p.1 ∙ sym q.1
+IsTextFor-one : OneList → OneBody → (delivery : List Character) (xs ys : List ℕ) → IsTextFor delivery xs → IsTextFor delivery ys
+    → xs ≡ ys
+IsTextFor-one lists bodies delivery xs ys p q =
+    let P : List Found → Type 0 = λ frames. IsAnswerText (answer_to bench_device bench_process frames) xs in
+    IsAnswerText-one bodies _ xs ys (subst P (lists delivery 0 p.frames q.frames p.are_frames q.are_frames) p.answered) q.answered
+
+-- what the bench device answers has its text
+pub IsTextFor-heard : (delivery : List Character) (frames : List Found) (device : DeviceState) (process : Process)
+    (heard answer : Option FrameParts) (text : List ℕ) → device ≡ bench_device → process ≡ bench_process → AreFrames delivery 0 frames
+    → heard ≡ answer_to device process frames → heard ≡ answer → IsAnswerText answer text → IsTextFor delivery text
+IsTextFor-heard delivery frames device process heard answer text same_device same_process are_frames answers is has =
+    let same : answer ≡ answer_to bench_device bench_process frames = cc in
+    let P : Option FrameParts → Type 0 = λ a. IsAnswerText a text in
+    record { frames = frames; are_frames = are_frames; answered = subst P same has }
 
 -- an input has one answer
-pub IsAnswer-one : OneFirst → OneBody → OneHearing → (input xs ys : List ℕ) → IsAnswer input xs → IsAnswer input ys → xs ≡ ys
-IsAnswer-one firsts bodies hearings input xs ys p q =
+pub IsAnswer-one : OneList → OneBody → OneHearing → (input xs ys : List ℕ) → IsAnswer input xs → IsAnswer input ys → xs ≡ ys
+IsAnswer-one lists bodies hearings input xs ys p q =
     let same = (hearings input Ended p.delivery q.delivery None None (Hears.all p.delivery p.reads) (Hears.all q.delivery q.reads)).0 in
     let P : List Character → Type 0 = λ delivery. IsTextFor delivery xs in
-    IsTextFor-one firsts bodies q.delivery xs ys (subst P same p.text_for) q.text_for
+    IsTextFor-one lists bodies q.delivery xs ys (subst P same p.text_for) q.text_for
 
 -- an input that ended without a fault reads as its characters
 whole_reads : (text : List ℕ) (end : InputEnd) (chars : List Character) (told : Option CliFault) → end ≡ Ended → told ≡ None

@@ -1,6 +1,5 @@
 mod AnswerLemmas
 mod CommandLineLemmas
-mod DeliveryLemmas
 mod DigitsLemmas
 mod DumpLemmas
 mod EncodeLemmas

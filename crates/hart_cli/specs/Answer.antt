@@ -1,26 +1,34 @@
 -- What `hart answer` writes for what it reads (own profile).
-use Rattle.std.specs.Prelude.{◌≡◌, ◌⊎◌, ℕ, List, [], Result, Ok, Err}
-use Rattle.hart_values.specs.declared.master_id.MasterId.{MasterId}
+use Rattle.std.specs.Prelude.{◌≡◌, ℕ, List, [], Option, None, Some, Result, Ok, Err}
 use Rattle.hart_frame.specs.Character.{Character}
+use Rattle.hart_frame.specs.FrameParts.{FrameParts}
+use Rattle.hart_frame.specs.Frames.{AreFrames}
+use Rattle.hart_frame.specs.declared.found.Found.{Found}
+use Rattle.hart_device.specs.Bench.{bench_identity, bench_process, bench_values}
+use Rattle.hart_device.specs.Delivery.{answer_to}
+use Rattle.hart_device.specs.Device.{DeviceState, new_device}
 use Rattle.hart_cli.specs.declared.fault.CliFault.{CliFault}
 use Rattle.hart_cli.specs.declared.fault.CliFault.TheVariants.{BadHex, BadWord, Memory, Read, TooLong, Write}
 use Rattle.hart_cli.specs.declared.input.InputEnd.TheVariants as ends
-use Rattle.hart_cli.specs.Delivery.{IsRequest, identity_reply}
-use Rattle.hart_cli.specs.Identity.{bench_identity}
 use Rattle.hart_cli.specs.Input.{LacksMemory, Reads}
 use Rattle.hart_cli.specs.Items.{IsBadHexAt, ReadsAs}
 use Rattle.hart_cli.specs.MessageLine.{IsMessageLine}
 use Rattle.hart_cli.specs.Stream.{FailsToWrite, Stream, WritesAll, WritesNothing}
 
--- The text of the reply to a master is the line of its message, with as many preamble bytes as the identity says.
-abbrev pub IsReplyText : MasterId → List ℕ → Type 0
-IsReplyText master text = IsMessageLine (identity_reply master) bench_identity.response_preambles text
+-- The device is the bench device, as it is new.
+abbrev pub bench_device : DeviceState
+bench_device = new_device bench_identity bench_values
 
--- The text for a delivery is that of the reply where it asks for the identity, and nothing for every other delivery.
-abbrev pub IsTextFor : List Character → List ℕ → Type 0
-IsTextFor delivery text =
-    ((master : MasterId) × IsRequest master delivery × IsReplyText master text)
-    ⊎ (((master : MasterId) → IsRequest master delivery → ⊥) × (text ≡ []))
+-- The text of an answer is the line of its message, with as many preamble bytes as the identity says; silence has no text.
+abbrev pub IsAnswerText : Option FrameParts → List ℕ → Type 0
+IsAnswerText None text = text ≡ []
+IsAnswerText (Some reply) text = IsMessageLine reply bench_identity.response_preambles text
+
+-- The text for a delivery is that of what the device answers, which hears all of its characters at once.
+pub record IsTextFor (delivery : List Character) (text : List ℕ) : Type 0 where
+  pub frames : List Found
+  pub are_frames : AreFrames delivery 0 frames
+  pub answered : IsAnswerText (answer_to bench_device bench_process frames) text
 
 -- The text for an input is the text for the delivery that it reads as.
 pub record IsAnswer (input text : List ℕ) : Type 0 where

@@ -5,8 +5,6 @@ pub mod Items
 pub mod Hearing
 pub mod HexText
 pub mod MessageLine
-pub mod Identity
-pub mod Delivery
 pub mod Answer
 pub mod DumpText
 pub mod Dump

@@ -1,21 +1,19 @@
-//! `hart answer`: the device's reply to one delivery.
-ghost use Rattle.std.specs.Prelude.{◌≡◌, ℕ, List};
-ghost use Rattle.hart_cli.specs.Answer.{AnswerOutcome, IsAnswer, IsReplyText};
-ghost use Rattle.hart_cli.specs.Delivery.{identity_reply};
+//! `hart answer`: what the bench device answers to one delivery.
+ghost use Rattle.std.specs.Prelude.{◌≡◌, ℕ, List, [], MatchOption};
+ghost use Rattle.hart_cli.specs.Answer.{AnswerOutcome, IsAnswer, IsTextFor};
 
-use crate::delivery::requesting_master;
 use crate::fault::CliFault;
 use crate::hex_text::HexLine;
-use crate::identity::Identity;
 use crate::input::{InputEnd, read_input};
 use crate::items::{hear, one_hearing};
 use crate::output::{message_line, write_all};
 use crate::stream::{Sink, Source};
-use hart_frame::{Expansion, Frame, FrameKind, bodies_are_told_apart, frames_are_told_apart};
-use hart_values::{Address, MasterId};
+use hart_device::{Device, FieldRegisters, bench};
+use hart_frame::{Char, bodies_are_told_apart, every_list_has_frames, frames_are_told_apart};
 use std::alloc::Global;
 
-/// Reads a delivery as hex items, and writes the device's reply to it as one line of hex, or nothing.
+/// Reads a delivery as hex items, and writes what the bench device answers to it as one line of hex, or nothing where it is
+/// silent.
 ///
 /// # Errors
 ///
@@ -42,10 +40,10 @@ pub fn answer<R: Source, W: Sink>(
     if let Some(fault) = delivery.fault {
         return Err(fault);
     }
-    let Some(master) = requesting_master(&delivery.chars) else {
+    let Some(line) = answer_line(&delivery.chars) else {
         return Ok(());
     };
-    write_all(writer, reply_line(master).as_slice())?;
+    write_all(writer, line.as_slice())?;
     Ok(())
 }
 
@@ -59,28 +57,17 @@ pub fn one_answer()
     one_hearing();
 }
 
-/// The line of the reply to this master.
-fn reply_line(master: MasterId) -> HexLine
-    ensures { IsReplyText master result }
+/// The line of what the bench device answers to a delivery, or `None` where it is silent.
+fn answer_line(delivery: &[Char]) -> Option<HexLine>
+    ensures { MatchOption result (IsTextFor delivery.now []) (IsTextFor delivery.now) }
 {
-    let preambles = Identity::bench().response_preambles;
-    message_line(&reply_to(master), preambles)
-}
-
-/// The bench device's reply to this master.
-fn reply_to(master: MasterId) -> Frame
-    ensures { result ≡ identity_reply master }
-{
-    let address = Address::polling(0).unwrap();
-    let payload = Identity::bench().reply_payload();
-    Frame::new(
-        FrameKind::Ack,
-        master,
-        false,
-        address,
-        Expansion::new(),
-        0,
-        payload,
-    )
-    .unwrap()
+    // It does nothing when it runs: by this law a delivery has frames, of which the device speaks.
+    every_list_has_frames();
+    let mut device: Device<FieldRegisters> = Device::new(
+        bench::identity(),
+        &bench::register_values(),
+    );
+    let preambles = device.response_preambles();
+    let reply = device.hear(delivery, &bench::process())?;
+    Some(message_line(&reply, preambles))
 }

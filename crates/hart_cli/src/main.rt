@@ -5,12 +5,10 @@
 #![tactic(auto)]
 
 mod answer;
-mod delivery;
 mod dump;
 mod encode;
 mod fault;
 mod hex_text;
-mod identity;
 mod input;
 mod items;
 mod line;

@@ -1,7 +1,6 @@
-use Rattle.std.proofs.Common.{[], List, inl, inr, refl, subst}
+use Rattle.std.proofs.Common.{ℕ, List, [], refl, subst}
 use Rattle.hart_frame.specs.Character.{Character}
-use Rattle.hart_values.specs.declared.master_id.MasterId.{MasterId}
-use Rattle.hart_cli.specs.Delivery.{IsRequest}
+use Rattle.hart_cli.specs.Answer.{IsTextFor}
 use Rattle.hart_cli.specs.declared.fault.CliFault.TheVariants.{Write}
 use Rattle.hart_cli.proofs.AnswerLemmas.{AnswerOutcome-fault, HasAnswer-read, told_as}
 use Rattle.hart_cli.proofs.KnownBytesLemmas.{Appends-nothing}
@@ -15,32 +14,32 @@ returns-in-Some g c =
     (g.W.Sink.stream c.args.writer.now)
     _ _ _ _ c.in-Some.fault c.in-Ended.is c.in-Some.is c.in_ok-input.ensures.reads c.in_ok-delivery.ensures
 
-pub returns-in_default-requesting_master : goal.returns-in_default-requesting_master
-returns-in_default-requesting_master g c =
-    let Silent : List Character → Type 0 = λ chars. (master : MasterId) → IsRequest master chars → ⊥ in
-    let silent = subst Silent c.deref.ensures.value c.in_default-requesting_master.ensures.silent in (
+pub returns-in_default-answer_line : goal.returns-in_default-answer_line
+returns-in_default-answer_line g c =
+    let Silent : List Character → Type 0 = λ chars. IsTextFor chars [] in
+    let silent = subst Silent c.deref.ensures.value c.in_default-answer_line.ensures in (
       [],
-      HasAnswer-read _ _ _ _ _ _ [] c.in-Ended.is c.in_default.is c.in_ok-input.ensures.reads c.in_ok-delivery.ensures (inr (silent, refl)),
+      HasAnswer-read _ _ _ _ _ _ [] c.in-Ended.is c.in_default.is c.in_ok-input.ensures.reads c.in_ok-delivery.ensures silent,
       (Appends-nothing _, refl),
     )
 
 pub returns-in_err-write_all : goal.returns-in_err-write_all
 returns-in_err-write_all g c =
-    let Asks : List Character → Type 0 = λ chars. IsRequest c.in-Some-requesting_master.master chars in
-    let asks = subst Asks c.deref.ensures.value c.in-Some-requesting_master.ensures.asks in
+    let line : List ℕ = c.in-Some-answer_line.line in
+    let Told : List Character → Type 0 = λ chars. IsTextFor chars line in
+    let told = subst Told c.deref.ensures.value c.in-Some-answer_line.ensures in
     rw (told_as _ Write c.from_residual-in_err-write_all.ensures.1) (
-      c.reply_line.result,
-      HasAnswer-read _ _ _ _ _ _ _ c.in-Ended.is c.in_default.is c.in_ok-input.ensures.reads c.in_ok-delivery.ensures
-          (inl (c.in-Some-requesting_master.master, asks, c.reply_line.ensures)),
+      line,
+      HasAnswer-read _ _ _ _ _ _ _ c.in-Ended.is c.in_default.is c.in_ok-input.ensures.reads c.in_ok-delivery.ensures told,
       rw c.as_slice.ensures.value at c.in_err-write_all.ensures,
     )
 
 pub returns : goal.returns
 returns g c =
-    let Asks : List Character → Type 0 = λ chars. IsRequest c.in-Some-requesting_master.master chars in
-    let asks = subst Asks c.deref.ensures.value c.in-Some-requesting_master.ensures.asks in (
-      c.reply_line.result,
-      HasAnswer-read _ _ _ _ _ _ _ c.in-Ended.is c.in_default.is c.in_ok-input.ensures.reads c.in_ok-delivery.ensures
-          (inl (c.in-Some-requesting_master.master, asks, c.reply_line.ensures)),
+    let line : List ℕ = c.in-Some-answer_line.line in
+    let Told : List Character → Type 0 = λ chars. IsTextFor chars line in
+    let told = subst Told c.deref.ensures.value c.in-Some-answer_line.ensures in (
+      line,
+      HasAnswer-read _ _ _ _ _ _ _ c.in-Ended.is c.in_default.is c.in_ok-input.ensures.reads c.in_ok-delivery.ensures told,
       rw c.as_slice.ensures.value at c.in_ok-write_all.ensures,
     )

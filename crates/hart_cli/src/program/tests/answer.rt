@@ -39,11 +39,91 @@ const ROWS: &[(&str, &str)] = &[
     ("FF FF 02 80 01 00 83", ""),
     ("FF FF 06 80 00 02 00 00 84", ""),
     ("FF FF 22 80 55 00 00 F7", ""),
-    ("FF FF 82 B7 42 0A 1B 2C 00 00 4A", ""),
+    ("FF FF 82 B7 42 0A 1B 2D 00 00 4B", ""),
+    ("FF FF 82 80 00 00 00 00 0B 06 41 53 50 B7 1C 31 D7", ""),
+    ("FF FF 82 80 00 00 00 00 00 00 02", ""),
 ];
 
+/// What a request to the device's own unique address has after that address, and what its reply has there.
+const OWN_ROWS: &[(&str, &str)] = &[
+    (
+        "00 00 4A",
+        "00 18 00 00 FE 37 42 05 07 01 02 18 00 0A 1B 2C 05 04 00 00 00 00 37 00 37 01 F9",
+    ),
+    ("01 00 4B", "01 07 00 00 20 41 C8 00 00 E1"),
+    ("02 00 48", "02 0A 00 00 41 40 00 00 42 48 00 00 4D"),
+    ("03 00 49", "03 0B 00 00 41 40 00 00 20 41 C8 00 00 EE"),
+    ("04 00 4E", "04 02 40 00 08"),
+    ("06 02 40 01 0F", "06 02 02 00 48"),
+    ("06 02 3F 02 73", "06 02 0C 00 46"),
+    ("06 01 05 48", "06 04 00 48 05 00 01"),
+    ("08 00 42", "08 06 00 00 00 00 00 00 40"),
+    (
+        "09 02 F5 09 BD",
+        "09 17 00 00 00 F5 00 27 41 40 00 00 C0 09 00 FA 7F A0 00 00 30 00 00 00 00 5F",
+    ),
+    (
+        "0E 00 44",
+        "0E 12 00 00 00 00 00 20 43 48 00 00 00 00 00 00 41 20 00 00 18",
+    ),
+    (
+        "0F 00 45",
+        "0F 14 00 00 00 00 20 42 C8 00 00 00 00 00 00 3F 80 00 00 00 FA 00 BA",
+    ),
+    (
+        "11 18 82 08 20 82 08 20 82 08 20 82 08 20 82 08 20 82 08 20 82 08 20 82 08 20 43",
+        "11 1A 00 40 82 08 20 82 08 20 82 08 20 82 08 20 82 08 20 82 08 20 82 08 20 82 08 20 05",
+    ),
+    (
+        "12 15 41 53 50 B7 1C 31 82 08 20 82 08 20 82 08 20 82 08 20 1D 02 00 8A",
+        "12 02 09 00 57",
+    ),
+    ("13 03 01 23 45 3D", "13 05 00 40 01 23 45 7F"),
+    ("13 02 01 23 79", "13 02 05 00 5A"),
+    ("13 04 01 23 45 67 5D", "13 05 00 40 01 23 45 7F"),
+    ("26 00 6C", "26 04 00 00 00 00 6C"),
+    ("26 01 00 6D", "26 02 05 00 6F"),
+    (
+        "30 00 7A",
+        "30 1B 00 00 00 00 00 00 00 00 00 00 00 00 00 00 00 00 00 00 00 00 00 00 00 00 00 00 00 65",
+    ),
+];
+
+/// What stands before these in a request.
+const REQUEST: &str = "FF FF FF FF FF 82 B7 42 0A 1B 2C ";
+
+/// What stands before these in a reply.
+const REPLY: &str = "FF FF FF FF FF 86 B7 42 0A 1B 2C ";
+
 #[test]
-fn command_0_alone_is_answered(rt: HostRuntime) -> Result<(), Fail> {
+fn every_command_is_answered_at_the_own_address(rt: HostRuntime) -> Result<(), Fail> {
+    for (asked, told) in OWN_ROWS {
+        let input = format!(in rt.alloc(); "{REQUEST}{asked}")?;
+        let want = format!(in rt.alloc(); "{REPLY}{told}\n")?;
+        let run = run_on(rt.alloc(), &["answer"], input.as_str())?;
+        assert_eq!(rt; run.status, DONE, "on {asked}");
+        assert_eq!(rt; run.output.taken(), want.as_bytes(), "on {asked}");
+        assert!(rt; run.errors.taken().is_empty(), "on {asked}");
+    }
+    Ok(())
+}
+
+#[test]
+fn several_requests_in_one_delivery_are_met_with_silence(rt: HostRuntime) -> Result<(), Fail> {
+    let mut input = String::new(rt.alloc());
+    for (asked, _told) in OWN_ROWS {
+        input.push_str(REQUEST)?;
+        input.push_str(asked)?;
+        input.push_str("\n")?;
+    }
+    let run = run_on(rt.alloc(), &["answer"], input.as_str())?;
+    assert_eq!(rt; run.status, DONE);
+    assert!(rt; run.output.taken().is_empty() && run.errors.taken().is_empty());
+    Ok(())
+}
+
+#[test]
+fn deliveries_are_answered_or_met_with_silence(rt: HostRuntime) -> Result<(), Fail> {
     for (input, want) in ROWS {
         let run = run_on(rt.alloc(), &["answer"], input)?;
         assert_eq!(rt; run.status, DONE, "on {input}");
