@@ -1,0 +1,119 @@
+-- Whether a delivery is accepted is decided.
+use Rattle.std.proofs.Common.{◌≡◌, ℕ, List, [], ◌∷◌, ap, ◌∙◌, ◌⊎◌, inl, inr, Option, None, Some, refl}
+use Rattle.std.proofs.lemmas.Bool.Decides.{eqb_tells}
+use Rattle.hart_values.specs.DeviceNumbers.{DeviceNumbers}
+use Rattle.hart_values.specs.declared.master_id.MasterId.{MasterId}
+use Rattle.hart_values.specs.declared.master_id.MasterId.TheVariants.{Primary, Secondary}
+use Rattle.hart_values.specs.declared.address.Address.{Address}
+use Rattle.hart_values.specs.declared.address.Address.TheVariants.{Polling, Unique}
+use Rattle.hart_frame.specs.Character.{Character}
+use Rattle.hart_frame.specs.FrameParts.{FrameParts}
+use Rattle.hart_frame.specs.Frames.{AreFrames}
+use Rattle.hart_frame.specs.declared.found.Found.{Found}
+use Rattle.hart_frame.specs.declared.kind.FrameKind.{FrameKind}
+use Rattle.hart_frame.specs.declared.kind.FrameKind.TheVariants.{Stx, Ack}
+use Rattle.hart_commands.specs.RequestData.{command_of}
+use Rattle.hart_commands.specs.ReplyData.{reply_reading}
+use Rattle.hart_commands.specs.declared.request.Request.{Request}
+use Rattle.hart_commands.specs.declared.reply.Reply.{Reply}
+use Rattle.hart_master.specs.Acceptance.{Answers, IsReplyTo, IsAccepted}
+use Rattle.hart_master.proofs.AcceptanceLemmas.{OneFirst, IsAccepted-alone, IsReplyTo-first, none_without_frame, none_of_several}
+
+-- a fact holds or does not
+abbrev Decided : Type 0 → Type 0
+Decided P = P ⊎ (P → ⊥)
+
+kind_decided : (kind : FrameKind) → Decided (kind ≡ Ack)
+kind_decided Stx = inr (λ is. cc)
+kind_decided Ack = inl refl
+
+expansion_decided : (bytes : List ℕ) → Decided (bytes ≡ [])
+expansion_decided [] = inl refl
+expansion_decided (byte ∷ bytes) = inr (λ is. cc)
+
+master_decided : (a b : MasterId) → Decided (a ≡ b)
+master_decided Primary Primary = inl refl
+master_decided Primary Secondary = inr (λ is. cc)
+master_decided Secondary Primary = inr (λ is. cc)
+master_decided Secondary Secondary = inl refl
+
+number_decided : (a b : ℕ) → Decided (a ≡ b)
+number_decided a b = elim (eqb_tells a b) [ inl same ↦ inl same.1 | inr other ↦ inr other.1 ]
+
+numbers_from : (a b : DeviceNumbers) → Decided (a.expanded_type ≡ b.expanded_type) → Decided (a.device_id ≡ b.device_id)
+    → Decided (a ≡ b)
+numbers_from a b (inl type_is) (inl id_is) =
+    let with_type : ℕ → DeviceNumbers = λ n. record { expanded_type = n; device_id = a.device_id } in
+    let with_id : ℕ → DeviceNumbers = λ n. record { expanded_type = b.expanded_type; device_id = n } in
+    inl (ap with_type type_is ∙ ap with_id id_is)
+numbers_from a b (inr other) _ = inr (λ is. other (ap (λ (n : DeviceNumbers). n.expanded_type) is))
+numbers_from a b _ (inr other) = inr (λ is. other (ap (λ (n : DeviceNumbers). n.device_id) is))
+
+numbers_decided : (a b : DeviceNumbers) → Decided (a ≡ b)
+numbers_decided a b = numbers_from a b (number_decided a.expanded_type b.expanded_type) (number_decided a.device_id b.device_id)
+
+address_decided : (a b : Address) → Decided (a ≡ b)
+address_decided (Polling m) (Polling n) =
+    elim (number_decided m n) [ inl is ↦ inl (ap Polling is) | inr other ↦ inr (λ is. other (cc)) ]
+address_decided (Polling m) (Unique n) = inr (λ is. cc)
+address_decided (Unique m) (Polling n) = inr (λ is. cc)
+address_decided (Unique m) (Unique n) =
+    elim (numbers_decided m n) [ inl is ↦ inl (ap Unique is) | inr other ↦ inr (λ is. other (cc)) ]
+
+-- with what is known of its master and its address, a frame answers or does not
+answers_from : (id : MasterId) (address : Address) (request : Request) (frame : FrameParts)
+    → Decided (frame.kind ≡ Ack) → Decided (frame.expansion ≡ []) → Decided (frame.master ≡ id)
+    → Decided (frame.address ≡ address) → Decided (frame.command ≡ command_of request)
+    → Decided (Answers id address request frame)
+answers_from id address request frame (inl kind) (inl expansion) (inl receiver) (inl sender) (inl command) =
+    inl (record { kind = kind; expansion = expansion; receiver = receiver; sender = sender; command = command })
+answers_from id address request frame (inr other) _ _ _ _ = inr (λ answers. other answers.kind)
+answers_from id address request frame _ (inr other) _ _ _ = inr (λ answers. other answers.expansion)
+answers_from id address request frame _ _ (inr other) _ _ = inr (λ answers. other answers.receiver)
+answers_from id address request frame _ _ _ (inr other) _ = inr (λ answers. other answers.sender)
+answers_from id address request frame _ _ _ _ (inr other) = inr (λ answers. other answers.command)
+
+answers_decided : (id : MasterId) (address : Address) (request : Request) (frame : FrameParts) → Decided (Answers id address request frame)
+answers_decided id address request frame =
+    answers_from id address request frame (kind_decided frame.kind) (expansion_decided frame.expansion)
+    (master_decided frame.master id) (address_decided frame.address address) (number_decided frame.command (command_of request))
+
+told_decided : (read : Option Reply) → ((reply : Reply) × (read ≡ Some reply)) ⊎ ((reply : Reply) → read ≡ Some reply → ⊥)
+told_decided None = inr (λ reply is. cc)
+told_decided (Some reply) = inl (reply, refl)
+
+-- and is a reply or none
+reply_from : (id : MasterId) (address : Address) (request : Request) (frame : FrameParts)
+    → Decided (Answers id address request frame)
+    → ((reply : Reply) × (reply_reading frame.command frame.payload ≡ Some reply))
+    ⊎ ((reply : Reply) → reply_reading frame.command frame.payload ≡ Some reply → ⊥)
+    → ((reply : Reply) × IsReplyTo id address request frame reply) ⊎ ((reply : Reply) → IsReplyTo id address request frame reply → ⊥)
+reply_from id address request frame (inl answers) (inl told) = inl (told.0, record { answers = answers; told = told.1 })
+reply_from id address request frame (inr other) _ = inr (λ reply is_reply. other is_reply.answers)
+reply_from id address request frame _ (inr nothing) = inr (λ reply is_reply. nothing reply is_reply.told)
+
+reply_decided : (id : MasterId) (address : Address) (request : Request) (frame : FrameParts)
+    → ((reply : Reply) × IsReplyTo id address request frame reply) ⊎ ((reply : Reply) → IsReplyTo id address request frame reply → ⊥)
+reply_decided id address request frame =
+    reply_from id address request frame (answers_decided id address request frame)
+    (told_decided (reply_reading frame.command frame.payload))
+
+-- so what the frames of a delivery are tells whether it is accepted
+decided_by : OneFirst → (id : MasterId) (address : Address) (request : Request) (chars : List Character) (frames : List Found)
+    → AreFrames chars 0 frames
+    → ((reply : Reply) × IsAccepted id address request chars reply) ⊎ ((reply : Reply) → IsAccepted id address request chars reply → ⊥)
+decided_by law id address request chars [] (AreFrames.none start no_frame) =
+    inr (λ reply. none_without_frame id address request chars reply no_frame)
+decided_by law id address request chars (found ∷ []) (AreFrames.first start first later is_first (AreFrames.none stop no_more)) =
+    elim (reply_decided id address request found.frame) [
+      | inl told ↦ inl (told.0, IsAccepted-alone id address request chars found told.0 is_first no_more told.1)
+      | inr nothing ↦ inr (λ reply accepted. nothing reply (IsReplyTo-first law id address request chars found reply is_first accepted))
+    ]
+decided_by law id address request chars (found ∷ second ∷ later) (AreFrames.first start first rest is_first (AreFrames.first stop next behind is_second others)) =
+    inr (λ reply. none_of_several law id address request chars found second reply is_first is_second)
+
+pub acceptance_decided : OneFirst → ((chars : List Character) (from : ℕ) → (frames : List Found) × AreFrames chars from frames)
+    → (id : MasterId) (address : Address) (request : Request) (chars : List Character)
+    → ((reply : Reply) × IsAccepted id address request chars reply) ⊎ ((reply : Reply) → IsAccepted id address request chars reply → ⊥)
+acceptance_decided law every id address request chars =
+    let frames = every chars 0 in decided_by law id address request chars frames.0 frames.1

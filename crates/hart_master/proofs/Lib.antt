@@ -1,0 +1,2 @@
+mod AcceptanceLemmas
+mod DecidedLemmas

@@ -1,0 +1,34 @@
+-- Which deliveries a master accepts as the reply to its request (HCF_SPEC-081; that the burst bit is not looked at is of the own
+-- profile).
+use Rattle.std.specs.Prelude.{◌≡◌, List, [], ◌∷◌, Some}
+use Rattle.hart_values.specs.declared.master_id.MasterId.{MasterId}
+use Rattle.hart_values.specs.declared.address.Address.{Address}
+use Rattle.hart_frame.specs.declared.kind.FrameKind.TheVariants.{Ack}
+use Rattle.hart_frame.specs.declared.found.Found.{Found}
+use Rattle.hart_frame.specs.Character.{Character}
+use Rattle.hart_frame.specs.FrameParts.{FrameParts}
+use Rattle.hart_frame.specs.Frames.{AreFrames}
+use Rattle.hart_commands.specs.RequestData.{command_of}
+use Rattle.hart_commands.specs.ReplyData.{reply_reading}
+use Rattle.hart_commands.specs.declared.request.Request.{Request}
+use Rattle.hart_commands.specs.declared.reply.Reply.{Reply}
+
+-- A frame answers a request that a master sends to an address where it is an ACK without expansion bytes, with this master's
+-- bit, this address and the command of the request; the burst bit is not looked at.
+pub record Answers (id : MasterId) (address : Address) (request : Request) (frame : FrameParts) : Type 0 where
+  pub kind : frame.kind ≡ Ack
+  pub expansion : frame.expansion ≡ []
+  pub receiver : frame.master ≡ id
+  pub sender : frame.address ≡ address
+  pub command : frame.command ≡ command_of request
+
+-- It is the reply that its payload is read as.
+pub record IsReplyTo (id : MasterId) (address : Address) (request : Request) (frame : FrameParts) (reply : Reply) : Type 0 where
+  pub answers : Answers id address request frame
+  pub told : reply_reading frame.command frame.payload ≡ Some reply
+
+-- A delivery is accepted as a reply where its frames are one alone, and this one is that reply.
+pub record IsAccepted (id : MasterId) (address : Address) (request : Request) (delivery : List Character) (reply : Reply) : Type 0 where
+  pub found : Found
+  pub alone : AreFrames delivery 0 (found ∷ [])
+  pub is_reply : IsReplyTo id address request found.frame reply

@@ -1,0 +1,4 @@
+pub mod Pairing
+pub mod Acceptance
+pub mod Master
+pub mod Unique

@@ -1,0 +1,109 @@
+-- What a contract sees of a master, and what its calls give and leave (HCF_SPEC-081; the limits are of the own profile).
+use Rattle.std.specs.Prelude.{◌≡◌, ◌≤◌, ◌<◌, ℕ, ◌+◌, min, nat_le, nat_lt, if◌then◌else◌, List, Option, None, Some, Result, Ok, Err}
+use Rattle.hart_values.specs.declared.master_id.MasterId.{MasterId}
+use Rattle.hart_values.specs.declared.address.Address.{Address}
+use Rattle.hart_frame.specs.Character.{Character}
+use Rattle.hart_frame.specs.FrameParts.{FrameParts, request_parts}
+use Rattle.hart_commands.specs.RequestData.{command_of, request_data}
+use Rattle.hart_commands.specs.declared.request.Request.{Request}
+use Rattle.hart_commands.specs.declared.reply.Reply.{Reply}
+use Rattle.hart_master.specs.declared.event.MasterEvent.{MasterEvent}
+use Rattle.hart_master.specs.declared.event.MasterEvent.TheVariants.{Answered, Nothing, Retry, NoReply}
+use Rattle.hart_master.specs.declared.fault.MasterFault.TheVariants.{Pending, WrongAddress}
+use Rattle.hart_master.specs.declared.fault.Rejected.{Rejected}
+use Rattle.hart_master.specs.declared.hand.Hand.{Hand}
+use Rattle.hart_master.specs.declared.hand.Hand.TheVariants.{Empty, ToSend, Awaiting}
+use Rattle.hart_master.specs.Acceptance.{IsAccepted}
+use Rattle.hart_master.specs.Pairing.{may_ask}
+
+-- A master is the primary or the secondary one, sends a request again so many times at most, awaits each reply for so many
+-- character times, and has one request in hand or none.
+pub record MasterState : Type 0 where
+  pub id : MasterId
+  pub retries : ℕ
+  pub reply_limit : ℕ
+  pub hand : Hand
+
+-- How often the request in hand was sent; 0 where there is none.
+abbrev pub sendings_of : Hand → ℕ
+sendings_of Empty = 0
+sendings_of (ToSend transaction) = transaction.sendings
+sendings_of (Awaiting transaction time) = transaction.sendings
+
+-- A request that is to be sent was sent as often as there are retries at most; one whose reply is awaited was sent once at least,
+-- and once more than there are retries at most.
+abbrev pub IsWithin : ℕ → Hand → Type 0
+IsWithin retries Empty = Unit {0}
+IsWithin retries (ToSend transaction) = transaction.sendings ≤ retries
+IsWithin retries (Awaiting transaction time) = (0 < transaction.sendings) × (transaction.sendings ≤ retries + 1)
+
+-- A submission is rejected where a request is in hand, and otherwise where the request may not be sent to the address.
+abbrev pub result_submitted : Hand → Address → Request → Result (Unit {0}) Rejected
+result_submitted Empty address request =
+    if may_ask address request then Ok tt else Err (record { fault = WrongAddress; request = request })
+result_submitted (ToSend transaction) address request = Err (record { fault = Pending; request = request })
+result_submitted (Awaiting transaction time) address request = Err (record { fault = Pending; request = request })
+
+-- A request that is not rejected is then in hand, not sent yet; a rejected one changes nothing.
+abbrev pub hand_submitted : Hand → Address → Request → Hand
+hand_submitted Empty address request =
+    if may_ask address request then ToSend (record { address = address; request = request; sendings = 0 }) else Empty
+hand_submitted (ToSend transaction) address request = ToSend transaction
+hand_submitted (Awaiting transaction time) address request = Awaiting transaction time
+
+-- A request that is to be sent is sent with its written data, and nothing else is sent.
+abbrev pub frame_sent : MasterId → Hand → Option FrameParts
+frame_sent id Empty = None
+frame_sent id (ToSend transaction) =
+    Some (request_parts id transaction.address (command_of transaction.request) (request_data transaction.request))
+frame_sent id (Awaiting transaction time) = None
+
+-- It was then sent once more, and its reply is awaited from now on.
+abbrev pub hand_sent : Hand → Hand
+hand_sent Empty = Empty
+hand_sent (ToSend transaction) = Awaiting (record transaction { sendings = transaction.sendings + 1 }) 0
+hand_sent (Awaiting transaction time) = Awaiting transaction time
+
+-- A delivery brings a reply where that is awaited, and the delivery is accepted as it.
+abbrev pub Brings : MasterId → Hand → List Character → Reply → Type 0
+Brings id Empty delivery reply = ⊥
+Brings id (ToSend transaction) delivery reply = ⊥
+Brings id (Awaiting transaction time) delivery reply = IsAccepted id transaction.address transaction.request delivery reply
+
+-- The request is answered, with the reply that the delivery brings and the number of its sendings, or nothing is heard, where
+-- the delivery brings none.
+abbrev pub IsHeard : MasterId → Hand → List Character → MasterEvent → Type 0
+IsHeard id hand delivery (Answered reply sendings) = Brings id hand delivery reply × (sendings ≡ sendings_of hand)
+IsHeard id hand delivery Nothing = (reply : Reply) → Brings id hand delivery reply → ⊥
+IsHeard id hand delivery Retry = ⊥
+IsHeard id hand delivery (NoReply sendings) = ⊥
+
+-- An answered request is no longer in hand, and otherwise nothing changes.
+abbrev pub hand_heard : Hand → MasterEvent → Hand
+hand_heard hand (Answered reply sendings) = Empty
+hand_heard hand Nothing = hand
+hand_heard hand Retry = hand
+hand_heard hand (NoReply sendings) = hand
+
+-- Character times add up to 255 at most.
+abbrev pub time_ticked : ℕ → ℕ → ℕ
+time_ticked time character_times = min (time + character_times) 255
+
+-- Below the reply limit a reply is still awaited; from it on the request is to be sent again where it was sent as often as there
+-- are retries at most, and otherwise it has no reply.
+abbrev pub event_ticked : (retries reply_limit : ℕ) → Hand → ℕ → MasterEvent
+event_ticked retries reply_limit Empty character_times = Nothing
+event_ticked retries reply_limit (ToSend transaction) character_times = Nothing
+event_ticked retries reply_limit (Awaiting transaction time) character_times =
+    if nat_lt (time_ticked time character_times) reply_limit then Nothing
+    else if nat_le transaction.sendings retries then Retry
+    else NoReply transaction.sendings
+
+-- The time of a wait goes on, a request that is to be sent again stays in hand, and one that has no reply does not.
+abbrev pub hand_ticked : (retries reply_limit : ℕ) → Hand → ℕ → Hand
+hand_ticked retries reply_limit Empty character_times = Empty
+hand_ticked retries reply_limit (ToSend transaction) character_times = ToSend transaction
+hand_ticked retries reply_limit (Awaiting transaction time) character_times =
+    if nat_lt (time_ticked time character_times) reply_limit then Awaiting transaction (time_ticked time character_times)
+    else if nat_le transaction.sendings retries then ToSend transaction
+    else Empty

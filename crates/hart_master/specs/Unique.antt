@@ -1,0 +1,28 @@
+-- The unique address that a reply tells (HCF_SPEC-127).
+use Rattle.std.specs.Prelude.{◌+◌, ◌*◌, ◌%◌, ◌^◌, ◌==◌, if◌then◌else◌, slice_index, Option, None, Some}
+use Rattle.hart_values.specs.declared.address.Address.{Address}
+use Rattle.hart_values.specs.declared.address.Address.TheVariants.{Unique}
+use Rattle.hart_commands.specs.declared.content.ReplyContent.{ReplyContent}
+use Rattle.hart_commands.specs.declared.content.ReplyContent.TheVariants.{Identity}
+use Rattle.hart_commands.specs.declared.identity.IdentityContent.{IdentityContent}
+use Rattle.hart_commands.specs.declared.reply.Reply.{Reply}
+use Rattle.hart_master.specs.Pairing.{is_broadcast}
+
+-- The address of an identity has the lower 14 bits of the expanded device type and the device id, each with the most significant
+-- byte first.
+abbrev pub address_of : IdentityContent → Address
+address_of identity = Unique (record {
+  expanded_type =
+      (256 * slice_index identity.expanded_device_type 0 + slice_index identity.expanded_device_type 1) % 2 ^ 14;
+  device_id =
+      65536 * slice_index identity.device_id 0 + 256 * slice_index identity.device_id 1 + slice_index identity.device_id 2;
+})
+
+-- An identity tells its address, unless that is broadcast, and no other content tells one.
+abbrev pub address_in : ReplyContent → Option Address
+address_in (Identity identity) = if is_broadcast (address_of identity) then None else Some (address_of identity)
+address_in _ = None
+
+-- A reply tells the address in its content where its code is 0.
+abbrev pub unique_told : Reply → Option Address
+unique_told reply = if reply.code == 0 then address_in reply.content else None

@@ -1,0 +1,21 @@
+use hart_commands::Request;
+use hart_values::Address;
+
+/// What a master has in hand.
+#[derive(Debug, Drop)]
+pub(crate) enum Hand {
+    /// No request.
+    Empty,
+    /// A request that is to be sent, for the first time or again.
+    ToSend(Transaction),
+    /// A request whose reply is awaited, and for how many character times it has been, 255 standing for more too.
+    Awaiting(Transaction, u8),
+}
+
+/// A request to an address, and how often it was sent.
+#[derive(Debug, Drop)]
+pub(crate) struct Transaction {
+    pub(crate) address: Address,
+    pub(crate) request: Request,
+    pub(crate) sendings: u8,
+}

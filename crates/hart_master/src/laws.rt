@@ -1,0 +1,30 @@
+//! Laws over the definitions alone, for the crates above.
+ghost use Rattle.std.specs.Prelude.{◌≡◌, ◌⊎◌, ◌∷◌, [], List};
+ghost use Rattle.hart_values.specs.declared.master_id.MasterId.{MasterId};
+ghost use Rattle.hart_values.specs.declared.address.Address.{Address};
+ghost use Rattle.hart_frame.specs.Character.{Character};
+ghost use Rattle.hart_frame.specs.Frames.{AreFrames};
+ghost use Rattle.hart_frame.specs.declared.found.Found.{Found};
+ghost use Rattle.hart_commands.specs.declared.reply.Reply.{Reply};
+ghost use Rattle.hart_commands.specs.declared.request.Request.{Request};
+ghost use Rattle.hart_master.specs.Acceptance.{IsAccepted, IsReplyTo};
+
+use hart_frame::{every_list_has_frames, frames_are_told_apart};
+
+/// A delivery is accepted as one reply or as none, and where its frames are known, they tell as which.
+pub fn acceptance_is_decided()
+    ensures one_reply { (id : MasterId) (address : Address) (request : Request) (delivery : List Character) (r s : Reply)
+        → IsAccepted id address request delivery r → IsAccepted id address request delivery s → r ≡ s }
+    ensures decided { (id : MasterId) (address : Address) (request : Request) (delivery : List Character)
+        → ((reply : Reply) × IsAccepted id address request delivery reply)
+        ⊎ ((reply : Reply) → IsAccepted id address request delivery reply → ⊥) }
+    ensures without_frames { (id : MasterId) (address : Address) (request : Request) (delivery : List Character) (reply : Reply)
+        → AreFrames delivery 0 [] → IsAccepted id address request delivery reply → ⊥ }
+    ensures by_its_frame { (id : MasterId) (address : Address) (request : Request) (delivery : List Character)
+        (found : Found) (reply : Reply) → AreFrames delivery 0 (found ∷ [])
+        → IsAccepted id address request delivery reply → IsReplyTo id address request found.frame reply }
+{
+    // They do nothing when they run: the laws of frames are what this one rests on.
+    every_list_has_frames();
+    frames_are_told_apart();
+}

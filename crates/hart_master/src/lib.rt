@@ -1,0 +1,34 @@
+//! A master of a HART line: one request in hand, how often it is sent, and which reply is accepted (HCF_SPEC-081).
+//!
+//! A [`Master`] is a value without input or output. Its caller submits a request, sends the frame that [`Master::send`] gives,
+//! and hands in what is then heard, or the time that passes while nothing is.
+//!
+//! ```rust
+//! let mut master = Master::new(MasterId::Primary, 1, 33)?;
+//! let submitted = master.submit(Address::polling(0)?, Request::Identify);
+//! assert!(rt; submitted.is_ok() && master.send().is_some());
+//! assert_eq!(rt; master.tick(33), MasterEvent::Retry);
+//! assert!(rt; master.send().is_some());
+//! assert_eq!(rt; master.tick(33), MasterEvent::NoReply(2));
+//! ```
+//!
+//! No call of this crate takes memory.
+#![tactic(auto)]
+
+mod acceptance;
+mod event;
+mod fault;
+mod hand;
+mod laws;
+mod master;
+mod pairing;
+mod unique;
+
+pub use event::MasterEvent;
+pub use fault::{MasterFault, Rejected};
+pub use laws::acceptance_is_decided;
+pub use master::Master;
+pub use unique::unique_of;
+
+#[cfg(test)]
+mod tests;

@@ -1,0 +1,245 @@
+use super::*;
+use hart_commands::{Reply, Request};
+use hart_frame::{Char, decode};
+use hart_values::{Address, MasterId};
+use std::test::Fail;
+
+/// Faults and their texts.
+const TEXTS: &[(MasterFault, &str)] = &[
+    (MasterFault::OutOfRange, "out of range"),
+    (MasterFault::Pending, "a request is pending"),
+    (MasterFault::WrongAddress, "wrong address"),
+];
+
+#[test]
+fn faults_are_told(rt: HostRuntime) -> Result<(), Fail> {
+    for (fault, text) in TEXTS {
+        let told = format!(in rt.alloc(); "{fault}")?;
+        assert_eq!(rt; told.as_str(), *text);
+    }
+    Ok(())
+}
+
+/// Retries and reply limits, and the fault that they are refused with.
+const LIMITS: &[(u8, u8, Option<MasterFault>)] = &[
+    (0, 1, None),
+    (15, 255, None),
+    (16, 33, Some(MasterFault::OutOfRange)),
+    (3, 0, Some(MasterFault::OutOfRange)),
+];
+
+#[test]
+fn masters_have_limits(rt: HostRuntime) {
+    for (retries, reply_limit, want) in LIMITS {
+        let made = Master::new(MasterId::Primary, *retries, *reply_limit);
+        assert_eq!(rt; made.err(), *want, "of {retries} and {reply_limit}");
+    }
+}
+
+/// The address bytes of a polling address, a device and broadcast.
+const POLLING: &[u8] = &[0x80];
+
+const DEVICE: &[u8] = &[0xB7, 0x42, 0x0A, 0x1B, 0x2C];
+
+const ALL: &[u8] = &[0x80, 0x00, 0x00, 0x00, 0x00];
+
+/// Address bytes, a command and its data, and the fault that an idle master refuses the submission with.
+const SUBMISSIONS: &[(&[u8], u8, &[u8], Option<MasterFault>)] = &[
+    (POLLING, 0, &[], None),
+    (POLLING, 1, &[], Some(MasterFault::WrongAddress)),
+    (DEVICE, 0, &[], None),
+    (DEVICE, 1, &[], None),
+    (ALL, 0, &[], Some(MasterFault::WrongAddress)),
+    (ALL, 11, &[0x41, 0x53, 0x50, 0xB7, 0x1C, 0x31], None),
+];
+
+/// The address of these bytes.
+fn address_of(bytes: &[u8]) -> Result<Address, Fail> {
+    let (_, _, address) = Address::read(bytes).ok_or("one byte or five")?;
+    Ok(address)
+}
+
+#[test]
+fn one_request_is_taken(rt: HostRuntime) -> Result<(), Fail> {
+    for (address, command, data, want) in SUBMISSIONS {
+        let address = address_of(address)?;
+        let mut master = Master::new(MasterId::Secondary, 3, 41)?;
+        let submitted = master.submit(
+            address,
+            Request::read(*command, data).ok().ok_or("bad data")?,
+        );
+        let fault = submitted.err().map(|rejected| rejected.fault);
+        assert_eq!(rt; fault, *want, "of {command} to {address:?}");
+        assert_eq!(rt; master.is_idle(), want.is_some());
+        if want.is_none() {
+            let second = master.submit(address_of(POLLING)?, Request::ReadPrimary);
+            let rejected = second.err().ok_or("a second request")?;
+            assert_eq!(rt; rejected.fault, MasterFault::Pending);
+            assert_eq!(rt; rejected.request, Request::ReadPrimary);
+        }
+    }
+    Ok(())
+}
+
+/// A call, and what it gives.
+enum Call {
+    /// `send`: the frame of the request.
+    Sends,
+    /// `send`: none.
+    StaysSilent,
+    /// `tick` with so many character times: nothing.
+    Waits(u8),
+    /// `tick`: the request is to be sent again.
+    Retries(u8),
+    /// `tick`: it is given up after two sendings.
+    GivesUp(u8),
+}
+
+/// The calls of a master with one retry and the reply limit 33, for Command 0 to polling address 0.
+const CALLS: &[Call] = &[
+    Call::Waits(255),
+    Call::Sends,
+    Call::StaysSilent,
+    Call::Waits(32),
+    Call::Retries(1),
+    Call::Waits(255),
+    Call::Sends,
+    Call::GivesUp(200),
+    Call::StaysSilent,
+];
+
+#[test]
+fn a_request_is_sent_twice_and_given_up(rt: HostRuntime) -> Result<(), Fail> {
+    let (request, _) = decode(&[0x02, 0x80, 0x00, 0x00, 0x82])?;
+    let mut master = Master::new(MasterId::Primary, 1, 33)?;
+    let submitted = master.submit(address_of(POLLING)?, Request::Identify);
+    assert!(rt; submitted.is_ok());
+    for call in CALLS {
+        match call {
+            Call::Sends => {
+                let sent = master.send().ok_or("a frame")?;
+                assert!(rt; sent == request);
+            }
+            Call::StaysSilent => assert!(rt; master.send().is_none()),
+            Call::Waits(times) => assert_eq!(rt; master.tick(*times), MasterEvent::Nothing),
+            Call::Retries(times) => assert_eq!(rt; master.tick(*times), MasterEvent::Retry),
+            Call::GivesUp(times) => assert_eq!(rt; master.tick(*times), MasterEvent::NoReply(2)),
+        }
+    }
+    assert!(rt; master.is_idle() && master.sendings() == 0);
+    Ok(())
+}
+
+/// The identity of the bench device, told to the primary master and to the secondary.
+const TO_PRIMARY: &[u8] = &[
+    0xFF, 0xFF, 0xFF, 0xFF, 0xFF, 0x06, 0x80, 0x00, 0x18, 0x00, 0x00, 0xFE, 0x37, 0x42, 0x05, 0x07,
+    0x01, 0x02, 0x18, 0x00, 0x0A, 0x1B, 0x2C, 0x05, 0x04, 0x00, 0x00, 0x00, 0x00, 0x37, 0x00, 0x37,
+    0x01, 0x31,
+];
+
+const TO_SECONDARY: &[u8] = &[
+    0xFF, 0xFF, 0xFF, 0xFF, 0xFF, 0x06, 0x00, 0x00, 0x18, 0x00, 0x00, 0xFE, 0x37, 0x42, 0x05, 0x07,
+    0x01, 0x02, 0x18, 0x00, 0x0A, 0x1B, 0x2C, 0x05, 0x04, 0x00, 0x00, 0x00, 0x00, 0x37, 0x00, 0x37,
+    0x01, 0xB1,
+];
+
+/// The payload of these.
+const IDENTITY: &[u8] = &[
+    0x00, 0x00, 0xFE, 0x37, 0x42, 0x05, 0x07, 0x01, 0x02, 0x18, 0x00, 0x0A, 0x1B, 0x2C, 0x05, 0x04,
+    0x00, 0x00, 0x00, 0x00, 0x37, 0x00, 0x37, 0x01,
+];
+
+/// Communication faults, response code 32, and the assembly number, told by the bench device for Command 19.
+const FAULTY: &[u8] = &[
+    0xFF, 0xFF, 0xFF, 0xFF, 0xFF, 0x86, 0xB7, 0x42, 0x0A, 0x1B, 0x2C, 0x13, 0x02, 0x88, 0x00, 0xD7,
+];
+
+const BUSY: &[u8] = &[
+    0xFF, 0xFF, 0xFF, 0xFF, 0xFF, 0x86, 0xB7, 0x42, 0x0A, 0x1B, 0x2C, 0x13, 0x02, 0x20, 0x00, 0x7F,
+];
+
+const WRITTEN: &[u8] = &[
+    0xFF, 0xFF, 0xFF, 0xFF, 0xFF, 0x86, 0xB7, 0x42, 0x0A, 0x1B, 0x2C, 0x13, 0x05, 0x00, 0x40, 0x01,
+    0x23, 0x45, 0x7F,
+];
+
+/// Address bytes, a command and its data, what is heard in two parts, and the payload of the reply that is accepted.
+const HEARD: &[(&[u8], u8, &[u8], &[u8], &[u8], Option<&[u8]>)] = &[
+    (POLLING, 0, &[], TO_SECONDARY, &[], None),
+    (POLLING, 0, &[], TO_PRIMARY, TO_PRIMARY, None),
+    (POLLING, 0, &[], TO_PRIMARY, TO_SECONDARY, None),
+    (POLLING, 0, &[], WRITTEN, &[], None),
+    (POLLING, 0, &[], &[], &[], None),
+    (POLLING, 0, &[], &[0xFF, 0x06], TO_PRIMARY, Some(IDENTITY)),
+    (DEVICE, 19, &[1, 2, 3], FAULTY, &[], None),
+    (DEVICE, 19, &[1, 2, 3], BUSY, &[], Some(&[0x20, 0x00])),
+    (
+        DEVICE,
+        19,
+        &[1, 2, 3],
+        WRITTEN,
+        &[],
+        Some(&[0x00, 0x40, 0x01, 0x23, 0x45]),
+    ),
+    (DEVICE, 16, &[], WRITTEN, &[], None),
+];
+
+/// The characters of what is heard in two parts, and then of silence.
+fn heard(front: &[u8], behind: &[u8]) -> Option<[Char; 80]> {
+    let mut chars = [Char::new(0, 0)?; 80];
+    for (place, byte) in chars.iter_mut().zip(front.iter().chain(behind)) {
+        *place = Char::new(*byte, 0)?;
+    }
+    Some(chars)
+}
+
+#[test]
+fn replies_are_accepted(rt: HostRuntime) -> Result<(), Fail> {
+    for (address, command, data, front, behind, want) in HEARD {
+        let chars = heard(front, behind).ok_or("characters")?;
+        let mut master = Master::new(MasterId::Primary, 1, 33)?;
+        let request = Request::read(*command, data).ok().ok_or("bad data")?;
+        let submitted = master.submit(address_of(address)?, request);
+        assert!(rt; submitted.is_ok());
+        assert_eq!(rt; master.hear(&chars), MasterEvent::Nothing);
+        assert!(rt; master.send().is_some());
+        let event = match want.and_then(|payload| Reply::read(*command, payload)) {
+            Some(reply) => MasterEvent::Answered(reply, 1),
+            None => MasterEvent::Nothing,
+        };
+        assert_eq!(rt; master.hear(&chars), event, "of {front:?} and {behind:?}");
+        assert_eq!(rt; master.is_idle(), want.is_some());
+    }
+    Ok(())
+}
+
+/// Payloads of an identity whose expanded device type has its upper two bits set, and of one whose address is broadcast.
+const LONG_TYPE: &[u8] = &[
+    0x00, 0x00, 0xFE, 0xFF, 0x42, 0x05, 0x07, 0x01, 0x02, 0x18, 0x00, 0x0A, 0x1B, 0x2C, 0x05, 0x04,
+    0x00, 0x00, 0x00, 0x00, 0x37, 0x00, 0x37, 0x01,
+];
+
+const NOWHERE: &[u8] = &[
+    0x00, 0x00, 0xFE, 0x40, 0x00, 0x05, 0x07, 0x01, 0x02, 0x18, 0x00, 0x00, 0x00, 0x00, 0x05, 0x04,
+    0x00, 0x00, 0x00, 0x00, 0x37, 0x00, 0x37, 0x01,
+];
+
+/// A command, the payload of a reply, and the type and the id of the address that it tells.
+const TOLD: &[(u8, &[u8], Option<(u16, u32)>)] = &[
+    (0, IDENTITY, Some((0x3742, 0x0A1B2C))),
+    (11, IDENTITY, Some((0x3742, 0x0A1B2C))),
+    (0, LONG_TYPE, Some((0x3F42, 0x0A1B2C))),
+    (0, NOWHERE, None),
+    (0, &[0x20, 0x00], None),
+    (19, &[0x00, 0x40, 0x01, 0x23, 0x45], None),
+];
+
+#[test]
+fn identities_tell_addresses(rt: HostRuntime) -> Result<(), Fail> {
+    for (command, payload, want) in TOLD {
+        let reply = Reply::read(*command, payload).ok_or("a reply")?;
+        let want = want.and_then(|(expanded_type, id)| Address::unique(expanded_type, id).ok());
+        assert_eq!(rt; unique_of(&reply), want, "of {payload:?}");
+    }
+    Ok(())
+}
