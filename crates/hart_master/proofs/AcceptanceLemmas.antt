@@ -1,5 +1,5 @@
 -- Deliveries with exactly one frame, and what they are accepted as.
-use Rattle.std.proofs.Common.{◌≡◌, ℕ, List, [], ◌∷◌, sym, ◌∙◌, subst, Option, None, Some, IfSome}
+use Rattle.std.proofs.Common.{◌≡◌, ℕ, List, [], ◌∷◌, subst, Option, None, Some, IfSome}
 use Rattle.hart_values.specs.declared.master_id.MasterId.{MasterId}
 use Rattle.hart_values.specs.declared.address.Address.{Address}
 use Rattle.hart_frame.specs.Character.{Character}
@@ -31,8 +31,8 @@ IsAccepted-alone id address request chars found reply is_first no_more is_reply 
 }
 
 -- and the replies that it may be
-pub IsAccepted-first : (id : MasterId) (address : Address) (request : Request) (chars : List Character) (found : Found) (read : Option Reply)
-    → IsFirst found chars 0 → HasNoFrame chars found.stop → IfSome read (IsReplyTo id address request found.frame)
+pub IsAccepted-first : (id : MasterId) (address : Address) (request : Request) (chars : List Character) (found : Found)
+    (read : Option Reply) → IsFirst found chars 0 → HasNoFrame chars found.stop → IfSome read (IsReplyTo id address request found.frame)
     → IfSome read (IsAccepted id address request chars)
 IsAccepted-first id address request chars found None is_first no_more told = tt
 IsAccepted-first id address request chars found (Some reply) is_first no_more told =
@@ -45,28 +45,19 @@ none_without_frame id address request chars reply no_frame accepted =
     no_frame accepted.found (alone_is_first chars 0 accepted.found accepted.alone).stands
 
 -- nor where a second frame follows the first
-pub none_of_several : OneFirst → (id : MasterId) (address : Address) (request : Request) (chars : List Character) (found second : Found) (reply : Reply)
-    → IsFirst found chars 0 → IsFirst second chars found.stop → IsAccepted id address request chars reply → ⊥
+pub none_of_several : OneFirst → (id : MasterId) (address : Address) (request : Request) (chars : List Character)
+    (found second : Found) (reply : Reply) → IsFirst found chars 0 → IsFirst second chars found.stop
+    → IsAccepted id address request chars reply → ⊥
 none_of_several law id address request chars found second reply is_first is_second accepted =
     let same = law found accepted.found chars 0 is_first (alone_is_first chars 0 accepted.found accepted.alone) in
     let P : Found → Type 0 = λ f. IsFirst second chars f.stop in
     alone_is_last chars 0 accepted.found accepted.alone second (subst P same is_second).stands
 
 -- and of the first frame it is that frame's
-pub IsReplyTo-first : OneFirst → (id : MasterId) (address : Address) (request : Request) (chars : List Character) (found : Found) (reply : Reply)
-    → IsFirst found chars 0 → IsAccepted id address request chars reply → IsReplyTo id address request found.frame reply
+pub IsReplyTo-first : OneFirst → (id : MasterId) (address : Address) (request : Request) (chars : List Character)
+    (found : Found) (reply : Reply) → IsFirst found chars 0 → IsAccepted id address request chars reply
+    → IsReplyTo id address request found.frame reply
 IsReplyTo-first law id address request chars found reply is_first accepted =
     let same = law accepted.found found chars 0 (alone_is_first chars 0 accepted.found accepted.alone) is_first in
     let P : Found → Type 0 = λ f. IsReplyTo id address request f.frame reply in
     subst P same accepted.is_reply
-
--- a delivery is accepted as one reply at most
-pub one_reply : OneFirst → (id : MasterId) (address : Address) (request : Request) (chars : List Character) (r s : Reply)
-    → IsAccepted id address request chars r → IsAccepted id address request chars s → r ≡ s
-one_reply law id address request chars r s p q =
-    let first = alone_is_first chars 0 q.found q.alone in
-    let told = (IsReplyTo-first law id address request chars q.found r first p).told in
-    some_one r s (sym told ∙ q.is_reply.told)
-  where
-    some_one : (x y : Reply) → Some x ≡ Some y → x ≡ y
-    some_one x y is = cc

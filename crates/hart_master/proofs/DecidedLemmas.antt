@@ -8,7 +8,7 @@ use Rattle.hart_values.specs.declared.address.Address.{Address}
 use Rattle.hart_values.specs.declared.address.Address.TheVariants.{Polling, Unique}
 use Rattle.hart_frame.specs.Character.{Character}
 use Rattle.hart_frame.specs.FrameParts.{FrameParts}
-use Rattle.hart_frame.specs.Frames.{AreFrames}
+use Rattle.hart_frame.specs.Frames.{AreFrames, HasNoFrame, IsFirst}
 use Rattle.hart_frame.specs.declared.found.Found.{Found}
 use Rattle.hart_frame.specs.declared.kind.FrameKind.{FrameKind}
 use Rattle.hart_frame.specs.declared.kind.FrameKind.TheVariants.{Stx, Ack}
@@ -22,6 +22,10 @@ use Rattle.hart_master.proofs.AcceptanceLemmas.{OneFirst, IsAccepted-alone, IsRe
 -- a fact holds or does not
 abbrev Decided : Type 0 → Type 0
 Decided P = P ⊎ (P → ⊥)
+
+-- there is a reply with this, or none
+abbrev pub OneOrNone : (Reply → Type 0) → Type 0
+OneOrNone P = ((reply : Reply) × P reply) ⊎ ((reply : Reply) → P reply → ⊥)
 
 kind_decided : (kind : FrameKind) → Decided (kind ≡ Ack)
 kind_decided Stx = inr (λ is. cc)
@@ -73,47 +77,56 @@ answers_from id address request frame _ _ (inr other) _ _ = inr (λ answers. oth
 answers_from id address request frame _ _ _ (inr other) _ = inr (λ answers. other answers.sender)
 answers_from id address request frame _ _ _ _ (inr other) = inr (λ answers. other answers.command)
 
-answers_decided : (id : MasterId) (address : Address) (request : Request) (frame : FrameParts) → Decided (Answers id address request frame)
+answers_decided : (id : MasterId) (address : Address) (request : Request) (frame : FrameParts)
+    → Decided (Answers id address request frame)
 answers_decided id address request frame =
     answers_from id address request frame (kind_decided frame.kind) (expansion_decided frame.expansion)
     (master_decided frame.master id) (address_decided frame.address address) (number_decided frame.command (command_of request))
 
-told_decided : (read : Option Reply) → ((reply : Reply) × (read ≡ Some reply)) ⊎ ((reply : Reply) → read ≡ Some reply → ⊥)
+told_decided : (read : Option Reply) → OneOrNone (λ reply. read ≡ Some reply)
 told_decided None = inr (λ reply is. cc)
 told_decided (Some reply) = inl (reply, refl)
 
 -- and is a reply or none
 reply_from : (id : MasterId) (address : Address) (request : Request) (frame : FrameParts)
-    → Decided (Answers id address request frame)
-    → ((reply : Reply) × (reply_reading frame.command frame.payload ≡ Some reply))
-    ⊎ ((reply : Reply) → reply_reading frame.command frame.payload ≡ Some reply → ⊥)
-    → ((reply : Reply) × IsReplyTo id address request frame reply) ⊎ ((reply : Reply) → IsReplyTo id address request frame reply → ⊥)
+    → Decided (Answers id address request frame) → OneOrNone (λ reply. reply_reading frame.command frame.payload ≡ Some reply)
+    → OneOrNone (IsReplyTo id address request frame)
 reply_from id address request frame (inl answers) (inl told) = inl (told.0, record { answers = answers; told = told.1 })
 reply_from id address request frame (inr other) _ = inr (λ reply is_reply. other is_reply.answers)
 reply_from id address request frame _ (inr nothing) = inr (λ reply is_reply. nothing reply is_reply.told)
 
-reply_decided : (id : MasterId) (address : Address) (request : Request) (frame : FrameParts)
-    → ((reply : Reply) × IsReplyTo id address request frame reply) ⊎ ((reply : Reply) → IsReplyTo id address request frame reply → ⊥)
+pub reply_decided : (id : MasterId) (address : Address) (request : Request) (frame : FrameParts)
+    → OneOrNone (IsReplyTo id address request frame)
 reply_decided id address request frame =
     reply_from id address request frame (answers_decided id address request frame)
     (told_decided (reply_reading frame.command frame.payload))
 
--- so what the frames of a delivery are tells whether it is accepted
-decided_by : OneFirst → (id : MasterId) (address : Address) (request : Request) (chars : List Character) (frames : List Found)
-    → AreFrames chars 0 frames
-    → ((reply : Reply) × IsAccepted id address request chars reply) ⊎ ((reply : Reply) → IsAccepted id address request chars reply → ⊥)
-decided_by law id address request chars [] (AreFrames.none start no_frame) =
+-- so a delivery with that frame alone is accepted as that reply, or as none
+decided_alone : OneFirst → (id : MasterId) (address : Address) (request : Request) (chars : List Character) (found : Found)
+    → IsFirst found chars 0 → HasNoFrame chars found.stop → OneOrNone (IsReplyTo id address request found.frame)
+    → OneOrNone (IsAccepted id address request chars)
+decided_alone law id address request chars found is_first no_more (inl told) =
+    inl (told.0, IsAccepted-alone id address request chars found told.0 is_first no_more told.1)
+decided_alone law id address request chars found is_first no_more (inr nothing) =
+    inr (λ reply accepted. nothing reply (IsReplyTo-first law id address request chars found reply is_first accepted))
+
+-- and one with no frame, or with several, as none
+decided_by : OneFirst → (id : MasterId) (address : Address) (request : Request)
+    → ((frame : FrameParts) → OneOrNone (IsReplyTo id address request frame))
+    → (chars : List Character) (frames : List Found) → AreFrames chars 0 frames → OneOrNone (IsAccepted id address request chars)
+decided_by law id address request each chars [] (AreFrames.none start no_frame) =
     inr (λ reply. none_without_frame id address request chars reply no_frame)
-decided_by law id address request chars (found ∷ []) (AreFrames.first start first later is_first (AreFrames.none stop no_more)) =
-    elim (reply_decided id address request found.frame) [
-      | inl told ↦ inl (told.0, IsAccepted-alone id address request chars found told.0 is_first no_more told.1)
-      | inr nothing ↦ inr (λ reply accepted. nothing reply (IsReplyTo-first law id address request chars found reply is_first accepted))
-    ]
-decided_by law id address request chars (found ∷ second ∷ later) (AreFrames.first start first rest is_first (AreFrames.first stop next behind is_second others)) =
+decided_by law id address request each chars (found ∷ [])
+    (AreFrames.first start first later is_first (AreFrames.none stop no_more)) =
+    decided_alone law id address request chars found is_first no_more (each found.frame)
+decided_by law id address request each chars (found ∷ second ∷ later)
+    (AreFrames.first start first rest is_first (AreFrames.first stop next behind is_second others)) =
     inr (λ reply. none_of_several law id address request chars found second reply is_first is_second)
 
-pub acceptance_decided : OneFirst → ((chars : List Character) (from : ℕ) → (frames : List Found) × AreFrames chars from frames)
-    → (id : MasterId) (address : Address) (request : Request) (chars : List Character)
-    → ((reply : Reply) × IsAccepted id address request chars reply) ⊎ ((reply : Reply) → IsAccepted id address request chars reply → ⊥)
-acceptance_decided law every id address request chars =
-    let frames = every chars 0 in decided_by law id address request chars frames.0 frames.1
+pub acceptance_decided : OneFirst
+    → ((id : MasterId) (address : Address) (request : Request) (frame : FrameParts) → OneOrNone (IsReplyTo id address request frame))
+    → ((chars : List Character) (from : ℕ) → (frames : List Found) × AreFrames chars from frames)
+    → (id : MasterId) (address : Address) (request : Request) (chars : List Character) → OneOrNone (IsAccepted id address request chars)
+acceptance_decided law each every id address request chars =
+    let frames = every chars 0 in
+    decided_by law id address request (each id address request) chars frames.0 frames.1

@@ -8,7 +8,7 @@ use hart_commands::Reply;
 use hart_frame::{Char, Frame, FrameKind, first_frame, frames_are_told_apart};
 use hart_values::MasterId;
 
-/// The reply that a delivery is to what this master transaction, or `None` where it is anything else.
+/// The reply that a delivery is to what this master asks, or `None` where it is anything else.
 pub(crate) fn accepted_reply(
     id: MasterId,
     transaction: &Transaction,
@@ -29,7 +29,7 @@ pub(crate) fn accepted_reply(
     reply_in(id, transaction, &found.frame)
 }
 
-/// The reply that a frame is to what this master transaction, or `None` where it is none.
+/// The reply that a frame is to what this master asks, or `None` where it is none.
 fn reply_in(id: MasterId, transaction: &Transaction, frame: &Frame) -> Option<Reply>
     ensures told { IfSome result (IsReplyTo id transaction.now.address transaction.now.request frame.now) }
     ensures known { (reply : Reply) → IsReplyTo id transaction.now.address transaction.now.request frame.now reply
@@ -42,7 +42,7 @@ fn reply_in(id: MasterId, transaction: &Transaction, frame: &Frame) -> Option<Re
     }
 }
 
-/// Whether a frame answers what this master transaction.
+/// Whether a frame answers what this master asks.
 fn answers(id: MasterId, transaction: &Transaction, frame: &Frame) -> bool
     ensures { IsTrue result ↔ Answers id transaction.now.address transaction.now.request frame.now }
 {

@@ -3,6 +3,7 @@ ghost use Rattle.std.specs.Prelude.{◌≡◌, ◌⊎◌, ◌∷◌, [], List};
 ghost use Rattle.hart_values.specs.declared.master_id.MasterId.{MasterId};
 ghost use Rattle.hart_values.specs.declared.address.Address.{Address};
 ghost use Rattle.hart_frame.specs.Character.{Character};
+ghost use Rattle.hart_frame.specs.FrameParts.{FrameParts};
 ghost use Rattle.hart_frame.specs.Frames.{AreFrames};
 ghost use Rattle.hart_frame.specs.declared.found.Found.{Found};
 ghost use Rattle.hart_commands.specs.declared.reply.Reply.{Reply};
@@ -11,7 +12,16 @@ ghost use Rattle.hart_master.specs.Acceptance.{IsAccepted, IsReplyTo};
 
 use hart_frame::{every_list_has_frames, frames_are_told_apart};
 
-/// A delivery is accepted as one reply or as none, and where its frames are known, they tell as which.
+/// A frame is one reply to a request at most, and it is one or none.
+pub fn replies_are_decided()
+    ensures one_reply { (id : MasterId) (address : Address) (request : Request) (frame : FrameParts) (r s : Reply)
+        → IsReplyTo id address request frame r → IsReplyTo id address request frame s → r ≡ s }
+    ensures decided { (id : MasterId) (address : Address) (request : Request) (frame : FrameParts)
+        → ((reply : Reply) × IsReplyTo id address request frame reply)
+        ⊎ ((reply : Reply) → IsReplyTo id address request frame reply → ⊥) }
+{}
+
+/// A delivery is accepted as one reply at most, and as one or none; where its frames are known, they tell as which.
 pub fn acceptance_is_decided()
     ensures one_reply { (id : MasterId) (address : Address) (request : Request) (delivery : List Character) (r s : Reply)
         → IsAccepted id address request delivery r → IsAccepted id address request delivery s → r ≡ s }
@@ -24,7 +34,8 @@ pub fn acceptance_is_decided()
         (found : Found) (reply : Reply) → AreFrames delivery 0 (found ∷ [])
         → IsAccepted id address request delivery reply → IsReplyTo id address request found.frame reply }
 {
-    // They do nothing when they run: the laws of frames are what this one rests on.
+    // They do nothing when they run: the laws of frames and of replies are what this one rests on.
     every_list_has_frames();
     frames_are_told_apart();
+    replies_are_decided();
 }

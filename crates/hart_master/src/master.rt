@@ -121,6 +121,7 @@ impl Master {
     pub fn send(&mut self) -> Option<Frame>
         ensures frame { result ≡ frame_sent self.old.id self.old.hand }
         ensures state { self.new ≡ record self.old { hand = hand_sent self.old.hand } }
+        // A request is sent once more than there are retries at most.
         ensures sent_before { IsSome result → sendings_of self.old.hand ≤ self.old.retries }
         ensures at_most { sendings_of self.new.hand ≤ self.old.retries + 1 }
     {
@@ -181,6 +182,7 @@ impl Master {
         } }
         ensures given_up { (sendings : ℕ) → result ≡ MasterEvent.NoReply sendings → sendings ≡ self.old.retries + 1 }
         ensures sent_again { result ≡ MasterEvent.Retry → sendings_of self.new.hand ≤ self.old.retries }
+        // So 255 character times end every wait.
         ensures limit_fits { self.old.reply_limit ≤ 255 }
     {
         match mem::replace(&mut self.hand, Hand::Empty) {
@@ -206,7 +208,8 @@ impl Master {
 
 /// The frame of a request of this master.
 fn request_frame(id: MasterId, transaction: &Transaction) -> Frame
-    ensures { result ≡ request_parts id transaction.now.address (command_of transaction.now.request) (request_data transaction.now.request) }
+    ensures { result ≡ request_parts id transaction.now.address
+        (command_of transaction.now.request) (request_data transaction.now.request) }
 {
     let mut payload = Payload::new();
     transaction.request.write(&mut payload);

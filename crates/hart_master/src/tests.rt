@@ -1,5 +1,5 @@
 use super::*;
-use hart_commands::{Reply, Request};
+use hart_commands::{Reply, ReplyContent, Request};
 use hart_frame::{Char, decode};
 use hart_values::{Address, MasterId};
 use std::test::Fail;
@@ -184,7 +184,7 @@ const HEARD: &[(&[u8], u8, &[u8], &[u8], &[u8], Option<&[u8]>)] = &[
     (DEVICE, 16, &[], WRITTEN, &[], None),
 ];
 
-/// The characters of what is heard in two parts, and then of silence.
+/// The characters of what is heard in two parts, and of zeros behind them.
 fn heard(front: &[u8], behind: &[u8]) -> Option<[Char; 80]> {
     let mut chars = [Char::new(0, 0)?; 80];
     for (place, byte) in chars.iter_mut().zip(front.iter().chain(behind)) {
@@ -204,7 +204,11 @@ fn replies_are_accepted(rt: HostRuntime) -> Result<(), Fail> {
         assert_eq!(rt; master.hear(&chars), MasterEvent::Nothing);
         assert!(rt; master.send().is_some());
         let event = match want.and_then(|payload| Reply::read(*command, payload)) {
-            Some(reply) => MasterEvent::Answered(reply, 1),
+            Some(reply) => {
+                let is_refused = reply.content == ReplyContent::Refused;
+                assert_eq!(rt; is_refused, reply.code.value() != 0);
+                MasterEvent::Answered(reply, 1)
+            }
             None => MasterEvent::Nothing,
         };
         assert_eq!(rt; master.hear(&chars), event, "of {front:?} and {behind:?}");
