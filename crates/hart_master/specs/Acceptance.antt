@@ -22,7 +22,7 @@ pub record Answers (id : MasterId) (address : Address) (request : Request) (fram
   pub sender : frame.address ≡ address
   pub command : frame.command ≡ command_of request
 
--- It is the reply that its payload is read as.
+-- A frame that answers is the reply that its payload is read as, and none where it is read as none, as with communication faults.
 pub record IsReplyTo (id : MasterId) (address : Address) (request : Request) (frame : FrameParts) (reply : Reply) : Type 0 where
   pub answers : Answers id address request frame
   pub told : reply_reading frame.command frame.payload ≡ Some reply
