@@ -1,5 +1,5 @@
 -- The answer to an input, of which there is one at most.
-use Rattle.std.proofs.Common.{◌≡◌, ℕ, List, Option, None, Some, Result, Ok, Err, inl, inr, refl, sym, ap, ◌∙◌, subst}
+use Rattle.std.proofs.Common.{◌≡◌, ℕ, List, Option, None, Some, Result, Ok, Err, refl, sym, ap, ◌∙◌, subst}
 use Rattle.std.specs.Result.{IsErrAnd}
 use Rattle.hart_frame.specs.Character.{Character}
 use Rattle.hart_frame.specs.FrameParts.{FrameParts}

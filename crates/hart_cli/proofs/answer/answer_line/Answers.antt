@@ -1,7 +1,6 @@
-use Rattle.std.proofs.Common.{◌≡◌, refl, subst}
-use Rattle.hart_device.specs.Bench.{bench_identity, bench_process}
+use Rattle.std.proofs.Common.{◌≡◌, refl}
+use Rattle.hart_device.specs.Bench.{bench_identity}
 use Rattle.hart_cli.specs.Answer.{bench_device}
-use Rattle.hart_cli.specs.MessageLine.{IsMessageLine}
 use Rattle.hart_cli.proofs.AnswerLemmas.{IsTextFor-heard}
 use Rattle.hart_cli.proofs.answer.answer_line.Goals as goal
 
