@@ -1,9 +1,8 @@
 -- Written payloads are read again.
-use Rattle.std.proofs.Common.{◌≡◌, ℕ, ◌+◌, ◌-◌, ◌*◌, ◌/◌, ◌<◌, ◌≤◌, inl, inr, List, [], ◌∷◌, ◌++◌, take, drop, length, map, min, Some, refl, ap, sym, ◌∙◌, arith, true, false, ltb, eqb, length-append, append-nil}
+use Rattle.std.proofs.Common.{◌≡◌, ℕ, ◌+◌, ◌-◌, ◌*◌, ◌/◌, ◌<◌, ◌≤◌, inl, inr, List, [], ◌∷◌, ◌++◌, take, drop, length, map, min, Some, refl, ap, sym, ◌∙◌, arith, false, ltb, length-append, append-nil}
 use Rattle.std.specs.List.{flat_map, AllByRecursion}
 use Rattle.std.specs.Simd.{first_chunks}
 use Rattle.std.proofs.lemmas.List.{take_at, drop_at, take_all}
-use Rattle.std.proofs.lemmas.Bool.Decides.{nat_tests}
 use Rattle.hart_values.specs.declared.bits32.Bits32.{Bits32}
 use Rattle.hart_commands.specs.declared.content.ReplyContent.{ReplyContent}
 use Rattle.hart_commands.specs.declared.content.ReplyContent.TheVariants.{Identity, Primary, Current, Dynamic, Polling, Classes, Variables, Message, Tag, Sensor, Output, Assembly, Counter, More, Refused}
@@ -16,21 +15,10 @@ use Rattle.hart_commands.specs.IdentityBytes.{identity_of}
 use Rattle.hart_commands.specs.SensorBytes.{sensor_bytes, sensor_of}
 use Rattle.hart_commands.specs.OutputBytes.{output_bytes, output_of}
 use Rattle.hart_commands.specs.ReplyData.{IsReply, IsContent, IsToldBy, having, identity_reading, current_reading, dynamic_reading, variables_reading, tag_reading, content_reading, content_bytes, reply_reading, reply_payload}
+use Rattle.hart_commands.proofs.TestLemmas.{below, above, apart, same}
 use Rattle.hart_commands.proofs.ChunkLemmas.{chunks-flat_map, length-flat_map}
 use Rattle.hart_commands.proofs.PartsLemmas.{four, identity-back, sensor-back, output-back, unit_value-back, unit_value-size, variable-back, variable-size}
 use Rattle.hart_commands.proofs.RequestLemmas.{HasParts, parts-append}
-
-below : (n limit : ℕ) → n < limit → ltb n limit ≡ true
-below n limit h = grind (arith, nat_tests)
-
-above : (n limit : ℕ) → limit ≤ n → ltb n limit ≡ false
-above n limit h = grind (arith, nat_tests)
-
-apart : (m n : ℕ) → (m ≡ n → ⊥) → eqb m n ≡ false
-apart m n h = grind (arith, nat_tests)
-
-same : (m n : ℕ) → m ≡ n → eqb m n ≡ true
-same m n h = grind (arith, nat_tests)
 
 -- a content of so many bytes is read from them
 having-exactly : (size : ℕ) (told : List ℕ → ReplyContent) (bytes : List ℕ) → length bytes ≡ size

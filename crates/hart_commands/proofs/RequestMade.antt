@@ -1,5 +1,5 @@
 -- What is read of data is a well-made request of its command.
-use Rattle.std.proofs.Common.{◌≡◌, ℕ, ◌<◌, ◌≤◌, ◌⊎◌, inl, inr, List, [], ◌∷◌, take, drop, length, Ok, Err, IfOk, refl, subst, arith, Bool, true, false, ltb, eqb, length-take, length-drop, length-take-le}
+use Rattle.std.proofs.Common.{◌≡◌, ℕ, ◌<◌, ◌≤◌, ◌⊎◌, inl, inr, List, [], ◌∷◌, take, drop, length, Ok, Err, IfOk, refl, sym, subst, arith, Bool, true, false, ltb, eqb, length-take, length-drop, length-take-le}
 use Rattle.std.specs.Prelude.{if◌then◌else◌}
 use Rattle.std.proofs.lemmas.Bool.{cases_lt}
 use Rattle.std.proofs.lemmas.Bool.Decides.{nat_tests}
@@ -9,19 +9,11 @@ use Rattle.hart_commands.specs.declared.request.Request.{Request}
 use Rattle.hart_commands.specs.declared.request.Request.TheVariants.{Identify, ReadPrimary, ReadCurrent, ReadDynamic, SetPolling, ReadPolling, ReadClasses, ReadVariables, IdentifyByTag, ReadMessage, ReadTag, ReadSensor, ReadOutput, ReadAssembly, WriteMessage, WriteTag, WriteAssembly, ReadMore}
 use Rattle.hart_commands.specs.TagBytes.{tag_in, descriptor_in, date_in}
 use Rattle.hart_commands.specs.RequestData.{Reading, IsRequest, command_of, needing, polling_with, mode_left_out, polling_reading, codes_reading, tag_reading, reset_reading, request_reading}
+use Rattle.hart_commands.proofs.TestLemmas.{below, above, is_one}
 
 -- a well-made request of a command
 abbrev pub IsAsked : ℕ → Request → Type 0
 IsAsked command request = (command_of request ≡ command) × IsRequest request
-
-below : (n limit : ℕ) → n < limit → ltb n limit ≡ true
-below n limit h = grind (arith, nat_tests)
-
-above : (n limit : ℕ) → limit ≤ n → ltb n limit ≡ false
-above n limit h = grind (arith, nat_tests)
-
-is_one : (m n : ℕ) → eqb m n ≡ true → n ≡ m
-is_one m n t = grind (arith, nat_tests)
 
 by_test : (b : Bool) (x y : Reading) (P : Request → Type 0) → (b ≡ true → IfOk x P) → (b ≡ false → IfOk y P)
     → IfOk (if b then x else y) P
@@ -79,28 +71,28 @@ reset-asked (high ∷ low ∷ rest) = (refl, tt)
 pub reading-asked : ((bytes : List ℕ) → is_date bytes ≡ true → IsDateBytes bytes)
     → (command : ℕ) (bytes : List ℕ) → IfOk (request_reading command bytes) (IsAsked command)
 reading-asked dates command bytes =
-    by_test _ (Ok Identify) _ (IsAsked command) (λ t. (is_one command 0 t, tt)) (λ f.
-    by_test _ (Ok ReadPrimary) _ (IsAsked command) (λ t. (is_one command 1 t, tt)) (λ f.
-    by_test _ (Ok ReadCurrent) _ (IsAsked command) (λ t. (is_one command 2 t, tt)) (λ f.
-    by_test _ (Ok ReadDynamic) _ (IsAsked command) (λ t. (is_one command 3 t, tt)) (λ f.
-    by_test _ (polling_reading bytes) _ (IsAsked command) (λ t. rw (← is_one command 6 t) (polling-asked bytes)) (λ f.
-    by_test _ (Ok ReadPolling) _ (IsAsked command) (λ t. (is_one command 7 t, tt)) (λ f.
-    by_test _ (Ok ReadClasses) _ (IsAsked command) (λ t. (is_one command 8 t, tt)) (λ f.
-    by_test _ (codes_reading bytes) _ (IsAsked command) (λ t. rw (← is_one command 9 t) (codes-asked bytes)) (λ f.
-    by_test _ _ _ (IsAsked command) (λ t. needing-asked 6 IdentifyByTag bytes (IsAsked command) (λ xs long. (is_one command 11 t, long)))
+    by_test _ (Ok Identify) _ (IsAsked command) (λ t. (sym (is_one command 0 t), tt)) (λ f.
+    by_test _ (Ok ReadPrimary) _ (IsAsked command) (λ t. (sym (is_one command 1 t), tt)) (λ f.
+    by_test _ (Ok ReadCurrent) _ (IsAsked command) (λ t. (sym (is_one command 2 t), tt)) (λ f.
+    by_test _ (Ok ReadDynamic) _ (IsAsked command) (λ t. (sym (is_one command 3 t), tt)) (λ f.
+    by_test _ (polling_reading bytes) _ (IsAsked command) (λ t. rw (is_one command 6 t) (polling-asked bytes)) (λ f.
+    by_test _ (Ok ReadPolling) _ (IsAsked command) (λ t. (sym (is_one command 7 t), tt)) (λ f.
+    by_test _ (Ok ReadClasses) _ (IsAsked command) (λ t. (sym (is_one command 8 t), tt)) (λ f.
+    by_test _ (codes_reading bytes) _ (IsAsked command) (λ t. rw (is_one command 9 t) (codes-asked bytes)) (λ f.
+    by_test _ _ _ (IsAsked command) (λ t. needing-asked 6 IdentifyByTag bytes (IsAsked command) (λ xs long. (sym (is_one command 11 t), long)))
     (λ f.
-    by_test _ (Ok ReadMessage) _ (IsAsked command) (λ t. (is_one command 12 t, tt)) (λ f.
-    by_test _ (Ok ReadTag) _ (IsAsked command) (λ t. (is_one command 13 t, tt)) (λ f.
-    by_test _ (Ok ReadSensor) _ (IsAsked command) (λ t. (is_one command 14 t, tt)) (λ f.
-    by_test _ (Ok ReadOutput) _ (IsAsked command) (λ t. (is_one command 15 t, tt)) (λ f.
-    by_test _ (Ok ReadAssembly) _ (IsAsked command) (λ t. (is_one command 16 t, tt)) (λ f.
-    by_test _ _ _ (IsAsked command) (λ t. needing-asked 24 WriteMessage bytes (IsAsked command) (λ xs long. (is_one command 17 t, long)))
+    by_test _ (Ok ReadMessage) _ (IsAsked command) (λ t. (sym (is_one command 12 t), tt)) (λ f.
+    by_test _ (Ok ReadTag) _ (IsAsked command) (λ t. (sym (is_one command 13 t), tt)) (λ f.
+    by_test _ (Ok ReadSensor) _ (IsAsked command) (λ t. (sym (is_one command 14 t), tt)) (λ f.
+    by_test _ (Ok ReadOutput) _ (IsAsked command) (λ t. (sym (is_one command 15 t), tt)) (λ f.
+    by_test _ (Ok ReadAssembly) _ (IsAsked command) (λ t. (sym (is_one command 16 t), tt)) (λ f.
+    by_test _ _ _ (IsAsked command) (λ t. needing-asked 24 WriteMessage bytes (IsAsked command) (λ xs long. (sym (is_one command 17 t), long)))
     (λ f.
-    by_test _ (tag_reading bytes) _ (IsAsked command) (λ t. rw (← is_one command 18 t) (tag-asked dates bytes)) (λ f.
-    by_test _ _ _ (IsAsked command) (λ t. needing-asked 3 WriteAssembly bytes (IsAsked command) (λ xs long. (is_one command 19 t, long)))
+    by_test _ (tag_reading bytes) _ (IsAsked command) (λ t. rw (is_one command 18 t) (tag-asked dates bytes)) (λ f.
+    by_test _ _ _ (IsAsked command) (λ t. needing-asked 3 WriteAssembly bytes (IsAsked command) (λ xs long. (sym (is_one command 19 t), long)))
     (λ f.
-    by_test _ (reset_reading bytes) _ (IsAsked command) (λ t. rw (← is_one command 38 t) (reset-asked bytes)) (λ f.
-    by_test _ (Ok ReadMore) _ (IsAsked command) (λ t. (is_one command 48 t, tt)) (λ f. tt)))))))))))))))))))
+    by_test _ (reset_reading bytes) _ (IsAsked command) (λ t. rw (is_one command 38 t) (reset-asked bytes)) (λ f.
+    by_test _ (Ok ReadMore) _ (IsAsked command) (λ t. (sym (is_one command 48 t), tt)) (λ f. tt)))))))))))))))))))
 
 -- the same of a request that was read
 pub read-asked : ((bytes : List ℕ) → is_date bytes ≡ true → IsDateBytes bytes) → (command : ℕ) (bytes : List ℕ) (request : Request)

@@ -1,5 +1,5 @@
 -- What is read of a payload is a well-made reply.
-use Rattle.std.proofs.Common.{◌≡◌, ℕ, ◌+◌, ◌-◌, ◌*◌, ◌/◌, ◌<◌, ◌≤◌, ◌⊎◌, inl, inr, List, [], ◌∷◌, take, drop, length, map, min, Option, Some, None, IfSome, refl, ◌∙◌, subst, arith, Bool, true, false, ltb, eqb, ◌||◌, ◌&&◌, length-take, length-drop, length-take-le, slice_range, slice_index}
+use Rattle.std.proofs.Common.{◌≡◌, ℕ, ◌+◌, ◌-◌, ◌*◌, ◌/◌, ◌<◌, ◌≤◌, ◌⊎◌, inl, inr, List, [], ◌∷◌, take, drop, length, map, min, Option, Some, None, IfSome, refl, ◌∙◌, subst, arith, Bool, true, false, ltb, eqb, ◌&&◌, length-take, length-drop, length-take-le, slice_range, slice_index}
 use Rattle.std.specs.Prelude.{if◌then◌else◌}
 use Rattle.std.specs.Option.{option_map}
 use Rattle.std.specs.Simd.{first_chunks}
@@ -15,6 +15,7 @@ use Rattle.hart_commands.specs.IdentityBytes.{IsIdentity, identity_of}
 use Rattle.hart_commands.specs.SensorBytes.{IsSensor, sensor_of}
 use Rattle.hart_commands.specs.OutputBytes.{IsOutput, output_of}
 use Rattle.hart_commands.specs.ReplyData.{IsReply, IsContent, IsToldBy, having, identity_reading, dynamic_reading, variables_reading, tag_reading, more_reading, content_reading, reply_reading}
+use Rattle.hart_commands.proofs.TestLemmas.{below, above, is_one, is_either}
 use Rattle.hart_commands.proofs.ChunkLemmas.{chunks-sized, length-chunks}
 
 -- a range of a list that is long enough has its size
@@ -52,12 +53,6 @@ output-sized bytes long = record {
 abbrev IsTold : ℕ → ReplyContent → Type 0
 IsTold command content = IsToldBy content command × IsContent content
 
-below : (n limit : ℕ) → n < limit → ltb n limit ≡ true
-below n limit h = grind (arith, nat_tests)
-
-above : (n limit : ℕ) → limit ≤ n → ltb n limit ≡ false
-above n limit h = grind (arith, nat_tests)
-
 having-told : (size : ℕ) (told : List ℕ → ReplyContent) (bytes : List ℕ) (P : ReplyContent → Type 0)
     → ((xs : List ℕ) → length xs ≡ size → P (told xs)) → IfSome (having size told bytes) P
 having-told size told bytes P each = go (cases_lt (length bytes) size)
@@ -71,16 +66,6 @@ by_test : {A : Type 0} (b : Bool) (x y : Option A) (P : A → Type 0) → (b ≡
     → IfSome (if b then x else y) P
 by_test true x y P then_x else_y = then_x refl
 by_test false x y P then_x else_y = else_y refl
-
-is_one : (m n : ℕ) → eqb m n ≡ true → m ≡ n
-is_one m n t = grind (arith, nat_tests)
-
-is_either : (m a b : ℕ) → (eqb m a || eqb m b) ≡ true → (m ≡ a) ⊎ (m ≡ b)
-is_either m a b t = go (eqb m a) refl t
-  where
-    go : (c : Bool) → eqb m a ≡ c → (c || eqb m b) ≡ true → (m ≡ a) ⊎ (m ≡ b)
-    go true e h = inl (is_one m a e)
-    go false e h = inr (is_one m b h)
 
 identity-told : (command : ℕ) (bytes : List ℕ) → (command ≡ 0) ⊎ (command ≡ 11) → IfSome (identity_reading bytes) (IsTold command)
 identity-told command bytes by = go 22 (cases_lt (length bytes) 22) refl

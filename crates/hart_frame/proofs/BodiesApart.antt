@@ -89,7 +89,8 @@ same_frames f g kinds masters bursts addresses expansions commands payloads =
 
 -- a body and what follows it, part by part
 pub spread : (f : FrameParts) (body rest : List ℕ) (is : IsBody f body)
-    → body ++ rest ≡ delimiter_of f ∷ (is.checked_part.address ++ (f.expansion ++ (f.command ∷ length f.payload ∷ (f.payload ++ (is.check ∷ rest)))))
+    → body ++ rest
+    ≡ delimiter_of f ∷ (is.checked_part.address ++ (f.expansion ++ (f.command ∷ length f.payload ∷ (f.payload ++ (is.check ∷ rest)))))
 spread f body rest is = rw (is.parts, is.checked_part.parts) (simp append_assoc)
 
 -- the same body of the same frame, and the same rest
@@ -130,7 +131,8 @@ OneList = (m : MasterId) (b : Bool) (x : Address) (bytes others : List ℕ)
 last_fits : (bytes : List ℕ) (last : ℕ) → All (λ byte. byte < 256) (bytes ++ last ∷ []) → last < 256
 last_fits bytes last fit =
     let fits : ℕ → Type 0 = λ byte. byte < 256 in
-    All-head fits last [] (All-same fits (last ∷ []) _ (sym (drop_at bytes (last ∷ []) (length bytes) refl)) (All-drop fits (length bytes) _ fit))
+    All-head fits last []
+    (All-same fits (last ∷ []) _ (sym (drop_at bytes (last ∷ []) (length bytes) refl)) (All-drop fits (length bytes) _ fit))
 
 -- a frame has one body
 pub IsBody-one : OneList → (f : FrameParts) (body other : List ℕ) → IsBody f body → IsBody f other → body ≡ other
@@ -138,7 +140,9 @@ IsBody-one law f body other p q =
     let a = p.checked_part in
     let b = q.checked_part in
     let addresses = law _ _ _ _ _ a.address_bytes b.address_bytes in
-    let checked : p.checked ≡ q.checked = a.parts ∙ ap (λ (xs : List ℕ). delimiter_of f ∷ xs ++ f.expansion ++ f.command ∷ length f.payload ∷ f.payload) addresses ∙ sym b.parts in
+    let checked : p.checked ≡ q.checked =
+    a.parts ∙ ap (λ (xs : List ℕ). delimiter_of f ∷ xs ++ f.expansion ++ f.command ∷ length f.payload ∷ f.payload) addresses
+    ∙ sym b.parts in
     let moved : other ≡ p.checked ++ q.check ∷ [] = q.parts ∙ ap (λ (xs : List ℕ). xs ++ q.check ∷ []) (sym checked) in
     let fits : ℕ → Type 0 = λ byte. byte < 256 in
     let checks = check-one p.checked p.check q.check

@@ -217,7 +217,8 @@ checked bytes whole fits =
       | inl even ↦ inl (record {
         frame = held.frame;
         len = len;
-        begins = BeginsWithBody-front bytes held.frame len (omega arith) whole.1 fit held.part (let Is : ℕ → Type 0 = λ c. IsCheckByte front c in subst Is even is);
+        begins = BeginsWithBody-front bytes held.frame len (omega arith) whole.1 fit held.part (let Is : ℕ → Type 0 =
+            λ c. IsCheckByte front c in subst Is even is);
       })
       | inr odd ↦ inr (refused_for bytes BadCheck (whole, λ parity. omega (arith, check-even front check is parity, odd)))
     ]
@@ -227,7 +228,9 @@ unfit : (bytes : List ℕ) → Unfit bytes (body_length bytes) → HasNoBody byt
 unfit bytes large f len begins =
     let told = tells bytes f len begins in
     let long = length-take-le len bytes begins.within in
-    let small : get_or (take len bytes) large.place 0 < 256 = All-get_or (λ byte. byte < 256) (take len bytes) large.place 0 (omega (arith, long, told.whole, large.below)) begins.body.bytes_fit in
+    let small : get_or (take len bytes) large.place 0 < 256 =
+    All-get_or (λ byte. byte < 256) (take len bytes) large.place 0
+    (omega (arith, long, told.whole, large.below)) begins.body.bytes_fit in
     omega (arith, small, get_or-take len bytes large.place 0 (omega (arith, told.whole, large.below)), large.large)
 
 counted : (bytes : List ℕ) → HasGoodByteCount bytes → BodyAhead bytes ⊎ HasNoBody bytes

@@ -19,7 +19,8 @@ pub record FaultlessFirst (first : Character) (others : List Character) : Type 0
   pub rest : List ℕ
   pub others_are : others ≡ faultless rest
 
-faultless_first : (first : Character) (others : List Character) (bytes : List ℕ) → first ∷ others ≡ faultless bytes → FaultlessFirst first others
+faultless_first : (first : Character) (others : List Character) (bytes : List ℕ) → first ∷ others ≡ faultless bytes
+    → FaultlessFirst first others
 faultless_first first others [] same = absurd cc
 faultless_first first others (byte ∷ bytes) same =
     let here : first ≡ record { byte = byte; faults = 0 } = cc in
@@ -79,7 +80,8 @@ heard_whole chars f len begins all =
       whole = sym (ap length bytes ∙ length-take-le len (bytes_of chars) begins.within);
     }
 
-damaged_body : (chars : List Character) (f : FrameParts) (len : ℕ) → BeginsWithBody (bytes_of chars) f len → (Faultless (take len chars) → ⊥)
+damaged_body : (chars : List Character) (f : FrameParts) (len : ℕ) → BeginsWithBody (bytes_of chars) f len
+    → (Faultless (take len chars) → ⊥)
     → NothingHeard chars
 damaged_body chars f len begins damaged g other heard =
     let also = BeginsWithBody-heard chars g other heard in
@@ -209,8 +211,11 @@ first_decided chars from =
     search chars from (length chars) from (omega arith) (omega arith) (λ found stands. (StandsIn-within found chars from stands).behind)
 
 frames_found : (chars : List Character) (fuel from : ℕ) → length chars ≤ from + fuel → (frames : List Found) × AreFrames chars from frames
-frames_found chars zero from enough =
-    ([], AreFrames.none from (past_end chars from from (omega (arith, enough)) (λ found stands. (StandsIn-within found chars from stands).behind)))
+frames_found chars zero from enough = (
+  [],
+  AreFrames.none from
+      (past_end chars from from (omega (arith, enough)) (λ found stands. (StandsIn-within found chars from stands).behind)),
+)
 frames_found chars (suc fuel) from enough = elim (first_decided chars from) [
   | inr none ↦ ([], AreFrames.none from none)
   | inl has ↦

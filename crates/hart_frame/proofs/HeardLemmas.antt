@@ -56,7 +56,8 @@ pub take-heard : (chars : List Character) (f : FrameParts) (len : ℕ) (heard : 
     → take len chars ≡ faultless heard.body
 take-heard chars f len heard =
     ap (take len) heard.split
-    ∙ take_at (faultless heard.body) heard.rest len (length-map heard.body (λ (byte : ℕ). record { byte = byte; faults = 0 }) ∙ sym heard.whole)
+    ∙ take_at (faultless heard.body) heard.rest len (length-map heard.body (λ (byte : ℕ). record { byte = byte; faults = 0 })
+    ∙ sym heard.whole)
 
 -- a character that is read at a place has the byte there
 pub byte_at : (chars : List Character) (i : ℕ) (c : Character) → i < length chars → c ≡ get_or chars i c
@@ -70,7 +71,8 @@ pub faultless_at : (chars : List Character) (bytes : List ℕ) (i : ℕ) (c : Ch
 faultless_at chars bytes i c within is whole =
     let long : length chars ≡ length bytes = ap length whole ∙ length-map bytes (λ (byte : ℕ). record { byte = byte; faults = 0 }) in
     let here : c ≡ record { byte = get_or bytes i 0; faults = 0 } =
-    is ∙ ap (λ (xs : List Character). get_or xs i c) whole ∙ get_or-map (λ (byte : ℕ). record { byte = byte; faults = 0 }) bytes i 0 c (omega (arith, within, long)) in
+    is ∙ ap (λ (xs : List Character). get_or xs i c) whole
+    ∙ get_or-map (λ (byte : ℕ). record { byte = byte; faults = 0 }) bytes i 0 c (omega (arith, within, long)) in
     ap (λ (character : Character). character.faults) here
 
 -- the bytes of a heard body begin with it

@@ -78,8 +78,10 @@ IsCheckedPart-in bytes layout frame describes whole stands =
     let j = layout.command_place in
     let n = layout.byte_count in
     let long : j + 3 + n ≤ length bytes = omega (arith, whole.1, describes.address, describes.command, describes.count) in
-    let expansion_len : length frame.expansion ≡ j - i = ap length stands.expansion ∙ length-slice_range bytes i j (omega (arith, describes.address, describes.command)) (omega arith) in
-    let payload_len : length frame.payload ≡ n = ap length stands.payload ∙ length-slice_range bytes (j + 2) (j + 2 + n) (omega arith) (omega arith) ∙ omega arith in
+    let expansion_len : length frame.expansion ≡ j - i =
+    ap length stands.expansion ∙ length-slice_range bytes i j (omega (arith, describes.address, describes.command)) (omega arith) in
+    let payload_len : length frame.payload ≡ n =
+    ap length stands.payload ∙ length-slice_range bytes (j + 2) (j + 2 + n) (omega arith) (omega arith) ∙ omega arith in
     let address_len = length-address _ _ _ _ stands.address in
     let range_len = length-slice_range bytes 1 i (omega (arith, describes.address)) (omega (arith, describes.address, describes.command)) in
     let kind : kind_code frame.kind ≡ delimiter_in bytes % 8 = ap kind_code stands.kind ∙ describes.kind in
@@ -89,11 +91,14 @@ IsCheckedPart-in bytes layout frame describes whole stands =
     let count : get_or bytes (j + 1) 0 ≡ length frame.payload =
     ap (λ (place : ℕ). get_or bytes (place + 1) 0) describes.command ∙ sym describes.count ∙ sym payload_len in
     let front : body_length bytes - 1 ≡ j + 2 + n = omega (arith, describes.command, describes.count) in
-    let parts = cut bytes i j (j + 2 + n) (omega (arith, describes.address)) (omega (arith, describes.address, describes.command)) (omega arith) (omega arith) in
+    let parts =
+    cut bytes i j (j + 2 + n) (omega (arith, describes.address)) (omega (arith, describes.address, describes.command)) (omega arith)
+    (omega arith) in
     record {
       address = slice_range bytes 1 i;
       address_bytes = stands.address;
-      parts = ap (λ (k : ℕ). take k bytes) front ∙ parts ∙ joined (slice_range bytes 1 i) delimiter (sym stands.expansion) (sym stands.command) count (sym stands.payload);
+      parts = ap (λ (k : ℕ). take k bytes) front ∙ parts
+          ∙ joined (slice_range bytes 1 i) delimiter (sym stands.expansion) (sym stands.command) count (sym stands.payload);
       expansion_fits = omega (arith, expansion_len, describes.address, describes.command);
       payload_fits = stands.payload_fits;
     }

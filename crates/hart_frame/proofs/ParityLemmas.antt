@@ -31,7 +31,8 @@ xor_fits [] start first each = first
 xor_fits (byte ∷ bytes) start first each =
     xor_fits bytes (bit_xor start byte) (xor_of_8 start byte first (each 0)) (λ i. each (suc i))
 
-pub IsCheckByte-fold : (bytes : List ℕ) (check : ℕ) → ((i : ℕ) → get_or bytes i 0 < 256) → check ≡ fold bit_xor 0 bytes → IsCheckByte bytes check
+pub IsCheckByte-fold : (bytes : List ℕ) (check : ℕ) → ((i : ℕ) → get_or bytes i 0 < 256) → check ≡ fold bit_xor 0 bytes
+    → IsCheckByte bytes check
 IsCheckByte-fold bytes check each e = record {
   byte = rw e (xor_fits bytes 0 (omega arith) each);
   odd = λ bit below. ap (λ x. bit_at x bit) e ∙ xor_parity bytes 0 bit ∙ (let none = bit_at-zero bit in omega arith);

@@ -45,7 +45,8 @@ pub StandsIn-at : (chars : List Character) (place from : ℕ) (found : Found) (s
 StandsIn-at chars place from found stands start =
     let whole : chars ≡ stands.front ++ (faultless (255 ∷ 255 ∷ stands.body) ++ stands.rest) =
     stands.split ∙ append_assoc stands.front (faultless (255 ∷ 255 ∷ stands.body)) stands.rest in
-    ap (drop place) whole ∙ drop_at stands.front (faultless (255 ∷ 255 ∷ stands.body) ++ stands.rest) place (omega (arith, start, stands.start))
+    ap (drop place) whole
+    ∙ drop_at stands.front (faultless (255 ∷ 255 ∷ stands.body) ++ stands.rest) place (omega (arith, start, stands.start))
 
 -- and is heard there
 pub StandsIn-hears : (chars tail : List Character) (place from : ℕ) (found : Found) (stands : StandsIn found chars from)
@@ -94,7 +95,8 @@ StandsIn-within found chars from stands =
     let all = ap length stands.split in
     let rest = length-append (stands.front ++ faultless (255 ∷ 255 ∷ stands.body)) stands.rest in
     let front = length-append stands.front (faultless (255 ∷ 255 ∷ stands.body)) in
-    let body : length (faultless stands.body) ≡ length stands.body = length-map stands.body (λ (byte : ℕ). record { byte = byte; faults = 0 }) in
+    let body : length (faultless stands.body) ≡ length stands.body =
+    length-map stands.body (λ (byte : ℕ). record { byte = byte; faults = 0 }) in
     let some = ap length stands.is_body.parts ∙ length-append stands.is_body.checked (stands.is_body.check ∷ []) in
     record {
       behind = omega (arith, stands.behind, stands.start);

@@ -59,9 +59,16 @@ tells bytes f len begins =
     let regrouped : bytes ≡ front ++ length f.payload ∷ (f.payload ++ begins.body.check ∷ rest) = whole ∙ simp append_assoc in
     let address = length-address _ _ _ _ part.address_bytes in
     let front_len : length front ≡ byte_count_place bytes =
-    omega (arith, place, address, length-append (delimiter_of f ∷ part.address ++ f.expansion) (f.command ∷ []), length-append (delimiter_of f ∷ part.address) f.expansion) in
+    omega (
+      arith,
+      place,
+      address,
+      length-append (delimiter_of f ∷ part.address ++ f.expansion) (f.command ∷ []),
+      length-append (delimiter_of f ∷ part.address) f.expansion,
+    ) in
     let count : byte_count_in bytes ≡ length f.payload =
-    ap (λ (xs : List ℕ). get_or xs (byte_count_place bytes) 0) regrouped ∙ get_or_at front (length f.payload) _ 0 (byte_count_place bytes) front_len in
+    ap (λ (xs : List ℕ). get_or xs (byte_count_place bytes) 0) regrouped
+    ∙ get_or_at front (length f.payload) _ 0 (byte_count_place bytes) front_len in
     let taken_len : length (take len bytes) ≡ len = length-take-le len bytes begins.within in
     let body_len = ap length begins.body.parts ∙ length-append begins.body.checked (begins.body.check ∷ []) in
     record {

@@ -103,7 +103,8 @@ CanBecomeBody-counted bytes fit good short =
     let some : 0 < length bytes = good.0.0.0 in
     let place = byte_count_place-append bytes zeros some in
     let count = byte_count_in-append bytes zeros some good.0.1 in
-    let long : length (bytes ++ zeros) ≡ length bytes + missing = length-append bytes zeros ∙ ap (λ (n : ℕ). length bytes + n) (length-replicate missing 0) in
+    let long : length (bytes ++ zeros) ≡ length bytes + missing =
+    length-append bytes zeros ∙ ap (λ (n : ℕ). length bytes + n) (length-replicate missing 0) in
     let fits = All-append (λ byte. byte < 256) bytes zeros fit (All-replicate (λ byte. byte < 256) missing 0 (omega arith)) in
     CanBecomeBody-front bytes zeros (
     CanBecomeBody-last (bytes ++ zeros) fits (HasGoodByteCount-append bytes zeros good) (omega (arith, place, count, long, short))
@@ -176,7 +177,8 @@ IsTruncated-becomes bytes rest f len begins short =
                 let kind = kind_code-is f.kind in
                 let form : address_type f.address < 2 = address_type-lt f.address in
                 let low : delimiter_in bytes % 8 ≡ kind_code f.kind = omega (arith, of, kind, form, part.expansion_fits) in
-                let good = enough f.kind f.payload (delimiter_in bytes) (byte_count_in bytes) low (sym count ∙ told.count) part.payload_fits in
+                let good =
+                enough f.kind f.payload (delimiter_in bytes) (byte_count_in bytes) low (sym count ∙ told.count) part.payload_fits in
                 inr (inr ((((any, is), within), good), omega (arith, told.whole, place, count, short)))
           ]
     ]

@@ -36,8 +36,11 @@ IsDate-from_calendar day (suc month) year small h =
     let table = month_lengths-jiff year month (omega (arith, h.month_to)) in
     let back : suc month - 1 ≡ month = omega arith in
     let within : day ≤ get_or (month_lengths year) month 0 = rw back at h.day_to in
-    let in_month : day ≤ days_in_month (pos year) (suc month) = omega (arith, table, within) in
-    ((omega (arith, ints), omega (arith, ints)), (omega (arith, ints), omega (arith, ints, h.month_to)), (omega (arith, ints, h.day_from), omega (arith, ints, in_month)))
+    let in_month : day ≤ days_in_month (pos year) (suc month) = omega (arith, table, within) in (
+      (omega (arith, ints), omega (arith, ints)),
+      (omega (arith, ints), omega (arith, ints, h.month_to)),
+      (omega (arith, ints, h.day_from), omega (arith, ints, in_month)),
+    )
 
 -- a date of `jiff` is a day of the calendar
 IsCalendarDay-from_jiff : (day month year : ℕ) → IsDate (pos year) (pos month) (pos day) → IsCalendarDay day month year

@@ -22,7 +22,9 @@ returns c =
       address = subst HasAddress (sym made) read;
       expansion = ap (λ (f : FrameParts). f.expansion) made ∙ expansion;
       command = ap (λ (f : FrameParts). f.command) made;
-      payload = ap (λ (f : FrameParts). f.payload) made ∙ payload ∙ ap (λ (n : ℕ). slice_range bytes (layout.command_place + 2) (layout.command_place + 2 + n)) count;
+      payload =
+          ap (λ (f : FrameParts). f.payload) made ∙ payload
+          ∙ ap (λ (n : ℕ). slice_range bytes (layout.command_place + 2) (layout.command_place + 2 + n)) count;
       payload_fits = subst HasPayload (sym made) (accepted.0 refl);
     } in
     record { parts = IsCheckedPart-in bytes layout c.unwrap.result c.requires.described c.requires.whole stands }

@@ -9,7 +9,8 @@ returns-in-Some-clause-first c =
     let place = c.loop-place.place in
     let start = c.in-Some.ensures.start in
     record {
-      stands = StandsIn-from c.in-Some.found chars place c.args.from c.in-Some.ensures.stands (omega (arith, start, c.loop-place.invariant.behind));
+      stands = StandsIn-from c.in-Some.found chars place c.args.from c.in-Some.ensures.stands
+          (omega (arith, start, c.loop-place.invariant.behind));
       least = λ other stands. omega (arith, start, c.loop-place.invariant.none other stands);
     }
 

@@ -30,7 +30,8 @@ returns-clause-heard c =
     let told = c.in_ok-told.told in
     let body = c.as_slice.result.now in
     let taken : take told chars ≡ faultless body =
-    sym (slice_range-front chars told) ∙ sym c.in_ok-get.ensures.lookup.0.2 ∙ c.in_ok-body.ensures.kept ∙ ap faultless (sym c.as_slice.ensures.value) in
+    sym (slice_range-front chars told) ∙ sym c.in_ok-get.ensures.lookup.0.2 ∙ c.in_ok-body.ensures.kept
+    ∙ ap faultless (sym c.as_slice.ensures.value) in
     heard_from chars told body c.decode.result c.ok.result c.ok.ensures.value taken c.decode.ensures.accepts
 
 pub returns-clause-known : goal.returns-clause-known
@@ -39,7 +40,8 @@ returns-clause-known c = λ frame len heard.
     let told = c.in_ok-told.told in
     let body = c.as_slice.result.now in
     let taken : take told chars ≡ faultless body =
-    sym (slice_range-front chars told) ∙ sym c.in_ok-get.ensures.lookup.0.2 ∙ c.in_ok-body.ensures.kept ∙ ap faultless (sym c.as_slice.ensures.value) in
+    sym (slice_range-front chars told) ∙ sym c.in_ok-get.ensures.lookup.0.2 ∙ c.in_ok-body.ensures.kept
+    ∙ ap faultless (sym c.as_slice.ensures.value) in
     let tells = heard_tells chars frame len heard in
     let begins = BeginsWithBody-taken chars frame len heard told body (c.in_ok-told.ensures.told ∙ sym tells.told) taken in
     c.ok.ensures.variant ∙ ap is_ok (c.decode.ensures.only frame len begins)

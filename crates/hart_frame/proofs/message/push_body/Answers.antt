@@ -18,11 +18,14 @@ returns c =
     let checked = c.push_checked_part.ensures.parts.0 in
     let check = c.check_byte-check.result in
     let joined : c.push_checked_part.new.output ≡ c.args.output.now ++ checked = c.push_checked_part.ensures.parts.2 in
-    let slice = range_from_seam c.as_slice.result.now c.args.output.now checked c.len-start.result (c.as_slice.ensures.value ∙ joined) c.len-start.ensures.value in
+    let slice =
+    range_from_seam c.as_slice.result.now c.args.output.now checked c.len-start.result (c.as_slice.ensures.value
+    ∙ joined) c.len-start.ensures.value in
     let family : List ℕ → Type 0 = λ xs. IsCheckByte xs check in
     let of_checked : IsCheckByte checked check = subst family slice c.check_byte-check.ensures in
     let fits : All (λ byte. byte < 256) checked =
-    All-same (λ byte. byte < 256) checked _ (sym slice) (All-take (λ byte. byte < 256) _ _ (All-drop (λ byte. byte < 256) _ _ c.as_slice.ensures.bytes)) in (
+    All-same (λ byte. byte < 256) checked _ (sym slice)
+    (All-take (λ byte. byte < 256) _ _ (All-drop (λ byte. byte < 256) _ _ c.as_slice.ensures.bytes)) in (
       checked ++ check ∷ [],
       IsBody-push c.args.frame.now checked check c.push_checked_part.ensures.parts.1 fits of_checked,
       c.push.ensures ∙ rw joined (rw append_assoc),

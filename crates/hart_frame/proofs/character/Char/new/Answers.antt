@@ -36,7 +36,8 @@ AreFaultBits-from faults small none = record {
 
 -- and fault bits have none of the others
 none_other : (faults : ℕ) → AreFaultBits faults → bit_and faults 141 ≡ 0
-none_other faults are = same_from_bits_below 8 (bit_and faults 141) 0 (omega (arith, and_le_l faults 141, are.byte)) (omega arith) (λ bit below.
+none_other faults are =
+    same_from_bits_below 8 (bit_and faults 141) 0 (omega (arith, and_le_l faults 141, are.byte)) (omega arith) (λ bit below.
     let joined = bit_at_and faults 141 bit in
     let small = bit_at-lt faults bit in
     let cases : (bit_at faults bit ≡ 0) ⊎ (bit_at faults bit ≡ 1) = grind (arith, small) in
@@ -46,7 +47,8 @@ none_other faults are = same_from_bits_below 8 (bit_and faults 141) 0 (omega (ar
     ])
 
 pub returns-then-faults-ne0-clause-accepted : goal.returns-then-faults-ne0-clause-accepted
-returns-then-faults-ne0-clause-accepted c = (λ is. absurd (false≢true is), λ are. absurd (c.if-faults-ne0.true (none_other c.args.faults are)))
+returns-then-faults-ne0-clause-accepted c =
+    (λ is. absurd (false≢true is), λ are. absurd (c.if-faults-ne0.true (none_other c.args.faults are)))
 
 pub invariant_of-result : goal.invariant_of-result
 invariant_of-result c = AreFaultBits-from c.args.faults (omega (arith, c.ranges.faults)) c.if-faults-ne0.false
