@@ -3,6 +3,7 @@
 use Rattle.std.specs.Prelude.{ℕ, ◌==◌, ◌&&◌, ◌||◌, not, if◌then◌else◌, Bool, true, false, length, slice_index}
 use Rattle.std.specs.Prelude.{Option, Some, None, Ok, Err}
 use Rattle.std.specs.Str.{bytes_eq}
+use Rattle.hart_values.specs.AddressBytes.{is_broadcast}
 use Rattle.hart_values.specs.DeviceNumbers.{DeviceNumbers}
 use Rattle.hart_values.specs.declared.address.Address.{Address}
 use Rattle.hart_values.specs.declared.address.Address.TheVariants.{Polling, Unique}
@@ -31,11 +32,6 @@ is_request Ack = false
 -- Two unique addresses are the same where both of their numbers are.
 abbrev pub same_numbers : DeviceNumbers → DeviceNumbers → Bool
 same_numbers a b = (a.expanded_type == b.expanded_type) && (a.device_id == b.device_id)
-
--- The broadcast address is the unique address whose numbers are both zero; a polling address is none.
-abbrev pub is_broadcast : Address → Bool
-is_broadcast (Polling number) = false
-is_broadcast (Unique numbers) = same_numbers numbers (record { expanded_type = 0; device_id = 0 })
 
 -- Command 0 is asked at the polling address that the device has, every command at its own unique address, and Command 11 at the
 -- broadcast address.

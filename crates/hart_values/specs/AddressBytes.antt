@@ -1,5 +1,5 @@
 -- The bytes of an address in a message (HCF_SPEC-081).
-use Rattle.std.specs.Prelude.{◌≡◌, ℕ, ◌+◌, ◌*◌, ◌<◌, Bool, true, false, List, [], ◌∷◌}
+use Rattle.std.specs.Prelude.{◌≡◌, ℕ, ◌+◌, ◌*◌, ◌<◌, ◌==◌, ◌&&◌, Bool, true, false, List, [], ◌∷◌}
 use Rattle.hart_values.specs.declared.master_id.MasterId.{MasterId}
 use Rattle.hart_values.specs.declared.master_id.MasterId.TheVariants.{Primary, Secondary}
 use Rattle.hart_values.specs.declared.address.Address.{Address}
@@ -41,3 +41,8 @@ IsAddressBytes master burst (Unique numbers) bytes = IsUniqueBytes master burst 
 -- The broadcast address is the unique address whose numbers are both zero.
 abbrev pub broadcast : Address
 broadcast = Unique (record { expanded_type = 0; device_id = 0 })
+
+-- The test of the broadcast address is true for it and false for every other address.
+abbrev pub is_broadcast : Address → Bool
+is_broadcast (Polling number) = false
+is_broadcast (Unique numbers) = (numbers.expanded_type == 0) && (numbers.device_id == 0)
