@@ -3,8 +3,9 @@ use Rattle.std.proofs.Common.{◌≡◌, ℕ, ◌+◌, ◌<◌, ◌≤◌, ◌-�
 use Rattle.std.proofs.Common.{◌∙◌, subst, arith}
 use Rattle.std.proofs.lemmas.List.{append-nil, append_assoc, drop-drop, length-append, length-drop, take_rest}
 use Rattle.hart_frame.specs.Character.{Character}
-use Rattle.hart_cli.specs.Items.{BeginsAs, BeginsWith, FaultyItem, IsSeparator, IsWholeBefore, Item, meaning, NoPieceBegins, nothing}
+use Rattle.hart_cli.specs.Items.{BeginsAs, BeginsWith, IsSeparator, IsWholeBefore, Item, meaning, NoPieceBegins, nothing}
 use Rattle.hart_cli.specs.Items.{Piece, piece, ReadsUpTo, Separator, spelling}
+use Rattle.hart_line.specs.Items.{Faulty, Plain}
 use Rattle.std.proofs.Math.Seq.{drop-append_seam}
 use Rattle.std.specs.Option.{option_to_list}
 use Rattle.hex.specs.Hex.{is_hex_digit}
@@ -21,35 +22,35 @@ separator_is_no_high : (a h : ℕ) → IsSeparator a → is_hex_digit h ≡ true
 separator_is_no_high a h s d e = separator_is_no_digit a s (subst (λ (x : ℕ). is_hex_digit x ≡ true) (sym e) d)
 
 -- an item is not whole before a `!`
-not_whole : (tail more : List ℕ) (high low : ℕ) → IsWholeBefore tail (Item high low) → tail ≡ 33 ∷ more → ⊥
+not_whole : (tail more : List ℕ) (high low : ℕ) → IsWholeBefore tail (Item (Plain high low)) → tail ≡ 33 ∷ more → ⊥
 not_whole [] more high low w e = cc e
-not_whole (x ∷ xs) more high low w e = w (cc e)
+not_whole (x ∷ xs) more high low w e = w.1 (cc e)
 
 -- two pieces at the front of one text are one piece
 pub same_piece : (text : List ℕ) (p q : Piece) (s t : List ℕ) → BeginsWith text p s → BeginsWith text q t → (p ≡ q) × (s ≡ t)
 same_piece text (Separator a) (Separator b) s t h k = let e = sym h.spelled ∙ k.spelled in (cc, cc)
-same_piece text (Separator a) (Item x y) s t h k =
+same_piece text (Separator a) (Item (Plain x y)) s t h k =
     let e = sym h.spelled ∙ k.spelled in absurd (separator_is_no_high a x h.valid k.valid.0 (cc))
-same_piece text (Separator a) (FaultyItem x y v w) s t h k =
+same_piece text (Separator a) (Item (Faulty x y v w)) s t h k =
     let e = sym h.spelled ∙ k.spelled in absurd (separator_is_no_high a x h.valid k.valid.0.0 (cc))
-same_piece text (Item x y) (Separator a) s t h k =
+same_piece text (Item (Plain x y)) (Separator a) s t h k =
     let e = sym k.spelled ∙ h.spelled in absurd (separator_is_no_high a x k.valid h.valid.0 (cc))
-same_piece text (FaultyItem x y v w) (Separator a) s t h k =
+same_piece text (Item (Faulty x y v w)) (Separator a) s t h k =
     let e = sym k.spelled ∙ h.spelled in absurd (separator_is_no_high a x k.valid h.valid.0.0 (cc))
-same_piece text (Item x y) (Item x' y') s t h k = let e = sym h.spelled ∙ k.spelled in (cc, cc)
-same_piece text (Item x y) (FaultyItem x' y' v w) s t h k =
+same_piece text (Item (Plain x y)) (Item (Plain x' y')) s t h k = let e = sym h.spelled ∙ k.spelled in (cc, cc)
+same_piece text (Item (Plain x y)) (Item (Faulty x' y' v w)) s t h k =
     let e = sym h.spelled ∙ k.spelled in absurd (not_whole s (v ∷ w ∷ t) x y h.whole (cc))
-same_piece text (FaultyItem x' y' v w) (Item x y) s t h k =
+same_piece text (Item (Faulty x' y' v w)) (Item (Plain x y)) s t h k =
     let e = sym k.spelled ∙ h.spelled in absurd (not_whole t (v ∷ w ∷ s) x y k.whole (cc))
-same_piece text (FaultyItem x y v w) (FaultyItem x' y' v' w') s t h k = let e = sym h.spelled ∙ k.spelled in (cc, cc)
+same_piece text (Item (Faulty x y v w)) (Item (Faulty x' y' v' w')) s t h k = let e = sym h.spelled ∙ k.spelled in (cc, cc)
 
 -- a whole piece stays whole, whatever follows
 whole_before_more : (tail more : List ℕ) (p : Piece) → IsWholeBefore tail p → IsWholeBefore (tail ++ more) p
 whole_before_more tail more (Separator a) w = tt
-whole_before_more [] more (Item x y) w = absurd w
-whole_before_more (n ∷ tail) more (Item x y) w = w
-whole_before_more [] more (FaultyItem x y v z) w = absurd (w refl)
-whole_before_more (n ∷ tail) more (FaultyItem x y v z) w = λ e. cc e
+whole_before_more [] more (Item (Plain x y)) w = absurd (w.0 refl)
+whole_before_more (n ∷ tail) more (Item (Plain x y)) w = (λ e. cc e, w.1)
+whole_before_more [] more (Item (Faulty x y v z)) w = absurd (w.0 refl)
+whole_before_more (n ∷ tail) more (Item (Faulty x y v z)) w = (λ e. cc e, tt)
 
 -- a text begins with its piece, whatever follows
 BeginsWith-more : (text tail more : List ℕ) (p : Piece) → BeginsWith text p tail → BeginsWith (text ++ more) p (tail ++ more)
@@ -128,8 +129,8 @@ ReadsUpTo-length _ _ _ (piece text p tail cs rest h r) =
 -- a piece has a length
 spelling-length : (p : Piece) → 0 < length (spelling p)
 spelling-length (Separator a) = omega arith
-spelling-length (Item x y) = omega arith
-spelling-length (FaultyItem x y v w) = omega arith
+spelling-length (Item (Plain x y)) = omega arith
+spelling-length (Item (Faulty x y v w)) = omega arith
 
 -- a reading that can go on does not stop there
 pub not_so_far : (text : List ℕ) (xs : List Character) (rest : List ℕ) (ys : List Character) (last : List ℕ) (p : Piece) (tail : List ℕ)
@@ -144,8 +145,8 @@ not_so_far text xs rest ys last p tail h b k n =
 -- no piece begins at the end
 pub NoPieceBegins-nil : NoPieceBegins []
 NoPieceBegins-nil (Separator a) tail h = cc (h.spelled)
-NoPieceBegins-nil (Item x y) tail h = cc (h.spelled)
-NoPieceBegins-nil (FaultyItem x y v w) tail h = cc (h.spelled)
+NoPieceBegins-nil (Item (Plain x y)) tail h = cc (h.spelled)
+NoPieceBegins-nil (Item (Faulty x y v w)) tail h = cc (h.spelled)
 
 -- a text is read one piece further
 pub piece_read : (text : List ℕ) (chars new : List Character) (place : ℕ) (char : Option Character) (len : ℕ) → place ≤ length text

@@ -1,6 +1,5 @@
 mod AnswerLemmas
 mod CommandLineLemmas
-mod DigitsLemmas
 mod DumpLemmas
 mod EncodeLemmas
 mod EncodeRowLemmas
@@ -11,4 +10,3 @@ mod ItemsLemmas
 mod KnownBytesLemmas
 mod LineLemmas
 mod MessageLineLemmas
-mod WordsLemmas

@@ -8,7 +8,7 @@ use Rattle.hart_cli.specs.declared.fault.CliFault.{CliFault}
 use Rattle.hart_cli.specs.declared.fault.CliFault.TheVariants.{BadHex, BadWord, Memory, Read, TooLong, Write}
 use Rattle.hart_cli.specs.MessageLine.{IsMessageLine}
 use Rattle.hart_cli.specs.Stream.{FailsToWrite, Stream, WritesAll, WritesNothing}
-use Rattle.hart_cli.specs.Words.{IsAddressWord, IsCommandWord, IsDataWord, HasNoValue, IsWho}
+use Rattle.hart_line.specs.Words.{IsAddressWord, IsCommandWord, IsDataWord, HasNoValue, IsWho}
 
 -- A message to send is told by four words.
 pub record MessageWords : Type 0 where

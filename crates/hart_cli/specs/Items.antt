@@ -1,62 +1,38 @@
--- Texts of hex items (own profile): pieces end to end, each a separator or an item of two hex digits, after which a `!`
--- and two more hex digits may tell fault bits.
-use Rattle.std.specs.Prelude.{◌≡◌, ◌≢◌, ℕ, ◌+◌, ◌*◌, ◌⊎◌, List, [], ◌∷◌, ◌++◌, length, Option, unwrap_or, IsTrue, ⊤}
+-- Texts of hex items with separators (own profile): pieces end to end, each a separator or an item.
+use Rattle.std.specs.Prelude.{◌≡◌, ◌≢◌, ℕ, ◌+◌, ◌⊎◌, List, [], ◌∷◌, ◌++◌, length, Option, ⊤}
 use Rattle.std.specs.Option.{option_to_list}
-use Rattle.hart_frame.specs.Character.{AreFaultBits, Character}
-use Rattle.hex.specs.Hex.{hex_digit_value, is_hex_digit}
+use Rattle.hart_frame.specs.Character.{Character}
+use Rattle.hart_line.specs.Items as items
+use Rattle.hart_line.specs.Items.{EndsBefore, item_meaning, item_spelling, IsValidItem}
 
--- A piece of a text is a separator, an item of a high and a low digit, or such an item with the two digits of its fault
--- bits.
+-- A piece of a text is a separator or an item.
 pub data Piece : Type 0 where
   Separator : (byte : ℕ) → Piece
-  Item : (high low : ℕ) → Piece
-  FaultyItem : (high low fault_high fault_low : ℕ) → Piece
+  Item : (item : items.Item) → Piece
 
--- A piece is spelled by these bytes, of which 33 is the `!`.
+-- A piece is spelled by these bytes.
 abbrev pub spelling : Piece → List ℕ
 spelling (Separator byte) = byte ∷ []
-spelling (Item high low) = high ∷ low ∷ []
-spelling (FaultyItem high low fault_high fault_low) = high ∷ low ∷ 33 ∷ fault_high ∷ fault_low ∷ []
+spelling (Item item) = item_spelling item
 
 -- A separator is a space, a tab, a carriage return or a line feed.
 abbrev pub IsSeparator : ℕ → Type 0
 IsSeparator byte = (byte ≡ 32) ⊎ (byte ≡ 9) ⊎ (byte ≡ 13) ⊎ (byte ≡ 10)
 
--- Two bytes are digits where both are hex digits, of either case.
-abbrev pub AreDigits : ℕ → ℕ → Type 0
-AreDigits high low = IsTrue (is_hex_digit high) × IsTrue (is_hex_digit low)
-
--- A hex digit has this value.
-abbrev pub hex_value : ℕ → ℕ
-hex_value digit = unwrap_or (hex_digit_value digit) 0
-
--- Two digits write this byte.
-abbrev pub byte_of : ℕ → ℕ → ℕ
-byte_of high low = 16 * hex_value high + hex_value low
-
--- A separator is one of the four, an item has hex digits, and the fault bits of an item are not 00 and none but those that
--- there are.
+-- A separator is one of the four, and an item has its digits and its fault bits.
 abbrev pub IsValid : Piece → Type 0
 IsValid (Separator byte) = IsSeparator byte
-IsValid (Item high low) = AreDigits high low
-IsValid (FaultyItem high low fault_high fault_low) =
-    AreDigits high low × AreDigits fault_high fault_low
-    × (byte_of fault_high fault_low ≢ 0) × AreFaultBits (byte_of fault_high fault_low)
+IsValid (Item item) = IsValidItem item
 
--- A separator means no character, and an item the character of its byte and its fault bits.
+-- A separator means no character, and an item its own.
 abbrev pub meaning : Piece → List Character
 meaning (Separator byte) = []
-meaning (Item high low) = record { byte = byte_of high low; faults = 0 } ∷ []
-meaning (FaultyItem high low fault_high fault_low) =
-    record { byte = byte_of high low; faults = byte_of fault_high fault_low } ∷ []
+meaning (Item item) = item_meaning item ∷ []
 
--- A separator is whole whatever follows it, and an item where a further byte follows it, which for one without fault bits is
--- no `!`, as that would belong to it.
+-- A separator is whole whatever follows it, and an item where a further byte follows it and the item ends before it.
 abbrev pub IsWholeBefore : List ℕ → Piece → Type 0
 IsWholeBefore tail (Separator byte) = ⊤
-IsWholeBefore [] (Item high low) = ⊥
-IsWholeBefore (next ∷ tail) (Item high low) = next ≢ 33
-IsWholeBefore tail (FaultyItem high low fault_high fault_low) = tail ≢ []
+IsWholeBefore tail (Item item) = (tail ≢ []) × EndsBefore tail item
 
 -- A text begins with a valid piece, which is whole before the rest of the text.
 pub record BeginsWith (text : List ℕ) (piece : Piece) (tail : List ℕ) : Type 0 where

@@ -8,7 +8,6 @@ pub mod MessageLine
 pub mod Answer
 pub mod DumpText
 pub mod Dump
-pub mod Words
 pub mod Encode
 pub mod FaultText
 pub mod CommandLine

@@ -7,8 +7,8 @@ ghost use Rattle.hart_cli.specs.Encode.{EncodeOutcome, IsEncoding, MessageWords,
 use crate::fault::CliFault;
 use crate::output::{message_line, write_all};
 use crate::stream::Sink;
-use crate::words::{read_address, read_command, read_data, read_who};
 use hart_frame::{Frame, bodies_are_told_apart};
+use hart_line::{read_address, read_command, read_data, read_who, words_have_one_value};
 use std::alloc::Global;
 
 /// Writes the request that four words write, with so many preamble bytes, as one line of hex.
@@ -46,7 +46,8 @@ pub fn one_encoding()
     ensures { (words : MessageWords) (preambles : ℕ) (xs ys : List ℕ)
         → IsEncoding words preambles xs → IsEncoding words preambles ys → xs ≡ ys }
 {
-    // It does nothing when it runs: the law of bodies is what this one rests on.
+    // They do nothing when they run: the laws of words and of bodies are what this one rests on.
+    words_have_one_value();
     bodies_are_told_apart();
 }
 
@@ -60,16 +61,16 @@ fn read_request(who: &str, address: &str, command: &str, payload: &str) -> Resul
         (record { who = who.now; address = address.now; command = command.now; payload = payload.now })
         result }
 {
-    let Some(master) = read_who(who) else {
+    let Some(master) = read_who(who.as_bytes()) else {
         return Err(CliFault::BadWord { number: 1 });
     };
-    let Some(address) = read_address(address) else {
+    let Some(address) = read_address(address.as_bytes()) else {
         return Err(CliFault::BadWord { number: 2 });
     };
-    let Some(command) = read_command(command) else {
+    let Some(command) = read_command(command.as_bytes()) else {
         return Err(CliFault::BadWord { number: 3 });
     };
-    let Some(payload) = read_data(payload) else {
+    let Some(payload) = read_data(payload.as_bytes()) else {
         return Err(CliFault::BadWord { number: 4 });
     };
     Ok(Frame::request(master, address, command, payload))

@@ -2,14 +2,14 @@
 ghost use Rattle.std.specs.Prelude.{◌≡◌, ◌↔◌, ◌≤◌, ℕ, List, drop, length, Option, IfOk, IsTrue, MatchOption};
 ghost use Rattle.hart_frame.specs.Character.{Character};
 ghost use Rattle.hart_cli.specs.Hearing.{Hears};
-ghost use Rattle.hart_cli.specs.Items.{AreDigits, BeginsAs, byte_of, IsSeparator, MayBegin, NoPieceBegins, ReadsUpTo};
+ghost use Rattle.hart_cli.specs.Items.{BeginsAs, IsSeparator, MayBegin, NoPieceBegins, ReadsUpTo};
 ghost use Rattle.hart_cli.specs.declared.fault.CliFault.{CliFault};
 ghost use Rattle.hart_cli.specs.declared.input.InputEnd.{InputEnd};
 
 use crate::fault::CliFault;
 use crate::input::{Input, InputEnd};
 use hart_frame::Char;
-use hex::FromHex;
+use hart_line::leading_item;
 use std::alloc::{AllocError, Global};
 
 /// What an input was heard as.
@@ -97,28 +97,14 @@ fn leading_piece(text: &[u8]) -> Option<Lead>
     if is_separator(*first) {
         return Some(Lead { char: None, len: 1 });
     }
-    let [high, low, next, ..] = text else {
-        return None;
-    };
-    let byte = byte_of_digits(*high, *low)?;
-    if *next != b'!' {
-        let char = Char::new(byte, 0)?;
-        return Some(Lead {
-            char: Some(char),
-            len: 2,
-        });
-    }
-    let [_, _, _, fault_high, fault_low, _, ..] = text else {
-        return None;
-    };
-    let faults = byte_of_digits(*fault_high, *fault_low)?;
-    if faults == 0 {
+    let item = leading_item(text)?;
+    if item.len == text.len() {
+        // What follows an item makes it whole.
         return None;
     }
-    let char = Char::new(byte, faults)?;
     Some(Lead {
-        char: Some(char),
-        len: 5,
+        char: Some(item.char),
+        len: item.len,
     })
 }
 
@@ -141,14 +127,6 @@ fn may_begin(text: &[u8]) -> bool
     }
     item[..text.len()].copy_from_slice(text);
     leading_piece(&item).is_some()
-}
-
-/// The byte that two hex digits write.
-fn byte_of_digits(high: u8, low: u8) -> Option<u8>
-    ensures { MatchOption result (AreDigits high low → ⊥) (λ byte. AreDigits high low × (byte ≡ byte_of high low)) }
-{
-    let [byte] = <[u8; 1]>::from_hex([high, low]).ok()?;
-    Some(byte)
 }
 
 #[cfg(test)]

@@ -16,7 +16,6 @@ mod output;
 mod plain;
 mod program;
 mod stream;
-mod words;
 
 use crate::plain::Plain;
 use crate::program::{NO_CALL, program};

@@ -2,7 +2,8 @@ use Rattle.std.proofs.Common.{◌≡◌, ◌≢◌, inl, inr, ℕ, zero, suc, �
 use Rattle.std.proofs.Common.{Bool, true, false, is_some, IsTrue, MatchOption, refl, sym, ap, ◌∙◌, subst, arith}
 use Rattle.std.specs.Int.{bit_at}
 use Rattle.hart_frame.specs.Character.{AreFaultBits, IsFaultBit}
-use Rattle.hart_cli.specs.Items.{AreDigits, BeginsAs, BeginsWith, byte_of, FaultyItem, hex_value, Item, MayBegin, NoPieceBegins, Piece}
+use Rattle.hart_line.specs.Items.{AreDigits, byte_of, Faulty, hex_value, Plain}
+use Rattle.hart_cli.specs.Items.{BeginsAs, BeginsWith, Item, MayBegin, NoPieceBegins, Piece}
 use Rattle.hart_cli.specs.Items.{Separator, spelling}
 use Rattle.hart_cli.specs.declared.items.Lead.{Lead}
 use Rattle.hex.specs.Hex.{is_hex_digit}
@@ -52,21 +53,21 @@ stands_already (a ∷ text) more tail (Separator x) h short n =
     let e = h.spelled in
     let same : a ≡ x = cc in
     n (Separator x) text (record { valid = h.valid; spelled = ap (λ (y : ℕ). y ∷ text) same; whole = tt })
-stands_already (a ∷ []) more tail (Item x y) h short n = absurd (omega arith)
-stands_already (a ∷ b ∷ []) more tail (Item x y) h short n = absurd (omega arith)
-stands_already (a ∷ b ∷ z ∷ text) more [] (Item x y) h short n = absurd h.whole
-stands_already (a ∷ b ∷ z ∷ text) more (u ∷ tail) (Item x y) h short n =
+stands_already (a ∷ []) more tail (Item (Plain x y)) h short n = absurd (omega arith)
+stands_already (a ∷ b ∷ []) more tail (Item (Plain x y)) h short n = absurd (omega arith)
+stands_already (a ∷ b ∷ z ∷ text) more [] (Item (Plain x y)) h short n = absurd (h.whole.0 refl)
+stands_already (a ∷ b ∷ z ∷ text) more (u ∷ tail) (Item (Plain x y)) h short n =
     let e = h.spelled in
     let same : z ≡ u = cc in
-    n (Item x y) (z ∷ text) (record { valid = h.valid; spelled = cc; whole = λ k. h.whole (sym same ∙ k) })
-stands_already (a ∷ []) more tail (FaultyItem x y v w) h short n = absurd (omega arith)
-stands_already (a ∷ b ∷ []) more tail (FaultyItem x y v w) h short n = absurd (omega arith)
-stands_already (a ∷ b ∷ c ∷ []) more tail (FaultyItem x y v w) h short n = absurd (omega arith)
-stands_already (a ∷ b ∷ c ∷ d ∷ []) more tail (FaultyItem x y v w) h short n = absurd (omega arith)
-stands_already (a ∷ b ∷ c ∷ d ∷ f ∷ []) more tail (FaultyItem x y v w) h short n = absurd (omega arith)
-stands_already (a ∷ b ∷ c ∷ d ∷ f ∷ z ∷ text) more tail (FaultyItem x y v w) h short n =
+    n (Item (Plain x y)) (z ∷ text) (record { valid = h.valid; spelled = cc; whole = (λ k. cc k, λ k. h.whole.1 (sym same ∙ k)) })
+stands_already (a ∷ []) more tail (Item (Faulty x y v w)) h short n = absurd (omega arith)
+stands_already (a ∷ b ∷ []) more tail (Item (Faulty x y v w)) h short n = absurd (omega arith)
+stands_already (a ∷ b ∷ c ∷ []) more tail (Item (Faulty x y v w)) h short n = absurd (omega arith)
+stands_already (a ∷ b ∷ c ∷ d ∷ []) more tail (Item (Faulty x y v w)) h short n = absurd (omega arith)
+stands_already (a ∷ b ∷ c ∷ d ∷ f ∷ []) more tail (Item (Faulty x y v w)) h short n = absurd (omega arith)
+stands_already (a ∷ b ∷ c ∷ d ∷ f ∷ z ∷ text) more tail (Item (Faulty x y v w)) h short n =
     let e = h.spelled in
-    n (FaultyItem x y v w) (z ∷ text) (record { valid = h.valid; spelled = cc; whole = λ k. cc k })
+    n (Item (Faulty x y v w)) (z ∷ text) (record { valid = h.valid; spelled = cc; whole = (λ k. cc k, tt) })
 
 -- a separator stands at the front of a text already
 separator_stands : (a : ℕ) (text more tail : List ℕ) (x : ℕ) → BeginsWith ((a ∷ text) ++ more) (Separator x) tail
@@ -79,7 +80,7 @@ separator_stands a text more tail x h n =
 -- an item with fault bits 02 begins where its digits are digits
 begins_filled : (text : List ℕ) (x y : ℕ) → AreDigits x y → text ≡ x ∷ y ∷ 33 ∷ 48 ∷ 50 ∷ 32 ∷ [] → NoPieceBegins text → ⊥
 begins_filled text x y d e n =
-    n (FaultyItem x y 48 50) (32 ∷ []) (record {
+    n (Item (Faulty x y 48 50)) (32 ∷ []) (record {
       valid = (
         d,
         (refl, refl),
@@ -87,7 +88,7 @@ begins_filled text x y d e n =
         two_fits 0 2 (record { byte = omega arith; only = λ bit below set. sets_fault_bits 0 bit (omega arith) below set }),
       );
       spelled = e;
-      whole = λ k. cc k;
+      whole = (λ k. cc k, tt);
     })
 
 -- a digit that equals a digit
@@ -98,40 +99,40 @@ is_digit a x e d = subst (λ (y : ℕ). IsTrue (is_hex_digit y)) (sym e) d
 begins_faulty : (text : List ℕ) (x y v w : ℕ) → AreDigits x y → AreDigits v w → byte_of v w ≢ 0 → AreFaultBits (byte_of v w)
     → text ≡ x ∷ y ∷ 33 ∷ v ∷ w ∷ 32 ∷ [] → NoPieceBegins text → ⊥
 begins_faulty text x y v w d f z a e n =
-    n (FaultyItem x y v w) (32 ∷ []) (record { valid = (d, f, z, a); spelled = e; whole = λ k. cc k })
+    n (Item (Faulty x y v w)) (32 ∷ []) (record { valid = (d, f, z, a); spelled = e; whole = (λ k. cc k, tt) })
 
 -- what some bytes complete, these do
 filled : (text more tail : List ℕ) (p : Piece) → NoPieceBegins text → BeginsWith (text ++ more) p tail
     → NoPieceBegins (text ++ filling text) → ⊥
 filled [] more tail p n h m = begins_filled _ 48 48 (refl, refl) refl m
 filled (a ∷ text) more tail (Separator x) n h m = separator_stands a text more tail x h n
-filled (a ∷ []) more tail (Item x y) n h m =
+filled (a ∷ []) more tail (Item (Plain x y)) n h m =
     let e = h.spelled in begins_filled _ a 48 (is_digit a x (cc) h.valid.0, refl) refl m
-filled (a ∷ []) more tail (FaultyItem x y v w) n h m =
+filled (a ∷ []) more tail (Item (Faulty x y v w)) n h m =
     let e = h.spelled in begins_filled _ a 48 (is_digit a x (cc) h.valid.0.0, refl) refl m
-filled (a ∷ b ∷ []) more tail (Item x y) n h m =
+filled (a ∷ b ∷ []) more tail (Item (Plain x y)) n h m =
     let e = h.spelled in begins_filled _ a b (is_digit a x (cc) h.valid.0, is_digit b y (cc) h.valid.1) refl m
-filled (a ∷ b ∷ []) more tail (FaultyItem x y v w) n h m =
+filled (a ∷ b ∷ []) more tail (Item (Faulty x y v w)) n h m =
     let e = h.spelled in begins_filled _ a b (is_digit a x (cc) h.valid.0.0, is_digit b y (cc) h.valid.0.1) refl m
-filled (a ∷ b ∷ c ∷ text) more tail (Item x y) n h m = stands_already (a ∷ b ∷ c ∷ text) more tail (Item x y) h (omega arith) n
-filled (a ∷ b ∷ c ∷ []) more tail (FaultyItem x y v w) n h m =
+filled (a ∷ b ∷ c ∷ text) more tail (Item (Plain x y)) n h m = stands_already (a ∷ b ∷ c ∷ text) more tail (Item (Plain x y)) h (omega arith) n
+filled (a ∷ b ∷ c ∷ []) more tail (Item (Faulty x y v w)) n h m =
     let e = h.spelled in begins_filled _ a b (is_digit a x (cc) h.valid.0.0, is_digit b y (cc) h.valid.0.1) (cc) m
-filled (a ∷ b ∷ c ∷ d ∷ []) more tail (FaultyItem x y v w) n h m =
+filled (a ∷ b ∷ c ∷ d ∷ []) more tail (Item (Faulty x y v w)) n h m =
     let e = h.spelled in
     let same : d ≡ v = cc in
     let fits : AreFaultBits (byte_of d w) = subst (λ (z : ℕ). AreFaultBits (byte_of z w)) (sym same) h.valid.3 in
     begins_faulty _ a b d 50 (is_digit a x (cc) h.valid.0.0, is_digit b y (cc) h.valid.0.1) (is_digit d v same h.valid.1.0, refl)
     (omega arith) (two_fits (hex_value d) (hex_value w) fits) (cc) m
-filled (a ∷ b ∷ c ∷ d ∷ f ∷ []) more tail (FaultyItem x y v w) n h m =
+filled (a ∷ b ∷ c ∷ d ∷ f ∷ []) more tail (Item (Faulty x y v w)) n h m =
     let e = h.spelled in begins_faulty _ x y v w h.valid.0 h.valid.1 h.valid.2 h.valid.3 (cc) m
-filled (a ∷ b ∷ c ∷ d ∷ f ∷ u ∷ text) more tail (FaultyItem x y v w) n h m =
-    stands_already (a ∷ b ∷ c ∷ d ∷ f ∷ u ∷ text) more tail (FaultyItem x y v w) h (omega arith) n
+filled (a ∷ b ∷ c ∷ d ∷ f ∷ u ∷ text) more tail (Item (Faulty x y v w)) n h m =
+    stands_already (a ∷ b ∷ c ∷ d ∷ f ∷ u ∷ text) more tail (Item (Faulty x y v w)) h (omega arith) n
 
 -- a text longer than each piece and the byte behind it
 too_long : (text more tail : List ℕ) (p : Piece) → 6 < length text → BeginsWith (text ++ more) p tail → NoPieceBegins text → ⊥
 too_long text more tail (Separator x) long h n = stands_already text more tail (Separator x) h (omega arith) n
-too_long text more tail (Item x y) long h n = stands_already text more tail (Item x y) h (omega arith) n
-too_long text more tail (FaultyItem x y v w) long h n = stands_already text more tail (FaultyItem x y v w) h (omega arith) n
+too_long text more tail (Item (Plain x y)) long h n = stands_already text more tail (Item (Plain x y)) h (omega arith) n
+too_long text more tail (Item (Faulty x y v w)) long h n = stands_already text more tail (Item (Faulty x y v w)) h (omega arith) n
 
 -- whether a piece was found tells whether one may begin
 tells : (text front : List ℕ) (found : Option Lead) (result : Bool) → result ≡ is_some found → front ≡ text → NoPieceBegins text

@@ -4,7 +4,7 @@ use Rattle.std.proofs.Common.{◌∙◌, arith}
 use Rattle.std.specs.Result.{result_ok}
 use Rattle.hex.specs.Hex.{decode_of, decode_sized}
 use Rattle.hex.proofs.HexLemmas.{decode_of-ok, decode_sized-ok, decode_sized-twice}
-use Rattle.hart_cli.specs.Words.{IsDeviceWord}
+use Rattle.hart_line.specs.Words.{IsDeviceWord}
 
 -- what `ok` gives is the value of an `Ok`
 pub ok_some : {T E : Type 0} (result : Result T E) (value : T) → result_ok result ≡ Some value → result ≡ Ok value

@@ -1,7 +1,7 @@
 use Rattle.std.proofs.Common.{arith, rules, sym, ◌∙◌}
 use Rattle.hex.proofs.HexLemmas.{decode_of-ok, decode_sized-twice}
-use Rattle.hart_cli.proofs.WordsLemmas.{IsDeviceWord-from_bytes, ok_none, ok_some}
-use Rattle.hart_cli.proofs.words.read_device.Goals as goal
+use Rattle.hart_line.proofs.WordsLemmas.{IsDeviceWord-from_bytes, ok_none, ok_some}
+use Rattle.hart_line.proofs.words.read_device.Goals as goal
 
 pub returns-in_err-bytes : goal.returns-in_err-bytes
 returns-in_err-bytes c =

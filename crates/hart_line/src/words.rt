@@ -1,28 +1,29 @@
-//! The words of a message to send.
+//! The words of messages to send.
 
 ghost use Rattle.std.specs.Prelude.{MatchOption};
-ghost use Rattle.hart_cli.specs.Words.{IsAddressWord, IsCommandWord, IsDataWord, IsDecimal, IsDeviceWord, HasNoValue, IsPollingWord, IsWho};
+ghost use Rattle.hart_line.specs.Words.{IsAddressWord, IsCommandWord, IsDataWord, IsDecimal, IsDeviceWord, HasNoValue, IsPollingWord, IsWho};
 
 use hart_frame::Payload;
 use hart_values::{Address, MasterId, PollingAddress, UniqueAddress};
 use hex::FromHex;
+use std::str;
 
 /// The master that WHO names: `P` the primary and `S` the secondary.
-pub fn read_who(word: &str) -> Option<MasterId>
+pub fn read_who(word: &[u8]) -> Option<MasterId>
     ensures { MatchOption result (HasNoValue (IsWho word.now)) (IsWho word.now) }
 {
     match word {
-        "P" => Some(MasterId::Primary),
-        "S" => Some(MasterId::Secondary),
+        b"P" => Some(MasterId::Primary),
+        b"S" => Some(MasterId::Secondary),
         _ => None,
     }
 }
 
 /// The address that ADDRESS writes: `@` and a polling address, the ten hex digits of a device, or `all`.
-pub fn read_address(word: &str) -> Option<Address>
+pub fn read_address(word: &[u8]) -> Option<Address>
     ensures { MatchOption result (HasNoValue (IsAddressWord word.now)) (IsAddressWord word.now) }
 {
-    if word == "all" {
+    if word == b"all".as_slice() {
         return Address::unique(0, 0).ok();
     }
     if let Some(polling) = read_polling(word) {
@@ -32,15 +33,17 @@ pub fn read_address(word: &str) -> Option<Address>
 }
 
 /// The polling address that is written `@` and one or two digits.
-fn read_polling(word: &str) -> Option<PollingAddress>
+fn read_polling(word: &[u8]) -> Option<PollingAddress>
     ensures { MatchOption result (HasNoValue (IsPollingWord word.now)) (IsPollingWord word.now) }
 {
-    let digits = word.strip_prefix('@')?;
+    let [b'@', digits @ ..] = word else {
+        return None;
+    };
     PollingAddress::new(read_decimal(digits, 2)?).ok()
 }
 
 /// The device that is written in ten hex digits.
-fn read_device(word: &str) -> Option<UniqueAddress>
+fn read_device(word: &[u8]) -> Option<UniqueAddress>
     ensures { MatchOption result (HasNoValue (IsDeviceWord word.now)) (IsDeviceWord word.now) }
 {
     let bytes = <[u8; 5]>::from_hex(word).ok()?;
@@ -51,26 +54,29 @@ fn read_device(word: &str) -> Option<UniqueAddress>
 }
 
 /// The command that COMMAND writes, in one to three digits.
-pub fn read_command(word: &str) -> Option<u8>
+pub fn read_command(word: &[u8]) -> Option<u8>
     ensures { MatchOption result (HasNoValue (IsCommandWord word.now)) (IsCommandWord word.now) }
 {
     read_decimal(word, 3)
 }
 
 /// The number up to 255 that a word writes in decimal, in at most so many digits.
-fn read_decimal(word: &str, most_digits: usize) -> Option<u8>
+fn read_decimal(word: &[u8], most_digits: usize) -> Option<u8>
     ensures { MatchOption result
         (HasNoValue (IsDecimal word.now most_digits 255)) (IsDecimal word.now most_digits 255) }
 {
     // `parse` takes a plus sign too, which is no digit.
-    if word.len() > most_digits || word.starts_with('+') {
+    if word.len() > most_digits || word.starts_with(b"+") {
         return None;
     }
-    word.parse().ok()
+    match str::from_utf8(word) {
+        Ok(text) => text.parse().ok(),
+        Err(_) => None,
+    }
 }
 
 /// The bytes that DATA writes in plain hex, at most 255.
-pub fn read_data(word: &str) -> Option<Payload>
+pub fn read_data(word: &[u8]) -> Option<Payload>
     ensures { MatchOption result (HasNoValue (IsDataWord word.now)) (IsDataWord word.now) }
 {
     let mut room = [0; 255];

@@ -1,5 +1,5 @@
-use Rattle.hart_cli.proofs.DigitsLemmas.{decode_pairs-none, decode_pairs-some}
-use Rattle.hart_cli.proofs.items.byte_of_digits.Goals as goal
+use Rattle.hart_line.proofs.DigitsLemmas.{decode_pairs-none, decode_pairs-some}
+use Rattle.hart_line.proofs.items.byte_of_digits.Goals as goal
 
 pub returns-in_err-byte : goal.returns-in_err-byte
 returns-in_err-byte c = rw (c.from_residual.ensures) (decode_pairs-none _ _ _ c.from_hex.ensures c.in_err-byte.ensures.value)

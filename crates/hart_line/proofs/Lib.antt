@@ -1,0 +1,4 @@
+mod DigitsLemmas
+mod ItemsLemmas
+mod WordsApart
+mod WordsLemmas

@@ -1,0 +1,5 @@
+use Rattle.hart_line.proofs.WordsApart.{IsAddressWord-one, IsCommandWord-one, IsDataWord-one, IsWho-one}
+use Rattle.hart_line.proofs.laws.words_have_one_value.Goals as goal
+
+pub returns : goal.returns
+returns c = record { who = IsWho-one; address = IsAddressWord-one; command = IsCommandWord-one; payload = IsDataWord-one }

@@ -1,0 +1,35 @@
+use crate::CharList;
+use hart_commands::Request;
+use hart_values::{Address, MasterId};
+
+/// What is heard in one leg of a turn.
+#[derive(Debug, Drop)]
+pub enum Heard {
+    /// What was sent in this leg, without faults, or nothing where nothing was sent.
+    Clean,
+    /// Nothing.
+    Lost,
+    /// These characters in place of what was sent.
+    Chars(CharList),
+}
+
+/// One event on the line.
+#[derive(Debug, Drop)]
+pub enum LineEvent {
+    /// A master is asked to send this request to this address.
+    Submit {
+        who: MasterId,
+        address: Address,
+        request: Request,
+    },
+    /// A master has its turn: the device hears `up`, and then both masters hear `down`.
+    Turn {
+        who: MasterId,
+        up: Heard,
+        down: Heard,
+    },
+    /// The write protection of the device is switched on or off.
+    Protect(bool),
+    /// The device and both masters hear these characters.
+    Noise(CharList),
+}

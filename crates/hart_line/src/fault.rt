@@ -1,0 +1,60 @@
+use std::alloc::{AllocError, AllocFailed};
+use std::fmt;
+use thiserror::Error;
+
+/// A part of an event in which something is heard.
+#[derive(Clone, Copy, Debug, PartialEq, Eq)]
+pub enum Leg {
+    /// From a master to the device, in a turn.
+    Up,
+    /// From the device to the masters, in a turn.
+    Down,
+    /// What all hear at noise.
+    Noise,
+}
+
+impl fmt::Display for Leg {
+    fn fmt<W: fmt::Write>(&self, f: &mut fmt::Formatter<W>) -> fmt::Result {
+        f.write_str(match self {
+            Leg::Up => "up",
+            Leg::Down => "down",
+            Leg::Noise => "noise",
+        })
+    }
+}
+
+/// Why a script was not read or not carried out.
+#[derive(Clone, Copy, Debug, PartialEq, Eq, Error)]
+pub enum LineFault {
+    /// Fault 1: in this leg of the event with this number, counted from 0, the damage leaves another frame than the one sent.
+    #[error("undetected damage at event {event}, {leg}")]
+    Undetected { event: usize, leg: Leg },
+    /// Fault 2: memory was refused.
+    #[error("out of memory")]
+    Memory,
+    /// Fault 3: the line with this number, counted from 1, says no event.
+    #[error("bad line {number}")]
+    BadLine { number: usize },
+}
+
+impl From<AllocError> for LineFault {
+    ghost use Rattle.std.specs.Prelude.{◌≡◌};
+    ghost use Rattle.hart_line.specs.declared.fault.LineFault.TheVariants.{Memory};
+
+    ghost from_gives = { λ _ e. e ≡ Memory };
+
+    fn from(_error: AllocError) -> LineFault {
+        LineFault::Memory
+    }
+}
+
+impl<T: Drop> From<AllocFailed<T>> for LineFault {
+    ghost use Rattle.std.specs.Prelude.{◌≡◌};
+    ghost use Rattle.hart_line.specs.declared.fault.LineFault.TheVariants.{Memory};
+
+    ghost from_gives = { λ _ e. e ≡ Memory };
+
+    fn from(_error: AllocFailed<T>) -> LineFault {
+        LineFault::Memory
+    }
+}
