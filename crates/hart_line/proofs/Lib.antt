@@ -1,4 +1,7 @@
 mod DigitsLemmas
 mod ItemsLemmas
+mod LinesLemmas
+mod RowsLemmas
+mod ScriptLemmas
 mod WordsApart
 mod WordsLemmas

@@ -1,2 +1,4 @@
 pub mod Items
 pub mod Words
+pub mod Lines
+pub mod Script

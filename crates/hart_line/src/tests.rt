@@ -1,5 +1,6 @@
 use super::*;
 use hart_values::{Address, MasterId};
+use std::alloc::{AllocError, Global};
 use std::test::Fail;
 
 /// Each fault and its text.
@@ -56,5 +57,77 @@ fn each_word_is_read(rt: HostRuntime) -> Result<(), Fail> {
         (item.char.byte(), item.char.faults(), item.len),
         (0x82, 0x40, 5)
     );
+    Ok(())
+}
+
+/// Texts, each with what its script is: a letter for each event, or the number of its first bad line.
+const SCRIPTS: &[(&str, Result<&str, usize>)] = &[
+    ("", Ok("")),
+    ("\r", Ok("")),
+    ("\n \t\r\n#\n # submit X\n#turn\r\n", Ok("")),
+    ("submit P @07 0", Ok("S")),
+    ("submit P FF420A1B2C 0\r\n", Ok("S")),
+    ("submit P @0 1\nturn P ok lost\n", Ok("ST")),
+    (
+        "# a reply is lost\nsubmit\tP 37420A1B2C 19 012345\n\nturn P ok lost\r\nturn P ok ok\r",
+        Ok("STT"),
+    ),
+    (
+        "protect on\n protect\toff \nnoise FF!40ff\nturn S 82!40B7 FFFF",
+        Ok("+-NT"),
+    ),
+    ("submit P 37420A1B2C 6 4001", Err(1)),
+    ("submit P 37420A1B2C 19 0123", Err(1)),
+    ("submit P 37420A1B2C 20", Err(1)),
+    ("submit P 37420A1B2C 256", Err(1)),
+    ("submit P 37420A1B2C 19 012345 00", Err(1)),
+    ("submit P @64 0", Err(1)),
+    ("submit X @0 0", Err(1)),
+    ("submit P @0", Err(1)),
+    ("turn P ok", Err(1)),
+    ("turn P ok\r lost", Err(1)),
+    ("turn P ok FF FF", Err(1)),
+    ("turn P OK ok", Err(1)),
+    ("noise FF!08", Err(1)),
+    ("noise", Err(1)),
+    ("noise FF\r\r\n", Err(1)),
+    ("noise ok", Err(1)),
+    ("protect", Err(1)),
+    ("protect on # now", Err(1)),
+    ("restart", Err(1)),
+    ("protect on\nturn X ok ok", Err(2)),
+    ("# one\n\nturn P ok ok ok\nturn\n", Err(3)),
+];
+
+/// A letter for each event.
+fn letters(alloc: Global, events: &[LineEvent]) -> Result<Vec<u8>, AllocError> {
+    let mut letters = Vec::new(alloc);
+    for event in events {
+        letters.push(match event {
+            LineEvent::Submit { .. } => b'S',
+            LineEvent::Turn { .. } => b'T',
+            LineEvent::Protect(true) => b'+',
+            LineEvent::Protect(false) => b'-',
+            LineEvent::Noise(_) => b'N',
+        })?;
+    }
+    Ok(letters)
+}
+
+#[test]
+fn scripts_are_read_up_to_a_bad_line(rt: HostRuntime) -> Result<(), Fail> {
+    for (text, want) in SCRIPTS {
+        match read_script(rt.alloc(), text.as_bytes()) {
+            Ok(events) => {
+                let found = letters(rt.alloc(), events.as_slice())?;
+                let want = want.ok().ok_or("a bad line")?;
+                assert_eq!(rt; found.as_slice(), want.as_bytes(), "at {text}");
+            }
+            Err(fault) => {
+                let number = want.err().ok_or("a script")?;
+                assert_eq!(rt; fault, LineFault::BadLine { number }, "at {text}");
+            }
+        }
+    }
     Ok(())
 }

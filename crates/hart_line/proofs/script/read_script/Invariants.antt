@@ -1,0 +1,10 @@
+use Rattle.std.proofs.Common.{◌≡◌, length, take}
+use Rattle.hart_line.specs.Script.{AreEvents}
+use Rattle.hart_line.proofs.ScriptLemmas.{parts_of, said_by}
+use Rattle.hart_line.proofs.script.read_script.Given as goal
+
+abbrev pub invariant-loop-part : goal.invariant-loop-part
+invariant-loop-part l = record {
+  counted : l.number ≡ length l.yielded;
+  said : AreEvents (said_by (take (length l.yielded) (parts_of l.text))) l.events.items;
+}

@@ -1,0 +1,31 @@
+//! Scripts: texts of lines that say events.
+ghost use Rattle.std.specs.Prelude.{IfOk, IfErr};
+ghost use Rattle.hart_line.specs.Script.{IsScript, IsScriptFault};
+
+use crate::lines::without_return;
+use crate::rows::{Line, read_line};
+use crate::{LineEvent, LineFault};
+use std::alloc::Global;
+
+/// The events that the lines of a text say, in order. Empty lines and lines whose first word begins with `#` say none.
+///
+/// # Errors
+///
+/// [`LineFault::BadLine`] with the number, counted from 1, of the first line that says no event and is no such line;
+/// [`LineFault::Memory`] if a growth was refused.
+pub fn read_script(alloc: Global, text: &[u8]) -> Result<Vec<LineEvent>, LineFault>
+    ensures events { IfOk result (λ events. IsScript text.now events.items) }
+    ensures fault { IfErr result (IsScriptFault text.now) }
+{
+    let mut events = Vec::new(alloc);
+    let mut number = 0;
+    for part in text.split(|byte| *byte == b'\n') {
+        number += 1;
+        match read_line(alloc, without_return(part))? {
+            Line::Skipped => {}
+            Line::Event(event) => events.push(event)?,
+            Line::Bad => return Err(LineFault::BadLine { number }),
+        }
+    }
+    Ok(events)
+}
