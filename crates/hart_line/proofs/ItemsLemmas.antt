@@ -3,7 +3,8 @@ use Rattle.std.proofs.Common.{◌≡◌, ℕ, ◌+◌, ◌-◌, ◌<◌, ◌≤�
 use Rattle.std.proofs.lemmas.List.{drop-drop, length-append, length-drop, take_rest}
 use Rattle.std.proofs.Math.Seq.{drop-append_seam}
 use Rattle.hart_frame.specs.Character.{Character}
-use Rattle.hart_line.specs.Items.{BeginsAsItem, BeginsWithItem, BeginsWithItems, EndsBefore, Faulty, Item, item, item_meaning, item_spelling, NoItemBegins, nothing, Plain}
+use Rattle.hart_line.specs.Items.{BeginsAsItem, BeginsWithItem, BeginsWithItems, EndsBefore, Faulty, Item, item}
+use Rattle.hart_line.specs.Items.{item_meaning, item_spelling, NoItemBegins, nothing, Plain}
 
 -- an item without fault bits does not end before a `!`
 no_end : (tail more : List ℕ) (high low : ℕ) → EndsBefore tail (Plain high low) → tail ≡ 33 ∷ more → ⊥
@@ -30,8 +31,8 @@ NoItemBegins-nil (Plain x y) tail h = cc (h.spelled)
 NoItemBegins-nil (Faulty x y v w) tail h = cc (h.spelled)
 
 -- a text that is items up to a rest is so one item further
-pub BeginsWithItems-push : (text : List ℕ) (chars : List Character) (rest : List ℕ) (p : Item) (tail : List ℕ) → BeginsWithItems text chars rest
-    → BeginsWithItem rest p tail → BeginsWithItems text (chars ++ item_meaning p ∷ []) tail
+pub BeginsWithItems-push : (text : List ℕ) (chars : List Character) (rest : List ℕ) (p : Item) (tail : List ℕ)
+    → BeginsWithItems text chars rest → BeginsWithItem rest p tail → BeginsWithItems text (chars ++ item_meaning p ∷ []) tail
 BeginsWithItems-push _ _ _ p tail (nothing rest) h = item rest p tail [] tail h (nothing tail)
 BeginsWithItems-push _ _ _ p tail (item text first next chars rest k r) h =
     item text first next (chars ++ item_meaning p ∷ []) tail k (BeginsWithItems-push next chars rest p tail r h)

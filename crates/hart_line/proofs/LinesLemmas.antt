@@ -1,6 +1,6 @@
 -- The first word of a line.
-use Rattle.std.proofs.Common.{◌≡◌, ℕ, ◌+◌, ◌-◌, ◌<◌, ◌≤◌, suc, Bool, true, false, cond, ltb, List, [], ◌∷◌, length, take, drop, Option, Some, None}
-use Rattle.std.proofs.Common.{not, unwrap_or, refl, sym, ap, ◌∙◌, subst, arith}
+use Rattle.std.proofs.Common.{◌≡◌, ℕ, ◌+◌, ◌-◌, ◌<◌, ◌≤◌, suc, Bool, true, false, cond, ltb, List, [], ◌∷◌, length, take, drop}
+use Rattle.std.proofs.Common.{Option, Some, None, not, unwrap_or, refl, sym, ap, ◌∙◌, subst, arith}
 use Rattle.std.specs.List.{filter, onto_first, position_or_len, prefix_len, slice_split}
 use Rattle.std.proofs.lemmas.Bool.Decides.{nat_tests}
 use Rattle.std.proofs.lemmas.List.{take_rest}
@@ -109,7 +109,8 @@ word_end line word tail start len s n w t none =
     let zero : len ≡ 0 = place ∙ ap (λ (xs : List ℕ). position_or_len is_blank xs) empty in
     t ∙ ap (λ (k : ℕ). drop k (drop start line)) zero ∙ same ∙ empty
 
-pub word_first : (line word tail : List ℕ) (start len : ℕ) → start ≡ passing is_blank line → len ≡ position_or_len is_blank (drop start line)
+pub word_first : (line word tail : List ℕ) (start len : ℕ) → start ≡ passing is_blank line
+    → len ≡ position_or_len is_blank (drop start line)
     → word ≡ take len (drop start line) → tail ≡ drop len (drop start line) → 0 < length word → words_of line ≡ word ∷ words_of tail
 word_first line word tail start len s n w t some =
     let rest = drop start line in

@@ -1,5 +1,6 @@
 -- The rows of the table of events, word by word.
-use Rattle.std.proofs.Common.{◌≡◌, ℕ, ◌+◌, ◌*◌, ◌<◌, inl, inr, Bool, true, false, List, [], ◌∷◌, codes, get_or, length, Ok, Err, refl, sym, ap, ◌∙◌, subst, arith}
+use Rattle.std.proofs.Common.{◌≡◌, ℕ, ◌+◌, ◌*◌, ◌<◌, inl, inr, Bool, true, false, List, [], ◌∷◌, codes, get_or, length}
+use Rattle.std.proofs.Common.{Ok, Err, refl, sym, ap, ◌∙◌, subst, arith}
 use Rattle.std.specs.Bool.{◌==◌}
 use Rattle.std.proofs.lemmas.Bool.{eqb-true}
 use Rattle.hex.specs.Hex.{decode_of, decode_pairs}
@@ -92,7 +93,8 @@ data_taken : (line word rest : List ℕ) (payload : List (List ℕ)) (bytes : Li
     → AreDataWords payload bytes → DataTaken word rest bytes
 data_taken line word rest [] bytes n e written =
     let nothing = none_taken line word rest n e in record {
-      data_written = subst (λ (xs : List ℕ). IsDataWord word xs) (sym written) (subst (λ (xs : List ℕ). IsDataWord xs []) (sym nothing.0) IsDataWord-none);
+      data_written = subst (λ (xs : List ℕ). IsDataWord word xs) (sym written)
+          (subst (λ (xs : List ℕ). IsDataWord xs []) (sym nothing.0) IsDataWord-none);
       no_more = nothing.1;
     }
 data_taken line word rest (one ∷ []) bytes n e written =
@@ -148,7 +150,8 @@ submit_row r who r1 address r2 command r3 payload r4 master to request n1 n2 n3 
     let f3 = n3.first (w.command_written.numeral.0) in
     let f4 = data_words r3 payload r4 w.bytes n4 w.data_written w.no_more in
     let words : words_of r ≡ who ∷ address ∷ command ∷ f4.payload =
-    f1 ∙ ap (λ (xs : List (List ℕ)). who ∷ xs) (f2 ∙ ap (λ (xs : List (List ℕ)). address ∷ xs) (f3 ∙ ap (λ (xs : List (List ℕ)). command ∷ xs) f4.words)) in
+    f1 ∙ ap (λ (xs : List (List ℕ)). who ∷ xs)
+    (f2 ∙ ap (λ (xs : List (List ℕ)). address ∷ xs) (f3 ∙ ap (λ (xs : List (List ℕ)). command ∷ xs) f4.words)) in
     record {
       who = who;
       address = address;
@@ -177,11 +180,13 @@ only_submit words (Protect on) is n = omega (arith, first_letter _ _ _ _ is)
 only_submit words (Noise chars) is n = omega (arith, first_letter _ _ _ _ is.row)
 
 -- the words behind `submit` ask no request where the table refuses it
-pub refused : (who address command payload rest : List ℕ) (master : MasterId) (to : Address) (request : Request) (number : ℕ) (bytes : List ℕ)
-    (code : ℕ) → SubmitWords who address command payload rest master to request → IsCommandWord command number → IsDataWord payload bytes
-    → Err code ≡ request_reading number bytes → ⊥
+pub refused : (who address command payload rest : List ℕ) (master : MasterId) (to : Address) (request : Request) (number : ℕ)
+    (bytes : List ℕ) (code : ℕ) → SubmitWords who address command payload rest master to request
+    → IsCommandWord command number → IsDataWord payload bytes → Err code ≡ request_reading number bytes → ⊥
 refused who address command payload rest master to request number bytes code w c d e =
     let same = IsCommandWord-one command number w.number c w.command_written in
     let these = IsDataWord-one payload bytes w.bytes d w.data_written in
-    let k : Err code ≡ Ok request = e ∙ ap (λ (n : ℕ). request_reading n bytes) same ∙ ap (λ (xs : List ℕ). request_reading w.number xs) these ∙ w.read in
+    let k : Err code ≡ Ok request =
+    e ∙ ap (λ (n : ℕ). request_reading n bytes) same
+    ∙ ap (λ (xs : List ℕ). request_reading w.number xs) these ∙ w.read in
     cc k

@@ -1,6 +1,6 @@
 -- Scripts: a line says one thing, and no text is a script and has a bad line.
-use Rattle.std.proofs.Common.{◌≡◌, ◌⊎◌, ℕ, ◌+◌, inl, inr, Bool, true, false, List, [], ◌∷◌, ◌++◌, codes, get_or, length, Ok, refl, sym, ap, ◌∙◌}
-use Rattle.std.proofs.Common.{◌<◌, suc, drop, map, subst, take, arith}
+use Rattle.std.proofs.Common.{◌≡◌, ◌⊎◌, ℕ, ◌+◌, inl, inr, Bool, true, false, List, [], ◌∷◌, ◌++◌, codes, get_or, length, Ok, refl, sym, ap}
+use Rattle.std.proofs.Common.{◌∙◌, ◌<◌, suc, drop, map, subst, take, arith}
 use Rattle.std.specs.Bool.{◌==◌}
 use Rattle.std.specs.List.{slice_split}
 use Rattle.std.specs.Str.Lines.{strip_carriage_return}
@@ -12,7 +12,8 @@ use Rattle.hart_commands.specs.RequestData.{request_reading}
 use Rattle.hart_commands.specs.declared.request.Request.{Request}
 use Rattle.hart_line.specs.Items.{BeginsWithItems, Faulty, IsItemsWord, item, nothing, Plain}
 use Rattle.hart_line.specs.Lines.{lines_of, words_of}
-use Rattle.hart_line.specs.Script.{AreDataWords, AreEvents, HasFirstBadLine, IsBadLine, IsEvent, IsLeg, IsScript, IsSkipped, none, said, skipped}
+use Rattle.hart_line.specs.Script.{AreDataWords, AreEvents, HasFirstBadLine, IsBadLine, IsEvent, IsLeg, IsScript}
+use Rattle.hart_line.specs.Script.{IsSkipped, none, said, skipped}
 use Rattle.hart_line.specs.Words.{IsAddressWord, IsCommandWord, IsWho}
 use Rattle.hart_line.specs.declared.event.Heard.{Heard}
 use Rattle.hart_line.specs.declared.event.Heard.TheVariants.{Chars, Clean, Lost}
@@ -36,7 +37,8 @@ first_digit _ _ _ (item text (Faulty x y v w) tail chars rest h r) n =
     subst (λ (xs : List ℕ). is_hex_digit (get_or xs 0 0) ≡ true) (sym h.spelled) h.valid.0.0
 
 -- a word of a name is no items where the name begins with no digit
-no_items_named : (word name : List ℕ) (chars : List Character) → word ≡ name → is_hex_digit (get_or name 0 0) ≡ false → IsItemsWord word chars → ⊥
+no_items_named : (word name : List ℕ) (chars : List Character) → word ≡ name → is_hex_digit (get_or name 0 0) ≡ false
+    → IsItemsWord word chars → ⊥
 no_items_named word name chars e d p =
     let digit = first_digit word chars [] p.1 p.0 in
     let k : false ≡ true = sym d ∙ ap (λ (xs : List ℕ). is_hex_digit (get_or xs 0 0)) (sym e) ∙ digit in
@@ -69,11 +71,14 @@ IsEvent-one words (Submit m a r) (Submit n b s) p q =
     let command : p.command ≡ q.command = cc in
     let payload : p.payload ≡ q.payload = cc in
     let master : m ≡ n = IsWho-one q.who m n (subst (λ (xs : List ℕ). IsWho xs m) who p.master_named) q.master_named in
-    let to : a ≡ b = IsAddressWord-one q.address a b (subst (λ (xs : List ℕ). IsAddressWord xs a) address p.address_written) q.address_written in
+    let to : a ≡ b =
+    IsAddressWord-one q.address a b (subst (λ (xs : List ℕ). IsAddressWord xs a) address p.address_written) q.address_written in
     let number : p.number ≡ q.number =
-    IsCommandWord-one q.command p.number q.number (subst (λ (xs : List ℕ). IsCommandWord xs p.number) command p.command_written) q.command_written in
+    IsCommandWord-one q.command p.number q.number (subst (λ (xs : List ℕ). IsCommandWord xs p.number) command p.command_written)
+    q.command_written in
     let bytes : p.bytes ≡ q.bytes =
-    AreDataWords-one q.payload p.bytes q.bytes (subst (λ (xs : List (List ℕ)). AreDataWords xs p.bytes) payload p.data_written) q.data_written in
+    AreDataWords-one q.payload p.bytes q.bytes (subst (λ (xs : List (List ℕ)). AreDataWords xs p.bytes) payload p.data_written)
+    q.data_written in
     let read : Ok r ≡ Ok s =
     sym p.read ∙ ap (λ (n : ℕ). request_reading n p.bytes) number ∙ ap (λ (xs : List ℕ). request_reading q.number xs) bytes ∙ q.read in
     cc (master, to, read)
@@ -109,7 +114,8 @@ IsEvent-one words (Noise chars) (Protect on) p q = absurd (omega (arith, first_l
 IsEvent-one words (Noise xs) (Noise ys) p q =
     let row = sym p.row ∙ q.row in
     let items : p.items ≡ q.items = cc in
-    ap (λ (zs : List Character). Noise zs) (IsItemsWord-one q.items xs ys (subst (λ (zs : List ℕ). IsItemsWord zs xs) items p.heard) q.heard)
+    ap (λ (zs : List Character). Noise zs)
+    (IsItemsWord-one q.items xs ys (subst (λ (zs : List ℕ). IsItemsWord zs xs) items p.heard) q.heard)
 
 -- a line that says an event has a first word, and it begins with one of four letters
 record Keyword (words : List (List ℕ)) : Type 0 where
@@ -119,8 +125,10 @@ record Keyword (words : List (List ℕ)) : Type 0 where
   letter : get_or word 0 0 ≡ 35 → ⊥
 
 keyword : (words : List (List ℕ)) (e : LineEvent) → IsEvent words e → Keyword words
-keyword words (Submit m a r) p = record { word = codes "submit"; others = p.who ∷ p.address ∷ p.command ∷ p.payload; row = p.row; letter = λ e. absurd (omega arith) }
-keyword words (Turn m up down) p = record { word = codes "turn"; others = p.who ∷ p.up ∷ p.down ∷ []; row = p.row; letter = λ e. absurd (omega arith) }
+keyword words (Submit m a r) p = record { word = codes "submit"; others = p.who ∷ p.address ∷ p.command ∷ p.payload;
+  row = p.row; letter = λ e. absurd (omega arith) }
+keyword words (Turn m up down) p = record { word = codes "turn"; others = p.who ∷ p.up ∷ p.down ∷ [];
+  row = p.row; letter = λ e. absurd (omega arith) }
 keyword words (Protect true) p = record { word = codes "protect"; others = codes "on" ∷ []; row = p; letter = λ e. absurd (omega arith) }
 keyword words (Protect false) p = record { word = codes "protect"; others = codes "off" ∷ []; row = p; letter = λ e. absurd (omega arith) }
 keyword words (Noise chars) p = record { word = codes "noise"; others = p.items ∷ []; row = p.row; letter = λ e. absurd (omega arith) }
@@ -180,15 +188,15 @@ pub not_script_and_bad : (text : List ℕ) (events : List LineEvent) (number : �
 not_script_and_bad text events number p q = none_with_bad q.before q.words q.after _ events p q.lines q.bad
 
 -- one line more
-pub AreEvents-skipped : (lines : List (List (List ℕ))) (events : List LineEvent) (words : List (List ℕ)) → AreEvents lines events → IsSkipped words
-    → AreEvents (lines ++ words ∷ []) events
+pub AreEvents-skipped : (lines : List (List (List ℕ))) (events : List LineEvent) (words : List (List ℕ))
+    → AreEvents lines events → IsSkipped words → AreEvents (lines ++ words ∷ []) events
 AreEvents-skipped _ _ words none s = skipped words [] [] s none
 AreEvents-skipped _ _ words (skipped these lines xs t p) s = skipped these (lines ++ words ∷ []) xs t (AreEvents-skipped lines xs words p s)
 AreEvents-skipped _ _ words (said these first lines xs t p) s =
     said these first (lines ++ words ∷ []) xs t (AreEvents-skipped lines xs words p s)
 
-pub AreEvents-said : (lines : List (List (List ℕ))) (events : List LineEvent) (words : List (List ℕ)) (e : LineEvent) → AreEvents lines events
-    → IsEvent words e → AreEvents (lines ++ words ∷ []) (events ++ e ∷ [])
+pub AreEvents-said : (lines : List (List (List ℕ))) (events : List LineEvent) (words : List (List ℕ)) (e : LineEvent)
+    → AreEvents lines events → IsEvent words e → AreEvents (lines ++ words ∷ []) (events ++ e ∷ [])
 AreEvents-said _ _ words e none s = said words e [] [] s none
 AreEvents-said _ _ words e (skipped these lines xs t p) s =
     skipped these (lines ++ words ∷ []) (xs ++ e ∷ []) t (AreEvents-said lines xs words e p s)

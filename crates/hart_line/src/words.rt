@@ -1,7 +1,8 @@
 //! The words of messages to send.
 
 ghost use Rattle.std.specs.Prelude.{MatchOption};
-ghost use Rattle.hart_line.specs.Words.{IsAddressWord, IsCommandWord, IsDataWord, IsDecimal, IsDeviceWord, HasNoValue, IsPollingWord, IsWho};
+ghost use Rattle.hart_line.specs.Words.{HasNoValue, IsAddressWord, IsCommandWord, IsDataWord, IsWho};
+ghost use Rattle.hart_line.specs.Words.{IsDecimal, IsDeviceWord, IsPollingWord};
 
 use hart_frame::Payload;
 use hart_values::{Address, MasterId, PollingAddress, UniqueAddress};

@@ -8,7 +8,8 @@ loop-lead-init c = record { within = omega arith; reads = rw (c.new-chars.ensure
 
 pub loop-lead-preserved : goal.loop-lead-preserved
 loop-lead-preserved c =
-    let read = item_read _ _ _ _ _ _ c.loop-lead.invariant.within c.loop-lead.invariant.reads c.in-Some.ensures c.in_ok-push.ensures.items in
+    let read = item_read _ _ _ _ _ _ c.loop-lead.invariant.within c.loop-lead.invariant.reads c.in-Some.ensures
+    c.in_ok-push.ensures.items in
     record { within = read.1; reads = read.2 }
 
 pub returns-then-place-word : goal.returns-then-place-word

@@ -13,21 +13,21 @@ loop-part-init c = record { counted = refl; said = rw (c.new-events.ensures.item
 pub loop-part-preserved-in-Skipped : goal.loop-part-preserved-in-Skipped
 loop-part-preserved-in-Skipped c =
     let t = YieldsList-turn (YieldsList-at c.into_iter-part-iterator.ensures.into_iter_gives
-    (YieldsList-from_slice_split _ (λ (byte : ℕ). byte == 10) c.args.text.now c.split-part-items.ensures.rest c.split-part-items.ensures.done
-    c.split-part-items.ensures.closure (λ x b q k. search (rules, tests))))
+    (YieldsList-from_slice_split _ (λ (byte : ℕ). byte == 10) c.args.text.now c.split-part-items.ensures.rest
+    c.split-part-items.ensures.done c.split-part-items.ensures.closure (λ x b q k. search (rules, tests))))
     c.loop-part.yielded _ c.loop-part.yielded_by _ _ c.in-Some.part c.in-Some.is c.next.ensures.steps in
     let m = length_push c.loop-part.yielded c.in-Some.part in
     record {
       counted = omega (arith, c.loop-part.invariant.counted, m);
-      said = line_skipped (parts_of c.args.text.now) (length c.loop-part.yielded) _ c.in-Some.part.now _ _ m t.0 t.1 c.without_return.ensures
-          c.loop-part.invariant.said (rw c.in-Skipped.is at c.in_ok-read_line.ensures);
+      said = line_skipped (parts_of c.args.text.now) (length c.loop-part.yielded) _ c.in-Some.part.now _ _ m t.0 t.1
+          c.without_return.ensures c.loop-part.invariant.said (rw c.in-Skipped.is at c.in_ok-read_line.ensures);
     }
 
 pub loop-part-preserved : goal.loop-part-preserved
 loop-part-preserved c =
     let t = YieldsList-turn (YieldsList-at c.into_iter-part-iterator.ensures.into_iter_gives
-    (YieldsList-from_slice_split _ (λ (byte : ℕ). byte == 10) c.args.text.now c.split-part-items.ensures.rest c.split-part-items.ensures.done
-    c.split-part-items.ensures.closure (λ x b q k. search (rules, tests))))
+    (YieldsList-from_slice_split _ (λ (byte : ℕ). byte == 10) c.args.text.now c.split-part-items.ensures.rest
+    c.split-part-items.ensures.done c.split-part-items.ensures.closure (λ x b q k. search (rules, tests))))
     c.loop-part.yielded _ c.loop-part.yielded_by _ _ c.in-Some.part c.in-Some.is c.next.ensures.steps in
     let m = length_push c.loop-part.yielded c.in-Some.part in
     record {
@@ -40,8 +40,8 @@ loop-part-preserved c =
 pub returns-in-Bad-clause-fault : goal.returns-in-Bad-clause-fault
 returns-in-Bad-clause-fault c =
     let t = YieldsList-turn (YieldsList-at c.into_iter-part-iterator.ensures.into_iter_gives
-    (YieldsList-from_slice_split _ (λ (byte : ℕ). byte == 10) c.args.text.now c.split-part-items.ensures.rest c.split-part-items.ensures.done
-    c.split-part-items.ensures.closure (λ x b q k. search (rules, tests))))
+    (YieldsList-from_slice_split _ (λ (byte : ℕ). byte == 10) c.args.text.now c.split-part-items.ensures.rest
+    c.split-part-items.ensures.done c.split-part-items.ensures.closure (λ x b q k. search (rules, tests))))
     c.loop-part.yielded _ c.loop-part.yielded_by _ _ c.in-Some.part c.in-Some.is c.next.ensures.steps in
     first_bad_line c.args.text.now (length c.loop-part.yielded) _ c.in-Some.part.now _ _
     (ap (λ (k : ℕ). k + 1) c.loop-part.invariant.counted) t.0 t.1 c.without_return.ensures c.loop-part.invariant.said
@@ -50,7 +50,7 @@ returns-in-Bad-clause-fault c =
 pub returns-clause-events : goal.returns-clause-events
 returns-clause-events c =
     let all = YieldsList-end (YieldsList-at c.into_iter-part-iterator.ensures.into_iter_gives
-    (YieldsList-from_slice_split _ (λ (byte : ℕ). byte == 10) c.args.text.now c.split-part-items.ensures.rest c.split-part-items.ensures.done
-    c.split-part-items.ensures.closure (λ x b q k. search (rules, tests))))
+    (YieldsList-from_slice_split _ (λ (byte : ℕ). byte == 10) c.args.text.now c.split-part-items.ensures.rest
+    c.split-part-items.ensures.done c.split-part-items.ensures.closure (λ x b q k. search (rules, tests))))
     c.loop-part.yielded _ c.loop-part.yielded_by _ _ c.in-None.is c.next.ensures.steps in
     whole_script c.args.text.now (length c.loop-part.yielded) _ all.1 c.loop-part.invariant.said
