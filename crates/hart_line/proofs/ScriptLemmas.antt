@@ -1,5 +1,5 @@
 -- Scripts: a line says one thing, and no text is a script and has a bad line.
-use Rattle.std.proofs.Common.{◌≡◌, ◌⊎◌, ℕ, ◌+◌, inl, inr, Bool, true, false, List, [], ◌∷◌, ◌++◌, codes, get_or, length, Ok, refl, sym, ap}
+use Rattle.std.proofs.Common.{◌≡◌, ◌⊎◌, ℕ, ◌+◌, inl, inr, true, false, List, [], ◌∷◌, ◌++◌, codes, get_or, length, Ok, refl, sym, ap}
 use Rattle.std.proofs.Common.{◌∙◌, ◌<◌, suc, drop, map, subst, take, arith}
 use Rattle.std.specs.Bool.{◌==◌}
 use Rattle.std.specs.List.{slice_split}
@@ -9,9 +9,8 @@ use Rattle.std.proofs.Math.Seq.{drop-cons}
 use Rattle.hex.specs.Hex.{is_hex_digit}
 use Rattle.hart_frame.specs.Character.{Character}
 use Rattle.hart_commands.specs.RequestData.{request_reading}
-use Rattle.hart_commands.specs.declared.request.Request.{Request}
 use Rattle.hart_line.specs.Items.{BeginsWithItems, Faulty, IsItemsWord, item, nothing, Plain}
-use Rattle.hart_line.specs.Lines.{lines_of, words_of}
+use Rattle.hart_line.specs.Lines.{words_of}
 use Rattle.hart_line.specs.Script.{AreDataWords, AreEvents, HasFirstBadLine, IsBadLine, IsEvent, IsLeg, IsScript}
 use Rattle.hart_line.specs.Script.{IsSkipped, none, said, skipped}
 use Rattle.hart_line.specs.Words.{IsAddressWord, IsCommandWord, IsWho}
@@ -125,10 +124,18 @@ record Keyword (words : List (List ℕ)) : Type 0 where
   letter : get_or word 0 0 ≡ 35 → ⊥
 
 keyword : (words : List (List ℕ)) (e : LineEvent) → IsEvent words e → Keyword words
-keyword words (Submit m a r) p = record { word = codes "submit"; others = p.who ∷ p.address ∷ p.command ∷ p.payload;
-  row = p.row; letter = λ e. absurd (omega arith) }
-keyword words (Turn m up down) p = record { word = codes "turn"; others = p.who ∷ p.up ∷ p.down ∷ [];
-  row = p.row; letter = λ e. absurd (omega arith) }
+keyword words (Submit m a r) p = record {
+  word = codes "submit";
+  others = p.who ∷ p.address ∷ p.command ∷ p.payload;
+  row = p.row;
+  letter = λ e. absurd (omega arith);
+}
+keyword words (Turn m up down) p = record {
+  word = codes "turn";
+  others = p.who ∷ p.up ∷ p.down ∷ [];
+  row = p.row;
+  letter = λ e. absurd (omega arith);
+}
 keyword words (Protect true) p = record { word = codes "protect"; others = codes "on" ∷ []; row = p; letter = λ e. absurd (omega arith) }
 keyword words (Protect false) p = record { word = codes "protect"; others = codes "off" ∷ []; row = p; letter = λ e. absurd (omega arith) }
 keyword words (Noise chars) p = record { word = codes "noise"; others = p.items ∷ []; row = p.row; letter = λ e. absurd (omega arith) }

@@ -17,7 +17,7 @@ use Rattle.hart_line.specs.declared.fault.LineFault.TheVariants.{BadLine, Memory
 use Rattle.hart_line.specs.declared.rows.Line.{Line}
 use Rattle.hart_line.specs.declared.rows.Line.TheVariants.{Skipped, Event, Bad}
 
--- The words behind COMMAND write the data: none write no data, and one is DATA.
+-- The words after COMMAND are none, which write no bytes, or DATA alone.
 abbrev pub AreDataWords : List (List ℕ) → List ℕ → Type 0
 AreDataWords [] bytes = bytes ≡ []
 AreDataWords (word ∷ []) bytes = IsDataWord word bytes
@@ -38,7 +38,7 @@ pub record IsSubmitRow (words : List (List ℕ)) (master : MasterId) (to : Addre
   pub data_written : AreDataWords payload bytes
   pub read : request_reading number bytes ≡ Ok request
 
--- A leg is heard clean by `ok`, is lost by `lost`, and otherwise is heard as the characters of items without separators.
+-- A leg is heard clean by `ok`, is lost by `lost`, and otherwise is heard as the characters of items end to end.
 abbrev pub IsLeg : List ℕ → Heard → Type 0
 IsLeg word Clean = word ≡ codes "ok"
 IsLeg word Lost = word ≡ codes "lost"
@@ -72,7 +72,7 @@ IsEvent words (Turn who up down) = IsTurnRow words who up down
 IsEvent words (Protect on) = words ≡ codes "protect" ∷ switch_word on ∷ []
 IsEvent words (Noise chars) = IsNoiseRow words chars
 
--- A line is no event where it has no words, or where its first word begins with `#`.
+-- A line is skipped, and is no event, where it has no words or its first word begins with `#`.
 abbrev pub IsSkipped : List (List ℕ) → Type 0
 IsSkipped [] = Unit {0}
 IsSkipped (word ∷ words) = (rest : List ℕ) × (word ≡ codes "#" ++ rest)
@@ -93,7 +93,8 @@ IsScript text events = AreEvents (map words_of (lines_of text)) events
 abbrev pub IsBadLine : List (List ℕ) → Type 0
 IsBadLine words = (IsSkipped words → ⊥) × ((event : LineEvent) → IsEvent words event → ⊥)
 
--- A text has its first bad line at a number, counted from 1, where that line is bad and the lines before it say events.
+-- A text has its first bad line at a number, counted from 1, where that line is bad and each line before it is skipped or says
+-- an event.
 pub record HasFirstBadLine (text : List ℕ) (number : ℕ) : Type 0 where
   pub before : List (List (List ℕ))
   pub words : List (List ℕ)
@@ -104,7 +105,8 @@ pub record HasFirstBadLine (text : List ℕ) (number : ℕ) : Type 0 where
   pub events : List LineEvent
   pub good : AreEvents before events
 
--- A script is refused for its first bad line, and wherever memory is refused.
+-- Reading a text is refused with its first bad line, or for want of memory, of which a contract sees nothing, and never for
+-- damage.
 abbrev pub IsScriptFault : List ℕ → LineFault → Type 0
 IsScriptFault text (BadLine number) = HasFirstBadLine text number
 IsScriptFault text Memory = Unit {0}

@@ -26,7 +26,8 @@ impl fmt::Display for Leg {
 /// Why a script was not read or not carried out.
 #[derive(Clone, Copy, Debug, PartialEq, Eq, Error)]
 pub enum LineFault {
-    /// Fault 1: in this leg of the event with this number, counted from 0, the damage leaves another frame than the one sent.
+    /// Fault 1: what was heard in this leg of the event with this number, counted from 0, has frames, and they are not just the
+    /// one that was sent.
     #[error("undetected damage at event {event}, {leg}")]
     Undetected { event: usize, leg: Leg },
     /// Fault 2: memory was refused.
