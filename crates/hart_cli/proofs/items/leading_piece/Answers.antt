@@ -19,7 +19,8 @@ begins_as_separator (x ∷ text) some s = record {
 }
 
 -- an item short of the end of a text is a piece
-begins_as_piece : (text : List ℕ) (char : Character) (len : ℕ) → BeginsAsItem text char len → len ≢ length text → BeginsAs text (Some char) len
+begins_as_piece : (text : List ℕ) (char : Character) (len : ℕ) → BeginsAsItem text char len → len ≢ length text
+    → BeginsAs text (Some char) len
 begins_as_piece text char len b short =
     let long = ap (λ (xs : List ℕ). length xs) b.begins.spelled ∙ length-append (item_spelling b.item) b.tail in
     let size = b.long in

@@ -114,7 +114,8 @@ filled (a ∷ b ∷ []) more tail (Item (Plain x y)) n h m =
     let e = h.spelled in begins_filled _ a b (is_digit a x (cc) h.valid.0, is_digit b y (cc) h.valid.1) refl m
 filled (a ∷ b ∷ []) more tail (Item (Faulty x y v w)) n h m =
     let e = h.spelled in begins_filled _ a b (is_digit a x (cc) h.valid.0.0, is_digit b y (cc) h.valid.0.1) refl m
-filled (a ∷ b ∷ c ∷ text) more tail (Item (Plain x y)) n h m = stands_already (a ∷ b ∷ c ∷ text) more tail (Item (Plain x y)) h (omega arith) n
+filled (a ∷ b ∷ c ∷ text) more tail (Item (Plain x y)) n h m =
+    stands_already (a ∷ b ∷ c ∷ text) more tail (Item (Plain x y)) h (omega arith) n
 filled (a ∷ b ∷ c ∷ []) more tail (Item (Faulty x y v w)) n h m =
     let e = h.spelled in begins_filled _ a b (is_digit a x (cc) h.valid.0.0, is_digit b y (cc) h.valid.0.1) (cc) m
 filled (a ∷ b ∷ c ∷ d ∷ []) more tail (Item (Faulty x y v w)) n h m =
