@@ -1,5 +1,5 @@
--- The device variables that Command 9 asks for by their codes (HCF_SPEC-127; what classification and status 244 and 245 have, and that 0 to 3
--- stand for the dynamic variables too, is of the own profile).
+-- The device variables that Command 9 asks for by their codes (HCF_SPEC-127; what classification and status 244 and 245 have,
+-- and that 0 to 3 stand for the dynamic variables too, is of the own profile).
 use Rattle.std.specs.Prelude.{ℕ, ◌-◌, ◌==◌, ◌&&◌, nat_lt, if◌then◌else◌, [], ◌∷◌, Option, Some, None, slice_get, unwrap_or}
 use Rattle.hart_commands.specs.declared.value.VariableReading.{VariableReading}
 use Rattle.hart_device.specs.declared.process.Process.{Process}

@@ -1,8 +1,9 @@
 //! The line between a field device and its two masters: what the events of a script are, and how they are written.
 //!
-//! A script is a text of lines, each with one event but for comments and empty lines: a request that a master is asked to send, a turn with what is heard in
-//! its two legs, a switch of the write protection, or noise. [`read_script`] reads them, or tells the first bad line. The
-//! words and items of a script are those of the command line too, so their readers are public.
+//! A script is a text of lines, each with one event but for comments and empty lines: a request that a master is asked to
+//! send, a turn with what is heard in its two legs, a switch of the write protection, or noise. [`read_script`] reads
+//! them, or tells the first bad line. The words and items of a script are those of the command line too, so their readers
+//! are public.
 //!
 //! ```rust
 //! let events = read_script(rt.alloc(), b"submit P @0 0\nturn P ok lost\n")?;
