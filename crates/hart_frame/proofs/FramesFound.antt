@@ -11,7 +11,7 @@ use Rattle.hart_frame.specs.declared.found.Found.{Found}
 use Rattle.hart_frame.proofs.BodiesFound.{body_decided}
 use Rattle.hart_frame.proofs.HeardLemmas.{BeginsWithBody-heard, bytes_of-faultless, take-heard}
 use Rattle.hart_frame.proofs.RefusalLemmas.{tells}
-use Rattle.hart_frame.proofs.PlaceLemmas.{preamble, StandsIn-at, StandsIn-heard, StandsIn-hears, StandsIn-from, StandsIn-within, start-later}
+use Rattle.hart_frame.proofs.PlaceLemmas.{preamble, StandsIn-at, StandsIn-heard, StandsIn-hears, StandsIn-from, StandsIn-within, HasNoFrame-end, start-later}
 
 -- the first of faultless characters has no fault, and the others are faultless
 pub record FaultlessFirst (first : Character) (others : List Character) : Type 0 where
@@ -211,11 +211,7 @@ first_decided chars from =
     search chars from (length chars) from (omega arith) (omega arith) (λ found stands. (StandsIn-within found chars from stands).behind)
 
 frames_found : (chars : List Character) (fuel from : ℕ) → length chars ≤ from + fuel → (frames : List Found) × AreFrames chars from frames
-frames_found chars zero from enough = (
-  [],
-  AreFrames.none from
-      (past_end chars from from (omega (arith, enough)) (λ found stands. (StandsIn-within found chars from stands).behind)),
-)
+frames_found chars zero from enough = ([], AreFrames.none from (HasNoFrame-end chars from (omega (arith, enough))))
 frames_found chars (suc fuel) from enough = elim (first_decided chars from) [
   | inr none ↦ ([], AreFrames.none from none)
   | inl has ↦

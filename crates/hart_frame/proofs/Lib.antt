@@ -9,3 +9,4 @@ pub mod FramesApart
 pub mod BodiesFound
 pub mod FramesFound
 pub mod TruncatedLemmas
+pub mod MessageLemmas

@@ -5,6 +5,7 @@ use Rattle.hart_frame.specs.FrameParts.{FrameParts}
 use Rattle.hart_frame.specs.Character.{Character, faultless}
 use Rattle.hart_frame.specs.Heard.{BeginsWithHeard}
 use Rattle.hart_frame.specs.Place.{StandsIn}
+use Rattle.hart_frame.specs.Frames.{HasNoFrame}
 use Rattle.hart_frame.specs.declared.found.Found.{Found}
 
 -- a faultless preamble byte
@@ -103,3 +104,9 @@ StandsIn-within found chars from stands =
       some = omega (arith, stands.start, stands.stop, some);
       within = omega (arith, stands.stop, all, rest, front, body);
     }
+
+-- so none stands from the end of the list on
+pub HasNoFrame-end : (chars : List Character) (from : ℕ) → length chars ≤ from → HasNoFrame chars from
+HasNoFrame-end chars from end found stands =
+    let lies = StandsIn-within found chars from stands in
+    omega (arith, end, lies.behind, lies.some, lies.within)

@@ -1,9 +1,10 @@
 //! Laws over the definitions alone, for the crates above.
-ghost use Rattle.std.specs.Prelude.{◌≡◌, ◌<◌, ◌↔◌, List, ℕ, [], ◌++◌, length, All};
+ghost use Rattle.std.specs.Prelude.{◌≡◌, ◌<◌, ◌≤◌, ◌↔◌, List, ℕ, [], ◌∷◌, ◌++◌, length, All};
 ghost use Rattle.hart_frame.specs.FrameParts.{FrameParts};
 ghost use Rattle.hart_frame.specs.Body.{IsBody, BeginsWithBody, CanBecomeBody, HasNoBody};
-ghost use Rattle.hart_frame.specs.Character.{Character};
+ghost use Rattle.hart_frame.specs.Character.{Character, faultless};
 ghost use Rattle.hart_frame.specs.Frames.{AreFrames, IsFirst};
+ghost use Rattle.hart_frame.specs.Message.{IsMessage};
 ghost use Rattle.hart_frame.specs.Refusal.{IsTruncated};
 ghost use Rattle.hart_frame.specs.declared.found.Found.{Found};
 
@@ -44,4 +45,11 @@ pub fn frames_are_told_apart()
 /// Every list of characters has its frames, from each place on.
 pub fn every_list_has_frames()
     ensures { (chars : List Character) (from : ℕ) → (frames : List Found) × AreFrames chars from frames }
+{}
+
+/// A message that is heard without faults has its frame alone, and nothing has none.
+pub fn messages_have_their_frame_alone()
+    ensures message { (frame : FrameParts) (preambles : ℕ) (bytes : List ℕ) → 2 ≤ preambles → IsMessage frame preambles bytes
+        → AreFrames (faultless bytes) 0 (record { start = preambles; stop = length bytes; frame = frame } ∷ []) }
+    ensures nothing { AreFrames [] 0 [] }
 {}

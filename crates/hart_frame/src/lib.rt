@@ -36,7 +36,7 @@ pub use hart_values::Payload;
 pub use kind::FrameKind;
 pub use laws::{
     bodies_are_told_apart, every_list_has_frames, frames_are_told_apart,
-    truncated_bytes_can_become_a_body,
+    messages_have_their_frame_alone, truncated_bytes_can_become_a_body,
 };
 pub use message::{LEAST_PREAMBLES, MOST_PREAMBLES, Message, encode};
 pub use parity::check_byte;

@@ -1,0 +1,101 @@
+-- A message that is heard without faults has its frame alone.
+use Rattle.std.proofs.Common.{◌≡◌, ℕ, ◌+◌, ◌-◌, ◌<◌, ◌≤◌, ◌⊎◌, inl, inr, List, [], ◌∷◌, ◌++◌, length, get_or, replicate, sym, ap, ◌∙◌, arith, append_assoc, length-append}
+use Rattle.std.proofs.Math.ListN.{get_or-append}
+use Rattle.std.proofs.lemmas.List.{append-nil, map-append, length-map, length-replicate, replicate-append-replicate, get_or-replicate, get_or-append-add}
+use Rattle.hart_frame.specs.FrameParts.{FrameParts}
+use Rattle.hart_frame.specs.Delimiter.{delimiter_of}
+use Rattle.hart_frame.specs.Character.{Character, faultless}
+use Rattle.hart_frame.specs.Heard.{bytes_of}
+use Rattle.hart_frame.specs.Message.{IsMessage}
+use Rattle.hart_frame.specs.Place.{StandsIn}
+use Rattle.hart_frame.specs.Frames.{AreFrames}
+use Rattle.hart_frame.specs.declared.found.Found.{Found}
+use Rattle.hart_frame.proofs.BodiesApart.{address_type-lt, kind_code-is, spread}
+use Rattle.hart_frame.proofs.HeardLemmas.{bytes_of-faultless}
+use Rattle.hart_frame.proofs.PlaceLemmas.{HasNoFrame-end}
+
+-- a delimiter is no preamble byte
+delimiter_of-lt : (f : FrameParts) → length f.expansion ≤ 3 → delimiter_of f < 255
+delimiter_of-lt f few = omega (arith, kind_code-is f.kind, address_type-lt f.address, few)
+
+-- the bytes of a list that a frame stands in
+bytes-split : (bytes : List ℕ) (found : Found) (from : ℕ) (stands : StandsIn found (faultless bytes) from)
+    → bytes ≡ bytes_of stands.front ++ (255 ∷ 255 ∷ (stands.body ++ bytes_of stands.rest))
+bytes-split bytes found from stands =
+    let byte_of : Character → ℕ = λ character. character.byte in
+    let marked : List ℕ = 255 ∷ 255 ∷ stands.body in
+    sym (bytes_of-faultless bytes) ∙ ap bytes_of stands.split
+    ∙ map-append byte_of (stands.front ++ faultless marked) stands.rest
+    ∙ ap (λ (xs : List ℕ). xs ++ bytes_of stands.rest) (map-append byte_of stands.front (faultless marked))
+    ∙ append_assoc (bytes_of stands.front) (bytes_of (faultless marked)) (bytes_of stands.rest)
+    ∙ ap (λ (xs : List ℕ). bytes_of stands.front ++ (xs ++ bytes_of stands.rest)) (bytes_of-faultless marked)
+
+-- a frame starts with its delimiter
+starts : (bytes : List ℕ) (found : Found) (from : ℕ) → StandsIn found (faultless bytes) from
+    → get_or bytes found.start 0 ≡ delimiter_of found.frame
+starts bytes found from stands =
+    let front : List ℕ = bytes_of stands.front in
+    let front_len : length front ≡ length stands.front = length-map stands.front (λ (character : Character). character.byte) in
+    let place : found.start ≡ length front + 2 = omega (arith, stands.start, front_len) in
+    ap (λ (n : ℕ). get_or bytes n 0) place
+    ∙ ap (λ (xs : List ℕ). get_or xs (length front + 2) 0) (bytes-split bytes found from stands)
+    ∙ get_or-append-add front (255 ∷ 255 ∷ (stands.body ++ bytes_of stands.rest)) 2 0
+    ∙ ap (λ (xs : List ℕ). get_or xs 0 0) (spread found.frame stands.body (bytes_of stands.rest) stands.is_body)
+
+-- so none starts among the preamble bytes
+starts-behind : (bytes body : List ℕ) (preambles : ℕ) (found : Found) (from : ℕ) → bytes ≡ replicate preambles 255 ++ body
+    → StandsIn found (faultless bytes) from → preambles ≤ found.start
+starts-behind bytes body preambles found from parts stands =
+    let cases : (preambles ≤ found.start) ⊎ (found.start < preambles) = grind arith in
+    elim cases [
+      | inl behind ↦ behind
+      | inr among ↦
+          let front : List ℕ = replicate preambles 255 in
+          let long : length front ≡ preambles = length-replicate preambles 255 in
+          let here : get_or bytes found.start 0 ≡ 255 =
+          ap (λ (xs : List ℕ). get_or xs found.start 0) parts
+          ∙ get_or-append front body 0 found.start (omega (arith, among, long))
+          ∙ get_or-replicate preambles found.start 255 0 among in
+          let low = delimiter_of-lt found.frame stands.is_body.checked_part.expansion_fits in
+          absurd (omega (arith, here, low, starts bytes found from stands))
+    ]
+
+-- the frame of a message, and where it stands in what is heard
+abbrev found_in : FrameParts → ℕ → List ℕ → Found
+found_in f preambles bytes = record { start = preambles; stop = length bytes; frame = f }
+
+stands_in : (f : FrameParts) (preambles more : ℕ) (bytes : List ℕ) → preambles ≡ more + 2 → IsMessage f preambles bytes
+    → StandsIn (found_in f preambles bytes) (faultless bytes) 0
+stands_in f preambles more bytes two message =
+    let character_of : ℕ → Character = λ byte. record { byte = byte; faults = 0 } in
+    let front : List ℕ = replicate more 255 in
+    let marked : List ℕ = 255 ∷ 255 ∷ message.body in
+    let whole : bytes ≡ front ++ marked =
+    message.parts ∙ ap (λ (n : ℕ). replicate n 255 ++ message.body) two
+    ∙ ap (λ (xs : List ℕ). xs ++ message.body) (sym (replicate-append-replicate more 2 255))
+    ∙ append_assoc front (255 ∷ 255 ∷ []) message.body in
+    let front_len : length (faultless front) ≡ more = length-map front character_of ∙ length-replicate more 255 in
+    let len : length bytes ≡ more + 2 + length message.body =
+    ap length whole ∙ length-append front marked ∙ (let long = length-replicate {A = ℕ} more 255 in omega (arith, long)) in
+    record {
+      front = faultless front;
+      body = message.body;
+      rest = [];
+      split = ap faultless whole ∙ map-append character_of front marked ∙ sym (append-nil (faultless front ++ faultless marked));
+      is_body = message.is_body;
+      behind = omega arith;
+      start = omega (arith, two, front_len);
+      stop = omega (arith, len, front_len);
+    }
+
+pub AreFrames-message : (f : FrameParts) (preambles : ℕ) (bytes : List ℕ) → 2 ≤ preambles → IsMessage f preambles bytes
+    → AreFrames (faultless bytes) 0 (found_in f preambles bytes ∷ [])
+AreFrames-message f preambles bytes two message =
+    let len : length (faultless bytes) ≡ length bytes = length-map bytes (λ (byte : ℕ). record { byte = byte; faults = 0 }) in
+    AreFrames.first 0 (found_in f preambles bytes) [] (record {
+      stands = stands_in f preambles (preambles - 2) bytes (omega (arith, two)) message;
+      least = λ other stands. starts-behind bytes message.body preambles other 0 message.parts stands;
+    }) (AreFrames.none (length bytes) (HasNoFrame-end (faultless bytes) (length bytes) (omega (arith, len))))
+
+pub AreFrames-nothing : AreFrames [] 0 []
+AreFrames-nothing = AreFrames.none 0 (HasNoFrame-end [] 0 (omega arith))
