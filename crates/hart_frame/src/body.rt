@@ -6,7 +6,10 @@ ghost use Rattle.hart_frame.specs.Refusal.{IsRefusedWith, HasCheckByte, HasGoodB
 
 use crate::layout::Layout;
 use crate::{Expansion, Frame, FrameFault, Payload, bodies_are_told_apart, check_byte};
-use hart_values::Address;
+use hart_values::{Address, ByteList};
+
+/// A body of a frame: at most 267 bytes.
+pub type Body = ByteList<267>;
 
 /// The frame whose body the bytes begin with, and the length of that body. Further bytes may follow it.
 ///

@@ -1,6 +1,7 @@
 ghost use Rattle.std.specs.Prelude.{◌≡◌, ◌≤◌, ◌↔◌, length, IsOk, IfOk, IfErr};
 
-use crate::{FrameFault, FrameKind};
+use crate::message::push_body;
+use crate::{Body, FrameFault, FrameKind};
 use hart_values::{Address, ByteList, MasterId, Payload};
 use std::marker::Model;
 
@@ -49,6 +50,7 @@ impl Model for Frame {
 
 impl Frame {
     ghost use Rattle.hart_frame.specs.FrameParts.{IsLongEnough, request_parts, reply_parts};
+    ghost use Rattle.hart_frame.specs.Body.{IsBody};
 
     /// The frame of these parts.
     ///
@@ -174,5 +176,14 @@ impl Frame {
         ensures long_enough { IsLongEnough self.now.kind result.now }
     {
         self.payload.as_slice()
+    }
+
+    /// The frame's body: its bytes from the delimiter to the check byte.
+    pub fn body(&self) -> Body
+        ensures { IsBody self.now result }
+    {
+        let mut body = Body::new();
+        push_body(self, &mut body);
+        body
     }
 }

@@ -7,11 +7,7 @@ ghost use Rattle.hart_frame.specs.Layout.{body_length};
 ghost use Rattle.hart_frame.specs.Refusal.{HasByteCount};
 
 use crate::delimiter::read_delimiter;
-use crate::{Char, Frame, decode};
-use hart_values::ByteList;
-
-/// A body: at most 267 bytes.
-type Body = ByteList<267>;
+use crate::{Body, Char, Frame, decode};
 
 /// The frame whose body the characters begin with, and the length of that body, or `None` where they begin with none.
 pub(crate) fn heard_frame(chars: &[Char]) -> Option<(Frame, usize)>

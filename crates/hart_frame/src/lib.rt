@@ -26,7 +26,7 @@ mod layout;
 mod message;
 mod parity;
 
-pub use body::decode;
+pub use body::{Body, decode};
 pub use character::Char;
 pub use fault::FrameFault;
 pub use first::first_frame;

@@ -50,8 +50,8 @@ fn push_preamble(preambles: u8, output: &mut Message)
 }
 
 /// Adds the frame's body.
-fn push_body(frame: &Frame, output: &mut Message)
-    requires { length output.old ≤ MOST_PREAMBLES }
+pub(crate) fn push_body<const N: usize>(frame: &Frame, output: &mut ByteList<N>)
+    requires { length output.old + 267 ≤ N }
     ensures { (body : List ℕ) × IsBody frame.now body × (output.new ≡ output.old ++ body) }
 {
     let start = output.len();
@@ -61,10 +61,10 @@ fn push_body(frame: &Frame, output: &mut Message)
 }
 
 /// Adds what stands in the frame's body before the check byte.
-fn push_checked_part(frame: &Frame, output: &mut Message)
-    requires { length output.old ≤ MOST_PREAMBLES }
+fn push_checked_part<const N: usize>(frame: &Frame, output: &mut ByteList<N>)
+    requires { length output.old + 267 ≤ N }
     ensures parts { (checked : List ℕ) × IsCheckedPart frame.now checked × (output.new ≡ output.old ++ checked) }
-    ensures room { length output.new < 287 }
+    ensures room { length output.new < N }
 {
     let address = frame.address().bytes(frame.master(), frame.burst());
     output.push(delimiter_byte(frame));

@@ -55,6 +55,7 @@ fn bodies_are_read(rt: HostRuntime) -> Result<(), Fail> {
         assert_eq!(rt; address_bytes.as_slice(), *address, "of {bytes:?}");
         assert_eq!(rt; frame.expansion(), *expansion, "of {bytes:?}");
         assert_eq!(rt; frame.payload(), *payload, "of {bytes:?}");
+        assert_eq!(rt; frame.body().as_slice(), &bytes[..*len], "of {bytes:?}");
     }
     Ok(())
 }

@@ -14,7 +14,7 @@ range_from_seam s front back n whole at =
     rw rest (take_all (length s - n) back (rw whole (let parts = length-append front back in omega arith)))
 
 pub returns : goal.returns
-returns c =
+returns g c =
     let checked = c.push_checked_part.ensures.parts.0 in
     let check = c.check_byte-check.result in
     let joined : c.push_checked_part.new.output ≡ c.args.output.now ++ checked = c.push_checked_part.ensures.parts.2 in
