@@ -8,7 +8,7 @@ use Rattle.hart_values.specs.declared.address.Address.{Address}
 use Rattle.hart_values.specs.declared.address.Address.TheVariants.{Polling, Unique}
 use Rattle.hart_frame.specs.Character.{Character}
 use Rattle.hart_frame.specs.FrameParts.{FrameParts}
-use Rattle.hart_frame.specs.Frames.{AreFrames, HasNoFrame, IsFirst}
+use Rattle.hart_frame.specs.Frames.{AreFrames}
 use Rattle.hart_frame.specs.declared.found.Found.{Found}
 use Rattle.hart_frame.specs.declared.kind.FrameKind.{FrameKind}
 use Rattle.hart_frame.specs.declared.kind.FrameKind.TheVariants.{Stx, Ack}
@@ -17,7 +17,8 @@ use Rattle.hart_commands.specs.ReplyData.{reply_reading}
 use Rattle.hart_commands.specs.declared.request.Request.{Request}
 use Rattle.hart_commands.specs.declared.reply.Reply.{Reply}
 use Rattle.hart_master.specs.Acceptance.{Answers, IsReplyTo, IsAccepted}
-use Rattle.hart_master.proofs.AcceptanceLemmas.{OneFirst, IsAccepted-alone, IsReplyTo-first, none_without_frame, none_of_several}
+use Rattle.hart_master.proofs.AcceptanceLemmas.{OneFirst, IsAlone, alone_is_first, first_or_none}
+use Rattle.hart_master.proofs.AcceptanceLemmas.{none_without_frame, none_of_several, IsReplyTo-alone}
 
 -- a fact holds or does not
 abbrev Decided : Type 0 → Type 0
@@ -103,25 +104,24 @@ reply_decided id address request frame =
 
 -- so a delivery with that frame alone is accepted as that reply, or as none
 decided_alone : OneFirst → (id : MasterId) (address : Address) (request : Request) (chars : List Character) (found : Found)
-    → IsFirst found chars 0 → HasNoFrame chars found.stop → OneOrNone (IsReplyTo id address request found.frame)
-    → OneOrNone (IsAccepted id address request chars)
-decided_alone law id address request chars found is_first no_more (inl told) =
-    inl (told.0, IsAccepted-alone id address request chars found told.0 is_first no_more told.1)
-decided_alone law id address request chars found is_first no_more (inr nothing) =
-    inr (λ reply accepted. nothing reply (IsReplyTo-first law id address request chars found reply is_first accepted))
+    → IsAlone chars found → OneOrNone (IsReplyTo id address request found.frame) → OneOrNone (IsAccepted id address request chars)
+decided_alone law id address request chars found alone (inl told) =
+    inl (told.0, record { found = found; alone = alone; is_reply = told.1 })
+decided_alone law id address request chars found alone (inr nothing) =
+    let no_other = first_or_none law chars found (alone_is_first chars found alone) in
+    inr (λ reply accepted. nothing reply (IsReplyTo-alone id address request chars found reply no_other accepted))
 
 -- and one with no frame, or with several, as none
 decided_by : OneFirst → (id : MasterId) (address : Address) (request : Request)
     → ((frame : FrameParts) → OneOrNone (IsReplyTo id address request frame))
     → (chars : List Character) (frames : List Found) → AreFrames chars 0 frames → OneOrNone (IsAccepted id address request chars)
 decided_by law id address request each chars [] (AreFrames.none start no_frame) =
-    inr (λ reply. none_without_frame id address request chars reply no_frame)
-decided_by law id address request each chars (found ∷ [])
-    (AreFrames.first start first later is_first (AreFrames.none stop no_more)) =
-    decided_alone law id address request chars found is_first no_more (each found.frame)
+    inr (λ reply accepted. none_without_frame chars accepted.found no_frame accepted.alone)
+decided_by law id address request each chars (found ∷ []) alone =
+    decided_alone law id address request chars found alone (each found.frame)
 decided_by law id address request each chars (found ∷ second ∷ later)
     (AreFrames.first start first rest is_first (AreFrames.first stop next behind is_second others)) =
-    inr (λ reply. none_of_several law id address request chars found second reply is_first is_second)
+    inr (λ reply accepted. none_of_several law chars found second accepted.found is_first is_second accepted.alone)
 
 pub acceptance_decided : OneFirst
     → ((id : MasterId) (address : Address) (request : Request) (frame : FrameParts) → OneOrNone (IsReplyTo id address request frame))

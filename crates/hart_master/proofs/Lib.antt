@@ -1,2 +1,3 @@
 mod AcceptanceLemmas
 mod DecidedLemmas
+mod HeardLemmas

@@ -13,7 +13,7 @@ use Rattle.hart_master.specs.declared.fault.MasterFault.TheVariants.{Pending, Wr
 use Rattle.hart_master.specs.declared.fault.Rejected.{Rejected}
 use Rattle.hart_master.specs.declared.hand.Hand.{Hand}
 use Rattle.hart_master.specs.declared.hand.Hand.TheVariants.{Empty, ToSend, Awaiting}
-use Rattle.hart_master.specs.Acceptance.{IsAccepted}
+use Rattle.hart_master.specs.Acceptance.{IsAccepted, IsReplyTo}
 use Rattle.hart_master.specs.Pairing.{may_ask}
 
 -- A master is the primary or the secondary one, sends a request again so many times at most, awaits each reply for so many
@@ -70,13 +70,19 @@ Brings id Empty delivery reply = ⊥
 Brings id (ToSend transaction) delivery reply = ⊥
 Brings id (Awaiting transaction time) delivery reply = IsAccepted id transaction.address transaction.request delivery reply
 
--- The request is answered, with the reply that the delivery brings and the number of its sendings, or nothing is heard, where
--- the delivery brings none.
-abbrev pub IsHeard : MasterId → Hand → List Character → MasterEvent → Type 0
-IsHeard id hand delivery (Answered reply sendings) = Brings id hand delivery reply × (sendings ≡ sendings_of hand)
-IsHeard id hand delivery Nothing = (reply : Reply) → Brings id hand delivery reply → ⊥
-IsHeard id hand delivery Retry = ⊥
-IsHeard id hand delivery (NoReply sendings) = ⊥
+-- A frame brings a reply where that is awaited, and the frame is it.
+abbrev pub FrameBrings : MasterId → Hand → FrameParts → Reply → Type 0
+FrameBrings id Empty frame reply = ⊥
+FrameBrings id (ToSend transaction) frame reply = ⊥
+FrameBrings id (Awaiting transaction time) frame reply = IsReplyTo id transaction.address transaction.request frame reply
+
+-- The request is answered, with the reply that is brought and the number of its sendings, or nothing is heard, where none is
+-- brought.
+abbrev pub IsHeard : Hand → (Reply → Type 0) → MasterEvent → Type 0
+IsHeard hand Brought (Answered reply sendings) = Brought reply × (sendings ≡ sendings_of hand)
+IsHeard hand Brought Nothing = (reply : Reply) → Brought reply → ⊥
+IsHeard hand Brought Retry = ⊥
+IsHeard hand Brought (NoReply sendings) = ⊥
 
 -- An answered request is no longer in hand, and otherwise nothing changes.
 abbrev pub hand_heard : Hand → MasterEvent → Hand

@@ -3,9 +3,10 @@ ghost use Rattle.hart_frame.specs.FrameParts.{request_parts};
 ghost use Rattle.hart_commands.specs.RequestData.{command_of, request_data};
 ghost use Rattle.hart_commands.specs.declared.reply.Reply.{Reply};
 ghost use Rattle.hart_master.specs.declared.hand.Hand.TheVariants as hands;
-ghost use Rattle.hart_master.specs.Master.{sendings_of, result_submitted, hand_submitted, frame_sent, hand_sent, Brings, IsHeard, hand_heard, event_ticked, hand_ticked};
+ghost use Rattle.hart_master.specs.Master.{sendings_of, result_submitted, hand_submitted, frame_sent, hand_sent};
+ghost use Rattle.hart_master.specs.Master.{Brings, FrameBrings, IsHeard, hand_heard, event_ticked, hand_ticked};
 
-use crate::acceptance::accepted_reply;
+use crate::acceptance::{lone_frame, reply_in};
 use crate::hand::{Hand, Transaction};
 use crate::pairing::may_ask;
 use crate::{MasterEvent, MasterFault, Rejected};
@@ -145,24 +146,39 @@ impl Master {
         }
     }
 
-    /// What a delivery brings: the reply that is awaited and the number of sendings, and the request is no longer in hand.
-    /// Otherwise it is [`MasterEvent::Nothing`], and nothing changes.
-    ///
-    /// Accepted is a delivery with exactly one frame, which is an ACK without expansion bytes, with the master's bit, the
-    /// address and the command of the request, and whose payload [`Reply::read`](hart_commands::Reply::read) accepts. Its burst
-    /// bit is not looked at.
+    /// What a delivery brings: what its frame brings to [`Master::receive`], where it has exactly one. Otherwise it is
+    /// [`MasterEvent::Nothing`], and nothing changes.
     pub fn hear(&mut self, delivery: &[Char]) -> MasterEvent
-        ensures event { IsHeard self.old.id self.old.hand delivery.now result }
+        ensures event { IsHeard self.old.hand (Brings self.old.id self.old.hand delivery.now) result }
         ensures state { self.new ≡ record self.old { hand = hand_heard self.old.hand result } }
         ensures answered { (reply : Reply) → Brings self.old.id self.old.hand delivery.now reply
             → result ≡ MasterEvent.Answered reply (sendings_of self.old.hand) }
         ensures nothing { ((reply : Reply) → Brings self.old.id self.old.hand delivery.now reply → ⊥)
             → result ≡ MasterEvent.Nothing }
     {
+        let Some(found) = lone_frame(delivery) else {
+            return MasterEvent::Nothing;
+        };
+        self.receive(&found.frame)
+    }
+
+    /// What a frame brings: the reply that is awaited and the number of sendings, and the request is no longer in hand.
+    /// Otherwise it is [`MasterEvent::Nothing`], and nothing changes.
+    ///
+    /// Accepted is an ACK without expansion bytes, with the master's bit, the address and the command of the request, whose
+    /// payload [`Reply::read`](hart_commands::Reply::read) accepts. Its burst bit is not looked at.
+    pub fn receive(&mut self, frame: &Frame) -> MasterEvent
+        ensures event { IsHeard self.old.hand (FrameBrings self.old.id self.old.hand frame.now) result }
+        ensures state { self.new ≡ record self.old { hand = hand_heard self.old.hand result } }
+        ensures answered { (reply : Reply) → FrameBrings self.old.id self.old.hand frame.now reply
+            → result ≡ MasterEvent.Answered reply (sendings_of self.old.hand) }
+        ensures nothing { ((reply : Reply) → FrameBrings self.old.id self.old.hand frame.now reply → ⊥)
+            → result ≡ MasterEvent.Nothing }
+    {
         let Hand::Awaiting(transaction, _) = &self.hand else {
             return MasterEvent::Nothing;
         };
-        let Some(reply) = accepted_reply(self.id, transaction, delivery) else {
+        let Some(reply) = reply_in(self.id, transaction, frame) else {
             return MasterEvent::Nothing;
         };
         let sendings = transaction.sendings;

@@ -214,6 +214,15 @@ fn replies_are_accepted(rt: HostRuntime) -> Result<(), Fail> {
         assert_eq!(rt; master.hear(&chars), event, "of {front:?} and {behind:?}");
         assert_eq!(rt; master.is_idle(), want.is_some());
     }
+    let mut master = Master::new(MasterId::Primary, 1, 33)?;
+    let submitted = master.submit(address_of(POLLING)?, Request::Identify);
+    assert!(rt; submitted.is_ok() && master.send().is_some());
+    let (to_other, _) = decode(&TO_SECONDARY[5..])?;
+    assert_eq!(rt; master.receive(&to_other), MasterEvent::Nothing);
+    let (to_it, _) = decode(&TO_PRIMARY[5..])?;
+    let reply = Reply::read(0, IDENTITY).ok_or("an identity")?;
+    assert_eq!(rt; master.receive(&to_it), MasterEvent::Answered(reply, 1));
+    assert_eq!(rt; master.receive(&to_it), MasterEvent::Nothing);
     Ok(())
 }
 
