@@ -5,3 +5,13 @@ mod RowsLemmas
 mod ScriptLemmas
 mod WordsApart
 mod WordsLemmas
+pub mod StateLemmas
+pub mod ArrivalLemmas
+pub mod LegLemmas
+pub mod TurnLemmas
+pub mod EventLemmas
+pub mod RunLemmas
+pub mod SoundLemmas
+pub mod ReachedLemmas
+pub mod AnsweredLemmas
+pub mod WholeLemmas

@@ -2,3 +2,10 @@ pub mod Items
 pub mod Words
 pub mod Lines
 pub mod Script
+pub mod Spoken
+pub mod Damage
+pub mod World
+pub mod Step
+pub mod Faults
+pub mod Parts
+pub mod Promises

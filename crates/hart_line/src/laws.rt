@@ -2,9 +2,17 @@
 ghost use Rattle.std.specs.Prelude.{◌≡◌, List, ℕ};
 ghost use Rattle.hart_values.specs.declared.address.Address.{Address};
 ghost use Rattle.hart_values.specs.declared.master_id.MasterId.{MasterId};
+ghost use Rattle.hart_line.specs.Faults.{IsFault};
 ghost use Rattle.hart_line.specs.Script.{HasFirstBadLine, IsScript};
+ghost use Rattle.hart_line.specs.Step.{IsLast};
 ghost use Rattle.hart_line.specs.Words.{IsAddressWord, IsCommandWord, IsDataWord, IsWho};
+ghost use Rattle.hart_line.specs.World.{Start, World};
 ghost use Rattle.hart_line.specs.declared.event.LineEvent.{LineEvent};
+ghost use Rattle.hart_line.specs.declared.fault.Leg.{Leg};
+ghost use Rattle.hart_line.specs.declared.fault.LineFault.TheVariants.{Undetected};
+
+use hart_frame::{bodies_are_told_apart, frames_are_told_apart};
+use hart_master::replies_are_decided;
 
 /// A word is that of one master, of one address, of one command and of one list of data at most.
 pub fn words_have_one_value()
@@ -24,3 +32,20 @@ pub fn scripts_have_no_bad_line()
     ensures { (text : List ℕ) (events : List LineEvent) (number : ℕ)
         → IsScript text events → HasFirstBadLine text number → ⊥ }
 {}
+
+/// The events of a script lead to one last world at most, and to none where an event has undetected damage; and the first leg
+/// with undetected damage is one.
+pub fn scripts_have_one_last_world()
+    ensures one_world { (start : Start) (events : List LineEvent) (a b : World)
+        → IsLast start events a → IsLast start events b → a ≡ b }
+    ensures no_fault { (start : Start) (events : List LineEvent) (world : World) (number : ℕ) (leg : Leg)
+        → IsLast start events world → IsFault start events (Undetected number leg) → ⊥ }
+    ensures one_fault { (start : Start) (events : List LineEvent) (number other : ℕ) (leg another : Leg)
+        → IsFault start events (Undetected number leg) → IsFault start events (Undetected other another)
+        → (number ≡ other) × (leg ≡ another) }
+{
+    // They do nothing when they run: the laws of bodies, of frames and of replies are what this one rests on.
+    bodies_are_told_apart();
+    frames_are_told_apart();
+    replies_are_decided();
+}

@@ -16,8 +16,11 @@ mod event;
 mod fault;
 mod items;
 mod laws;
+mod line;
 mod lines;
+mod report;
 mod rows;
+mod runs;
 mod script;
 mod words;
 
@@ -25,7 +28,12 @@ pub use char_list::CharList;
 pub use event::{Heard, LineEvent};
 pub use fault::{Leg, LineFault};
 pub use items::{LeadingItem, leading_item};
-pub use laws::{scripts_have_no_bad_line, texts_have_one_script, words_have_one_value};
+pub use laws::{
+    scripts_have_no_bad_line, scripts_have_one_last_world, texts_have_one_script,
+    words_have_one_value,
+};
+pub use report::{Outcome, Outcomes, Party, Report, Spoken, SpokenList};
+pub use runs::run;
 pub use script::read_script;
 pub use words::{read_address, read_command, read_data, read_who};
 

@@ -1,0 +1,82 @@
+-- What arrives, what is accepted, and what is spoken.
+use Rattle.std.proofs.Common.{◌≡◌, ℕ, refl, Option, None, Some, List, [], ◌∷◌, ◌++◌, ◌⊎◌, inl, inr, append-nil}
+use Rattle.std.specs.Option.{option_to_list}
+use Rattle.hart_values.specs.declared.master_id.MasterId.{MasterId}
+use Rattle.hart_frame.specs.FrameParts.{FrameParts}
+use Rattle.hart_frame.specs.declared.found.Found.{Found}
+use Rattle.hart_commands.specs.declared.reply.Reply.{Reply}
+use Rattle.hart_master.specs.declared.hand.Hand.{Hand}
+use Rattle.hart_master.specs.declared.hand.Hand.TheVariants.{Empty, ToSend, Awaiting}
+use Rattle.hart_master.specs.Master.{IsHeard, hand_heard}
+use Rattle.hart_master.specs.declared.event.MasterEvent.{MasterEvent}
+use Rattle.hart_master.specs.declared.event.MasterEvent.TheVariants as events
+use Rattle.hart_line.specs.Damage.{Arrives, IsShown}
+use Rattle.hart_line.specs.Parts.{AcceptsIn, IsResting, ReturnBrings, Speaks}
+use Rattle.hart_line.specs.Spoken.{AreSpoken, IsSpoken, Message, frame_of}
+use Rattle.hart_line.specs.Step.{Accepts}
+use Rattle.hart_line.specs.World.{InHand}
+use Rattle.hart_line.specs.declared.event.Heard.{Heard}
+use Rattle.hart_line.specs.declared.report.Spoken.{Spoken}
+
+-- What arrives is nothing, or what was sent.
+IsShown-cases : (sent : Option FrameParts) (frames : List Found) (arrived : Option FrameParts) → IsShown sent frames arrived
+    → (arrived ≡ None) ⊎ (arrived ≡ sent)
+IsShown-cases sent [] arrived shown = inl shown
+IsShown-cases sent (found ∷ []) arrived shown = inr shown.1
+IsShown-cases sent (found ∷ other ∷ more) arrived shown = absurd shown
+
+pub arrives_cases : (heard : Heard) (sent : Option Message) (arrived : Option FrameParts) → Arrives heard sent arrived
+    → (arrived ≡ None) ⊎ (arrived ≡ frame_of sent)
+arrives_cases heard sent arrived a = IsShown-cases (frame_of sent) a.frames arrived a.shown
+
+-- Where nothing was sent nothing arrives.
+pub none_arrives : (heard : Heard) (arrived : Option FrameParts) → Arrives heard None arrived → arrived ≡ None
+none_arrives heard arrived a = elim (arrives_cases heard None arrived a) [ inl is ↦ is | inr is ↦ is ]
+
+-- A master that awaits nothing accepts nothing, and stays as it is.
+pub accepts_none : (id : MasterId) (returned : Option FrameParts) (accepted : Option Reply) → AcceptsIn id Empty returned accepted
+    → accepted ≡ None
+accepts_none id returned None accepts = refl
+accepts_none id None (Some reply) accepts = absurd accepts
+accepts_none id (Some frame) (Some reply) accepts = absurd accepts
+
+pub accepts_held : (id : MasterId) (held : InHand) (sendings time : ℕ) (returned : Option FrameParts) (accepted : Option Reply)
+    → AcceptsIn id (Awaiting (record { address = held.address; request = held.request; sendings = sendings }) time) returned accepted
+    → Accepts id (Some held) returned accepted
+accepts_held id held sendings time None None accepts = refl
+accepts_held id held sendings time None (Some reply) accepts = absurd accepts
+accepts_held id held sendings time (Some frame) None accepts = accepts
+accepts_held id held sendings time (Some frame) (Some reply) accepts = accepts
+
+resting_brings : (id : MasterId) (hand : Hand) (returned : Option FrameParts) (reply : Reply) → IsResting hand
+    → ReturnBrings id hand returned reply → ⊥
+resting_brings id hand None reply rests brought = brought
+resting_brings id Empty (Some frame) reply rests brought = brought
+resting_brings id (ToSend transaction) (Some frame) reply rests brought = brought
+resting_brings id (Awaiting transaction time) (Some frame) reply rests brought = rests
+
+pub resting_hears : (hand : Hand) (Brought : Reply → Type 0) (event : MasterEvent) → ((reply : Reply) → Brought reply → ⊥)
+    → IsHeard hand Brought event → hand_heard hand event ≡ hand
+resting_hears hand Brought (events.Answered reply sendings) none heard = absurd (none reply heard.0)
+resting_hears hand Brought events.Nothing none heard = refl
+resting_hears hand Brought events.Retry none heard = absurd heard
+resting_hears hand Brought (events.NoReply sendings) none heard = absurd heard
+
+pub resting_stays : (id : MasterId) (hand : Hand) (returned : Option FrameParts) (event : MasterEvent) → IsResting hand
+    → IsHeard hand (ReturnBrings id hand returned) event → hand_heard hand event ≡ hand
+resting_stays id hand returned event rests heard =
+    resting_hears hand _ event (λ reply. resting_brings id hand returned reply rests) heard
+
+-- Messages are spoken one after another.
+AreSpoken-push : (messages : List Message) (message : Message) (list : List Spoken) (spoken : Spoken)
+    → AreSpoken messages list → IsSpoken message spoken → AreSpoken (messages ++ message ∷ []) (list ++ spoken ∷ [])
+AreSpoken-push [] message [] spoken are is = (is, tt)
+AreSpoken-push [] message (s ∷ list) spoken are is = absurd are
+AreSpoken-push (m ∷ messages) message [] spoken are is = absurd are
+AreSpoken-push (m ∷ messages) message (s ∷ list) spoken are is = (are.0, AreSpoken-push messages message list spoken are.1 is)
+
+pub AreSpoken-more : (messages : List Message) (message : Option Message) (old new : List Spoken)
+    → AreSpoken messages old → Speaks message old new → AreSpoken (messages ++ option_to_list message) new
+AreSpoken-more messages None old new are speaks = rw (speaks, append-nil messages) are
+AreSpoken-more messages (Some message) old new are speaks =
+    rw speaks.2 (AreSpoken-push messages message old speaks.0 are speaks.1)

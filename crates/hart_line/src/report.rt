@@ -1,0 +1,144 @@
+ghost use Rattle.std.specs.Prelude.{◌≡◌, ◌<◌, [], ◌∷◌, ◌++◌, OnOk, length, slice_set};
+
+use hart_commands::Reply;
+use hart_device::{Device, RegisterStore};
+use hart_frame::Body;
+use hart_master::MasterFault;
+use std::alloc::{AllocError, Global};
+use std::marker::Model;
+
+/// Who speaks on the line.
+#[derive(Clone, Copy, Debug, PartialEq, Eq)]
+pub enum Party {
+    /// The primary master.
+    Primary,
+    /// The secondary master.
+    Secondary,
+    /// The field device.
+    Device,
+}
+
+/// A message that was spoken.
+#[derive(Debug, Drop, PartialEq, Eq)]
+pub struct Spoken {
+    /// Who spoke it.
+    pub party: Party,
+    /// The number of preamble bytes.
+    pub preambles: u8,
+    /// The body, from the delimiter to the check byte.
+    pub bytes: Body,
+}
+
+/// What became of a submission.
+#[derive(Debug, Drop, PartialEq, Eq)]
+pub enum Outcome {
+    /// A reply was accepted, after so many sendings.
+    Answered { reply: Reply, sendings: u8 },
+    /// No reply was accepted after the last of so many sendings, and the request was given up.
+    NoReply { sendings: u8 },
+    /// It was sent so many times, and neither of these has come about.
+    Unfinished { sendings: u8 },
+    /// The master refused it.
+    Refused(MasterFault),
+}
+
+/// What became of each submission, in their order.
+#[derive(Debug, Drop)]
+pub struct Outcomes {
+    outcomes: Vec<Outcome>,
+}
+
+impl Model for Outcomes {
+    ghost use Rattle.std.specs.Prelude.{List};
+    ghost use Rattle.hart_line.specs.declared.report.Outcome.{Outcome};
+
+    ghost Value = { List Outcome };
+
+    ghost view = { λ list. list.outcomes.items };
+}
+
+impl Outcomes {
+    /// No outcomes.
+    pub(crate) fn new(alloc: Global) -> Self
+        ensures { result ≡ [] }
+    {
+        Outcomes {
+            outcomes: Vec::new(alloc),
+        }
+    }
+
+    /// The outcomes, in order.
+    pub fn as_slice(&self) -> &[Outcome]
+        ensures { result.now ≡ self.now }
+    {
+        self.outcomes.as_slice()
+    }
+
+    /// Adds the outcome of one more submission.
+    pub(crate) fn push(&mut self, outcome: Outcome) -> Result<(), AllocError>
+        ensures { OnOk result (self.new ≡ self.old ++ outcome ∷ []) }
+    {
+        self.outcomes.push(outcome)?;
+        Ok(())
+    }
+
+    /// Gives the submission at this place another outcome.
+    pub(crate) fn replace(&mut self, place: usize, outcome: Outcome)
+        requires { place < length self.old }
+        ensures { self.new ≡ slice_set self.old place outcome }
+    {
+        self.outcomes[place] = outcome;
+    }
+}
+
+/// The messages that were spoken, in order.
+#[derive(Debug, Drop)]
+pub struct SpokenList {
+    messages: Vec<Spoken>,
+}
+
+impl Model for SpokenList {
+    ghost use Rattle.std.specs.Prelude.{List};
+    ghost use Rattle.hart_line.specs.declared.report.Spoken.{Spoken};
+
+    ghost Value = { List Spoken };
+
+    ghost view = { λ list. list.messages.items };
+}
+
+impl SpokenList {
+    /// No messages.
+    pub(crate) fn new(alloc: Global) -> Self
+        ensures { result ≡ [] }
+    {
+        SpokenList {
+            messages: Vec::new(alloc),
+        }
+    }
+
+    /// The messages, in order.
+    pub fn as_slice(&self) -> &[Spoken]
+        ensures { result.now ≡ self.now }
+    {
+        self.messages.as_slice()
+    }
+
+    /// Adds a message.
+    pub(crate) fn push(&mut self, message: Spoken) -> Result<(), AllocError>
+        ensures { OnOk result (self.new ≡ self.old ++ message ∷ []) }
+    {
+        self.messages.push(message)?;
+        Ok(())
+    }
+}
+
+/// What a script leads to.
+#[derive(Debug, Drop)]
+pub struct Report<S: RegisterStore> {
+    /// The device, as it is then.
+    pub device: Device<S>,
+    /// What became of each submission.
+    pub outcomes: Outcomes,
+    /// What was spoken.
+    pub spoken: SpokenList,
+}
