@@ -13,9 +13,9 @@ use Rattle.hart_device.specs.declared.process.Process.{Process}
 use Rattle.hart_master.specs.Acceptance.{IsReplyTo}
 use Rattle.hart_master.specs.declared.fault.MasterFault.{MasterFault}
 use Rattle.hart_line.specs.Damage.{Arrives}
-use Rattle.hart_line.specs.Promises.{IsAnsweredFrom}
+use Rattle.hart_line.specs.Promises.{AnswersLastSendingFrom}
 use Rattle.hart_line.specs.Spoken.{frame_of, message_by}
-use Rattle.hart_line.specs.Step.{Accepts, IsTurn, Run, Step, sent_back, effect_on, executions_after, frame_answered, message_of, outcome_of, sent_by, submission_fault, submitted, turned}
+use Rattle.hart_line.specs.Step.{Accepts, IsTurn, Run, Step, sent_back, effect_on, executions_after, frame_answered, hand_left, message_of, outcome_of, sent_by, submission_fault, submitted, turned}
 use Rattle.hart_line.specs.World.{InHand, Start, World, state_of}
 use Rattle.hart_line.specs.declared.event.Heard.{Heard}
 use Rattle.hart_line.specs.declared.event.LineEvent.{LineEvent}
@@ -23,6 +23,7 @@ use Rattle.hart_line.specs.declared.event.LineEvent.TheVariants.{Submit, Turn, P
 use Rattle.hart_line.specs.declared.report.Outcome.TheVariants.{Answered, NoReply, Unfinished, Refused}
 use Rattle.hart_line.specs.declared.report.Party.{Party}
 use Rattle.hart_line.proofs.ArrivalLemmas.{arrives_cases}
+use Rattle.hart_line.proofs.TurnLemmas.{of_master-same}
 
 some_one : {A : Type 0} {x y : A} → Some x ≡ Some y → x ≡ y
 some_one is = cc
@@ -106,7 +107,7 @@ turn_answered : (start : Start) (world : World) (who : MasterId) (up down : Hear
     → (number : ℕ) (reply : Reply) (sendings : ℕ)
     → slice_get (turned start world who hand t.arrived t.accepted).outcomes number ≡ Some (Answered reply sendings)
     → (events : List LineEvent) → (slice_get world.outcomes number ≡ Some (Answered reply sendings))
-    ⊎ IsAnsweredFrom start world (Turn who up down ∷ events) number reply sendings
+    ⊎ AnswersLastSendingFrom start world (Turn who up down ∷ events) number reply sendings
 turn_answered start world who up down next None in_hand t arrives accepts next_is number reply sendings is events = inl is
 turn_answered start world who up down next (Some held) in_hand t arrives accepts next_is number reply sendings is events =
     elim (slice_set-cases world.outcomes held.submission _ number _ is) [
@@ -128,12 +129,16 @@ turn_answered start world who up down next (Some held) in_hand t arrives accepts
             in_hand = in_hand;
             of_submission = sym new.0;
             sent = outcome.1;
+            arrived = sent.arrived_is;
             answer = back.frame;
             answered = sent.answered;
+            returned = back.came;
             is_reply = back.is_reply;
             executions = ap (λ (w : World). w.executions) next_is
                 ∙ ap (λ f. executions_after (effect_on state f) held.submission world.executions) sent.arrived_is
                 ∙ ap (λ n. executions_after (effect_of state (message_of who held).frame) n world.executions) (sym new.0);
+            reached = rw next_is is;
+            left = rw next_is (of_master-same who _ world.hands ∙ ap (hand_left held) new.1);
           }))
     ]
 
@@ -149,7 +154,7 @@ submit_answered world who address request (Some fault) number reply sendings is 
 step_answered : (start : Start) (world : World) (event : LineEvent) (next : World) → Step start world event next
     → (events : List LineEvent) (number : ℕ) (reply : Reply) (sendings : ℕ) → slice_get next.outcomes number ≡ Some (Answered reply sendings)
     → (slice_get world.outcomes number ≡ Some (Answered reply sendings))
-    ⊎ IsAnsweredFrom start world (event ∷ events) number reply sendings
+    ⊎ AnswersLastSendingFrom start world (event ∷ events) number reply sendings
 step_answered start world (Submit who address request) next step events number reply sendings is =
     inl (submit_answered world who address request (submission_fault (of_master who world.hands) address request) number reply sendings
     (rw step at is))
@@ -160,8 +165,8 @@ step_answered start world (Protect on) next step events number reply sendings is
 step_answered start world (Noise chars) next step events number reply sendings is = inl (rw step.1 at is)
 
 later_answered : (start : Start) (world next : World) (event : LineEvent) (events : List LineEvent) (number : ℕ) (reply : Reply) (sendings : ℕ)
-    → Step start world event next → IsAnsweredFrom start next events number reply sendings
-    → IsAnsweredFrom start world (event ∷ events) number reply sendings
+    → Step start world event next → AnswersLastSendingFrom start next events number reply sendings
+    → AnswersLastSendingFrom start world (event ∷ events) number reply sendings
 later_answered start world next event events number reply sendings step a = record {
   before = a.before;
   next = a.next;
@@ -181,13 +186,17 @@ later_answered start world next event events number reply sendings step a = reco
   sent = a.sent;
   answer = a.answer;
   answered = a.answered;
+  arrived = a.arrived;
+  returned = a.returned;
   is_reply = a.is_reply;
   executions = a.executions;
+  reached = a.reached;
+  left = a.left;
 }
 
 pub run_answered : (start : Start) (events : List LineEvent) (world last : World) → Run start world events last
     → (number : ℕ) (reply : Reply) (sendings : ℕ) → slice_get last.outcomes number ≡ Some (Answered reply sendings)
-    → (slice_get world.outcomes number ≡ Some (Answered reply sendings)) ⊎ IsAnsweredFrom start world events number reply sendings
+    → (slice_get world.outcomes number ≡ Some (Answered reply sendings)) ⊎ AnswersLastSendingFrom start world events number reply sendings
 run_answered start [] world last run number reply sendings is = inl (rw run at is)
 run_answered start (event ∷ events) world last run number reply sendings is =
     elim (run_answered start events run.0 last run.2 number reply sendings is) [

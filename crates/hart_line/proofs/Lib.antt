@@ -14,4 +14,8 @@ pub mod RunLemmas
 pub mod SoundLemmas
 pub mod ReachedLemmas
 pub mod AnsweredLemmas
+pub mod LastLemmas
+pub mod CountLemmas
+pub mod WrittenLemmas
+pub mod ResetLemmas
 pub mod WholeLemmas

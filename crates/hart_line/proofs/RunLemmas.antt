@@ -89,7 +89,7 @@ IsTurn-one laws start world who up down a b s t =
     s.next_is ∙ ap (λ f. turned start world who hand f s.accepted) arrived
     ∙ ap (turned start world who hand t.arrived) accepted ∙ sym t.next_is
 
-step_one : Laws → (start : Start) (world : World) (event : LineEvent) (a b : World)
+pub step_one : Laws → (start : Start) (world : World) (event : LineEvent) (a b : World)
     → Step start world event a → Step start world event b → a ≡ b
 step_one laws start world (Submit who address request) a b s t = s ∙ sym t
 step_one laws start world (Turn who up down) a b s t = IsTurn-one laws start world who up down a b s t

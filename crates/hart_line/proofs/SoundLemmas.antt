@@ -30,7 +30,7 @@ slice_get-append [] ys n x is = cc
 slice_get-append (y ∷ xs) ys zero x is = is
 slice_get-append (y ∷ xs) ys (suc n) x is = slice_get-append xs ys n x is
 
-slice_get-last : {A : Type 0} (xs : List A) (x : A) → slice_get (xs ++ x ∷ []) (length xs) ≡ Some x
+pub slice_get-last : {A : Type 0} (xs : List A) (x : A) → slice_get (xs ++ x ∷ []) (length xs) ≡ Some x
 slice_get-last [] x = refl
 slice_get-last (y ∷ xs) x = slice_get-last xs x
 

@@ -8,4 +8,5 @@ pub mod World
 pub mod Step
 pub mod Faults
 pub mod Parts
+pub mod Executions
 pub mod Promises

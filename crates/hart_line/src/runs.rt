@@ -1,21 +1,35 @@
 //! Scripts are carried out.
-ghost use Rattle.std.specs.Prelude.{◌≡◌, ℕ, IfErr, IfOk, Some, slice_get};
+ghost use Rattle.std.specs.Prelude.{◌≡◌, ◌≤◌, ◌+◌, ◌%◌, ◌^◌, ℕ, false, length, [], IfErr, IfOk, IfSome, IsTrue, Option, Some, slice_get};
+ghost use Rattle.hart_commands.specs.Each.{of_master};
+ghost use Rattle.hart_commands.specs.Registers.{registers_of};
+ghost use Rattle.hart_commands.specs.RequestCode.{is_write};
+ghost use Rattle.hart_commands.specs.RequestData.{command_of};
 ghost use Rattle.hart_commands.specs.declared.reply.Reply.{Reply};
+ghost use Rattle.hart_commands.specs.declared.request.Request.{Request};
 ghost use Rattle.hart_master.specs.declared.hand.Hand.TheVariants.{Empty};
+ghost use Rattle.hart_values.specs.declared.master_id.MasterId.{MasterId};
 ghost use Rattle.hart_values.specs.declared.master_id.MasterId.TheVariants.{Primary, Secondary};
+ghost use Rattle.hart_line.specs.Executions.{last_executions, times_executed};
 ghost use Rattle.hart_line.specs.Faults.{IsFault};
-ghost use Rattle.hart_line.specs.Promises.{IsAnswered, start_of};
+ghost use Rattle.hart_line.specs.Promises.{AnswersLastSending, IsExecutedInItsTurn, IsLastReset, IsRefusedByDevice, requests_of, sendings_told, start_of};
 ghost use Rattle.hart_line.specs.Spoken.{AreSpoken};
 ghost use Rattle.hart_line.specs.Step.{IsLast};
-ghost use Rattle.hart_line.specs.World.{World, state_of};
+ghost use Rattle.hart_line.specs.World.{World, overwrites_of, state_of};
 ghost use Rattle.hart_line.specs.declared.report.Outcome.TheVariants.{Answered};
 
 use crate::laws::scripts_have_one_last_world;
 use crate::line::{Log, Submitter, step};
 use crate::report::{Outcomes, SpokenList};
 use crate::{LineEvent, LineFault, Report};
-use hart_device::{Device, Process, RegisterStore, registers_of_lists};
-use hart_master::Master;
+use hart_commands::{
+    requests_have_their_command, writes_have_overwrites, written_data_are_read_again,
+};
+use hart_device::{
+    Device, Process, RegisterStore, answers_tell_their_code, refused_commands_change_nothing,
+    registers_of_lists, resets_name_this_counter, writes_execute_their_overwrite,
+};
+use hart_frame::{bodies_are_told_apart, frames_are_told_apart};
+use hart_master::{Master, replies_are_decided};
 use std::alloc::Global;
 
 /// Carries out a script: what the masters ask, and what each side hears.
@@ -40,7 +54,7 @@ pub fn run<S: RegisterStore + Drop>(
 ) -> Result<Report<S>, LineFault>
     requires primary { (primary.id ≡ Primary) × (primary.hand ≡ Empty) }
     requires secondary { (secondary.id ≡ Secondary) × (secondary.hand ≡ Empty) }
-    // The script has a last world, and the report is that of the last world.
+    // The script has a last world; device, outcomes and spoken messages are that world's.
     ensures world { let start = start_of device process.now primary secondary in IfOk result (λ _.
         (world : World) × IsLast start events.now world) }
     ensures device { let start = start_of device process.now primary secondary in IfOk result (λ report.
@@ -50,17 +64,56 @@ pub fn run<S: RegisterStore + Drop>(
     ensures spoken { let start = start_of device process.now primary secondary in IfOk result (λ report.
         (world : World) → IsLast start events.now world → AreSpoken world.spoken report.spoken) }
     ensures identity { IfOk result (λ report. report.device.identity ≡ device.identity) }
-    // Each accepted reply is the device's answer in the turn of the last sending.
-    ensures answered { let start = start_of device process.now primary secondary in IfOk result (λ report.
+    // Each accepted reply is the device's answer in the turn of its request's last sending.
+    ensures accepted_reply_answers_last_sending { let start = start_of device process.now primary secondary in IfOk result (λ report.
         (number : ℕ) (reply : Reply) (sendings : ℕ)
         → slice_get report.outcomes number ≡ Some (Answered reply sendings)
-        → IsAnswered start events.now number reply sendings) }
+        → AnswersLastSending start events.now number reply sendings) }
+    // The registers are the initial ones overwritten by the last execution of each submission, in their order.
+    ensures registers_follow_last_executions { let start = start_of device process.now primary secondary in
+        IfOk result (λ report. (world : World) → IsLast start events.now world
+        → report.device.contents ≡ registers_of (overwrites_of (last_executions world.executions)) device.contents) }
+    // The counter has grown by the number of executed writes, and a last command that is refused leaves the device as it was.
+    ensures counter_counts_executions { let start = start_of device process.now primary secondary in
+        IfOk result (λ report. (world : World) → IsLast start events.now world
+        → report.device.counter ≡ (device.counter + length world.executions) % 2 ^ 16) }
+    ensures refused_commands_change_nothing { let start = start_of device process.now primary secondary in
+        IfOk result (λ report. (before next : World) (refused : IsRefusedByDevice start events.now before next)
+        → refused.turn.back ≡ [] → report.device ≡ state_of device before) }
+    // A write whose accepted reply has code 0 was executed in the turn of that reply; a submission was executed at most as often
+    // as it was sent, a refused one never.
+    ensures executed_in_its_turn { let start = start_of device process.now primary secondary in
+        IfOk result (λ report. (number : ℕ) (request : Request) (reply : Reply) (sendings : ℕ)
+        → slice_get (requests_of events.now) number ≡ Some request → IsTrue (is_write (command_of request))
+        → slice_get report.outcomes number ≡ Some (Answered reply sendings) → reply.code ≡ 0
+        → IsExecutedInItsTurn start events.now number request reply sendings) }
+    ensures at_most_once_a_sending { let start = start_of device process.now primary secondary in
+        IfOk result (λ report. (world : World) → IsLast start events.now world → (number : ℕ)
+        → times_executed number world.executions ≤ sendings_told (slice_get report.outcomes number)) }
+    // Where a master's configuration-changed bit is clear after the script, nothing was written since its last Command 38 with
+    // code 0: the counter is still the one that it named, if it named one, and the registers are those of that turn.
+    ensures no_change_unseen { let start = start_of device process.now primary secondary in
+        IfOk result (λ report. (who : MasterId) (before : World) (given : Option ℕ) → IsLastReset start events.now who before given
+        → of_master who report.device.changed ≡ false
+        → IfSome given (λ counter. report.device.counter ≡ counter)
+        × (report.device.counter ≡ (state_of device before).counter)
+        × (report.device.contents ≡ (state_of device before).contents)) }
     // A fault names the first leg whose damage is undetected.
     ensures fault { IfErr result (IsFault (start_of device process.now primary secondary) events.now) }
 {
-    // They do nothing when they run: by these laws a script has one last world, and the first is that of the device.
+    // They do nothing when they run: by these laws a script has one last world, and one without events leaves the device as it is.
     registers_of_lists();
+    writes_execute_their_overwrite();
+    answers_tell_their_code();
+    requests_have_their_command();
+    writes_have_overwrites();
+    resets_name_this_counter();
+    refused_commands_change_nothing();
+    written_data_are_read_again();
     scripts_have_one_last_world();
+    bodies_are_told_apart();
+    frames_are_told_apart();
+    replies_are_decided();
     let _counter = device.counter();
     let mut primary = Submitter {
         master: primary,
