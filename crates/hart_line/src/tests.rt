@@ -1,3 +1,5 @@
+mod runs;
+
 use super::*;
 use hart_values::{Address, MasterId};
 use std::alloc::{AllocError, Global};
