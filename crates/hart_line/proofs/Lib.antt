@@ -18,4 +18,5 @@ pub mod LastLemmas
 pub mod CountLemmas
 pub mod WrittenLemmas
 pub mod ResetLemmas
+pub mod ShownLemmas
 pub mod WholeLemmas

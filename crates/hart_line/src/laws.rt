@@ -2,11 +2,11 @@
 ghost use Rattle.std.specs.Prelude.{◌≡◌, List, ℕ};
 ghost use Rattle.hart_values.specs.declared.address.Address.{Address};
 ghost use Rattle.hart_values.specs.declared.master_id.MasterId.{MasterId};
-ghost use Rattle.hart_line.specs.Faults.{IsFault};
+ghost use Rattle.hart_line.specs.Faults.{AreAllShown, IsFault};
 ghost use Rattle.hart_line.specs.Script.{HasFirstBadLine, IsScript};
 ghost use Rattle.hart_line.specs.Step.{IsLast};
 ghost use Rattle.hart_line.specs.Words.{IsAddressWord, IsCommandWord, IsDataWord, IsWho};
-ghost use Rattle.hart_line.specs.World.{Start, World};
+ghost use Rattle.hart_line.specs.World.{Start, World, first_world};
 ghost use Rattle.hart_line.specs.declared.event.LineEvent.{LineEvent};
 ghost use Rattle.hart_line.specs.declared.fault.Leg.{Leg};
 ghost use Rattle.hart_line.specs.declared.fault.LineFault.TheVariants.{Undetected};
@@ -33,11 +33,13 @@ pub fn scripts_have_no_bad_line()
         → IsScript text events → HasFirstBadLine text number → ⊥ }
 {}
 
-/// The events of a script lead to one last world at most, and to none where an event has undetected damage; and the first leg
-/// with undetected damage is one.
+/// The events of a script lead to one last world at most, to one where all that is heard is shown, and to none where an event has
+/// undetected damage; and the first leg with undetected damage is one.
 pub fn scripts_have_one_last_world()
     ensures one_world { (start : Start) (events : List LineEvent) (a b : World)
         → IsLast start events a → IsLast start events b → a ≡ b }
+    ensures shown { (start : Start) (events : List LineEvent)
+        → AreAllShown start (first_world start) events → (last : World) × IsLast start events last }
     ensures no_fault { (start : Start) (events : List LineEvent) (world : World) (number : ℕ) (leg : Leg)
         → IsLast start events world → IsFault start events (Undetected number leg) → ⊥ }
     ensures one_fault { (start : Start) (events : List LineEvent) (number other : ℕ) (leg another : Leg)

@@ -10,7 +10,7 @@ ghost use Rattle.hart_master.specs.declared.hand.Hand.TheVariants.{Empty};
 ghost use Rattle.hart_values.specs.declared.master_id.MasterId.{MasterId};
 ghost use Rattle.hart_values.specs.declared.master_id.MasterId.TheVariants.{Primary, Secondary};
 ghost use Rattle.hart_line.specs.Executions.{last_executions, times_executed};
-ghost use Rattle.hart_line.specs.Faults.{IsFault};
+ghost use Rattle.hart_line.specs.Faults.{IsFault, IsOfCharacters};
 ghost use Rattle.hart_line.specs.Promises.{AnswersLastSending, IsExecutedInItsTurn, IsLastReset, IsRefusedByDevice, requests_of, sendings_told, start_of};
 ghost use Rattle.hart_line.specs.Spoken.{AreSpoken};
 ghost use Rattle.hart_line.specs.Step.{IsLast};
@@ -28,7 +28,7 @@ use hart_device::{
     Device, Process, RegisterStore, answers_tell_their_code, refused_commands_change_nothing,
     registers_of_lists, resets_name_this_counter, writes_execute_their_overwrite,
 };
-use hart_frame::{bodies_are_told_apart, frames_are_told_apart};
+use hart_frame::{bodies_are_told_apart, frames_are_told_apart, messages_have_their_frame_alone};
 use hart_master::{Master, replies_are_decided};
 use std::alloc::Global;
 
@@ -100,6 +100,7 @@ pub fn run<S: RegisterStore + Drop>(
         × (report.device.contents ≡ (state_of device before).contents)) }
     // A fault names the first leg whose damage is undetected.
     ensures fault { IfErr result (IsFault (start_of device process.now primary secondary) events.now) }
+    ensures clean_and_lost_legs_are_shown { IfErr result (IsOfCharacters events.now) }
 {
     // They do nothing when they run: by these laws a script has one last world, and one without events leaves the device as it is.
     registers_of_lists();
@@ -114,7 +115,8 @@ pub fn run<S: RegisterStore + Drop>(
     bodies_are_told_apart();
     frames_are_told_apart();
     replies_are_decided();
-    let _counter = device.counter();
+    messages_have_their_frame_alone();
+    let (_counter, _preambles) = (device.counter(), device.response_preambles());
     let mut primary = Submitter {
         master: primary,
         place: 0,

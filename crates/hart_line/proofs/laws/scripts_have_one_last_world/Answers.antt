@@ -1,5 +1,6 @@
 use Rattle.hart_line.specs.World.{first_world}
 use Rattle.hart_line.proofs.RunLemmas.{Laws, fault_one, no_fault, run_one}
+use Rattle.hart_line.proofs.ShownLemmas.{run_shown}
 use Rattle.hart_line.proofs.laws.scripts_have_one_last_world.Goals as goal
 
 pub returns-clause-one_world : goal.returns-clause-one_world
@@ -28,3 +29,6 @@ returns-clause-one_fault c = λ start events number other leg another fault seco
       one_reply = c.replies_are_decided.ensures.one_reply;
     } in
     fault_one laws start events number other leg another fault second
+
+pub returns-clause-shown : goal.returns-clause-shown
+returns-clause-shown c = λ start events shown. run_shown c.replies_are_decided.ensures.decided start (first_world start) events shown

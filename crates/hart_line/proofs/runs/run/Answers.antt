@@ -1,4 +1,4 @@
-use Rattle.std.proofs.Common.{arith, ap, refl, ◌<◌, inl, inr}
+use Rattle.std.proofs.Common.{arith, ap, refl, ◌<◌, ◌≤◌, inl, inr}
 use Rattle.hart_device.specs.Device.{DeviceState}
 use Rattle.hart_values.specs.declared.master_id.MasterId.TheVariants.{Primary, Secondary}
 use Rattle.hart_line.specs.Promises.{start_of}
@@ -7,6 +7,7 @@ use Rattle.hart_line.proofs.WholeLemmas.{answered_reached, at_most_reached, coun
 use Rattle.hart_line.proofs.WrittenLemmas.{WriteLaws, answered_executed}
 use Rattle.hart_line.proofs.RunLemmas.{Laws}
 use Rattle.hart_line.proofs.ResetLemmas.{refused_last, unseen}
+use Rattle.hart_line.proofs.ShownLemmas.{ShownLaws, fault_told}
 use Rattle.hart_line.proofs.runs.run.Goals as goal
 
 pub loop-index-init : goal.loop-index-init
@@ -39,6 +40,18 @@ returns-in-Err-clause-fault g c =
     let reached = c.loop-index.invariant in
     rw c.at.ensures (fault_at start c.args.events.now c.loop-index.index _ reached.world c.in-Err.stop c.loop-index-test.true reached.is_last
     (rw c.index-events-index.is at (c.in-Err.ensures.stopped start reached.world refl reached.stands)))
+
+pub returns-in-Err-clause-clean_and_lost_legs_are_shown : goal.returns-in-Err-clause-clean_and_lost_legs_are_shown
+returns-in-Err-clause-clean_and_lost_legs_are_shown g c =
+    let laws : ShownLaws = record {
+      one_list = c.frames_are_told_apart.ensures.one_list;
+      message = c.messages_have_their_frame_alone.ensures.message;
+      nothing = c.messages_have_their_frame_alone.ensures.nothing;
+    } in
+    let preambles = c.response_preambles-preambles in
+    let enough : 5 ≤ c.args.device.identity.response_preambles = rw preambles.ensures.same at preambles.ensures.in_range.0 in
+    fault_told laws (start_of c.args.device c.args.process.now c.args.primary c.args.secondary) c.args.events.now c.at.result enough
+    (returns-in-Err-clause-fault g c)
 
 pub loop-index-preserved : goal.loop-index-preserved
 loop-index-preserved g c =
