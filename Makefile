@@ -5,7 +5,7 @@
 #   make refused-growths      refuses each allocation of ./hart in turn, as make check does to the program that it proves
 #   make streams              runs ./hart on streams that fail, as make check does
 #   make install PREFIX=DIR   puts hart into DIR/bin
-#   make bench                measures hart dump and hart answer; it asserts no time
+#   make bench                measures hart dump, hart answer and hart sim; it asserts no time
 
 PREFIX ?= /usr/local
 CLI := crates/hart_cli
@@ -29,6 +29,7 @@ refused-growths streams: hart
 bench: hart
 	python3 bench/dump.py
 	python3 bench/answer.py
+	python3 bench/sim.py
 
 install: hart
 	install -d $(PREFIX)/bin
