@@ -1,6 +1,6 @@
 -- The lines of `hart dump` (own profile).
-use Rattle.std.specs.Prelude.{ℕ, ◌/◌, ◌%◌, ◌==◌, ◌&&◌, Bool, true, false, if◌then◌else◌, List, [], ◌∷◌, ◌++◌, codes, decimal}
-use Rattle.std.specs.List.{flat_map, join_with_byte}
+use Rattle.std.specs.Prelude.{ℕ, ◌/◌, ◌%◌, ◌==◌, ◌&&◌, Bool, true, false, if◌then◌else◌, List, [], ◌∷◌, codes, decimal}
+use Rattle.std.specs.List.{flat_map}
 use Rattle.hex.specs.Hex.{encode_upper}
 use Rattle.hart_values.specs.DeviceNumbers.{DeviceNumbers}
 use Rattle.hart_values.specs.declared.address.Address.{Address}
@@ -10,6 +10,7 @@ use Rattle.hart_values.specs.declared.master_id.MasterId.TheVariants.{Primary, S
 use Rattle.hart_frame.specs.declared.kind.FrameKind.{FrameKind}
 use Rattle.hart_frame.specs.declared.kind.FrameKind.TheVariants.{Stx, Ack}
 use Rattle.hart_frame.specs.declared.found.Found.{Found}
+use Rattle.hart_cli.specs.Line.{bytes_word, line_of}
 
 -- The word of a kind of frame is `STX` for an STX and `ACK` for an ACK.
 abbrev pub kind_word : FrameKind → List ℕ
@@ -39,19 +40,14 @@ address_word (Polling number) = 64 ∷ decimal number
 address_word (Unique numbers) =
     if numbers.expanded_type == 0 && numbers.device_id == 0 then codes "all" else device_digits numbers
 
--- The word of bytes is their upper case hex, or `-` where there are none.
-abbrev pub bytes_word : List ℕ → List ℕ
-bytes_word [] = codes "-"
-bytes_word (byte ∷ bytes) = encode_upper (byte ∷ bytes)
-
--- The line of a frame is these nine words with one space between two of them, and a line feed.
+-- The line of a frame has these nine words.
 abbrev pub dump_line : Found → List ℕ
-dump_line found = join_with_byte 32 (
+dump_line found = line_of (
     decimal found.start ∷ decimal found.stop
     ∷ kind_word found.frame.kind ∷ master_word found.frame.master ∷ burst_word found.frame.burst
     ∷ address_word found.frame.address ∷ bytes_word found.frame.expansion
     ∷ decimal found.frame.command ∷ bytes_word found.frame.payload ∷ []
-    ) ++ 10 ∷ []
+    )
 
 -- The text of frames is a line for each.
 abbrev pub dump_text : List Found → List ℕ

@@ -6,6 +6,7 @@ pub mod Hearing
 pub mod HexText
 pub mod MessageLine
 pub mod Answer
+pub mod Line
 pub mod DumpText
 pub mod Dump
 pub mod Encode

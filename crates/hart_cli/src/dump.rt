@@ -5,10 +5,10 @@ ghost use Rattle.hart_cli.specs.Stream.{Writes};
 ghost use Rattle.hart_cli.specs.declared.fault.CliFault.{CliFault};
 ghost use Rattle.hart_cli.specs.declared.input.InputEnd.{InputEnd};
 
+use crate::dump_text::frame_line;
 use crate::fault::CliFault;
 use crate::input::read_input;
 use crate::items::{hear, one_hearing};
-use crate::line::frame_line;
 use crate::output::write_all;
 use crate::stream::{Failed, Sink, Source};
 use hart_frame::{Char, every_list_has_frames, first_frame, frames_are_told_apart};

@@ -1,38 +1,17 @@
-//! The line that `hart dump` writes for a frame.
+//! Lines of words, in a buffer of a fixed size.
 ghost use Rattle.std.specs.Prelude.{◌≡◌, ◌∷◌, [], ◌++◌, ◌+◌, ◌*◌, ◌<◌, ◌≤◌, length, max};
-ghost use Rattle.hart_cli.specs.DumpText.{address_word, burst_word, bytes_word, device_digits, dump_line, kind_word, master_word};
+ghost use Rattle.hart_cli.specs.Line.{bytes_word};
 
 use crate::hex_text::push_hex;
-use hart_frame::{Found, FrameKind};
-use hart_values::{Address, ByteList, MasterId, UniqueAddress};
-use itoa::Buffer;
+use hart_values::ByteList;
 
-/// A line of at most 583 bytes: two places of 20 digits, the three words of kind, master and burst bit, 10 digits of an
-/// address, 6 of the expansion bytes, 3 of the command and 510 of the payload, eight spaces and a line feed.
-pub type FrameLine = ByteList<583>;
-
-/// The line of a frame: its two places, then its parts, one space between two of them, and a line feed.
-pub fn frame_line(found: &Found) -> FrameLine
-    ensures { result ≡ dump_line found.now }
-{
-    let frame = &found.frame;
-    let mut line = FrameLine::new();
-    push_word(&mut line, Buffer::new().format(found.start));
-    push_word(&mut line, Buffer::new().format(found.stop));
-    push_word(&mut line, kind_word(frame.kind()));
-    push_word(&mut line, master_word(frame.master()));
-    push_word(&mut line, burst_word(frame.burst()));
-    push_address(&mut line, frame.address());
-    push_bytes(&mut line, frame.expansion());
-    line.push(b' ');
-    push_word(&mut line, Buffer::new().format(frame.command()));
-    push_bytes(&mut line, frame.payload());
-    line.push(b'\n');
-    line
-}
+/// A line of at most 583 bytes, which the longest line of a frame has: two places of 20 digits, the three words of kind,
+/// master and burst bit, 10 digits of an address, 6 of the expansion bytes, 3 of the command and 510 of the payload, eight
+/// spaces and a line feed.
+pub type Line = ByteList<583>;
 
 /// Adds a word and the space after it.
-fn push_word(line: &mut FrameLine, word: &str)
+pub fn push_word(line: &mut Line, word: &str)
     requires { length line.old + length word.now < 583 }
     ensures word { line.new ≡ line.old ++ word.now ++ 32 ∷ [] }
     ensures len { length line.new ≡ length line.old + length word.now + 1 }
@@ -41,71 +20,8 @@ fn push_word(line: &mut FrameLine, word: &str)
     line.push(b' ');
 }
 
-/// The word of a frame's kind.
-fn kind_word(kind: FrameKind) -> &'static str
-    ensures word { result.now ≡ kind_word kind }
-    ensures short { length result.now ≤ 3 }
-{
-    match kind {
-        FrameKind::Stx => "STX",
-        FrameKind::Ack => "ACK",
-    }
-}
-
-/// The word of a master.
-fn master_word(master: MasterId) -> &'static str
-    ensures word { result.now ≡ master_word master }
-    ensures short { length result.now ≤ 1 }
-{
-    match master {
-        MasterId::Primary => "P",
-        MasterId::Secondary => "S",
-    }
-}
-
-/// The word of a burst bit.
-fn burst_word(burst: bool) -> &'static str
-    ensures word { result.now ≡ burst_word burst }
-    ensures short { length result.now ≤ 1 }
-{
-    if burst { "1" } else { "0" }
-}
-
-/// Adds the word of an address and the space after it.
-fn push_address(line: &mut FrameLine, address: Address)
-    requires { length line.old + 11 ≤ 583 }
-    ensures word { line.new ≡ line.old ++ address_word address ++ 32 ∷ [] }
-    ensures len { length line.new ≤ length line.old + 11 }
-{
-    match address {
-        Address::Polling(polling) => {
-            line.push(b'@');
-            push_word(line, Buffer::new().format(polling.number()));
-        }
-        Address::Unique(device) => {
-            if address.is_broadcast() {
-                push_word(line, "all");
-            } else {
-                push_device(line, device);
-            }
-        }
-    }
-}
-
-/// Adds the ten digits of a device and the space after them.
-fn push_device(line: &mut FrameLine, device: UniqueAddress)
-    requires { length line.old + 11 ≤ 583 }
-    ensures word { line.new ≡ line.old ++ device_digits device ++ 32 ∷ [] }
-    ensures len { length line.new ≤ length line.old + 11 }
-{
-    let [type_high, type_low] = device.expanded_type().to_be_bytes();
-    let [_, id_high, id_middle, id_low] = device.device_id().to_be_bytes();
-    push_hex(line, &[type_high, type_low, id_high, id_middle, id_low]);
-    line.push(b' ');
-}
-
 /// Adds the word of some bytes.
-fn push_bytes(line: &mut FrameLine, bytes: &[u8])
+pub fn push_bytes(line: &mut Line, bytes: &[u8])
     requires few { length bytes.now ≤ 255 }
     requires room { length line.old + 2 * length bytes.now < 583 }
     ensures word { line.new ≡ line.old ++ bytes_word bytes.now }

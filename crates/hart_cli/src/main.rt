@@ -6,6 +6,7 @@
 
 mod answer;
 mod dump;
+mod dump_text;
 mod encode;
 mod fault;
 mod hex_text;

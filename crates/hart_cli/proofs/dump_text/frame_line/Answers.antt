@@ -1,7 +1,7 @@
 use Rattle.std.proofs.Common.{ap, decimal, ◌∙◌}
 use Rattle.hart_cli.specs.DumpText.{burst_word, kind_word, master_word}
 use Rattle.hart_cli.proofs.LineLemmas.{nine_words}
-use Rattle.hart_cli.proofs.line.frame_line.Goals as goal
+use Rattle.hart_cli.proofs.dump_text.frame_line.Goals as goal
 
 pub returns : goal.returns
 returns c =
