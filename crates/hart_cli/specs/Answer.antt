@@ -8,7 +8,7 @@ use Rattle.hart_device.specs.Bench.{bench_identity, bench_process, bench_values}
 use Rattle.hart_device.specs.Delivery.{answer_to}
 use Rattle.hart_device.specs.Device.{DeviceState, new_device}
 use Rattle.hart_cli.specs.declared.fault.CliFault.{CliFault}
-use Rattle.hart_cli.specs.declared.fault.CliFault.TheVariants.{BadHex, BadWord, Memory, Read, TooLong, Write}
+use Rattle.hart_cli.specs.declared.fault.CliFault.TheVariants.{BadHex, BadWord, Line, Memory, Read, TooLong, Write}
 use Rattle.hart_cli.specs.declared.input.InputEnd.TheVariants as ends
 use Rattle.hart_cli.specs.Input.{LacksMemory, Reads}
 use Rattle.hart_cli.specs.Items.{IsBadHexAt, ReadsAs}
@@ -65,3 +65,4 @@ AnswerOutcome reader reader_after writer writer_after (Err (BadHex place)) =
 AnswerOutcome reader reader_after writer writer_after (Err Memory) =
     LacksMemory reader reader_after × WritesNothing writer writer_after
 AnswerOutcome reader reader_after writer writer_after (Err (BadWord number)) = ⊥
+AnswerOutcome reader reader_after writer writer_after (Err (Line fault)) = ⊥

@@ -5,7 +5,7 @@ use Rattle.hart_values.specs.declared.master_id.MasterId.{MasterId}
 use Rattle.hart_frame.specs.declared.kind.FrameKind.TheVariants.{Stx}
 use Rattle.hart_frame.specs.FrameParts.{FrameParts}
 use Rattle.hart_cli.specs.declared.fault.CliFault.{CliFault}
-use Rattle.hart_cli.specs.declared.fault.CliFault.TheVariants.{BadHex, BadWord, Memory, Read, TooLong, Write}
+use Rattle.hart_cli.specs.declared.fault.CliFault.TheVariants.{BadHex, BadWord, Line, Memory, Read, TooLong, Write}
 use Rattle.hart_cli.specs.MessageLine.{IsMessageLine}
 use Rattle.hart_cli.specs.Stream.{FailsToWrite, Stream, WritesAll, WritesNothing}
 use Rattle.hart_line.specs.Words.{IsAddressWord, IsCommandWord, IsDataWord, HasNoValue, IsWho}
@@ -56,6 +56,7 @@ EncodeOutcome words preambles writer writer_after (Err Memory) = ⊥
 EncodeOutcome words preambles writer writer_after (Err Read) = ⊥
 EncodeOutcome words preambles writer writer_after (Err TooLong) = ⊥
 EncodeOutcome words preambles writer writer_after (Err (BadHex place)) = ⊥
+EncodeOutcome words preambles writer writer_after (Err (Line fault)) = ⊥
 
 -- For private calls alone: what reading the words answers.
 
@@ -68,3 +69,4 @@ RequestOutcome words (Err Memory) = ⊥
 RequestOutcome words (Err Read) = ⊥
 RequestOutcome words (Err TooLong) = ⊥
 RequestOutcome words (Err (BadHex place)) = ⊥
+RequestOutcome words (Err (Line fault)) = ⊥

@@ -1,7 +1,24 @@
 -- The texts of faults (own profile).
 use Rattle.std.specs.Prelude.{◌++◌, ◌∷◌, [], ℕ, List, codes, decimal}
+use Rattle.hart_line.specs.declared.fault.Leg.{Leg}
+use Rattle.hart_line.specs.declared.fault.Leg.TheVariants.{Up, Down, Noise}
+use Rattle.hart_line.specs.declared.fault.LineFault.{LineFault}
+use Rattle.hart_line.specs.declared.fault.LineFault.TheVariants as line_faults
 use Rattle.hart_cli.specs.declared.fault.CliFault.{CliFault}
-use Rattle.hart_cli.specs.declared.fault.CliFault.TheVariants.{Read, Write, TooLong, BadHex, Memory, BadWord}
+use Rattle.hart_cli.specs.declared.fault.CliFault.TheVariants.{Read, Write, TooLong, BadHex, Line, Memory, BadWord}
+
+-- The word of a leg.
+abbrev pub leg_word : Leg → List ℕ
+leg_word Up = codes "up"
+leg_word Down = codes "down"
+leg_word Noise = codes "noise"
+
+-- A fault of a script has this text; the numbers of an event and of a line are in decimal.
+abbrev pub line_fault_text : LineFault → List ℕ
+line_fault_text (line_faults.Undetected event leg) =
+    codes "undetected damage at event " ++ decimal event ++ codes ", " ++ leg_word leg
+line_fault_text line_faults.Memory = codes "out of memory"
+line_fault_text (line_faults.BadLine number) = codes "bad line " ++ decimal number
 
 -- A fault has this text; the place of bad hex and the number of a bad word are in decimal.
 abbrev pub fault_text : CliFault → List ℕ
@@ -9,9 +26,16 @@ fault_text Read = codes "read fault"
 fault_text Write = codes "write fault"
 fault_text TooLong = codes "input too long"
 fault_text (BadHex place) = codes "bad hex at " ++ decimal place
+fault_text (Line fault) = line_fault_text fault
 fault_text Memory = codes "out of memory"
 fault_text (BadWord number) = codes "bad word " ++ decimal number
 
 -- The line of a fault is its text and a line feed.
 abbrev pub fault_line : CliFault → List ℕ
 fault_line fault = fault_text fault ++ 10 ∷ []
+
+-- A call that a script's fault ends has this fault: want of memory is told as such.
+abbrev pub call_fault : LineFault → CliFault
+call_fault line_faults.Memory = Memory
+call_fault (line_faults.Undetected event leg) = Line (line_faults.Undetected event leg)
+call_fault (line_faults.BadLine number) = Line (line_faults.BadLine number)

@@ -1,10 +1,12 @@
 //! Why a call of the command line ended early.
 
-ghost use Rattle.std.specs.Prelude.{◌≡◌};
+ghost use Rattle.std.specs.Prelude.{◌≡◌, ◌<◌, ◌≤◌, [], length};
+ghost use Rattle.hart_cli.specs.FaultText.{leg_word, line_fault_text};
 ghost use Rattle.hart_cli.specs.declared.fault.CliFault.TheVariants.{Memory, Write};
 
 use crate::stream::Failed;
 use arrayvec::ArrayString;
+use hart_line::{Leg, LineFault};
 use itoa::Buffer;
 use std::alloc::{AllocError, AllocFailed};
 use thiserror::Error;
@@ -24,6 +26,9 @@ pub enum CliFault {
     /// Fault 4: at this byte of the input, counted from 0, begins the first thing that is neither a separator nor an item.
     #[error("bad hex at {place}")]
     BadHex { place: usize },
+    /// Fault 5: the input is no script, or one that is not carried out.
+    #[error("{0}")]
+    Line(LineFault),
     /// Fault 7: memory was refused.
     #[error("out of memory")]
     Memory,
@@ -32,8 +37,8 @@ pub enum CliFault {
     BadWord { number: u8 },
 }
 
-/// The longest line is that of the longest place: 11 characters, 20 digits and a line feed.
-const LONGEST_LINE: usize = 32;
+/// The longest line tells of noise at the last event: 27 characters, 20 digits, 7 characters and a line feed.
+const LONGEST_LINE: usize = 55;
 
 impl CliFault {
     ghost use Rattle.hart_cli.specs.FaultText.{fault_line};
@@ -51,6 +56,7 @@ impl CliFault {
                 line.push_str("bad hex at ");
                 line.push_str(Buffer::new().format(place));
             }
+            CliFault::Line(fault) => push_line_fault(&mut line, fault),
             CliFault::Memory => line.push_str("out of memory"),
             CliFault::BadWord { number } => {
                 line.push_str("bad word ");
@@ -59,6 +65,39 @@ impl CliFault {
         }
         line.push_str("\n");
         line
+    }
+}
+
+/// Adds the text of a script's fault to an empty line.
+fn push_line_fault(line: &mut ArrayString<LONGEST_LINE>, fault: LineFault)
+    requires empty { line.old.bytes ≡ [] }
+    ensures text { line.new.bytes ≡ line_fault_text fault }
+    ensures room { length line.new.bytes < LONGEST_LINE }
+{
+    match fault {
+        LineFault::Undetected { event, leg } => {
+            line.push_str("undetected damage at event ");
+            line.push_str(Buffer::new().format(event));
+            line.push_str(", ");
+            line.push_str(leg_word(leg));
+        }
+        LineFault::Memory => line.push_str("out of memory"),
+        LineFault::BadLine { number } => {
+            line.push_str("bad line ");
+            line.push_str(Buffer::new().format(number));
+        }
+    }
+}
+
+/// The word of a leg.
+fn leg_word(leg: Leg) -> &'static str
+    ensures word { result.now ≡ leg_word leg }
+    ensures short { length result.now ≤ 5 }
+{
+    match leg {
+        Leg::Up => "up",
+        Leg::Down => "down",
+        Leg::Noise => "noise",
     }
 }
 
@@ -84,6 +123,20 @@ impl<T: Drop> From<AllocFailed<T>> for CliFault {
 
     fn from(_error: AllocFailed<T>) -> CliFault {
         CliFault::Memory
+    }
+}
+
+impl From<LineFault> for CliFault {
+    ghost use Rattle.hart_cli.specs.FaultText.{call_fault};
+
+    ghost from_gives = { λ fault e. e ≡ call_fault fault };
+
+    /// Want of memory is told as such, whatever it was refused to.
+    fn from(fault: LineFault) -> CliFault {
+        match fault {
+            LineFault::Memory => CliFault::Memory,
+            other => CliFault::Line(other),
+        }
     }
 }
 

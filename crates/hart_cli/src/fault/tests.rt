@@ -1,4 +1,5 @@
 use super::CliFault;
+use hart_line::{Leg, LineFault};
 use std::test::Fail;
 
 /// Each fault and its line.
@@ -11,6 +12,32 @@ const ROWS: &[(CliFault, &str)] = &[
         CliFault::BadHex { place: usize::MAX },
         "bad hex at 18446744073709551615\n",
     ),
+    (
+        CliFault::Line(LineFault::Undetected {
+            event: usize::MAX,
+            leg: Leg::Noise,
+        }),
+        "undetected damage at event 18446744073709551615, noise\n",
+    ),
+    (
+        CliFault::Line(LineFault::Undetected {
+            event: 0,
+            leg: Leg::Up,
+        }),
+        "undetected damage at event 0, up\n",
+    ),
+    (
+        CliFault::Line(LineFault::Undetected {
+            event: 7,
+            leg: Leg::Down,
+        }),
+        "undetected damage at event 7, down\n",
+    ),
+    (
+        CliFault::Line(LineFault::BadLine { number: usize::MAX }),
+        "bad line 18446744073709551615\n",
+    ),
+    (CliFault::Line(LineFault::Memory), "out of memory\n"),
     (CliFault::Memory, "out of memory\n"),
     (CliFault::BadWord { number: 1 }, "bad word 1\n"),
     (CliFault::BadWord { number: u8::MAX }, "bad word 255\n"),
