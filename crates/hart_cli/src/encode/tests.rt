@@ -112,7 +112,7 @@ fn requests_are_written(rt: HostRuntime) {
 }
 
 #[test]
-fn the_longest_data_are_written(rt: HostRuntime) -> Result<(), Fail> {
+fn data_have_255_bytes_at_most(rt: HostRuntime) -> Result<(), Fail> {
     let alloc = rt.alloc();
     let payload = "00".repeat(alloc, 255)?;
     let words = ["P", "4000000000", "0", payload.as_str()];
@@ -122,6 +122,10 @@ fn the_longest_data_are_written(rt: HostRuntime) -> Result<(), Fail> {
     let zeros = "00 ".repeat(alloc, 255)?;
     let line = format!(in alloc; "{preamble}82 80 00 00 00 00 00 FF {zeros}FD\n")?;
     assert_eq!(rt; writer.taken(), line.as_bytes());
+    let longer = "7F".repeat(alloc, 256)?;
+    let (result, writer) = encoded(alloc, ["P", "all", "0", longer.as_str()], 5, 1000);
+    assert_eq!(rt; result, Err(CliFault::BadWord { number: 4 }));
+    assert!(rt; writer.taken().is_empty());
     Ok(())
 }
 
@@ -134,15 +138,6 @@ fn the_first_bad_word_is_told(rt: HostRuntime) {
         assert!(rt; writer.taken().is_empty());
         assert_eq!(rt; writer.failures(), 0);
     }
-}
-
-#[test]
-fn longer_data_are_a_bad_word(rt: HostRuntime) -> Result<(), Fail> {
-    let payload = "7F".repeat(rt.alloc(), 256)?;
-    let (result, writer) = encoded(rt.alloc(), ["P", "all", "0", payload.as_str()], 5, 1000);
-    assert_eq!(rt; result, Err(CliFault::BadWord { number: 4 }));
-    assert!(rt; writer.taken().is_empty());
-    Ok(())
 }
 
 #[test]

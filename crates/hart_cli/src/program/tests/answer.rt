@@ -96,27 +96,18 @@ const REQUEST: &str = "FF FF FF FF FF 82 B7 42 0A 1B 2C ";
 const REPLY: &str = "FF FF FF FF FF 86 B7 42 0A 1B 2C ";
 
 #[test]
-fn every_command_is_answered_at_the_own_address(rt: HostRuntime) -> Result<(), Fail> {
+fn every_command_is_answered_where_it_comes_alone(rt: HostRuntime) -> Result<(), Fail> {
+    let mut all = String::new(rt.alloc());
     for (asked, told) in OWN_ROWS {
-        let input = format!(in rt.alloc(); "{REQUEST}{asked}")?;
+        let input = format!(in rt.alloc(); "{REQUEST}{asked}\n")?;
+        all.push_str(input.as_str())?;
         let want = format!(in rt.alloc(); "{REPLY}{told}\n")?;
         let run = run_on(rt.alloc(), &["answer"], input.as_str())?;
         assert_eq!(rt; run.status, DONE, "on {asked}");
         assert_eq!(rt; run.output.taken(), want.as_bytes(), "on {asked}");
         assert!(rt; run.errors.taken().is_empty(), "on {asked}");
     }
-    Ok(())
-}
-
-#[test]
-fn several_requests_in_one_delivery_are_met_with_silence(rt: HostRuntime) -> Result<(), Fail> {
-    let mut input = String::new(rt.alloc());
-    for (asked, _told) in OWN_ROWS {
-        input.push_str(REQUEST)?;
-        input.push_str(asked)?;
-        input.push_str("\n")?;
-    }
-    let run = run_on(rt.alloc(), &["answer"], input.as_str())?;
+    let run = run_on(rt.alloc(), &["answer"], all.as_str())?;
     assert_eq!(rt; run.status, DONE);
     assert!(rt; run.output.taken().is_empty() && run.errors.taken().is_empty());
     Ok(())

@@ -8,44 +8,57 @@ const FALSE_START: &str = "FF FF 82 B7 42 0A 1B 2C 13 FF FF FF FF FF FF 02 80 00
 
 const FIRST_LINE: &str = "2 7 STX P 0 @0 - 0 -\n";
 
-/// What was heard, and its lines.
-const ROWS: &[(&str, &str)] = &[
-    ("", ""),
-    ("02 80 00 00 82", ""),
-    ("FF FF 02 80 00 00 82", FIRST_LINE),
+/// What was heard, its lines, and the line of its fault, if it has one.
+const ROWS: &[(&str, &str, &str)] = &[
+    ("", "", ""),
+    ("02 80 00 00 82", "", ""),
+    ("FF FF 02 80 00 00 82", FIRST_LINE, ""),
     (
         "FF FF 02 80 00 00 82 FF FF 02 00 00 00 02",
         "2 7 STX P 0 @0 - 0 -\n9 14 STX S 0 @0 - 0 -\n",
+        "",
     ),
     (
         "FF FF 02 80 7D 00 FF FF 02 00 00 00 02",
         "2 7 STX P 0 @0 - 125 -\n",
+        "",
     ),
-    ("FF FF!40 02 80 00 00 82", ""),
-    ("FF!40 FF FF 02 80 00 00 82", "3 8 STX P 0 @0 - 0 -\n"),
-    (FALSE_START, "15 20 STX P 0 @0 - 0 -\n"),
+    ("FF FF!40 02 80 00 00 82", "", ""),
+    ("FF!40 FF FF 02 80 00 00 82", "3 8 STX P 0 @0 - 0 -\n", ""),
+    (FALSE_START, "15 20 STX P 0 @0 - 0 -\n", ""),
     (
         "FF FF 82 B7 42 0A 1B 2C 13 03 01 23 45 3D",
         "2 14 STX P 0 37420A1B2C - 19 012345\n",
+        "",
     ),
     (
         "FF FF 86 77 42 0A 1B 2C 13 05 00 40 01 23 45 BF",
         "2 16 ACK S 1 37420A1B2C - 19 0040012345\n",
+        "",
     ),
     (
         "FF FF E2 80 00 00 00 00 AA BB CC 0B 01 FF 4A",
         "2 15 STX P 0 all AABBCC 11 FF\n",
+        "",
     ),
-    ("FF FF 22 BF 55 00 00 C8", "2 8 STX P 0 @63 55 0 -\n"),
+    ("FF FF 22 BF 55 00 00 C8", "2 8 STX P 0 @63 55 0 -\n", ""),
+    ("FF FF 02 80 00 00 82 8", FIRST_LINE, "bad hex at 21\n"),
+    ("FF FF 02 80 00 00 82!08", "", "bad hex at 18\n"),
+    (
+        "FFFF0280000082 G FFFF0200000002",
+        FIRST_LINE,
+        "bad hex at 15\n",
+    ),
 ];
 
 #[test]
 fn frames_in_noise_have_a_line_each(rt: HostRuntime) -> Result<(), Fail> {
-    for (input, want) in ROWS {
+    for (input, want, fault) in ROWS {
         let run = run_on(rt.alloc(), &["dump"], input)?;
-        assert_eq!(rt; run.status, DONE, "on {input}");
+        let status = if fault.is_empty() { DONE } else { FAULT };
+        assert_eq!(rt; run.status, status, "on {input}");
         assert_eq!(rt; run.output.taken(), want.as_bytes(), "on {input}");
-        assert!(rt; run.errors.taken().is_empty(), "on {input}");
+        assert_eq!(rt; run.errors.taken(), fault.as_bytes(), "on {input}");
     }
     Ok(())
 }
@@ -57,27 +70,5 @@ fn a_frame_is_found_within_one_that_fails(rt: HostRuntime) -> Result<(), Fail> {
     let run = run_on(rt.alloc(), &["dump"], input.as_str())?;
     assert_eq!(rt; run.status, DONE);
     assert_eq!(rt; run.output.taken(), b"15 20 STX P 0 @0 - 0 -\n".as_slice());
-    Ok(())
-}
-
-/// What was heard before bad hex, its lines, and the line of the fault.
-const BAD_HEX: &[(&str, &str, &str)] = &[
-    ("FF FF 02 80 00 00 82 8", FIRST_LINE, "bad hex at 21\n"),
-    ("FF FF 02 80 00 00 82!08", "", "bad hex at 18\n"),
-    (
-        "FFFF0280000082 G FFFF0200000002",
-        FIRST_LINE,
-        "bad hex at 15\n",
-    ),
-];
-
-#[test]
-fn frames_before_bad_hex_are_written(rt: HostRuntime) -> Result<(), Fail> {
-    for (input, want, fault) in BAD_HEX {
-        let run = run_on(rt.alloc(), &["dump"], input)?;
-        assert_eq!(rt; run.status, FAULT, "on {input}");
-        assert_eq!(rt; run.output.taken(), want.as_bytes(), "on {input}");
-        assert_eq!(rt; run.errors.taken(), fault.as_bytes(), "on {input}");
-    }
     Ok(())
 }
