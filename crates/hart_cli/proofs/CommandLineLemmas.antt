@@ -6,7 +6,7 @@ use Rattle.std.specs.Str.Parse.{digits_value, without_leading_plus}
 use Rattle.std.specs.Box.{box_value}
 use Rattle.std.specs.Option.{option_map_or}
 use Rattle.std.proofs.lemmas.Slice.Eq.{bytes_eq-Decides}
-use Rattle.clap.specs.Words.{App, HasMatchesOf, Kinds, Row, Text, app_of, built, fault_of, is_simple, is_simple_and_free}
+use Rattle.clap.specs.Words.{App, HasKind, HasMatchesOf, Kinds, Row, Text, app_of, built, fault_of, is_simple, is_simple_and_free}
 use Rattle.clap.specs.Words.{subcommand_name_of, subcommand_of, subcommand_rows, subcommand_rows_of}
 use Rattle.clap.specs.Kinds.{check_kinds, or_else}
 use Rattle.clap.specs.Faults.{built_fault, check_fault, level_fault, defaults_fault, entered_fault, other_fault, settle_fault, step_fault}
@@ -18,11 +18,12 @@ use Rattle.clap.specs.Lexer.{long_of}
 use Rattle.clap.specs.Walk.{finished, nothing_held, settled, rows_after, stop_after, walk, walk_from}
 use Rattle.clap.specs.Simple.{Shape, entered, names_of, rows_at}
 use Rattle.clap.specs.declared.builder.command.Command.{Command}
+use Rattle.clap.specs.declared.error.Error.{Error}
 use Rattle.clap.specs.declared.parser.matches.ArgMatches.{ArgMatches}
 use Rattle.clap.specs.declared.parser.matches.ArgMatches.TheViews.{out-ArgMatches, out-SubCommand}
 use Rattle.clap.proofs.OnLiterals.{clap_on_literals}
 use Rattle.hart_cli.specs.CommandLine.{Call, Calls, GivesValues, HasWords, hart_app, name_of}
-use Rattle.hart_cli.specs.CommandLine.{Answer, Dump, Encode}
+use Rattle.hart_cli.specs.CommandLine.{Answer, Dump, Encode, Sim}
 use Rattle.hart_cli.specs.Encode.{MessageWords}
 use Rattle.hart_cli.proofs.FaultlessRowLemmas.{first_empty, second_empty}
 use Rattle.hart_cli.proofs.EncodeRowLemmas.{encode_has_words, encode_shape}
@@ -156,19 +157,21 @@ no_fault_enters a words enabled wanted faultless =
       first_empty below (or_else settling (or_else filling checking)) past_walk,
     )
 
--- the one of four commands whose test holds, as `find` chooses it
-abbrev chosen : Bool → Bool → Bool → Bool → List Shape → Option Shape
-chosen is_first is_second is_third is_fourth (s ∷ t ∷ u ∷ v ∷ rest) =
+-- the one of five commands whose test holds, as `find` chooses it
+abbrev chosen : Bool → Bool → Bool → Bool → Bool → List Shape → Option Shape
+chosen is_first is_second is_third is_fourth is_fifth (s ∷ t ∷ u ∷ v ∷ w ∷ rest) =
     cond (is_first || false) (Some s)
-    (cond (is_second || false) (Some t) (cond (is_third || false) (Some u) (cond (is_fourth || false) (Some v) None)))
-chosen is_first is_second is_third is_fourth _ = None
+    (cond (is_second || false) (Some t)
+    (cond (is_third || false) (Some u) (cond (is_fourth || false) (Some v) (cond (is_fifth || false) (Some w) None))))
+chosen is_first is_second is_third is_fourth is_fifth _ = None
 
--- the command entered is one of three, and that of `encode` has its words
+-- the command entered is one of four, and that of `encode` has its words
 abbrev pub Enters : Option (Text × List Row) → Type 0
 Enters met =
     ((rows : List Row) × (met ≡ Some (codes "answer", rows)))
     ⊎ (((rows : List Row) × (met ≡ Some (codes "dump", rows)))
-    ⊎ ((rows : List Row) × (met ≡ Some (codes "encode", rows)) × HasWords rows))
+    ⊎ (((rows : List Row) × (met ≡ Some (codes "sim", rows)))
+    ⊎ ((rows : List Row) × (met ≡ Some (codes "encode", rows)) × HasWords rows)))
 
 -- a walk that did not stop at `help` enters one of the others
 call_entered : (stop : Option (Text × List Text)) → NotHelp stop → is_some (entered (built hart_app) stop) ≡ true
@@ -176,21 +179,24 @@ call_entered : (stop : Option (Text × List Text)) → NotHelp stop → is_some 
     → Enters (entered (built hart_app) stop)
 call_entered None other some none = cc
 call_entered (Some p) other some none =
-    by_name (bytes_eq (codes "answer") p.0) (bytes_eq (codes "dump") p.0) (bytes_eq (codes "encode") p.0) (bytes_eq (codes "help") p.0)
+    by_name (bytes_eq (codes "answer") p.0) (bytes_eq (codes "dump") p.0) (bytes_eq (codes "sim") p.0) (bytes_eq (codes "encode") p.0)
+    (bytes_eq (codes "help") p.0)
     (λ is. other (sym ((bytes_eq-Decides (codes "help") p.0).0 is))) some none
   where
-    found : Bool → Bool → Bool → Bool → Option Shape
-    found is_answer is_dump is_encode is_help = chosen is_answer is_dump is_encode is_help (built hart_app).subs
+    found : Bool → Bool → Bool → Bool → Bool → Option Shape
+    found is_answer is_dump is_sim is_encode is_help = chosen is_answer is_dump is_sim is_encode is_help (built hart_app).subs
 
-    by_name : (is_answer is_dump is_encode is_help : Bool) → is_help ≢ true
-        → is_some (option_map (λ s. rows_at s p.1) (found is_answer is_dump is_encode is_help)) ≡ true
-        → option_map_or (λ s. level_fault s [] nothing_held p.1 false []) (found is_answer is_dump is_encode is_help) [] ≡ []
-        → Enters (option_map (λ s. rows_at s p.1) (found is_answer is_dump is_encode is_help))
-    by_name true is_dump is_encode is_help other some none = inl (_, refl)
-    by_name false true is_encode is_help other some none = inr (inl (_, refl))
-    by_name false false true is_help other some none = inr (inr (rows_after encode_shape.rules [] p.1, refl, encode_has_words p.1 none))
-    by_name false false false true other some none = absurd (other refl)
-    by_name false false false false other some none = cc
+    by_name : (is_answer is_dump is_sim is_encode is_help : Bool) → is_help ≢ true
+        → is_some (option_map (λ s. rows_at s p.1) (found is_answer is_dump is_sim is_encode is_help)) ≡ true
+        → option_map_or (λ s. level_fault s [] nothing_held p.1 false []) (found is_answer is_dump is_sim is_encode is_help) [] ≡ []
+        → Enters (option_map (λ s. rows_at s p.1) (found is_answer is_dump is_sim is_encode is_help))
+    by_name true is_dump is_sim is_encode is_help other some none = inl (_, refl)
+    by_name false true is_sim is_encode is_help other some none = inr (inl (_, refl))
+    by_name false false true is_encode is_help other some none = inr (inr (inl (_, refl)))
+    by_name false false false true is_help other some none =
+        inr (inr (inr (rows_after encode_shape.rules [] p.1, refl, encode_has_words p.1 none)))
+    by_name false false false false true other some none = absurd (other refl)
+    by_name false false false false false other some none = cc
 
 -- the name in the matches is that of the subcommand entered
 subcommand_name-rows : (m : ArgMatches) → option_map (λ met. met.0) (subcommand_rows_of m) ≡ subcommand_name_of m
@@ -216,6 +222,13 @@ meets_call command words m is_hart faultless matches =
       same = (matches (ap is_simple is_hart)).1 ∙ ap (λ a. subcommand_of a words) is_hart;
       enters = call_entered _ enters.0 enters.1 enters.2;
     }
+
+-- what the error of the command `hart` is
+pub tells_fault : (command : Command) (words : List Text) (error : Error) → app_of command ≡ hart_app
+    → (is_simple_and_free (app_of command) ≡ true → HasKind (fault_of (app_of command) words) error)
+    → HasKind (fault_of hart_app words) error
+tells_fault command words error is_hart kinds =
+    subst (λ (a : App). HasKind (fault_of a words) error) is_hart (kinds (ap is_simple_and_free is_hart))
 
 -- the name and the rows of a subcommand, from each alone
 joined : (met : Option (Text × List Row)) (name : Text) (rows : List Row) → Some name ≡ option_map (λ p. p.0) met
@@ -244,7 +257,7 @@ met_nothing words m meets none =
     nothing (subcommand_of hart_app words) meets.enters (ap (option_map (λ p. p.0)) (sym meets.same) ∙ subcommand_name-rows m ∙ sym none)
   where
     nothing : (met : Option (Text × List Row)) → Enters met → option_map (λ p. p.0) met ≡ None → ⊥
-    nothing None enters named = elim enters [ inl e ↦ cc | inr (inl e) ↦ cc | inr (inr e) ↦ cc ]
+    nothing None enters named = elim enters [ inl e ↦ cc | inr (inl e) ↦ cc | inr (inr (inl e)) ↦ cc | inr (inr (inr e)) ↦ cc ]
     nothing (Some p) enters named = cc
 
 same_name : (a b : Text) (rows others : List Row) (met : Option (Text × List Row)) → met ≡ Some (a, rows) → met ≡ Some (b, others) → a ≡ b
@@ -265,29 +278,38 @@ pub encode_entered : (met : Option (Text × List Row)) (name : Text) (rows : Lis
 encode_entered met name rows enters is named = elim enters [
   | inl e ↦ absurd (differ (codes "answer") (codes "encode") refl (same_name _ _ _ _ met e.1 is ∙ named))
   | inr (inl e) ↦ absurd (differ (codes "dump") (codes "encode") refl (same_name _ _ _ _ met e.1 is ∙ named))
-  | inr (inr e) ↦ subst HasWords (same_rows _ _ _ _ met e.1 is) e.2
+  | inr (inr (inl e)) ↦ absurd (differ (codes "sim") (codes "encode") refl (same_name _ _ _ _ met e.1 is ∙ named))
+  | inr (inr (inr e)) ↦ subst HasWords (same_rows _ _ _ _ met e.1 is) e.2
 ]
 
 -- there is no other subcommand
 pub no_other_entered : (met : Option (Text × List Row)) (name : Text) (rows : List Row) → Enters met → met ≡ Some (name, rows)
     → name ≢ codes "answer"
-    → name ≢ codes "dump" → name ≢ codes "encode" → ⊥
-no_other_entered met name rows enters is no_answer no_dump no_encode = elim enters [
+    → name ≢ codes "dump" → name ≢ codes "sim" → name ≢ codes "encode" → ⊥
+no_other_entered met name rows enters is no_answer no_dump no_sim no_encode = elim enters [
   | inl e ↦ no_answer (sym (same_name _ _ _ _ met e.1 is))
   | inr (inl e) ↦ no_dump (sym (same_name _ _ _ _ met e.1 is))
-  | inr (inr e) ↦ no_encode (sym (same_name _ _ _ _ met e.1 is))
+  | inr (inr (inl e)) ↦ no_sim (sym (same_name _ _ _ _ met e.1 is))
+  | inr (inr (inr e)) ↦ no_encode (sym (same_name _ _ _ _ met e.1 is))
 ]
 
 -- the matches give one call
 same_call : (a b : Call) (rows : List Row) → name_of a ≡ name_of b → GivesValues a rows → GivesValues b rows → a ≡ b
 same_call Answer Answer rows names one other = refl
 same_call Answer Dump rows names one other = absurd (differ (codes "answer") (codes "dump") refl names)
+same_call Answer Sim rows names one other = absurd (differ (codes "answer") (codes "sim") refl names)
 same_call Answer (Encode words preambles) rows names one other = absurd (differ (codes "answer") (codes "encode") refl names)
 same_call Dump Answer rows names one other = absurd (differ (codes "dump") (codes "answer") refl names)
 same_call Dump Dump rows names one other = refl
+same_call Dump Sim rows names one other = absurd (differ (codes "dump") (codes "sim") refl names)
 same_call Dump (Encode words preambles) rows names one other = absurd (differ (codes "dump") (codes "encode") refl names)
+same_call Sim Answer rows names one other = absurd (differ (codes "sim") (codes "answer") refl names)
+same_call Sim Dump rows names one other = absurd (differ (codes "sim") (codes "dump") refl names)
+same_call Sim Sim rows names one other = refl
+same_call Sim (Encode words preambles) rows names one other = absurd (differ (codes "sim") (codes "encode") refl names)
 same_call (Encode words preambles) Answer rows names one other = absurd (differ (codes "encode") (codes "answer") refl names)
 same_call (Encode words preambles) Dump rows names one other = absurd (differ (codes "encode") (codes "dump") refl names)
+same_call (Encode words preambles) Sim rows names one other = absurd (differ (codes "encode") (codes "sim") refl names)
 same_call (Encode words preambles) (Encode others number) rows names one other =
     ap₂ Encode (ap₂ (λ (p q : Text × Text). record { who = p.0; address = p.1; command = q.0; payload = q.1 })
     (ap₂ (λ (x y : Text). (x, y)) (same_text words.who others.who one.who other.who)
@@ -305,7 +327,7 @@ words_make_one_call a b words one other =
     same_call a b one.rows (same_name _ _ _ _ _ one.named other.named) one.values
     (subst (GivesValues b) (same_rows _ _ _ _ _ other.named one.named) other.values)
 
--- the words `answer` and `dump` alone are calls of these
+-- the words `answer`, `dump` and `sim` alone are calls of these
 pub answer_alone : Calls Answer (codes "answer" ∷ [])
 unfolding clap_on_literals
 answer_alone = record { no_fault = refl; rows = []; named = refl; values = tt }
@@ -313,6 +335,10 @@ answer_alone = record { no_fault = refl; rows = []; named = refl; values = tt }
 pub dump_alone : Calls Dump (codes "dump" ∷ [])
 unfolding clap_on_literals
 dump_alone = record { no_fault = refl; rows = []; named = refl; values = tt }
+
+pub sim_alone : Calls Sim (codes "sim" ∷ [])
+unfolding clap_on_literals
+sim_alone = record { no_fault = refl; rows = []; named = refl; values = tt }
 
 -- and the words of `encode`, without and with a number of preamble bytes
 abbrev identify : MessageWords

@@ -122,12 +122,12 @@ help_keeps_use again values rows none all =
     cc
 
 -- the subcommand `encode` of the built command
-abbrev third : List Shape → Shape
-third (a ∷ b ∷ c ∷ rest) = c
-third _ = new_shape []
+abbrev fourth : List Shape → Shape
+fourth (a ∷ b ∷ c ∷ d ∷ rest) = d
+fourth _ = new_shape []
 
 abbrev pub encode_shape : Shape
-encode_shape = third (built hart_app).subs
+encode_shape = fourth (built hart_app).subs
 
 abbrev who_rule : Rule
 who_rule = word_at true (codes "WHO") 1

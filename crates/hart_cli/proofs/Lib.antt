@@ -10,3 +10,4 @@ mod ItemsLemmas
 mod KnownBytesLemmas
 mod LineLemmas
 mod MessageLineLemmas
+mod SimLemmas

@@ -30,8 +30,8 @@ encode_app =
     let payload = with_rule command (new_rule (codes "DATA")) in
     with_rule payload preambles_rule
 
--- The command `hart` takes words without the program's name, has a version, wants one of its three subcommands named, and
--- helps where there is no word at all; `answer` and `dump` take no words.
+-- The command `hart` takes words without the program's name, has a version, wants one of its four subcommands named, and
+-- helps where there is no word at all; `answer`, `dump` and `sim` take no words.
 abbrev pub hart_app : App
 hart_app =
     let plain = new_app (codes "hart") in
@@ -43,18 +43,21 @@ hart_app =
     } in
     let answer = with_subcommand (record plain { top = top }) (new_app (codes "answer")).top in
     let dump = with_subcommand answer (new_app (codes "dump")).top in
-    with_subcommand dump encode_app.top
+    let sim = with_subcommand dump (new_app (codes "sim")).top in
+    with_subcommand sim encode_app.top
 
--- The program has three calls, of which that of `encode` has the words of a message and the number of preamble bytes.
+-- The program has four calls, of which that of `encode` has the words of a message and the number of preamble bytes.
 pub data Call : Type 0 where
   Answer : Call
   Dump : Call
+  Sim : Call
   Encode : (words : MessageWords) → (preambles : ℕ) → Call
 
 -- Each call has a subcommand of its own.
 abbrev pub name_of : Call → Text
 name_of Answer = codes "answer"
 name_of Dump = codes "dump"
+name_of Sim = codes "sim"
 name_of (Encode words preambles) = codes "encode"
 
 -- The matches of `encode` have these words, an absent DATA being empty, and this number of preamble bytes: from 5 to 20, in
@@ -70,10 +73,11 @@ pub record GivesWords (rows : List Row) (words : MessageWords) (preambles : ℕ)
   pub value : preambles ≡ digits_value 10 (without_leading_plus number)
   pub count : IsPreambleCount preambles
 
--- The matches of a call's subcommand have what the call has; those of `answer` and `dump` have nothing for it.
+-- The matches of a call's subcommand have what the call has; those of `answer`, `dump` and `sim` have nothing for it.
 abbrev pub GivesValues : Call → List Row → Type 0
 GivesValues Answer rows = Unit {0}
 GivesValues Dump rows = Unit {0}
+GivesValues Sim rows = Unit {0}
 GivesValues (Encode words preambles) rows = GivesWords rows words preambles
 
 -- The words make a call where clap finds no fault in them, and they name its subcommand, whose matches have what it has.
@@ -89,6 +93,7 @@ pub record Calls (call : Call) (words : List Text) : Type 0 where
 abbrev pub call_of : RequestedCall → Call
 call_of requested.Answer = Answer
 call_of requested.Dump = Dump
+call_of requested.Sim = Sim
 call_of (requested.Encode w) =
     Encode (record { who = w.who.now; address = w.address.now; command = w.command.now; payload = w.payload.now }) w.preambles
 

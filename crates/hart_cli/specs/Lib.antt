@@ -10,6 +10,9 @@ pub mod Line
 pub mod DumpText
 pub mod Dump
 pub mod Encode
+pub mod Image
+pub mod SimText
+pub mod Sim
 pub mod FaultText
 pub mod CommandLine
 pub mod Program

@@ -2,10 +2,11 @@
 use Rattle.std.specs.Prelude.{◌≡◌, ℕ, IfErr, List, Result, Ok, Err}
 use Rattle.clap.specs.Words.{Text}
 use Rattle.hart_cli.specs.Answer.{AnswerOutcome}
-use Rattle.hart_cli.specs.CommandLine.{Answer, Call, Calls, Dump, Encode}
+use Rattle.hart_cli.specs.CommandLine.{Answer, Call, Calls, Dump, Encode, Sim}
 use Rattle.hart_cli.specs.Dump.{DumpOutcome}
 use Rattle.hart_cli.specs.Encode.{EncodeOutcome}
 use Rattle.hart_cli.specs.FaultText.{fault_line}
+use Rattle.hart_cli.specs.Sim.{SimOutcome}
 use Rattle.hart_cli.specs.Stream.{Stream, WritesUnlessFailed}
 use Rattle.hart_cli.specs.declared.fault.CliFault.{CliFault}
 
@@ -15,6 +16,8 @@ CallOutcome Answer reader reader_after writer writer_after result =
     AnswerOutcome reader reader_after writer writer_after result
 CallOutcome Dump reader reader_after writer writer_after result =
     DumpOutcome reader reader_after writer writer_after result
+CallOutcome Sim reader reader_after writer writer_after result =
+    SimOutcome reader reader_after writer writer_after result
 CallOutcome (Encode words preambles) reader reader_after writer writer_after result =
     (reader_after ≡ reader) × EncodeOutcome words preambles writer writer_after result
 

@@ -11,12 +11,12 @@ pub type HexLine = ByteList<861>;
 
 /// Adds the bytes in upper case hex, two digits for each.
 pub fn push_hex<const N: usize>(line: &mut ByteList<N>, bytes: &[u8])
-    requires few { length bytes.now ≤ 255 }
+    requires few { length bytes.now ≤ 267 }
     requires room { length line.old + 2 * length bytes.now ≤ N }
     ensures hex { line.new ≡ line.old ++ encode_upper bytes.now }
     ensures len { length line.new ≡ length line.old + 2 * length bytes.now }
 {
-    let mut room = [0; 510];
+    let mut room = [0; 534];
     let digits = &mut room[..2 * bytes.len()];
     hex::encode_to_slice(bytes, digits).unwrap();
     digits.make_ascii_uppercase();

@@ -10,12 +10,15 @@ mod dump_text;
 mod encode;
 mod fault;
 mod hex_text;
+mod image;
 mod input;
 mod items;
 mod line;
 mod output;
 mod plain;
 mod program;
+mod sim;
+mod sim_text;
 mod stream;
 
 use crate::plain::Plain;

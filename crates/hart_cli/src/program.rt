@@ -12,6 +12,7 @@ use crate::dump::dump;
 use crate::encode::encode_text;
 use crate::fault::CliFault;
 use crate::output::write_all;
+use crate::sim::simulate;
 use crate::stream::{Sink, Source};
 use command_line::{EncodeWords, RequestedCall, requested_call};
 use std::alloc::Global;
@@ -29,7 +30,7 @@ pub const NO_CALL: u8 = 2;
 
 /// Makes the call that the words after the program's name ask for, and gives the program's status.
 ///
-/// `answer` and `dump` read from `reader` and write to `writer`; `encode` reads its words alone. The fault of a call goes to
+/// `answer`, `dump` and `sim` read from `reader` and write to `writer`; `encode` reads its words alone. The fault of a call goes to
 /// `errors` as a line. Where clap finds no matches for the words, reader and writer are not touched, and clap's own text, help
 /// among it, goes to `errors`: no clause says which. A failed write to `errors` ends the text there, and the status stays what
 /// it was.
@@ -52,6 +53,7 @@ pub fn program<R: Source, W: Sink, E: Sink>(
     match requested_call(alloc, words) {
         Ok(RequestedCall::Answer) => finish(answer(alloc, reader, writer), errors),
         Ok(RequestedCall::Dump) => finish(dump(alloc, reader, writer), errors),
+        Ok(RequestedCall::Sim) => finish(simulate(alloc, reader, writer), errors),
         Ok(RequestedCall::Encode(words)) => {
             let EncodeWords {
                 who,

@@ -2,7 +2,7 @@
 
 ghost use Rattle.std.specs.Prelude.{◌≡◌, ◌∷◌, [], ℕ, IfErr, IfOk, List, codes, false, map, string_bytes};
 ghost use Rattle.clap.specs.Words.{HasKind, app_of, fault_of, found_of, new_app, rows_of, rule_of};
-ghost use Rattle.hart_cli.specs.CommandLine.{Answer, Call, Calls, Dump, Encode, GivesWords, HasWords};
+ghost use Rattle.hart_cli.specs.CommandLine.{Answer, Call, Calls, Dump, Encode, GivesWords, HasWords, Sim};
 ghost use Rattle.hart_cli.specs.CommandLine.{call_of, encode_app, hart_app, preambles_rule, required_rule};
 ghost use Rattle.hart_cli.specs.Encode.{MessageWords};
 
@@ -13,7 +13,8 @@ use std::alloc::{AllocError, Global};
 /// The version that `hart --version` shows.
 const VERSION: &str = "0.1.0";
 
-const HART_ABOUT: &str = "Find HART messages in what was heard, write one, and answer one";
+const HART_ABOUT: &str =
+    "Find HART messages in what was heard, write one, answer one, and carry out a script of them";
 
 const HART_HELP: &str = "\
 For the input and the output of a command, and an example: hart COMMAND --help
@@ -85,6 +86,62 @@ for one of raw bytes, which are not hex;
 writes
   2 7 STX P 0 @0 - 0 -";
 
+const SIM_ABOUT: &str =
+    "Carry out a script of two masters and a device, given on the standard input";
+
+const SIM_HELP: &str = "\
+Carry out a script on a line with the device on the bench and two masters.
+
+Goes in, on the standard input: a script, a line for each event.
+  submit WHO ADDRESS COMMAND [DATA]  a master takes a request in hand, which it
+                                     sends four times at most
+  turn WHO UP DOWN                   a master sends what it has in hand; the
+                                     device hears UP, and both masters DOWN
+  protect on, protect off            the write protection of the device
+  noise ITEMS                        all three hear these bytes
+WHO is P for the primary master and S for the secondary. ADDRESS is @ and the
+polling address, @0 to @63; or ten hex digits, four of the type of the device
+and six of its id; or all, for every device. DATA are hex. UP and DOWN are ok
+for what was sent, lost for nothing, or the bytes that are heard in its place:
+like ITEMS, two hex digits for each byte and, where it came damaged, ! and two
+hex digits of fault bits (see hart dump --help), with no space between bytes.
+Words have spaces or tabs between them. Empty lines, and lines that begin with
+#, are passed over. The script has at most 1048576 bytes.
+
+Comes out, on the standard output, once the script has come to its end:
+  P, S or D, and two words   each message on the line, in order: who spoke it,
+                             the primary master, the secondary or the device;
+                             how many preamble bytes FF it had; the rest in hex
+  N answered SENDINGS CODE STATUS DATA
+                             submission N, counted from 1, got a reply: after so
+                             many sendings, with this response code and device
+                             status in hex, and these data in hex, or - for none
+  N noreply SENDINGS         it was given up after so many sendings
+  N unfinished SENDINGS      it is still in hand, sent so many times
+  N refused FAULT            the master did not take it: 2, it had another in
+                             hand; 3, the command may not be sent to the address
+  counter N                  the configuration change counter of the device
+  image HEX                  01, and then in hex the polling address, the loop
+                             current mode, message, tag, descriptor, date, final
+                             assembly number, counter, and a byte of flags: 1 and
+                             2, the configuration has changed for the primary and
+                             the secondary master; 4, the device is protected
+
+Where nothing is written, standard error says why: bad line N, counted from 1;
+undetected damage at event N, counted from 0, and up, down or noise, where what
+is heard has another message in it than the one that was sent; input too long;
+read fault.";
+
+const SIM_EXAMPLE: &str = "\
+Example:
+  printf 'submit P 37420A1B2C 19 012345\\nturn P ok ok\\n' | hart sim
+writes
+  P 20 82B7420A1B2C13030123453D
+  D 5 86B7420A1B2C130500400123457F
+  1 answered 1 00 40 012345
+  counter 1
+  image 010001820820820820820820820820820820820820820820820820820820820820820820820820820820820820000000012345000103";
+
 const ENCODE_ABOUT: &str = "Write a request to a device, in hex";
 
 const ENCODE_HELP: &str = "\
@@ -130,6 +187,11 @@ pub fn dump_alone_is_call()
     ensures { Calls Dump (codes "dump" ∷ []) }
 {}
 
+/// The word `sim` alone is a call of `sim`.
+pub fn sim_alone_is_call()
+    ensures { Calls Sim (codes "sim" ∷ []) }
+{}
+
 /// Three words after `encode` are a call of `encode` with no data and 5 preamble bytes.
 pub fn three_words_are_call()
     ensures { Calls
@@ -156,6 +218,8 @@ pub enum RequestedCall<'a> {
     Answer,
     /// `hart dump`.
     Dump,
+    /// `hart sim`.
+    Sim,
     /// `hart encode`.
     Encode(EncodeWords<'a>),
 }
@@ -194,6 +258,7 @@ pub fn requested_call<'a>(
     match name {
         "answer" => Ok(RequestedCall::Answer),
         "dump" => Ok(RequestedCall::Dump),
+        "sim" => Ok(RequestedCall::Sim),
         "encode" => Ok(RequestedCall::Encode(encode_words(given))),
         _ => unreachable!(),
     }
@@ -232,6 +297,7 @@ fn hart_command<'a>(alloc: Global) -> Result<Command<'a>, AllocError>
         .arg_required_else_help(true)
         .subcommand(plain_command(alloc, "answer", ANSWER_ABOUT, ANSWER_HELP, ANSWER_EXAMPLE))?
         .subcommand(plain_command(alloc, "dump", DUMP_ABOUT, DUMP_HELP, DUMP_EXAMPLE))?
+        .subcommand(plain_command(alloc, "sim", SIM_ABOUT, SIM_HELP, SIM_EXAMPLE))?
         .subcommand(encode_command(alloc)?)?;
     // The words do not tell clap the program's name, which the usage of a subcommand shows.
     hart.bin_name("hart")

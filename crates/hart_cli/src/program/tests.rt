@@ -9,13 +9,18 @@ use std::test::Fail;
 mod answer;
 mod dump;
 mod encode;
+mod sim;
 
-/// The words of each call, and what it writes where it reads a request for the identity.
-const CALLS: &[(&[&str], &str)] = &[
-    (&["answer"], answer::REPLY_TO_PRIMARY),
-    (&["dump"], "2 7 STX P 0 @0 - 0 -\n"),
-    (&["encode", "P", "@0", "0"], encode::IDENTIFY),
+/// The words of each call, an input, and what it writes where it reads that.
+const CALLS: &[(&[&str], &str, &str)] = &[
+    (&["answer"], IDENTIFY, answer::REPLY_TO_PRIMARY),
+    (&["dump"], IDENTIFY, "2 7 STX P 0 @0 - 0 -\n"),
+    (&["sim"], "turn P ok ok", sim::AS_IT_WAS),
+    (&["encode", "P", "@0", "0"], "", encode::IDENTIFY),
 ];
+
+/// A request for the identity, as it is heard.
+const IDENTIFY: &str = "FFFF0280000082";
 
 /// What a run of `program` left behind.
 #[derive(Drop)]
@@ -77,6 +82,45 @@ const FAULTS: &[(&[&str], &str, &str)] = &[
     (&["answer"], "FF!40!40", "bad hex at 5\n"),
     (&["answer"], "F F", "bad hex at 0\n"),
     (&["dump"], "\u{e9}", "bad hex at 0\n"),
+    (
+        &["sim"],
+        "submit P @0 0\nturn P ok FFFF06800002000084\n",
+        "undetected damage at event 1, down\n",
+    ),
+    (
+        &["sim"],
+        "submit P 37420A1B2C 19 012345\nturn P FFFF82B7420A1B2C13030123463E ok\n",
+        "undetected damage at event 1, up\n",
+    ),
+    (
+        &["sim"],
+        "# A frame from nowhere\n\nturn P FFFF0280000082 ok",
+        "undetected damage at event 0, up\n",
+    ),
+    (
+        &["sim"],
+        "noise FFFF0280000082",
+        "undetected damage at event 0, noise\n",
+    ),
+    (&["sim"], "submit P 37420A1B2C 6 4001", "bad line 1\n"),
+    (&["sim"], "submit P 37420A1B2C 19 0123", "bad line 1\n"),
+    (&["sim"], "submit P 37420A1B2C 256", "bad line 1\n"),
+    (&["sim"], "submit P @64 0", "bad line 1\n"),
+    (&["sim"], "submit X @0 0", "bad line 1\n"),
+    (&["sim"], "submit P @0", "bad line 1\n"),
+    (&["sim"], "turn P ok", "bad line 1\n"),
+    (&["sim"], "turn P ok ok\r\r", "bad line 1\n"),
+    (&["sim"], "turn P ok ok #", "bad line 1\n"),
+    (&["sim"], "turn P FF FF ok", "bad line 1\n"),
+    (&["sim"], "noise", "bad line 1\n"),
+    (&["sim"], "noise FF!08", "bad line 1\n"),
+    (&["sim"], "noise FF\rFF", "bad line 1\n"),
+    (&["sim"], "noise FF FF", "bad line 1\n"),
+    (&["sim"], "protect", "bad line 1\n"),
+    (&["sim"], "\r#", "bad line 1\n"),
+    (&["sim"], "protect on\nturn X ok ok\n", "bad line 2\n"),
+    (&["sim"], "#\n\nturn P ok ok ok", "bad line 3\n"),
+    (&["sim"], "noise FFFF0280000082\nprotect", "bad line 2\n"),
     (&["encode", "p", "@64", "0"], "", "bad word 1\n"),
     (&["encode", "P", "@64", "0"], "", "bad word 2\n"),
     (&["encode", "P", "@0", "256"], "", "bad word 3\n"),
@@ -102,12 +146,14 @@ const FAILED_READS: &[(&str, usize)] = &[
     ("dump", 0),
     ("dump", 7),
     ("dump", 14),
+    ("sim", 0),
+    ("sim", 14),
 ];
 
 #[test]
 fn a_failed_read_is_told(rt: HostRuntime) -> Result<(), Fail> {
     for (word, read) in FAILED_READS {
-        let reader = Tape::new(b"FFFF0280000082", Some(*read));
+        let reader = Tape::new(IDENTIFY.as_bytes(), Some(*read));
         let run = run_program(rt.alloc(), &[*word], reader, u64::MAX, u64::MAX)?;
         assert_eq!(rt; run.status, FAULT, "{word} at read {read}");
         assert_eq!(rt; run.reads, *read);
@@ -119,8 +165,7 @@ fn a_failed_read_is_told(rt: HostRuntime) -> Result<(), Fail> {
 
 #[test]
 fn nothing_is_read_after_the_end(rt: HostRuntime) -> Result<(), Fail> {
-    let input = "FFFF0280000082";
-    for (words, want) in CALLS {
+    for (words, input, want) in CALLS {
         // The read after the one that finds the end would fail.
         let reader = Tape::new(input.as_bytes(), Some(input.len() + 1));
         let run = run_program(rt.alloc(), words, reader, u64::MAX, u64::MAX)?;
@@ -132,8 +177,8 @@ fn nothing_is_read_after_the_end(rt: HostRuntime) -> Result<(), Fail> {
 
 #[test]
 fn a_failed_write_is_told(rt: HostRuntime) -> Result<(), Fail> {
-    for (words, want) in CALLS {
-        let reader = Tape::new(b"FFFF0280000082", None);
+    for (words, input, want) in CALLS {
+        let reader = Tape::new(input.as_bytes(), None);
         let run = run_program(rt.alloc(), words, reader, 20, u64::MAX)?;
         assert_eq!(rt; run.status, FAULT, "for {want}");
         assert_eq!(rt; run.errors.taken(), b"write fault\n".as_slice());
@@ -145,7 +190,7 @@ fn a_failed_write_is_told(rt: HostRuntime) -> Result<(), Fail> {
 
 #[test]
 fn an_input_without_end_is_too_long(rt: HostRuntime) -> Result<(), Fail> {
-    for word in ["answer", "dump"] {
+    for word in ["answer", "dump", "sim"] {
         let words = arguments(rt.alloc(), &[word])?;
         let mut reader = Drip::new();
         let mut output = Trickle::new(rt.alloc(), u64::MAX);
@@ -167,9 +212,9 @@ fn an_input_without_end_is_too_long(rt: HostRuntime) -> Result<(), Fail> {
 
 #[test]
 fn readers_and_writers_of_the_standard_library_serve(rt: HostRuntime) -> Result<(), Fail> {
-    for (words, want) in CALLS {
+    for (words, input, want) in CALLS {
         let words = arguments(rt.alloc(), words)?;
-        let mut reader = Plain::new(b"FFFF0280000082".as_slice());
+        let mut reader = Plain::new(input.as_bytes());
         let mut output = Plain::new(Vec::new(rt.alloc()));
         let mut errors = Plain::new(Vec::new(rt.alloc()));
         let status = program(
@@ -200,11 +245,14 @@ const NO_CALLS: &[&[&str]] = &[
     &["help", "answer"],
     &["help", "dump"],
     &["help", "encode"],
+    &["help", "sim"],
     &["answer", "--help"],
     &["answer", "extra"],
     &["answer", "dump"],
     &["dump", "--help"],
     &["dump", "extra"],
+    &["sim", "--help"],
+    &["sim", "extra"],
     &["encode", "--help"],
     &["encode", "P", "@0"],
     &["encode", "P", "@0", "0", "00", "extra"],
@@ -219,7 +267,7 @@ const NO_CALLS: &[&[&str]] = &[
 #[test]
 fn words_that_make_no_call_touch_no_stream(rt: HostRuntime) -> Result<(), Fail> {
     for words in NO_CALLS {
-        let run = run_on(rt.alloc(), words, "FFFF0280000082")?;
+        let run = run_on(rt.alloc(), words, IDENTIFY)?;
         assert_eq!(rt; run.status, NO_CALL);
         assert_eq!(rt; run.reads, 0);
         assert!(rt; run.output.taken().is_empty());
@@ -245,6 +293,11 @@ const TEXTS: &[(&[&str], &str, &str)] = &[
         &["dump", "--help"],
         "List the messages in what was heard on a line.\n",
         "  echo \"FF FF 02 80 00 00 82\" | hart dump\nwrites\n  2 7 STX P 0 @0 - 0 -\n",
+    ),
+    (
+        &["sim", "--help"],
+        "Carry out a script on a line with the device on the bench and two masters.\n",
+        "1 answered 1 00 40 012345\n  counter 1\n  image 010001820820820820820820820820820820820820820820820820820820820820820820820820820820820820000000012345000103\n",
     ),
     (
         &["encode", "--help"],

@@ -23,6 +23,8 @@ returns c =
     ∙ ap₂ with_subcommand top (ap (λ (a : App). a.top) c.plain_command.ensures) in
     let two = c.in_ok-subcommand-2.ensures.shape (local _ _ c.plain_command-2.ensures refl)
     ∙ ap₂ with_subcommand one (ap (λ (a : App). a.top) c.plain_command-2.ensures) in
+    let three = c.in_ok-subcommand-3.ensures.shape (local _ _ c.plain_command-3.ensures refl)
+    ∙ ap₂ with_subcommand two (ap (λ (a : App). a.top) c.plain_command-3.ensures) in
     let encode = c.in_ok-encode_command.ensures in
-    let three = c.in_ok-hart.ensures.shape (local _ _ encode refl) ∙ ap₂ with_subcommand two (ap (λ (a : App). a.top) encode) in
-    IfOk-weaker c.bin_name.result _ _ (λ command given. ap app_of_fields given.0 ∙ three) c.bin_name.ensures
+    let four = c.in_ok-hart.ensures.shape (local _ _ encode refl) ∙ ap₂ with_subcommand three (ap (λ (a : App). a.top) encode) in
+    IfOk-weaker c.bin_name.result _ _ (λ command given. ap app_of_fields given.0 ∙ four) c.bin_name.ensures

@@ -1,7 +1,14 @@
 use Rattle.std.proofs.Common.{map, string_bytes}
-use Rattle.hart_cli.specs.CommandLine.{Answer, Dump, Encode}
-use Rattle.hart_cli.proofs.CommandLineLemmas.{call_named, encode_entered, meets_call, met_by_words, no_other_entered}
+use Rattle.std.proofs.lemmas.Result.{err_from_is_err_and}
+use Rattle.hart_cli.specs.CommandLine.{Answer, Dump, Encode, Sim}
+use Rattle.hart_cli.proofs.CommandLineLemmas.{call_named, encode_entered, meets_call, met_by_words, no_other_entered, tells_fault}
 use Rattle.hart_cli.proofs.program.command_line.requested_call.Goals as goal
+
+pub returns-in_err-matches-clause-refused : goal.returns-in_err-matches-clause-refused
+returns-in_err-matches-clause-refused c =
+    let told = err_from_is_err_and c.from_residual-in_err-matches.result c.from_residual-in_err-matches.ensures.1 in
+    rw (told.1, told.2)
+    (tells_fault _ (map string_bytes c.args.words.now) c.in_err-matches.field-0.0 c.in_ok-hart_command.ensures c.in_err-matches.ensures.kinds)
 
 pub returns-in-answer-clause-call : goal.returns-in-answer-clause-call
 returns-in-answer-clause-call c =
@@ -14,6 +21,12 @@ returns-in-dump-clause-call c =
     let matched = c.in_ok-matches.ensures in
     let meets = meets_call _ (map string_bytes c.args.words.now) _ c.in_ok-hart_command.ensures matched.kinds matched.matches in
     call_named _ _ Dump _ _ meets (met_by_words _ _ _ _ meets c.in-Some.ensures.name c.in-Some.ensures.rows) c.in-dump.is tt
+
+pub returns-in-sim-clause-call : goal.returns-in-sim-clause-call
+returns-in-sim-clause-call c =
+    let matched = c.in_ok-matches.ensures in
+    let meets = meets_call _ (map string_bytes c.args.words.now) _ c.in_ok-hart_command.ensures matched.kinds matched.matches in
+    call_named _ _ Sim _ _ meets (met_by_words _ _ _ _ meets c.in-Some.ensures.name c.in-Some.ensures.rows) c.in-sim.is tt
 
 pub encode_words-requires : goal.encode_words-requires
 encode_words-requires c =
@@ -34,4 +47,4 @@ unreachable-requires-in_default-name c =
     let meets = meets_call _ (map string_bytes c.args.words.now) _ c.in_ok-hart_command.ensures matched.kinds matched.matches in
     no_other_entered _ _ _ meets.enters (met_by_words _ _ _ _ meets c.in-Some.ensures.name c.in-Some.ensures.rows)
     c.in_default-name.not-answer
-    c.in_default-name.not-dump c.in_default-name.not-encode
+    c.in_default-name.not-dump c.in_default-name.not-sim c.in_default-name.not-encode

@@ -1,0 +1,96 @@
+-- What `hart sim` writes for what it reads (own profile).
+use Rattle.std.specs.Prelude.{◌≡◌, ℕ, List, Result, Ok, Err}
+use Rattle.hart_device.specs.Bench.{bench_process}
+use Rattle.hart_line.specs.Faults.{IsFault}
+use Rattle.hart_line.specs.Script.{HasFirstBadLine, IsScript}
+use Rattle.hart_line.specs.Spoken.{AreSpoken}
+use Rattle.hart_line.specs.Step.{IsLast}
+use Rattle.hart_line.specs.World.{Start, World, state_of}
+use Rattle.hart_line.specs.declared.event.LineEvent.{LineEvent}
+use Rattle.hart_line.specs.declared.fault.LineFault.{LineFault}
+use Rattle.hart_line.specs.declared.fault.LineFault.TheVariants as line_faults
+use Rattle.hart_line.specs.declared.report.Spoken.{Spoken}
+use Rattle.hart_cli.specs.declared.fault.CliFault.{CliFault}
+use Rattle.hart_cli.specs.declared.fault.CliFault.TheVariants.{BadHex, BadWord, Line, Memory, Read, TooLong, Write}
+use Rattle.hart_cli.specs.declared.input.InputEnd.TheVariants as ends
+use Rattle.hart_cli.specs.Answer.{bench_device}
+use Rattle.hart_cli.specs.Input.{LacksMemory, Reads}
+use Rattle.hart_cli.specs.SimText.{sim_text}
+use Rattle.hart_cli.specs.Stream.{FailsToWrite, Stream, WritesAll, WritesNothing}
+
+-- A script starts with the bench device as it is new, its process values, and two masters that send a request again three times
+-- at most.
+abbrev pub bench_start : Start
+bench_start = record {
+  device = bench_device;
+  process = bench_process;
+  retries = record { primary = 3; secondary = 3 };
+}
+
+-- The text of a world tells the messages that were spoken, what became of each submission, and the device as it is then.
+pub record IsWorldText (start : Start) (world : World) (text : List ℕ) : Type 0 where
+  pub spoken : List Spoken
+  pub are_spoken : AreSpoken world.spoken spoken
+  pub tells : text ≡ sim_text spoken world.outcomes (state_of start.device world)
+
+-- The text for an input is that of the last world of the script that the input is.
+pub record IsSimulation (input text : List ℕ) : Type 0 where
+  pub events : List LineEvent
+  pub script : IsScript input events
+  pub world : World
+  pub last : IsLast bench_start events world
+  pub world_text : IsWorldText bench_start world text
+
+-- A script has this fault where the input is the script, and the fault is that of its events.
+pub record IsScriptWithFault (input : List ℕ) (fault : LineFault) : Type 0 where
+  pub events : List LineEvent
+  pub script : IsScript input events
+  pub is_fault : IsFault bench_start events fault
+
+-- An input has its first bad line where it is no script, and undetected damage where it is a script that has such.
+abbrev pub HasLineFault : List ℕ → LineFault → Type 0
+HasLineFault input (line_faults.BadLine number) = HasFirstBadLine input number
+HasLineFault input (line_faults.Undetected number leg) = IsScriptWithFault input (line_faults.Undetected number leg)
+HasLineFault input line_faults.Memory = ⊥
+
+-- One input was read to its end, and this is the text for it.
+pub record HasSimulation (reader reader_after : Stream) (text : List ℕ) : Type 0 where
+  pub input : List ℕ
+  pub whole : Reads reader reader_after input ends.Ended
+  pub simulation : IsSimulation input text
+
+-- One input was read to its end, and has this fault.
+pub record MeetsLineFault (reader reader_after : Stream) (fault : LineFault) : Type 0 where
+  pub input : List ℕ
+  pub whole : Reads reader reader_after input ends.Ended
+  pub has_fault : HasLineFault input fault
+
+-- A call of `sim` wrote the text for its whole input at `Ok`, a front of it where a write failed, and nothing where it told the
+-- input's fault or where memory was refused.
+abbrev pub SimOutcome : Stream → Stream → Stream → Stream → Result (Unit {0}) CliFault → Type 0
+SimOutcome reader reader_after writer writer_after (Ok done) =
+    (text : List ℕ) × HasSimulation reader reader_after text × WritesAll writer writer_after text
+SimOutcome reader reader_after writer writer_after (Err Write) =
+    (text : List ℕ) × HasSimulation reader reader_after text × FailsToWrite writer writer_after text
+SimOutcome reader reader_after writer writer_after (Err Read) =
+    ((input : List ℕ) × Reads reader reader_after input ends.Failed) × WritesNothing writer writer_after
+SimOutcome reader reader_after writer writer_after (Err TooLong) =
+    ((input : List ℕ) × Reads reader reader_after input ends.TooLong) × WritesNothing writer writer_after
+SimOutcome reader reader_after writer writer_after (Err (Line fault)) =
+    MeetsLineFault reader reader_after fault × WritesNothing writer writer_after
+SimOutcome reader reader_after writer writer_after (Err Memory) =
+    LacksMemory reader reader_after × WritesNothing writer writer_after
+SimOutcome reader reader_after writer writer_after (Err (BadHex place)) = ⊥
+SimOutcome reader reader_after writer writer_after (Err (BadWord number)) = ⊥
+
+-- For private calls alone: what carrying out an input answers.
+
+-- An input that is not carried out has a fault of its lines or its events, or memory is refused.
+abbrev pub IsSimulationFault : List ℕ → CliFault → Type 0
+IsSimulationFault input (Line fault) = HasLineFault input fault
+IsSimulationFault input Memory = Unit {0}
+IsSimulationFault input Read = ⊥
+IsSimulationFault input Write = ⊥
+IsSimulationFault input TooLong = ⊥
+IsSimulationFault input (BadHex place) = ⊥
+IsSimulationFault input (BadWord number) = ⊥

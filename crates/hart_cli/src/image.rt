@@ -1,0 +1,60 @@
+//! The image of a device: the bytes of its registers, its counter and its flags.
+ghost use Rattle.std.specs.Prelude.{◌≡◌, ◌+◌, ◌≤◌, ◌<◌, ◌++◌, length};
+ghost use Rattle.hart_commands.specs.Registers.{bytes_in, size_of};
+ghost use Rattle.hart_cli.specs.Image.{flags_of, image_of};
+
+use hart_commands::Register;
+use hart_device::{Device, RegisterStore};
+use hart_values::{ByteList, MasterId};
+
+/// An image has 54 bytes: its version, 50 of the registers, two of the counter, and the flags.
+pub type Image = ByteList<54>;
+
+/// The version of the images.
+const VERSION: u8 = 1;
+
+/// The image of a device as it is.
+pub fn image_of<S: RegisterStore>(device: &Device<S>) -> Image
+    ensures bytes { result ≡ image_of device.now }
+    ensures len { length result ≡ 54 }
+{
+    let mut image = Image::new();
+    image.push(VERSION);
+    push_register(&mut image, device, Register::Polling);
+    push_register(&mut image, device, Register::Mode);
+    push_register(&mut image, device, Register::Message);
+    push_register(&mut image, device, Register::Tag);
+    push_register(&mut image, device, Register::Descriptor);
+    push_register(&mut image, device, Register::Date);
+    push_register(&mut image, device, Register::Assembly);
+    image.extend_from_slice(&device.counter().to_be_bytes());
+    image.push(flags_of(device));
+    image
+}
+
+/// Adds the bytes of a register.
+fn push_register<S: RegisterStore>(image: &mut Image, device: &Device<S>, register: Register)
+    requires { length image.old + size_of register ≤ 54 }
+    ensures pushed { image.new ≡ image.old ++ bytes_in device.now.contents register }
+    ensures len { length image.new ≡ length image.old + size_of register }
+{
+    image.extend_from_slice(device.registers().get(register));
+}
+
+/// The flags of a device.
+fn flags_of<S: RegisterStore>(device: &Device<S>) -> u8
+    ensures { result ≡ flags_of device.now }
+{
+    let primary = if device.changed(MasterId::Primary) {
+        1
+    } else {
+        0
+    };
+    let secondary = if device.changed(MasterId::Secondary) {
+        2
+    } else {
+        0
+    };
+    let protected = if device.is_protected() { 4 } else { 0 };
+    primary + secondary + protected
+}

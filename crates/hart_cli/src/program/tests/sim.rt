@@ -1,0 +1,150 @@
+//! `hart sim`.
+
+use super::{DONE, run_on};
+use std::test::Fail;
+
+/// What a script without a request leads to.
+pub const AS_IT_WAS: &str = "\
+counter 0\n\
+image 010001820820820820820820820820820820820820820820820820820820820820820820820820820820820820000000000000000000\n";
+
+/// A script, and its text.
+const ROWS: &[(&str, &str)] = &[
+    ("", AS_IT_WAS),
+    ("turn P ok ok", AS_IT_WAS),
+    (" \t\r\n# P\u{e9} #\n\t#\nturn P ok ok\r\n\r", AS_IT_WAS),
+    (
+        "submit P 37420A1B2C 19 012345\nturn P ok ok\n",
+        "\
+P 20 82B7420A1B2C13030123453D\n\
+D 5 86B7420A1B2C130500400123457F\n\
+1 answered 1 00 40 012345\n\
+counter 1\n\
+image 010001820820820820820820820820820820820820820820820820820820820820820820820820820820820820000000012345000103\n",
+    ),
+    (
+        "\
+submit P 37420A1B2C 19 012345\n\
+turn P ok lost\n\
+turn P ok ok\n",
+        "\
+P 20 82B7420A1B2C13030123453D\n\
+D 5 86B7420A1B2C130500400123457F\n\
+P 20 82B7420A1B2C13030123453D\n\
+D 5 86B7420A1B2C130500400123457F\n\
+1 answered 2 00 40 012345\n\
+counter 2\n\
+image 010001820820820820820820820820820820820820820820820820820820820820820820820820820820820820000000012345000203\n",
+    ),
+    (
+        "\
+submit P 37420A1B2C 19 012345\n\
+submit S 37420A1B2C 19 0A0B0C\n\
+turn P ok lost\n\
+turn S ok ok\n\
+turn P ok ok\n",
+        "\
+P 20 82B7420A1B2C13030123453D\n\
+D 5 86B7420A1B2C130500400123457F\n\
+S 20 8237420A1B2C13030A0B0CD7\n\
+D 5 8637420A1B2C130500400A0B0C95\n\
+P 20 82B7420A1B2C13030123453D\n\
+D 5 86B7420A1B2C130500400123457F\n\
+1 answered 2 00 40 012345\n\
+2 answered 1 00 40 0A0B0C\n\
+counter 3\n\
+image 010001820820820820820820820820820820820820820820820820820820820820820820820820820820820820000000012345000303\n",
+    ),
+    (
+        "\
+submit P 37420A1B2C 19 012345\n\
+submit S 37420A1B2C 19 0A0B0C\n\
+turn P ok lost\n\
+turn S ok ok\n\
+protect on\n\
+turn P ok ok\n",
+        "\
+P 20 82B7420A1B2C13030123453D\n\
+D 5 86B7420A1B2C130500400123457F\n\
+S 20 8237420A1B2C13030A0B0CD7\n\
+D 5 8637420A1B2C130500400A0B0C95\n\
+P 20 82B7420A1B2C13030123453D\n\
+D 5 86B7420A1B2C1302074018\n\
+1 answered 2 07 40 -\n\
+2 answered 1 00 40 0A0B0C\n\
+counter 2\n\
+image 0100018208208208208208208208208208208208208208208208208208208208208208208208208208208208200000000A0B0C000207\n",
+    ),
+    (
+        "\
+submit P @0 0\n\
+submit S 37420A1B2C 6 0501\n\
+turn P ok lost\n\
+turn S ok ok\n\
+turn P ok ok\n",
+        "\
+P 20 0280000082\n\
+D 5 068000180000FE37420507010218000A1B2C0504000000003700370131\n\
+S 20 8237420A1B2C06020501CA\n\
+D 5 8637420A1B2C06040040050188\n\
+P 20 0280000082\n\
+1 unfinished 2\n\
+2 answered 1 00 40 0501\n\
+counter 1\n\
+image 010501820820820820820820820820820820820820820820820820820820820820820820820820820820820820000000000000000103\n",
+    ),
+    (
+        "\
+submit P 37420A1B2C 19 012345\n\
+turn P lost ok\n\
+turn P lost ok\n\
+turn P lost ok\n\
+turn P lost ok\n",
+        "\
+P 20 82B7420A1B2C13030123453D\n\
+P 20 82B7420A1B2C13030123453D\n\
+P 20 82B7420A1B2C13030123453D\n\
+P 20 82B7420A1B2C13030123453D\n\
+1 noreply 4\n\
+counter 0\n\
+image 010001820820820820820820820820820820820820820820820820820820820820820820820820820820820820000000000000000000\n",
+    ),
+    (
+        "\
+submit P all 0\n\
+submit S 37420A1B2C 16\n\
+submit S 37420A1B2C 16\n",
+        "\
+1 refused 3\n\
+2 unfinished 0\n\
+3 refused 2\n\
+counter 0\n\
+image 010001820820820820820820820820820820820820820820820820820820820820820820820820820820820820000000000000000000\n",
+    ),
+    (
+        "submit P @0 1",
+        "\
+1 refused 3\n\
+counter 0\n\
+image 010001820820820820820820820820820820820820820820820820820820820820820820820820820820820820000000000000000000\n",
+    ),
+    (
+        "submit\tP  @07 0 \nsubmit S FF420A1B2C 0",
+        "\
+1 unfinished 0\n\
+2 unfinished 0\n\
+counter 0\n\
+image 010001820820820820820820820820820820820820820820820820820820820820820820820820820820820820000000000000000000\n",
+    ),
+];
+
+#[test]
+fn scripts_are_carried_out(rt: HostRuntime) -> Result<(), Fail> {
+    for (script, want) in ROWS {
+        let run = run_on(rt.alloc(), &["sim"], script)?;
+        assert_eq!(rt; run.status, DONE, "on {script}");
+        assert_eq!(rt; run.output.taken(), want.as_bytes(), "on {script}");
+        assert!(rt; run.errors.taken().is_empty(), "on {script}");
+    }
+    Ok(())
+}
