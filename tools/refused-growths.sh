@@ -59,6 +59,28 @@ echo 'FF FF 02 80 00 00 82 FF!40 FF FF 82 B7 42 0A 1B 2C 13 03 01 23 45 3D' >"$w
 printf '%s\n' '2 7 STX P 0 @0 - 0 -' '10 22 STX P 0 37420A1B2C - 19 012345' >"$work/wanted"
 refuse_each dump
 
+cat >"$work/input" <<'SCRIPT'
+# The reply is lost, and the request is sent again.
+submit P 37420A1B2C 19 012345
+submit S all 0
+turn P ok lost
+turn P FFFF!40 ok
+noise 00
+turn P ok ok
+SCRIPT
+cat >"$work/wanted" <<'TEXT'
+P 20 82B7420A1B2C13030123453D
+D 5 86B7420A1B2C130500400123457F
+P 20 82B7420A1B2C13030123453D
+P 20 82B7420A1B2C13030123453D
+D 5 86B7420A1B2C130500400123457F
+1 answered 3 00 40 012345
+2 refused 3
+counter 2
+image 010001820820820820820820820820820820820820820820820820820820820820820820820820820820820820000000012345000203
+TEXT
+refuse_each sim
+
 : >"$work/input"
 echo 'FF FF FF FF FF 82 B7 42 0A 1B 2C 13 03 01 23 45 3D' >"$work/wanted"
 refuse_each encode P 37420A1B2C 19 012345

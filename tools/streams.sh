@@ -39,8 +39,10 @@ ends_with() {
 
 ends_with 1 'write fault' /dev/full dump <"$request"
 ends_with 1 'write fault' /dev/full answer <"$request"
+ends_with 1 'write fault' /dev/full sim </dev/null
 ends_with 1 'write fault' /dev/full encode P @0 0 </dev/null
 ends_with 1 'read fault' "$work/output" dump <"$work"
 ends_with 1 'read fault' "$work/output" answer <"$work"
+ends_with 1 'read fault' "$work/output" sim <"$work"
 ends_with 2 'error: *' "$work/output" "$(printf '\377')" <"$request"
 ends_with 2 'error: *' "$work/output" encode P @0 "$(printf '\377')" <"$request"
