@@ -7,13 +7,13 @@ use Rattle.hart_line.specs.declared.fault.LineFault.TheVariants as line_faults
 use Rattle.hart_cli.specs.declared.fault.CliFault.{CliFault}
 use Rattle.hart_cli.specs.declared.fault.CliFault.TheVariants.{Read, Write, TooLong, BadHex, Line, Memory, BadWord}
 
--- The word of a leg.
+-- The word of a leg is `up` from a master to the device, `down` from the device to the masters, and `noise` at noise.
 abbrev pub leg_word : Leg → List ℕ
 leg_word Up = codes "up"
 leg_word Down = codes "down"
 leg_word Noise = codes "noise"
 
--- A fault of a script has this text; the numbers of an event and of a line are in decimal.
+-- A fault of a script has this text; the numbers of an event, counted from 0, and of a line, counted from 1, are in decimal.
 abbrev pub line_fault_text : LineFault → List ℕ
 line_fault_text (line_faults.Undetected event leg) =
     codes "undetected damage at event " ++ decimal event ++ codes ", " ++ leg_word leg
@@ -34,7 +34,8 @@ fault_text (BadWord number) = codes "bad word " ++ decimal number
 abbrev pub fault_line : CliFault → List ℕ
 fault_line fault = fault_text fault ++ 10 ∷ []
 
--- A call that a script's fault ends has this fault: want of memory is told as such.
+-- A script's fault becomes the fault of the call: want of memory stays want of memory, and undetected damage and a bad line are
+-- told as they are.
 abbrev pub call_fault : LineFault → CliFault
 call_fault line_faults.Memory = Memory
 call_fault (line_faults.Undetected event leg) = Line (line_faults.Undetected event leg)

@@ -18,8 +18,8 @@ use Rattle.hart_cli.specs.Input.{LacksMemory, Reads}
 use Rattle.hart_cli.specs.SimText.{sim_text}
 use Rattle.hart_cli.specs.Stream.{FailsToWrite, Stream, WritesAll, WritesNothing}
 
--- A script starts with the bench device as it is new, its process values, and two masters that send a request again three times
--- at most.
+-- A script starts with the new bench device, its process values, and two masters that have nothing in hand and send a request
+-- again three times at most.
 abbrev pub bench_start : Start
 bench_start = record {
   device = bench_device;
@@ -27,13 +27,14 @@ bench_start = record {
   retries = record { primary = 3; secondary = 3 };
 }
 
--- The text of a world tells the messages that were spoken, what became of each submission, and the device as it is then.
+-- The text of a world tells the messages that were spoken, what became of each submission, and the counter and the image of the
+-- device as it is then.
 pub record IsWorldText (start : Start) (world : World) (text : List ℕ) : Type 0 where
   pub spoken : List Spoken
   pub are_spoken : AreSpoken world.spoken spoken
   pub tells : text ≡ sim_text spoken world.outcomes (state_of start.device world)
 
--- The text for an input is that of the last world of the script that the input is.
+-- The text for an input is the text of the last world of its script.
 pub record IsSimulation (input text : List ℕ) : Type 0 where
   pub events : List LineEvent
   pub script : IsScript input events
@@ -41,13 +42,14 @@ pub record IsSimulation (input text : List ℕ) : Type 0 where
   pub last : IsLast bench_start events world
   pub world_text : IsWorldText bench_start world text
 
--- A script has this fault where the input is the script, and the fault is that of its events.
+-- An input is a script whose events have this fault.
 pub record IsScriptWithFault (input : List ℕ) (fault : LineFault) : Type 0 where
   pub events : List LineEvent
   pub script : IsScript input events
   pub is_fault : IsFault bench_start events fault
 
--- An input has its first bad line where it is no script, and undetected damage where it is a script that has such.
+-- The fault of an input is its first bad line or, where no line is bad, the first leg whose damage is undetected; want of memory is
+-- no fault of an input.
 abbrev pub HasLineFault : List ℕ → LineFault → Type 0
 HasLineFault input (line_faults.BadLine number) = HasFirstBadLine input number
 HasLineFault input (line_faults.Undetected number leg) = IsScriptWithFault input (line_faults.Undetected number leg)
@@ -65,8 +67,8 @@ pub record MeetsLineFault (reader reader_after : Stream) (fault : LineFault) : T
   pub whole : Reads reader reader_after input ends.Ended
   pub has_fault : HasLineFault input fault
 
--- A call of `sim` wrote the text for its whole input at `Ok`, a front of it where a write failed, and nothing where it told the
--- input's fault or where memory was refused.
+-- A call of `simulate` wrote the text for its whole input at `Ok`, a front of it where a write failed, and nothing where a read
+-- failed, where the input was too long or had a fault of its lines or events, or where memory was refused; it tells no other fault.
 abbrev pub SimOutcome : Stream → Stream → Stream → Stream → Result (Unit {0}) CliFault → Type 0
 SimOutcome reader reader_after writer writer_after (Ok done) =
     (text : List ℕ) × HasSimulation reader reader_after text × WritesAll writer writer_after text

@@ -20,29 +20,30 @@ party_word Primary = codes "P"
 party_word Secondary = codes "S"
 party_word Device = codes "D"
 
--- The line of a spoken message has its party, the number of its preamble bytes and its body.
+-- The line of a spoken message has the word of its party, the number of its preamble bytes in decimal, and its body in upper case
+-- hex.
 abbrev pub spoken_line : Spoken → List ℕ
 spoken_line spoken =
     line_of (party_word spoken.party ∷ decimal spoken.preambles ∷ encode_upper spoken.bytes ∷ [])
 
--- The fault for which a master refuses a submission has a number.
-abbrev pub fault_number : MasterFault → ℕ
-fault_number OutOfRange = 1
-fault_number Pending = 2
-fault_number WrongAddress = 3
+-- Each fault of a master has its number.
+abbrev pub master_fault_number : MasterFault → ℕ
+master_fault_number OutOfRange = 1
+master_fault_number Pending = 2
+master_fault_number WrongAddress = 3
 
--- The words of a submission that was answered are the number of its sendings and the response code, the device status and the
--- data of the reply; those of one without a reply and of an unfinished one the number of its sendings; and those of a refused
--- one the number of the fault.
+-- A submission that was answered has the word `answered`, the number of its sendings, and the response code, the device status and
+-- the data of the reply in upper case hex. One without a reply has `noreply`, and an unfinished one `unfinished`, with the number of
+-- its sendings. A refused one has `refused` and the number of the fault. Numbers are in decimal.
 abbrev pub outcome_words : Outcome → List (List ℕ)
 outcome_words (Answered reply sendings) =
     codes "answered" ∷ decimal sendings ∷ encode_upper (reply.code ∷ []) ∷ encode_upper (reply.status.0 ∷ [])
     ∷ bytes_word (content_bytes reply.content) ∷ []
 outcome_words (NoReply sendings) = codes "noreply" ∷ decimal sendings ∷ []
 outcome_words (Unfinished sendings) = codes "unfinished" ∷ decimal sendings ∷ []
-outcome_words (Refused fault) = codes "refused" ∷ decimal (fault_number fault) ∷ []
+outcome_words (Refused fault) = codes "refused" ∷ decimal (master_fault_number fault) ∷ []
 
--- The line of a submission has its number and the words of what became of it.
+-- The line of a submission has its number in decimal and the words of what became of it.
 abbrev pub outcome_line : ℕ × Outcome → List ℕ
 outcome_line numbered = line_of (decimal numbered.0 ∷ outcome_words numbered.1)
 
@@ -54,7 +55,8 @@ counter_line device = line_of (codes "counter" ∷ decimal device.counter ∷ []
 abbrev pub image_line : DeviceState → List ℕ
 image_line device = line_of (codes "image" ∷ encode_upper (image_of device) ∷ [])
 
--- The text is a line for each spoken message, one for each submission, numbered from 1, and those of the counter and the image.
+-- The text is a line for each spoken message, in order, then one for each submission, numbered from 1, then that of the counter and
+-- that of the image.
 abbrev pub sim_text : List Spoken → List Outcome → DeviceState → List ℕ
 sim_text spoken outcomes device =
     flat_map spoken_line spoken ++ flat_map outcome_line (enumerate_from 1 outcomes) ++ counter_line device ++ image_line device

@@ -2,7 +2,7 @@
 ghost use Rattle.std.specs.Prelude.{◌≡◌, ◌≤◌, ◌<◌, ◌+◌, ◌∷◌, [], ◌++◌, OnOk, IfOk, decimal, length};
 ghost use Rattle.std.specs.List.{enumerate_from, flat_map, join_with_byte};
 ghost use Rattle.hart_line.specs.declared.report.Outcome.TheVariants.{Answered};
-ghost use Rattle.hart_cli.specs.SimText.{counter_line, fault_number, image_line, outcome_line, outcome_words, party_word, sim_text, spoken_line};
+ghost use Rattle.hart_cli.specs.SimText.{counter_line, master_fault_number, image_line, outcome_line, outcome_words, party_word, sim_text, spoken_line};
 
 use crate::hex_text::push_hex;
 use crate::image::image_of;
@@ -100,7 +100,7 @@ fn push_outcome(line: &mut Line, outcome: &Outcome)
         Outcome::Answered { reply, sendings } => push_answered(line, reply, *sendings),
         Outcome::NoReply { sendings } => push_count(line, "noreply", *sendings),
         Outcome::Unfinished { sendings } => push_count(line, "unfinished", *sendings),
-        Outcome::Refused(fault) => push_count(line, "refused", fault_number(*fault)),
+        Outcome::Refused(fault) => push_count(line, "refused", master_fault_number(*fault)),
     }
 }
 
@@ -132,8 +132,8 @@ fn push_count(line: &mut Line, word: &str, number: u8)
 }
 
 /// The number of the fault for which a master refuses a submission.
-fn fault_number(fault: MasterFault) -> u8
-    ensures { result ≡ fault_number fault }
+fn master_fault_number(fault: MasterFault) -> u8
+    ensures { result ≡ master_fault_number fault }
 {
     match fault {
         MasterFault::OutOfRange => 1,
