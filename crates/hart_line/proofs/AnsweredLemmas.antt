@@ -87,7 +87,8 @@ answers_sent state process sent (Some f) frame (inr is) answered = record {
   answered = rw (some_one is) at answered;
 }
 
-returned_answers : (start : Start) (world : World) (down : Heard) (sent : FrameParts) (arrived returned : Option FrameParts) (frame : FrameParts)
+returned_answers : (start : Start) (world : World) (down : Heard) (sent : FrameParts) (arrived returned : Option FrameParts)
+    (frame : FrameParts)
     → (arrived ≡ None) ⊎ (arrived ≡ Some sent) → Arrives down (sent_back start world arrived) returned → returned ≡ Some frame
     → AnswersSent (state_of start.device world) start.process sent arrived frame
 returned_answers start world down sent arrived returned frame known back came =
@@ -152,7 +153,8 @@ submit_answered world who address request (Some fault) number reply sendings is 
     elim (slice_get-cases world.outcomes (Refused fault) number _ is) [ inl old ↦ old | inr new ↦ cc ]
 
 step_answered : (start : Start) (world : World) (event : LineEvent) (next : World) → Step start world event next
-    → (events : List LineEvent) (number : ℕ) (reply : Reply) (sendings : ℕ) → slice_get next.outcomes number ≡ Some (Answered reply sendings)
+    → (events : List LineEvent) (number : ℕ) (reply : Reply) (sendings : ℕ)
+    → slice_get next.outcomes number ≡ Some (Answered reply sendings)
     → (slice_get world.outcomes number ≡ Some (Answered reply sendings))
     ⊎ AnswersLastSendingFrom start world (event ∷ events) number reply sendings
 step_answered start world (Submit who address request) next step events number reply sendings is =
@@ -164,7 +166,8 @@ step_answered start world (Turn who up down) next step events number reply sendi
 step_answered start world (Protect on) next step events number reply sendings is = inl (rw step at is)
 step_answered start world (Noise chars) next step events number reply sendings is = inl (rw step.1 at is)
 
-later_answered : (start : Start) (world next : World) (event : LineEvent) (events : List LineEvent) (number : ℕ) (reply : Reply) (sendings : ℕ)
+later_answered : (start : Start) (world next : World) (event : LineEvent) (events : List LineEvent) (number : ℕ) (reply : Reply)
+    (sendings : ℕ)
     → Step start world event next → AnswersLastSendingFrom start next events number reply sendings
     → AnswersLastSendingFrom start world (event ∷ events) number reply sendings
 later_answered start world next event events number reply sendings step a = record {

@@ -79,7 +79,8 @@ hands_apart world c Secondary Primary one other apart is there = λ same. c.apar
 hands_apart world c Secondary Secondary one other apart is there = absurd (apart refl)
 
 -- The number of a request in hand is below that of the next submission.
-below_next : (world : World) → IsCounted world → (id : MasterId) (hand : InHand) → of_master id world.hands ≡ Some hand → hand.submission < length world.outcomes
+below_next : (world : World) → IsCounted world → (id : MasterId) (hand : InHand) → of_master id world.hands ≡ Some hand
+    → hand.submission < length world.outcomes
 below_next world c id hand is = slice_get_within world.outcomes hand.submission (Unfinished hand.sendings) (c.in_hand id hand is)
 
 submitted_counted : (world : World) (who : MasterId) (address : Address) (request : Request) (fault : Option MasterFault)
@@ -126,21 +127,25 @@ hand_left-unfinished hand left (Answered reply n) is = cc
 hand_left-unfinished hand left (NoReply n) is = cc
 hand_left-unfinished hand left (Refused fault) is = cc
 
-counts_by : (b : Bool) (hand : InHand) (outcomes : List Outcome) (outcome : Outcome) (number before after : ℕ) → (hand.submission == number) ≡ b
+counts_by : (b : Bool) (hand : InHand) (outcomes : List Outcome) (outcome : Outcome) (number before after : ℕ)
+    → (hand.submission == number) ≡ b
     → slice_get outcomes hand.submission ≡ Some (Unfinished hand.sendings) → sendings_told (Some outcome) ≡ hand.sendings + 1
     → before ≤ sendings_told (slice_get outcomes number) → after ≤ before + (if b then 1 else 0)
     → after ≤ sendings_told (slice_get (slice_set outcomes hand.submission outcome) number)
 counts_by true hand outcomes outcome number before after same there sent old more =
     let number_is : hand.submission ≡ number = eqb-true hand.submission number same in
-    let was : sendings_told (slice_get outcomes number) ≡ hand.sendings = ap (λ n. sendings_told (slice_get outcomes n)) (sym number_is) ∙ ap sendings_told there in
+    let was : sendings_told (slice_get outcomes number) ≡ hand.sendings = ap (λ n. sendings_told (slice_get outcomes n))
+    (sym number_is) ∙ ap sendings_told there in
     let now : sendings_told (slice_get (slice_set outcomes hand.submission outcome) number) ≡ hand.sendings + 1 =
     ap (λ n. sendings_told (slice_get (slice_set outcomes hand.submission outcome) n)) (sym number_is)
     ∙ ap sendings_told (slice_get-set_same outcomes hand.submission _ outcome there) ∙ sent in omega arith
 counts_by false hand outcomes outcome number before after differs there sent old more =
     let now : sendings_told (slice_get (slice_set outcomes hand.submission outcome) number) ≡ sendings_told (slice_get outcomes number) =
-    ap sendings_told (slice_get-set_other outcomes hand.submission number outcome (λ same. eqb-false hand.submission number differs (sym same))) in omega arith
+    ap sendings_told (slice_get-set_other outcomes hand.submission number outcome (λ same. eqb-false hand.submission number differs
+    (sym same))) in omega arith
 
-turned_counted : (start : Start) (world : World) (master : MasterId) (hand : Option InHand) (arrived : Option FrameParts) (accepted : Option Reply)
+turned_counted : (start : Start) (world : World) (master : MasterId) (hand : Option InHand) (arrived : Option FrameParts)
+    (accepted : Option Reply)
     → of_master master world.hands ≡ hand → IsCounted world → IsCounted (turned start world master hand arrived accepted)
 turned_counted start world master None arrived accepted in_hand c = c
 turned_counted start world master (Some hand) arrived accepted in_hand c =
@@ -154,18 +159,22 @@ turned_counted start world master (Some hand) arrived accepted in_hand c =
             (hands_apart world c id master other hand old.0 old.1 in_hand) ∙ c.in_hand id other old.1
       ];
       apart = next_apart master in_hand (hand_left hand outcome) (λ left is. hand_left-number hand left outcome is);
-      counts = λ number. counts_by (hand.submission == number) hand world.outcomes outcome number (times_executed number world.executions) _ refl there
+      counts = λ number. counts_by (hand.submission == number) hand world.outcomes outcome number
+          (times_executed number world.executions) _ refl there
           (sendings_told-outcome _ (hand.sendings + 1) accepted) (c.counts number)
           (times_executed-more effect hand.submission number world.executions);
     }
   where
-    next_apart : (m : MasterId) → of_master m world.hands ≡ Some hand → (left : Option InHand) → ((h : InHand) → left ≡ Some h → h.submission ≡ hand.submission)
-        → (one other : InHand) → (with_master m left world.hands).primary ≡ Some one → (with_master m left world.hands).secondary ≡ Some other
+    next_apart : (m : MasterId) → of_master m world.hands ≡ Some hand → (left : Option InHand) → ((h : InHand) → left ≡ Some h
+        → h.submission ≡ hand.submission)
+        → (one other : InHand) → (with_master m left world.hands).primary ≡ Some one
+        → (with_master m left world.hands).secondary ≡ Some other
         → one.submission ≢ other.submission
     next_apart Primary is left same one other here also = rw (same one here) (c.apart hand other is also)
     next_apart Secondary is left same one other here also = rw (same other also) (c.apart one hand here is)
 
-step_counted : (start : Start) (world : World) (event : LineEvent) (next : World) → Step start world event next → IsCounted world → IsCounted next
+step_counted : (start : Start) (world : World) (event : LineEvent) (next : World) → Step start world event next → IsCounted world
+    → IsCounted next
 step_counted start world (Submit who address request) next is c =
     subst IsCounted (sym is)
     (submitted_counted world who address request (submission_fault (of_master who world.hands) address request) c)
@@ -186,9 +195,11 @@ first_counted start = record {
     none Primary is = cc
     none Secondary is = cc
 
-run_counted : (start : Start) (events : List LineEvent) (world last : World) → Run start world events last → IsCounted world → IsCounted last
+run_counted : (start : Start) (events : List LineEvent) (world last : World) → Run start world events last → IsCounted world
+    → IsCounted last
 run_counted start [] world last run c = subst IsCounted (sym run) c
-run_counted start (event ∷ events) world last run c = run_counted start events run.0 last run.2 (step_counted start world event run.0 run.1 c)
+run_counted start (event ∷ events) world last run c = run_counted start events run.0 last run.2
+    (step_counted start world event run.0 run.1 c)
 
 pub executed_at_most : (start : Start) (events : List LineEvent) (last : World) → Run start (first_world start) events last
     → (number : ℕ) → times_executed number last.executions ≤ sendings_told (slice_get last.outcomes number)

@@ -44,7 +44,8 @@ refused_by : (start : Start) (world : World) (id : MasterId) (address : Address)
     → of_master id world.hands ≡ hand → submission_fault hand address request ≡ Some fault → IsParty id start world master place
     → master' ≡ master → place' ≡ place → outcomes' ≡ world.outcomes ++ outcome.Refused fault ∷ []
     → Submitted start world id address request master' place' outcomes'
-refused_by start world id address request place place' hand fault master master' outcomes' in_hand refused party master_is place_is outcomes_are =
+refused_by start world id address request place place' hand fault master master' outcomes' in_hand refused party master_is place_is
+    outcomes_are =
     record {
       next = submitted world id address request (Some fault);
       next_is = rw (in_hand, refused) refl;
@@ -119,7 +120,8 @@ pub submit_primary : (start : Start) (world : World) (address : Address) (reques
     → Submits address request primary_place primary_place' primary primary' outcomes outcomes'
     → Stepped start world (Submit Primary address request) device primary' primary_place' secondary secondary_place outcomes' spoken
 submit_primary start world address request device primary primary' place place' secondary secondary_place outcomes outcomes' spoken st is =
-    let s = submitted_from start world Primary address request place place' primary primary' outcomes outcomes' st.primary_is st.outcomes_are is in
+    let s = submitted_from start world Primary address request place place' primary primary' outcomes outcomes' st.primary_is
+    st.outcomes_are is in
     record {
       next = s.next;
       step = s.next_is;
@@ -138,7 +140,8 @@ pub submit_secondary : (start : Start) (world : World) (address : Address) (requ
     → Stands start world device primary primary_place secondary secondary_place outcomes spoken
     → Submits address request secondary_place secondary_place' secondary secondary' outcomes outcomes'
     → Stepped start world (Submit Secondary address request) device primary primary_place secondary' secondary_place' outcomes' spoken
-submit_secondary start world address request device primary primary_place secondary secondary' place place' outcomes outcomes' spoken st is =
+submit_secondary start world address request device primary primary_place secondary secondary' place place' outcomes outcomes' spoken st
+    is =
     let s = submitted_from start world Secondary address request place place' secondary secondary' outcomes outcomes' st.secondary_is
     st.outcomes_are is in
     record {
@@ -175,7 +178,11 @@ pub noise_from : (start : Start) (world : World) (chars : List Character) (devic
     → HasNoFrame chars 0 → Stands start world device primary primary_place secondary secondary_place outcomes spoken
     → Stepped start world (Noise chars) device primary primary_place secondary secondary_place outcomes spoken
 noise_from start world chars device primary primary_place secondary secondary_place outcomes spoken quiet s =
-    record { next = world; step = (record { chars = chars; are_heard = refl; frames = []; are_frames = none 0 quiet; shown = refl }, refl); stands = s }
+    record {
+      next = world;
+      step = (record { chars = chars; are_heard = refl; frames = []; are_frames = none 0 quiet; shown = refl }, refl);
+      stands = s;
+    }
 
 -- STOPS
 stops_by : (start : Start) (world : World) (id : MasterId) (up down : Heard) (limit : ℕ) (hand : Option InHand) (stop : Stop)

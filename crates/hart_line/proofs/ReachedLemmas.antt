@@ -39,7 +39,8 @@ pub reached_more : (start : Start) (events : List LineEvent) (n : ℕ) (unused :
     → (r : IsReached start (take n events) device primary primary_place secondary secondary_place outcomes spoken)
     → Stepped start r.world (get_or events n unused) device' primary' primary_place' secondary' secondary_place' outcomes' spoken'
     → IsReached start (take (n + 1) events) device' primary' primary_place' secondary' secondary_place' outcomes' spoken'
-reached_more start events n unused device device' primary primary' pp pp' secondary secondary' sp sp' outcomes outcomes' spoken spoken' here r s =
+reached_more start events n unused device device' primary primary' pp pp' secondary secondary' sp sp' outcomes outcomes' spoken spoken' here
+    r s =
     record {
       world = s.next;
       is_last = rw (take_more events n unused here)

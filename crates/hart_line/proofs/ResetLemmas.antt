@@ -33,10 +33,12 @@ grows_same old new same = record { more = []; is = same ∙ sym (append-nil old)
 
 effect_grows : (effect : Effect) (number : ℕ) (executions : List Execution) → Grows executions (executions_after effect number executions)
 effect_grows Nothing number executions = grows_same executions executions refl
-effect_grows (Executes overwrite) number executions = record { more = record { submission = number; overwrite = overwrite } ∷ []; is = refl }
+effect_grows (Executes overwrite) number executions =
+    record { more = record { submission = number; overwrite = overwrite } ∷ []; is = refl }
 effect_grows Resets number executions = grows_same executions executions refl
 
-step_grows : (start : Start) (world : World) (event : LineEvent) (next : World) → Step start world event next → Grows world.executions next.executions
+step_grows : (start : Start) (world : World) (event : LineEvent) (next : World) → Step start world event next
+    → Grows world.executions next.executions
 step_grows start world (Submit who address request) next step =
     grows_same _ _ (ap (λ (w : World). w.executions) step ∙ by_fault (submission_fault (of_master who world.hands) address request))
   where
@@ -55,7 +57,8 @@ step_grows start world (Noise chars) next step = grows_same _ _ (ap (λ (w : Wor
 grows_on : (a b c : List Execution) → Grows a b → Grows b c → Grows a c
 grows_on a b c g h = record { more = g.more ++ h.more; is = h.is ∙ ap (λ xs. xs ++ h.more) g.is ∙ append_assoc a g.more h.more }
 
-run_grows : (start : Start) (events : List LineEvent) (world last : World) → Run start world events last → Grows world.executions last.executions
+run_grows : (start : Start) (events : List LineEvent) (world last : World) → Run start world events last
+    → Grows world.executions last.executions
 run_grows start [] world last run = grows_same _ _ (ap (λ (w : World). w.executions) run)
 run_grows start (event ∷ events) world last run =
     grows_on _ _ _ (step_grows start world event run.0 run.1) (run_grows start events run.0 last run.2)

@@ -46,7 +46,8 @@ AreHeard-one laws Clean (Some message) a b x y =
 AreHeard-one laws Lost sent a b x y = x ∙ sym y
 AreHeard-one laws (Chars told) sent a b x y = x ∙ sym y
 
-IsShown-one : (sent : Option FrameParts) (frames : List Found) (a b : Option FrameParts) → IsShown sent frames a → IsShown sent frames b → a ≡ b
+IsShown-one : (sent : Option FrameParts) (frames : List Found) (a b : Option FrameParts) → IsShown sent frames a
+    → IsShown sent frames b → a ≡ b
 IsShown-one sent [] a b x y = x ∙ sym y
 IsShown-one sent (found ∷ []) a b x y = x.1 ∙ sym y.1
 IsShown-one sent (found ∷ other ∷ more) a b x y = absurd x

@@ -90,7 +90,8 @@ hand_left-request held left (Answered reply n) is = cc
 hand_left-request held left (NoReply n) is = cc
 hand_left-request held left (Refused fault) is = cc
 
-turned_sound : (start : Start) (world : World) (who : MasterId) (hand : Option InHand) (arrived : Option FrameParts) (accepted : Option Reply)
+turned_sound : (start : Start) (world : World) (who : MasterId) (hand : Option InHand) (arrived : Option FrameParts)
+    (accepted : Option Reply)
     → of_master who world.hands ≡ hand → IsSound world → IsSound (turned start world who hand arrived accepted)
 turned_sound start world who None arrived accepted in_hand s = s
 turned_sound start world who (Some held) arrived accepted in_hand s =
@@ -105,7 +106,8 @@ turned_sound start world who (Some held) arrived accepted in_hand s =
       ];
     }
 
-pub step_sound : (start : Start) (world : World) (event : LineEvent) (next : World) → Step start world event next → IsSound world → IsSound next
+pub step_sound : (start : Start) (world : World) (event : LineEvent) (next : World) → Step start world event next → IsSound world
+    → IsSound next
 step_sound start world (Submit who address request) next is s =
     subst IsSound (sym is)
     (submitted_sound world who address request (submission_fault (of_master who world.hands) address request) s)

@@ -72,7 +72,8 @@ state-after last initial world next id number (Executes overwrite) within execut
     (rw more (is_changed-more initial.changed.secondary world.marks.secondary (length world.executions) (within Secondary)))
     refl)
 state-after last initial world next Primary number Resets within executions marks protected =
-    rw (executions, marks, protected) (same_state _ _ refl refl refl (is_changed-now initial.changed.primary (length world.executions)) refl refl)
+    rw (executions, marks, protected) (same_state _ _ refl refl refl (is_changed-now initial.changed.primary
+    (length world.executions)) refl refl)
 state-after last initial world next Secondary number Resets within executions marks protected =
     rw (executions, marks, protected)
     (same_state _ _ refl refl refl refl (is_changed-now initial.changed.secondary (length world.executions)) refl)

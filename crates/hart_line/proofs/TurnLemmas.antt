@@ -145,8 +145,10 @@ turned_by last start world id up down place limit (Some held) within in_hand is_
         next_is = rw in_hand refl;
       };
       device_is = t.device_is
-          ∙ state_heard-effect (state_of start.device world) id held t.arrived (arrives_cases up (Some (message_of id held)) t.arrived t.arrives)
-          ∙ state-after last start.device world next id held.submission (effect_on (state_of start.device world) t.arrived) within refl refl refl;
+          ∙ state_heard-effect (state_of start.device world) id held t.arrived (arrives_cases up (Some
+          (message_of id held)) t.arrived t.arrives)
+          ∙ state-after last start.device world next id held.submission (effect_on
+          (state_of start.device world) t.arrived) within refl refl refl;
       party_is = record {
         id_is = ap (λ (m : MasterState). m.id) t.concludes.master_is;
         retries_are = ap (λ (m : MasterState). m.retries) t.concludes.master_is;
@@ -230,7 +232,8 @@ pub primary_steps : LastLaw → (start : Start) (world : World) (up down : Heard
     → Stepped start world (Turn Primary up down) device' primary' place' secondary' secondary_place outcomes' spoken'
 primary_steps last start world up down process device device' primary primary' place place' secondary secondary' secondary_place
     outcomes outcomes' spoken spoken' process_is within s turns other_is place_is =
-    rw (other_is, place_is) (turn_primary start world up down device' primary' place secondary secondary_place outcomes' spoken' s.secondary_is
+    rw (other_is, place_is) (turn_primary start world up down device' primary' place secondary secondary_place outcomes' spoken'
+    s.secondary_is
     (turned_from last start world Primary up down place process device device' primary primary' outcomes outcomes' spoken spoken'
     process_is within s.device_is s.primary_is s.outcomes_are s.spoken_are turns))
 
@@ -243,6 +246,7 @@ pub secondary_steps : LastLaw → (start : Start) (world : World) (up down : Hea
     → Stepped start world (Turn Secondary up down) device' primary' primary_place secondary' place' outcomes' spoken'
 secondary_steps last start world up down process device device' primary primary' primary_place secondary secondary' place place'
     outcomes outcomes' spoken spoken' process_is within s turns other_is place_is =
-    rw (other_is, place_is) (turn_secondary start world up down device' primary primary_place secondary' place outcomes' spoken' s.primary_is
+    rw (other_is, place_is) (turn_secondary start world up down device' primary primary_place secondary' place outcomes' spoken'
+    s.primary_is
     (turned_from last start world Secondary up down place process device device' secondary secondary' outcomes outcomes' spoken spoken'
     process_is within s.device_is s.secondary_is s.outcomes_are s.spoken_are turns))

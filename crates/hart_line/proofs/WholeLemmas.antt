@@ -40,7 +40,8 @@ pub device_reached : OneWorld → (start : Start) (events : List LineEvent) (dev
 device_reached one_world start events device primary primary_place secondary secondary_place outcomes spoken r world last =
     r.stands.device_is ∙ ap (state_of start.device) (one_world start events r.world world r.is_last last)
 
-pub outcomes_reached : OneWorld → (start : Start) (events : List LineEvent) (device : DeviceState) (primary : MasterState) (primary_place : ℕ)
+pub outcomes_reached : OneWorld → (start : Start) (events : List LineEvent) (device : DeviceState) (primary : MasterState)
+    (primary_place : ℕ)
     (secondary : MasterState) (secondary_place : ℕ) (outcomes : List Outcome) (spoken : List Spoken)
     → IsReached start events device primary primary_place secondary secondary_place outcomes spoken
     → (world : World) → IsLast start events world → outcomes ≡ world.outcomes

@@ -80,7 +80,8 @@ reading_code command (c ∷ status ∷ bytes) reply code read is =
 
     by_tests : (above success known : Bool) (content : Option ReplyContent)
         → (if above then None else if success
-        then option_map (λ x. let r : Reply = record { command = command; code = c; status = record { 0 = status }; content = x } in r) content
+        then option_map (λ x. let r : Reply = record { command = command; code = c; status = record { 0 = status }; content = x } in
+        r) content
         else if known then Some (record { command = command; code = c; status = record { 0 = status }; content = Refused }) else None)
         ≡ Some reply → reply.code ≡ c
     by_tests true success known content read = cc
@@ -209,7 +210,8 @@ named_by : (request : Request) (overwrite : Option NamedBytes) → overwrite_of 
 named_by request None is none = cc
 named_by request (Some overwrite) is there = record { overwrite = overwrite; is = is }
 
-pub answered_executed : WriteLaws → (start : Start) (events : List LineEvent) (number : ℕ) (request : Request) (reply : Reply) (sendings : ℕ)
+pub answered_executed : WriteLaws → (start : Start) (events : List LineEvent) (number : ℕ) (request : Request) (reply : Reply)
+    (sendings : ℕ)
     → AnswersLastSending start events number reply sendings → slice_get (requests_of events) number ≡ Some request
     → IsTrue (is_write (command_of request)) → reply.code ≡ 0
     → IsExecutedInItsTurn start events number request reply sendings

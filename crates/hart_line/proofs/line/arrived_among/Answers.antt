@@ -13,7 +13,8 @@ returns-in-Some-first_frame-clause-undetected c =
 
 pub returns-then-is_frame-clause-arrives : goal.returns-then-is_frame-clause-arrives
 returns-then-is_frame-clause-arrives c =
-    one_among _ _ c.in-Some.found c.in-Some.ensures.first c.in_default-first_frame.ensures.first (c.is_frame.ensures.0 (rw c.if-is_frame.true refl))
+    one_among _ _ c.in-Some.found c.in-Some.ensures.first c.in_default-first_frame.ensures.first (c.is_frame.ensures.0
+    (rw c.if-is_frame.true refl))
 
 pub returns-else-is_frame-clause-undetected : goal.returns-else-is_frame-clause-undetected
 returns-else-is_frame-clause-undetected c =

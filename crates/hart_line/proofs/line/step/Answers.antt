@@ -13,8 +13,8 @@ returns-in-Primary-who-clause-stepped g c =
 pub returns-in-Primary-who-clause-stopped : goal.returns-in-Primary-who-clause-stopped
 returns-in-Primary-who-clause-stopped g c =
     if_err c.turn.result (λ stop stops start world process stands. rw (c.in-Turn.is, c.in-Primary-who.is)
-    (stops_from start world Primary c.in-Turn.up c.in-Turn.down c.args.process.now _ _ _ stop process stands.device_is stands.primary_is stops))
-    c.turn.ensures.stopped
+    (stops_from start world Primary c.in-Turn.up c.in-Turn.down c.args.process.now _ _ _ stop process stands.device_is stands.primary_is
+    stops)) c.turn.ensures.stopped
 
 pub returns-in-Secondary-who-clause-stepped : goal.returns-in-Secondary-who-clause-stepped
 returns-in-Secondary-who-clause-stepped g c =

@@ -38,7 +38,8 @@ pub returns-in-Err-clause-fault : goal.returns-in-Err-clause-fault
 returns-in-Err-clause-fault g c =
     let start = start_of c.args.device c.args.process.now c.args.primary c.args.secondary in
     let reached = c.loop-index.invariant in
-    rw c.at.ensures (fault_at start c.args.events.now c.loop-index.index _ reached.world c.in-Err.stop c.loop-index-test.true reached.is_last
+    rw c.at.ensures (fault_at start c.args.events.now c.loop-index.index _ reached.world c.in-Err.stop c.loop-index-test.true
+    reached.is_last
     (rw c.index-events-index.is at (c.in-Err.ensures.stopped start reached.world refl reached.stands)))
 
 pub returns-in-Err-clause-clean_and_lost_legs_are_shown : goal.returns-in-Err-clause-clean_and_lost_legs_are_shown
