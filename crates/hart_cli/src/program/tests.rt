@@ -94,6 +94,13 @@ const FAULTS: &[(&[&str], &str, &str)] = &[
     ),
     (
         &["sim"],
+        "\
+submit P 37420A1B2C 17 FFFF02800000820000000000000000000000000000000000\n\
+turn P FFFF82!40B7420A1B2C1118FFFF0280000082000000000000000000000000000000000043 ok\n",
+        "undetected damage at event 1, up\n",
+    ),
+    (
+        &["sim"],
         "# A frame from nowhere\n\nturn P FFFF0280000082 ok",
         "undetected damage at event 0, up\n",
     ),
