@@ -35,7 +35,8 @@ ends may stand between bytes. The input has at most 1048576 bytes of text.
 
 Comes out, on the standard output: the reply of the device in upper case hex,
 or nothing where the device keeps silent. It answers where it hears one message
-and no other, which asks for its identity (command 0) at polling address 0.";
+and no other, and that is a request to it: command 0 at polling address 0, any
+command at its own address 37420A1B2C, or command 11 with its tag, to all.";
 
 const ANSWER_EXAMPLE: &str = "\
 Example:
