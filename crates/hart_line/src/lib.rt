@@ -1,13 +1,19 @@
-//! The line between a field device and its two masters: what the events of a script are, and how they are written.
+//! The line between a field device and its two masters: what the events of a script are, how they are written, and what they
+//! lead to.
 //!
 //! A script is a text of lines, each with one event but for comments and empty lines: a request that a master is asked to
 //! send, a turn with what is heard in its two legs, a switch of the write protection, or noise. [`read_script`] reads
 //! them, or tells the first bad line. The words and items of a script are those of the command line too, so their readers
-//! are public.
+//! are public. [`run`] carries out the events with a device and two masters, and reports what was spoken, what became of
+//! each submission, and the device as it is then; or it tells the first leg whose damage is undetected.
 //!
 //! ```rust
 //! let events = read_script(rt.alloc(), b"submit P @0 0\nturn P ok lost\n")?;
-//! assert_eq!(rt; events.len(), 2);
+//! let device: Device<FieldRegisters> = Device::new(bench::identity(), &bench::register_values());
+//! let primary = Master::new(MasterId::Primary, 3, 33)?;
+//! let secondary = Master::new(MasterId::Secondary, 3, 41)?;
+//! let report = run(rt.alloc(), device, primary, secondary, events.as_slice(), &bench::process())?;
+//! assert_eq!(rt; report.outcomes.as_slice()[0], Outcome::Unfinished { sendings: 1 });
 //! ```
 #![tactic(auto)]
 
