@@ -35,6 +35,16 @@ pub struct Submitter {
     pub place: usize,
 }
 
+impl Submitter {
+    /// A master with nothing in hand, which has no place yet.
+    pub fn new(master: Master) -> Self
+        ensures master { result.master ≡ master }
+        ensures place { result.place ≡ 0 }
+    {
+        Submitter { master, place: 0 }
+    }
+}
+
 /// What a report tells beside the device.
 #[derive(Debug, Drop)]
 pub struct Log {

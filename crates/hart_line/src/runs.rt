@@ -117,14 +117,8 @@ pub fn run<S: RegisterStore + Drop>(
     replies_are_decided();
     messages_have_their_frame_alone();
     let (_counter, _preambles) = (device.counter(), device.response_preambles());
-    let mut primary = Submitter {
-        master: primary,
-        place: 0,
-    };
-    let mut secondary = Submitter {
-        master: secondary,
-        place: 0,
-    };
+    let mut primary = Submitter::new(primary);
+    let mut secondary = Submitter::new(secondary);
     let mut log = Log {
         outcomes: Outcomes::new(alloc),
         spoken: SpokenList::new(alloc),

@@ -13,7 +13,9 @@ use Rattle.hart_line.proofs.runs.run.Goals as goal
 pub loop-index-init : goal.loop-index-init
 loop-index-init g c =
     let small : c.args.device.counter < 65536 = rw c.counter-counter.ensures at c.counter-counter.type_inv in
-    rw (c.new.ensures, c.new-2.ensures) (reached_first c.registers_of_lists.ensures.none c.args.device c.args.process.now
+    let one = c.new-primary.ensures in
+    let other = c.new-secondary.ensures in
+    rw (c.new.ensures, c.new-2.ensures, one.master, one.place, other.master, other.place) (reached_first c.registers_of_lists.ensures.none c.args.device c.args.process.now
     c.args.primary c.args.secondary small c.requires.primary c.requires.secondary)
 
 pub step-stepped-requires-clause-primary_placed : goal.step-stepped-requires-clause-primary_placed
