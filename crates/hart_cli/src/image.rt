@@ -1,5 +1,5 @@
 //! The image of a device: the bytes of its registers, its counter and its flags.
-ghost use Rattle.std.specs.Prelude.{◌≡◌, ◌+◌, ◌≤◌, ◌<◌, ◌++◌, length};
+ghost use Rattle.std.specs.Prelude.{◌≡◌, ◌+◌, ◌≤◌, ◌++◌, length};
 ghost use Rattle.hart_commands.specs.Registers.{bytes_in, size_of};
 ghost use Rattle.hart_cli.specs.Image.{flags_of, image_of};
 

@@ -2,7 +2,8 @@
 ghost use Rattle.std.specs.Prelude.{◌≡◌, ◌≤◌, ◌<◌, ◌+◌, ◌∷◌, [], ◌++◌, OnOk, IfOk, decimal, length};
 ghost use Rattle.std.specs.List.{enumerate_from, flat_map, join_with_byte};
 ghost use Rattle.hart_line.specs.declared.report.Outcome.TheVariants.{Answered};
-ghost use Rattle.hart_cli.specs.SimText.{counter_line, master_fault_number, image_line, outcome_line, outcome_words, party_word, sim_text, spoken_line};
+ghost use Rattle.hart_cli.specs.SimText.{counter_line, master_fault_number, image_line, outcome_line, outcome_words, party_word};
+ghost use Rattle.hart_cli.specs.SimText.{sim_text, spoken_line};
 
 use crate::hex_text::push_hex;
 use crate::image::image_of;

@@ -8,7 +8,8 @@ pub returns-in_err-matches-clause-refused : goal.returns-in_err-matches-clause-r
 returns-in_err-matches-clause-refused c =
     let told = err_from_is_err_and c.from_residual-in_err-matches.result c.from_residual-in_err-matches.ensures.1 in
     rw (told.1, told.2)
-    (tells_fault _ (map string_bytes c.args.words.now) c.in_err-matches.field-0.0 c.in_ok-hart_command.ensures c.in_err-matches.ensures.kinds)
+    (tells_fault _ (map string_bytes c.args.words.now) c.in_err-matches.field-0.0 c.in_ok-hart_command.ensures
+    c.in_err-matches.ensures.kinds)
 
 pub returns-in-answer-clause-call : goal.returns-in-answer-clause-call
 returns-in-answer-clause-call c =
