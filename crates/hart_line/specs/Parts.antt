@@ -35,38 +35,41 @@ use Rattle.hart_line.specs.declared.report.Outcome.TheVariants.{Unfinished, Refu
 use Rattle.hart_line.specs.declared.report.Party.TheVariants.{Device}
 use Rattle.hart_line.specs.declared.report.Spoken.{Spoken}
 
--- What is heard in a leg: frames that are shown, and what arrives; or frames that are not.
+-- Characters have frames that are shown, where this was sent, and by which this arrives.
 pub record ArrivesAmong (chars : List Character) (sent arrived : Option FrameParts) : Type 0 where
   pub frames : List Found
   pub are_frames : AreFrames chars 0 frames
   pub shown : IsShown sent frames arrived
 
+-- Characters have frames that are not shown, where this was sent.
 pub record IsUndetectedAmong (chars : List Character) (sent : Option FrameParts) : Type 0 where
   pub frames : List Found
   pub are_frames : AreFrames chars 0 frames
   pub not_shown : (arrived : Option FrameParts) → IsShown sent frames arrived → ⊥
 
--- A message of a frame that was sent.
+-- A message has this frame, two preamble bytes at least, and a body of the frame.
 pub record IsMessageOf (frame : FrameParts) (message : Message) : Type 0 where
   pub same : message.frame ≡ frame
   pub preambles : 2 ≤ message.preambles
   pub body : List ℕ
   pub is_body : IsBody message.frame body
 
+-- A frame was sent in this message, or none was and there is no message.
 abbrev pub IsSent : Option FrameParts → Option Message → Type 0
 IsSent None message = message ≡ None
 IsSent (Some frame) None = ⊥
 IsSent (Some frame) (Some message) = IsMessageOf frame message
 
--- A message is spoken, where there is one.
+-- The list of what was spoken grows by this message, where there is one.
 abbrev pub Speaks : Option Message → List Spoken → List Spoken → Type 0
 Speaks None old new = new ≡ old
 Speaks (Some message) old new = (spoken : Spoken) × IsSpoken message spoken × (new ≡ old ++ spoken ∷ [])
 
--- What a master and the device speak in a turn.
+-- A master speaks the request that it has to send, in a turn.
 abbrev pub request_by : MasterState → Option Message
 request_by master = message_by (party_of master.id) master_preambles (frame_sent master.id master.hand)
 
+-- The device speaks its answer to what arrived.
 abbrev pub reply_by : DeviceState → Process → Option FrameParts → Option Message
 reply_by device process arrived = message_by Device device.identity.response_preambles (frame_answered device process arrived)
 
@@ -85,28 +88,32 @@ abbrev pub AcceptsIn : MasterId → Hand → Option FrameParts → Option Reply 
 AcceptsIn id hand returned None = (reply : Reply) → ReturnBrings id hand returned reply → ⊥
 AcceptsIn id hand returned (Some reply) = ReturnBrings id hand returned reply
 
--- The outcome of a sending, and what stays in hand.
+-- The outcome of a sending, where a reply was awaited, with the reply that is accepted, if any.
 abbrev pub outcome_concluded : ℕ → Hand → Option Reply → Option Outcome
 outcome_concluded retries Empty accepted = None
 outcome_concluded retries (ToSend transaction) accepted = None
 outcome_concluded retries (Awaiting transaction time) accepted = Some (outcome_of retries transaction.sendings accepted)
 
+-- With an unfinished outcome a request that was awaited is to be sent again, and with every other it has left the hand.
 abbrev pub hand_after : Hand → Outcome → Hand
 hand_after (Awaiting transaction time) (Unfinished sendings) = ToSend transaction
 hand_after hand outcome = Empty
 
+-- What is in hand after a sending, with the reply that is accepted, if any.
 abbrev pub hand_concluded : ℕ → Hand → Option Reply → Hand
 hand_concluded retries Empty accepted = Empty
 hand_concluded retries (ToSend transaction) accepted = ToSend transaction
 hand_concluded retries (Awaiting transaction time) accepted =
     hand_after (Awaiting transaction time) (outcome_of retries transaction.sendings accepted)
 
+-- A master concludes a sending by what comes back: with a reply that it accepts, or without one.
 pub record Concludes (master master' : MasterState) (returned : Option FrameParts) (outcome : Option Outcome) : Type 0 where
   pub accepted : Option Reply
   pub accepts : AcceptsIn master.id master.hand returned accepted
   pub outcome_is : outcome ≡ outcome_concluded master.retries master.hand accepted
   pub master_is : master' ≡ record master { hand = hand_concluded master.retries master.hand accepted }
 
+-- The outcomes have this one at the place, where there is one.
 abbrev pub outcomes_with : ℕ → Option Outcome → List Outcome → List Outcome
 outcomes_with place None outcomes = outcomes
 outcomes_with place (Some outcome) outcomes = slice_set outcomes place outcome
@@ -136,6 +143,7 @@ pub record Turns (process : Process) (up down : Heard) (place : ℕ) (device dev
   pub requested : Speaks (request_by master) spoken mid
   pub replied : Speaks (reply_by device process arrived) mid spoken'
 
+-- A turn stops at what goes up, or at what comes down, where that is undetected, or for want of memory.
 abbrev pub StopsTurn : Process → Heard → Heard → DeviceState → MasterState → Stop → Type 0
 StopsTurn process up down device master (Undetected legs.Up) = IsUndetected up (request_by master)
 StopsTurn process up down device master (Undetected legs.Down) = (arrived : Option FrameParts)
@@ -143,36 +151,41 @@ StopsTurn process up down device master (Undetected legs.Down) = (arrived : Opti
 StopsTurn process up down device master (Undetected legs.Noise) = ⊥
 StopsTurn process up down device master NoMemory = Unit {0}
 
+-- Noise stops a script where a frame is heard.
 abbrev pub StopsNoise : List Character → Stop → Type 0
 StopsNoise chars (Undetected legs.Up) = ⊥
 StopsNoise chars (Undetected legs.Down) = ⊥
 StopsNoise chars (Undetected legs.Noise) = IsUndetectedAmong chars None
 StopsNoise chars NoMemory = ⊥
 
--- A submission.
+-- A request that is taken has the place of the next outcome, and otherwise the place stays.
 abbrev pub place_submitted : Result (Unit {0}) Rejected → ℕ → ℕ → ℕ
 place_submitted (Ok taken) place count = count
 place_submitted (Err rejected) place count = place
 
+-- The outcome of a submission so far.
 abbrev pub outcome_submitted : Result (Unit {0}) Rejected → Outcome
 outcome_submitted (Ok taken) = Unfinished 0
 outcome_submitted (Err rejected) = Refused rejected.fault
 
+-- A master takes or refuses a submission, and that has its outcome.
 pub record Submits (address : Address) (request : Request) (place place' : ℕ) (master master' : MasterState)
     (outcomes outcomes' : List Outcome) : Type 0 where
   pub master_is : master' ≡ record master { hand = hand_submitted master.hand address request }
   pub place_is : place' ≡ place_submitted (result_submitted master.hand address request) place (length outcomes)
   pub outcomes_are : outcomes' ≡ outcomes ++ outcome_submitted (result_submitted master.hand address request) ∷ []
 
--- A master and its place are those of a world's hand.
+-- What a world has in a master's hand is to be sent, as often as it was sent so far, or the hand is empty.
 abbrev pub hand_of : Option InHand → Hand
 hand_of None = Empty
 hand_of (Some held) = ToSend (record { address = held.address; request = held.request; sendings = held.sendings })
 
+-- A request in hand has the place of its submission.
 abbrev pub IsPlace : Option InHand → ℕ → Type 0
 IsPlace None place = Unit {0}
 IsPlace (Some held) place = place ≡ held.submission
 
+-- A master and its place are those of this master in a world.
 pub record IsParty (id : MasterId) (start : Start) (world : World) (master : MasterState) (place : ℕ) : Type 0 where
   pub id_is : master.id ≡ id
   pub retries_are : master.retries ≡ of_master id start.retries
@@ -200,6 +213,7 @@ pub record Stepped (start : Start) (world : World) (event : LineEvent) (device :
   pub step : Step start world event next
   pub stands : Stands start next device primary primary_place secondary secondary_place outcomes spoken
 
+-- An event stops a script where it has undetected damage in the leg, or for want of memory.
 abbrev pub StopsStep : Start → World → LineEvent → Stop → Type 0
 StopsStep start world event (Undetected leg) = HasUndetected start world event leg
 StopsStep start world event NoMemory = Unit {0}
