@@ -175,7 +175,7 @@ pub record Submits (address : Address) (request : Request) (place place' : ℕ) 
   pub place_is : place' ≡ place_submitted (result_submitted master.hand address request) place (length outcomes)
   pub outcomes_are : outcomes' ≡ outcomes ++ outcome_submitted (result_submitted master.hand address request) ∷ []
 
--- What a world has in a master's hand is to be sent, as often as it was sent so far, or the hand is empty.
+-- What a world has in a master's hand is a request that is to be sent, with its sendings so far; or the hand is empty.
 abbrev pub hand_of : Option InHand → Hand
 hand_of None = Empty
 hand_of (Some held) = ToSend (record { address = held.address; request = held.request; sendings = held.sendings })
