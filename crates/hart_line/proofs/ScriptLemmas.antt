@@ -8,19 +8,18 @@ use Rattle.std.proofs.lemmas.List.{length-map, length-take-le, map-append, take-
 use Rattle.std.proofs.Math.Seq.{drop-cons}
 use Rattle.hex.specs.Hex.{is_hex_digit}
 use Rattle.hart_frame.specs.Character.{Character}
-use Rattle.hart_commands.specs.RequestData.{request_reading}
 use Rattle.hart_line.specs.Items.{BeginsWithItems, Faulty, IsItemsWord, item, nothing, Plain}
 use Rattle.hart_line.specs.Lines.{words_of}
-use Rattle.hart_line.specs.Script.{AreDataWords, AreEvents, HasFirstBadLine, IsBadLine, IsEvent, IsLeg, IsScript}
+use Rattle.hart_line.specs.Script.{AreEvents, HasFirstBadLine, IsBadLine, IsEvent, IsLeg, IsScript}
 use Rattle.hart_line.specs.Script.{IsSkipped, none, said, skipped}
-use Rattle.hart_line.specs.Words.{IsAddressWord, IsCommandWord, IsWho}
+use Rattle.hart_line.specs.Words.{IsAddressWord, IsWho}
 use Rattle.hart_line.specs.declared.event.Heard.{Heard}
 use Rattle.hart_line.specs.declared.event.Heard.TheVariants.{Chars, Clean, Lost}
 use Rattle.hart_line.specs.declared.event.LineEvent.{LineEvent}
 use Rattle.hart_line.specs.declared.event.LineEvent.TheVariants.{Noise, Protect, Submit, Turn}
 use Rattle.hart_line.proofs.ItemsLemmas.{items_to_the_end, NoItemBegins-nil}
-use Rattle.hart_line.proofs.RowsLemmas.{first_letter}
-use Rattle.hart_line.proofs.WordsApart.{IsAddressWord-one, IsCommandWord-one, IsDataWord-one, IsWho-one}
+use Rattle.hart_line.proofs.RowsLemmas.{first_letter, read_as}
+use Rattle.hart_line.proofs.WordsApart.{IsAddressWord-one, IsWho-one}
 
 -- a word is items in one way
 IsItemsWord-one : (word : List ℕ) (xs ys : List Character) → IsItemsWord word xs → IsItemsWord word ys → xs ≡ ys
@@ -55,31 +54,17 @@ IsLeg-one word (Chars xs) Clean p q = absurd (no_items_named word (codes "ok") x
 IsLeg-one word (Chars xs) Lost p q = absurd (no_items_named word (codes "lost") xs q refl p)
 IsLeg-one word (Chars xs) (Chars ys) p q = ap (λ (zs : List Character). Chars zs) (IsItemsWord-one word xs ys p q)
 
--- the words behind COMMAND write one list of data
-AreDataWords-one : (words : List (List ℕ)) (xs ys : List ℕ) → AreDataWords words xs → AreDataWords words ys → xs ≡ ys
-AreDataWords-one [] xs ys p q = p ∙ sym q
-AreDataWords-one (word ∷ []) xs ys p q = IsDataWord-one word xs ys p q
-AreDataWords-one (word ∷ other ∷ more) xs ys p q = absurd p
-
 -- the words of a line say one event
 IsEvent-one : (words : List (List ℕ)) (e f : LineEvent) → IsEvent words e → IsEvent words f → e ≡ f
 IsEvent-one words (Submit m a r) (Submit n b s) p q =
     let row = sym p.row ∙ q.row in
     let who : p.who ≡ q.who = cc in
     let address : p.address ≡ q.address = cc in
-    let command : p.command ≡ q.command = cc in
-    let payload : p.payload ≡ q.payload = cc in
     let master : m ≡ n = IsWho-one q.who m n (subst (λ (xs : List ℕ). IsWho xs m) who p.master_named) q.master_named in
     let to : a ≡ b =
     IsAddressWord-one q.address a b (subst (λ (xs : List ℕ). IsAddressWord xs a) address p.address_written) q.address_written in
-    let number : p.number ≡ q.number =
-    IsCommandWord-one q.command p.number q.number (subst (λ (xs : List ℕ). IsCommandWord xs p.number) command p.command_written)
-    q.command_written in
-    let bytes : p.bytes ≡ q.bytes =
-    AreDataWords-one q.payload p.bytes q.bytes (subst (λ (xs : List (List ℕ)). AreDataWords xs p.bytes) payload p.data_written)
-    q.data_written in
     let read : Ok r ≡ Ok s =
-    sym p.read ∙ ap (λ (n : ℕ). request_reading n p.bytes) number ∙ ap (λ (xs : List ℕ). request_reading q.number xs) bytes ∙ q.read in
+    sym p.read ∙ read_as words n b s p.who p.address p.command p.payload p.number p.bytes p.row p.command_written p.data_written q in
     cc (master, to, read)
 IsEvent-one words (Submit m a r) (Turn n up down) p q = absurd (omega (arith, first_letter _ _ _ _ (sym p.row ∙ q.row)))
 IsEvent-one words (Submit m a r) (Protect on) p q = absurd (omega (arith, first_letter _ _ _ _ (sym p.row ∙ q)))

@@ -1,5 +1,5 @@
 -- A word of a message to send has one value.
-use Rattle.std.proofs.Common.{◌≡◌, ℕ, true, List, ◌∷◌, get_or, codes, inl, inr, refl, sym, ap, ◌∙◌, arith}
+use Rattle.std.proofs.Common.{◌≡◌, ℕ, true, List, [], ◌∷◌, get_or, codes, inl, inr, refl, sym, ap, ◌∙◌, arith}
 use Rattle.std.proofs.lemmas.List.Elements.{All-head}
 use Rattle.hex.specs.Hex.{is_hex_digit}
 use Rattle.hex.proofs.HexLemmas.{decode_of-ok, decode_of-same}
@@ -8,6 +8,7 @@ use Rattle.hart_values.specs.declared.address.Address.{Address}
 use Rattle.hart_values.specs.declared.address.Address.TheVariants.{Polling, Unique}
 use Rattle.hart_values.specs.declared.master_id.MasterId.{MasterId}
 use Rattle.hart_values.specs.declared.master_id.MasterId.TheVariants.{Primary, Secondary}
+use Rattle.hart_line.specs.Script.{AreDataWords}
 use Rattle.hart_line.specs.Words.{IsAddressWord, IsCommandWord, IsDataWord, IsDeviceWord, IsPollingWord, IsWho}
 
 -- a word is WHO for one master
@@ -71,3 +72,9 @@ IsCommandWord-one word m n p q = p.value ∙ sym q.value
 -- a word is that of one list of data
 pub IsDataWord-one : (word xs ys : List ℕ) → IsDataWord word xs → IsDataWord word ys → xs ≡ ys
 IsDataWord-one word xs ys p q = decode_of-same word xs ys p.0 q.0
+
+-- the words behind COMMAND write one list of data
+pub AreDataWords-one : (words : List (List ℕ)) (xs ys : List ℕ) → AreDataWords words xs → AreDataWords words ys → xs ≡ ys
+AreDataWords-one [] xs ys p q = p ∙ sym q
+AreDataWords-one (word ∷ []) xs ys p q = IsDataWord-one word xs ys p q
+AreDataWords-one (word ∷ other ∷ more) xs ys p q = absurd p

@@ -1,5 +1,5 @@
 //! The lines of a text and the words of a line.
-ghost use Rattle.std.specs.Prelude.{◌≡◌, ◌<◌, ◌≤◌, [], ◌∷◌, length, not};
+ghost use Rattle.std.specs.Prelude.{◌≡◌, ◌≢◌, [], ◌∷◌, length, not, MatchOption};
 ghost use Rattle.std.specs.List.{position_or_len};
 ghost use Rattle.std.specs.Str.Lines.{strip_carriage_return};
 ghost use Rattle.hart_line.specs.Lines.{is_blank, words_of};
@@ -14,20 +14,33 @@ pub fn without_return(part: &[u8]) -> &[u8]
     }
 }
 
-/// The first word of a line, and what follows it; no bytes where it has no word.
-pub fn next_word(line: &[u8]) -> (&[u8], &[u8])
-    ensures none { length (result.0).now ≡ 0 → words_of line.now ≡ [] }
-    ensures end { length (result.0).now ≡ 0 → (result.1).now ≡ [] }
-    ensures first { 0 < length (result.0).now → words_of line.now ≡ (result.0).now ∷ words_of (result.1).now }
+/// The first word of a line, and what follows it, or `None` where it has no word.
+#[tactic(auto, using(crate::proofs::LinesLemmas::position_within))]
+pub fn next_word(line: &[u8]) -> Option<(&[u8], &[u8])>
+    ensures { MatchOption result (words_of line.now ≡ [])
+        (λ taken. words_of line.now ≡ (taken.0).now ∷ words_of (taken.1).now) }
 {
     let rest = &line[blanks_at_front(line)..];
-    rest.split_at(len_before_blank(rest))
+    if rest.is_empty() {
+        return None;
+    }
+    Some(rest.split_at(len_before_blank(rest)))
+}
+
+/// The word of a line that has no other, or `None` where it has none or several.
+pub fn only_word(line: &[u8]) -> Option<&[u8]>
+    ensures { MatchOption result (length (words_of line.now) ≢ 1) (λ word. words_of line.now ≡ word.now ∷ []) }
+{
+    let (word, rest) = next_word(line)?;
+    match next_word(rest) {
+        None => Some(word),
+        Some(_) => None,
+    }
 }
 
 /// The number of blanks that a line begins with.
 fn blanks_at_front(line: &[u8]) -> usize
-    ensures within { result ≤ length line.now }
-    ensures place { result ≡ position_or_len (λ byte. not (is_blank byte)) line.now }
+    ensures { result ≡ position_or_len (λ byte. not (is_blank byte)) line.now }
 {
     line.iter()
         .position(|byte| !is_blank(*byte))
@@ -36,8 +49,7 @@ fn blanks_at_front(line: &[u8]) -> usize
 
 /// The number of bytes before the first blank.
 fn len_before_blank(line: &[u8]) -> usize
-    ensures within { result ≤ length line.now }
-    ensures place { result ≡ position_or_len is_blank line.now }
+    ensures { result ≡ position_or_len is_blank line.now }
 {
     line.iter()
         .position(|byte| is_blank(*byte))

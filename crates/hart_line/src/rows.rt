@@ -1,14 +1,15 @@
 //! The rows of the table of events, and the line that says none.
-ghost use Rattle.std.specs.Prelude.{◌≡◌, ◌∷◌, codes, IfOk, MatchOption, Bool};
+ghost use Rattle.std.specs.Prelude.{◌≡◌, ◌≢◌, [], ◌∷◌, codes, length, IfOk, MatchOption};
 ghost use Rattle.hart_line.specs.Lines.{words_of};
-ghost use Rattle.hart_line.specs.Script.{IsEvent, IsLeg, SaysLine};
+ghost use Rattle.hart_line.specs.Script.{AreDataWords, IsEvent, IsLeg, SaysLine};
 ghost use Rattle.hart_line.specs.Words.{HasNoValue};
 
 use crate::items::read_items;
-use crate::lines::next_word;
+use crate::lines::{next_word, only_word};
 use crate::words::{read_address, read_command, read_data, read_who};
 use crate::{Heard, LineEvent};
 use hart_commands::Request;
+use hart_frame::Payload;
 use std::alloc::{AllocError, Global};
 
 /// What a line says.
@@ -30,8 +31,10 @@ pub enum Line {
 pub fn read_line(alloc: Global, line: &[u8]) -> Result<Line, AllocError>
     ensures { IfOk result (SaysLine (words_of line.now)) }
 {
-    let (first, rest) = next_word(line);
-    if let [] | [b'#', ..] = first {
+    let Some((first, rest)) = next_word(line) else {
+        return Ok(Line::Skipped);
+    };
+    if let [b'#', ..] = first {
         return Ok(Line::Skipped);
     }
     match read_event(alloc, first, rest)? {
@@ -65,33 +68,27 @@ fn read_submit(rest: &[u8]) -> Option<LineEvent>
         (HasNoValue (IsEvent (codes "submit" ∷ words_of rest.now)))
         (IsEvent (codes "submit" ∷ words_of rest.now)) }
 {
-    let (who, rest) = next_word(rest);
-    let (address, rest) = next_word(rest);
-    let (command, rest) = next_word(rest);
-    let (payload, rest) = next_word(rest);
-    if !next_word(rest).0.is_empty() {
-        return None;
-    }
-    let Some(who) = read_who(who) else {
-        return None;
-    };
-    let Some(address) = read_address(address) else {
-        return None;
-    };
-    let Some(command) = read_command(command) else {
-        return None;
-    };
-    // An absent word is no bytes, and these write no data.
-    let Some(payload) = read_data(payload) else {
-        return None;
-    };
-    match Request::read(command, payload.as_slice()) {
-        Ok(request) => Some(LineEvent::Submit {
-            who,
-            address,
-            request,
-        }),
-        Err(_) => None,
+    let (who, rest) = next_word(rest)?;
+    let (address, rest) = next_word(rest)?;
+    let (command, rest) = next_word(rest)?;
+    let payload = read_payload(rest)?;
+    let request = Request::read(read_command(command)?, payload.as_slice()).ok()?;
+    Some(LineEvent::Submit {
+        who: read_who(who)?,
+        address: read_address(address)?,
+        request,
+    })
+}
+
+/// The data that the words behind COMMAND write: none, or those of one word.
+fn read_payload(rest: &[u8]) -> Option<Payload>
+    ensures { MatchOption result
+        (HasNoValue (AreDataWords (words_of rest.now)))
+        (AreDataWords (words_of rest.now)) }
+{
+    match next_word(rest) {
+        None => Some(Payload::new()),
+        Some(_) => read_data(only_word(rest)?),
     }
 }
 
@@ -105,12 +102,9 @@ fn read_turn(alloc: Global, rest: &[u8]) -> Result<Option<LineEvent>, AllocError
         (HasNoValue (IsEvent (codes "turn" ∷ words_of rest.now)))
         (IsEvent (codes "turn" ∷ words_of rest.now))) }
 {
-    let (who, rest) = next_word(rest);
-    let (up, rest) = next_word(rest);
-    let (down, rest) = next_word(rest);
-    if !next_word(rest).0.is_empty() {
+    let Some((who, up, down)) = three_words(rest) else {
         return Ok(None);
-    }
+    };
     let Some(who) = read_who(who) else {
         return Ok(None);
     };
@@ -121,6 +115,16 @@ fn read_turn(alloc: Global, rest: &[u8]) -> Result<Option<LineEvent>, AllocError
         return Ok(None);
     };
     Ok(Some(LineEvent::Turn { who, up, down }))
+}
+
+/// The words of a line that has just three.
+fn three_words(line: &[u8]) -> Option<(&[u8], &[u8], &[u8])>
+    ensures { MatchOption result (length (words_of line.now) ≢ 3)
+        (λ words. words_of line.now ≡ (words.0).now ∷ (words.1).now ∷ (words.2).now ∷ []) }
+{
+    let (first, rest) = next_word(line)?;
+    let (second, rest) = next_word(rest)?;
+    Some((first, second, only_word(rest)?))
 }
 
 /// What the word of a leg says that is heard.
@@ -147,11 +151,7 @@ fn read_protect(rest: &[u8]) -> Option<LineEvent>
         (HasNoValue (IsEvent (codes "protect" ∷ words_of rest.now)))
         (IsEvent (codes "protect" ∷ words_of rest.now)) }
 {
-    let (switch, rest) = next_word(rest);
-    if !next_word(rest).0.is_empty() {
-        return None;
-    }
-    match switch {
+    match only_word(rest)? {
         b"on" => Some(LineEvent::Protect(true)),
         b"off" => Some(LineEvent::Protect(false)),
         _ => None,
@@ -168,10 +168,9 @@ fn read_noise(alloc: Global, rest: &[u8]) -> Result<Option<LineEvent>, AllocErro
         (HasNoValue (IsEvent (codes "noise" ∷ words_of rest.now)))
         (IsEvent (codes "noise" ∷ words_of rest.now))) }
 {
-    let (items, rest) = next_word(rest);
-    if !next_word(rest).0.is_empty() {
+    let Some(items) = only_word(rest) else {
         return Ok(None);
-    }
+    };
     match read_items(alloc, items)? {
         Some(chars) => Ok(Some(LineEvent::Noise(chars))),
         None => Ok(None),
