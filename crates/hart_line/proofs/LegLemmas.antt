@@ -1,29 +1,24 @@
 -- What arrives in a leg, from what the code finds in it.
-use Rattle.std.proofs.Common.{◌≡◌, ℕ, ◌≤◌, ap, sym, refl, subst, arith, Option, None, Some, List, [], ◌∷◌, ◌++◌, length, replicate}
+use Rattle.std.proofs.Common.{◌≡◌, ℕ, ◌≤◌, ◌<◌, IfSome, ap, sym, refl, subst, Option, None, Some, List, [], ◌∷◌, ◌++◌, length, replicate}
 use Rattle.hart_frame.specs.Character.{Character, faultless}
 use Rattle.hart_frame.specs.FrameParts.{FrameParts}
 use Rattle.hart_frame.specs.Frames.{AreFrames, HasNoFrame, IsFirst}
-use Rattle.hart_frame.specs.Message.{IsMessage, IsPreambleCount}
+use Rattle.hart_frame.specs.Message.{IsMessage}
 use Rattle.hart_frame.specs.declared.found.Found.{Found}
 use Rattle.hart_commands.specs.declared.reply.Reply.{Reply}
 use Rattle.hart_device.specs.Delivery.{state_after_frames}
 use Rattle.hart_device.specs.Device.{DeviceState}
-use Rattle.hart_device.specs.declared.process.Process.{Process}
-use Rattle.hart_master.specs.Master.{MasterState, frame_sent, hand_sent, sendings_of}
+use Rattle.hart_master.specs.Master.{MasterState, hand_sent, sendings_of}
 use Rattle.hart_master.specs.declared.hand.Hand.{Hand}
 use Rattle.hart_master.specs.declared.hand.Hand.TheVariants.{Empty, ToSend, Awaiting}
-use Rattle.hart_line.specs.Damage.{Arrives, IsShown, IsUndetected}
-use Rattle.hart_line.specs.Parts.{ArrivesAmong, Concludes, IsSent, IsUndetectedAmong, ReturnBrings, Speaks, StopsTurn, Turns, outcomes_with, request_by, state_heard}
-use Rattle.hart_line.specs.Step.{frame_answered}
-use Rattle.hart_line.specs.Spoken.{Message, master_preambles, message_by, party_of}
-use Rattle.hart_line.specs.declared.event.Heard.{Heard}
+use Rattle.hart_line.specs.Damage.{Arrives, IsShown}
+use Rattle.hart_line.specs.Parts.{ArrivesAmong, Concludes, IsPlaced, IsSent, IsUndetectedAmong, ReturnBrings, Speaks}
+use Rattle.hart_line.specs.Spoken.{Message, message_by}
 use Rattle.hart_line.specs.declared.event.Heard.TheVariants.{Clean}
 use Rattle.hart_line.specs.declared.fault.Leg.TheVariants as legs
-use Rattle.hart_line.specs.declared.line.Stop.TheVariants.{Undetected}
 use Rattle.hart_line.specs.declared.report.Outcome.{Outcome}
 use Rattle.hart_line.specs.declared.report.Outcome.TheVariants.{Answered}
 use Rattle.hart_line.specs.declared.report.Party.{Party}
-use Rattle.hart_line.specs.declared.report.Party.TheVariants.{Device}
 use Rattle.hart_line.specs.declared.report.Spoken.{Spoken}
 
 -- AMONG CHARACTERS
@@ -122,76 +117,17 @@ answered_concludes master master' returned reply sendings brought counted is =
     (answered_by master returned reply sendings master.hand refl brought counted)
 
 -- A TURN
--- What the calls of a turn give up to what goes up, and up to what comes down.
-pub record Sends (up : Heard) (master sent_master : MasterState) (party : Party) (sent arrived : Option FrameParts)
-    (spoken mid : List Spoken) : Type 0 where
-  pub party_is : party ≡ party_of master.id
-  pub sent_is : sent ≡ frame_sent master.id master.hand
-  pub master_is : sent_master ≡ record master { hand = hand_sent master.hand }
-  pub speaks : Speaks (message_by party master_preambles sent) spoken mid
-  pub arrives : (message : Option Message) → IsSent sent message → Arrives up message arrived
-
-pub request_arrives : (up : Heard) (master sent_master : MasterState) (party : Party) (sent arrived : Option FrameParts)
-    (spoken mid : List Spoken) → Sends up master sent_master party sent arrived spoken mid → Arrives up (request_by master) arrived
-request_arrives up master sent_master party sent arrived spoken mid s =
-    rw (s.party_is, s.sent_is) at (s.arrives (message_by party master_preambles sent)
-    (spoken_sent party master_preambles sent spoken mid (omega arith) s.speaks))
-
-pub request_undetected : (up : Heard) (master : MasterState) (party : Party) (sent : Option FrameParts) (spoken mid : List Spoken)
-    → party ≡ party_of master.id → sent ≡ frame_sent master.id master.hand
-    → Speaks (message_by party master_preambles sent) spoken mid
-    → ((message : Option Message) → IsSent sent message → IsUndetected up message) → IsUndetected up (request_by master)
-request_undetected up master party sent spoken mid party_is sent_is speaks undetected =
-    rw (party_is, sent_is) at (undetected (message_by party master_preambles sent)
-    (spoken_sent party master_preambles sent spoken mid (omega arith) speaks))
-
-pub record Replies (process : Process) (device : DeviceState) (arrived answer : Option FrameParts) (preambles : ℕ)
-    (mid spoken' : List Spoken) : Type 0 where
-  pub answer_is : answer ≡ frame_answered device process arrived
-  pub preambles_are : preambles ≡ device.identity.response_preambles
-  pub in_range : IsPreambleCount preambles
-  pub speaks : Speaks (message_by Device preambles answer) mid spoken'
-
-reply_sent : (process : Process) (device : DeviceState) (arrived answer : Option FrameParts) (preambles : ℕ) (mid spoken' : List Spoken)
-    → Replies process device arrived answer preambles mid spoken' → IsSent answer (message_by Device preambles answer)
-reply_sent process device arrived answer preambles mid spoken' r =
-    let range = r.in_range.0 in spoken_sent Device preambles answer mid spoken' (omega (arith, range)) r.speaks
-
-pub stops_down : (process : Process) (up down : Heard) (device : DeviceState) (master sent_master : MasterState) (party : Party)
-    (sent arrived answer : Option FrameParts) (preambles : ℕ) (spoken mid spoken' : List Spoken)
-    → Sends up master sent_master party sent arrived spoken mid → Replies process device arrived answer preambles mid spoken'
-    → ((message : Option Message) → IsSent answer message → IsUndetected down message)
-    → StopsTurn process up down device master (Undetected legs.Down)
-stops_down process up down device master sent_master party sent arrived answer preambles spoken mid spoken' s r undetected = (
-  arrived,
-  request_arrives up master sent_master party sent arrived spoken mid s,
-  rw (r.answer_is, r.preambles_are) at (undetected (message_by Device preambles answer)
-      (reply_sent process device arrived answer preambles mid spoken' r)),
-)
-
-pub turns_from : (process : Process) (up down : Heard) (place : ℕ) (device device' : DeviceState)
-    (master sent_master master' : MasterState) (party : Party) (sent arrived answer returned : Option FrameParts) (preambles : ℕ)
-    (outcome : Option Outcome) (outcomes outcomes' : List Outcome) (spoken mid spoken' : List Spoken)
-    → Sends up master sent_master party sent arrived spoken mid → Replies process device arrived answer preambles mid spoken'
-    → ((message : Option Message) → IsSent answer message → Arrives down message returned)
-    → device' ≡ state_heard device arrived → Concludes sent_master master' returned outcome
-    → outcomes' ≡ outcomes_with place outcome outcomes
-    → Turns process up down place device device' master master' outcomes outcomes' spoken spoken'
-turns_from process up down place device device' master sent_master master' party sent arrived answer returned preambles outcome
-    outcomes outcomes' spoken mid spoken' s r returns device_is concludes outcomes_are = record {
-      arrived = arrived;
-      arrives = request_arrives up master sent_master party sent arrived spoken mid s;
-      returned = returned;
-      returns = rw (r.answer_is, r.preambles_are) at (returns (message_by Device preambles answer)
-          (reply_sent process device arrived answer preambles mid spoken' r));
-      outcome = outcome;
-      concludes = rw s.master_is at concludes;
-      device_is = device_is;
-      outcomes_are = outcomes_are;
-      mid = mid;
-      requested = rw (s.party_is, s.sent_is) at s.speaks;
-      replied = rw (r.answer_is, r.preambles_are) at r.speaks;
-    }
+-- An outcome has a place, where one is concluded.
+pub concluded_placed : (master master' : MasterState) (returned : Option FrameParts) (place : ℕ) (outcome : Option Outcome)
+    (outcomes : List Outcome) → IsPlaced master place outcomes
+    → Concludes (record master { hand = hand_sent master.hand }) master' returned outcome → IfSome outcome (λ _. place < length outcomes)
+concluded_placed master master' returned place outcome outcomes placed concludes =
+    by_hand master.hand refl
+  where
+    by_hand : (hand : Hand) → master.hand ≡ hand → IfSome outcome (λ _. place < length outcomes)
+    by_hand Empty is = rw (concludes.outcome_is, is) tt
+    by_hand (ToSend transaction) is = rw (concludes.outcome_is, is) (placed (λ empty. cc))
+    by_hand (Awaiting transaction time) is = rw (concludes.outcome_is, is) (placed (λ empty. cc))
 
 -- NOISE
 -- No frame of noise changes the device.

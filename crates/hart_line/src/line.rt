@@ -208,9 +208,8 @@ fn turn<S: RegisterStore>(
         return Err(Stop::Undetected(Leg::Down));
     };
     receive(other, &returned);
-    if let Some(outcome) = conclude(&mut turning.master, &returned) {
-        log.outcomes.replace(turning.place, outcome);
-    }
+    let outcome = conclude(&mut turning.master, &returned);
+    log.outcomes.replace(turning.place, outcome);
     Ok(())
 }
 

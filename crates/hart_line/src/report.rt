@@ -1,4 +1,5 @@
-ghost use Rattle.std.specs.Prelude.{◌≡◌, ◌<◌, [], ◌∷◌, ◌++◌, OnOk, length, slice_set};
+ghost use Rattle.std.specs.Prelude.{◌≡◌, ◌<◌, [], ◌∷◌, ◌++◌, IfSome, OnOk, length};
+ghost use Rattle.hart_line.specs.Parts.{outcomes_with};
 
 use hart_commands::Reply;
 use hart_device::{Device, RegisterStore};
@@ -82,12 +83,14 @@ impl Outcomes {
         Ok(())
     }
 
-    /// Gives the submission at this place another outcome.
-    pub(crate) fn replace(&mut self, place: usize, outcome: Outcome)
-        requires { place < length self.old }
-        ensures { self.new ≡ slice_set self.old place outcome }
+    /// Gives the submission at this place another outcome, where there is one.
+    pub(crate) fn replace(&mut self, place: usize, outcome: Option<Outcome>)
+        requires { IfSome outcome (λ _. place < length self.old) }
+        ensures { self.new ≡ outcomes_with place outcome self.old }
     {
-        self.outcomes[place] = outcome;
+        if let Some(outcome) = outcome {
+            self.outcomes[place] = outcome;
+        }
     }
 }
 

@@ -1,69 +1,39 @@
-use Rattle.std.proofs.Common.{Some, None, ◌∙◌, ap, refl}
+use Rattle.std.proofs.Common.{◌∙◌, ap, arith}
 use Rattle.hart_line.specs.Spoken.{party_of}
-use Rattle.hart_line.proofs.LegLemmas.{stops_down, turns_from}
+use Rattle.hart_line.proofs.LegLemmas.{concluded_placed, spoken_sent}
 use Rattle.hart_line.proofs.line.turn.Goals as goal
 
 pub returns-in_default-arrived_in-clause-stopped :
     goal.returns-in_default-arrived_in-clause-stopped
 returns-in_default-arrived_in-clause-stopped g c =
-    stops_down c.args.process.now c.args.up.now c.args.down.now c.args.device.now c.args.turning.now.master c.send-sent.new.self
-    c.party_of-party.result c.send-sent.result c.in-Some.arrived c.answer-answer.result c.response_preambles-preambles.result
-    c.args.log.now.spoken c.speak.new.spoken c.speak-2.new.spoken
-    (record {
-      party_is = c.party_of-party.ensures ∙ ap party_of c.id.ensures;
-      sent_is = c.send-sent.ensures.frame;
-      master_is = c.send-sent.ensures.state;
-      speaks = c.in_ok-speak.ensures;
-      arrives = c.in-Some.ensures.arrives;
-    })
-    (record {
-      answer_is = c.answer-answer.ensures.answer;
-      preambles_are = c.response_preambles-preambles.ensures.same;
-      in_range = c.response_preambles-preambles.ensures.in_range;
-      speaks = c.in_ok-speak-2.ensures;
-    })
-    c.in_default-arrived_in.ensures.undetected
+    let party = c.party_of-party.ensures ∙ ap party_of c.id.ensures in
+    let enough = c.response_preambles-preambles.ensures.in_range.0 in (
+      c.in-Some.arrived,
+      rw (party, c.send-sent.ensures.frame) at (c.in-Some.ensures.arrives _ (spoken_sent _ _ _ _ _ (omega arith) c.in_ok-speak.ensures)),
+      rw (c.answer-answer.ensures.answer, c.response_preambles-preambles.ensures.same) at
+          (c.in_default-arrived_in.ensures.undetected _ (spoken_sent _ _ _ _ _ (omega (arith, enough)) c.in_ok-speak-2.ensures)),
+    )
 
-pub returns-in-Some-conclude-clause-turned : goal.returns-in-Some-conclude-clause-turned
-returns-in-Some-conclude-clause-turned g c =
-    turns_from c.args.process.now c.args.up.now c.args.down.now c.args.turning.now.place c.args.device.now c.answer-answer.new.device
-    c.args.turning.now.master c.send-sent.new.self c.conclude.new.master
-    c.party_of-party.result c.send-sent.result c.in-Some.arrived c.answer-answer.result c.in-Some-arrived_in.returned
-    c.response_preambles-preambles.result (Some c.in-Some-conclude.outcome) c.args.log.now.outcomes c.replace.new.self
-    c.args.log.now.spoken c.speak.new.spoken c.speak-2.new.spoken
-    (record {
-      party_is = c.party_of-party.ensures ∙ ap party_of c.id.ensures;
-      sent_is = c.send-sent.ensures.frame;
-      master_is = c.send-sent.ensures.state;
-      speaks = c.in_ok-speak.ensures;
-      arrives = c.in-Some.ensures.arrives;
-    })
-    (record {
-      answer_is = c.answer-answer.ensures.answer;
-      preambles_are = c.response_preambles-preambles.ensures.same;
-      in_range = c.response_preambles-preambles.ensures.in_range;
-      speaks = c.in_ok-speak-2.ensures;
-    })
-    c.in-Some-arrived_in.ensures.arrives c.answer-answer.ensures.state c.in-Some-conclude.ensures c.replace.ensures
+pub replace-requires : goal.replace-requires
+replace-requires g c =
+    concluded_placed c.args.turning.now.master _ _ _ _ _ c.requires.placed (rw c.send-sent.ensures.state at c.conclude-outcome.ensures)
 
-pub returns-in_default-conclude-clause-turned : goal.returns-in_default-conclude-clause-turned
-returns-in_default-conclude-clause-turned g c =
-    turns_from c.args.process.now c.args.up.now c.args.down.now c.args.turning.now.place c.args.device.now c.answer-answer.new.device
-    c.args.turning.now.master c.send-sent.new.self c.conclude.new.master
-    c.party_of-party.result c.send-sent.result c.in-Some.arrived c.answer-answer.result c.in-Some-arrived_in.returned
-    c.response_preambles-preambles.result None c.args.log.now.outcomes c.args.log.now.outcomes
-    c.args.log.now.spoken c.speak.new.spoken c.speak-2.new.spoken
-    (record {
-      party_is = c.party_of-party.ensures ∙ ap party_of c.id.ensures;
-      sent_is = c.send-sent.ensures.frame;
-      master_is = c.send-sent.ensures.state;
-      speaks = c.in_ok-speak.ensures;
-      arrives = c.in-Some.ensures.arrives;
-    })
-    (record {
-      answer_is = c.answer-answer.ensures.answer;
-      preambles_are = c.response_preambles-preambles.ensures.same;
-      in_range = c.response_preambles-preambles.ensures.in_range;
-      speaks = c.in_ok-speak-2.ensures;
-    })
-    c.in-Some-arrived_in.ensures.arrives c.answer-answer.ensures.state c.in_default-conclude.ensures refl
+pub returns-clause-turned : goal.returns-clause-turned
+returns-clause-turned g c =
+    let party = c.party_of-party.ensures ∙ ap party_of c.id.ensures in
+    let enough = c.response_preambles-preambles.ensures.in_range.0 in
+    record {
+      arrived = c.in-Some.arrived;
+      arrives = rw (party, c.send-sent.ensures.frame) at
+          (c.in-Some.ensures.arrives _ (spoken_sent _ _ _ _ _ (omega arith) c.in_ok-speak.ensures));
+      returned = c.in-Some-arrived_in.returned;
+      returns = rw (c.answer-answer.ensures.answer, c.response_preambles-preambles.ensures.same) at
+          (c.in-Some-arrived_in.ensures.arrives _ (spoken_sent _ _ _ _ _ (omega (arith, enough)) c.in_ok-speak-2.ensures));
+      outcome = c.conclude-outcome.result;
+      concludes = rw c.send-sent.ensures.state at c.conclude-outcome.ensures;
+      device_is = c.answer-answer.ensures.state;
+      outcomes_are = c.replace.ensures;
+      mid = c.speak.new.spoken;
+      requested = rw (party, c.send-sent.ensures.frame) at c.in_ok-speak.ensures;
+      replied = rw (c.answer-answer.ensures.answer, c.response_preambles-preambles.ensures.same) at c.in_ok-speak-2.ensures;
+    }
