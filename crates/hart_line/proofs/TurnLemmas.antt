@@ -13,9 +13,10 @@ use Rattle.hart_master.specs.declared.hand.Hand.{Hand}
 use Rattle.hart_master.specs.declared.hand.Hand.TheVariants.{Awaiting}
 use Rattle.hart_line.specs.Parts.{IsParty, IsPlace, MarksWithin, Stands, Stepped, Turns, hand_after, hand_concluded, hand_of, state_heard}
 use Rattle.hart_line.specs.Spoken.{AreSpoken}
-use Rattle.hart_line.specs.Step.{IsTurn, sent_back, effect_on, hand_left, message_of, outcome_of, turned}
+use Rattle.hart_line.specs.Step.{Step, sent_back, effect_on, hand_left, message_of, outcome_of, turned}
 use Rattle.hart_line.specs.World.{InHand, Start, World, state_of}
 use Rattle.hart_line.specs.declared.event.Heard.{Heard}
+use Rattle.hart_line.specs.declared.event.LineEvent.{LineEvent}
 use Rattle.hart_line.specs.declared.event.LineEvent.TheVariants.{Turn}
 use Rattle.hart_line.specs.declared.report.Outcome.{Outcome}
 use Rattle.hart_line.specs.declared.report.Outcome.TheVariants.{Answered, NoReply, Unfinished, Refused}
@@ -55,11 +56,11 @@ pub party_state : (id : MasterId) (start : Start) (world : World) (master : Mast
     }
 party_state id start world master place p = same_master master _ p.id_is p.retries_are refl p.hand_is
 
--- What a turn of one master leads to.
-pub record Turned (start : Start) (world : World) (id : MasterId) (up down : Heard) (device : DeviceState)
+-- What an event of one master leads to: the next world, and what that master and the line are in it; the other one's hand stays.
+pub record Moved (start : Start) (world : World) (id : MasterId) (event : LineEvent) (device : DeviceState)
     (master : MasterState) (place : ℕ) (outcomes : List Outcome) (spoken : List Spoken) : Type 0 where
   pub next : World
-  pub is_turn : IsTurn start world id up down next
+  pub step : Step start world event next
   pub device_is : device ≡ state_of start.device next
   pub party_is : IsParty id start next master place
   pub others : (other : MasterId) → other ≢ id → of_master other next.hands ≡ of_master other world.hands
@@ -103,12 +104,12 @@ turned_by : LastLaw → (start : Start) (world : World) (id : MasterId) (up down
     → Turns start.process up down place (state_of start.device world) device'
     (record { id = id; retries = of_master id start.retries; reply_limit = limit; hand = hand_of hand }) master'
     world.outcomes outcomes' spoken spoken'
-    → Turned start world id up down device' master' place outcomes' spoken'
+    → Moved start world id (Turn id up down) device' master' place outcomes' spoken'
 turned_by last start world id up down place limit None within in_hand is_place device' master' outcomes' spoken spoken' are t =
     let arrived = none_arrives up t.arrived t.arrives in
     let accepted = accepts_none id t.returned t.concludes.accepted t.concludes.accepts in record {
       next = world;
-      is_turn = record {
+      step = record {
         arrived = t.arrived;
         arrives = rw in_hand t.arrives;
         returned = t.returned;
@@ -135,7 +136,7 @@ turned_by last start world id up down place limit (Some held) within in_hand is_
     let next = turned start world id (Some held) t.arrived accepted in
     let left = of_master-same id (hand_left held outcome) world.hands in record {
       next = next;
-      is_turn = record {
+      step = record {
         arrived = t.arrived;
         arrives = rw in_hand t.arrives;
         returned = t.returned;
@@ -168,7 +169,7 @@ pub turned_from : LastLaw → (start : Start) (world : World) (id : MasterId) (u
     → start.process ≡ process → MarksWithin world → device ≡ state_of start.device world → IsParty id start world master place
     → outcomes ≡ world.outcomes → AreSpoken world.spoken spoken
     → Turns process up down place device device' master master' outcomes outcomes' spoken spoken'
-    → Turned start world id up down device' master' place outcomes' spoken'
+    → Moved start world id (Turn id up down) device' master' place outcomes' spoken'
 turned_from last start world id up down place process device device' master master' outcomes outcomes' spoken spoken'
     process_is within device_is party outcomes_are are t =
     turned_by last start world id up down place master.reply_limit (of_master id world.hands) within refl party.place_is device' master'
@@ -189,64 +190,48 @@ IsParty-same id start world next master place same p = record {
   place_is = rw same p.place_is;
 }
 
-pub turn_primary : (start : Start) (world : World) (up down : Heard) (device : DeviceState) (primary : MasterState) (primary_place : ℕ)
-    (secondary : MasterState) (secondary_place : ℕ) (outcomes : List Outcome) (spoken : List Spoken)
-    → IsParty Secondary start world secondary secondary_place
-    → Turned start world Primary up down device primary primary_place outcomes spoken
-    → Stepped start world (Turn Primary up down) device primary primary_place secondary secondary_place outcomes spoken
-turn_primary start world up down device primary primary_place secondary secondary_place outcomes spoken other t = record {
-  next = t.next;
-  step = t.is_turn;
-  stands = record {
-    device_is = t.device_is;
-    primary_is = t.party_is;
-    secondary_is = IsParty-same Secondary start world t.next secondary secondary_place (t.others Secondary (λ is. cc)) other;
-    outcomes_are = t.outcomes_are;
-    spoken_are = t.spoken_are;
-  };
-}
+-- The two masters of a line, or their places.
+abbrev pub both : {A : Type 0} → A → A → Each A
+both primary secondary = record { primary = primary; secondary = secondary }
 
-pub turn_secondary : (start : Start) (world : World) (up down : Heard) (device : DeviceState) (primary : MasterState) (primary_place : ℕ)
-    (secondary : MasterState) (secondary_place : ℕ) (outcomes : List Outcome) (spoken : List Spoken)
-    → IsParty Primary start world primary primary_place
-    → Turned start world Secondary up down device secondary secondary_place outcomes spoken
-    → Stepped start world (Turn Secondary up down) device primary primary_place secondary secondary_place outcomes spoken
-turn_secondary start world up down device primary primary_place secondary secondary_place outcomes spoken other t = record {
-  next = t.next;
-  step = t.is_turn;
-  stands = record {
-    device_is = t.device_is;
-    secondary_is = t.party_is;
-    primary_is = IsParty-same Primary start world t.next primary primary_place (t.others Primary (λ is. cc)) other;
-    outcomes_are = t.outcomes_are;
-    spoken_are = t.spoken_are;
-  };
-}
-
-pub primary_steps : LastLaw → (start : Start) (world : World) (up down : Heard) (process : Process) (device device' : DeviceState)
-    (primary primary' : MasterState) (place place' : ℕ) (secondary secondary' : MasterState) (secondary_place : ℕ)
+-- An event of one master leaves both of them parties of the next world.
+party_moved : (id other : MasterId) (start : Start) (world : World) (event : LineEvent) (device device' : DeviceState)
+    (primary : MasterState) (primary_place : ℕ) (secondary : MasterState) (secondary_place : ℕ) (master' : MasterState) (place' : ℕ)
     (outcomes outcomes' : List Outcome) (spoken spoken' : List Spoken)
-    → start.process ≡ process → MarksWithin world → Stands start world device primary place secondary secondary_place outcomes spoken
-    → Turns process up down place device device' primary primary' outcomes outcomes' spoken spoken'
-    → secondary' ≡ secondary → place' ≡ place
-    → Stepped start world (Turn Primary up down) device' primary' place' secondary' secondary_place outcomes' spoken'
-primary_steps last start world up down process device device' primary primary' place place' secondary secondary' secondary_place
-    outcomes outcomes' spoken spoken' process_is within s turns other_is place_is =
-    rw (other_is, place_is) (turn_primary start world up down device' primary' place secondary secondary_place outcomes' spoken'
-    s.secondary_is
-    (turned_from last start world Primary up down place process device device' primary primary' outcomes outcomes' spoken spoken'
-    process_is within s.device_is s.primary_is s.outcomes_are s.spoken_are turns))
+    → Stands start world device primary primary_place secondary secondary_place outcomes spoken
+    → (m : Moved start world id event device' master' place' outcomes' spoken')
+    → IsParty other start m.next (of_master other (with_master id master' (both primary secondary)))
+    (of_master other (with_master id place' (both primary_place secondary_place)))
+party_moved Primary Primary start world event device device' p pp q qp m' place' outcomes outcomes' spoken spoken' s m = m.party_is
+party_moved Primary Secondary start world event device device' p pp q qp m' place' outcomes outcomes' spoken spoken' s m =
+    IsParty-same Secondary start world m.next q qp (m.others Secondary (λ is. cc)) s.secondary_is
+party_moved Secondary Primary start world event device device' p pp q qp m' place' outcomes outcomes' spoken spoken' s m =
+    IsParty-same Primary start world m.next p pp (m.others Primary (λ is. cc)) s.primary_is
+party_moved Secondary Secondary start world event device device' p pp q qp m' place' outcomes outcomes' spoken spoken' s m = m.party_is
 
-pub secondary_steps : LastLaw → (start : Start) (world : World) (up down : Heard) (process : Process) (device device' : DeviceState)
-    (primary primary' : MasterState) (primary_place : ℕ) (secondary secondary' : MasterState) (place place' : ℕ)
+pub stepped_by : (id : MasterId) (start : Start) (world : World) (event : LineEvent) (device device' : DeviceState)
+    (primary primary' : MasterState) (primary_place primary_place' : ℕ) (secondary secondary' : MasterState)
+    (secondary_place secondary_place' : ℕ) (master' : MasterState) (place' : ℕ)
     (outcomes outcomes' : List Outcome) (spoken spoken' : List Spoken)
-    → start.process ≡ process → MarksWithin world → Stands start world device primary primary_place secondary place outcomes spoken
-    → Turns process up down place device device' secondary secondary' outcomes outcomes' spoken spoken'
-    → primary' ≡ primary → place' ≡ place
-    → Stepped start world (Turn Secondary up down) device' primary' primary_place secondary' place' outcomes' spoken'
-secondary_steps last start world up down process device device' primary primary' primary_place secondary secondary' place place'
-    outcomes outcomes' spoken spoken' process_is within s turns other_is place_is =
-    rw (other_is, place_is) (turn_secondary start world up down device' primary primary_place secondary' place outcomes' spoken'
-    s.primary_is
-    (turned_from last start world Secondary up down place process device device' secondary secondary' outcomes outcomes' spoken spoken'
-    process_is within s.device_is s.secondary_is s.outcomes_are s.spoken_are turns))
+    → Stands start world device primary primary_place secondary secondary_place outcomes spoken
+    → Moved start world id event device' master' place' outcomes' spoken'
+    → primary' ≡ (with_master id master' (both primary secondary)).primary
+    → primary_place' ≡ (with_master id place' (both primary_place secondary_place)).primary
+    → secondary' ≡ (with_master id master' (both primary secondary)).secondary
+    → secondary_place' ≡ (with_master id place' (both primary_place secondary_place)).secondary
+    → Stepped start world event device' primary' primary_place' secondary' secondary_place' outcomes' spoken'
+stepped_by id start world event device device' p p' pp pp' q q' qp qp' m' place' outcomes outcomes' spoken spoken' s m one place other
+    another =
+    record {
+      next = m.next;
+      step = m.step;
+      stands = record {
+        device_is = m.device_is;
+        primary_is = rw (one, place)
+            (party_moved id Primary start world event device device' p pp q qp m' place' outcomes outcomes' spoken spoken' s m);
+        secondary_is = rw (other, another)
+            (party_moved id Secondary start world event device device' p pp q qp m' place' outcomes outcomes' spoken spoken' s m);
+        outcomes_are = m.outcomes_are;
+        spoken_are = m.spoken_are;
+      };
+    }

@@ -1,48 +1,50 @@
+use Rattle.std.proofs.Common.{refl}
 use Rattle.hart_values.specs.declared.master_id.MasterId.TheVariants.{Primary, Secondary}
-use Rattle.hart_line.proofs.EventLemmas.{if_err, noise_from, on_ok, protected_from, stops_from, submit_primary, submit_secondary}
-use Rattle.hart_line.proofs.TurnLemmas.{primary_steps, secondary_steps}
+use Rattle.hart_line.proofs.EventLemmas.{if_err, noise_from, on_ok, protected_from, stops_from, submitted_from}
+use Rattle.hart_line.proofs.TurnLemmas.{stepped_by, turned_from}
 use Rattle.hart_line.proofs.line.step.Goals as goal
 
 pub returns-in-Primary-who-clause-stepped : goal.returns-in-Primary-who-clause-stepped
 returns-in-Primary-who-clause-stepped g c =
-    on_ok c.turn.result (λ turned other place start world process within stands. rw (c.in-Turn.is, c.in-Primary-who.is)
-    (primary_steps c.registers_of_lists.ensures.last start world c.in-Turn.up c.in-Turn.down c.args.process.now _ _ _ _ _ _ _ _ _ _ _ _ _
-    process within stands turned other place))
+    on_ok c.turn.result (λ turned other place start world process within s. rw (c.in-Turn.is, c.in-Primary-who.is)
+    (stepped_by Primary start world _ _ _ _ _ _ _ _ _ _ _ _ _ _ _ _ _ s (turned_from c.registers_of_lists.ensures.last start world Primary
+    c.in-Turn.up c.in-Turn.down _ c.args.process.now _ _ _ _ _ _ _ _ process within s.device_is s.primary_is s.outcomes_are s.spoken_are
+    turned) refl place other refl))
     c.turn.ensures.turned c.turn.ensures.other c.turn.ensures.place
 
 pub returns-in-Primary-who-clause-stopped : goal.returns-in-Primary-who-clause-stopped
 returns-in-Primary-who-clause-stopped g c =
-    if_err c.turn.result (λ stop stops start world process stands. rw (c.in-Turn.is, c.in-Primary-who.is)
-    (stops_from start world Primary c.in-Turn.up c.in-Turn.down c.args.process.now _ _ _ stop process stands.device_is stands.primary_is
-    stops)) c.turn.ensures.stopped
+    if_err c.turn.result (λ stop stops start world process s. rw (c.in-Turn.is, c.in-Primary-who.is)
+    (stops_from start world Primary c.in-Turn.up c.in-Turn.down c.args.process.now _ _ _ stop process s.device_is s.primary_is stops))
+    c.turn.ensures.stopped
 
 pub returns-in-Secondary-who-clause-stepped : goal.returns-in-Secondary-who-clause-stepped
 returns-in-Secondary-who-clause-stepped g c =
     let call = c.turn-in-Secondary-who in
-    on_ok call.result (λ turned other place start world process within stands. rw (c.in-Turn.is, c.in-Secondary-who.is)
-    (secondary_steps c.registers_of_lists.ensures.last start world c.in-Turn.up c.in-Turn.down c.args.process.now _ _ _ _ _ _ _ _ _ _ _ _ _
-    process within stands turned other place))
+    on_ok call.result (λ turned other place start world process within s. rw (c.in-Turn.is, c.in-Secondary-who.is)
+    (stepped_by Secondary start world _ _ _ _ _ _ _ _ _ _ _ _ _ _ _ _ _ s (turned_from c.registers_of_lists.ensures.last start world Secondary
+    c.in-Turn.up c.in-Turn.down _ c.args.process.now _ _ _ _ _ _ _ _ process within s.device_is s.secondary_is s.outcomes_are s.spoken_are
+    turned) other refl refl place))
     call.ensures.turned call.ensures.other call.ensures.place
 
 pub returns-in-Secondary-who-clause-stopped : goal.returns-in-Secondary-who-clause-stopped
 returns-in-Secondary-who-clause-stopped g c =
     let call = c.turn-in-Secondary-who in
-    if_err call.result (λ stop stops start world process stands. rw (c.in-Turn.is, c.in-Secondary-who.is)
-    (stops_from start world Secondary c.in-Turn.up c.in-Turn.down c.args.process.now _ _ _ stop process stands.device_is stands.secondary_is
-    stops))
+    if_err call.result (λ stop stops start world process s. rw (c.in-Turn.is, c.in-Secondary-who.is)
+    (stops_from start world Secondary c.in-Turn.up c.in-Turn.down c.args.process.now _ _ _ stop process s.device_is s.secondary_is stops))
     call.ensures.stopped
 
 pub returns-in_ok-submit-in-Primary-clause-stepped :
     goal.returns-in_ok-submit-in-Primary-clause-stepped
-returns-in_ok-submit-in-Primary-clause-stepped g c = λ start world process within stands.
-    rw (c.in-Submit.is, c.in-Primary.is) (submit_primary start world c.in-Submit.address c.in-Submit.request _ _ _ _ _ _ _ _ _ _
-    stands c.in_ok-submit-in-Primary.ensures)
+returns-in_ok-submit-in-Primary-clause-stepped g c = λ start world process within s. rw (c.in-Submit.is, c.in-Primary.is)
+    (stepped_by Primary start world _ _ _ _ _ _ _ _ _ _ _ _ _ _ _ _ _ s (submitted_from start world Primary c.in-Submit.address c.in-Submit.request
+    _ _ _ _ _ _ _ _ s.device_is s.primary_is s.outcomes_are s.spoken_are c.in_ok-submit-in-Primary.ensures) refl refl refl refl)
 
 pub returns-in_ok-submit-in-Secondary-clause-stepped :
     goal.returns-in_ok-submit-in-Secondary-clause-stepped
-returns-in_ok-submit-in-Secondary-clause-stepped g c = λ start world process within stands.
-    rw (c.in-Submit.is, c.in-Secondary.is) (submit_secondary start world c.in-Submit.address c.in-Submit.request _ _ _ _ _ _ _ _ _ _
-    stands c.in_ok-submit-in-Secondary.ensures)
+returns-in_ok-submit-in-Secondary-clause-stepped g c = λ start world process within s. rw (c.in-Submit.is, c.in-Secondary.is)
+    (stepped_by Secondary start world _ _ _ _ _ _ _ _ _ _ _ _ _ _ _ _ _ s (submitted_from start world Secondary c.in-Submit.address
+    c.in-Submit.request _ _ _ _ _ _ _ _ s.device_is s.secondary_is s.outcomes_are s.spoken_are c.in_ok-submit-in-Secondary.ensures) refl refl refl refl)
 
 pub returns-in-Protect-clause-stepped : goal.returns-in-Protect-clause-stepped
 returns-in-Protect-clause-stepped g c = λ start world process within stands.
