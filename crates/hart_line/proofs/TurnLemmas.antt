@@ -195,24 +195,22 @@ abbrev pub both : {A : Type 0} → A → A → Each A
 both primary secondary = record { primary = primary; secondary = secondary }
 
 -- An event of one master leaves both of them parties of the next world.
-party_moved : (id other : MasterId) (start : Start) (world : World) (event : LineEvent) (device device' : DeviceState)
-    (primary : MasterState) (primary_place : ℕ) (secondary : MasterState) (secondary_place : ℕ) (master' : MasterState) (place' : ℕ)
-    (outcomes outcomes' : List Outcome) (spoken spoken' : List Spoken)
+party_moved : (id other : MasterId) {start : Start} {world : World} {event : LineEvent} {device device' : DeviceState}
+    {primary : MasterState} {primary_place : ℕ} {secondary : MasterState} {secondary_place : ℕ} {master' : MasterState} {place' : ℕ}
+    {outcomes outcomes' : List Outcome} {spoken spoken' : List Spoken}
     → Stands start world device primary primary_place secondary secondary_place outcomes spoken
     → (m : Moved start world id event device' master' place' outcomes' spoken')
     → IsParty other start m.next (of_master other (with_master id master' (both primary secondary)))
     (of_master other (with_master id place' (both primary_place secondary_place)))
-party_moved Primary Primary start world event device device' p pp q qp m' place' outcomes outcomes' spoken spoken' s m = m.party_is
-party_moved Primary Secondary start world event device device' p pp q qp m' place' outcomes outcomes' spoken spoken' s m =
-    IsParty-same Secondary start world m.next q qp (m.others Secondary (λ is. cc)) s.secondary_is
-party_moved Secondary Primary start world event device device' p pp q qp m' place' outcomes outcomes' spoken spoken' s m =
-    IsParty-same Primary start world m.next p pp (m.others Primary (λ is. cc)) s.primary_is
-party_moved Secondary Secondary start world event device device' p pp q qp m' place' outcomes outcomes' spoken spoken' s m = m.party_is
+party_moved Primary Primary s m = m.party_is
+party_moved Primary Secondary s m = IsParty-same Secondary _ _ m.next _ _ (m.others Secondary (λ is. cc)) s.secondary_is
+party_moved Secondary Primary s m = IsParty-same Primary _ _ m.next _ _ (m.others Primary (λ is. cc)) s.primary_is
+party_moved Secondary Secondary s m = m.party_is
 
-pub stepped_by : (id : MasterId) (start : Start) (world : World) (event : LineEvent) (device device' : DeviceState)
-    (primary primary' : MasterState) (primary_place primary_place' : ℕ) (secondary secondary' : MasterState)
-    (secondary_place secondary_place' : ℕ) (master' : MasterState) (place' : ℕ)
-    (outcomes outcomes' : List Outcome) (spoken spoken' : List Spoken)
+pub stepped_by : (id : MasterId) {start : Start} {world : World} {event : LineEvent} {device device' : DeviceState}
+    {primary primary' : MasterState} {primary_place primary_place' : ℕ} {secondary secondary' : MasterState}
+    {secondary_place secondary_place' : ℕ} {master' : MasterState} {place' : ℕ}
+    {outcomes outcomes' : List Outcome} {spoken spoken' : List Spoken}
     → Stands start world device primary primary_place secondary secondary_place outcomes spoken
     → Moved start world id event device' master' place' outcomes' spoken'
     → primary' ≡ (with_master id master' (both primary secondary)).primary
@@ -220,18 +218,14 @@ pub stepped_by : (id : MasterId) (start : Start) (world : World) (event : LineEv
     → secondary' ≡ (with_master id master' (both primary secondary)).secondary
     → secondary_place' ≡ (with_master id place' (both primary_place secondary_place)).secondary
     → Stepped start world event device' primary' primary_place' secondary' secondary_place' outcomes' spoken'
-stepped_by id start world event device device' p p' pp pp' q q' qp qp' m' place' outcomes outcomes' spoken spoken' s m one place other
-    another =
-    record {
-      next = m.next;
-      step = m.step;
-      stands = record {
-        device_is = m.device_is;
-        primary_is = rw (one, place)
-            (party_moved id Primary start world event device device' p pp q qp m' place' outcomes outcomes' spoken spoken' s m);
-        secondary_is = rw (other, another)
-            (party_moved id Secondary start world event device device' p pp q qp m' place' outcomes outcomes' spoken spoken' s m);
-        outcomes_are = m.outcomes_are;
-        spoken_are = m.spoken_are;
-      };
-    }
+stepped_by id s m one one_place other other_place = record {
+  next = m.next;
+  step = m.step;
+  stands = record {
+    device_is = m.device_is;
+    primary_is = rw (one, one_place) (party_moved id Primary s m);
+    secondary_is = rw (other, other_place) (party_moved id Secondary s m);
+    outcomes_are = m.outcomes_are;
+    spoken_are = m.spoken_are;
+  };
+}
