@@ -3,7 +3,7 @@ use Rattle.hart_device.specs.Device.{DeviceState}
 use Rattle.hart_values.specs.declared.master_id.MasterId.TheVariants.{Primary, Secondary}
 use Rattle.hart_line.specs.Promises.{start_of}
 use Rattle.hart_line.proofs.ReachedLemmas.{fault_at, party_placed, party_rests, reached_first, reached_more}
-use Rattle.hart_line.proofs.WholeLemmas.{answered_reached, at_most_reached, counter_reached, device_reached, registers_reached, outcomes_reached, reached_whole, spoken_reached}
+use Rattle.hart_line.proofs.WholeLemmas.{answered_reached, at_most_reached, of_last, reached_whole, registers_reached}
 use Rattle.hart_line.proofs.WrittenLemmas.{WriteLaws, answered_executed}
 use Rattle.hart_line.proofs.RunLemmas.{Laws}
 use Rattle.hart_line.proofs.ResetLemmas.{refused_last, unseen}
@@ -63,86 +63,44 @@ loop-index-preserved g c =
     reached_more start c.args.events.now c.loop-index.index _ _ _ _ _ _ _ _ _ _ _ _ _ _ _ c.loop-index-test.true reached
     (rw c.index-events-index.is at (c.in_default.ensures.stepped start reached.world refl reached.sound.marks reached.stands))
 
-pub returns-clause-world : goal.returns-clause-world
-returns-clause-world g c =
+pub returns : goal.returns
+returns g c =
     let reached = reached_whole _ _ _ _ _ _ _ _ _ _ (omega (arith, c.loop-index-test.false)) c.loop-index.invariant in
-    (reached.world, reached.is_last)
-
-pub returns-clause-device : goal.returns-clause-device
-returns-clause-device g c = λ world last.
-    device_reached c.scripts_have_one_last_world.ensures.one_world _ _ _ _ _ _ _ _ _
-    (reached_whole _ _ _ _ _ _ _ _ _ _ (omega (arith, c.loop-index-test.false)) c.loop-index.invariant) world last
-
-pub returns-clause-outcomes : goal.returns-clause-outcomes
-returns-clause-outcomes g c = λ world last.
-    outcomes_reached c.scripts_have_one_last_world.ensures.one_world _ _ _ _ _ _ _ _ _
-    (reached_whole _ _ _ _ _ _ _ _ _ _ (omega (arith, c.loop-index-test.false)) c.loop-index.invariant) world last
-
-pub returns-clause-spoken : goal.returns-clause-spoken
-returns-clause-spoken g c = λ world last.
-    spoken_reached c.scripts_have_one_last_world.ensures.one_world _ _ _ _ _ _ _ _ _
-    (reached_whole _ _ _ _ _ _ _ _ _ _ (omega (arith, c.loop-index-test.false)) c.loop-index.invariant) world last
-
-pub returns-clause-identity : goal.returns-clause-identity
-returns-clause-identity g c = ap (λ (d : DeviceState). d.identity) c.loop-index.invariant.stands.device_is
-
-pub returns-clause-accepted_reply_answers_last_sending : goal.returns-clause-accepted_reply_answers_last_sending
-returns-clause-accepted_reply_answers_last_sending g c =
-    answered_reached _ _ _ _ _ _ _ _ _
-    (reached_whole _ _ _ _ _ _ _ _ _ _ (omega (arith, c.loop-index-test.false)) c.loop-index.invariant)
-
-pub returns-clause-registers_follow_last_executions : goal.returns-clause-registers_follow_last_executions
-returns-clause-registers_follow_last_executions g c = λ world last.
-    registers_reached c.scripts_have_one_last_world.ensures.one_world
-    (λ state frame overwrite is. let asked = c.writes_execute_their_overwrite.ensures.only state frame overwrite is in
-    (asked.2, asked.3, asked.4))
-    c.registers_of_lists.ensures.first c.registers_of_lists.ensures.again _ _ _ _ _ _ _ _ _
-    (reached_whole _ _ _ _ _ _ _ _ _ _ (omega (arith, c.loop-index-test.false)) c.loop-index.invariant) world last
-
-pub returns-clause-counter_counts_executions : goal.returns-clause-counter_counts_executions
-returns-clause-counter_counts_executions g c = λ world last.
-    counter_reached c.scripts_have_one_last_world.ensures.one_world _ _ _ _ _ _ _ _ _
-    (reached_whole _ _ _ _ _ _ _ _ _ _ (omega (arith, c.loop-index-test.false)) c.loop-index.invariant) world last
-
-pub returns-clause-at_most_once_a_sending : goal.returns-clause-at_most_once_a_sending
-returns-clause-at_most_once_a_sending g c = λ world last number.
-    at_most_reached c.scripts_have_one_last_world.ensures.one_world _ _ _ _ _ _ _ _ _
-    (reached_whole _ _ _ _ _ _ _ _ _ _ (omega (arith, c.loop-index-test.false)) c.loop-index.invariant) world last number
-
-pub returns-clause-executed_in_its_turn : goal.returns-clause-executed_in_its_turn
-returns-clause-executed_in_its_turn g c = λ number request reply sendings submitted write is success.
-    let laws : WriteLaws = record {
+    let one_world = c.scripts_have_one_last_world.ensures.one_world in
+    let laws : Laws = record {
+      one_body = c.bodies_are_told_apart.ensures.one_body;
+      one_list = c.frames_are_told_apart.ensures.one_list;
+      one_reply = c.replies_are_decided.ensures.one_reply;
+    } in
+    let write_laws : WriteLaws = record {
       command = c.requests_have_their_command.ensures;
       again = c.written_data_are_read_again.ensures;
       overwritten = λ asked is_write. (c.writes_have_overwrites.ensures asked).0 is_write;
       code = c.answers_tell_their_code.ensures.answered;
       executes = c.writes_execute_their_overwrite.ensures.executes;
     } in
-    answered_executed laws _ _ number request reply sendings
-    (answered_reached _ _ _ _ _ _ _ _ _
-    (reached_whole _ _ _ _ _ _ _ _ _ _ (omega (arith, c.loop-index-test.false)) c.loop-index.invariant) number reply sendings is)
-    submitted write success
-
-pub returns-clause-no_change_unseen : goal.returns-clause-no_change_unseen
-returns-clause-no_change_unseen g c = λ who before given reset clear.
-    let laws : Laws = record {
-      one_body = c.bodies_are_told_apart.ensures.one_body;
-      one_list = c.frames_are_told_apart.ensures.one_list;
-      one_reply = c.replies_are_decided.ensures.one_reply;
-    } in
-    let reached = reached_whole _ _ _ _ _ _ _ _ _ _ (omega (arith, c.loop-index-test.false)) c.loop-index.invariant in
-    unseen laws (λ state frame is. let asked = c.resets_name_this_counter.ensures.only state frame is in
-    (asked.2, asked.3, asked.4)) _ _ reached.world who before given _ reached.stands.device_is reached.is_last reset clear
-
-pub returns-clause-refused_commands_change_nothing : goal.returns-clause-refused_commands_change_nothing
-returns-clause-refused_commands_change_nothing g c = λ before next refused end.
-    let laws : Laws = record {
-      one_body = c.bodies_are_told_apart.ensures.one_body;
-      one_list = c.frames_are_told_apart.ensures.one_list;
-      one_reply = c.replies_are_decided.ensures.one_reply;
-    } in
-    let reached = reached_whole _ _ _ _ _ _ _ _ _ _ (omega (arith, c.loop-index-test.false)) c.loop-index.invariant in
-    refused_last laws (λ state frame is. elim is [
-      | inl code ↦ c.refused_commands_change_nothing.ensures.refused state frame code
-      | inr silent ↦ c.refused_commands_change_nothing.ensures.silent state frame silent
-    ]) _ _ reached.world before next _ reached.stands.device_is reached.is_last refused end
+    record {
+      world = (reached.world, reached.is_last);
+      device = of_last one_world _ reached reached.stands.device_is;
+      outcomes = of_last one_world _ reached reached.stands.outcomes_are;
+      spoken = of_last one_world _ reached reached.stands.spoken_are;
+      identity = ap (λ (d : DeviceState). d.identity) reached.stands.device_is;
+      accepted_reply_answers_last_sending = answered_reached reached;
+      registers_follow_last_executions = of_last one_world _ reached (registers_reached
+          (λ state frame overwrite is. let asked = c.writes_execute_their_overwrite.ensures.only state frame overwrite is in
+          (asked.2, asked.3, asked.4)) c.registers_of_lists.ensures.first c.registers_of_lists.ensures.again reached);
+      counter_counts_executions = of_last one_world _ reached (ap (λ (d : DeviceState). d.counter) reached.stands.device_is);
+      refused_commands_change_nothing = λ before next refused end. refused_last laws (λ state frame is. elim is [
+        | inl code ↦ c.refused_commands_change_nothing.ensures.refused state frame code
+        | inr silent ↦ c.refused_commands_change_nothing.ensures.silent state frame silent
+      ]) _ _ reached.world before next _ reached.stands.device_is reached.is_last refused end;
+      executed_in_its_turn = λ number request reply sendings submitted write is success.
+          answered_executed write_laws _ _ number request reply sendings (answered_reached reached number reply sendings is)
+          submitted write success;
+      at_most_once_a_sending = of_last one_world _ reached (at_most_reached reached);
+      no_change_unseen = λ who before given reset clear. unseen laws
+          (λ state frame is. let asked = c.resets_name_this_counter.ensures.only state frame is in (asked.2, asked.3, asked.4))
+          _ _ reached.world who before given _ reached.stands.device_is reached.is_last reset clear;
+      fault = tt;
+      clean_and_lost_legs_are_shown = tt;
+    }
