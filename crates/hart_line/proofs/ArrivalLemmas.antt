@@ -5,13 +5,10 @@ use Rattle.hart_values.specs.declared.master_id.MasterId.{MasterId}
 use Rattle.hart_frame.specs.FrameParts.{FrameParts}
 use Rattle.hart_frame.specs.declared.found.Found.{Found}
 use Rattle.hart_commands.specs.declared.reply.Reply.{Reply}
-use Rattle.hart_master.specs.declared.hand.Hand.{Hand}
-use Rattle.hart_master.specs.declared.hand.Hand.TheVariants.{Empty, ToSend, Awaiting}
-use Rattle.hart_master.specs.Master.{IsHeard, hand_heard}
-use Rattle.hart_master.specs.declared.event.MasterEvent.{MasterEvent}
+use Rattle.hart_master.specs.declared.hand.Hand.TheVariants.{Empty, Awaiting}
 use Rattle.hart_master.specs.declared.event.MasterEvent.TheVariants as events
 use Rattle.hart_line.specs.Damage.{Arrives, IsShown}
-use Rattle.hart_line.specs.Parts.{AcceptsIn, IsResting, ReturnBrings, Speaks}
+use Rattle.hart_line.specs.Parts.{AcceptsIn, Speaks}
 use Rattle.hart_line.specs.Spoken.{AreSpoken, IsSpoken, Message, frame_of}
 use Rattle.hart_line.specs.Step.{Accepts}
 use Rattle.hart_line.specs.World.{InHand}
@@ -33,7 +30,7 @@ arrives_cases heard sent arrived a = IsShown-cases (frame_of sent) a.frames arri
 pub none_arrives : (heard : Heard) (arrived : Option FrameParts) → Arrives heard None arrived → arrived ≡ None
 none_arrives heard arrived a = elim (arrives_cases heard None arrived a) [ inl is ↦ is | inr is ↦ is ]
 
--- A master that awaits nothing accepts nothing, and stays as it is.
+-- A master that awaits nothing accepts nothing.
 pub accepts_none : (id : MasterId) (returned : Option FrameParts) (accepted : Option Reply) → AcceptsIn id Empty returned accepted
     → accepted ≡ None
 accepts_none id returned None accepts = refl
@@ -47,25 +44,6 @@ accepts_held id held sendings time None None accepts = refl
 accepts_held id held sendings time None (Some reply) accepts = absurd accepts
 accepts_held id held sendings time (Some frame) None accepts = accepts
 accepts_held id held sendings time (Some frame) (Some reply) accepts = accepts
-
-resting_brings : (id : MasterId) (hand : Hand) (returned : Option FrameParts) (reply : Reply) → IsResting hand
-    → ReturnBrings id hand returned reply → ⊥
-resting_brings id hand None reply rests brought = brought
-resting_brings id Empty (Some frame) reply rests brought = brought
-resting_brings id (ToSend transaction) (Some frame) reply rests brought = brought
-resting_brings id (Awaiting transaction time) (Some frame) reply rests brought = rests
-
-pub resting_hears : (hand : Hand) (Brought : Reply → Type 0) (event : MasterEvent) → ((reply : Reply) → Brought reply → ⊥)
-    → IsHeard hand Brought event → hand_heard hand event ≡ hand
-resting_hears hand Brought (events.Answered reply sendings) none heard = absurd (none reply heard.0)
-resting_hears hand Brought events.Nothing none heard = refl
-resting_hears hand Brought events.Retry none heard = absurd heard
-resting_hears hand Brought (events.NoReply sendings) none heard = absurd heard
-
-pub resting_stays : (id : MasterId) (hand : Hand) (returned : Option FrameParts) (event : MasterEvent) → IsResting hand
-    → IsHeard hand (ReturnBrings id hand returned) event → hand_heard hand event ≡ hand
-resting_stays id hand returned event rests heard =
-    resting_hears hand _ event (λ reply. resting_brings id hand returned reply rests) heard
 
 -- Messages are spoken one after another.
 AreSpoken-push : (messages : List Message) (message : Message) (list : List Spoken) (spoken : Spoken)

@@ -69,18 +69,6 @@ item_read text chars new place char len within r b e =
           (BeginsWithItems-push text chars (drop place text) b.item b.tail r h)),
     )
 
--- a list of no length is empty
-no_length : (xs : List ℕ) → length xs ≡ 0 → xs ≡ []
-no_length [] e = refl
-no_length (x ∷ xs) e = absurd (omega arith)
-
--- a word that is read to its length is items to its end
-pub items_read : (word : List ℕ) (chars : List Character) (place : ℕ) → length word ≤ place → BeginsWithItems word chars (drop place word)
-    → BeginsWithItems word chars []
-items_read word chars place all reads =
-    let left = length-drop place word in
-    subst (λ (xs : List ℕ). BeginsWithItems word chars xs) (no_length (drop place word) (omega arith)) reads
-
 -- a word in which no item begins at a place, short of its end, is no items
 pub no_items : (word : List ℕ) (xs ys : List Character) (place : ℕ) → place < length word → BeginsWithItems word xs (drop place word)
     → NoItemBegins (take (length word - place) (drop place word)) → BeginsWithItems word ys [] → ⊥
