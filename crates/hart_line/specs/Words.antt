@@ -1,5 +1,5 @@
 -- The words of messages to send, in scripts and on the command line (own profile).
-use Rattle.std.specs.Prelude.{◌≡◌, ◌⊎◌, ℕ, ◌+◌, ◌*◌, ◌%◌, ◌≤◌, List, [], ◌∷◌, length, codes, Ok}
+use Rattle.std.specs.Prelude.{◌≡◌, ◌⊎◌, ℕ, ◌+◌, ◌*◌, ◌%◌, ◌≤◌, List, [], ◌∷◌, length, codes, Ok, Option, None, Some}
 use Rattle.std.specs.Str.Parse.{IsNumeral, digits_value}
 use Rattle.hex.specs.Hex.{decode_of}
 use Rattle.hart_values.specs.AddressBytes.{broadcast}
@@ -55,3 +55,8 @@ IsDataWord word bytes = (decode_of word ≡ Ok bytes) × (length bytes ≤ 255)
 -- There is no value of which this holds.
 abbrev pub HasNoValue : {T : Type 0} → (T → Type 0) → Type 0
 HasNoValue {T} IsValue = (value : T) → IsValue value → ⊥
+
+-- What is found is a value of which this holds, and where nothing is found there is none.
+abbrev pub Finds : {T : Type 0} → (T → Type 0) → Option T → Type 0
+Finds {T} IsValue None = HasNoValue IsValue
+Finds {T} IsValue (Some value) = IsValue value

@@ -1,7 +1,7 @@
 //! Hex items, each of which tells a received character.
 ghost use Rattle.std.specs.Prelude.{◌≡◌, ◌↔◌, IfOk, IsTrue, MatchOption, slice_index};
 ghost use Rattle.hart_line.specs.Items.{AreDigits, BeginsAsItem, byte_of, IsItemsWord, NoItemBegins};
-ghost use Rattle.hart_line.specs.Words.{HasNoValue};
+ghost use Rattle.hart_line.specs.Words.{Finds};
 
 use crate::CharList;
 use hart_frame::Char;
@@ -55,7 +55,7 @@ fn tells_faults(text: &[u8]) -> bool
 ///
 /// `AllocError` if a growth was refused.
 pub(crate) fn read_items(alloc: Global, word: &[u8]) -> Result<Option<CharList>, AllocError>
-    ensures { IfOk result (λ found. MatchOption found (HasNoValue (IsItemsWord word.now)) (IsItemsWord word.now)) }
+    ensures { IfOk result (Finds (IsItemsWord word.now)) }
 {
     if word.is_empty() {
         return Ok(None);

@@ -2,7 +2,7 @@
 ghost use Rattle.std.specs.Prelude.{◌≡◌, ◌≢◌, [], ◌∷◌, codes, length, IfOk, MatchOption};
 ghost use Rattle.hart_line.specs.Lines.{words_of};
 ghost use Rattle.hart_line.specs.Script.{AreDataWords, IsEvent, IsLeg, SaysLine};
-ghost use Rattle.hart_line.specs.Words.{HasNoValue};
+ghost use Rattle.hart_line.specs.Words.{Finds};
 
 use crate::items::read_items;
 use crate::lines::{next_word, only_word};
@@ -44,14 +44,8 @@ pub fn read_line(alloc: Global, line: &[u8]) -> Result<Line, AllocError>
 }
 
 /// The event that a first word and the words behind it say.
-///
-/// # Errors
-///
-/// `AllocError` if a growth was refused.
 fn read_event(alloc: Global, first: &[u8], rest: &[u8]) -> Result<Option<LineEvent>, AllocError>
-    ensures { IfOk result (λ found. MatchOption found
-        (HasNoValue (IsEvent (first.now ∷ words_of rest.now)))
-        (IsEvent (first.now ∷ words_of rest.now))) }
+    ensures { IfOk result (Finds (IsEvent (first.now ∷ words_of rest.now))) }
 {
     match first {
         b"submit" => Ok(read_submit(rest)),
@@ -64,9 +58,7 @@ fn read_event(alloc: Global, first: &[u8], rest: &[u8]) -> Result<Option<LineEve
 
 /// The submission that the words behind `submit` say.
 fn read_submit(rest: &[u8]) -> Option<LineEvent>
-    ensures { MatchOption result
-        (HasNoValue (IsEvent (codes "submit" ∷ words_of rest.now)))
-        (IsEvent (codes "submit" ∷ words_of rest.now)) }
+    ensures { Finds (IsEvent (codes "submit" ∷ words_of rest.now)) result }
 {
     let (who, rest) = next_word(rest)?;
     let (address, rest) = next_word(rest)?;
@@ -82,9 +74,7 @@ fn read_submit(rest: &[u8]) -> Option<LineEvent>
 
 /// The data that the words behind COMMAND write: none, or those of one word.
 fn read_payload(rest: &[u8]) -> Option<Payload>
-    ensures { MatchOption result
-        (HasNoValue (AreDataWords (words_of rest.now)))
-        (AreDataWords (words_of rest.now)) }
+    ensures { Finds (AreDataWords (words_of rest.now)) result }
 {
     match next_word(rest) {
         None => Some(Payload::new()),
@@ -93,14 +83,8 @@ fn read_payload(rest: &[u8]) -> Option<Payload>
 }
 
 /// The turn that the words behind `turn` say.
-///
-/// # Errors
-///
-/// `AllocError` if a growth was refused.
 fn read_turn(alloc: Global, rest: &[u8]) -> Result<Option<LineEvent>, AllocError>
-    ensures { IfOk result (λ found. MatchOption found
-        (HasNoValue (IsEvent (codes "turn" ∷ words_of rest.now)))
-        (IsEvent (codes "turn" ∷ words_of rest.now))) }
+    ensures { IfOk result (Finds (IsEvent (codes "turn" ∷ words_of rest.now))) }
 {
     let Some((who, up, down)) = three_words(rest) else {
         return Ok(None);
@@ -128,12 +112,8 @@ fn three_words(line: &[u8]) -> Option<(&[u8], &[u8], &[u8])>
 }
 
 /// What the word of a leg says that is heard.
-///
-/// # Errors
-///
-/// `AllocError` if a growth was refused.
 fn read_leg(alloc: Global, word: &[u8]) -> Result<Option<Heard>, AllocError>
-    ensures { IfOk result (λ found. MatchOption found (HasNoValue (IsLeg word.now)) (IsLeg word.now)) }
+    ensures { IfOk result (Finds (IsLeg word.now)) }
 {
     match word {
         b"ok" => Ok(Some(Heard::Clean)),
@@ -147,9 +127,7 @@ fn read_leg(alloc: Global, word: &[u8]) -> Result<Option<Heard>, AllocError>
 
 /// The switch of the write protection that the words behind `protect` say.
 fn read_protect(rest: &[u8]) -> Option<LineEvent>
-    ensures { MatchOption result
-        (HasNoValue (IsEvent (codes "protect" ∷ words_of rest.now)))
-        (IsEvent (codes "protect" ∷ words_of rest.now)) }
+    ensures { Finds (IsEvent (codes "protect" ∷ words_of rest.now)) result }
 {
     match only_word(rest)? {
         b"on" => Some(LineEvent::Protect(true)),
@@ -159,14 +137,8 @@ fn read_protect(rest: &[u8]) -> Option<LineEvent>
 }
 
 /// The noise that the words behind `noise` say.
-///
-/// # Errors
-///
-/// `AllocError` if a growth was refused.
 fn read_noise(alloc: Global, rest: &[u8]) -> Result<Option<LineEvent>, AllocError>
-    ensures { IfOk result (λ found. MatchOption found
-        (HasNoValue (IsEvent (codes "noise" ∷ words_of rest.now)))
-        (IsEvent (codes "noise" ∷ words_of rest.now))) }
+    ensures { IfOk result (Finds (IsEvent (codes "noise" ∷ words_of rest.now))) }
 {
     let Some(items) = only_word(rest) else {
         return Ok(None);
