@@ -15,13 +15,13 @@ use Rattle.hart_device.specs.Device.{Effect, Nothing, Executes, Resets}
 use Rattle.hart_master.specs.declared.fault.MasterFault.{MasterFault}
 use Rattle.hart_line.specs.Executions.{times_executed}
 use Rattle.hart_line.specs.Promises.{sendings_told}
-use Rattle.hart_line.specs.Step.{Run, Step, effect_on, executions_after, hand_left, outcome_of, submission_fault, submitted, turned}
+use Rattle.hart_line.specs.Step.{Run, effect_on, executions_after, hand_left, outcome_of, submitted, turned}
 use Rattle.hart_line.specs.World.{Execution, InHand, Start, World, first_world, state_of}
 use Rattle.hart_line.specs.declared.event.LineEvent.{LineEvent}
-use Rattle.hart_line.specs.declared.event.LineEvent.TheVariants.{Submit, Turn, Protect, Noise}
 use Rattle.hart_line.specs.declared.report.Outcome.{Outcome}
 use Rattle.hart_line.specs.declared.report.Outcome.TheVariants.{Answered, NoReply, Unfinished, Refused}
-use Rattle.hart_line.proofs.SoundLemmas.{hand_left-number, slice_get-append, slice_get-last, with_master-cases}
+use Rattle.hart_line.proofs.RunLemmas.{Keeps, run_keeps}
+use Rattle.hart_line.proofs.SoundLemmas.{hand_left-number, nothing_first, slice_get-append, slice_get-last, with_master-cases}
 
 pub record IsCounted (world : World) : Type 0 where
   pub in_hand : (id : MasterId) (hand : InHand) → of_master id world.hands ≡ Some hand
@@ -173,34 +173,20 @@ turned_counted start world master (Some hand) arrived accepted in_hand c =
     next_apart Primary is left same one other here also = rw (same one here) (c.apart hand other is also)
     next_apart Secondary is left same one other here also = rw (same other also) (c.apart one hand here is)
 
-step_counted : (start : Start) (world : World) (event : LineEvent) (next : World) → Step start world event next → IsCounted world
-    → IsCounted next
-step_counted start world (Submit who address request) next is c =
-    subst IsCounted (sym is)
-    (submitted_counted world who address request (submission_fault (of_master who world.hands) address request) c)
-step_counted start world (Turn who up down) next is c =
-    subst IsCounted (sym is.next_is) (turned_counted start world who (of_master who world.hands) is.arrived is.accepted refl c)
-step_counted start world (Protect on) next is c =
-    subst IsCounted (sym is) (record { in_hand = c.in_hand; apart = c.apart; counts = c.counts })
-step_counted start world (Noise chars) next is c = subst IsCounted (sym is.1) c
+counted_kept : (start : Start) → Keeps start IsCounted
+counted_kept start = record {
+  submissions = submitted_counted;
+  turns = turned_counted start;
+  switches = λ world on c. record { in_hand = c.in_hand; apart = c.apart; counts = c.counts };
+}
 
 first_counted : (start : Start) → IsCounted (first_world start)
 first_counted start = record {
-  in_hand = λ id hand is. none id is;
+  in_hand = λ id hand is. nothing_first id is;
   apart = λ one other is also. cc;
   counts = λ number. omega arith;
 }
-  where
-    none : {A B : Type 0} {x : A} (id : MasterId) → of_master id (record { primary = None; secondary = None }) ≡ Some x → B
-    none Primary is = cc
-    none Secondary is = cc
-
-run_counted : (start : Start) (events : List LineEvent) (world last : World) → Run start world events last → IsCounted world
-    → IsCounted last
-run_counted start [] world last run c = subst IsCounted (sym run) c
-run_counted start (event ∷ events) world last run c = run_counted start events run.0 last run.2
-    (step_counted start world event run.0 run.1 c)
 
 pub executed_at_most : (start : Start) (events : List LineEvent) (last : World) → Run start (first_world start) events last
     → (number : ℕ) → times_executed number last.executions ≤ sendings_told (slice_get last.outcomes number)
-executed_at_most start events last run = (run_counted start events (first_world start) last run (first_counted start)).counts
+executed_at_most start events last run = (run_keeps start IsCounted (counted_kept start) events (first_world start) last run (first_counted start)).counts

@@ -1,5 +1,5 @@
 -- Scripts: one event more, and that a script leads to one world.
-use Rattle.std.proofs.Common.{◌≡◌, ℕ, ap, ◌∙◌, sym, refl, subst, Option, None, Some, List, [], ◌∷◌, ◌++◌, zero, suc, take}
+use Rattle.std.proofs.Common.{◌≡◌, ℕ, ap, ◌∙◌, sym, refl, subst, Option, None, Some, List, [], ◌∷◌, ◌++◌, zero, suc, take, Bool}
 use Rattle.std.specs.List.{slice_get}
 use Rattle.hart_values.specs.declared.address.Address.{Address}
 use Rattle.hart_values.specs.declared.master_id.MasterId.{MasterId}
@@ -12,9 +12,10 @@ use Rattle.hart_commands.specs.Each.{of_master}
 use Rattle.hart_commands.specs.declared.reply.Reply.{Reply}
 use Rattle.hart_commands.specs.declared.request.Request.{Request}
 use Rattle.hart_master.specs.Acceptance.{IsReplyTo}
+use Rattle.hart_master.specs.declared.fault.MasterFault.{MasterFault}
 use Rattle.hart_line.specs.Damage.{AreHeard, Arrives, IsShown, IsUndetected}
 use Rattle.hart_line.specs.Spoken.{Message, frame_of}
-use Rattle.hart_line.specs.Step.{Accepts, IsLast, IsTurn, Run, Step, sent_back, sent_by, turned}
+use Rattle.hart_line.specs.Step.{Accepts, IsLast, IsTurn, Run, Step, sent_back, sent_by, submission_fault, submitted, turned}
 use Rattle.hart_line.specs.World.{InHand, Start, World, first_world}
 use Rattle.hart_line.specs.declared.event.Heard.{Heard}
 use Rattle.hart_line.specs.declared.event.Heard.TheVariants.{Clean, Lost, Chars}
@@ -24,6 +25,29 @@ use Rattle.hart_line.specs.declared.fault.Leg.{Leg}
 use Rattle.hart_line.specs.declared.fault.Leg.TheVariants as legs
 use Rattle.hart_line.specs.Faults.{HasUndetected, IsFault}
 use Rattle.hart_line.specs.declared.fault.LineFault.TheVariants.{Undetected}
+
+-- What a submission, a turn and the switch of protection keep stays at each event, and from a world to the last one.
+pub record Keeps (start : Start) (P : World → Type 0) : Type 0 where
+  pub submissions : (world : World) (who : MasterId) (address : Address) (request : Request) (fault : Option MasterFault)
+      → P world → P (submitted world who address request fault)
+  pub turns : (world : World) (who : MasterId) (hand : Option InHand) (arrived : Option FrameParts) (accepted : Option Reply)
+      → of_master who world.hands ≡ hand → P world → P (turned start world who hand arrived accepted)
+  pub switches : (world : World) (on : Bool) → P world → P (record world { protected = on })
+
+pub step_keeps : (start : Start) (P : World → Type 0) → Keeps start P → (world : World) (event : LineEvent) (next : World)
+    → Step start world event next → P world → P next
+step_keeps start P keeps world (Submit who address request) next is p = subst P (sym is)
+    (keeps.submissions world who address request (submission_fault (of_master who world.hands) address request) p)
+step_keeps start P keeps world (Turn who up down) next is p = subst P (sym is.next_is)
+    (keeps.turns world who (of_master who world.hands) is.arrived is.accepted refl p)
+step_keeps start P keeps world (Protect on) next is p = subst P (sym is) (keeps.switches world on p)
+step_keeps start P keeps world (Noise chars) next is p = subst P (sym is.1) p
+
+pub run_keeps : (start : Start) (P : World → Type 0) → Keeps start P → (events : List LineEvent) (world last : World)
+    → Run start world events last → P world → P last
+run_keeps start P keeps [] world last run p = subst P (sym run) p
+run_keeps start P keeps (event ∷ events) world last run p = run_keeps start P keeps events run.0 last run.2
+    (step_keeps start P keeps world event run.0 run.1 p)
 
 pub run_more : (start : Start) (events : List LineEvent) (event : LineEvent) (world mid next : World)
     → Run start world events mid → Step start mid event next → Run start world (events ++ event ∷ []) next

@@ -12,12 +12,12 @@ use Rattle.hart_commands.specs.declared.reply.Reply.{Reply}
 use Rattle.hart_commands.specs.declared.request.Request.{Request}
 use Rattle.hart_device.specs.Device.{Effect, Nothing, Executes, Resets}
 use Rattle.hart_master.specs.declared.fault.MasterFault.{MasterFault}
-use Rattle.hart_line.specs.Step.{Run, Step, effect_on, executions_after, hand_left, marks_after, outcome_of, submission_fault, submitted, turned}
+use Rattle.hart_line.specs.Step.{Run, Step, effect_on, executions_after, hand_left, marks_after, outcome_of, submitted, turned}
 use Rattle.hart_line.specs.World.{Execution, InHand, Start, World, first_world, state_of}
 use Rattle.hart_line.specs.declared.event.LineEvent.{LineEvent}
-use Rattle.hart_line.specs.declared.event.LineEvent.TheVariants.{Submit, Turn, Protect, Noise}
 use Rattle.hart_line.specs.declared.report.Outcome.{Outcome}
 use Rattle.hart_line.specs.declared.report.Outcome.TheVariants.{Answered, NoReply, Unfinished, Refused}
+use Rattle.hart_line.proofs.RunLemmas.{Keeps, run_keeps, step_keeps}
 
 pub record IsSound (world : World) : Type 0 where
   pub marks : (id : MasterId) (mark : ℕ) → of_master id world.marks ≡ Some mark → mark ≤ length world.executions
@@ -106,28 +106,29 @@ turned_sound start world who (Some held) arrived accepted in_hand s =
       ];
     }
 
+-- EVENTS
+sound_kept : (start : Start) → Keeps start IsSound
+sound_kept start = record {
+  submissions = submitted_sound;
+  turns = turned_sound start;
+  switches = λ world on s. record { marks = s.marks; lengths = s.lengths; hands = s.hands };
+}
+
 pub step_sound : (start : Start) (world : World) (event : LineEvent) (next : World) → Step start world event next → IsSound world
     → IsSound next
-step_sound start world (Submit who address request) next is s =
-    subst IsSound (sym is)
-    (submitted_sound world who address request (submission_fault (of_master who world.hands) address request) s)
-step_sound start world (Turn who up down) next is s =
-    subst IsSound (sym is.next_is) (turned_sound start world who (of_master who world.hands) is.arrived is.accepted refl s)
-step_sound start world (Protect on) next is s =
-    subst IsSound (sym is) (record { marks = s.marks; lengths = s.lengths; hands = s.hands })
-step_sound start world (Noise chars) next is s = subst IsSound (sym is.1) s
+step_sound start = step_keeps start IsSound (sound_kept start)
+
+pub run_sound : (start : Start) (events : List LineEvent) (world last : World) → Run start world events last → IsSound world → IsSound last
+run_sound start = run_keeps start IsSound (sound_kept start)
+
+-- Neither master has anything before a script.
+pub nothing_first : {A B : Type 0} {x : A} (id : MasterId) → of_master id (record { primary = None; secondary = None }) ≡ Some x → B
+nothing_first Primary is = cc
+nothing_first Secondary is = cc
 
 pub first_sound : (start : Start) → IsSound (first_world start)
 first_sound start = record {
-  marks = λ id mark is. none id is;
+  marks = λ id mark is. nothing_first id is;
   lengths = refl;
-  hands = λ id held is. none id is;
+  hands = λ id held is. nothing_first id is;
 }
-  where
-    none : {A B : Type 0} {x : A} (id : MasterId) → of_master id (record { primary = None; secondary = None }) ≡ Some x → B
-    none Primary is = cc
-    none Secondary is = cc
-
-pub run_sound : (start : Start) (events : List LineEvent) (world last : World) → Run start world events last → IsSound world → IsSound last
-run_sound start [] world last run s = subst IsSound (sym run) s
-run_sound start (event ∷ events) world last run s = run_sound start events run.0 last run.2 (step_sound start world event run.0 run.1 s)
