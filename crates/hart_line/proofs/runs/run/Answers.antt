@@ -15,26 +15,20 @@ loop-index-init g c =
     let small : c.args.device.counter < 65536 = rw c.counter-counter.ensures at c.counter-counter.type_inv in
     let one = c.new-primary.ensures in
     let other = c.new-secondary.ensures in
-    rw (c.new.ensures, c.new-2.ensures, one.master, one.place, other.master, other.place) (reached_first c.registers_of_lists.ensures.none c.args.device c.args.process.now
-    c.args.primary c.args.secondary small c.requires.primary c.requires.secondary)
+    rw (c.new.ensures, c.new-2.ensures, one.master, one.place, other.master, other.place)
+    (reached_first c.registers_of_lists.ensures.none c.args.device c.args.process.now c.args.primary c.args.secondary small
+    c.requires.primary c.requires.secondary)
 
-pub step-stepped-requires-clause-primary_placed : goal.step-stepped-requires-clause-primary_placed
-step-stepped-requires-clause-primary_placed g c =
+pub step-stepped-requires : goal.step-stepped-requires
+step-stepped-requires g c =
     let reached = c.loop-index.invariant in
-    party_placed Primary _ reached.world _ _ _ reached.stands.primary_is reached.stands.outcomes_are reached.sound
-
-pub step-stepped-requires-clause-primary_rests : goal.step-stepped-requires-clause-primary_rests
-step-stepped-requires-clause-primary_rests g c =
-    let reached = c.loop-index.invariant in party_rests Primary _ reached.world _ _ reached.stands.primary_is
-
-pub step-stepped-requires-clause-secondary_placed : goal.step-stepped-requires-clause-secondary_placed
-step-stepped-requires-clause-secondary_placed g c =
-    let reached = c.loop-index.invariant in
-    party_placed Secondary _ reached.world _ _ _ reached.stands.secondary_is reached.stands.outcomes_are reached.sound
-
-pub step-stepped-requires-clause-secondary_rests : goal.step-stepped-requires-clause-secondary_rests
-step-stepped-requires-clause-secondary_rests g c =
-    let reached = c.loop-index.invariant in party_rests Secondary _ reached.world _ _ reached.stands.secondary_is
+    let stands = reached.stands in
+    record {
+      primary_placed = party_placed Primary _ reached.world _ _ _ stands.primary_is stands.outcomes_are reached.sound;
+      primary_rests = party_rests Primary _ reached.world _ _ stands.primary_is;
+      secondary_placed = party_placed Secondary _ reached.world _ _ _ stands.secondary_is stands.outcomes_are reached.sound;
+      secondary_rests = party_rests Secondary _ reached.world _ _ stands.secondary_is;
+    }
 
 pub returns-in-Err-clause-fault : goal.returns-in-Err-clause-fault
 returns-in-Err-clause-fault g c =
