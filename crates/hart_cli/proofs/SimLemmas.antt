@@ -148,3 +148,31 @@ IsSimulation-faultless scripts lines worlds input text (line_faults.Undetected n
     worlds bench_start damage.events p.world number leg
     (subst Leads (scripts input p.events damage.events p.script damage.script) p.last) damage.is_fault
 IsSimulation-faultless scripts lines worlds input text line_faults.Memory p bad = bad
+
+-- the laws of faults: a text has one first bad line at most, and a script one first leg whose damage is undetected
+abbrev pub OneBadLine : Type 0
+OneBadLine = (text : List ℕ) (number other : ℕ) → HasFirstBadLine text number → HasFirstBadLine text other → number ≡ other
+
+abbrev pub OneFault : Type 0
+OneFault =
+    (start : Start) (events : List LineEvent) (number other : ℕ) (leg another : Leg)
+    → IsFault start events (line_faults.Undetected number leg) → IsFault start events (line_faults.Undetected other another)
+    → (number ≡ other) × (leg ≡ another)
+
+-- an input has one fault
+pub HasLineFault-one : OneScript → OneBadLine → NoBadLine → OneFault → (input : List ℕ) (fault other : LineFault)
+    → HasLineFault input fault → HasLineFault input other → fault ≡ other
+HasLineFault-one scripts bad_lines lines legs input (line_faults.BadLine number) (line_faults.BadLine other) p q =
+    ap (λ (n : ℕ). line_faults.BadLine n) (bad_lines input number other p q)
+HasLineFault-one scripts bad_lines lines legs input (line_faults.BadLine number) (line_faults.Undetected other leg) p q =
+    absurd (lines input q.events number q.script p)
+HasLineFault-one scripts bad_lines lines legs input (line_faults.Undetected number leg) (line_faults.BadLine other) p q =
+    absurd (lines input p.events other p.script q)
+HasLineFault-one scripts bad_lines lines legs input (line_faults.Undetected number leg) (line_faults.Undetected other another) p q =
+    let At : List LineEvent → Type 0 = λ events. IsFault bench_start events (line_faults.Undetected number leg) in
+    let same = legs bench_start q.events number other leg another (subst At (scripts input p.events q.events p.script q.script) p.is_fault)
+    q.is_fault in
+    ap₂ (λ (n : ℕ) (l : Leg). line_faults.Undetected n l) same.0 same.1
+HasLineFault-one scripts bad_lines lines legs input line_faults.Memory other p q = absurd p
+HasLineFault-one scripts bad_lines lines legs input (line_faults.BadLine number) line_faults.Memory p q = absurd q
+HasLineFault-one scripts bad_lines lines legs input (line_faults.Undetected number leg) line_faults.Memory p q = absurd q

@@ -10,9 +10,7 @@ use crate::sim_text::sim_text;
 use crate::stream::{Sink, Source};
 use hart_device::{Device, FieldRegisters, bench};
 use hart_frame::bodies_are_told_apart;
-use hart_line::{
-    read_script, run, scripts_have_no_bad_line, scripts_have_one_last_world, texts_have_one_script,
-};
+use hart_line::{read_script, run, scripts_have_one_last_world, texts_have_one_script};
 use hart_master::Master;
 use hart_values::MasterId;
 use std::alloc::Global;
@@ -55,16 +53,16 @@ pub fn simulate<R: Source, W: Sink>(
     Ok(())
 }
 
-/// An input has one text at most, and no fault where it has a text, so that what `simulate` writes is determined by what it
-/// reads.
+/// An input has one text at most, or one fault, and never both, so that what `simulate` answers is determined by what it reads.
 pub fn one_simulation()
     ensures one_text { (input xs ys : List ℕ) → IsSimulation input xs → IsSimulation input ys → xs ≡ ys }
+    ensures one_fault { (input : List ℕ) (fault other : LineFault)
+        → HasLineFault input fault → HasLineFault input other → fault ≡ other }
     ensures no_fault { (input text : List ℕ) (fault : LineFault)
         → IsSimulation input text → HasLineFault input fault → ⊥ }
 {
     // They do nothing when they run: the laws of scripts and of bodies are what this one rests on.
     texts_have_one_script();
-    scripts_have_no_bad_line();
     scripts_have_one_last_world();
     bodies_are_told_apart();
 }

@@ -179,6 +179,33 @@ none_with_bad (line ∷ before) words after lines events p e bad =
 pub not_script_and_bad : (text : List ℕ) (events : List LineEvent) (number : ℕ) → IsScript text events → HasFirstBadLine text number → ⊥
 not_script_and_bad text events number p q = none_with_bad q.before q.words q.after _ events p q.lines q.bad
 
+-- a line that is bad neither is skipped nor says an event
+not_good_and_bad : (words good : List (List ℕ)) (others : List (List (List ℕ))) → good ≡ words → FirstLine good others → IsBadLine words → ⊥
+not_good_and_bad words good others same first bad =
+    elim first.says [ inl s ↦ bad.0 (subst IsSkipped same s) | inr e ↦ bad.1 e.0 (subst (λ ws. IsEvent ws e.0) same e.1) ]
+
+-- the first bad one of some lines stands at one place
+bad_at_one : (before others : List (List (List ℕ))) (words these : List (List ℕ)) (after behind : List (List (List ℕ)))
+    (xs ys : List LineEvent) → before ++ words ∷ after ≡ others ++ these ∷ behind → IsBadLine words → IsBadLine these
+    → AreEvents before xs → AreEvents others ys → length before ≡ length others
+bad_at_one [] [] words these after behind xs ys same bad worse good better = refl
+bad_at_one [] (line ∷ others) words these after behind xs ys same bad worse good better =
+    let front : line ≡ words = cc in
+    absurd (not_good_and_bad words line others front (first_line _ ys line others better refl) bad)
+bad_at_one (line ∷ before) [] words these after behind xs ys same bad worse good better =
+    let front : line ≡ these = cc in
+    absurd (not_good_and_bad these line before front (first_line _ xs line before good refl) worse)
+bad_at_one (line ∷ before) (other ∷ others) words these after behind xs ys same bad worse good better =
+    let first = first_line _ xs line before good refl in
+    let second = first_line _ ys other others better refl in
+    let behind_them : before ++ words ∷ after ≡ others ++ these ∷ behind = cc in
+    ap suc (bad_at_one before others words these after behind first.events second.events behind_them bad worse first.rest second.rest)
+
+pub first_bad_one : (text : List ℕ) (number other : ℕ) → HasFirstBadLine text number → HasFirstBadLine text other → number ≡ other
+first_bad_one text number other p q =
+    p.place ∙ ap (λ (n : ℕ). n + 1) (bad_at_one p.before q.before p.words q.words p.after q.after p.events q.events
+    (sym p.lines ∙ q.lines) p.bad q.bad p.good q.good) ∙ sym q.place
+
 -- one line more
 pub AreEvents-skipped : (lines : List (List (List ℕ))) (events : List LineEvent) (words : List (List ℕ))
     → AreEvents lines events → IsSkipped words → AreEvents (lines ++ words ∷ []) events

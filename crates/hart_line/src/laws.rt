@@ -22,14 +22,12 @@ pub fn words_have_one_value()
     ensures payload { (word xs ys : List ℕ) → IsDataWord word xs → IsDataWord word ys → xs ≡ ys }
 {}
 
-/// The lines of a text say one script at most.
+/// The lines of a text say one script at most, a text has one first bad line at most, and none where it is a script.
 pub fn texts_have_one_script()
-    ensures { (text : List ℕ) (xs ys : List LineEvent) → IsScript text xs → IsScript text ys → xs ≡ ys }
-{}
-
-/// A text that is a script has no first bad line.
-pub fn scripts_have_no_bad_line()
-    ensures { (text : List ℕ) (events : List LineEvent) (number : ℕ)
+    ensures one_script { (text : List ℕ) (xs ys : List LineEvent) → IsScript text xs → IsScript text ys → xs ≡ ys }
+    ensures one_bad_line { (text : List ℕ) (number other : ℕ)
+        → HasFirstBadLine text number → HasFirstBadLine text other → number ≡ other }
+    ensures no_bad_line { (text : List ℕ) (events : List LineEvent) (number : ℕ)
         → IsScript text events → HasFirstBadLine text number → ⊥ }
 {}
 

@@ -34,10 +34,7 @@ pub use char_list::CharList;
 pub use event::{Heard, LineEvent};
 pub use fault::{Leg, LineFault};
 pub use items::{LeadingItem, leading_item};
-pub use laws::{
-    scripts_have_no_bad_line, scripts_have_one_last_world, texts_have_one_script,
-    words_have_one_value,
-};
+pub use laws::{scripts_have_one_last_world, texts_have_one_script, words_have_one_value};
 pub use report::{Outcome, Outcomes, Party, Report, Spoken, SpokenList};
 pub use runs::run;
 pub use script::read_script;

@@ -1,5 +1,5 @@
-use Rattle.hart_line.proofs.ScriptLemmas.{IsScript-one}
+use Rattle.hart_line.proofs.ScriptLemmas.{IsScript-one, first_bad_one, not_script_and_bad}
 use Rattle.hart_line.proofs.laws.texts_have_one_script.Goals as goal
 
 pub returns : goal.returns
-returns c = IsScript-one
+returns c = record { one_script = IsScript-one; one_bad_line = first_bad_one; no_bad_line = not_script_and_bad }
