@@ -31,7 +31,7 @@ encode_app =
     with_rule payload preambles_rule
 
 -- The command `hart` takes words without the program's name, has a version, wants one of its four subcommands named, and
--- helps where there is no word at all; `answer`, `dump` and `sim` take no words.
+-- shows its help where there is no word at all; `answer`, `dump` and `sim` take no words.
 abbrev pub hart_app : App
 hart_app =
     let plain = new_app (codes "hart") in
@@ -73,14 +73,15 @@ pub record GivesWords (rows : List Row) (words : MessageWords) (preambles : ℕ)
   pub value : preambles ≡ digits_value 10 (without_leading_plus number)
   pub count : IsPreambleCount preambles
 
--- The matches of a call's subcommand have what the call has; those of `answer`, `dump` and `sim` have nothing for it.
+-- The matches of the subcommand `encode` give the words and the number of the call; those of the others have nothing to give.
 abbrev pub GivesValues : Call → List Row → Type 0
 GivesValues Answer rows = Unit {0}
 GivesValues Dump rows = Unit {0}
 GivesValues Sim rows = Unit {0}
 GivesValues (Encode words preambles) rows = GivesWords rows words preambles
 
--- The words make a call where clap finds no fault in them, and they name its subcommand, whose matches have what it has.
+-- The words make a call where clap finds no fault in them, they name its subcommand, and the matches of this give the call's
+-- values.
 pub record Calls (call : Call) (words : List Text) : Type 0 where
   pub no_fault : fault_of hart_app words ≡ []
   pub rows : List Row

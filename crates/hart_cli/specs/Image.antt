@@ -8,7 +8,8 @@ abbrev pub flags_of : DeviceState → ℕ
 flags_of device =
     (if device.changed.primary then 1 else 0) + (if device.changed.secondary then 2 else 0) + (if device.protected then 4 else 0)
 
--- The image of a device is its version, 1, the bytes of each register, the configuration change counter in two bytes, the most
+-- The image of a device is its version, 1, the bytes of its registers, which are polling address, loop current mode, message,
+-- tag, descriptor, date and final assembly number, in this order, the configuration change counter in two bytes, the most
 -- significant first, and the flags.
 abbrev pub image_of : DeviceState → List ℕ
 image_of device =

@@ -18,8 +18,8 @@ AreHeard Clean (Some message) chars =
 AreHeard Lost sent chars = chars ≡ []
 AreHeard (Chars told) sent chars = chars ≡ told
 
--- What was heard is shown where no frame is in it, and then nothing arrives, or one frame alone, the one that was sent, which then
--- arrives; so where nothing was sent there may be none.
+-- What was heard is shown where it has no frame, and then nothing arrives; or where it has one frame alone, the one that was
+-- sent, which then arrives. Where nothing was sent it has to have none.
 abbrev pub IsShown : Option FrameParts → List Found → Option FrameParts → Type 0
 IsShown sent [] arrived = arrived ≡ None
 IsShown sent (found ∷ []) arrived = (sent ≡ Some found.frame) × (arrived ≡ sent)

@@ -128,7 +128,7 @@ IsResting (Awaiting transaction time) = ⊥
 abbrev pub IsPlaced : MasterState → ℕ → List Outcome → Type 0
 IsPlaced master place outcomes = master.hand ≢ Empty → place < length outcomes
 
--- A turn.
+-- A turn changes the device, the master and what a report tells by what arrives and by what comes back.
 pub record Turns (process : Process) (up down : Heard) (place : ℕ) (device device' : DeviceState)
     (master master' : MasterState) (outcomes outcomes' : List Outcome) (spoken spoken' : List Spoken) : Type 0 where
   pub arrived : Option FrameParts

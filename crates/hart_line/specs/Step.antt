@@ -96,8 +96,8 @@ Accepts who (Some held) None accepted = accepted ≡ None
 Accepts who (Some held) (Some frame) None = (reply : Reply) → IsReplyTo who held.address held.request frame reply → ⊥
 Accepts who (Some held) (Some frame) (Some reply) = IsReplyTo who held.address held.request frame reply
 
--- A request is answered by the reply that is accepted; without one it is unfinished where it was sent as often as there are
--- retries at most, and otherwise has no reply.
+-- A request is answered by the reply that is accepted; without one it is unfinished while it was sent no more often than there
+-- are retries, and otherwise has no reply.
 abbrev pub outcome_of : (retries sendings : ℕ) → Option Reply → Outcome
 outcome_of retries sendings (Some reply) = Answered reply sendings
 outcome_of retries sendings None = if nat_le sendings retries then Unfinished sendings else NoReply sendings
