@@ -7,7 +7,6 @@ use Rattle.hart_frame.specs.Character.{Character}
 use Rattle.hart_frame.specs.Frames.{AreFrames, HasNoFrame, IsFirst}
 use Rattle.hart_frame.specs.declared.found.Found.{Found}
 use Rattle.hart_cli.specs.declared.fault.CliFault.{CliFault}
-use Rattle.hart_cli.specs.declared.fault.CliFault.TheVariants.{BadHex, Read, TooLong}
 use Rattle.hart_cli.specs.declared.input.InputEnd.{InputEnd}
 use Rattle.hart_cli.specs.Dump.{AreLines, DumpOutcome, HasDump, IsDump}
 use Rattle.hart_cli.specs.DumpText.{dump_line, dump_text}
@@ -146,46 +145,22 @@ AreLines-unwritten law chars place old middle new next line result P so_far is_n
       ),
     )
 
--- an input that was read and heard has its lines
-HasDump-heard : (reader reader_after : Stream) (input : List ℕ) (end : InputEnd) (chars : List Character) (fault : Option CliFault)
-    (lines : List ℕ) → Reads reader reader_after input end → Hears input end chars fault → AreLines chars lines
-    → HasDump reader reader_after fault lines
-HasDump-heard reader reader_after input end chars fault lines reads hears are_lines = record {
-  input = input;
-  end = end;
-  reads = reads;
-  is_dump = record { chars = chars; hears = hears; are_lines = are_lines };
-}
-
 -- an input with a fault was dumped up to there
 told_lines : (reader reader_after writer writer_after : Stream) (input : List ℕ) (end : InputEnd) (chars : List Character)
-    (told : Option CliFault) (fault : CliFault) (lines : List ℕ) → told ≡ Some fault → Hears input end chars told
-    → HasDump reader reader_after told lines → WritesAll writer writer_after lines
-    → DumpOutcome reader reader_after writer writer_after (Err fault)
-told_lines r r' w w' input end chars told fault lines is_told (Hears.all _ reads) dump written = cc
-told_lines r r' w w' input end chars told fault lines is_told (Hears.bad_hex _ place bad) dump written =
-    let same : BadHex place ≡ fault = cc in
-    subst (λ (cause : CliFault). DumpOutcome r r' w w' (Err cause)) same (lines, dump, written)
-told_lines r r' w w' input end chars told fault lines is_told (Hears.bad_hex_before_failure _ place bad) dump written =
-    let same : BadHex place ≡ fault = cc in
-    subst (λ (cause : CliFault). DumpOutcome r r' w w' (Err cause)) same (lines, dump, written)
-told_lines r r' w w' input end chars told fault lines is_told (Hears.failure _ reads) dump written =
-    let same : Read ≡ fault = cc in
-    subst (λ (cause : CliFault). DumpOutcome r r' w w' (Err cause)) same (lines, dump, written)
-told_lines r r' w w' input end chars told fault lines is_told (Hears.bad_hex_within_limit _ place bad) dump written =
-    let same : BadHex place ≡ fault = cc in
-    subst (λ (cause : CliFault). DumpOutcome r r' w w' (Err cause)) same (lines, dump, written)
-told_lines r r' w w' input end chars told fault lines is_told (Hears.limit _ reads) dump written =
-    let same : TooLong ≡ fault = cc in
-    subst (λ (cause : CliFault). DumpOutcome r r' w w' (Err cause)) same (lines, dump, written)
+    (fault : CliFault) (lines : List ℕ) → Hears input end chars (Some fault) → HasDump reader reader_after (Some fault) lines
+    → WritesAll writer writer_after lines → DumpOutcome reader reader_after writer writer_after (Err fault)
+told_lines r r' w w' input _ _ _ lines (Hears.bad_hex _ place bad) dump written = (lines, dump, written)
+told_lines r r' w w' input _ _ _ lines (Hears.bad_hex_before_failure _ place bad) dump written = (lines, dump, written)
+told_lines r r' w w' input _ _ _ lines (Hears.failure _ reads) dump written = (lines, dump, written)
+told_lines r r' w w' input _ _ _ lines (Hears.bad_hex_within_limit _ place bad) dump written = (lines, dump, written)
+told_lines r r' w w' input _ _ _ lines (Hears.limit _ reads) dump written = (lines, dump, written)
 
 pub DumpOutcome-fault : (reader reader_after writer writer_after : Stream) (input : List ℕ) (end : InputEnd) (chars : List Character)
-    (told : Option CliFault) (fault : CliFault) (lines : List ℕ) → told ≡ Some fault → Reads reader reader_after input end
-    → Hears input end chars told → AreLines chars lines → WritesAll writer writer_after lines
-    → DumpOutcome reader reader_after writer writer_after (Err fault)
-DumpOutcome-fault r r' w w' input end chars told fault lines is_told reads hears are_lines written =
-    told_lines r r' w w' input end chars told fault lines is_told hears
-    (HasDump-heard r r' input end chars told lines reads hears are_lines) written
+    (fault : CliFault) (lines : List ℕ) → Reads reader reader_after input end → Hears input end chars (Some fault)
+    → AreLines chars lines → WritesAll writer writer_after lines → DumpOutcome reader reader_after writer writer_after (Err fault)
+DumpOutcome-fault r r' w w' input end chars fault lines reads hears are_lines written =
+    let is_dump : IsDump input end (Some fault) lines = record { chars = chars; hears = hears; are_lines = are_lines } in
+    told_lines r r' w w' input end chars fault lines hears (record { input = input; end = end; reads = reads; is_dump = is_dump }) written
 
 -- the law of frames: a list has one list of frames
 abbrev pub OneFrames : Type 0
