@@ -1,12 +1,12 @@
 -- Which subcommand a command line without a fault enters.
-use Rattle.std.proofs.Common.{◌≡◌, ◌≢◌, ◌∙◌, ◌∷◌, [], ap, ap₂, arith, rules, inl, inr, subst, unwrap_or, Bool, ◌⊎◌, codes, false, fold}
+use Rattle.std.proofs.Common.{◌≡◌, ◌≢◌, ◌∙◌, ◌∷◌, [], ap, ap₂, arith, rules, inl, inr, subst, unwrap_or, Bool, ◌⊎◌, codes, false}
 use Rattle.std.proofs.Common.{List, None, Option, option_map, refl, Some, sym, true, ℕ, is_some, cond, ◌||◌}
 use Rattle.std.specs.Str.{bytes_eq}
 use Rattle.std.specs.Str.Parse.{digits_value, without_leading_plus}
 use Rattle.std.specs.Box.{box_value}
 use Rattle.std.specs.Option.{option_map_or}
 use Rattle.std.proofs.lemmas.Slice.Eq.{bytes_eq-Decides}
-use Rattle.clap.specs.Words.{App, HasKind, HasMatchesOf, Kinds, Row, Text, app_of, built, fault_of, is_simple, is_simple_and_free}
+use Rattle.clap.specs.Words.{App, HasKind, HasMatchesOf, Row, Text, app_of, built, fault_of, is_simple, is_simple_and_free}
 use Rattle.clap.specs.Words.{subcommand_name_of, subcommand_of, subcommand_rows, subcommand_rows_of}
 use Rattle.clap.specs.Kinds.{check_kinds, or_else}
 use Rattle.clap.specs.Faults.{built_fault, check_fault, level_fault, defaults_fault, entered_fault, other_fault, settle_fault, step_fault}
@@ -25,7 +25,7 @@ use Rattle.clap.proofs.OnLiterals.{clap_on_literals}
 use Rattle.hart_cli.specs.CommandLine.{Call, Calls, GivesValues, HasWords, hart_app, name_of}
 use Rattle.hart_cli.specs.CommandLine.{Answer, Dump, Encode, Sim}
 use Rattle.hart_cli.specs.Encode.{MessageWords}
-use Rattle.hart_cli.proofs.FaultlessRowLemmas.{first_empty, second_empty}
+use Rattle.hart_cli.proofs.FaultlessRowLemmas.{faults_at, first_empty, met_at, second_empty, walk_keeps}
 use Rattle.hart_cli.proofs.EncodeRowLemmas.{encode_has_words, encode_shape}
 
 -- the subcommand that a step enters
@@ -97,31 +97,20 @@ step_is_not_help rules word w h (trailing position) before other = before
 step_is_not_help rules word w h (subcommand name) before other = λ is. other (ap Some is)
 step_is_not_help rules word w h value before other = positional_is_not_help rules _ word w h before
 
-turn_is_not_help : (s : Shape) (names : Names) (w : Walk) (word : Text) → s.disable_help_subcommand ≡ false
+turn_is_not_help : (s : Shape) (names : Names) → s.disable_help_subcommand ≡ false → (w : Walk) (word : Text)
     → turn_fault s names w word ≡ [] → NotHelp w.stopped → NotHelp (walked s.rules names w word).stopped
 unfolding walked
-turn_is_not_help s names w word enabled faultless before = from w.stopped faultless before
+turn_is_not_help s names enabled w word faultless before = from w.stopped faultless before
   where
     met : Held × Step
-    met = word_met s.rules names w.is_trailing w.waiting w.position word w.held
+    met = met_at s names w word
 
-    here : Kinds
-    here = word_fault s names w.is_trailing w.waiting word w.held
-
-    from : (stopped : Option (Text × List Text)) → cond (is_some stopped) [] (or_else here (step_fault s w.position met.0 met.1)) ≡ []
-        → NotHelp stopped
+    from : (stopped : Option (Text × List Text))
+        → cond (is_some stopped) [] (or_else (faults_at s names w word) (step_fault s w.position met.0 met.1)) ≡ [] → NotHelp stopped
         → NotHelp (walked_from s.rules names stopped w word).stopped
     from (Some p) none other = other
     from None none other = step_is_not_help s.rules word w met.0 met.1 before
-        (word_is_not_help s names w.is_trailing w.waiting w.position word w.held enabled (first_empty here _ none))
-
-walk_is_not_help : (s : Shape) (names : Names) (w : Walk) (words : List Text) → s.disable_help_subcommand ≡ false
-    → walk_fault s names w words ≡ [] → NotHelp w.stopped → NotHelp (fold (walked s.rules names) w words).stopped
-unfolding walk_fault
-walk_is_not_help s names w [] enabled faultless before = before
-walk_is_not_help s names w (word ∷ rest) enabled faultless before =
-    walk_is_not_help s names (walked s.rules names w word) rest enabled (second_empty (turn_fault s names w word) _ faultless)
-    (turn_is_not_help s names w word enabled (first_empty (turn_fault s names w word) _ faultless) before)
+        (word_is_not_help s names w.is_trailing w.waiting w.position word w.held enabled (first_empty (faults_at s names w word) _ none))
 
 -- the last checks fail where a subcommand is wanted
 wanted_is_fault : (wants_help wants_subcommand wants_argument : Bool) → wants_subcommand ≡ true
@@ -152,7 +141,8 @@ no_fault_enters a words enabled wanted faultless =
     let past_walk = second_empty walking (or_else below (or_else settling (or_else filling checking))) faultless in
     let past_below = second_empty below (or_else settling (or_else filling checking)) past_walk in
     let past_settling = second_empty settling (or_else filling checking) past_below in (
-      walk_is_not_help a.top (names_of a) (walk_from nothing_held) words enabled (first_empty walking _ faultless) tt,
+      walk_keeps (λ w. NotHelp w.stopped) a.top (names_of a) (turn_is_not_help a.top (names_of a) enabled) (walk_from nothing_held) words
+          (first_empty walking _ faultless) tt,
       subcommand_entered a.top (finished a.top.rules end.held) enters wanted (second_empty filling checking past_settling),
       first_empty below (or_else settling (or_else filling checking)) past_walk,
     )

@@ -228,30 +228,38 @@ step_keeps P s w word h value keep none all = taker (arg_by_index s.rules w.posi
     taker None none = all
     taker (Some a) none = goes_on a (is_pending a h.pending && takes_several a) none
 
-turn_keeps : (P : Row → Type 0) (s : Shape) (names : Names) (w : Walk) (word : Text) → Keepers P s.args_override_self s.rules
+-- what a walk meets at a word
+abbrev pub met_at : Shape → Names → Walk → Text → Held × Step
+met_at s names w word = word_met s.rules names w.is_trailing w.waiting w.position word w.held
+
+-- and the faults of the word
+abbrev pub faults_at : Shape → Names → Walk → Text → Kinds
+faults_at s names w word = word_fault s names w.is_trailing w.waiting word w.held
+
+turn_keeps : (P : Row → Type 0) (s : Shape) (names : Names) → Keepers P s.args_override_self s.rules → (w : Walk) (word : Text)
     → turn_fault s names w word ≡ [] → Each P w.held.rows → Each P (walked s.rules names w word).held.rows
 unfolding walked
-turn_keeps P s names w word keep none all = from w.stopped none
+turn_keeps P s names keep w word none all = from w.stopped none
   where
     met : Held × Step
-    met = word_met s.rules names w.is_trailing w.waiting w.position word w.held
+    met = met_at s names w word
 
-    here : Kinds
-    here = word_fault s names w.is_trailing w.waiting word w.held
-
-    from : (stopped : Option (Text × List Text)) → cond (is_some stopped) [] (or_else here (step_fault s w.position met.0 met.1)) ≡ []
+    from : (stopped : Option (Text × List Text))
+        → cond (is_some stopped) [] (or_else (faults_at s names w word) (step_fault s w.position met.0 met.1)) ≡ []
         → Each P (walked_from s.rules names stopped w word).held.rows
     from (Some p) none = all
-    from None none = step_keeps P s w word met.0 met.1 keep (second_empty here _ none)
-        (word_keeps P s names w.is_trailing w.waiting w.position word w.held keep (first_empty here _ none) all)
+    from None none = step_keeps P s w word met.0 met.1 keep (second_empty (faults_at s names w word) _ none)
+        (word_keeps P s names w.is_trailing w.waiting w.position word w.held keep (first_empty (faults_at s names w word) _ none) all)
 
-walk_keeps : (P : Row → Type 0) (s : Shape) (names : Names) (w : Walk) (words : List Text) → Keepers P s.args_override_self s.rules
-    → walk_fault s names w words ≡ [] → Each P w.held.rows → Each P (fold (walked s.rules names) w words).held.rows
+-- what a walk keeps at each word without a fault, it keeps over words without one
+pub walk_keeps : (Q : Walk → Type 0) (s : Shape) (names : Names)
+    → ((w : Walk) (word : Text) → turn_fault s names w word ≡ [] → Q w → Q (walked s.rules names w word))
+    → (w : Walk) (words : List Text) → walk_fault s names w words ≡ [] → Q w → Q (fold (walked s.rules names) w words)
 unfolding walk_fault
-walk_keeps P s names w [] keep none all = all
-walk_keeps P s names w (word ∷ rest) keep none all =
-    walk_keeps P s names (walked s.rules names w word) rest keep (second_empty (turn_fault s names w word) _ none)
-    (turn_keeps P s names w word keep (first_empty (turn_fault s names w word) _ none) all)
+walk_keeps Q s names turn w [] none holds = holds
+walk_keeps Q s names turn w (word ∷ rest) none holds =
+    walk_keeps Q s names turn (walked s.rules names w word) rest (second_empty (turn_fault s names w word) _ none)
+    (turn w word (first_empty (turn_fault s names w word) _ none) holds)
 
 defaults_keep : (P : Row → Type 0) (rules : List Rule) (rows : List Row) → Each (KeepsDefault P) rules → Each P rows
     → Each P (fold with_default rows rules)
@@ -273,7 +281,8 @@ faultless_rows P s names words enters below uses defaults faultless =
     let past_walk = second_empty walking (or_else below (or_else settling (or_else filling checking))) faultless in
     let past_below = second_empty below (or_else settling (or_else filling checking)) past_walk in
     let past_settling = second_empty settling (or_else filling checking) past_below in
-    let walked = walk_keeps P s names (walk_from nothing_held) words keep (first_empty walking _ faultless) tt in
+    let Kept : Walk → Type 0 = λ w. Each P w.held.rows in
+    let walked = walk_keeps Kept s names (turn_keeps P s names keep) (walk_from nothing_held) words (first_empty walking _ faultless) tt in
     let at_end = settled_keeps P s.args_override_self s.rules end keep (first_empty settling _ past_below) walked in (
       defaults_keep P s.rules (settled s.rules end).rows defaults at_end,
       second_empty filling checking past_settling,
