@@ -45,16 +45,8 @@ fn push_register<S: RegisterStore>(image: &mut Image, device: &Device<S>, regist
 fn flags_of<S: RegisterStore>(device: &Device<S>) -> u8
     ensures { result ≡ flags_of device.now }
 {
-    let primary = if device.changed(MasterId::Primary) {
-        1
-    } else {
-        0
-    };
-    let secondary = if device.changed(MasterId::Secondary) {
-        2
-    } else {
-        0
-    };
-    let protected = if device.is_protected() { 4 } else { 0 };
-    primary + secondary + protected
+    let primary = u8::from(device.changed(MasterId::Primary));
+    let secondary = u8::from(device.changed(MasterId::Secondary));
+    let protected = u8::from(device.is_protected());
+    primary + 2 * secondary + 4 * protected
 }
