@@ -178,31 +178,16 @@ bytes; left out where there are none";
 const PREAMBLES_HELP: &str =
     "The number of preamble bytes FF that the message begins with, 5 to 20";
 
-/// The word `answer` alone is a call of `answer`.
-pub fn answer_alone_is_call()
-    ensures { Calls Answer (codes "answer" ∷ []) }
-{}
-
-/// The word `dump` alone is a call of `dump`.
-pub fn dump_alone_is_call()
-    ensures { Calls Dump (codes "dump" ∷ []) }
-{}
-
-/// The word `sim` alone is a call of `sim`.
-pub fn sim_alone_is_call()
-    ensures { Calls Sim (codes "sim" ∷ []) }
-{}
-
-/// Three words after `encode` are a call of `encode` with no data and 5 preamble bytes.
-pub fn three_words_are_call()
-    ensures { Calls
+/// The word `answer`, `dump` or `sim` alone is a call of it. Three words after `encode` are a call with no data and 5 preamble
+/// bytes, and with `--preambles` after them one with so many.
+pub fn words_are_calls()
+    ensures answer { Calls Answer (codes "answer" ∷ []) }
+    ensures dump { Calls Dump (codes "dump" ∷ []) }
+    ensures sim { Calls Sim (codes "sim" ∷ []) }
+    ensures encode { Calls
         (Encode (record { who = codes "P"; address = codes "@0"; command = codes "0"; payload = [] }) 5)
         (codes "encode" ∷ codes "P" ∷ codes "@0" ∷ codes "0" ∷ []) }
-{}
-
-/// With `--preambles` after them they are a call with so many preamble bytes.
-pub fn preambles_are_told()
-    ensures { Calls
+    ensures preambles { Calls
         (Encode (record { who = codes "P"; address = codes "@0"; command = codes "0"; payload = [] }) 20)
         (codes "encode" ∷ codes "P" ∷ codes "@0" ∷ codes "0" ∷ codes "--preambles" ∷ codes "20" ∷ []) }
 {}
