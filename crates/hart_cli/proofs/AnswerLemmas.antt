@@ -10,22 +10,16 @@ use Rattle.hart_device.specs.Delivery.{answer_to}
 use Rattle.hart_device.specs.Device.{DeviceState}
 use Rattle.hart_device.specs.declared.process.Process.{Process}
 use Rattle.hart_cli.specs.declared.fault.CliFault.{CliFault}
-use Rattle.hart_cli.specs.declared.fault.CliFault.TheVariants.{BadHex}
-use Rattle.hart_cli.specs.declared.input.InputEnd.{InputEnd}
 use Rattle.hart_cli.specs.declared.input.InputEnd.TheVariants.{Ended}
 use Rattle.hart_cli.specs.Input.{Reads}
 use Rattle.hart_cli.specs.Items.{ReadsAs}
 use Rattle.hart_cli.specs.Stream.{Stream}
 use Rattle.hart_cli.specs.Hearing.{Hears}
-use Rattle.hart_cli.specs.Answer.{AnswerOutcome, HasAnswer, IsAnswer, IsAnswerText, IsTextFor, bench_device}
-use Rattle.hart_cli.proofs.DumpLemmas.{OneHearing}
+use Rattle.hart_cli.specs.Answer.{AnswerOutcome, IsAnswer, IsAnswerText, IsTextFor, bench_device}
+use Rattle.hart_cli.specs.WholeInput.{WholeInput}
+use Rattle.hart_cli.proofs.DumpLemmas.{OneFrames, OneHearing}
 use Rattle.hart_cli.proofs.KnownBytesLemmas.{Keeps-same}
 use Rattle.hart_cli.proofs.MessageLineLemmas.{IsMessageLine-one, OneBody}
-
--- the law of frames: a list has one list of frames
-abbrev pub OneList : Type 0
-OneList = (chars : List Character) (from : ℕ) (founds others : List Found) → AreFrames chars from founds → AreFrames chars from others
-    → founds ≡ others
 
 -- an answer has one text
 IsAnswerText-one : OneBody → (answer : Option FrameParts) (xs ys : List ℕ) → IsAnswerText answer xs → IsAnswerText answer ys → xs ≡ ys
@@ -33,7 +27,7 @@ IsAnswerText-one bodies None xs ys p q = p ∙ sym q
 IsAnswerText-one bodies (Some reply) xs ys p q = IsMessageLine-one bodies reply reply _ xs ys refl p q
 
 -- a delivery has one text
-IsTextFor-one : OneList → OneBody → (delivery : List Character) (xs ys : List ℕ) → IsTextFor delivery xs → IsTextFor delivery ys
+IsTextFor-one : OneFrames → OneBody → (delivery : List Character) (xs ys : List ℕ) → IsTextFor delivery xs → IsTextFor delivery ys
     → xs ≡ ys
 IsTextFor-one lists bodies delivery xs ys p q =
     let P : List Found → Type 0 = λ frames. IsAnswerText (answer_to bench_device bench_process frames) xs in
@@ -49,51 +43,32 @@ IsTextFor-heard delivery frames device process heard answer text same_device sam
     record { frames = frames; are_frames = are_frames; answered = subst P same has }
 
 -- an input has one answer
-pub IsAnswer-one : OneList → OneBody → OneHearing → (input xs ys : List ℕ) → IsAnswer input xs → IsAnswer input ys → xs ≡ ys
+pub IsAnswer-one : OneFrames → OneBody → OneHearing → (input xs ys : List ℕ) → IsAnswer input xs → IsAnswer input ys → xs ≡ ys
 IsAnswer-one lists bodies hearings input xs ys p q =
     let same = (hearings input Ended p.delivery q.delivery None None (Hears.all p.delivery p.reads) (Hears.all q.delivery q.reads)).0 in
     let P : List Character → Type 0 = λ delivery. IsTextFor delivery xs in
     IsTextFor-one lists bodies q.delivery xs ys (subst P same p.text_for) q.text_for
 
 -- an input that ended without a fault reads as its characters
-whole_reads : (text : List ℕ) (end : InputEnd) (chars : List Character) (told : Option CliFault) → end ≡ Ended → told ≡ None
-    → Hears text end chars told → ReadsAs text chars
-whole_reads text end chars told ended clean (Hears.all _ reads) = reads
-whole_reads text end chars told ended clean (Hears.bad_hex _ place bad) = cc
-whole_reads text end chars told ended clean (Hears.bad_hex_before_failure _ place bad) = cc
-whole_reads text end chars told ended clean (Hears.failure _ reads) = cc
-whole_reads text end chars told ended clean (Hears.bad_hex_within_limit _ place bad) = cc
-whole_reads text end chars told ended clean (Hears.limit _ reads) = cc
+whole_reads : (text : List ℕ) (chars : List Character) → Hears text Ended chars None → ReadsAs text chars
+whole_reads text _ (Hears.all chars reads) = reads
 
 -- the answer to such an input
-pub HasAnswer-read : (reader reader_after : Stream) (input : List ℕ) (end : InputEnd) (chars : List Character) (told : Option CliFault)
-    (text : List ℕ) → end ≡ Ended → told ≡ None → Reads reader reader_after input end → Hears input end chars told → IsTextFor chars text
-    → HasAnswer reader reader_after text
-HasAnswer-read reader reader_after input end chars told text ended clean read hears text_for =
-    let P : InputEnd → Type 0 = λ e. Reads reader reader_after input e in
-    record {
-      input = input;
-      whole = subst P ended read;
-      answer = record {
-        delivery = chars;
-        reads = whole_reads input end chars told ended clean hears;
-        text_for = text_for;
-      };
-    }
+pub HasAnswer : (reader reader_after : Stream) (input : List ℕ) (chars : List Character) (text : List ℕ)
+    → Reads reader reader_after input Ended → Hears input Ended chars None → IsTextFor chars text
+    → WholeInput reader reader_after (λ input. IsAnswer input text)
+HasAnswer reader reader_after input chars text read hears text_for = record {
+  input = input;
+  whole = read;
+  holds = record { delivery = chars; reads = whole_reads input chars hears; text_for = text_for };
+}
 
 -- the bad hex of an input that ended
-pub AnswerOutcome-fault : (reader reader_after writer : Stream) (input : List ℕ) (end : InputEnd) (chars : List Character)
-    (told : Option CliFault) (fault : CliFault) → end ≡ Ended → told ≡ Some fault → Reads reader reader_after input end
-    → Hears input end chars told → AnswerOutcome reader reader_after writer writer (Err fault)
-AnswerOutcome-fault reader reader_after writer input end chars told fault ended is_told read (Hears.all _ reads) = cc
-AnswerOutcome-fault reader reader_after writer input end chars told fault ended is_told read (Hears.bad_hex _ place bad) =
-    let same : BadHex place ≡ fault = cc in
-    let P : CliFault → Type 0 = λ f. AnswerOutcome reader reader_after writer writer (Err f) in
-    subst P same (record { input = input; whole = read; chars = chars; bad_hex = bad }, (Keeps-same writer.bytes, refl))
-AnswerOutcome-fault reader reader_after writer input end chars told fault ended is_told read (Hears.bad_hex_before_failure _ place bad) = cc
-AnswerOutcome-fault reader reader_after writer input end chars told fault ended is_told read (Hears.failure _ reads) = cc
-AnswerOutcome-fault reader reader_after writer input end chars told fault ended is_told read (Hears.bad_hex_within_limit _ place bad) = cc
-AnswerOutcome-fault reader reader_after writer input end chars told fault ended is_told read (Hears.limit _ reads) = cc
+pub AnswerOutcome-fault : (reader reader_after writer : Stream) (input : List ℕ) (chars : List Character) (fault : CliFault)
+    → Reads reader reader_after input Ended → Hears input Ended chars (Some fault)
+    → AnswerOutcome reader reader_after writer writer (Err fault)
+AnswerOutcome-fault reader reader_after writer input _ _ read (Hears.bad_hex chars place bad) =
+    (record { input = input; whole = read; holds = (chars, bad) }, (Keeps-same writer.bytes, refl))
 
 -- a fault that is told of its cause alone
 pub told_as : {T : Type 0} (result : Result T CliFault) (cause : CliFault) → IsErrAnd result (λ fault. fault ≡ cause) → result ≡ Err cause

@@ -1,5 +1,5 @@
 -- What `hart answer` writes for what it reads (own profile).
-use Rattle.std.specs.Prelude.{◌≡◌, ℕ, List, [], Option, None, Some, Result, Ok, Err}
+use Rattle.std.specs.Prelude.{◌≡◌, ℕ, List, [], Option, None, Some, Result}
 use Rattle.hart_frame.specs.Character.{Character}
 use Rattle.hart_frame.specs.FrameParts.{FrameParts}
 use Rattle.hart_frame.specs.Frames.{AreFrames}
@@ -9,11 +9,10 @@ use Rattle.hart_device.specs.Delivery.{answer_to}
 use Rattle.hart_device.specs.Device.{DeviceState, new_device}
 use Rattle.hart_cli.specs.declared.fault.CliFault.{CliFault}
 use Rattle.hart_cli.specs.declared.fault.CliFault.TheVariants.{BadHex, BadWord, Line, Memory, Read, TooLong, Write}
-use Rattle.hart_cli.specs.declared.input.InputEnd.TheVariants as ends
-use Rattle.hart_cli.specs.Input.{LacksMemory, Reads}
 use Rattle.hart_cli.specs.Items.{IsBadHexAt, ReadsAs}
 use Rattle.hart_cli.specs.MessageLine.{IsMessageLine}
-use Rattle.hart_cli.specs.Stream.{FailsToWrite, Stream, WritesAll, WritesNothing}
+use Rattle.hart_cli.specs.Stream.{Stream}
+use Rattle.hart_cli.specs.WholeInput.{WholeOutcome}
 
 -- The device is the bench device, as it is new.
 abbrev pub bench_device : DeviceState
@@ -36,33 +35,17 @@ pub record IsAnswer (input text : List ℕ) : Type 0 where
   pub reads : ReadsAs input delivery
   pub text_for : IsTextFor delivery text
 
--- One input was read to its end, and this is the answer to it.
-pub record HasAnswer (reader reader_after : Stream) (text : List ℕ) : Type 0 where
-  pub input : List ℕ
-  pub whole : Reads reader reader_after input ends.Ended
-  pub answer : IsAnswer input text
-
--- One input was read to its end, and has bad hex at the place.
-pub record MeetsBadHex (reader reader_after : Stream) (place : ℕ) : Type 0 where
-  pub input : List ℕ
-  pub whole : Reads reader reader_after input ends.Ended
-  pub chars : List Character
-  pub bad_hex : IsBadHexAt input chars place
+-- The fault of an input is its bad hex, at this place.
+abbrev pub IsAnswerFault : List ℕ → CliFault → Type 0
+IsAnswerFault input (BadHex place) = (chars : List Character) × IsBadHexAt input chars place
+IsAnswerFault input Read = ⊥
+IsAnswerFault input Write = ⊥
+IsAnswerFault input TooLong = ⊥
+IsAnswerFault input Memory = ⊥
+IsAnswerFault input (BadWord number) = ⊥
+IsAnswerFault input (Line fault) = ⊥
 
 -- A call of `answer` wrote the answer to its whole input at `Ok`, a front of it where a write failed, and nothing where it
 -- told the input's fault or where memory was refused.
 abbrev pub AnswerOutcome : Stream → Stream → Stream → Stream → Result (Unit {0}) CliFault → Type 0
-AnswerOutcome reader reader_after writer writer_after (Ok done) =
-    (text : List ℕ) × HasAnswer reader reader_after text × WritesAll writer writer_after text
-AnswerOutcome reader reader_after writer writer_after (Err Write) =
-    (text : List ℕ) × HasAnswer reader reader_after text × FailsToWrite writer writer_after text
-AnswerOutcome reader reader_after writer writer_after (Err Read) =
-    ((input : List ℕ) × Reads reader reader_after input ends.Failed) × WritesNothing writer writer_after
-AnswerOutcome reader reader_after writer writer_after (Err TooLong) =
-    ((input : List ℕ) × Reads reader reader_after input ends.TooLong) × WritesNothing writer writer_after
-AnswerOutcome reader reader_after writer writer_after (Err (BadHex place)) =
-    MeetsBadHex reader reader_after place × WritesNothing writer writer_after
-AnswerOutcome reader reader_after writer writer_after (Err Memory) =
-    LacksMemory reader reader_after × WritesNothing writer writer_after
-AnswerOutcome reader reader_after writer writer_after (Err (BadWord number)) = ⊥
-AnswerOutcome reader reader_after writer writer_after (Err (Line fault)) = ⊥
+AnswerOutcome = WholeOutcome IsAnswer IsAnswerFault

@@ -2,6 +2,8 @@
 use Rattle.std.specs.Prelude.{◌≡◌, ◌≢◌, ℕ, ◌+◌, ◌≤◌, List, [], ◌++◌, length}
 use Rattle.std.specs.Io.KnownBytes.{Consumes, IsAtEnd}
 use Rattle.hart_cli.specs.Stream.{Stream, count_after_failure}
+use Rattle.hart_cli.specs.declared.fault.CliFault.{CliFault}
+use Rattle.hart_cli.specs.declared.fault.CliFault.TheVariants as faults
 use Rattle.hart_cli.specs.declared.input.InputEnd.{InputEnd}
 use Rattle.hart_cli.specs.declared.input.InputEnd.TheVariants.{Ended, Failed, TooLong}
 
@@ -37,3 +39,13 @@ pub record LacksMemory (old new : Stream) : Type 0 where
   pub bytes : List ℕ
   pub read : ReadsWell old new bytes
   pub soon : length bytes ≤ input_limit + most_beyond
+
+-- An input was not read to its end: a read failed, there were more bytes than the limit, or memory was refused.
+abbrev pub IsCutShort : Stream → Stream → CliFault → Type 0
+IsCutShort old new faults.Read = (text : List ℕ) × Reads old new text Failed
+IsCutShort old new faults.TooLong = (text : List ℕ) × Reads old new text TooLong
+IsCutShort old new faults.Memory = LacksMemory old new
+IsCutShort old new faults.Write = ⊥
+IsCutShort old new (faults.BadHex place) = ⊥
+IsCutShort old new (faults.Line fault) = ⊥
+IsCutShort old new (faults.BadWord number) = ⊥

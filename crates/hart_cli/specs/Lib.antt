@@ -1,6 +1,7 @@
 pub mod Stream
 pub mod Plain
 pub mod Input
+pub mod WholeInput
 pub mod Items
 pub mod Hearing
 pub mod HexText

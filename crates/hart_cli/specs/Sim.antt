@@ -1,5 +1,5 @@
 -- What `hart sim` writes for what it reads (own profile).
-use Rattle.std.specs.Prelude.{◌≡◌, ℕ, List, Result, Ok, Err}
+use Rattle.std.specs.Prelude.{◌≡◌, ℕ, List, Result}
 use Rattle.hart_device.specs.Bench.{bench_process}
 use Rattle.hart_line.specs.Faults.{IsFault}
 use Rattle.hart_line.specs.Script.{HasFirstBadLine, IsScript}
@@ -12,11 +12,10 @@ use Rattle.hart_line.specs.declared.fault.LineFault.TheVariants as line_faults
 use Rattle.hart_line.specs.declared.report.Spoken.{Spoken}
 use Rattle.hart_cli.specs.declared.fault.CliFault.{CliFault}
 use Rattle.hart_cli.specs.declared.fault.CliFault.TheVariants.{BadHex, BadWord, Line, Memory, Read, TooLong, Write}
-use Rattle.hart_cli.specs.declared.input.InputEnd.TheVariants as ends
 use Rattle.hart_cli.specs.Answer.{bench_device}
-use Rattle.hart_cli.specs.Input.{LacksMemory, Reads}
 use Rattle.hart_cli.specs.SimText.{sim_text}
-use Rattle.hart_cli.specs.Stream.{FailsToWrite, Stream, WritesAll, WritesNothing}
+use Rattle.hart_cli.specs.Stream.{Stream}
+use Rattle.hart_cli.specs.WholeInput.{WholeOutcome}
 
 -- A script starts with the new bench device, its process values, and two masters that have nothing in hand and send a request
 -- again three times at most.
@@ -55,39 +54,7 @@ HasLineFault input (line_faults.BadLine number) = HasFirstBadLine input number
 HasLineFault input (line_faults.Undetected number leg) = IsScriptWithFault input (line_faults.Undetected number leg)
 HasLineFault input line_faults.Memory = ⊥
 
--- One input was read to its end, and this is the text for it.
-pub record HasSimulation (reader reader_after : Stream) (text : List ℕ) : Type 0 where
-  pub input : List ℕ
-  pub whole : Reads reader reader_after input ends.Ended
-  pub simulation : IsSimulation input text
-
--- One input was read to its end, and has this fault.
-pub record MeetsLineFault (reader reader_after : Stream) (fault : LineFault) : Type 0 where
-  pub input : List ℕ
-  pub whole : Reads reader reader_after input ends.Ended
-  pub has_fault : HasLineFault input fault
-
--- A call of `simulate` wrote the text for its whole input at `Ok`, a front of it where a write failed, and nothing where a read
--- failed, where the input was too long or had a fault of its lines or events, or where memory was refused; it tells no other fault.
-abbrev pub SimOutcome : Stream → Stream → Stream → Stream → Result (Unit {0}) CliFault → Type 0
-SimOutcome reader reader_after writer writer_after (Ok done) =
-    (text : List ℕ) × HasSimulation reader reader_after text × WritesAll writer writer_after text
-SimOutcome reader reader_after writer writer_after (Err Write) =
-    (text : List ℕ) × HasSimulation reader reader_after text × FailsToWrite writer writer_after text
-SimOutcome reader reader_after writer writer_after (Err Read) =
-    ((input : List ℕ) × Reads reader reader_after input ends.Failed) × WritesNothing writer writer_after
-SimOutcome reader reader_after writer writer_after (Err TooLong) =
-    ((input : List ℕ) × Reads reader reader_after input ends.TooLong) × WritesNothing writer writer_after
-SimOutcome reader reader_after writer writer_after (Err (Line fault)) =
-    MeetsLineFault reader reader_after fault × WritesNothing writer writer_after
-SimOutcome reader reader_after writer writer_after (Err Memory) =
-    LacksMemory reader reader_after × WritesNothing writer writer_after
-SimOutcome reader reader_after writer writer_after (Err (BadHex place)) = ⊥
-SimOutcome reader reader_after writer writer_after (Err (BadWord number)) = ⊥
-
--- For private calls alone: what carrying out an input answers.
-
--- An input that is not carried out has a fault of its lines or its events, or memory is refused.
+-- The fault of a call that read its whole input is a fault of the lines or the events, unless memory is refused.
 abbrev pub IsSimulationFault : List ℕ → CliFault → Type 0
 IsSimulationFault input (Line fault) = HasLineFault input fault
 IsSimulationFault input Memory = Unit {0}
@@ -96,3 +63,8 @@ IsSimulationFault input Write = ⊥
 IsSimulationFault input TooLong = ⊥
 IsSimulationFault input (BadHex place) = ⊥
 IsSimulationFault input (BadWord number) = ⊥
+
+-- A call of `simulate` wrote the text for its whole input at `Ok`, a front of it where a write failed, and nothing where a read
+-- failed, where the input was too long or had a fault of its lines or events, or where memory was refused; it tells no other fault.
+abbrev pub SimOutcome : Stream → Stream → Stream → Stream → Result (Unit {0}) CliFault → Type 0
+SimOutcome = WholeOutcome IsSimulation IsSimulationFault

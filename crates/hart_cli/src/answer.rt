@@ -4,7 +4,7 @@ ghost use Rattle.hart_cli.specs.Answer.{AnswerOutcome, IsAnswer, IsTextFor};
 
 use crate::fault::CliFault;
 use crate::hex_text::HexLine;
-use crate::input::{InputEnd, read_input};
+use crate::input::read_whole;
 use crate::items::{hear, one_hearing};
 use crate::output::{message_line, write_all};
 use crate::stream::{Sink, Source};
@@ -30,12 +30,7 @@ pub fn answer<R: Source, W: Sink>(
         (W.stream writer.old) (W.stream writer.new)
         result }
 {
-    let input = read_input(alloc, reader)?;
-    match input.end {
-        InputEnd::Ended => {}
-        InputEnd::Failed => return Err(CliFault::Read),
-        InputEnd::TooLong => return Err(CliFault::TooLong),
-    }
+    let input = read_whole(alloc, reader)?;
     let delivery = hear(alloc, input)?;
     if let Some(fault) = delivery.fault {
         return Err(fault);

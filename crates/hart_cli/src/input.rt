@@ -1,7 +1,9 @@
 //! Reading a whole input.
-ghost use Rattle.std.specs.Prelude.{IfOk, OnErr};
-ghost use Rattle.hart_cli.specs.Input.{LacksMemory, Reads};
+ghost use Rattle.std.specs.Prelude.{◌≡◌, IfErr, IfOk, OnErr};
+ghost use Rattle.hart_cli.specs.Input.{IsCutShort, LacksMemory, Reads};
+ghost use Rattle.hart_cli.specs.declared.input.InputEnd.TheVariants.{Ended};
 
+use crate::fault::CliFault;
 use crate::stream::Source;
 use std::alloc::{AllocError, Global};
 
@@ -31,6 +33,26 @@ pub struct Input {
     pub end: InputEnd,
 }
 
+/// Reads a whole input.
+///
+/// # Errors
+///
+/// [`CliFault::Read`], [`CliFault::TooLong`] or [`CliFault::Memory`], where that kept it from the end of the input.
+pub fn read_whole<R: Source>(alloc: Global, reader: &mut R) -> Result<Input, CliFault>
+    ensures ended { IfOk result (λ input. input.end ≡ Ended) }
+    ensures reads { IfOk result (λ input. Reads
+        (R.stream reader.old) (R.stream reader.new)
+        input.text.items Ended) }
+    ensures fault { IfErr result (IsCutShort (R.stream reader.old) (R.stream reader.new)) }
+{
+    let input = read_input(alloc, reader)?;
+    match input.end {
+        InputEnd::Ended => Ok(input),
+        InputEnd::Failed => Err(CliFault::Read),
+        InputEnd::TooLong => Err(CliFault::TooLong),
+    }
+}
+
 /// Reads to the end, to the first read that fails, or to the limit.
 ///
 /// A reader that never ends is left once it has given more than [`INPUT_LIMIT`] bytes.
@@ -49,24 +71,18 @@ pub fn read_input<R: Source>(alloc: Global, reader: &mut R) -> Result<Input, All
     let mut buffer = [0; BUFFER_LEN];
     loop {
         let Ok(given) = reader.read(&mut buffer) else {
-            return Ok(Input {
-                text,
-                end: InputEnd::Failed,
-            });
+            let end = InputEnd::Failed;
+            return Ok(Input { text, end });
         };
         if given == 0 {
-            return Ok(Input {
-                text,
-                end: InputEnd::Ended,
-            });
+            let end = InputEnd::Ended;
+            return Ok(Input { text, end });
         }
         let room = INPUT_LIMIT - text.len();
         if given > room {
             text.extend_from_slice(&buffer[..room])?;
-            return Ok(Input {
-                text,
-                end: InputEnd::TooLong,
-            });
+            let end = InputEnd::TooLong;
+            return Ok(Input { text, end });
         }
         text.extend_from_slice(&buffer[..given])?;
     }

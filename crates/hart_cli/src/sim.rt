@@ -4,7 +4,7 @@ ghost use Rattle.hart_line.specs.declared.fault.LineFault.{LineFault};
 ghost use Rattle.hart_cli.specs.Sim.{HasLineFault, IsSimulation, IsSimulationFault, SimOutcome};
 
 use crate::fault::CliFault;
-use crate::input::{InputEnd, read_input};
+use crate::input::read_whole;
 use crate::output::write_all;
 use crate::sim_text::sim_text;
 use crate::stream::{Sink, Source};
@@ -42,12 +42,7 @@ pub fn simulate<R: Source, W: Sink>(
         (W.stream writer.old) (W.stream writer.new)
         result }
 {
-    let input = read_input(alloc, reader)?;
-    match input.end {
-        InputEnd::Ended => {}
-        InputEnd::Failed => return Err(CliFault::Read),
-        InputEnd::TooLong => return Err(CliFault::TooLong),
-    }
+    let input = read_whole(alloc, reader)?;
     let text = simulation(alloc, input.text.as_slice())?;
     write_all(writer, text.as_slice())?;
     Ok(())

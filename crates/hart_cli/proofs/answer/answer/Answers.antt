@@ -2,44 +2,41 @@ use Rattle.std.proofs.Common.{ℕ, List, [], refl, subst}
 use Rattle.hart_frame.specs.Character.{Character}
 use Rattle.hart_cli.specs.Answer.{IsTextFor}
 use Rattle.hart_cli.specs.declared.fault.CliFault.TheVariants.{Write}
-use Rattle.hart_cli.proofs.AnswerLemmas.{AnswerOutcome-fault, HasAnswer-read, told_as}
+use Rattle.hart_cli.proofs.AnswerLemmas.{AnswerOutcome-fault, HasAnswer, told_as}
 use Rattle.hart_cli.proofs.KnownBytesLemmas.{Appends-nothing}
 use Rattle.hart_cli.proofs.answer.answer.Goals as goal
 
 pub returns-in-Some : goal.returns-in-Some
 returns-in-Some g c =
-    AnswerOutcome-fault
-    (g.R.Source.stream c.args.reader.now)
-    (g.R.Source.stream c.read_input.new.reader)
-    (g.W.Sink.stream c.args.writer.now)
-    _ _ _ _ c.in-Some.fault c.in-Ended.is c.in-Some.is c.in_ok-input.ensures.reads c.in_ok-delivery.ensures
+    let heard = rw (c.in_ok-input.ensures.ended, c.in-Some.is) at c.in_ok-delivery.ensures in
+    AnswerOutcome-fault _ _ _ _ _ c.in-Some.fault c.in_ok-input.ensures.reads heard
 
 pub returns-in_default-answer_line : goal.returns-in_default-answer_line
 returns-in_default-answer_line g c =
+    let heard = rw (c.in_ok-input.ensures.ended, c.in_default.is) at c.in_ok-delivery.ensures in
     let Silent : List Character → Type 0 = λ chars. IsTextFor chars [] in
-    let silent = subst Silent c.deref.ensures.value c.in_default-answer_line.ensures in (
-      [],
-      HasAnswer-read _ _ _ _ _ _ [] c.in-Ended.is c.in_default.is c.in_ok-input.ensures.reads c.in_ok-delivery.ensures silent,
-      (Appends-nothing _, refl),
-    )
+    let silent = subst Silent c.deref.ensures.value c.in_default-answer_line.ensures in
+    ([], HasAnswer _ _ _ _ [] c.in_ok-input.ensures.reads heard silent, (Appends-nothing _, refl))
 
 pub returns-in_err-write_all : goal.returns-in_err-write_all
 returns-in_err-write_all g c =
+    let heard = rw (c.in_ok-input.ensures.ended, c.in_default.is) at c.in_ok-delivery.ensures in
     let line : List ℕ = c.in-Some-answer_line.line in
     let Told : List Character → Type 0 = λ chars. IsTextFor chars line in
     let told = subst Told c.deref.ensures.value c.in-Some-answer_line.ensures in
     rw (told_as _ Write c.from_residual-in_err-write_all.ensures.1) (
       line,
-      HasAnswer-read _ _ _ _ _ _ _ c.in-Ended.is c.in_default.is c.in_ok-input.ensures.reads c.in_ok-delivery.ensures told,
+      HasAnswer _ _ _ _ _ c.in_ok-input.ensures.reads heard told,
       rw c.as_slice.ensures.value at c.in_err-write_all.ensures,
     )
 
 pub returns : goal.returns
 returns g c =
+    let heard = rw (c.in_ok-input.ensures.ended, c.in_default.is) at c.in_ok-delivery.ensures in
     let line : List ℕ = c.in-Some-answer_line.line in
     let Told : List Character → Type 0 = λ chars. IsTextFor chars line in
     let told = subst Told c.deref.ensures.value c.in-Some-answer_line.ensures in (
       line,
-      HasAnswer-read _ _ _ _ _ _ _ c.in-Ended.is c.in_default.is c.in_ok-input.ensures.reads c.in_ok-delivery.ensures told,
+      HasAnswer _ _ _ _ _ c.in_ok-input.ensures.reads heard told,
       rw c.as_slice.ensures.value at c.in_ok-write_all.ensures,
     )
