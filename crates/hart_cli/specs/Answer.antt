@@ -8,7 +8,7 @@ use Rattle.hart_device.specs.Bench.{bench_identity, bench_process, bench_values}
 use Rattle.hart_device.specs.Delivery.{answer_to}
 use Rattle.hart_device.specs.Device.{DeviceState, new_device}
 use Rattle.hart_cli.specs.declared.fault.CliFault.{CliFault}
-use Rattle.hart_cli.specs.declared.fault.CliFault.TheVariants.{BadHex, BadWord, Line, Memory, Read, TooLong, Write}
+use Rattle.hart_cli.specs.declared.fault.CliFault.TheVariants.{BadHex}
 use Rattle.hart_cli.specs.Items.{IsBadHexAt, ReadsAs}
 use Rattle.hart_cli.specs.MessageLine.{IsMessageLine}
 use Rattle.hart_cli.specs.Stream.{Stream}
@@ -38,12 +38,7 @@ pub record IsAnswer (input text : List ℕ) : Type 0 where
 -- The fault of an input is its bad hex, at this place.
 abbrev pub IsAnswerFault : List ℕ → CliFault → Type 0
 IsAnswerFault input (BadHex place) = (chars : List Character) × IsBadHexAt input chars place
-IsAnswerFault input Read = ⊥
-IsAnswerFault input Write = ⊥
-IsAnswerFault input TooLong = ⊥
-IsAnswerFault input Memory = ⊥
-IsAnswerFault input (BadWord number) = ⊥
-IsAnswerFault input (Line fault) = ⊥
+IsAnswerFault input _ = ⊥
 
 -- A call of `answer` wrote the answer to its whole input at `Ok`, a front of it where a write failed, and nothing where it
 -- told the input's fault or where memory was refused.

@@ -4,7 +4,7 @@ use Rattle.hart_frame.specs.Character.{Character}
 use Rattle.hart_frame.specs.Frames.{AreFrames}
 use Rattle.hart_frame.specs.declared.found.Found.{Found}
 use Rattle.hart_cli.specs.declared.fault.CliFault.{CliFault}
-use Rattle.hart_cli.specs.declared.fault.CliFault.TheVariants.{BadHex, BadWord, Line, Memory, Read, TooLong, Write}
+use Rattle.hart_cli.specs.declared.fault.CliFault.TheVariants.{BadHex, Memory, Read, TooLong, Write}
 use Rattle.hart_cli.specs.declared.input.InputEnd.{InputEnd}
 use Rattle.hart_cli.specs.DumpText.{dump_text}
 use Rattle.hart_cli.specs.Hearing.{Hears}
@@ -55,5 +55,4 @@ DumpOutcome reader reader_after writer writer_after (Err (BadHex place)) =
     DumpsUpTo (BadHex place) reader reader_after writer writer_after
 DumpOutcome reader reader_after writer writer_after (Err Memory) =
     LacksMemoryForInput reader reader_after × WritesNothing writer writer_after
-DumpOutcome reader reader_after writer writer_after (Err (BadWord number)) = ⊥
-DumpOutcome reader reader_after writer writer_after (Err (Line fault)) = ⊥
+DumpOutcome reader reader_after writer writer_after (Err _) = ⊥

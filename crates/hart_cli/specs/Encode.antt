@@ -5,7 +5,7 @@ use Rattle.hart_values.specs.declared.master_id.MasterId.{MasterId}
 use Rattle.hart_frame.specs.declared.kind.FrameKind.TheVariants.{Stx}
 use Rattle.hart_frame.specs.FrameParts.{FrameParts}
 use Rattle.hart_cli.specs.declared.fault.CliFault.{CliFault}
-use Rattle.hart_cli.specs.declared.fault.CliFault.TheVariants.{BadHex, BadWord, Line, Memory, Read, TooLong, Write}
+use Rattle.hart_cli.specs.declared.fault.CliFault.TheVariants.{BadWord, Write}
 use Rattle.hart_cli.specs.MessageLine.{IsMessageLine}
 use Rattle.hart_cli.specs.Stream.{FailsToWrite, Stream, WritesAll, WritesNothing}
 use Rattle.hart_line.specs.Words.{IsAddressWord, IsCommandWord, IsDataWord, HasNoValue, IsWho}
@@ -52,11 +52,7 @@ EncodeOutcome words preambles writer writer_after (Err Write) =
     (text : List ℕ) × IsEncoding words preambles text × FailsToWrite writer writer_after text
 EncodeOutcome words preambles writer writer_after (Err (BadWord number)) =
     IsFirstBad words number × WritesNothing writer writer_after
-EncodeOutcome words preambles writer writer_after (Err Memory) = ⊥
-EncodeOutcome words preambles writer writer_after (Err Read) = ⊥
-EncodeOutcome words preambles writer writer_after (Err TooLong) = ⊥
-EncodeOutcome words preambles writer writer_after (Err (BadHex place)) = ⊥
-EncodeOutcome words preambles writer writer_after (Err (Line fault)) = ⊥
+EncodeOutcome words preambles writer writer_after (Err _) = ⊥
 
 -- For private calls alone: what reading the words answers.
 
@@ -64,9 +60,4 @@ EncodeOutcome words preambles writer writer_after (Err (Line fault)) = ⊥
 abbrev pub RequestOutcome : MessageWords → Result FrameParts CliFault → Type 0
 RequestOutcome words (Ok frame) = IsRequestOf words frame
 RequestOutcome words (Err (BadWord number)) = IsFirstBad words number
-RequestOutcome words (Err Write) = ⊥
-RequestOutcome words (Err Memory) = ⊥
-RequestOutcome words (Err Read) = ⊥
-RequestOutcome words (Err TooLong) = ⊥
-RequestOutcome words (Err (BadHex place)) = ⊥
-RequestOutcome words (Err (Line fault)) = ⊥
+RequestOutcome words (Err _) = ⊥

@@ -45,7 +45,4 @@ abbrev pub IsCutShort : Stream → Stream → CliFault → Type 0
 IsCutShort old new faults.Read = (text : List ℕ) × Reads old new text Failed
 IsCutShort old new faults.TooLong = (text : List ℕ) × Reads old new text TooLong
 IsCutShort old new faults.Memory = LacksMemory old new
-IsCutShort old new faults.Write = ⊥
-IsCutShort old new (faults.BadHex place) = ⊥
-IsCutShort old new (faults.Line fault) = ⊥
-IsCutShort old new (faults.BadWord number) = ⊥
+IsCutShort old new _ = ⊥

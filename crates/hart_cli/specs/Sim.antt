@@ -11,7 +11,7 @@ use Rattle.hart_line.specs.declared.fault.LineFault.{LineFault}
 use Rattle.hart_line.specs.declared.fault.LineFault.TheVariants as line_faults
 use Rattle.hart_line.specs.declared.report.Spoken.{Spoken}
 use Rattle.hart_cli.specs.declared.fault.CliFault.{CliFault}
-use Rattle.hart_cli.specs.declared.fault.CliFault.TheVariants.{BadHex, BadWord, Line, Memory, Read, TooLong, Write}
+use Rattle.hart_cli.specs.declared.fault.CliFault.TheVariants.{Line, Memory}
 use Rattle.hart_cli.specs.Answer.{bench_device}
 use Rattle.hart_cli.specs.SimText.{sim_text}
 use Rattle.hart_cli.specs.Stream.{Stream}
@@ -58,11 +58,7 @@ HasLineFault input line_faults.Memory = ⊥
 abbrev pub IsSimulationFault : List ℕ → CliFault → Type 0
 IsSimulationFault input (Line fault) = HasLineFault input fault
 IsSimulationFault input Memory = Unit {0}
-IsSimulationFault input Read = ⊥
-IsSimulationFault input Write = ⊥
-IsSimulationFault input TooLong = ⊥
-IsSimulationFault input (BadHex place) = ⊥
-IsSimulationFault input (BadWord number) = ⊥
+IsSimulationFault input _ = ⊥
 
 -- A call of `simulate` wrote the text for its whole input at `Ok`, a front of it where a write failed, and nothing where a read
 -- failed, where the input was too long or had a fault of its lines or events, or where memory was refused; it tells no other fault.
