@@ -3,14 +3,16 @@ ghost use Rattle.std.specs.Prelude.{◌≡◌, List, ℕ};
 ghost use Rattle.hart_values.specs.declared.address.Address.{Address};
 ghost use Rattle.hart_values.specs.declared.master_id.MasterId.{MasterId};
 ghost use Rattle.hart_line.specs.Faults.{AreAllShown, IsFault};
+ghost use Rattle.hart_line.specs.Promises.{IsRefusedByDevice};
 ghost use Rattle.hart_line.specs.Script.{HasFirstBadLine, IsScript};
 ghost use Rattle.hart_line.specs.Step.{IsLast};
 ghost use Rattle.hart_line.specs.Words.{IsAddressWord, IsCommandWord, IsDataWord, IsWho};
-ghost use Rattle.hart_line.specs.World.{Start, World, first_world};
+ghost use Rattle.hart_line.specs.World.{Start, World, first_world, state_of};
 ghost use Rattle.hart_line.specs.declared.event.LineEvent.{LineEvent};
 ghost use Rattle.hart_line.specs.declared.fault.Leg.{Leg};
 ghost use Rattle.hart_line.specs.declared.fault.LineFault.TheVariants.{Undetected};
 
+use hart_device::refused_commands_change_nothing;
 use hart_frame::{bodies_are_told_apart, frames_are_told_apart};
 use hart_master::replies_are_decided;
 
@@ -48,4 +50,14 @@ pub fn scripts_have_one_last_world()
     bodies_are_told_apart();
     frames_are_told_apart();
     replies_are_decided();
+}
+
+/// A turn in which the device refuses a command, or does not answer it, leaves the device as it was, wherever it stands in a
+/// script.
+pub fn refused_turns_change_nothing()
+    ensures { (start : Start) (events : List LineEvent) (before next : World)
+        → IsRefusedByDevice start events before next → state_of start.device next ≡ state_of start.device before }
+{
+    // It does nothing when it runs: the law of one command is what this one rests on.
+    refused_commands_change_nothing();
 }

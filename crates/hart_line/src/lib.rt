@@ -34,7 +34,10 @@ pub use char_list::CharList;
 pub use event::{Heard, LineEvent};
 pub use fault::{Leg, LineFault};
 pub use items::{LeadingItem, leading_item};
-pub use laws::{scripts_have_one_last_world, texts_have_one_script, words_have_one_value};
+pub use laws::{
+    refused_turns_change_nothing, scripts_have_one_last_world, texts_have_one_script,
+    words_have_one_value,
+};
 pub use report::{Outcome, Outcomes, Party, Report, Spoken, SpokenList};
 pub use runs::run;
 pub use script::read_script;
