@@ -79,17 +79,20 @@ reading-asked dates command bytes =
     by_test _ (Ok ReadPolling) _ (IsAsked command) (λ t. (sym (is_one command 7 t), tt)) (λ f.
     by_test _ (Ok ReadClasses) _ (IsAsked command) (λ t. (sym (is_one command 8 t), tt)) (λ f.
     by_test _ (codes_reading bytes) _ (IsAsked command) (λ t. rw (is_one command 9 t) (codes-asked bytes)) (λ f.
-    by_test _ _ _ (IsAsked command) (λ t. needing-asked 6 IdentifyByTag bytes (IsAsked command) (λ xs long. (sym (is_one command 11 t), long)))
+    by_test _ _ _ (IsAsked command)
+    (λ t. needing-asked 6 IdentifyByTag bytes (IsAsked command) (λ xs long. (sym (is_one command 11 t), long)))
     (λ f.
     by_test _ (Ok ReadMessage) _ (IsAsked command) (λ t. (sym (is_one command 12 t), tt)) (λ f.
     by_test _ (Ok ReadTag) _ (IsAsked command) (λ t. (sym (is_one command 13 t), tt)) (λ f.
     by_test _ (Ok ReadSensor) _ (IsAsked command) (λ t. (sym (is_one command 14 t), tt)) (λ f.
     by_test _ (Ok ReadOutput) _ (IsAsked command) (λ t. (sym (is_one command 15 t), tt)) (λ f.
     by_test _ (Ok ReadAssembly) _ (IsAsked command) (λ t. (sym (is_one command 16 t), tt)) (λ f.
-    by_test _ _ _ (IsAsked command) (λ t. needing-asked 24 WriteMessage bytes (IsAsked command) (λ xs long. (sym (is_one command 17 t), long)))
+    by_test _ _ _ (IsAsked command)
+    (λ t. needing-asked 24 WriteMessage bytes (IsAsked command) (λ xs long. (sym (is_one command 17 t), long)))
     (λ f.
     by_test _ (tag_reading bytes) _ (IsAsked command) (λ t. rw (is_one command 18 t) (tag-asked dates bytes)) (λ f.
-    by_test _ _ _ (IsAsked command) (λ t. needing-asked 3 WriteAssembly bytes (IsAsked command) (λ xs long. (sym (is_one command 19 t), long)))
+    by_test _ _ _ (IsAsked command)
+    (λ t. needing-asked 3 WriteAssembly bytes (IsAsked command) (λ xs long. (sym (is_one command 19 t), long)))
     (λ f.
     by_test _ (reset_reading bytes) _ (IsAsked command) (λ t. rw (is_one command 38 t) (reset-asked bytes)) (λ f.
     by_test _ (Ok ReadMore) _ (IsAsked command) (λ t. (sym (is_one command 48 t), tt)) (λ f. tt)))))))))))))))))))
