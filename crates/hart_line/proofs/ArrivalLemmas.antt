@@ -6,7 +6,6 @@ use Rattle.hart_frame.specs.FrameParts.{FrameParts}
 use Rattle.hart_frame.specs.declared.found.Found.{Found}
 use Rattle.hart_commands.specs.declared.reply.Reply.{Reply}
 use Rattle.hart_master.specs.declared.hand.Hand.TheVariants.{Empty, Awaiting}
-use Rattle.hart_master.specs.declared.event.MasterEvent.TheVariants as events
 use Rattle.hart_line.specs.Damage.{Arrives, IsShown}
 use Rattle.hart_line.specs.Parts.{AcceptsIn, Speaks}
 use Rattle.hart_line.specs.Spoken.{AreSpoken, IsSpoken, Message, frame_of}

@@ -15,7 +15,6 @@ use Rattle.hart_line.specs.Damage.{Arrives, IsShown}
 use Rattle.hart_line.specs.Parts.{ArrivesAmong, Concludes, IsPlaced, IsSent, IsUndetectedAmong, ReturnBrings, Speaks}
 use Rattle.hart_line.specs.Spoken.{Message, message_by}
 use Rattle.hart_line.specs.declared.event.Heard.TheVariants.{Clean}
-use Rattle.hart_line.specs.declared.fault.Leg.TheVariants as legs
 use Rattle.hart_line.specs.declared.report.Outcome.{Outcome}
 use Rattle.hart_line.specs.declared.report.Outcome.TheVariants.{Answered}
 use Rattle.hart_line.specs.declared.report.Party.{Party}
