@@ -85,27 +85,22 @@ fn heard(
     Ok((pairs, hearing.fault))
 }
 
-#[test]
-fn an_input_that_ended_is_heard_up_to_bad_hex(rt: HostRuntime) -> Result<(), Fail> {
-    for (text, pairs, place) in ENDED {
-        let (chars, fault) = heard(rt.alloc(), text, InputEnd::Ended)?;
-        assert_eq!(rt; chars.as_slice(), *pairs, "at {text}");
-        let want = place.map(|place| CliFault::BadHex { place });
-        assert_eq!(rt; fault, want, "at {text}");
-    }
-    Ok(())
-}
+/// How an input comes to its end, the fault that this is, and such inputs.
+const INPUTS: &[(InputEnd, Option<CliFault>, &[Case])] = &[
+    (InputEnd::Ended, None, ENDED),
+    (InputEnd::Failed, Some(CliFault::Read), BROKEN_OFF),
+    (InputEnd::TooLong, Some(CliFault::TooLong), BROKEN_OFF),
+];
 
 #[test]
-fn an_input_that_broke_off_keeps_its_whole_items(rt: HostRuntime) -> Result<(), Fail> {
-    for (text, pairs, place) in BROKEN_OFF {
-        let (chars, fault) = heard(rt.alloc(), text, InputEnd::Failed)?;
-        let (others, limit) = heard(rt.alloc(), text, InputEnd::TooLong)?;
-        assert_eq!(rt; chars.as_slice(), *pairs, "at {text}");
-        assert_eq!(rt; others.as_slice(), *pairs, "at {text}");
-        let bad_hex = place.map(|place| CliFault::BadHex { place });
-        assert_eq!(rt; fault, bad_hex.or(Some(CliFault::Read)), "at {text}");
-        assert_eq!(rt; limit, bad_hex.or(Some(CliFault::TooLong)), "at {text}");
+fn an_input_is_heard_up_to_its_first_fault(rt: HostRuntime) -> Result<(), Fail> {
+    for (end, end_fault, cases) in INPUTS {
+        for (text, pairs, place) in *cases {
+            let (chars, fault) = heard(rt.alloc(), text, *end)?;
+            assert_eq!(rt; chars.as_slice(), *pairs, "at {text}");
+            let bad_hex = place.map(|place| CliFault::BadHex { place });
+            assert_eq!(rt; fault, bad_hex.or(*end_fault), "at {text}");
+        }
     }
     Ok(())
 }

@@ -3,6 +3,7 @@
 use super::{DONE, FAULT, NO_CALL, program};
 use crate::plain::Plain;
 use crate::stream::fakes::{Drip, Tape, Trickle};
+use crate::stream::{Sink, Source};
 use std::alloc::{AllocError, Global};
 use std::test::Fail;
 
@@ -31,13 +32,19 @@ struct Run {
     errors: Trickle,
 }
 
-/// The words as `program` takes them.
-fn arguments(alloc: Global, words: &[&str]) -> Result<Vec<String>, AllocError> {
+/// The status of `program` on these words and streams.
+fn status_of<R: Source, W: Sink, E: Sink>(
+    alloc: Global,
+    words: &[&str],
+    reader: &mut R,
+    output: &mut W,
+    errors: &mut E,
+) -> Result<u8, AllocError> {
     let mut arguments = Vec::new(alloc);
     for word in words {
         arguments.push(String::from_str(alloc, word)?)?;
     }
-    Ok(arguments)
+    Ok(program(alloc, arguments.as_slice(), reader, output, errors))
 }
 
 /// Runs `program` on these words and this reader; the two writers take so many bytes.
@@ -48,16 +55,9 @@ fn run_program(
     output_room: u64,
     error_room: u64,
 ) -> Result<Run, AllocError> {
-    let words = arguments(alloc, words)?;
     let mut output = Trickle::new(alloc, output_room);
     let mut errors = Trickle::new(alloc, error_room);
-    let status = program(
-        alloc,
-        words.as_slice(),
-        &mut reader,
-        &mut output,
-        &mut errors,
-    );
+    let status = status_of(alloc, words, &mut reader, &mut output, &mut errors)?;
     Ok(Run {
         status,
         reads: reader.reads(),
@@ -70,6 +70,22 @@ fn run_program(
 fn run_on(alloc: Global, words: &[&str], input: &str) -> Result<Run, AllocError> {
     let reader = Tape::new(input.as_bytes(), None);
     run_program(alloc, words, reader, u64::MAX, u64::MAX)
+}
+
+/// A subcommand without words of its own, and inputs with what it writes for each.
+const ROWS: &[(&str, &[(&str, &str)])] = &[("answer", answer::ROWS), ("sim", sim::ROWS)];
+
+#[test]
+fn inputs_are_carried_out(rt: HostRuntime) -> Result<(), Fail> {
+    for (word, rows) in ROWS {
+        for (input, want) in *rows {
+            let run = run_on(rt.alloc(), &[*word], input)?;
+            assert_eq!(rt; run.status, DONE, "on {input}");
+            assert_eq!(rt; run.output.taken(), want.as_bytes(), "on {input}");
+            assert!(rt; run.errors.taken().is_empty(), "on {input}");
+        }
+    }
+    Ok(())
 }
 
 /// Words, an input, and the line of the fault that they come to, with nothing written.
@@ -198,17 +214,10 @@ fn a_failed_write_is_told(rt: HostRuntime) -> Result<(), Fail> {
 #[test]
 fn an_input_without_end_is_too_long(rt: HostRuntime) -> Result<(), Fail> {
     for word in ["answer", "dump", "sim"] {
-        let words = arguments(rt.alloc(), &[word])?;
         let mut reader = Drip::new();
         let mut output = Trickle::new(rt.alloc(), u64::MAX);
         let mut errors = Trickle::new(rt.alloc(), u64::MAX);
-        let status = program(
-            rt.alloc(),
-            words.as_slice(),
-            &mut reader,
-            &mut output,
-            &mut errors,
-        );
+        let status = status_of(rt.alloc(), &[word], &mut reader, &mut output, &mut errors)?;
         assert_eq!(rt; status, FAULT);
         assert_eq!(rt; reader.given(), 1_048_577);
         assert_eq!(rt; errors.taken(), b"input too long\n".as_slice());
@@ -220,17 +229,10 @@ fn an_input_without_end_is_too_long(rt: HostRuntime) -> Result<(), Fail> {
 #[test]
 fn readers_and_writers_of_the_standard_library_serve(rt: HostRuntime) -> Result<(), Fail> {
     for (words, input, want) in CALLS {
-        let words = arguments(rt.alloc(), words)?;
         let mut reader = Plain::new(input.as_bytes());
         let mut output = Plain::new(Vec::new(rt.alloc()));
         let mut errors = Plain::new(Vec::new(rt.alloc()));
-        let status = program(
-            rt.alloc(),
-            words.as_slice(),
-            &mut reader,
-            &mut output,
-            &mut errors,
-        );
+        let status = status_of(rt.alloc(), words, &mut reader, &mut output, &mut errors)?;
         assert_eq!(rt; status, DONE);
         assert_eq!(rt; output.into_inner().as_slice(), want.as_bytes());
         assert!(rt; errors.into_inner().is_empty());

@@ -1,15 +1,12 @@
 //! `hart sim`.
 
-use super::{DONE, run_on};
-use std::test::Fail;
-
 /// What a script without a request leads to.
 pub const AS_IT_WAS: &str = "\
 counter 0\n\
 image 010001820820820820820820820820820820820820820820820820820820820820820820820820820820820820000000000000000000\n";
 
 /// A script, and its text.
-const ROWS: &[(&str, &str)] = &[
+pub const ROWS: &[(&str, &str)] = &[
     ("", AS_IT_WAS),
     ("turn P ok ok", AS_IT_WAS),
     (" \t\r\n# P\u{e9} #\n\t#\nturn P ok ok\r\n\r", AS_IT_WAS),
@@ -169,14 +166,3 @@ counter 0\n\
 image 010001820820820820820820820820820820820820820820820820820820820820820820820820820820820820000000000000000000\n",
     ),
 ];
-
-#[test]
-fn scripts_are_carried_out(rt: HostRuntime) -> Result<(), Fail> {
-    for (script, want) in ROWS {
-        let run = run_on(rt.alloc(), &["sim"], script)?;
-        assert_eq!(rt; run.status, DONE, "on {script}");
-        assert_eq!(rt; run.output.taken(), want.as_bytes(), "on {script}");
-        assert!(rt; run.errors.taken().is_empty(), "on {script}");
-    }
-    Ok(())
-}
