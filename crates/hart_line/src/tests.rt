@@ -66,7 +66,7 @@ fn each_word_is_read(rt: HostRuntime) -> Result<(), Fail> {
 const SCRIPTS: &[(&str, Result<&str, usize>)] = &[
     ("", Ok("")),
     ("\r", Ok("")),
-    ("\n \t\r\n#\n # submit X\n#turn\r\n", Ok("")),
+    ("\n \t\r\n#\n # submit X\r\r\n#turn\r\n", Ok("")),
     ("submit P @07 0", Ok("S")),
     ("submit P FF420A1B2C 0\r\n", Ok("S")),
     ("submit P @0 1\nturn P ok lost\n", Ok("ST")),

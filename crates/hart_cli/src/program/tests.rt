@@ -117,8 +117,13 @@ turn P FFFF82!40B7420A1B2C1118FFFF0280000082000000000000000000000000000000000043
     ),
     (
         &["sim"],
-        "# A frame from nowhere\n\nturn P FFFF0280000082 ok",
+        "turn P FFFF0280000082 ok",
         "undetected damage at event 0, up\n",
+    ),
+    (
+        &["sim"],
+        "# Frames from nowhere\n\nprotect on\nturn P ok FFFF0280000082",
+        "undetected damage at event 1, down\n",
     ),
     (
         &["sim"],
@@ -139,6 +144,7 @@ turn P FFFF82!40B7420A1B2C1118FFFF0280000082000000000000000000000000000000000043
     (&["sim"], "noise FF!08", "bad line 1\n"),
     (&["sim"], "noise FF\rFF", "bad line 1\n"),
     (&["sim"], "noise FF FF", "bad line 1\n"),
+    (&["sim"], "noise FF\tFF", "bad line 1\n"),
     (&["sim"], "protect", "bad line 1\n"),
     (&["sim"], "\r#", "bad line 1\n"),
     (&["sim"], "protect on\nturn X ok ok\n", "bad line 2\n"),
@@ -161,27 +167,17 @@ fn a_fault_is_told_at_its_place(rt: HostRuntime) -> Result<(), Fail> {
     Ok(())
 }
 
-/// A subcommand, and the number of the read that fails.
-const FAILED_READS: &[(&str, usize)] = &[
-    ("answer", 0),
-    ("answer", 7),
-    ("answer", 14),
-    ("dump", 0),
-    ("dump", 7),
-    ("dump", 14),
-    ("sim", 0),
-    ("sim", 14),
-];
-
 #[test]
-fn a_failed_read_is_told(rt: HostRuntime) -> Result<(), Fail> {
-    for (word, read) in FAILED_READS {
-        let reader = Tape::new(IDENTIFY.as_bytes(), Some(*read));
-        let run = run_program(rt.alloc(), &[*word], reader, u64::MAX, u64::MAX)?;
-        assert_eq!(rt; run.status, FAULT, "{word} at read {read}");
-        assert_eq!(rt; run.reads, *read);
-        assert_eq!(rt; run.errors.taken(), b"read fault\n".as_slice());
-        assert!(rt; run.output.taken().is_empty(), "{word} at read {read}");
+fn each_failed_read_is_told(rt: HostRuntime) -> Result<(), Fail> {
+    for word in ["answer", "dump", "sim"] {
+        for read in 0..IDENTIFY.len() + 1 {
+            let reader = Tape::new(IDENTIFY.as_bytes(), Some(read));
+            let run = run_program(rt.alloc(), &[word], reader, u64::MAX, u64::MAX)?;
+            assert_eq!(rt; run.status, FAULT, "{word} at read {read}");
+            assert_eq!(rt; run.reads, read);
+            assert_eq!(rt; run.errors.taken(), b"read fault\n".as_slice());
+            assert!(rt; run.output.taken().is_empty(), "{word} at read {read}");
+        }
     }
     Ok(())
 }
@@ -199,14 +195,32 @@ fn nothing_is_read_after_the_end(rt: HostRuntime) -> Result<(), Fail> {
 }
 
 #[test]
-fn a_failed_write_is_told(rt: HostRuntime) -> Result<(), Fail> {
+fn each_failed_write_is_told(rt: HostRuntime) -> Result<(), Fail> {
     for (words, input, want) in CALLS {
-        let reader = Tape::new(input.as_bytes(), None);
-        let run = run_program(rt.alloc(), words, reader, 20, u64::MAX)?;
-        assert_eq!(rt; run.status, FAULT, "for {want}");
-        assert_eq!(rt; run.errors.taken(), b"write fault\n".as_slice());
-        assert_eq!(rt; run.output.taken().len(), 20);
-        assert!(rt; want.as_bytes().starts_with(run.output.taken()));
+        for room in 0..want.len() {
+            let reader = Tape::new(input.as_bytes(), None);
+            let run = run_program(rt.alloc(), words, reader, room as u64, u64::MAX)?;
+            assert_eq!(rt; run.status, FAULT, "for {want}");
+            assert_eq!(rt; run.errors.taken(), b"write fault\n".as_slice());
+            assert_eq!(rt; run.output.taken(), &want.as_bytes()[..room]);
+        }
+    }
+    Ok(())
+}
+
+/// A subcommand, and what it writes for the largest input, of spaces alone.
+const LARGEST: &[(&str, &str)] = &[("answer", ""), ("dump", ""), ("sim", sim::AS_IT_WAS)];
+
+#[test]
+fn the_largest_input_is_taken(rt: HostRuntime) -> Result<(), Fail> {
+    let input = vec![in rt.alloc(); b' '; 1_048_576]?;
+    for (word, want) in LARGEST {
+        let mut reader = Plain::new(input.as_slice());
+        let mut output = Plain::new(Vec::new(rt.alloc()));
+        let mut errors = Plain::new(Vec::new(rt.alloc()));
+        let status = status_of(rt.alloc(), &[*word], &mut reader, &mut output, &mut errors)?;
+        assert_eq!(rt; status, DONE, "of {word}");
+        assert_eq!(rt; output.into_inner().as_slice(), want.as_bytes());
     }
     Ok(())
 }

@@ -197,6 +197,7 @@ fn scripts_lead_to_reports(rt: HostRuntime) -> Result<(), Fail> {
         assert_eq!(rt; numbers, (row.spoken, row.counter), "of {}", row.script);
         let registers = report.device.registers();
         assert_eq!(rt; registers.get(Register::Polling), [row.polling].as_slice());
+        assert_eq!(rt; registers.get(Register::Mode), [1].as_slice());
         assert_eq!(rt; registers.get(Register::Assembly), row.assembly);
     }
     Ok(())
