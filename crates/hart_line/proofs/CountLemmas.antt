@@ -189,4 +189,5 @@ first_counted start = record {
 
 pub executed_at_most : (start : Start) (events : List LineEvent) (last : World) → Run start (first_world start) events last
     → (number : ℕ) → times_executed number last.executions ≤ sendings_told (slice_get last.outcomes number)
-executed_at_most start events last run = (run_keeps start IsCounted (counted_kept start) events (first_world start) last run (first_counted start)).counts
+executed_at_most start events last run =
+    (run_keeps start IsCounted (counted_kept start) events (first_world start) last run (first_counted start)).counts

@@ -52,7 +52,8 @@ answered_reached r number reply sendings is =
 
 -- THE HEADLINE
 pub registers_reached : ExecutesLaw → FirstLaw → AgainLaw → {start : Start} {events : List LineEvent} {device : DeviceState}
-    {primary : MasterState} {primary_place : ℕ} {secondary : MasterState} {secondary_place : ℕ} {outcomes : List Outcome} {spoken : List Spoken}
+    {primary : MasterState} {primary_place : ℕ} {secondary : MasterState} {secondary_place : ℕ} {outcomes : List Outcome}
+    {spoken : List Spoken}
     → (r : IsReached start events device primary primary_place secondary secondary_place outcomes spoken)
     → device.contents ≡ registers_of (overwrites_of (last_executions r.world.executions)) start.device.contents
 registers_reached executes first_law again {start = start} {events = events} r =
