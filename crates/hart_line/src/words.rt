@@ -1,7 +1,6 @@
 //! The words of messages to send.
 
-ghost use Rattle.std.specs.Prelude.{MatchOption};
-ghost use Rattle.hart_line.specs.Words.{HasNoValue, IsAddressWord, IsCommandWord, IsDataWord, IsWho};
+ghost use Rattle.hart_line.specs.Words.{Finds, IsAddressWord, IsCommandWord, IsDataWord, IsWho};
 ghost use Rattle.hart_line.specs.Words.{IsDecimal, IsDeviceWord, IsPollingWord};
 
 use hart_frame::Payload;
@@ -9,9 +8,9 @@ use hart_values::{Address, MasterId, PollingAddress, UniqueAddress};
 use hex::FromHex;
 use std::str;
 
-/// The master that WHO names: `P` the primary and `S` the secondary.
+/// The master that WHO names, `P` the primary and `S` the secondary, or `None` where it names none.
 pub fn read_who(word: &[u8]) -> Option<MasterId>
-    ensures { MatchOption result (HasNoValue (IsWho word.now)) (IsWho word.now) }
+    ensures { Finds (IsWho word.now) result }
 {
     match word {
         b"P" => Some(MasterId::Primary),
@@ -20,9 +19,10 @@ pub fn read_who(word: &[u8]) -> Option<MasterId>
     }
 }
 
-/// The address that ADDRESS writes: `@` and a polling address, the ten hex digits of a device, or `all`.
+/// The address that ADDRESS writes, as `@` and a polling address, as the ten hex digits of a device, or as `all`; or `None`
+/// where it writes none.
 pub fn read_address(word: &[u8]) -> Option<Address>
-    ensures { MatchOption result (HasNoValue (IsAddressWord word.now)) (IsAddressWord word.now) }
+    ensures { Finds (IsAddressWord word.now) result }
 {
     if word == b"all".as_slice() {
         return Address::unique(0, 0).ok();
@@ -35,7 +35,7 @@ pub fn read_address(word: &[u8]) -> Option<Address>
 
 /// The polling address that is written `@` and one or two digits.
 fn read_polling(word: &[u8]) -> Option<PollingAddress>
-    ensures { MatchOption result (HasNoValue (IsPollingWord word.now)) (IsPollingWord word.now) }
+    ensures { Finds (IsPollingWord word.now) result }
 {
     let [b'@', digits @ ..] = word else {
         return None;
@@ -45,7 +45,7 @@ fn read_polling(word: &[u8]) -> Option<PollingAddress>
 
 /// The device that is written in ten hex digits.
 fn read_device(word: &[u8]) -> Option<UniqueAddress>
-    ensures { MatchOption result (HasNoValue (IsDeviceWord word.now)) (IsDeviceWord word.now) }
+    ensures { Finds (IsDeviceWord word.now) result }
 {
     let bytes = <[u8; 5]>::from_hex(word).ok()?;
     let [type_high, type_low, id_high, id_middle, id_low] = bytes;
@@ -54,17 +54,16 @@ fn read_device(word: &[u8]) -> Option<UniqueAddress>
     UniqueAddress::new(expanded_type, device_id).ok()
 }
 
-/// The command that COMMAND writes, in one to three digits.
+/// The command that COMMAND writes, in one to three digits, or `None` where it writes none.
 pub fn read_command(word: &[u8]) -> Option<u8>
-    ensures { MatchOption result (HasNoValue (IsCommandWord word.now)) (IsCommandWord word.now) }
+    ensures { Finds (IsCommandWord word.now) result }
 {
     read_decimal(word, 3)
 }
 
 /// The number up to 255 that a word writes in decimal, in at most so many digits.
 fn read_decimal(word: &[u8], most_digits: usize) -> Option<u8>
-    ensures { MatchOption result
-        (HasNoValue (IsDecimal word.now most_digits 255)) (IsDecimal word.now most_digits 255) }
+    ensures { Finds (IsDecimal word.now most_digits 255) result }
 {
     // `parse` takes a plus sign too, which is no digit.
     if word.len() > most_digits || word.starts_with(b"+") {
@@ -76,9 +75,9 @@ fn read_decimal(word: &[u8], most_digits: usize) -> Option<u8>
     }
 }
 
-/// The bytes that DATA writes in plain hex, at most 255.
+/// The bytes that DATA writes in plain hex, at most 255, or `None` where it writes none.
 pub fn read_data(word: &[u8]) -> Option<Payload>
-    ensures { MatchOption result (HasNoValue (IsDataWord word.now)) (IsDataWord word.now) }
+    ensures { Finds (IsDataWord word.now) result }
 {
     let mut room = [0; 255];
     if word.len() > 2 * room.len() {
