@@ -83,7 +83,7 @@ impl From<AllocError> for Stop {
     }
 }
 
-/// One event.
+/// Carries out one event on the parts of a line.
 pub fn step<S: RegisterStore>(
     device: &mut Device<S>,
     primary: &mut Submitter,

@@ -102,7 +102,7 @@ pub fn run<S: RegisterStore + Drop>(
     ensures fault { IfErr result (IsFault (start_of device process.now primary secondary) events.now) }
     ensures clean_and_lost_legs_are_shown { IfErr result (IsOfCharacters events.now) }
 {
-    // They do nothing when they run: by these laws a script has one last world, and one without events leaves the device as it is.
+    // They do nothing when they run: these laws are what the clauses rest on.
     registers_of_lists();
     writes_execute_their_overwrite();
     answers_tell_their_code();
@@ -116,6 +116,7 @@ pub fn run<S: RegisterStore + Drop>(
     frames_are_told_apart();
     replies_are_decided();
     messages_have_their_frame_alone();
+    // By what these tell, the counter has two bytes, and a message has preamble bytes.
     let (_counter, _preambles) = (device.counter(), device.response_preambles());
     let mut primary = Submitter::new(primary);
     let mut secondary = Submitter::new(secondary);
