@@ -102,7 +102,8 @@ Goes in, on the standard input: a script, a line for each event.
   noise ITEMS                        all three hear these bytes
 WHO is P for the primary master and S for the secondary. ADDRESS is @ and the
 polling address, @0 to @63; or ten hex digits, four of the type of the device
-and six of its id; or all, for every device. DATA are hex. UP and DOWN are ok
+and six of its id; or all, for every device. DATA are hex, and such as COMMAND
+takes; a COMMAND that hart does not know makes a bad line. UP and DOWN are ok
 for what was sent, lost for nothing, or the bytes that are heard in its place:
 like ITEMS, two hex digits for each byte and, where it came damaged, ! and two
 hex digits of fault bits (see hart dump --help), with no space between bytes.
@@ -130,8 +131,8 @@ Comes out, on the standard output, once the script has come to its end:
 
 Where nothing is written, standard error says why: bad line N, counted from 1;
 undetected damage at event N, counted from 0, and up, down or noise, where what
-is heard has another message in it than the one that was sent; input too long;
-read fault.";
+is heard has another message in it than the one that was sent, or more than one;
+input too long; read fault.";
 
 const SIM_EXAMPLE: &str = "\
 Example:
