@@ -91,7 +91,7 @@ fn outcome_line(number: usize, outcome: &Outcome) -> Line
     line
 }
 
-/// Adds the words of what became of a submission.
+/// Adds the words of what became of a submission, to a line that has at most its number, of 20 digits, and a space.
 fn push_outcome(line: &mut Line, outcome: &Outcome)
     requires { length line.old ≤ 21 }
     ensures words { line.new ≡ line.old ++ join_with_byte 32 (outcome_words outcome.now) }
@@ -105,7 +105,7 @@ fn push_outcome(line: &mut Line, outcome: &Outcome)
     }
 }
 
-/// Adds the words of a submission that was answered.
+/// Adds the words of a submission that was answered, to such a line.
 fn push_answered(line: &mut Line, reply: &Reply, sendings: u8)
     requires { length line.old ≤ 21 }
     ensures words { line.new ≡ line.old ++ join_with_byte 32 (outcome_words (Answered reply.now sendings)) }
