@@ -18,6 +18,7 @@ place_or_length p xs found result e f =
     e ∙ ap (λ (o : Option ℕ). unwrap_or o (length xs)) f
     ∙ place_of (position_or_len p xs) (length xs) (prefix_len-le-length (λ x. not (p x)) xs)
 
+-- a place is within the list
 pub position_within : (p : ℕ → Bool) (xs : List ℕ) → position_or_len p xs ≤ length xs
 position_within p xs = prefix_len-le-length (λ x. not (p x)) xs
 

@@ -1,5 +1,5 @@
 //! The lines of a text and the words of a line.
-ghost use Rattle.std.specs.Prelude.{◌≡◌, ◌≢◌, [], ◌∷◌, length, not, MatchOption};
+ghost use Rattle.std.specs.Prelude.{◌≡◌, ◌≢◌, ◌≤◌, [], ◌∷◌, length, not, MatchOption};
 ghost use Rattle.std.specs.List.{position_or_len};
 ghost use Rattle.std.specs.Str.Lines.{strip_carriage_return};
 ghost use Rattle.hart_line.specs.Lines.{is_blank, words_of};
@@ -15,7 +15,6 @@ pub fn without_return(part: &[u8]) -> &[u8]
 }
 
 /// The first word of a line, and what follows it, or `None` where it has no word.
-#[tactic(auto, using(crate::proofs::LinesLemmas::position_within))]
 pub fn next_word(line: &[u8]) -> Option<(&[u8], &[u8])>
     ensures { MatchOption result (words_of line.now ≡ [])
         (λ taken. words_of line.now ≡ (taken.0).now ∷ words_of (taken.1).now) }
@@ -40,7 +39,8 @@ pub fn only_word(line: &[u8]) -> Option<&[u8]>
 
 /// The number of blanks that a line begins with.
 fn blanks_at_front(line: &[u8]) -> usize
-    ensures { result ≡ position_or_len (λ byte. not (is_blank byte)) line.now }
+    ensures place { result ≡ position_or_len (λ byte. not (is_blank byte)) line.now }
+    ensures within { result ≤ length line.now }
 {
     line.iter()
         .position(|byte| !is_blank(*byte))
@@ -49,7 +49,8 @@ fn blanks_at_front(line: &[u8]) -> usize
 
 /// The number of bytes before the first blank.
 fn len_before_blank(line: &[u8]) -> usize
-    ensures { result ≡ position_or_len is_blank line.now }
+    ensures place { result ≡ position_or_len is_blank line.now }
+    ensures within { result ≤ length line.now }
 {
     line.iter()
         .position(|byte| is_blank(*byte))
