@@ -235,8 +235,8 @@ unmoved : (start : Start) (world : World) (who : MasterId) (hand : Option InHand
 unmoved start world who None arrived accepted nothing = refl
 unmoved start world who (Some held) arrived accepted nothing = rw nothing refl
 
-pub refused_step : RefusedLaw → (start : Start) (events : List LineEvent) (before next : World) (r : IsRefusedByDevice start events before next)
-    → state_of start.device next ≡ state_of start.device before
+pub refused_step : RefusedLaw → (start : Start) (events : List LineEvent) (before next : World)
+    (r : IsRefusedByDevice start events before next) → state_of start.device next ≡ state_of start.device before
 refused_step law start events before next r =
     let nothing : effect_on (state_of start.device before) r.turn.step.arrived ≡ Nothing =
     ap (effect_on (state_of start.device before)) r.arrived ∙ law (state_of start.device before) r.frame r.refused in

@@ -83,7 +83,7 @@ impl Outcomes {
         Ok(())
     }
 
-    /// Gives the submission at this place another outcome, where there is one.
+    /// Gives the submission at this place this outcome; nothing changes where it is `None`.
     pub(crate) fn replace(&mut self, place: usize, outcome: Option<Outcome>)
         requires { IfSome outcome (λ _. place < length self.old) }
         ensures { self.new ≡ outcomes_with place outcome self.old }

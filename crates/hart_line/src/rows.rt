@@ -72,7 +72,8 @@ fn read_submit(rest: &[u8]) -> Option<LineEvent>
     })
 }
 
-/// The data that the words behind COMMAND write: none, or those of one word.
+/// The data that the words behind COMMAND write, no bytes where there is no word and those of DATA where it is alone, or `None`
+/// where they write none.
 fn read_payload(rest: &[u8]) -> Option<Payload>
     ensures { Finds (AreDataWords (words_of rest.now)) result }
 {
@@ -101,7 +102,7 @@ fn read_turn(alloc: Global, rest: &[u8]) -> Result<Option<LineEvent>, AllocError
     Ok(Some(LineEvent::Turn { who, up, down }))
 }
 
-/// The words of a line that has just three.
+/// The words of a line that has three, or `None` where it has fewer or more.
 fn three_words(line: &[u8]) -> Option<(&[u8], &[u8], &[u8])>
     ensures { MatchOption result (length (words_of line.now) ≢ 3)
         (λ words. words_of line.now ≡ (words.0).now ∷ (words.1).now ∷ (words.2).now ∷ []) }

@@ -22,7 +22,8 @@ struct Row<'a> {
     /// The number of messages.
     spoken: usize,
     counter: u16,
-    /// What the registers of the polling address and of the final assembly number hold in the end.
+    /// What the registers of the polling address and of the final assembly number hold in the end; the loop current mode is
+    /// enabled in each.
     polling: u8,
     assembly: &'a [u8],
 }

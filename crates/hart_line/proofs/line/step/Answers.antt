@@ -44,7 +44,8 @@ pub returns-in_ok-submit-in-Secondary-clause-stepped :
     goal.returns-in_ok-submit-in-Secondary-clause-stepped
 returns-in_ok-submit-in-Secondary-clause-stepped g c = λ start world process within s.
     rw (c.in-Submit.is, c.in-Secondary.is) (stepped_by Secondary s (submitted_from start world Secondary c.in-Submit.address
-    c.in-Submit.request _ _ _ _ _ _ _ _ s.device_is s.secondary_is s.outcomes_are s.spoken_are c.in_ok-submit-in-Secondary.ensures) refl refl refl refl)
+    c.in-Submit.request _ _ _ _ _ _ _ _ s.device_is s.secondary_is s.outcomes_are s.spoken_are c.in_ok-submit-in-Secondary.ensures)
+    refl refl refl refl)
 
 pub returns-in-Protect-clause-stepped : goal.returns-in-Protect-clause-stepped
 returns-in-Protect-clause-stepped g c = λ start world process within stands.
