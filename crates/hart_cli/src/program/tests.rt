@@ -221,6 +221,7 @@ fn the_largest_input_is_taken(rt: HostRuntime) -> Result<(), Fail> {
         let status = status_of(rt.alloc(), &[*word], &mut reader, &mut output, &mut errors)?;
         assert_eq!(rt; status, DONE, "of {word}");
         assert_eq!(rt; output.into_inner().as_slice(), want.as_bytes());
+        assert!(rt; errors.into_inner().is_empty());
     }
     Ok(())
 }
