@@ -54,10 +54,10 @@ whole_reads : (text : List ℕ) (chars : List Character) → Hears text Ended ch
 whole_reads text _ (Hears.all chars reads) = reads
 
 -- the answer to such an input
-pub HasAnswer : (reader reader_after : Stream) (input : List ℕ) (chars : List Character) (text : List ℕ)
+pub answer_read : (reader reader_after : Stream) (input : List ℕ) (chars : List Character) (text : List ℕ)
     → Reads reader reader_after input Ended → Hears input Ended chars None → IsTextFor chars text
     → WholeInput reader reader_after (λ input. IsAnswer input text)
-HasAnswer reader reader_after input chars text read hears text_for = record {
+answer_read reader reader_after input chars text read hears text_for = record {
   input = input;
   whole = read;
   holds = record { delivery = chars; reads = whole_reads input chars hears; text_for = text_for };

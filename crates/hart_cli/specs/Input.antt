@@ -40,9 +40,9 @@ pub record LacksMemory (old new : Stream) : Type 0 where
   pub read : ReadsWell old new bytes
   pub soon : length bytes ≤ input_limit + most_beyond
 
--- An input was not read to its end: a read failed, there were more bytes than the limit, or memory was refused.
-abbrev pub IsCutShort : Stream → Stream → CliFault → Type 0
-IsCutShort old new faults.Read = (text : List ℕ) × Reads old new text Failed
-IsCutShort old new faults.TooLong = (text : List ℕ) × Reads old new text TooLong
-IsCutShort old new faults.Memory = LacksMemory old new
-IsCutShort old new _ = ⊥
+-- Reading a whole input comes to this fault: a read failed, there were more bytes than the limit, or memory was refused.
+abbrev pub IsReadingFault : Stream → Stream → CliFault → Type 0
+IsReadingFault old new faults.Read = (text : List ℕ) × Reads old new text Failed
+IsReadingFault old new faults.TooLong = (text : List ℕ) × Reads old new text TooLong
+IsReadingFault old new faults.Memory = LacksMemory old new
+IsReadingFault old new _ = ⊥

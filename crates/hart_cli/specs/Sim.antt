@@ -54,7 +54,8 @@ HasLineFault input (line_faults.BadLine number) = HasFirstBadLine input number
 HasLineFault input (line_faults.Undetected number leg) = IsScriptWithFault input (line_faults.Undetected number leg)
 HasLineFault input line_faults.Memory = ⊥
 
--- The fault of a call that read its whole input is a fault of the lines or the events, unless memory is refused.
+-- An input that is not carried out has this fault, of its lines or its events; or memory is refused, which is no fault of an
+-- input.
 abbrev pub IsSimulationFault : List ℕ → CliFault → Type 0
 IsSimulationFault input (Line fault) = HasLineFault input fault
 IsSimulationFault input Memory = Unit {0}

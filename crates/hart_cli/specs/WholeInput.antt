@@ -1,9 +1,9 @@
--- What a call writes that reads its whole input before (own profile).
+-- What a call writes that reads its whole input first (own profile).
 use Rattle.std.specs.Prelude.{ℕ, List, Result, Ok, Err}
 use Rattle.hart_cli.specs.declared.fault.CliFault.{CliFault}
 use Rattle.hart_cli.specs.declared.fault.CliFault.TheVariants.{BadHex, BadWord, Line, Memory, Read, TooLong, Write}
 use Rattle.hart_cli.specs.declared.input.InputEnd.TheVariants.{Ended}
-use Rattle.hart_cli.specs.Input.{IsCutShort, Reads}
+use Rattle.hart_cli.specs.Input.{IsReadingFault, LacksMemory, Reads}
 use Rattle.hart_cli.specs.Stream.{FailsToWrite, Stream, WritesAll, WritesNothing}
 
 -- One input was read to its end, and this holds of it.
@@ -12,8 +12,8 @@ pub record WholeInput (reader reader_after : Stream) (Holds : List ℕ → Type 
   pub whole : Reads reader reader_after input Ended
   pub holds : Holds input
 
--- A call wrote the text for its whole input at `Ok`, a front of it where a write failed, and nothing where the input was cut
--- short or has the fault that is told.
+-- A call wrote the text for its whole input at `Ok`, a front of it where a write failed, and nothing where a read failed, where
+-- the input was too long or has the fault that is told, or where memory was refused.
 abbrev pub WholeOutcome : (List ℕ → List ℕ → Type 0) → (List ℕ → CliFault → Type 0) → Stream → Stream → Stream → Stream
     → Result (Unit {0}) CliFault → Type 0
 WholeOutcome IsText HasFault reader reader_after writer writer_after (Ok done) =
@@ -21,11 +21,11 @@ WholeOutcome IsText HasFault reader reader_after writer writer_after (Ok done) =
 WholeOutcome IsText HasFault reader reader_after writer writer_after (Err Write) =
     (text : List ℕ) × WholeInput reader reader_after (λ input. IsText input text) × FailsToWrite writer writer_after text
 WholeOutcome IsText HasFault reader reader_after writer writer_after (Err Read) =
-    IsCutShort reader reader_after Read × WritesNothing writer writer_after
+    IsReadingFault reader reader_after Read × WritesNothing writer writer_after
 WholeOutcome IsText HasFault reader reader_after writer writer_after (Err TooLong) =
-    IsCutShort reader reader_after TooLong × WritesNothing writer writer_after
+    IsReadingFault reader reader_after TooLong × WritesNothing writer writer_after
 WholeOutcome IsText HasFault reader reader_after writer writer_after (Err Memory) =
-    IsCutShort reader reader_after Memory × WritesNothing writer writer_after
+    LacksMemory reader reader_after × WritesNothing writer writer_after
 WholeOutcome IsText HasFault reader reader_after writer writer_after (Err (BadHex place)) =
     WholeInput reader reader_after (λ input. HasFault input (BadHex place)) × WritesNothing writer writer_after
 WholeOutcome IsText HasFault reader reader_after writer writer_after (Err (Line fault)) =

@@ -1,6 +1,6 @@
 //! Reading a whole input.
 ghost use Rattle.std.specs.Prelude.{◌≡◌, IfErr, IfOk, OnErr};
-ghost use Rattle.hart_cli.specs.Input.{IsCutShort, LacksMemory, Reads};
+ghost use Rattle.hart_cli.specs.Input.{IsReadingFault, LacksMemory, Reads};
 ghost use Rattle.hart_cli.specs.declared.input.InputEnd.TheVariants.{Ended};
 
 use crate::fault::CliFault;
@@ -43,7 +43,7 @@ pub fn read_whole<R: Source>(alloc: Global, reader: &mut R) -> Result<Input, Cli
     ensures reads { IfOk result (λ input. Reads
         (R.stream reader.old) (R.stream reader.new)
         input.text.items Ended) }
-    ensures fault { IfErr result (IsCutShort (R.stream reader.old) (R.stream reader.new)) }
+    ensures fault { IfErr result (IsReadingFault (R.stream reader.old) (R.stream reader.new)) }
 {
     let input = read_input(alloc, reader)?;
     match input.end {

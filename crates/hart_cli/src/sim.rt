@@ -48,7 +48,8 @@ pub fn simulate<R: Source, W: Sink>(
     Ok(())
 }
 
-/// An input has one text at most, or one fault, and never both, so that what `simulate` answers is determined by what it reads.
+/// An input has one text at most and one fault at most, and never both, so that the text that `simulate` writes, or the fault of
+/// the script that it tells, is determined by what it reads.
 pub fn one_simulation()
     ensures one_text { (input xs ys : List ℕ) → IsSimulation input xs → IsSimulation input ys → xs ≡ ys }
     ensures one_fault { (input : List ℕ) (fault other : LineFault)

@@ -179,8 +179,8 @@ bytes; left out where there are none";
 const PREAMBLES_HELP: &str =
     "The number of preamble bytes FF that the message begins with, 5 to 20";
 
-/// The word `answer`, `dump` or `sim` alone is a call of it. Three words after `encode` are a call with no data and 5 preamble
-/// bytes, and with `--preambles` after them one with so many.
+/// The word `answer`, `dump` or `sim` alone is a call of it. `encode P @0 0` is a call with no data and 5 preamble bytes, and with
+/// 20 where `--preambles 20` follows.
 pub fn words_are_calls()
     ensures answer { Calls Answer (codes "answer" ∷ []) }
     ensures dump { Calls Dump (codes "dump" ∷ []) }

@@ -2,7 +2,7 @@ use Rattle.std.proofs.Common.{ℕ, List, [], refl, subst}
 use Rattle.hart_frame.specs.Character.{Character}
 use Rattle.hart_cli.specs.Answer.{IsTextFor}
 use Rattle.hart_cli.specs.declared.fault.CliFault.TheVariants.{Write}
-use Rattle.hart_cli.proofs.AnswerLemmas.{AnswerOutcome-fault, HasAnswer, told_as}
+use Rattle.hart_cli.proofs.AnswerLemmas.{AnswerOutcome-fault, answer_read, told_as}
 use Rattle.hart_cli.proofs.KnownBytesLemmas.{Appends-nothing}
 use Rattle.hart_cli.proofs.answer.answer.Goals as goal
 
@@ -16,7 +16,7 @@ returns-in_default-answer_line g c =
     let heard = rw (c.in_ok-input.ensures.ended, c.in_default.is) at c.in_ok-delivery.ensures in
     let Silent : List Character → Type 0 = λ chars. IsTextFor chars [] in
     let silent = subst Silent c.deref.ensures.value c.in_default-answer_line.ensures in
-    ([], HasAnswer _ _ _ _ [] c.in_ok-input.ensures.reads heard silent, (Appends-nothing _, refl))
+    ([], answer_read _ _ _ _ [] c.in_ok-input.ensures.reads heard silent, (Appends-nothing _, refl))
 
 pub returns-in_err-write_all : goal.returns-in_err-write_all
 returns-in_err-write_all g c =
@@ -26,7 +26,7 @@ returns-in_err-write_all g c =
     let told = subst Told c.deref.ensures.value c.in-Some-answer_line.ensures in
     rw (told_as _ Write c.from_residual-in_err-write_all.ensures.1) (
       line,
-      HasAnswer _ _ _ _ _ c.in_ok-input.ensures.reads heard told,
+      answer_read _ _ _ _ _ c.in_ok-input.ensures.reads heard told,
       rw c.as_slice.ensures.value at c.in_err-write_all.ensures,
     )
 
@@ -37,6 +37,6 @@ returns g c =
     let Told : List Character → Type 0 = λ chars. IsTextFor chars line in
     let told = subst Told c.deref.ensures.value c.in-Some-answer_line.ensures in (
       line,
-      HasAnswer _ _ _ _ _ c.in_ok-input.ensures.reads heard told,
+      answer_read _ _ _ _ _ c.in_ok-input.ensures.reads heard told,
       rw c.as_slice.ensures.value at c.in_ok-write_all.ensures,
     )
