@@ -35,7 +35,7 @@ pub record IsAnswer (input text : List ℕ) : Type 0 where
   pub reads : ReadsAs input delivery
   pub text_for : IsTextFor delivery text
 
--- The only fault that an input has is bad hex, at its place.
+-- The only fault of an input that was read to its end is bad hex, at its place.
 abbrev pub IsAnswerFault : List ℕ → CliFault → Type 0
 IsAnswerFault input (BadHex place) = (chars : List Character) × IsBadHexAt input chars place
 IsAnswerFault input _ = ⊥
