@@ -3,3 +3,4 @@ pub mod AddressBytes
 pub mod Packing
 pub mod Calendar
 pub mod StatusBytes
+pub mod EachMaster

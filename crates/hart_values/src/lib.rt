@@ -14,6 +14,9 @@
 //! assert_eq!(rt; tag.as_bytes(), [0x41, 0x53, 0x50, 0xB7, 0x1C, 0x31].as_slice());
 //! ```
 //!
+//! The program `hart` itself calls neither [`Status`], nor [`HartDate::is_set`], nor what reads and writes the text of a
+//! [`PackedText`]: these are for whoever shows replies to a person with this library.
+//!
 //! No call of this crate takes memory.
 #![tactic(auto)]
 
@@ -23,6 +26,7 @@ mod byte_list;
 mod calendar;
 mod comm_faults;
 mod device_status;
+mod each_master;
 mod fault;
 mod first_byte;
 mod hart_date;
@@ -41,6 +45,7 @@ pub use bits32::Bits32;
 pub use byte_list::{ByteList, Payload};
 pub use comm_faults::CommFaults;
 pub use device_status::DeviceStatus;
+pub use each_master::EachMaster;
 pub use fault::ValueFault;
 pub use hart_date::HartDate;
 pub use laws::{

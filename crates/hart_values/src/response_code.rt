@@ -22,6 +22,30 @@ impl Model for ResponseCode {
 }
 
 impl ResponseCode {
+    /// The command was carried out.
+    pub const SUCCESS: ResponseCode = ResponseCode { value: 0 };
+
+    /// A value of the data is none that may be selected.
+    pub const INVALID_SELECTION: ResponseCode = ResponseCode { value: 2 };
+
+    /// The command needs more data bytes.
+    pub const TOO_FEW_DATA_BYTES: ResponseCode = ResponseCode { value: 5 };
+
+    /// The device is write protected, and the command is a configuration write.
+    pub const IN_WRITE_PROTECT_MODE: ResponseCode = ResponseCode { value: 7 };
+
+    /// The configuration change counter that Command 38 names is not the device's (own profile).
+    pub const COUNTER_MISMATCH: ResponseCode = ResponseCode { value: 9 };
+
+    /// The date of Command 18 is none (own profile).
+    pub const INVALID_DATE: ResponseCode = ResponseCode { value: 9 };
+
+    /// The loop current mode of Command 6 is neither 0 nor 1 (own profile).
+    pub const INVALID_MODE: ResponseCode = ResponseCode { value: 12 };
+
+    /// The device does not know the command.
+    pub const COMMAND_NOT_IMPLEMENTED: ResponseCode = ResponseCode { value: 64 };
+
     /// The response code of this number.
     ///
     /// # Errors

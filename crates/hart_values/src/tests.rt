@@ -48,6 +48,16 @@ fn a_list_keeps_its_bytes(rt: HostRuntime) -> Result<(), Fail> {
 }
 
 #[test]
+fn each_master_has_its_own(rt: HostRuntime) {
+    let mut each = EachMaster {
+        primary: 1,
+        secondary: 2,
+    };
+    each.set(MasterId::Secondary, 3);
+    assert!(rt; *each.get(MasterId::Primary) == 1 && *each.get(MasterId::Secondary) == 3);
+}
+
+#[test]
 fn texts_are_packed(rt: HostRuntime) -> Result<(), Fail> {
     let tag = PackedText::<6>::from_text("PUMP-101".as_bytes())?;
     assert_eq!(rt;
@@ -124,7 +134,7 @@ fn status_bytes_tell_a_code_or_faults(rt: HostRuntime) -> Result<(), Fail> {
 }
 
 #[test]
-fn status_bits_have_names(rt: HostRuntime) {
+fn status_bits_and_response_codes_have_names(rt: HostRuntime) {
     let faults = [
         CommFaults::VERTICAL_PARITY,
         CommFaults::OVERRUN,
@@ -144,6 +154,18 @@ fn status_bits_have_names(rt: HostRuntime) {
         DeviceStatus::PRIMARY_VARIABLE_OUT_OF_LIMITS,
     ];
     assert_eq!(rt; states, [0x80, 0x40, 0x20, 0x10, 0x08, 0x04, 0x02, 0x01]);
+    let codes = [
+        ResponseCode::SUCCESS,
+        ResponseCode::INVALID_SELECTION,
+        ResponseCode::TOO_FEW_DATA_BYTES,
+        ResponseCode::IN_WRITE_PROTECT_MODE,
+        ResponseCode::COUNTER_MISMATCH,
+        ResponseCode::INVALID_DATE,
+        ResponseCode::INVALID_MODE,
+        ResponseCode::COMMAND_NOT_IMPLEMENTED,
+    ]
+    .map(ResponseCode::value);
+    assert_eq!(rt; codes, [0, 2, 5, 7, 9, 9, 12, 64]);
 }
 
 const TEXTS: &[(ValueFault, &str)] = &[

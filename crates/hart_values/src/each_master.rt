@@ -1,0 +1,40 @@
+ghost use Rattle.std.specs.Prelude.{◌≡◌};
+
+use crate::MasterId;
+
+/// One thing for each of the two masters.
+#[derive(Clone, Copy, Debug, Drop, PartialEq, Eq)]
+pub struct EachMaster<T> {
+    /// The primary master's.
+    pub primary: T,
+    /// The secondary master's.
+    pub secondary: T,
+}
+
+impl<T> EachMaster<T> {
+    ghost use Rattle.hart_values.specs.EachMaster.{of_master};
+
+    /// This master's.
+    pub fn get(&self, master: MasterId) -> &T
+        ensures { result.now ≡ of_master master self.now }
+    {
+        match master {
+            MasterId::Primary => &self.primary,
+            MasterId::Secondary => &self.secondary,
+        }
+    }
+}
+
+impl<T: Drop> EachMaster<T> {
+    ghost use Rattle.hart_values.specs.EachMaster.{with_master};
+
+    /// Gives this master another; the other master's stays.
+    pub fn set(&mut self, master: MasterId, thing: T)
+        ensures { self.new ≡ with_master master thing self.old }
+    {
+        match master {
+            MasterId::Primary => self.primary = thing,
+            MasterId::Secondary => self.secondary = thing,
+        }
+    }
+}
