@@ -10,3 +10,4 @@ pub mod BodiesFound
 pub mod FramesFound
 pub mod TruncatedLemmas
 pub mod MessageLemmas
+pub mod DeliveryLemmas

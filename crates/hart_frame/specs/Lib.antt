@@ -11,3 +11,4 @@ pub mod Character
 pub mod Heard
 pub mod Place
 pub mod Frames
+pub mod Delivery

@@ -15,6 +15,7 @@
 mod body;
 mod character;
 mod delimiter;
+mod delivery;
 mod fault;
 mod first;
 mod found;
@@ -28,6 +29,7 @@ mod parity;
 
 pub use body::{Body, decode};
 pub use character::Char;
+pub use delivery::{LoneFrame, lone_frame};
 pub use fault::FrameFault;
 pub use first::first_frame;
 pub use found::Found;

@@ -106,3 +106,26 @@ fn the_first_frame_is_found(rt: HostRuntime) -> Result<(), Fail> {
     }
     Ok(())
 }
+
+/// A delivery, and the places of its one frame, or how it has none alone.
+const DELIVERIES: &[(&[u16], &str)] = &[
+    (&[], "none"),
+    (ONE, "2 to 7"),
+    (TWO, "several"),
+    (SHARED, "2 to 7"),
+    (INSIDE, "15 to 20"),
+];
+
+#[test]
+fn a_lone_frame_is_told(rt: HostRuntime) -> Result<(), Fail> {
+    for (line, want) in DELIVERIES {
+        let chars = heard(line).ok_or("a line")?;
+        let text = match lone_frame(&chars[..line.len()]) {
+            LoneFrame::NoFrame => format!(in rt.alloc(); "none")?,
+            LoneFrame::Several => format!(in rt.alloc(); "several")?,
+            LoneFrame::Alone(found) => format!(in rt.alloc(); "{} to {}", found.start, found.stop)?,
+        };
+        assert_eq!(rt; text.as_str(), *want, "of {line:?}");
+    }
+    Ok(())
+}

@@ -1,0 +1,30 @@
+-- The frames of a delivery, by the first of them.
+use Rattle.std.proofs.Common.{◌≡◌, ℕ, List, [], ◌∷◌, ap, ◌∙◌}
+use Rattle.hart_frame.specs.Character.{Character}
+use Rattle.hart_frame.specs.Delivery.{lone_of}
+use Rattle.hart_frame.specs.Frames.{AreFrames, HasNoFrame, IsFirst, none, first}
+use Rattle.hart_frame.specs.declared.delivery.LoneFrame.{LoneFrame}
+use Rattle.hart_frame.specs.declared.found.Found.{Found}
+
+-- a list of characters has one list of frames
+abbrev pub OneList : Type 0
+OneList = (chars : List Character) (from : ℕ) (xs ys : List Found) → AreFrames chars from xs → AreFrames chars from ys → xs ≡ ys
+
+-- what is told of some frames is told of all that a delivery has
+pub only_told : OneList → (delivery : List Character) (told : LoneFrame)
+    → ((frames : List Found) × AreFrames delivery 0 frames × (told ≡ lone_of frames))
+    → (frames : List Found) → AreFrames delivery 0 frames → told ≡ lone_of frames
+only_told one_list delivery told (xs, are, is) frames others = is ∙ ap lone_of (one_list delivery 0 xs frames are others)
+
+pub no_frame : (delivery : List Character) → HasNoFrame delivery 0 → AreFrames delivery 0 []
+no_frame delivery no_first = none 0 no_first
+
+pub one_frame : (delivery : List Character) (found : Found) → IsFirst found delivery 0 → HasNoFrame delivery found.stop
+    → AreFrames delivery 0 (found ∷ [])
+one_frame delivery found is_first no_second = first 0 found [] is_first (none found.stop no_second)
+
+-- after a second frame come the frames of what follows it
+pub several_frames : (delivery : List Character) (found second : Found) (later : List Found) → IsFirst found delivery 0
+    → IsFirst second delivery found.stop → AreFrames delivery second.stop later → AreFrames delivery 0 (found ∷ second ∷ later)
+several_frames delivery found second later is_first is_second others =
+    first 0 found (second ∷ later) is_first (first found.stop second later is_second others)

@@ -1,0 +1,11 @@
+-- The one frame of a delivery, which is what is heard at once (own profile).
+use Rattle.std.specs.Prelude.{List, [], ◌∷◌}
+use Rattle.hart_frame.specs.declared.found.Found.{Found}
+use Rattle.hart_frame.specs.declared.delivery.LoneFrame.{LoneFrame}
+use Rattle.hart_frame.specs.declared.delivery.LoneFrame.TheVariants.{NoFrame, Alone, Several}
+
+-- A delivery has one frame alone if its frames are exactly one; otherwise it has none or several.
+abbrev pub lone_of : List Found → LoneFrame
+lone_of [] = NoFrame
+lone_of (found ∷ []) = Alone found
+lone_of (found ∷ other ∷ more) = Several

@@ -1,0 +1,35 @@
+ghost use Rattle.std.specs.Prelude.{◌≡◌, List};
+ghost use Rattle.hart_frame.specs.Frames.{AreFrames};
+ghost use Rattle.hart_frame.specs.Delivery.{lone_of};
+ghost use Rattle.hart_frame.specs.declared.found.Found.{Found};
+
+use crate::laws::{every_list_has_frames, frames_are_told_apart};
+use crate::{Char, Found, first_frame};
+
+/// Whether a delivery, which is what is heard at once, has one frame alone.
+#[derive(Debug, Drop, PartialEq, Eq)]
+pub enum LoneFrame {
+    /// It has no frame.
+    NoFrame,
+    /// It has this frame, and no other.
+    Alone(Found),
+    /// It has more than one.
+    Several,
+}
+
+/// The one frame of a delivery, if it has exactly one.
+pub fn lone_frame(delivery: &[Char]) -> LoneFrame
+    ensures told { (frames : List Found) × AreFrames delivery.now 0 frames × (result ≡ lone_of frames) }
+    ensures only { (frames : List Found) → AreFrames delivery.now 0 frames → result ≡ lone_of frames }
+{
+    // No-ops: by these laws the frames that are found are the only ones.
+    frames_are_told_apart();
+    every_list_has_frames();
+    let Some(found) = first_frame(delivery, 0) else {
+        return LoneFrame::NoFrame;
+    };
+    match first_frame(delivery, found.stop) {
+        None => LoneFrame::Alone(found),
+        Some(_second) => LoneFrame::Several,
+    }
+}
