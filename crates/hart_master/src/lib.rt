@@ -12,6 +12,8 @@
 //! assert_eq!(rt; master.tick(33), MasterEvent::NoReply(2));
 //! ```
 //!
+//! The program `hart` itself does not call [`unique_of`]: it is for whoever looks for devices with this library.
+//!
 //! No call of this crate takes memory.
 #![tactic(auto)]
 
