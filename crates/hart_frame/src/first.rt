@@ -1,4 +1,5 @@
-ghost use Rattle.std.specs.Prelude.{◌≡◌, ◌+◌, ◌<◌, ◌≤◌, length, MatchOption, IsSome, IfSome, IsTrue, ◌↔◌};
+ghost use Rattle.std.specs.Prelude.{◌≡◌, ◌+◌, ◌<◌, ◌≤◌, ◌++◌, ◌∷◌, [], List, length, MatchOption, IsSome, IfSome, IsTrue, ◌↔◌};
+ghost use Rattle.hart_frame.specs.Character.{Character, faultless};
 ghost use Rattle.hart_frame.specs.Place.{StandsIn};
 ghost use Rattle.hart_frame.specs.Frames.{HasNoFrame, IsFirst};
 
@@ -17,14 +18,27 @@ pub fn first_frame(chars: &[Char], from: usize) -> Option<Found>
     ensures order { IfSome result (λ found. found.start < found.stop) }
     ensures within { IfSome result (λ found. found.stop ≤ length chars.now) }
 {
-    let mut place = from;
+    let mut place = next_start(chars, from);
     while place < chars.len() {
         if let Some(found) = found_at(chars, place) {
             return Some(found);
         }
-        place += 1;
+        place = next_start(chars, place + 1);
     }
     None
+}
+
+/// The first place from a place on at which two faultless preamble bytes lie, or one that is not in the list if there is none.
+fn next_start(chars: &[Char], from: usize) -> usize
+    ensures from { from ≤ result }
+    ensures least { (found : Found) → StandsIn found chars.now from → result + 2 ≤ found.start }
+{
+    // A frame is looked for at these places alone, since an answer without one costs as much room as one with it.
+    let mut place = from;
+    while place < chars.len() && !is_start(&chars[place..]) {
+        place += 1;
+    }
+    place
 }
 
 /// The frame whose two preamble bytes lie at this place, or `None` where none do.
@@ -47,6 +61,13 @@ fn found_at(chars: &[Char], place: usize) -> Option<Found>
         stop: start + len,
         frame,
     })
+}
+
+/// Whether the characters begin with two faultless preamble bytes.
+fn is_start(chars: &[Char]) -> bool
+    ensures known { (rest : List Character) → chars.now ≡ faultless (255 ∷ 255 ∷ []) ++ rest → IsTrue result }
+{
+    matches!(chars, [first, second, ..] if is_preamble(*first) && is_preamble(*second))
 }
 
 /// Whether the character is a faultless preamble byte.
