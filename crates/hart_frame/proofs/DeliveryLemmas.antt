@@ -1,9 +1,10 @@
 -- The frames of a delivery, by the first of them.
-use Rattle.std.proofs.Common.{◌≡◌, ℕ, List, [], ◌∷◌, ap, ◌∙◌}
+use Rattle.std.proofs.Common.{◌≡◌, ℕ, List, [], ◌∷◌, ap}
 use Rattle.hart_frame.specs.Character.{Character}
-use Rattle.hart_frame.specs.Delivery.{lone_of}
+use Rattle.hart_frame.specs.Delivery.{IsLone, lone_of}
 use Rattle.hart_frame.specs.Frames.{AreFrames, HasNoFrame, IsFirst, none, first}
 use Rattle.hart_frame.specs.declared.delivery.LoneFrame.{LoneFrame}
+use Rattle.hart_frame.specs.declared.delivery.LoneFrame.TheVariants.{NoFrame, Alone, Several}
 use Rattle.hart_frame.specs.declared.found.Found.{Found}
 
 -- a list of characters has one list of frames
@@ -11,10 +12,12 @@ abbrev pub OneList : Type 0
 OneList = (chars : List Character) (from : ℕ) (xs ys : List Found) → AreFrames chars from xs → AreFrames chars from ys → xs ≡ ys
 
 -- what is told of some frames is told of all that a delivery has
-pub only_told : OneList → (delivery : List Character) (told : LoneFrame)
-    → ((frames : List Found) × AreFrames delivery 0 frames × (told ≡ lone_of frames))
+pub only_told : OneList → (delivery : List Character) (told : LoneFrame) → IsLone delivery told
     → (frames : List Found) → AreFrames delivery 0 frames → told ≡ lone_of frames
-only_told one_list delivery told (xs, are, is) frames others = is ∙ ap lone_of (one_list delivery 0 xs frames are others)
+only_told one_list delivery NoFrame are frames others = ap lone_of (one_list delivery 0 [] frames are others)
+only_told one_list delivery (Alone found) are frames others = ap lone_of (one_list delivery 0 (found ∷ []) frames are others)
+only_told one_list delivery Several (found, other, more, are) frames others =
+    ap lone_of (one_list delivery 0 (found ∷ other ∷ more) frames are others)
 
 pub no_frame : (delivery : List Character) → HasNoFrame delivery 0 → AreFrames delivery 0 []
 no_frame delivery no_first = none 0 no_first

@@ -1,5 +1,7 @@
 -- The one frame of a delivery, which is what is heard at once (own profile).
 use Rattle.std.specs.Prelude.{List, [], ◌∷◌}
+use Rattle.hart_frame.specs.Character.{Character}
+use Rattle.hart_frame.specs.Frames.{AreFrames}
 use Rattle.hart_frame.specs.declared.found.Found.{Found}
 use Rattle.hart_frame.specs.declared.delivery.LoneFrame.{LoneFrame}
 use Rattle.hart_frame.specs.declared.delivery.LoneFrame.TheVariants.{NoFrame, Alone, Several}
@@ -9,3 +11,10 @@ abbrev pub lone_of : List Found → LoneFrame
 lone_of [] = NoFrame
 lone_of (found ∷ []) = Alone found
 lone_of (found ∷ other ∷ more) = Several
+
+-- So it is told of the characters of a delivery.
+abbrev pub IsLone : List Character → LoneFrame → Type 0
+IsLone delivery NoFrame = AreFrames delivery 0 []
+IsLone delivery (Alone found) = AreFrames delivery 0 (found ∷ [])
+IsLone delivery Several =
+    (found : Found) × (other : Found) × (more : List Found) × AreFrames delivery 0 (found ∷ other ∷ more)

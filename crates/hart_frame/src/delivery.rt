@@ -1,6 +1,6 @@
 ghost use Rattle.std.specs.Prelude.{◌≡◌, List};
 ghost use Rattle.hart_frame.specs.Frames.{AreFrames};
-ghost use Rattle.hart_frame.specs.Delivery.{lone_of};
+ghost use Rattle.hart_frame.specs.Delivery.{IsLone, lone_of};
 ghost use Rattle.hart_frame.specs.declared.found.Found.{Found};
 
 use crate::laws::{every_list_has_frames, frames_are_told_apart};
@@ -19,7 +19,7 @@ pub enum LoneFrame {
 
 /// The one frame of a delivery, if it has exactly one.
 pub fn lone_frame(delivery: &[Char]) -> LoneFrame
-    ensures told { (frames : List Found) × AreFrames delivery.now 0 frames × (result ≡ lone_of frames) }
+    ensures told { IsLone delivery.now result }
     ensures only { (frames : List Found) → AreFrames delivery.now 0 frames → result ≡ lone_of frames }
 {
     // No-ops: by these laws the frames that are found are the only ones.

@@ -1,9 +1,8 @@
-use Rattle.std.proofs.Common.{[], ◌∷◌, refl}
 use Rattle.hart_frame.proofs.DeliveryLemmas.{no_frame, one_frame, only_told, several_frames}
 use Rattle.hart_frame.proofs.delivery.lone_frame.Goals as goal
 
 pub returns-in_default-clause-told : goal.returns-in_default-clause-told
-returns-in_default-clause-told c = ([], no_frame c.args.delivery.now c.in_default.ensures.first, refl)
+returns-in_default-clause-told c = no_frame c.args.delivery.now c.in_default.ensures.first
 
 pub returns-in_default-clause-only : goal.returns-in_default-clause-only
 returns-in_default-clause-only c =
@@ -11,7 +10,7 @@ returns-in_default-clause-only c =
 
 pub returns-in-None-clause-told : goal.returns-in-None-clause-told
 returns-in-None-clause-told c =
-    (c.in-Some.found ∷ [], one_frame c.args.delivery.now c.in-Some.found c.in-Some.ensures.first c.in-None.ensures.first, refl)
+    one_frame c.args.delivery.now c.in-Some.found c.in-Some.ensures.first c.in-None.ensures.first
 
 pub returns-in-None-clause-only : goal.returns-in-None-clause-only
 returns-in-None-clause-only c =
@@ -21,10 +20,11 @@ pub returns-in-Some-first_frame-clause-told : goal.returns-in-Some-first_frame-c
 returns-in-Some-first_frame-clause-told c =
     let second = c.in-Some-first_frame._second in
     let later = c.every_list_has_frames.ensures c.args.delivery.now second.stop in (
-      c.in-Some.found ∷ second ∷ later.0,
+      c.in-Some.found,
+      second,
+      later.0,
       several_frames c.args.delivery.now c.in-Some.found second later.0 c.in-Some.ensures.first
           c.in-Some-first_frame.ensures.first later.1,
-      refl,
     )
 
 pub returns-in-Some-first_frame-clause-only : goal.returns-in-Some-first_frame-clause-only

@@ -1,0 +1,19 @@
+use Rattle.std.proofs.Common.{◌++◌, ◌∙◌, sym, arith}
+use Rattle.std.proofs.lemmas.Bool.{false≢true}
+use Rattle.std.proofs.lemmas.List.{take_rest}
+use Rattle.hart_frame.specs.Character.{faultless}
+use Rattle.hart_frame.proofs.PlaceLemmas.{StandsIn-at, start-later}
+use Rattle.hart_frame.proofs.first.next_start.Goals as goal
+
+pub loop-place-preserved : goal.loop-place-preserved
+loop-place-preserved c =
+    let chars = c.args.chars.now in
+    let place = c.loop-place.place in
+    record {
+      behind = omega (arith, c.loop-place.invariant.behind);
+      none = λ found stands.
+          start-later found chars c.args.from place stands (c.loop-place.invariant.none found stands)
+          (λ here start. false≢true (sym c.if-not-is_start.true
+          ∙ c.is_start.ensures.known (faultless here.body ++ here.rest)
+          (take_rest chars place ∙ StandsIn-at chars place place found here start)));
+    }
