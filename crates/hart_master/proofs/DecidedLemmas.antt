@@ -17,12 +17,15 @@ use Rattle.hart_commands.specs.ReplyData.{reply_reading}
 use Rattle.hart_commands.specs.declared.request.Request.{Request}
 use Rattle.hart_commands.specs.declared.reply.Reply.{Reply}
 use Rattle.hart_master.specs.Acceptance.{Answers, IsReplyTo, IsAccepted}
-use Rattle.hart_master.proofs.AcceptanceLemmas.{OneFirst, IsAlone, alone_is_first, first_or_none}
-use Rattle.hart_master.proofs.AcceptanceLemmas.{none_without_frame, none_of_several, IsReplyTo-alone}
+use Rattle.hart_master.proofs.AcceptanceLemmas.{IsAlone, NoOther, IsReplyTo-alone}
 
 -- a fact holds or does not
 abbrev Decided : Type 0 → Type 0
 Decided P = P ⊎ (P → ⊥)
+
+-- the law that a list of characters has one list of frames
+abbrev pub OneList : Type 0
+OneList = (chars : List Character) (from : ℕ) (xs ys : List Found) → AreFrames chars from xs → AreFrames chars from ys → xs ≡ ys
 
 -- there is a reply with this, or none
 abbrev pub OneOrNone : (Reply → Type 0) → Type 0
@@ -103,27 +106,27 @@ reply_decided id address request frame =
     (told_decided (reply_reading frame.command frame.payload))
 
 -- so a delivery with that frame alone is accepted as that reply, or as none
-decided_alone : OneFirst → (id : MasterId) (address : Address) (request : Request) (chars : List Character) (found : Found)
-    → IsAlone chars found → OneOrNone (IsReplyTo id address request found.frame) → OneOrNone (IsAccepted id address request chars)
-decided_alone law id address request chars found alone (inl told) =
+decided_alone : (id : MasterId) (address : Address) (request : Request) (chars : List Character) (found : Found)
+    → IsAlone chars found → NoOther chars found → OneOrNone (IsReplyTo id address request found.frame)
+    → OneOrNone (IsAccepted id address request chars)
+decided_alone id address request chars found alone no_other (inl told) =
     inl (told.0, record { found = found; alone = alone; is_reply = told.1 })
-decided_alone law id address request chars found alone (inr nothing) =
-    let no_other = first_or_none law chars found (alone_is_first chars found alone) in
+decided_alone id address request chars found alone no_other (inr nothing) =
     inr (λ reply accepted. nothing reply (IsReplyTo-alone id address request chars found reply no_other accepted))
 
 -- and one with no frame, or with several, as none
-decided_by : OneFirst → (id : MasterId) (address : Address) (request : Request)
+decided_by : OneList → (id : MasterId) (address : Address) (request : Request)
     → ((frame : FrameParts) → OneOrNone (IsReplyTo id address request frame))
     → (chars : List Character) (frames : List Found) → AreFrames chars 0 frames → OneOrNone (IsAccepted id address request chars)
-decided_by law id address request each chars [] (AreFrames.none start no_frame) =
-    inr (λ reply accepted. none_without_frame chars accepted.found no_frame accepted.alone)
-decided_by law id address request each chars (found ∷ []) alone =
-    decided_alone law id address request chars found alone (each found.frame)
-decided_by law id address request each chars (found ∷ second ∷ later)
-    (AreFrames.first start first rest is_first (AreFrames.first stop next behind is_second others)) =
-    inr (λ reply accepted. none_of_several law chars found second accepted.found is_first is_second accepted.alone)
+decided_by law id address request each chars [] are =
+    inr (λ reply accepted. let same = law chars 0 [] (accepted.found ∷ []) are accepted.alone in cc)
+decided_by law id address request each chars (found ∷ []) are =
+    decided_alone id address request chars found are
+    (λ other alone. let same = law chars 0 (other ∷ []) (found ∷ []) alone are in cc) (each found.frame)
+decided_by law id address request each chars (found ∷ second ∷ later) are =
+    inr (λ reply accepted. let same = law chars 0 (found ∷ second ∷ later) (accepted.found ∷ []) are accepted.alone in cc)
 
-pub acceptance_decided : OneFirst
+pub acceptance_decided : OneList
     → ((id : MasterId) (address : Address) (request : Request) (frame : FrameParts) → OneOrNone (IsReplyTo id address request frame))
     → ((chars : List Character) (from : ℕ) → (frames : List Found) × AreFrames chars from frames)
     → (id : MasterId) (address : Address) (request : Request) (chars : List Character) → OneOrNone (IsAccepted id address request chars)

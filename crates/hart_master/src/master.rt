@@ -6,12 +6,12 @@ ghost use Rattle.hart_master.specs.declared.hand.Hand.TheVariants as hands;
 ghost use Rattle.hart_master.specs.Master.{sendings_of, result_submitted, hand_submitted, frame_sent, hand_sent};
 ghost use Rattle.hart_master.specs.Master.{Brings, FrameBrings, IsHeard, hand_heard, event_ticked, hand_ticked};
 
-use crate::acceptance::{lone_frame, reply_in};
+use crate::acceptance::reply_in;
 use crate::hand::{Hand, Transaction};
 use crate::pairing::may_ask;
 use crate::{MasterEvent, MasterFault, Rejected};
 use hart_commands::Request;
-use hart_frame::{Char, Frame};
+use hart_frame::{Char, Frame, LoneFrame, lone_frame};
 use hart_values::{Address, MasterId, Payload};
 use std::marker::Model;
 use std::mem;
@@ -156,10 +156,14 @@ impl Master {
         ensures nothing { ((reply : Reply) → Brings self.old.id self.old.hand delivery.now reply → ⊥)
             → result ≡ MasterEvent.Nothing }
     {
-        let Some(found) = lone_frame(delivery) else {
+        // A master that awaits nothing does not search what it hears.
+        if !matches!(self.hand, Hand::Awaiting(..)) {
             return MasterEvent::Nothing;
-        };
-        self.receive(&found.frame)
+        }
+        match lone_frame(delivery) {
+            LoneFrame::Alone(found) => self.receive(&found.frame),
+            LoneFrame::NoFrame | LoneFrame::Several => MasterEvent::Nothing,
+        }
     }
 
     /// What a frame brings: the reply that is awaited and the number of sendings, and the request is no longer in hand.
