@@ -2,7 +2,6 @@ ghost use Rattle.std.specs.Prelude.{◌≡◌, IfSome};
 ghost use Rattle.hart_commands.specs.RequestData.{is_known};
 ghost use Rattle.hart_commands.specs.ReplyData.{IsReply, reply_reading, reply_payload};
 
-use crate::refusal::NOT_IMPLEMENTED;
 use crate::reply::reading::read_content;
 use crate::reply::writing::push_content;
 use crate::{ReplyContent, Request};
@@ -77,8 +76,8 @@ fn reply_in(command: u8, payload: &[u8]) -> Option<Reply>
 fn is_known(command: u8) -> bool
     ensures { result ≡ is_known command }
 {
-    match Request::read(command, &[]) {
-        Ok(_) => true,
-        Err(code) => code.value() != NOT_IMPLEMENTED,
-    }
+    !matches!(
+        Request::read(command, &[]),
+        Err(ResponseCode::COMMAND_NOT_IMPLEMENTED)
+    )
 }

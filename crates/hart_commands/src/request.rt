@@ -3,10 +3,10 @@ ghost use Rattle.hart_commands.specs.RequestData.{IsRequest, request_reading, co
 
 use crate::CodeList;
 use crate::laws::requests_are_well_made;
-use crate::refusal::{NOT_IMPLEMENTED, code};
 use crate::request::reading::{needed, read_codes, read_polling, read_reset, read_tag};
 use hart_values::{HartDate, LoopMode, PackedText, Payload, PollingAddress, ResponseCode};
 
+pub(crate) mod code;
 mod reading;
 
 /// What a master asks of a device: a command and its data (HCF_SPEC-127).
@@ -92,7 +92,7 @@ impl Request {
             19 => Request::WriteAssembly(needed(bytes)?),
             38 => read_reset(bytes)?,
             48 => Request::ReadMore,
-            _ => return Err(code(NOT_IMPLEMENTED)),
+            _ => return Err(ResponseCode::COMMAND_NOT_IMPLEMENTED),
         })
     }
 

@@ -12,12 +12,11 @@ ghost use Rattle.hart_device.specs.Delivery.{answer_to, state_after_frames};
 ghost use Rattle.hart_device.specs.Device.{after, new_device};
 ghost use Rattle.hart_device.specs.Status.{device_status};
 
-use crate::request_code::request_code;
 use crate::status::{PROCESS_BITS, bit_where};
 use crate::told::{additional_status, classes, output_content, unit_value, unit_values};
 use crate::variables::variable_readings;
 use crate::{Identity, Process, RegisterStore, RegisterValues};
-use hart_commands::{Register, Reply, ReplyContent, Request, writes_of};
+use hart_commands::{Register, Reply, ReplyContent, Request, request_code, writes_of};
 use hart_frame::{
     Char, Frame, FrameKind, Payload, every_list_has_frames, first_frame, frames_are_told_apart,
 };

@@ -25,7 +25,6 @@ mod identity_parts;
 mod laws;
 mod process;
 mod registers;
-mod request_code;
 mod status;
 mod told;
 mod values;

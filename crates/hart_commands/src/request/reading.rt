@@ -2,7 +2,6 @@
 ghost use Rattle.std.specs.Prelude.{◌≡◌, ◌≤◌, ◌↔◌, length, take, IsOk, IfOk, IfErr};
 ghost use Rattle.hart_commands.specs.RequestData.{polling_reading, codes_reading, tag_reading, reset_reading};
 
-use crate::refusal::{INVALID_DATE, INVALID_MODE, INVALID_SELECTION, TOO_FEW_BYTES, code};
 use crate::tag_bytes::tag_parts;
 use crate::{CodeList, Request};
 use hart_values::{HartDate, LoopMode, PackedText, PollingAddress, ResponseCode};
@@ -11,11 +10,11 @@ use hart_values::{HartDate, LoopMode, PackedText, PollingAddress, ResponseCode};
 pub fn needed<const N: usize>(all: &[u8]) -> Result<[u8; N], ResponseCode>
     ensures accepted { IsOk result ↔ (N ≤ length all.now) }
     ensures first { IfOk result (λ bytes. bytes ≡ take N all.now) }
-    ensures refused { IfErr result (λ code. code ≡ TOO_FEW_BYTES) }
+    ensures refused { IfErr result (λ code. code ≡ 5) }
 {
     match all.first_chunk::<N>() {
         Some(bytes) => Ok(*bytes),
-        None => Err(code(TOO_FEW_BYTES)),
+        None => Err(ResponseCode::TOO_FEW_DATA_BYTES),
     }
 }
 
@@ -24,16 +23,16 @@ pub fn read_polling(bytes: &[u8]) -> Result<Request, ResponseCode>
     ensures { result ≡ polling_reading bytes.now }
 {
     let Some(address) = bytes.first() else {
-        return Err(code(TOO_FEW_BYTES));
+        return Err(ResponseCode::TOO_FEW_DATA_BYTES);
     };
     let Ok(address) = PollingAddress::new(*address) else {
-        return Err(code(INVALID_SELECTION));
+        return Err(ResponseCode::INVALID_SELECTION);
     };
     let mode = match bytes.get(1) {
         None if address.number() == 0 => LoopMode::Enabled,
         None | Some(0) => LoopMode::Disabled,
         Some(1) => LoopMode::Enabled,
-        Some(_) => return Err(code(INVALID_MODE)),
+        Some(_) => return Err(ResponseCode::INVALID_MODE),
     };
     Ok(Request::SetPolling { address, mode })
 }
@@ -44,7 +43,7 @@ pub fn read_codes(bytes: &[u8]) -> Result<Request, ResponseCode>
 {
     match CodeList::new(&bytes[..bytes.len().min(8)]) {
         Ok(codes) => Ok(Request::ReadVariables(codes)),
-        Err(_) => Err(code(TOO_FEW_BYTES)),
+        Err(_) => Err(ResponseCode::TOO_FEW_DATA_BYTES),
     }
 }
 
@@ -52,7 +51,7 @@ pub fn read_codes(bytes: &[u8]) -> Result<Request, ResponseCode>
 pub fn read_tag(bytes: &[u8]) -> Result<Request, ResponseCode>
     ensures { result ≡ tag_reading bytes.now }
 {
-    let parts = tag_parts(bytes).ok_or(code(TOO_FEW_BYTES))?;
+    let parts = tag_parts(bytes).ok_or(ResponseCode::TOO_FEW_DATA_BYTES)?;
     let (tag, descriptor, date) = parts;
     match HartDate::from_bytes(date) {
         Ok(date) => Ok(Request::WriteTag {
@@ -60,7 +59,7 @@ pub fn read_tag(bytes: &[u8]) -> Result<Request, ResponseCode>
             descriptor: PackedText::from_bytes(descriptor),
             date,
         }),
-        Err(_) => Err(code(INVALID_DATE)),
+        Err(_) => Err(ResponseCode::INVALID_DATE),
     }
 }
 
