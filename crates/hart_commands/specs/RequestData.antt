@@ -1,6 +1,6 @@
 -- What the data bytes of a request ask (HCF_SPEC-127). Of the own profile are the meanings of the codes 9 and 12, the order of
 -- refusals, and that Command 6 is always written with two bytes.
-use Rattle.std.specs.Prelude.{ℕ, ◌+◌, ◌*◌, ◌/◌, ◌%◌, ◌≡◌, ◌<◌, ◌≤◌, ◌⊎◌, ◌==◌, not, nat_lt, if◌then◌else◌, Bool, false, List, [], ◌∷◌, ◌++◌, length, take, Result, Ok, Err, Some, None}
+use Rattle.std.specs.Prelude.{ℕ, ◌+◌, ◌*◌, ◌/◌, ◌%◌, ◌≡◌, ◌<◌, ◌≤◌, ◌⊎◌, ◌==◌, nat_lt, if◌then◌else◌, Bool, List, [], ◌∷◌, ◌++◌, length, take, Result, Ok, Err, Option, Some, None, is_some}
 use Rattle.hart_values.specs.declared.loop_mode.LoopMode.{LoopMode}
 use Rattle.hart_values.specs.declared.loop_mode.LoopMode.TheVariants.{Disabled, Enabled}
 use Rattle.hart_values.specs.Calendar.{IsDateBytes, is_date}
@@ -57,38 +57,50 @@ reset_reading [] = Ok (ResetChanged None)
 reset_reading (high ∷ []) = Err 5
 reset_reading (high ∷ low ∷ rest) = Ok (ResetChanged (Some (256 * high + low)))
 
--- The table of the requests has a line for each command; every other command is refused with code 64.
-abbrev pub request_reading : ℕ → List ℕ → Reading
-request_reading command bytes =
-    if command == 0 then Ok Identify
-    else if command == 1 then Ok ReadPrimary
-    else if command == 2 then Ok ReadCurrent
-    else if command == 3 then Ok ReadDynamic
-    else if command == 6 then polling_reading bytes
-    else if command == 7 then Ok ReadPolling
-    else if command == 8 then Ok ReadClasses
-    else if command == 9 then codes_reading bytes
-    else if command == 11 then needing 6 IdentifyByTag bytes
-    else if command == 12 then Ok ReadMessage
-    else if command == 13 then Ok ReadTag
-    else if command == 14 then Ok ReadSensor
-    else if command == 15 then Ok ReadOutput
-    else if command == 16 then Ok ReadAssembly
-    else if command == 17 then needing 24 WriteMessage bytes
-    else if command == 18 then tag_reading bytes
-    else if command == 19 then needing 3 WriteAssembly bytes
-    else if command == 38 then reset_reading bytes
-    else if command == 48 then Ok ReadMore
-    else Err 64
+-- A line of the table says how the data of a command are read.
+abbrev pub Line : Type 0
+Line = List ℕ → Reading
 
--- Data are refused with this code.
-abbrev pub is_refused_with : ℕ → Reading → Bool
-is_refused_with code (Ok request) = false
-is_refused_with code (Err told) = told == code
+-- A command without data asks the same whatever its data are.
+abbrev pub always : Request → Line
+always request bytes = Ok request
 
--- A command is in the table where it is not refused with code 64.
+-- The table of the requests has a line for each command that is known.
+abbrev pub request_line : ℕ → Option Line
+request_line command =
+    if command == 0 then Some (always Identify)
+    else if command == 1 then Some (always ReadPrimary)
+    else if command == 2 then Some (always ReadCurrent)
+    else if command == 3 then Some (always ReadDynamic)
+    else if command == 6 then Some polling_reading
+    else if command == 7 then Some (always ReadPolling)
+    else if command == 8 then Some (always ReadClasses)
+    else if command == 9 then Some codes_reading
+    else if command == 11 then Some (needing 6 IdentifyByTag)
+    else if command == 12 then Some (always ReadMessage)
+    else if command == 13 then Some (always ReadTag)
+    else if command == 14 then Some (always ReadSensor)
+    else if command == 15 then Some (always ReadOutput)
+    else if command == 16 then Some (always ReadAssembly)
+    else if command == 17 then Some (needing 24 WriteMessage)
+    else if command == 18 then Some tag_reading
+    else if command == 19 then Some (needing 3 WriteAssembly)
+    else if command == 38 then Some reset_reading
+    else if command == 48 then Some (always ReadMore)
+    else None
+
+-- A command is known if the table has a line for it.
 abbrev pub is_known : ℕ → Bool
-is_known command = not (is_refused_with 64 (request_reading command []))
+is_known command = is_some (request_line command)
+
+-- Without a line data are refused with code 64.
+abbrev pub read_by : Option Line → Line
+read_by None bytes = Err 64
+read_by (Some line) bytes = line bytes
+
+-- Data are read by the line of their command.
+abbrev pub request_reading : ℕ → Line
+request_reading command = read_by (request_line command)
 
 -- The command that asks a request.
 abbrev pub command_of : Request → ℕ

@@ -1,6 +1,6 @@
 //! Laws over the definitions alone, for the crates above.
-ghost use Rattle.std.specs.Prelude.{◌≡◌, ◌↔◌, ◌++◌, List, ℕ, Ok, Some, IsTrue, IsSome};
-ghost use Rattle.hart_commands.specs.RequestData.{IsRequest, MayFollow, command_of};
+ghost use Rattle.std.specs.Prelude.{◌≡◌, ◌↔◌, ◌++◌, List, ℕ, false, Ok, Err, Some, IsTrue, IsSome};
+ghost use Rattle.hart_commands.specs.RequestData.{IsRequest, MayFollow, command_of, is_known};
 ghost use Rattle.hart_commands.specs.RequestData.{request_reading, request_data};
 ghost use Rattle.hart_commands.specs.RequestCode.{is_write};
 ghost use Rattle.hart_commands.specs.Registers.{overwrite_of};
@@ -65,6 +65,14 @@ pub fn written_data_are_their_request()
 pub fn requests_have_their_command()
     ensures { (command : ℕ) (bytes : List ℕ) (request : Request)
         → request_reading command bytes ≡ Ok request → (command_of request ≡ command) × IsRequest request }
+{
+    the_test_tells_dates();
+}
+
+/// A command is known exactly if none of its data are refused with code 64.
+pub fn unknown_commands_are_refused()
+    ensures { (command : ℕ) (bytes : List ℕ)
+        → (request_reading command bytes ≡ Err 64) ↔ (is_known command ≡ false) }
 {
     the_test_tells_dates();
 }
