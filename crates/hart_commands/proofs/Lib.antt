@@ -1,5 +1,4 @@
 pub mod TestLemmas
-pub mod SizeLemmas
 pub mod RequestLemmas
 pub mod ChunkLemmas
 pub mod PartsLemmas

@@ -1,12 +1,13 @@
 -- The registers of a device, and what a write does to them (HCF_SPEC-127).
-use Rattle.std.specs.Prelude.{ℕ, ◌≡◌, ◌<◌, List, [], ◌∷◌, length, Option, None, Some, slice_index, unwrap_or, IfSome}
+use Rattle.std.specs.Prelude.{ℕ, ◌≡◌, ◌<◌, List, [], ◌∷◌, length, Option, None, Some, slice_index, unwrap_or, if◌then◌else◌}
 use Rattle.std.specs.Option.{option_or}
 use Rattle.hart_values.specs.Calendar.{IsDateBytes}
 use Rattle.hart_commands.specs.declared.register.Register.{Register}
 use Rattle.hart_commands.specs.declared.register.Register.TheVariants.{Polling, Mode, Message, Tag, Descriptor, Date, Assembly}
 use Rattle.hart_commands.specs.declared.request.Request.{Request}
 use Rattle.hart_commands.specs.declared.request.Request.TheVariants.{SetPolling, WriteMessage, WriteTag, WriteAssembly}
-use Rattle.hart_commands.specs.RequestData.{mode_byte}
+use Rattle.hart_commands.specs.RequestCode.{is_write}
+use Rattle.hart_commands.specs.RequestData.{command_of, mode_byte}
 
 -- How many bytes a register has.
 abbrev pub size_of : Register → ℕ
@@ -26,61 +27,61 @@ IsValidIn Mode bytes = (length bytes ≡ 1) × (slice_index bytes 0 < 2)
 IsValidIn Date bytes = IsDateBytes bytes
 IsValidIn register bytes = length bytes ≡ size_of register
 
--- Something for each register.
-pub record EachRegister (A : Type 0) : Type 0 where
-  pub polling : A
-  pub mode : A
-  pub message : A
-  pub tag : A
-  pub descriptor : A
-  pub date : A
-  pub assembly : A
-
--- What there is for a register.
-abbrev pub of_register : {A : Type 0} → EachRegister A → Register → A
-of_register each Polling = each.polling
-of_register each Mode = each.mode
-of_register each Message = each.message
-of_register each Tag = each.tag
-of_register each Descriptor = each.descriptor
-of_register each Date = each.date
-of_register each Assembly = each.assembly
-
--- What a function gives, for each register.
-abbrev pub each_register : {A : Type 0} → (Register → A) → EachRegister A
-each_register given = record {
-  polling = given Polling;
-  mode = given Mode;
-  message = given Message;
-  tag = given Tag;
-  descriptor = given Descriptor;
-  date = given Date;
-  assembly = given Assembly;
-}
-
--- The contents are the bytes of every register.
-abbrev pub Contents : Type 0
-Contents = EachRegister (List ℕ)
+-- The contents of a device are the bytes of every register.
+pub record Contents : Type 0 where
+  pub polling : List ℕ
+  pub mode : List ℕ
+  pub message : List ℕ
+  pub tag : List ℕ
+  pub descriptor : List ℕ
+  pub date : List ℕ
+  pub assembly : List ℕ
 
 -- The bytes that a register holds.
 abbrev pub bytes_in : Contents → Register → List ℕ
-bytes_in contents register = of_register contents register
+bytes_in contents Polling = contents.polling
+bytes_in contents Mode = contents.mode
+bytes_in contents Message = contents.message
+bytes_in contents Tag = contents.tag
+bytes_in contents Descriptor = contents.descriptor
+bytes_in contents Date = contents.date
+bytes_in contents Assembly = contents.assembly
 
--- An overwrite is seen as the bytes that it gives each register, or none.
+-- The contents in which each register holds the bytes that a function gives it.
+abbrev pub contents_by : (Register → List ℕ) → Contents
+contents_by bytes = record {
+  polling = bytes Polling;
+  mode = bytes Mode;
+  message = bytes Message;
+  tag = bytes Tag;
+  descriptor = bytes Descriptor;
+  date = bytes Date;
+  assembly = bytes Assembly;
+}
+
+-- An overwrite is seen as the configuration write that it is of.
 abbrev pub NamedBytes : Type 0
-NamedBytes = EachRegister (Option (List ℕ))
+NamedBytes = Request
 
--- The bytes that an overwrite gives a register, if it names that.
+-- The bytes that an overwrite gives a register, if it names that: Command 6 names the polling address and the loop current mode,
+-- Command 17 the message, Command 18 the tag, the descriptor and the date, and Command 19 the final assembly number.
 abbrev pub named_in : NamedBytes → Register → Option (List ℕ)
-named_in overwrite register = of_register overwrite register
+named_in (SetPolling address mode) Polling = Some (address ∷ [])
+named_in (SetPolling address mode) Mode = Some (mode_byte mode ∷ [])
+named_in (WriteMessage message) Message = Some message
+named_in (WriteTag tag descriptor date) Tag = Some tag
+named_in (WriteTag tag descriptor date) Descriptor = Some descriptor
+named_in (WriteTag tag descriptor date) Date = Some date
+named_in (WriteAssembly assembly) Assembly = Some assembly
+named_in _ _ = None
 
--- An overwrite gives each register that it names bytes which are valid there.
-abbrev pub AreValid : NamedBytes → Type 0
-AreValid overwrite = (register : Register) → IfSome (named_in overwrite register) (IsValidIn register)
+-- A configuration write has an overwrite; every other request has none.
+abbrev pub overwrite_of : Request → Option NamedBytes
+overwrite_of request = if is_write (command_of request) then Some request else None
 
 -- After an overwrite a register that it names holds its bytes, and every other what it held.
 abbrev pub overwritten : NamedBytes → Contents → Contents
-overwritten overwrite old = each_register (λ register. unwrap_or (named_in overwrite register) (bytes_in old register))
+overwritten overwrite old = contents_by (λ register. unwrap_or (named_in overwrite register) (bytes_in old register))
 
 -- The bytes of the last overwrite in a list that names the register, if any does.
 abbrev pub last_named : List NamedBytes → Register → Option (List ℕ)
@@ -90,19 +91,4 @@ last_named (overwrite ∷ later) register = option_or (last_named later register
 -- Each register holds the bytes of the last overwrite in the list that names it, otherwise its initial bytes.
 abbrev pub registers_of : List NamedBytes → Contents → Contents
 registers_of overwrites initial =
-    each_register (λ register. unwrap_or (last_named overwrites register) (bytes_in initial register))
-
--- An overwrite that names no register.
-abbrev pub nothing_named : NamedBytes
-nothing_named = each_register (λ register. None)
-
--- Command 6 names the polling address and the loop current mode, Command 17 the message, Command 18 the tag, the descriptor
--- and the date, and Command 19 the final assembly number; every other request has no overwrite.
-abbrev pub overwrite_of : Request → Option NamedBytes
-overwrite_of (SetPolling address mode) =
-    Some (record nothing_named { polling = Some (address ∷ []); mode = Some (mode_byte mode ∷ []) })
-overwrite_of (WriteMessage message) = Some (record nothing_named { message = Some message })
-overwrite_of (WriteTag tag descriptor date) =
-    Some (record nothing_named { tag = Some tag; descriptor = Some descriptor; date = Some date })
-overwrite_of (WriteAssembly assembly) = Some (record nothing_named { assembly = Some assembly })
-overwrite_of _ = None
+    contents_by (λ register. unwrap_or (last_named overwrites register) (bytes_in initial register))

@@ -1,138 +1,67 @@
-ghost use Rattle.std.specs.Prelude.{◌≡◌, IsTrue, ◌↔◌, IfSome, option_map, length, Some};
+ghost use Rattle.std.specs.Prelude.{◌≡◌, IfSome, option_map, length};
 ghost use Rattle.hart_commands.specs.Registers.{IsValidIn, named_in, overwrite_of, size_of};
 ghost use Rattle.hart_commands.specs.RequestCode.{is_write};
 
-use crate::request::mode_byte;
+use crate::request::mode_bytes;
 use crate::{Register, Request};
 use std::marker::Model;
 
 /// The registers that a write names, each with its new bytes (HCF_SPEC-127).
 ///
-/// Contracts see for each register the bytes that it gets, or none.
-#[derive(Clone, Copy, Debug, PartialEq, Eq)]
-pub struct Overwrite {
-    polling: Option<[u8; 1]>,
-    mode: Option<[u8; 1]>,
-    message: Option<[u8; 24]>,
-    tag: Option<[u8; 6]>,
-    descriptor: Option<[u8; 12]>,
-    date: Option<[u8; 3]>,
-    assembly: Option<[u8; 3]>,
+/// Contracts see the write, and by it for each register the bytes that it gets, or none.
+#[derive(Debug, Drop)]
+pub struct Overwrite<'a> {
+    write: &'a Request,
 }
 
-impl Model for Overwrite {
-    ghost use Rattle.hart_commands.specs.Registers.{AreValid, NamedBytes};
+impl<'a> Model for Overwrite<'a> {
+    ghost use Rattle.hart_commands.specs.Registers.{NamedBytes};
 
     ghost Value = { NamedBytes };
 
-    ghost view = { λ o. record {
-      polling = o.polling;
-      mode = o.mode;
-      message = o.message;
-      tag = o.tag;
-      descriptor = o.descriptor;
-      date = o.date;
-      assembly = o.assembly;
-    } };
-
-    ghost invariant = { λ o. AreValid (record {
-      polling = o.polling;
-      mode = o.mode;
-      message = o.message;
-      tag = o.tag;
-      descriptor = o.descriptor;
-      date = o.date;
-      assembly = o.assembly;
-    }) };
-
-    ghost inverse = { λ o. record {
-      polling = o.polling;
-      mode = o.mode;
-      message = o.message;
-      tag = o.tag;
-      descriptor = o.descriptor;
-      date = o.date;
-      assembly = o.assembly;
-    } };
+    ghost view = { λ overwrite. overwrite.write.now };
 }
 
-impl Overwrite {
-    /// The bytes that it gives a register, or `None` where it does not name it.
+impl Overwrite<'_> {
+    /// The bytes that it gives a register, or `None` if it does not name it.
     pub fn get(&self, register: Register) -> Option<&[u8]>
         ensures named { option_map (λ bytes. bytes.now) result ≡ named_in self.now register }
         ensures valid { IfSome result (λ bytes. IsValidIn register bytes.now) }
         ensures size { IfSome result (λ bytes. length bytes.now ≡ size_of register) }
     {
-        match register {
-            Register::Polling => bytes_of(&self.polling),
-            Register::Mode => bytes_of(&self.mode),
-            Register::Message => bytes_of(&self.message),
-            Register::Tag => bytes_of(&self.tag),
-            Register::Descriptor => bytes_of(&self.descriptor),
-            Register::Date => bytes_of(&self.date),
-            Register::Assembly => bytes_of(&self.assembly),
+        match self.write {
+            Request::SetPolling { address, mode } => match register {
+                Register::Polling => Some(address.as_bytes()),
+                Register::Mode => Some(mode_bytes(*mode)),
+                _ => None,
+            },
+            Request::WriteMessage(message) if register == Register::Message => {
+                Some(message.as_bytes())
+            }
+            Request::WriteTag {
+                tag,
+                descriptor,
+                date,
+            } => match register {
+                Register::Tag => Some(tag.as_bytes()),
+                Register::Descriptor => Some(descriptor.as_bytes()),
+                Register::Date => Some(date.as_bytes()),
+                _ => None,
+            },
+            Request::WriteAssembly(assembly) if register == Register::Assembly => Some(assembly),
+            _ => None,
         }
     }
 }
 
-/// The bytes of an array, where there is one.
-fn bytes_of<const N: usize>(bytes: &Option<[u8; N]>) -> Option<&[u8]>
-    ensures { option_map (λ bytes. bytes.now) result ≡ bytes.now }
-{
-    match bytes {
-        Some(bytes) => Some(bytes.as_slice()),
-        None => None,
-    }
-}
-
-/// An overwrite that names no register.
-const NOTHING: Overwrite = Overwrite {
-    polling: None,
-    mode: None,
-    message: None,
-    tag: None,
-    descriptor: None,
-    date: None,
-    assembly: None,
-};
-
-/// The array of these bytes, which are `N`.
-fn array_of<const N: usize>(bytes: &[u8]) -> Option<[u8; N]>
-    requires { length bytes.now ≡ N }
-    ensures { result ≡ Some bytes.now }
-{
-    bytes.first_chunk::<N>().copied()
-}
-
 /// The overwrite of a configuration write, or `None` for every other request.
-pub fn writes_of(request: &Request) -> Option<Overwrite>
+pub fn writes_of(request: &Request) -> Option<Overwrite<'_>>
     ensures { result ≡ overwrite_of request.now }
 {
-    match request {
-        Request::SetPolling { address, mode } => Some(Overwrite {
-            polling: Some([address.number()]),
-            mode: Some([mode_byte(*mode)]),
-            ..NOTHING
-        }),
-        Request::WriteMessage(message) => Some(Overwrite {
-            message: array_of(message.as_bytes()),
-            ..NOTHING
-        }),
-        Request::WriteTag {
-            tag,
-            descriptor,
-            date,
-        } => Some(Overwrite {
-            tag: array_of(tag.as_bytes()),
-            descriptor: array_of(descriptor.as_bytes()),
-            date: array_of(date.as_bytes()),
-            ..NOTHING
-        }),
-        Request::WriteAssembly(assembly) => Some(Overwrite {
-            assembly: array_of(assembly),
-            ..NOTHING
-        }),
-        _ => None,
+    if is_write(request.command()) {
+        Some(Overwrite { write: request })
+    } else {
+        None
     }
 }
 

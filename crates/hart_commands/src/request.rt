@@ -1,4 +1,4 @@
-ghost use Rattle.std.specs.Prelude.{◌≡◌, IfOk};
+ghost use Rattle.std.specs.Prelude.{◌≡◌, [], ◌∷◌, IfOk};
 ghost use Rattle.hart_commands.specs.RequestData.{IsRequest, request_reading, command_of, request_data, mode_byte};
 
 use crate::CodeList;
@@ -174,7 +174,8 @@ impl Request {
         data.clear();
         match self {
             Request::SetPolling { address, mode } => {
-                data.extend_from_slice(&[address.number(), mode_byte(*mode)]);
+                data.extend_from_slice(address.as_bytes());
+                data.extend_from_slice(mode_bytes(*mode));
             }
             Request::ReadVariables(codes) => data.extend_from_slice(codes.as_slice()),
             Request::IdentifyByTag(tag) => data.extend_from_slice(tag.as_bytes()),
@@ -198,11 +199,11 @@ impl Request {
 }
 
 /// The byte of a loop current mode: 0 disabled, 1 enabled.
-pub(crate) fn mode_byte(mode: LoopMode) -> u8
-    ensures { result ≡ mode_byte mode }
+pub(crate) fn mode_bytes(mode: LoopMode) -> &'static [u8]
+    ensures { result.now ≡ mode_byte mode ∷ [] }
 {
     match mode {
-        LoopMode::Disabled => 0,
-        LoopMode::Enabled => 1,
+        LoopMode::Disabled => &[0],
+        LoopMode::Enabled => &[1],
     }
 }

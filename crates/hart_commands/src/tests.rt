@@ -198,7 +198,8 @@ const NAMED: &[(Register, Option<&[u8]>)] = &[
 
 #[test]
 fn a_write_names_its_registers(rt: HostRuntime) -> Result<(), Fail> {
-    let overwrite = writes_of(&Request::read(18, &TAG)?).ok_or("a write")?;
+    let request = Request::read(18, &TAG)?;
+    let overwrite = writes_of(&request).ok_or("a write")?;
     for (register, want) in NAMED {
         assert_eq!(rt; overwrite.get(*register), *want, "of {register:?}");
     }

@@ -1,7 +1,8 @@
-ghost use Rattle.std.specs.Prelude.{◌≡◌, ◌<◌, ◌↔◌, IsOk, IfOk, IfErr};
+ghost use Rattle.std.specs.Prelude.{◌≡◌, ◌<◌, ◌↔◌, IsOk, IfOk, IfErr, [], ◌∷◌};
 
 use crate::ValueFault;
 use std::marker::Model;
+use std::slice;
 
 /// A polling address, 0 to 63 (HCF_SPEC-081).
 ///
@@ -47,5 +48,13 @@ impl PollingAddress {
         ensures in_range { result < 64 }
     {
         self.number
+    }
+
+    /// The number in one byte.
+    pub fn as_bytes(&self) -> &[u8]
+        ensures same { result.now ≡ self.now ∷ [] }
+        ensures in_range { self.now < 64 }
+    {
+        slice::from_ref(&self.number)
     }
 }
