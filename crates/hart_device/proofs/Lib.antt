@@ -1,3 +1,2 @@
 pub mod RegistersLemmas
 pub mod EffectLemmas
-pub mod DeliveryLemmas

@@ -3,63 +3,41 @@ use Rattle.std.proofs.Common.{◌≡◌, ℕ, ◌<◌, zero, suc, ap, ◌∙◌,
 use Rattle.std.proofs.Common.{List, [], ◌∷◌, ◌++◌, length}
 use Rattle.std.specs.List.{Contains, slice_index_or}
 use Rattle.std.specs.Option.{option_or}
-use Rattle.hart_commands.specs.Registers.{Contents, NamedBytes, bytes_in, each_register, named_in, overwritten}
+use Rattle.hart_commands.specs.Registers.{Contents, NamedBytes, bytes_in, contents_by, named_in, overwritten}
 use Rattle.hart_commands.specs.Registers.{last_named, registers_of}
 use Rattle.hart_commands.specs.declared.register.Register.{Register}
 use Rattle.hart_commands.specs.declared.register.Register.TheVariants.{Polling, Mode, Message, Tag, Descriptor, Date, Assembly}
 
-pub bytes_in-each_register : (bytes : Register → List ℕ) (register : Register)
-    → bytes_in (each_register bytes) register ≡ bytes register
-bytes_in-each_register bytes Polling = refl
-bytes_in-each_register bytes Mode = refl
-bytes_in-each_register bytes Message = refl
-bytes_in-each_register bytes Tag = refl
-bytes_in-each_register bytes Descriptor = refl
-bytes_in-each_register bytes Date = refl
-bytes_in-each_register bytes Assembly = refl
-
--- Contents are these lists, in the order of the registers.
-abbrev contents_from : (polling mode message tag descriptor date assembly : List ℕ) → Contents
-contents_from polling mode message tag descriptor date assembly = record {
-  polling = polling;
-  mode = mode;
-  message = message;
-  tag = tag;
-  descriptor = descriptor;
-  date = date;
-  assembly = assembly;
-}
+pub bytes_in-contents_by : (bytes : Register → List ℕ) (register : Register) → bytes_in (contents_by bytes) register ≡ bytes register
+bytes_in-contents_by bytes Polling = refl
+bytes_in-contents_by bytes Mode = refl
+bytes_in-contents_by bytes Message = refl
+bytes_in-contents_by bytes Tag = refl
+bytes_in-contents_by bytes Descriptor = refl
+bytes_in-contents_by bytes Date = refl
+bytes_in-contents_by bytes Assembly = refl
 
 -- Contents are told by the bytes of each register.
-pub contents-each_register : (contents : Contents) (bytes : Register → List ℕ)
-    → ((register : Register) → bytes_in contents register ≡ bytes register) → contents ≡ each_register bytes
-contents-each_register contents bytes same =
-    let old = contents in
-    let new : Contents = each_register bytes in
-    ap (λ x. contents_from x old.mode old.message old.tag old.descriptor old.date old.assembly) (same Polling)
-    ∙ ap (λ x. contents_from new.polling x old.message old.tag old.descriptor old.date old.assembly) (same Mode)
-    ∙ ap (λ x. contents_from new.polling new.mode x old.tag old.descriptor old.date old.assembly) (same Message)
-    ∙ ap (λ x. contents_from new.polling new.mode new.message x old.descriptor old.date old.assembly) (same Tag)
-    ∙ ap (λ x. contents_from new.polling new.mode new.message new.tag x old.date old.assembly) (same Descriptor)
-    ∙ ap (λ x. contents_from new.polling new.mode new.message new.tag new.descriptor x old.assembly) (same Date)
-    ∙ ap (λ x. contents_from new.polling new.mode new.message new.tag new.descriptor new.date x) (same Assembly)
+pub contents_told : (contents : Contents) (bytes : Register → List ℕ)
+    → ((register : Register) → bytes_in contents register ≡ bytes register) → contents ≡ contents_by bytes
+contents_told contents bytes same = ap contents_by (λ i register. same register i)
 
 pub same_contents : (contents others : Contents)
     → ((register : Register) → bytes_in contents register ≡ bytes_in others register) → contents ≡ others
-same_contents contents others same = contents-each_register contents (bytes_in others) same
+same_contents contents others = contents_told contents (bytes_in others)
 
-pub same_bytes : (f g : Register → List ℕ) → ((register : Register) → f register ≡ g register) → each_register f ≡ each_register g
-same_bytes f g same = contents-each_register (each_register f) g (λ register. bytes_in-each_register f register ∙ same register)
+pub same_bytes : (f g : Register → List ℕ) → ((register : Register) → f register ≡ g register) → contents_by f ≡ contents_by g
+same_bytes f g same = ap contents_by (λ i register. same register i)
 
 -- After an overwrite a register holds the bytes that it names, or what it held.
 pub bytes_in-overwritten : (overwrite : NamedBytes) (old : Contents) (register : Register)
     → bytes_in (overwritten overwrite old) register ≡ unwrap_or (named_in overwrite register) (bytes_in old register)
-bytes_in-overwritten overwrite old = bytes_in-each_register (λ register. unwrap_or (named_in overwrite register) (bytes_in old register))
+bytes_in-overwritten overwrite old = bytes_in-contents_by (λ register. unwrap_or (named_in overwrite register) (bytes_in old register))
 
 pub bytes_in-registers_of : (overwrites : List NamedBytes) (initial : Contents) (register : Register)
     → bytes_in (registers_of overwrites initial) register ≡ unwrap_or (last_named overwrites register) (bytes_in initial register)
 bytes_in-registers_of overwrites initial =
-    bytes_in-each_register (λ register. unwrap_or (last_named overwrites register) (bytes_in initial register))
+    bytes_in-contents_by (λ register. unwrap_or (last_named overwrites register) (bytes_in initial register))
 
 pub unwrap_or-option_or : {A : Type 0} (a b : Option A) (d : A) → unwrap_or (option_or a b) d ≡ unwrap_or a (unwrap_or b d)
 unwrap_or-option_or None b d = refl

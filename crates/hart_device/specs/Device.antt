@@ -2,7 +2,8 @@
 -- counts also where the value was there already, is of the own profile).
 use Rattle.std.specs.Prelude.{ℕ, ◌+◌, ◌%◌, ◌^◌, Bool, true, false}
 use Rattle.hart_values.specs.declared.master_id.MasterId.{MasterId}
-use Rattle.hart_commands.specs.Each.{Each, with_master}
+use Rattle.hart_values.specs.EachMaster.{with_master}
+use Rattle.hart_values.specs.declared.each_master.EachMaster.{EachMaster}
 use Rattle.hart_commands.specs.Registers.{Contents, NamedBytes, overwritten}
 use Rattle.hart_device.specs.declared.identity_parts.IdentityParts.{IdentityParts}
 use Rattle.hart_device.specs.declared.values.RegisterValues.{RegisterValues}
@@ -14,7 +15,7 @@ pub record DeviceState : Type 0 where
   pub identity : IdentityParts
   pub contents : Contents
   pub counter : ℕ
-  pub changed : Each Bool
+  pub changed : EachMaster Bool
   pub protected : Bool
 
 -- A new device holds the values that it is given; its counter is 0, no master's configuration-changed bit is set, and it is not

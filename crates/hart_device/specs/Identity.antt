@@ -7,7 +7,7 @@ use Rattle.hart_frame.specs.Message.{IsPreambleCount}
 use Rattle.hart_commands.specs.declared.identity.IdentityContent.{IdentityContent}
 use Rattle.hart_device.specs.declared.identity_parts.IdentityParts.{IdentityParts}
 use Rattle.hart_device.specs.declared.fault.DeviceFault.{DeviceFault}
-use Rattle.hart_device.specs.declared.fault.DeviceFault.TheVariants.{BroadcastAddress, OutOfRange, BadVersion, BadLength, BadField}
+use Rattle.hart_device.specs.declared.fault.DeviceFault.TheVariants.{BroadcastAddress, OutOfRange}
 
 -- The parts of an identity are in range where the device id has 24 bits, a sender can put both numbers of preamble bytes, the
 -- hardware revision has 5 bits and the physical signalling code has 3.
@@ -31,9 +31,6 @@ pub record AreIdentityParts (parts : IdentityParts) : Type 0 where
 abbrev pub IsIdentityFault : IdentityParts → DeviceFault → Type 0
 IsIdentityFault parts OutOfRange = ¬ IsInRange parts
 IsIdentityFault parts BroadcastAddress = IsInRange parts × (Unique (own_numbers parts) ≡ broadcast)
-IsIdentityFault parts BadVersion = ⊥
-IsIdentityFault parts BadLength = ⊥
-IsIdentityFault parts BadField = ⊥
 
 -- A number below 65536 in two bytes, the most significant first.
 abbrev pub two_bytes : ℕ → List ℕ

@@ -1,7 +1,7 @@
 -- The device status, the second status byte of a reply (HCF_SPEC-099; what bit 10 stands for is of the own profile).
 use Rattle.std.specs.Prelude.{ℕ, Bool, ◌==◌, bit_and, bit_or, slice_index, if◌then◌else◌}
 use Rattle.hart_values.specs.declared.master_id.MasterId.{MasterId}
-use Rattle.hart_commands.specs.Each.{of_master}
+use Rattle.hart_values.specs.EachMaster.{of_master}
 use Rattle.hart_device.specs.declared.process.Process.{Process}
 use Rattle.hart_device.specs.Device.{DeviceState}
 use Rattle.hart_device.specs.Process.{has_more_status}

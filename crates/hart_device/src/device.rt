@@ -1,8 +1,8 @@
 ghost use Rattle.std.specs.Prelude.{◌≡◌, ◌≤◌, List, length, slice_index, Ok};
+ghost use Rattle.hart_values.specs.EachMaster.{of_master};
 ghost use Rattle.hart_frame.specs.Frames.{AreFrames};
 ghost use Rattle.hart_frame.specs.Message.{IsPreambleCount};
 ghost use Rattle.hart_frame.specs.declared.found.Found.{Found};
-ghost use Rattle.hart_commands.specs.Each.{of_master};
 ghost use Rattle.hart_commands.specs.Registers.{bytes_in, size_of};
 ghost use Rattle.hart_commands.specs.ReplyData.{reply_payload};
 ghost use Rattle.hart_device.specs.Answer.{answer_of, asked_effect, content_with, is_addressed, is_answered_with, is_paired};
@@ -17,10 +17,8 @@ use crate::told::{additional_status, classes, output_content, unit_value, unit_v
 use crate::variables::variable_readings;
 use crate::{Identity, Process, RegisterStore, RegisterValues};
 use hart_commands::{Register, Reply, ReplyContent, Request, request_code, writes_of};
-use hart_frame::{
-    Char, Frame, FrameKind, Payload, every_list_has_frames, first_frame, frames_are_told_apart,
-};
-use hart_values::{Address, DeviceStatus, MasterId, PackedText, ResponseCode};
+use hart_frame::{Char, Frame, FrameKind, LoneFrame, Payload, lone_frame};
+use hart_values::{Address, DeviceStatus, EachMaster, MasterId, PackedText, ResponseCode};
 use std::marker::Model;
 
 /// The command by which a master finds the device at a polling address.
@@ -38,8 +36,7 @@ pub struct Device<S: RegisterStore> {
     identity: Identity,
     registers: S,
     counter: u16,
-    primary_changed: bool,
-    secondary_changed: bool,
+    changed: EachMaster<bool>,
     protected: bool,
 }
 
@@ -52,7 +49,7 @@ impl<S: RegisterStore> Model for Device<S> {
       identity = device.identity;
       contents = S.contents device.registers;
       counter = device.counter;
-      changed = record { primary = device.primary_changed; secondary = device.secondary_changed };
+      changed = device.changed;
       protected = device.protected;
     } };
 }
@@ -67,8 +64,10 @@ impl<S: RegisterStore> Device<S> {
             identity,
             registers: S::with(values),
             counter: 0,
-            primary_changed: false,
-            secondary_changed: false,
+            changed: EachMaster {
+                primary: false,
+                secondary: false,
+            },
             protected: false,
         }
     }
@@ -105,10 +104,7 @@ impl<S: RegisterStore> Device<S> {
     pub fn changed(&self, master: MasterId) -> bool
         ensures { result ≡ of_master master self.now.changed }
     {
-        match master {
-            MasterId::Primary => self.primary_changed,
-            MasterId::Secondary => self.secondary_changed,
-        }
+        *self.changed.get(master)
     }
 
     /// The number of preamble bytes of its replies, 5 to 20.
@@ -127,16 +123,10 @@ impl<S: RegisterStore> Device<S> {
         ensures state { (frames : List Found) → AreFrames delivery.now 0 frames
             → self.new ≡ state_after_frames self.old frames }
     {
-        // They do nothing when they run: by these laws the frames that are found are the only ones.
-        frames_are_told_apart();
-        every_list_has_frames();
-        let Some(found) = first_frame(delivery, 0) else {
-            return None;
-        };
-        if let Some(_second) = first_frame(delivery, found.stop) {
-            return None;
+        match lone_frame(delivery) {
+            LoneFrame::Alone(found) => self.receive(&found.frame, process),
+            LoneFrame::NoFrame | LoneFrame::Several => None,
         }
-        self.receive(&found.frame, process)
     }
 
     /// What the device answers to a frame, or silence, `None`, which changes nothing.
@@ -151,7 +141,7 @@ impl<S: RegisterStore> Device<S> {
         if !self.answers(frame, &reading, code) {
             return None;
         }
-        if code.value() == 0
+        if code == ResponseCode::SUCCESS
             && let Ok(request) = &reading
         {
             self.execute(frame.master(), request);
@@ -170,7 +160,7 @@ impl<S: RegisterStore> Device<S> {
     {
         self.is_addressed(frame)
             && !self.names_another(reading)
-            && !(frame.address().is_broadcast() && code.value() != 0)
+            && !(frame.address().is_broadcast() && code != ResponseCode::SUCCESS)
     }
 
     /// Whether the frame is a request without expansion bytes, whose address and command are paired.
@@ -214,13 +204,12 @@ impl<S: RegisterStore> Device<S> {
         if let Some(overwrite) = writes_of(request) {
             self.registers.overwrite(&overwrite);
             self.counter = self.counter.wrapping_add(1);
-            self.primary_changed = true;
-            self.secondary_changed = true;
+            self.changed = EachMaster {
+                primary: true,
+                secondary: true,
+            };
         } else if let Request::ResetChanged(_) = request {
-            match master {
-                MasterId::Primary => self.primary_changed = false,
-                MasterId::Secondary => self.secondary_changed = false,
-            }
+            self.changed.set(master, false);
         }
     }
 
@@ -270,7 +259,7 @@ impl<S: RegisterStore> Device<S> {
         ensures { result ≡ content_with self.now process.now reading.now code }
     {
         match reading {
-            Ok(request) if code.value() == 0 => self.told(process, request),
+            Ok(request) if code == ResponseCode::SUCCESS => self.told(process, request),
             _ => ReplyContent::Refused,
         }
     }

@@ -363,9 +363,6 @@ fn identities_are_refused(rt: HostRuntime) {
 const FAULTS: &[(DeviceFault, &str)] = &[
     (DeviceFault::BroadcastAddress, "broadcast address"),
     (DeviceFault::OutOfRange, "out of range"),
-    (DeviceFault::BadVersion, "bad version"),
-    (DeviceFault::BadLength, "bad length"),
-    (DeviceFault::BadField, "bad field"),
 ];
 
 #[test]
