@@ -1,4 +1,3 @@
-pub mod Each
 pub mod TagBytes
 pub mod RequestData
 pub mod RequestCode
