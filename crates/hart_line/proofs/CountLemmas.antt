@@ -8,7 +8,8 @@ use Rattle.hart_values.specs.declared.address.Address.{Address}
 use Rattle.hart_values.specs.declared.master_id.MasterId.{MasterId}
 use Rattle.hart_values.specs.declared.master_id.MasterId.TheVariants.{Primary, Secondary}
 use Rattle.hart_frame.specs.FrameParts.{FrameParts}
-use Rattle.hart_commands.specs.Each.{Each, of_master, with_master}
+use Rattle.hart_values.specs.EachMaster.{of_master, with_master}
+use Rattle.hart_values.specs.declared.each_master.EachMaster.{EachMaster}
 use Rattle.hart_commands.specs.declared.reply.Reply.{Reply}
 use Rattle.hart_commands.specs.declared.request.Request.{Request}
 use Rattle.hart_device.specs.Device.{Effect, Nothing, Executes, Resets}
@@ -64,7 +65,7 @@ sendings_told-outcome : (retries s : ℕ) (accepted : Option Reply) → sendings
 sendings_told-outcome retries s None = if_sendings (nat_le s retries) s
 sendings_told-outcome retries s (Some reply) = refl
 
-with_master-apart : {A : Type 0} (id master : MasterId) (a : Option A) (each : Each (Option A)) (x : A)
+with_master-apart : {A : Type 0} (id master : MasterId) (a : Option A) (each : EachMaster (Option A)) (x : A)
     → of_master id (with_master master a each) ≡ Some x → (a ≡ Some x) ⊎ ((id ≢ master) × (of_master id each ≡ Some x))
 with_master-apart Primary Primary a each x is = inl is
 with_master-apart Primary Secondary a each x is = inr ((λ same. cc), is)

@@ -5,7 +5,7 @@ use Rattle.hart_values.specs.declared.master_id.MasterId.{MasterId}
 use Rattle.hart_values.specs.declared.master_id.MasterId.TheVariants.{Primary, Secondary}
 use Rattle.hart_frame.specs.Character.{Character}
 use Rattle.hart_frame.specs.Frames.{HasNoFrame, none}
-use Rattle.hart_commands.specs.Each.{of_master}
+use Rattle.hart_values.specs.EachMaster.{of_master}
 use Rattle.hart_commands.specs.declared.request.Request.{Request}
 use Rattle.hart_device.specs.Device.{DeviceState}
 use Rattle.hart_device.specs.declared.process.Process.{Process}

@@ -5,7 +5,7 @@ use Rattle.std.proofs.lemmas.Bool.{eqb-true}
 use Rattle.hart_values.specs.declared.address.Address.{Address}
 use Rattle.hart_values.specs.declared.master_id.MasterId.{MasterId}
 use Rattle.hart_frame.specs.FrameParts.{FrameParts}
-use Rattle.hart_commands.specs.Each.{of_master}
+use Rattle.hart_values.specs.EachMaster.{of_master}
 use Rattle.hart_commands.specs.Registers.{Contents, NamedBytes, overwrite_of, overwritten, registers_of}
 use Rattle.hart_commands.specs.RequestData.{command_of, request_data, request_reading}
 use Rattle.hart_commands.specs.declared.reply.Reply.{Reply}

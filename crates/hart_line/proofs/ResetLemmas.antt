@@ -5,7 +5,8 @@ use Rattle.std.proofs.lemmas.Bool.{ltb-false}
 use Rattle.hart_values.specs.declared.master_id.MasterId.{MasterId}
 use Rattle.hart_values.specs.declared.master_id.MasterId.TheVariants.{Primary, Secondary}
 use Rattle.hart_frame.specs.FrameParts.{FrameParts}
-use Rattle.hart_commands.specs.Each.{Each, of_master}
+use Rattle.hart_values.specs.EachMaster.{of_master}
+use Rattle.hart_values.specs.declared.each_master.EachMaster.{EachMaster}
 use Rattle.hart_commands.specs.Registers.{registers_of}
 use Rattle.hart_commands.specs.RequestData.{Reading}
 use Rattle.hart_commands.specs.declared.reply.Reply.{Reply}
@@ -64,7 +65,7 @@ run_grows start (event ∷ events) world last run =
     grows_on _ _ _ (step_grows start world event run.0 run.1) (run_grows start events run.0 last run.2)
 
 -- MARKS STAY WHERE THERE IS NO RESET
-marks_kept : (effect : Effect) (id who : MasterId) (count : ℕ) (marks : Each (Option ℕ)) → (id ≡ who → effect ≢ Resets)
+marks_kept : (effect : Effect) (id who : MasterId) (count : ℕ) (marks : EachMaster (Option ℕ)) → (id ≡ who → effect ≢ Resets)
     → of_master id (marks_after effect who count marks) ≡ of_master id marks
 marks_kept Nothing id who count marks apart = refl
 marks_kept (Executes overwrite) id who count marks apart = refl
@@ -143,7 +144,8 @@ reset_marks : (start : Start) (world : World) (who : MasterId) (up down : Heard)
 reset_marks start world who up down next step resets =
     rw step.next_is (by_hand (of_master who world.hands) step.arrives)
   where
-    marked : (effect : Effect) (id : MasterId) (count number : ℕ) (marks : Each (Option ℕ)) (executions : List Execution) → effect ≡ Resets
+    marked : (effect : Effect) (id : MasterId) (count number : ℕ) (marks : EachMaster (Option ℕ)) (executions : List Execution)
+        → effect ≡ Resets
         → (of_master id (marks_after effect id count marks) ≡ Some count) × (executions_after effect number executions ≡ executions)
     marked Nothing id count number marks executions is = cc
     marked (Executes overwrite) id count number marks executions is = cc

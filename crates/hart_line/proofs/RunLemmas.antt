@@ -8,7 +8,7 @@ use Rattle.hart_frame.specs.Character.{Character}
 use Rattle.hart_frame.specs.FrameParts.{FrameParts}
 use Rattle.hart_frame.specs.Frames.{AreFrames}
 use Rattle.hart_frame.specs.declared.found.Found.{Found}
-use Rattle.hart_commands.specs.Each.{of_master}
+use Rattle.hart_values.specs.EachMaster.{of_master}
 use Rattle.hart_commands.specs.declared.reply.Reply.{Reply}
 use Rattle.hart_commands.specs.declared.request.Request.{Request}
 use Rattle.hart_master.specs.Acceptance.{IsReplyTo}

@@ -7,7 +7,8 @@ use Rattle.hart_values.specs.declared.address.Address.{Address}
 use Rattle.hart_values.specs.declared.master_id.MasterId.{MasterId}
 use Rattle.hart_values.specs.declared.master_id.MasterId.TheVariants.{Primary, Secondary}
 use Rattle.hart_frame.specs.FrameParts.{FrameParts}
-use Rattle.hart_commands.specs.Each.{Each, of_master, with_master}
+use Rattle.hart_values.specs.EachMaster.{of_master, with_master}
+use Rattle.hart_values.specs.declared.each_master.EachMaster.{EachMaster}
 use Rattle.hart_commands.specs.declared.reply.Reply.{Reply}
 use Rattle.hart_commands.specs.declared.request.Request.{Request}
 use Rattle.hart_device.specs.Device.{Effect, Nothing, Executes, Resets}
@@ -35,7 +36,7 @@ slice_get-last [] x = refl
 slice_get-last (y ∷ xs) x = slice_get-last xs x
 
 -- A value for one of the masters.
-pub with_master-cases : {A : Type 0} (id who : MasterId) (a : Option A) (each : Each (Option A)) (x : A)
+pub with_master-cases : {A : Type 0} (id who : MasterId) (a : Option A) (each : EachMaster (Option A)) (x : A)
     → of_master id (with_master who a each) ≡ Some x → (a ≡ Some x) ⊎ (of_master id each ≡ Some x)
 with_master-cases Primary Primary a each x is = inl is
 with_master-cases Primary Secondary a each x is = inr is
@@ -62,7 +63,7 @@ submitted_sound world who address request (Some fault) s = record {
 }
 
 -- TURN
-marks_sound : (effect : Effect) (who : MasterId) (number : ℕ) (executions : List Execution) (marks : Each (Option ℕ))
+marks_sound : (effect : Effect) (who : MasterId) (number : ℕ) (executions : List Execution) (marks : EachMaster (Option ℕ))
     → ((id : MasterId) (mark : ℕ) → of_master id marks ≡ Some mark → mark ≤ length executions)
     → (id : MasterId) (mark : ℕ) → of_master id (marks_after effect who (length executions) marks) ≡ Some mark
     → mark ≤ length (executions_after effect number executions)

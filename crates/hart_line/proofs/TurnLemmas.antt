@@ -4,7 +4,8 @@ use Rattle.std.specs.Option.{option_to_list}
 use Rattle.hart_values.specs.declared.master_id.MasterId.{MasterId}
 use Rattle.hart_values.specs.declared.master_id.MasterId.TheVariants.{Primary, Secondary}
 use Rattle.hart_frame.specs.FrameParts.{FrameParts}
-use Rattle.hart_commands.specs.Each.{Each, of_master, with_master}
+use Rattle.hart_values.specs.EachMaster.{of_master, with_master}
+use Rattle.hart_values.specs.declared.each_master.EachMaster.{EachMaster}
 use Rattle.hart_commands.specs.declared.reply.Reply.{Reply}
 use Rattle.hart_device.specs.Device.{DeviceState, after}
 use Rattle.hart_device.specs.declared.process.Process.{Process}
@@ -24,11 +25,11 @@ use Rattle.hart_line.specs.declared.report.Spoken.{Spoken}
 use Rattle.hart_line.proofs.ArrivalLemmas.{AreSpoken-more, accepts_held, accepts_none, arrives_cases, none_arrives}
 use Rattle.hart_line.proofs.StateLemmas.{LastLaw, state-after}
 
-pub of_master-same : {A : Type 0} (id : MasterId) (a : A) (each : Each A) → of_master id (with_master id a each) ≡ a
+pub of_master-same : {A : Type 0} (id : MasterId) (a : A) (each : EachMaster A) → of_master id (with_master id a each) ≡ a
 of_master-same Primary a each = refl
 of_master-same Secondary a each = refl
 
-pub of_master-other : {A : Type 0} (id other : MasterId) (a : A) (each : Each A) → other ≢ id
+pub of_master-other : {A : Type 0} (id other : MasterId) (a : A) (each : EachMaster A) → other ≢ id
     → of_master other (with_master id a each) ≡ of_master other each
 of_master-other Primary Primary a each apart = absurd (apart refl)
 of_master-other Primary Secondary a each apart = refl
@@ -191,7 +192,7 @@ IsParty-same id start world next master place same p = record {
 }
 
 -- The two masters of a line, or their places.
-abbrev pub both : {A : Type 0} → A → A → Each A
+abbrev pub both : {A : Type 0} → A → A → EachMaster A
 both primary secondary = record { primary = primary; secondary = secondary }
 
 -- An event of one master leaves both of them parties of the next world.

@@ -4,7 +4,7 @@ use Rattle.std.specs.List.{slice_get}
 use Rattle.std.specs.Prelude.{option_map}
 use Rattle.hart_values.specs.declared.loop_mode.LoopMode.TheVariants.{Disabled, Enabled}
 use Rattle.hart_frame.specs.FrameParts.{FrameParts, reply_parts}
-use Rattle.hart_commands.specs.Each.{of_master}
+use Rattle.hart_values.specs.EachMaster.{of_master}
 use Rattle.hart_commands.specs.Registers.{NamedBytes, overwrite_of}
 use Rattle.hart_commands.specs.ReplyData.{content_reading, reply_reading}
 use Rattle.hart_commands.specs.RequestCode.{is_write, request_code}

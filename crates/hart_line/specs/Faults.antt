@@ -2,7 +2,7 @@
 use Rattle.std.specs.Prelude.{◌≡◌, List, [], ◌∷◌, take, slice_get, Option, None, Some}
 use Rattle.hart_frame.specs.Character.{Character}
 use Rattle.hart_frame.specs.FrameParts.{FrameParts}
-use Rattle.hart_commands.specs.Each.{of_master}
+use Rattle.hart_values.specs.EachMaster.{of_master}
 use Rattle.hart_line.specs.Damage.{Arrives, IsUndetected}
 use Rattle.hart_line.specs.Step.{IsLast, Step, sent_back, sent_by}
 use Rattle.hart_line.specs.World.{Start, World}

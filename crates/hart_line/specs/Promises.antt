@@ -2,7 +2,7 @@
 use Rattle.std.specs.Prelude.{◌≡◌, ◌≢◌, ◌⊎◌, ℕ, ◌+◌, List, [], ◌∷◌, ◌++◌, Option, None, Some, Ok, false, slice_get}
 use Rattle.hart_values.specs.declared.master_id.MasterId.{MasterId}
 use Rattle.hart_frame.specs.FrameParts.{FrameParts}
-use Rattle.hart_commands.specs.Each.{of_master}
+use Rattle.hart_values.specs.EachMaster.{of_master}
 use Rattle.hart_commands.specs.Registers.{NamedBytes, overwrite_of}
 use Rattle.hart_commands.specs.RequestData.{IsRequest, command_of, request_data, request_reading}
 use Rattle.hart_commands.specs.declared.reply.Reply.{Reply}

@@ -4,7 +4,8 @@ use Rattle.std.specs.Option.{option_to_list}
 use Rattle.hart_values.specs.declared.address.Address.{Address}
 use Rattle.hart_values.specs.declared.master_id.MasterId.{MasterId}
 use Rattle.hart_frame.specs.FrameParts.{FrameParts, request_parts}
-use Rattle.hart_commands.specs.Each.{Each, of_master, with_master}
+use Rattle.hart_values.specs.EachMaster.{of_master, with_master}
+use Rattle.hart_values.specs.declared.each_master.EachMaster.{EachMaster}
 use Rattle.hart_commands.specs.RequestData.{command_of, request_data}
 use Rattle.hart_commands.specs.declared.reply.Reply.{Reply}
 use Rattle.hart_commands.specs.declared.request.Request.{Request}
@@ -83,7 +84,7 @@ executions_after (Executes overwrite) number executions =
 executions_after Resets number executions = executions
 
 -- A reset sets the mark of its master to the number of executions so far.
-abbrev pub marks_after : Effect → MasterId → ℕ → Each (Option ℕ) → Each (Option ℕ)
+abbrev pub marks_after : Effect → MasterId → ℕ → EachMaster (Option ℕ) → EachMaster (Option ℕ)
 marks_after Nothing who count marks = marks
 marks_after (Executes overwrite) who count marks = marks
 marks_after Resets who count marks = with_master who (Some count) marks

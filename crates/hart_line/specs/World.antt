@@ -2,7 +2,7 @@
 -- device and its masters do not know.
 use Rattle.std.specs.Prelude.{ℕ, ◌+◌, ◌%◌, ◌^◌, ◌||◌, nat_lt, Bool, List, [], length, map, Option, None, Some}
 use Rattle.hart_values.specs.declared.address.Address.{Address}
-use Rattle.hart_commands.specs.Each.{Each}
+use Rattle.hart_values.specs.declared.each_master.EachMaster.{EachMaster}
 use Rattle.hart_commands.specs.Registers.{NamedBytes, registers_of}
 use Rattle.hart_commands.specs.declared.request.Request.{Request}
 use Rattle.hart_device.specs.Device.{DeviceState}
@@ -27,9 +27,9 @@ pub record InHand : Type 0 where
 -- submitted, refused ones too, and what became of each so far; and what was spoken.
 pub record World : Type 0 where
   pub executions : List Execution
-  pub marks : Each (Option ℕ)
+  pub marks : EachMaster (Option ℕ)
   pub protected : Bool
-  pub hands : Each (Option InHand)
+  pub hands : EachMaster (Option InHand)
   pub requests : List Request
   pub outcomes : List Outcome
   pub spoken : List Message
@@ -38,7 +38,7 @@ pub record World : Type 0 where
 pub record Start : Type 0 where
   pub device : DeviceState
   pub process : Process
-  pub retries : Each ℕ
+  pub retries : EachMaster ℕ
 
 -- The world before a script: nothing has happened yet.
 abbrev pub first_world : Start → World

@@ -1,6 +1,6 @@
 //! Scripts are carried out.
 ghost use Rattle.std.specs.Prelude.{◌≡◌, ◌≤◌, ◌+◌, ◌%◌, ◌^◌, ℕ, false, length, [], IfErr, IfOk, IfSome, IsTrue, Option, Some, slice_get};
-ghost use Rattle.hart_commands.specs.Each.{of_master};
+ghost use Rattle.hart_values.specs.EachMaster.{of_master};
 ghost use Rattle.hart_commands.specs.Registers.{registers_of};
 ghost use Rattle.hart_commands.specs.RequestCode.{is_write};
 ghost use Rattle.hart_commands.specs.RequestData.{command_of};
