@@ -9,6 +9,10 @@ use Rattle.hart_commands.specs.declared.request.Request.TheVariants.{SetPolling,
 use Rattle.hart_commands.specs.RequestCode.{is_write}
 use Rattle.hart_commands.specs.RequestData.{command_of, mode_byte}
 
+-- The registers, in the order of an image.
+abbrev pub registers : List Register
+registers = Polling ∷ Mode ∷ Message ∷ Tag ∷ Descriptor ∷ Date ∷ Assembly ∷ []
+
 -- How many bytes a register has.
 abbrev pub size_of : Register → ℕ
 size_of Polling = 1

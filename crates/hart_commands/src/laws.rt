@@ -1,15 +1,16 @@
 //! Laws over the definitions alone, for the crates above.
-ghost use Rattle.std.specs.Prelude.{◌≡◌, ◌↔◌, ◌++◌, List, ℕ, false, Ok, Err, Some, IsTrue, IsSome};
+ghost use Rattle.std.specs.Prelude.{◌≡◌, ◌≢◌, AllPairs, Contains, ◌↔◌, ◌++◌, List, ℕ, false, Ok, Err, Some, IsTrue, IsSome};
 ghost use Rattle.hart_commands.specs.RequestData.{IsRequest, MayFollow, command_of, is_known};
 ghost use Rattle.hart_commands.specs.RequestData.{request_reading, request_data};
 ghost use Rattle.hart_commands.specs.RequestCode.{is_write};
-ghost use Rattle.hart_commands.specs.Registers.{overwrite_of};
+ghost use Rattle.hart_commands.specs.Registers.{overwrite_of, registers};
 ghost use Rattle.hart_commands.specs.ReplyData.{IsReply};
 ghost use Rattle.hart_commands.specs.ReplyData.{reply_reading, reply_payload};
+ghost use Rattle.hart_commands.specs.declared.register.Register.{Register};
 ghost use Rattle.hart_commands.specs.declared.request.Request.{Request};
 ghost use Rattle.hart_commands.specs.declared.reply.Reply.{Reply};
 
-use crate::Request;
+use crate::{Register, Request};
 use hart_values::the_test_tells_dates;
 
 /// A request is well made, whoever made it: the types of its parts tell so.
@@ -76,6 +77,13 @@ pub fn unknown_commands_are_refused()
 {
     the_test_tells_dates();
 }
+
+/// `Register::ALL` has every register, and none twice.
+pub fn all_registers_are_listed_once()
+    ensures same { Register.ALL ≡ registers }
+    ensures every { (register : Register) → Contains registers register }
+    ensures once { AllPairs (λ register other. register ≢ other) registers }
+{}
 
 /// A request has an overwrite exactly where its command is a configuration write.
 pub fn writes_have_overwrites()

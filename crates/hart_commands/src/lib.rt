@@ -33,9 +33,9 @@ pub use code_list::CodeList;
 pub use content::ReplyContent;
 pub use identity::IdentityContent;
 pub use laws::{
-    requests_are_well_made, requests_have_their_command, unknown_commands_are_refused,
-    writes_have_overwrites, written_data_are_read_again, written_data_are_their_request,
-    written_payloads_are_read_again,
+    all_registers_are_listed_once, requests_are_well_made, requests_have_their_command,
+    unknown_commands_are_refused, writes_have_overwrites, written_data_are_read_again,
+    written_data_are_their_request, written_payloads_are_read_again,
 };
 pub use output::OutputContent;
 pub use overwrite::{Overwrite, is_write, writes_of};

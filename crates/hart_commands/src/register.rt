@@ -16,3 +16,16 @@ pub enum Register {
     /// The final assembly number, 3 bytes (Command 19).
     Assembly,
 }
+
+impl Register {
+    /// Every register once, in the order of an image.
+    pub const ALL: [Register; 7] = [
+        Register::Polling,
+        Register::Mode,
+        Register::Message,
+        Register::Tag,
+        Register::Descriptor,
+        Register::Date,
+        Register::Assembly,
+    ];
+}
