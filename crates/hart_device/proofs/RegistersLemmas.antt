@@ -6,16 +6,9 @@ use Rattle.std.specs.Option.{option_or}
 use Rattle.hart_commands.specs.Registers.{Contents, NamedBytes, bytes_in, contents_by, named_in, overwritten}
 use Rattle.hart_commands.specs.Registers.{last_named, registers_of}
 use Rattle.hart_commands.specs.declared.register.Register.{Register}
-use Rattle.hart_commands.specs.declared.register.Register.TheVariants.{Polling, Mode, Message, Tag, Descriptor, Date, Assembly}
 
 pub bytes_in-contents_by : (bytes : Register → List ℕ) (register : Register) → bytes_in (contents_by bytes) register ≡ bytes register
-bytes_in-contents_by bytes Polling = refl
-bytes_in-contents_by bytes Mode = refl
-bytes_in-contents_by bytes Message = refl
-bytes_in-contents_by bytes Tag = refl
-bytes_in-contents_by bytes Descriptor = refl
-bytes_in-contents_by bytes Date = refl
-bytes_in-contents_by bytes Assembly = refl
+bytes_in-contents_by bytes register = grind arith
 
 -- Contents are told by the bytes of each register.
 pub contents_told : (contents : Contents) (bytes : Register → List ℕ)
