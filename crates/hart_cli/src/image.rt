@@ -1,6 +1,5 @@
 //! The image of a device: the bytes of its registers, its counter and its flags.
-ghost use Rattle.std.specs.Prelude.{◌≡◌, ◌+◌, ◌≤◌, ◌++◌, length};
-ghost use Rattle.hart_commands.specs.Registers.{bytes_in, size_of};
+ghost use Rattle.std.specs.Prelude.{◌≡◌, length};
 ghost use Rattle.hart_cli.specs.Image.{flags_of, image_of};
 
 use hart_commands::Register;
@@ -20,25 +19,12 @@ pub fn image_of<S: RegisterStore>(device: &Device<S>) -> Image
 {
     let mut image = Image::new();
     image.push(VERSION);
-    push_register(&mut image, device, Register::Polling);
-    push_register(&mut image, device, Register::Mode);
-    push_register(&mut image, device, Register::Message);
-    push_register(&mut image, device, Register::Tag);
-    push_register(&mut image, device, Register::Descriptor);
-    push_register(&mut image, device, Register::Date);
-    push_register(&mut image, device, Register::Assembly);
+    for register in Register::ALL {
+        image.extend_from_slice(device.registers().get(register));
+    }
     image.extend_from_slice(&device.counter().to_be_bytes());
     image.push(flags_of(device));
     image
-}
-
-/// Adds the bytes of a register.
-fn push_register<S: RegisterStore>(image: &mut Image, device: &Device<S>, register: Register)
-    requires { length image.old + size_of register ≤ 54 }
-    ensures pushed { image.new ≡ image.old ++ bytes_in device.now.contents register }
-    ensures len { length image.new ≡ length image.old + size_of register }
-{
-    image.extend_from_slice(device.registers().get(register));
 }
 
 /// The flags of a device.
