@@ -66,3 +66,16 @@ written_is_read dates (WriteAssembly assembly) rest is may = needing-append 3 Wr
 written_is_read dates (ResetChanged None) rest is may = rw may refl
 written_is_read dates (ResetChanged (Some counter)) rest is may = ap (λ n. Ok (ResetChanged (Some n))) (omega arith)
 written_is_read dates _ rest is may = refl
+
+-- nothing may follow any request
+none-may : (request : Request) → MayFollow request []
+none-may (ReadVariables codes) = inr refl
+none-may (ResetChanged None) = refl
+none-may (ResetChanged (Some counter)) = tt
+none-may _ = tt
+
+-- the same with nothing after them
+pub written_is_own : ((bytes : List ℕ) → IsDateBytes bytes → is_date bytes ≡ true) → (request : Request)
+    → IsRequest request → request_reading (command_of request) (request_data request) ≡ Ok request
+written_is_own dates request is =
+    rw append-nil at (written_is_read dates request [] is (none-may request))

@@ -9,12 +9,54 @@ ghost use Rattle.hart_commands.specs.ReplyData.{reply_reading, reply_payload};
 ghost use Rattle.hart_commands.specs.declared.request.Request.{Request};
 ghost use Rattle.hart_commands.specs.declared.reply.Reply.{Reply};
 
+use crate::Request;
 use hart_values::the_test_tells_dates;
+
+/// A request is well made, whoever made it: the types of its parts tell so.
+pub fn requests_are_well_made(request: &Request)
+    ensures { IsRequest request.now }
+{
+    match request {
+        Request::SetPolling { address, .. } => {
+            address.number();
+        }
+        Request::ReadVariables(codes) => {
+            codes.as_slice();
+        }
+        Request::IdentifyByTag(tag) => {
+            tag.as_bytes();
+        }
+        Request::WriteMessage(message) => {
+            message.as_bytes();
+        }
+        Request::WriteTag {
+            tag,
+            descriptor,
+            date,
+        } => {
+            tag.as_bytes();
+            descriptor.as_bytes();
+            date.as_bytes();
+        }
+        Request::WriteAssembly(assembly) => {
+            let _bytes: &[u8] = assembly;
+        }
+        _ => {}
+    }
+}
 
 /// The data that a request is written as are read as that request, whatever may follow them.
 pub fn written_data_are_read_again()
     ensures { (request : Request) (rest : List ℕ) → IsRequest request → MayFollow request rest
         → request_reading (command_of request) (request_data request ++ rest) ≡ Ok request }
+{
+    the_test_tells_dates();
+}
+
+/// The data that a request is written as, with none after them, are read as that request.
+pub fn written_data_are_their_request()
+    ensures { (request : Request) → IsRequest request
+        → request_reading (command_of request) (request_data request) ≡ Ok request }
 {
     the_test_tells_dates();
 }

@@ -34,8 +34,8 @@ pub use code_list::CodeList;
 pub use content::ReplyContent;
 pub use identity::IdentityContent;
 pub use laws::{
-    requests_have_their_command, writes_have_overwrites, written_data_are_read_again,
-    written_payloads_are_read_again,
+    requests_are_well_made, requests_have_their_command, writes_have_overwrites,
+    written_data_are_read_again, written_data_are_their_request, written_payloads_are_read_again,
 };
 pub use output::OutputContent;
 pub use overwrite::{Overwrite, is_write, writes_of};

@@ -2,6 +2,7 @@ ghost use Rattle.std.specs.Prelude.{◌≡◌, IfOk};
 ghost use Rattle.hart_commands.specs.RequestData.{IsRequest, request_reading, command_of, request_data, mode_byte};
 
 use crate::CodeList;
+use crate::laws::requests_are_well_made;
 use crate::refusal::{NOT_IMPLEMENTED, code};
 use crate::request::reading::{needed, read_codes, read_polling, read_reset, read_tag};
 use hart_values::{HartDate, LoopMode, PackedText, Payload, PollingAddress, ResponseCode};
@@ -97,8 +98,10 @@ impl Request {
 
     /// The number of the command that asks it.
     pub fn command(&self) -> u8
-        ensures { result ≡ command_of self.now }
+        ensures command { result ≡ command_of self.now }
+        ensures well_made { IsRequest self.now }
     {
+        requests_are_well_made(self);
         match self {
             Request::Identify => 0,
             Request::ReadPrimary => 1,
@@ -124,8 +127,10 @@ impl Request {
 
     /// The same request.
     pub fn copy(&self) -> Self
-        ensures { result ≡ self.now }
+        ensures same { result ≡ self.now }
+        ensures well_made { IsRequest self.now }
     {
+        requests_are_well_made(self);
         match self {
             Request::Identify => Request::Identify,
             Request::ReadPrimary => Request::ReadPrimary,
