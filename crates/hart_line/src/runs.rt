@@ -11,25 +11,19 @@ ghost use Rattle.hart_values.specs.declared.master_id.MasterId.{MasterId};
 ghost use Rattle.hart_values.specs.declared.master_id.MasterId.TheVariants.{Primary, Secondary};
 ghost use Rattle.hart_line.specs.Executions.{last_executions, times_executed};
 ghost use Rattle.hart_line.specs.Faults.{IsFault, IsOfCharacters};
-ghost use Rattle.hart_line.specs.Promises.{AnswersLastSending, IsExecutedInItsTurn, IsLastReset, IsRefusedByDevice, requests_of, sendings_told, start_of};
+ghost use Rattle.hart_line.specs.Promises.{AnswersLastSending, IsExecutedInItsTurn, IsLastReset, IsRefusedByDevice};
+ghost use Rattle.hart_line.specs.Promises.{requests_of, sendings_told, start_of};
 ghost use Rattle.hart_line.specs.Spoken.{AreSpoken};
 ghost use Rattle.hart_line.specs.Step.{IsLast};
 ghost use Rattle.hart_line.specs.World.{World, overwrites_of, state_of};
 ghost use Rattle.hart_line.specs.declared.report.Outcome.TheVariants.{Answered};
 
-use crate::laws::scripts_have_one_last_world;
+use crate::laws::scripts_keep_their_promises;
 use crate::line::{Log, Submitter, step};
 use crate::report::{Outcomes, SpokenList};
 use crate::{LineEvent, LineFault, Report};
-use hart_commands::{
-    requests_have_their_command, writes_have_overwrites, written_data_are_read_again,
-};
-use hart_device::{
-    Device, Process, RegisterStore, answers_tell_their_code, refused_commands_change_nothing,
-    registers_of_lists, resets_name_this_counter, writes_execute_their_overwrite,
-};
-use hart_frame::{bodies_are_told_apart, frames_are_told_apart, messages_have_their_frame_alone};
-use hart_master::{Master, replies_are_decided};
+use hart_device::{Device, Process, RegisterStore};
+use hart_master::Master;
 use std::alloc::Global;
 
 /// Carries out a script: what the masters ask, and what each side hears.
@@ -102,20 +96,8 @@ pub fn run<S: RegisterStore + Drop>(
     ensures fault { IfErr result (IsFault (start_of device process.now primary secondary) events.now) }
     ensures clean_and_lost_legs_are_shown { IfErr result (IsOfCharacters events.now) }
 {
-    // They do nothing when they run: these laws are what the clauses rest on.
-    registers_of_lists();
-    writes_execute_their_overwrite();
-    answers_tell_their_code();
-    requests_have_their_command();
-    writes_have_overwrites();
-    resets_name_this_counter();
-    refused_commands_change_nothing();
-    written_data_are_read_again();
-    scripts_have_one_last_world();
-    bodies_are_told_apart();
-    frames_are_told_apart();
-    replies_are_decided();
-    messages_have_their_frame_alone();
+    // It does nothing when it runs: this law is what the clauses rest on.
+    scripts_keep_their_promises();
     // By what these tell, the counter has two bytes, and a message has preamble bytes.
     let (_counter, _preambles) = (device.counter(), device.response_preambles());
     let mut primary = Submitter::new(primary);
