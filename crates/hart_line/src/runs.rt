@@ -67,13 +67,17 @@ pub fn run<S: RegisterStore + Drop>(
     ensures registers_follow_last_executions { let start = start_of device process.now primary secondary in
         IfOk result (λ report. (world : World) → IsLast start events.now world
         → report.device.contents ≡ registers_of (overwrites_of (last_executions world.executions)) device.contents) }
-    // The counter has grown by the number of executed writes, and a last command that is refused leaves the device as it was.
+    // The counter has grown by the number of executed writes.
     ensures counter_counts_executions { let start = start_of device process.now primary secondary in
         IfOk result (λ report. (world : World) → IsLast start events.now world
         → report.device.counter ≡ (device.counter + length world.executions) % 2 ^ 16) }
+    // A command that is refused or not answered changes nothing: not as the last of a script, and not in any turn of it.
     ensures refused_commands_change_nothing { let start = start_of device process.now primary secondary in
         IfOk result (λ report. (before next : World) (refused : IsRefusedByDevice start events.now before next)
         → refused.turn.back ≡ [] → report.device ≡ state_of device before) }
+    ensures refused_turns_change_nothing { let start = start_of device process.now primary secondary in
+        IfOk result (λ _. (before next : World) → IsRefusedByDevice start events.now before next
+        → state_of device next ≡ state_of device before) }
     // A write whose accepted reply has code 0 was executed in the turn of that reply; a submission was executed at most as often
     // as it was sent, a refused one never.
     ensures executed_in_its_turn { let start = start_of device process.now primary secondary in
