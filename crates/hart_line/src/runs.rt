@@ -11,11 +11,14 @@ ghost use Rattle.hart_values.specs.declared.master_id.MasterId.{MasterId};
 ghost use Rattle.hart_values.specs.declared.master_id.MasterId.TheVariants.{Primary, Secondary};
 ghost use Rattle.hart_line.specs.Executions.{last_executions, times_executed};
 ghost use Rattle.hart_line.specs.Faults.{IsFault, IsOfCharacters};
-ghost use Rattle.hart_line.specs.Promises.{AnswersLastSending, IsExecutedInItsTurn, IsLastReset, IsRefusedByDevice};
-ghost use Rattle.hart_line.specs.Promises.{requests_of, sendings_told, start_of};
+ghost use Rattle.hart_line.specs.Promises.{AnswersLastSending, IsExecutedFromHand, IsExecutedInItsTurn, IsLastReset, IsRefusedByDevice, IsStepOf, IsUnrefusedWrite};
+ghost use Rattle.hart_line.specs.Promises.{arrived_in_step, requests_of, sendings_told, start_of};
 ghost use Rattle.hart_line.specs.Spoken.{AreSpoken};
 ghost use Rattle.hart_line.specs.Step.{IsLast};
-ghost use Rattle.hart_line.specs.World.{World, overwrites_of, state_of};
+ghost use Rattle.hart_line.specs.World.{World, first_world, overwrites_of, state_of};
+ghost use Rattle.hart_line.specs.declared.event.Heard.{Heard};
+ghost use Rattle.hart_line.specs.declared.event.LineEvent.{LineEvent};
+ghost use Rattle.hart_line.specs.declared.event.LineEvent.TheVariants.{Turn};
 ghost use Rattle.hart_line.specs.declared.report.Outcome.TheVariants.{Answered};
 
 use crate::laws::scripts_keep_their_promises;
@@ -78,8 +81,17 @@ pub fn run<S: RegisterStore + Drop>(
     ensures refused_turns_change_nothing { let start = start_of device process.now primary secondary in
         IfOk result (λ _. (before next : World) → IsRefusedByDevice start events.now before next
         → state_of device next ≡ state_of device before) }
-    // A write whose accepted reply has code 0 was executed in the turn of that reply; a submission was executed at most as often
-    // as it was sent, a refused one never.
+    // In each turn in which a write arrives that the device answers with code 0 the request in hand is executed, heard or not, and
+    // nothing else is ever executed. So a write whose accepted reply has code 0 was executed in the turn of that reply; and a
+    // submission was executed at most as often as it was sent, a refused one never.
+    ensures unrefused_writes_are_executed { let start = start_of device process.now primary secondary in
+        IfOk result (λ _. (before next : World) (who : MasterId) (up down : Heard)
+        (turn : IsStepOf start (first_world start) events.now before (Turn who up down) next)
+        → IsUnrefusedWrite (state_of device before) turn.step.arrived → IsExecutedFromHand start events.now who before next) }
+    ensures nothing_else_is_executed { let start = start_of device process.now primary secondary in
+        IfOk result (λ _. (before next : World) (event : LineEvent) (here : IsStepOf start (first_world start) events.now before event next)
+        → (IsUnrefusedWrite (state_of device before) (arrived_in_step start before event next here.step) → ⊥)
+        → next.executions ≡ before.executions) }
     ensures executed_in_its_turn { let start = start_of device process.now primary secondary in
         IfOk result (λ report. (number : ℕ) (request : Request) (reply : Reply) (sendings : ℕ)
         → slice_get (requests_of events.now) number ≡ Some request → IsTrue (is_write (command_of request))

@@ -93,6 +93,8 @@ returns g c =
       refused_commands_change_nothing = λ before next refused end.
           device_is ∙ promises.refused_commands_change_nothing start events reached.world reached.is_last before next refused end;
       refused_turns_change_nothing = λ before next refused. promises.refused_turns_change_nothing start events before next refused;
+      unrefused_writes_are_executed = promises.unrefused_writes_are_executed start events made;
+      nothing_else_is_executed = promises.nothing_else_is_executed start events;
       executed_in_its_turn = λ number request reply sendings submitted write is.
           promises.executed_in_its_turn start events made number request reply sendings (answers number reply sendings is) submitted write;
       at_most_once_a_sending = λ world last number.
