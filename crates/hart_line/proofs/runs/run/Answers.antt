@@ -6,7 +6,7 @@ use Rattle.hart_values.specs.declared.master_id.MasterId.TheVariants.{Primary, S
 use Rattle.hart_commands.specs.declared.reply.Reply.{Reply}
 use Rattle.hart_line.specs.Promises.{AnswersLastSending, AreWellMade, start_of}
 use Rattle.hart_line.specs.Step.{IsLast}
-use Rattle.hart_line.specs.World.{World}
+use Rattle.hart_line.specs.World.{World, state_of}
 use Rattle.hart_line.specs.declared.report.Outcome.TheVariants.{Answered}
 use Rattle.hart_line.proofs.ReachedLemmas.{fault_at, party_placed, party_rests, reached_first, reached_more}
 use Rattle.hart_line.proofs.SubmittedLemmas.{made_more}
@@ -72,7 +72,8 @@ returns g c =
     c.loop-index.invariant.well_made in
     let device_is = reached.stands.device_is in
     let outcomes_are = reached.stands.outcomes_are in
-    let device_of = of_last promises.one_world _ reached device_is in
+    let device_of : (world : World) → IsLast start events world → c.loop-index.device ≡ state_of start.device world =
+    of_last promises.one_world _ reached device_is in
     let outcomes_of : (world : World) → IsLast start events world → c.loop-index.log.outcomes ≡ world.outcomes =
     of_last promises.one_world _ reached outcomes_are in
     let answers : (number : ℕ) (reply : Reply) (sendings : ℕ) → slice_get c.loop-index.log.outcomes number ≡ Some (Answered reply sendings)
