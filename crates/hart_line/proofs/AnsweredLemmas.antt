@@ -13,10 +13,10 @@ use Rattle.hart_device.specs.declared.process.Process.{Process}
 use Rattle.hart_master.specs.Acceptance.{IsReplyTo}
 use Rattle.hart_master.specs.declared.fault.MasterFault.{MasterFault}
 use Rattle.hart_line.specs.Damage.{Arrives}
-use Rattle.hart_line.specs.Promises.{AnswersLastSendingFrom}
+use Rattle.hart_line.specs.Promises.{AnswersLastSending, AnswersLastSendingFrom}
 use Rattle.hart_line.specs.Spoken.{frame_of, message_by}
-use Rattle.hart_line.specs.Step.{Accepts, IsTurn, Run, Step, sent_back, effect_on, executions_after, frame_answered, hand_left, message_of, outcome_of, sent_by, submission_fault, submitted, turned}
-use Rattle.hart_line.specs.World.{InHand, Start, World, state_of}
+use Rattle.hart_line.specs.Step.{Accepts, IsLast, IsTurn, Run, Step, sent_back, effect_on, executions_after, frame_answered, hand_left, message_of, outcome_of, sent_by, submission_fault, submitted, turned}
+use Rattle.hart_line.specs.World.{InHand, Start, World, first_world, state_of}
 use Rattle.hart_line.specs.declared.event.Heard.{Heard}
 use Rattle.hart_line.specs.declared.event.LineEvent.{LineEvent}
 use Rattle.hart_line.specs.declared.event.LineEvent.TheVariants.{Submit, Turn, Protect, Noise}
@@ -197,7 +197,7 @@ later_answered start world next event events number reply sendings step a = reco
   left = a.left;
 }
 
-pub run_answered : (start : Start) (events : List LineEvent) (world last : World) → Run start world events last
+run_answered : (start : Start) (events : List LineEvent) (world last : World) → Run start world events last
     → (number : ℕ) (reply : Reply) (sendings : ℕ) → slice_get last.outcomes number ≡ Some (Answered reply sendings)
     → (slice_get world.outcomes number ≡ Some (Answered reply sendings)) ⊎ AnswersLastSendingFrom start world events number reply sendings
 run_answered start [] world last run number reply sendings is = inl (rw run at is)
@@ -206,3 +206,9 @@ run_answered start (event ∷ events) world last run number reply sendings is =
       | inl here ↦ step_answered start world event run.0 run.1 events number reply sendings here
       | inr later ↦ inr (later_answered start world run.0 event events number reply sendings run.1 later)
     ]
+
+pub answered_last : (start : Start) (events : List LineEvent) (last : World) → IsLast start events last
+    → (number : ℕ) (reply : Reply) (sendings : ℕ) → slice_get last.outcomes number ≡ Some (Answered reply sendings)
+    → AnswersLastSending start events number reply sendings
+answered_last start events last run number reply sendings is =
+    elim (run_answered start events (first_world start) last run number reply sendings is) [ inl before ↦ cc | inr answered ↦ answered ]

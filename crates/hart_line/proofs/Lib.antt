@@ -12,6 +12,7 @@ pub mod TurnLemmas
 pub mod EventLemmas
 pub mod RunLemmas
 pub mod SoundLemmas
+pub mod SubmittedLemmas
 pub mod ReachedLemmas
 pub mod AnsweredLemmas
 pub mod LastLemmas

@@ -1,12 +1,10 @@
 -- How far a script has come.
-use Rattle.std.proofs.Common.{◌≡◌, ℕ, ◌+◌, ◌%◌, ◌<◌, ◌||◌, nat_lt, sym, refl, arith, Option, None, Some, Bool, true, false, List, [], length, take, get_or}
+use Rattle.std.proofs.Common.{◌≡◌, ℕ, ◌+◌, ◌<◌, sym, refl, Option, None, Some, List, [], length, take, get_or}
 use Rattle.std.proofs.lemmas.List.{take_more}
-use Rattle.std.proofs.Math.Nat.{mod-eq_of_lt}
-use Rattle.std.proofs.lemmas.Option.{slice_get_within, slice_get-get_or}
+use Rattle.std.proofs.lemmas.Option.{slice_get-get_or}
 use Rattle.hart_values.specs.declared.master_id.MasterId.{MasterId}
 use Rattle.hart_values.specs.declared.master_id.MasterId.TheVariants.{Primary, Secondary}
 use Rattle.hart_values.specs.EachMaster.{of_master}
-use Rattle.hart_commands.specs.Registers.{Contents, registers_of}
 use Rattle.hart_device.specs.Device.{DeviceState}
 use Rattle.hart_device.specs.declared.process.Process.{Process}
 use Rattle.hart_master.specs.Master.{MasterState}
@@ -15,7 +13,7 @@ use Rattle.hart_line.specs.Faults.{IsFault}
 use Rattle.hart_line.specs.Parts.{IsParty, IsPlace, IsPlaced, IsResting, Stands, Stepped, StopsStep, fault_of, hand_of}
 use Rattle.hart_line.specs.Promises.{start_of}
 use Rattle.hart_line.specs.Step.{IsLast}
-use Rattle.hart_line.specs.World.{InHand, Start, World, first_world}
+use Rattle.hart_line.specs.World.{InHand, Start, World, first_world, state_of}
 use Rattle.hart_line.specs.declared.event.LineEvent.{LineEvent}
 use Rattle.hart_line.specs.declared.line.Stop.{Stop}
 use Rattle.hart_line.specs.declared.line.Stop.TheVariants.{Undetected, NoMemory}
@@ -23,7 +21,6 @@ use Rattle.hart_line.specs.declared.report.Outcome.{Outcome}
 use Rattle.hart_line.specs.declared.report.Spoken.{Spoken}
 use Rattle.hart_line.proofs.RunLemmas.{run_more}
 use Rattle.hart_line.proofs.SoundLemmas.{IsSound, first_sound, step_sound}
-use Rattle.hart_line.proofs.StateLemmas.{same_state}
 
 -- The parts of the line are those of a world that the events lead to.
 pub record IsReached (start : Start) (events : List LineEvent) (device : DeviceState) (primary : MasterState) (primary_place : ℕ)
@@ -55,7 +52,7 @@ placed : (world : World) (id : MasterId) (master : MasterState) (place : ℕ) (o
     → IsPlaced master place outcomes
 placed world id master place outcomes None in_hand hand_is place_is outcomes_are s some = absurd (some hand_is)
 placed world id master place outcomes (Some held) in_hand hand_is place_is outcomes_are s some =
-    rw (place_is, outcomes_are, ← s.lengths) (slice_get_within world.requests held.submission held.request (s.hands id held in_hand))
+    rw (place_is, outcomes_are) (s.within id held in_hand)
 
 pub party_placed : (id : MasterId) (start : Start) (world : World) (master : MasterState) (place : ℕ) (outcomes : List Outcome)
     → IsParty id start world master place → outcomes ≡ world.outcomes → IsSound world → IsPlaced master place outcomes
@@ -71,23 +68,15 @@ pub party_rests : (id : MasterId) (start : Start) (world : World) (master : Mast
     → IsParty id start world master place → IsResting master.hand
 party_rests id start world master place p = rw p.hand_is (resting (of_master id world.hands))
 
-or_none : (b : Bool) → b ≡ (b || nat_lt 0 0)
-or_none true = refl
-or_none false = refl
-
-small_mod : (n : ℕ) → n < 65536 → n ≡ (n + 0) % 65536
-small_mod n h = let same : n + 0 ≡ n = omega arith in rw same (sym (mod-eq_of_lt h))
-
-pub reached_first : ((initial : Contents) → registers_of [] initial ≡ initial)
-    → (device : DeviceState) (process : Process) (primary secondary : MasterState) → device.counter < 65536
+pub reached_first : (device : DeviceState) (process : Process) (primary secondary : MasterState)
+    → state_of device (first_world (start_of device process primary secondary)) ≡ device
     → (primary.id ≡ Primary) × (primary.hand ≡ Empty) → (secondary.id ≡ Secondary) × (secondary.hand ≡ Empty)
     → IsReached (start_of device process primary secondary) [] device primary 0 secondary 0 [] []
-reached_first none device process primary secondary small one other = record {
+reached_first device process primary secondary first one other = record {
   world = first_world (start_of device process primary secondary);
   is_last = refl;
   stands = record {
-    device_is = same_state _ _ refl (sym (none device.contents)) (small_mod device.counter small)
-        (or_none device.changed.primary) (or_none device.changed.secondary) refl;
+    device_is = sym first;
     primary_is = record { id_is = one.0; retries_are = refl; hand_is = one.1; place_is = tt };
     secondary_is = record { id_is = other.0; retries_are = refl; hand_is = other.1; place_is = tt };
     outcomes_are = refl;

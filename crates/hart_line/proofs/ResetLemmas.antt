@@ -194,12 +194,13 @@ given_one state frame given counter is other named = subst (λ c. IfSome c (λ n
     same = reset_one (ok_one (sym other ∙ is))
 
 -- Where the master's bit is clear, nothing was executed since.
-pub unseen : Laws → ResetLaw → (start : Start) (events : List LineEvent) (last : World) (who : MasterId) (before : World)
-    (given : Option ℕ) (device : DeviceState) → device ≡ state_of start.device last → IsLast start events last
-    → IsLastReset start events who before given → of_master who device.changed ≡ false
-    → IfSome given (λ counter. device.counter ≡ counter) × (device.counter ≡ (state_of start.device before).counter)
-    × (device.contents ≡ (state_of start.device before).contents)
-unseen laws law start events last who before given device device_is run r clear =
+pub unseen : Laws → ResetLaw → (start : Start) (events : List LineEvent) (last : World) → IsLast start events last
+    → (who : MasterId) (before : World) (given : Option ℕ) → IsLastReset start events who before given
+    → of_master who (state_of start.device last).changed ≡ false
+    → IfSome given (λ counter. (state_of start.device last).counter ≡ counter)
+    × ((state_of start.device last).counter ≡ (state_of start.device before).counter)
+    × ((state_of start.device last).contents ≡ (state_of start.device before).contents)
+unseen laws law start events last run who before given r clear =
     let split_run = rw r.turn.split at run in
     let back = run_back laws start r.turn.front _ r.turn.back (first_world start) before r.next last split_run r.turn.led r.turn.step in
     let resets : effect_on (state_of start.device before) r.turn.step.arrived ≡ Resets =
@@ -210,19 +211,17 @@ unseen laws law start events last who before given device device_is run r clear 
     let grows = run_grows start r.turn.back r.next last back in
     let since : last.executions ≡ before.executions ++ grows.more = grows.is ∙ ap (λ xs. xs ++ grows.more) here.1 in
     let bit : nat_lt (length before.executions) (length last.executions) ≡ false =
-    sym (changed_of start.device last who (length before.executions) marked)
-    ∙ ap (λ (d : DeviceState). of_master who d.changed) (sym device_is) ∙ clear in
+    sym (changed_of start.device last who (length before.executions) marked) ∙ clear in
     let ahead = ltb-false (length before.executions) (length last.executions) bit in
     let same : last.executions ≡ before.executions =
     since ∙ none_more before.executions grows.more (rw since at ahead) in
-    let counter : device.counter ≡ (state_of start.device before).counter =
-    ap (λ (d : DeviceState). d.counter) device_is ∙ ap (λ es. (start.device.counter + length es) % 65536) same in
+    let counter : (state_of start.device last).counter ≡ (state_of start.device before).counter =
+    ap (λ es. (start.device.counter + length es) % 65536) same in
     let asked = law (state_of start.device before) r.frame r.resets in (
-      IfSome-along given device.counter (state_of start.device before).counter counter
+      IfSome-along given (state_of start.device last).counter (state_of start.device before).counter counter
           (given_one (state_of start.device before) r.frame given asked.0 r.reading asked.1 asked.2),
       counter,
-      ap (λ (d : DeviceState). d.contents) device_is
-          ∙ ap (λ es. registers_of (overwrites_of es) start.device.contents) same,
+      ap (λ es. registers_of (overwrites_of es) start.device.contents) same,
     )
 
 -- A REFUSED COMMAND
@@ -245,11 +244,12 @@ refused_step law start events before next r =
     ap (state_of start.device) r.turn.step.next_is
     ∙ unmoved start before r.who (of_master r.who before.hands) r.turn.step.arrived r.turn.step.accepted nothing
 
-pub refused_last : Laws → RefusedLaw → (start : Start) (events : List LineEvent) (last before next : World) (device : DeviceState)
-    → device ≡ state_of start.device last → IsLast start events last → (r : IsRefusedByDevice start events before next)
-    → r.turn.back ≡ [] → device ≡ state_of start.device before
-refused_last laws law start events last before next device device_is run r end =
+pub refused_last : Laws → ((start : Start) (events : List LineEvent) (before next : World) → IsRefusedByDevice start events before next
+    → state_of start.device next ≡ state_of start.device before)
+    → (start : Start) (events : List LineEvent) (last : World) → IsLast start events last → (before next : World)
+    (r : IsRefusedByDevice start events before next) → r.turn.back ≡ [] → state_of start.device last ≡ state_of start.device before
+refused_last laws stays start events last run before next r end =
     let split_run = rw r.turn.split at run in
     let back = run_back laws start r.turn.front _ r.turn.back (first_world start) before next last split_run r.turn.led r.turn.step in
     let same : last ≡ next = rw end at back in
-    device_is ∙ ap (state_of start.device) same ∙ refused_step law start events before next r
+    ap (state_of start.device) same ∙ stays start events before next r

@@ -1,7 +1,6 @@
 -- What holds of every world of a script.
-use Rattle.std.proofs.Common.{◌≡◌, ℕ, ◌+◌, ◌≤◌, zero, suc, ap, sym, refl, subst, arith, Option, None, Some, List, [], ◌∷◌, ◌++◌, length, ◌⊎◌, inl, inr}
+use Rattle.std.proofs.Common.{◌≡◌, ℕ, ◌+◌, ◌≤◌, ◌<◌, zero, suc, ap, sym, refl, subst, arith, Option, None, Some, List, [], ◌∷◌, ◌++◌, length, ◌⊎◌, inl, inr}
 use Rattle.std.specs.List.{slice_get}
-use Rattle.std.proofs.lemmas.Grind.{common_steps}
 use Rattle.std.proofs.lemmas.List.{length-set, length-append}
 use Rattle.hart_values.specs.declared.address.Address.{Address}
 use Rattle.hart_values.specs.declared.master_id.MasterId.{MasterId}
@@ -22,9 +21,7 @@ use Rattle.hart_line.proofs.RunLemmas.{Keeps, run_keeps, step_keeps}
 
 pub record IsSound (world : World) : Type 0 where
   pub marks : (id : MasterId) (mark : ℕ) → of_master id world.marks ≡ Some mark → mark ≤ length world.executions
-  pub lengths : length world.requests ≡ length world.outcomes
-  pub hands : (id : MasterId) (held : InHand) → of_master id world.hands ≡ Some held
-      → slice_get world.requests held.submission ≡ Some held.request
+  pub within : (id : MasterId) (held : InHand) → of_master id world.hands ≡ Some held → held.submission < length world.outcomes
 
 pub slice_get-append : {A : Type 0} (xs ys : List A) (n : ℕ) (x : A) → slice_get xs n ≡ Some x → slice_get (xs ++ ys) n ≡ Some x
 slice_get-append [] ys n x is = cc
@@ -44,22 +41,23 @@ with_master-cases Secondary Primary a each x is = inr is
 with_master-cases Secondary Secondary a each x is = inl is
 
 -- SUBMIT
+below_more : {A : Type 0} (xs : List A) (x : A) (n : ℕ) → n < length xs → n < length (xs ++ x ∷ [])
+below_more {A = A} xs x n below = omega (arith, length-append {A = A})
+
 submitted_sound : (world : World) (who : MasterId) (address : Address) (request : Request) (fault : Option MasterFault)
     → IsSound world → IsSound (submitted world who address request fault)
 submitted_sound world who address request None s = record {
   marks = s.marks;
-  lengths = grind (arith, common_steps, s.lengths);
-  hands = λ id held is. elim (with_master-cases id who _ world.hands held is) [
+  within = λ id held is. elim (with_master-cases id who _ world.hands held is) [
     | inl new ↦ (let same : record { submission = length world.outcomes; address = address; request = request; sendings = 0 } ≡ held = cc in
-        subst (λ (h : InHand). slice_get (world.requests ++ request ∷ []) h.submission ≡ Some h.request) same
-        (rw (← s.lengths) (slice_get-last world.requests request)))
-    | inr old ↦ slice_get-append world.requests (request ∷ []) held.submission held.request (s.hands id held old)
+        subst (λ (h : InHand). h.submission < length (world.outcomes ++ Unfinished 0 ∷ [])) same
+        (omega (arith, length-append {A = Outcome})))
+    | inr old ↦ below_more world.outcomes (Unfinished 0) held.submission (s.within id held old)
   ];
 }
 submitted_sound world who address request (Some fault) s = record {
   marks = s.marks;
-  lengths = grind (arith, common_steps, s.lengths);
-  hands = λ id held is. slice_get-append world.requests (request ∷ []) held.submission held.request (s.hands id held is);
+  within = λ id held is. below_more world.outcomes (Refused fault) held.submission (s.within id held is);
 }
 
 -- TURN
@@ -85,12 +83,6 @@ hand_left-number held left (Answered reply n) is = cc
 hand_left-number held left (NoReply n) is = cc
 hand_left-number held left (Refused fault) is = cc
 
-hand_left-request : (held left : InHand) (outcome : Outcome) → hand_left held outcome ≡ Some left → left.request ≡ held.request
-hand_left-request held left (Unfinished n) is = ap (λ (h : InHand). h.request) (sym (some_one is))
-hand_left-request held left (Answered reply n) is = cc
-hand_left-request held left (NoReply n) is = cc
-hand_left-request held left (Refused fault) is = cc
-
 turned_sound : (start : Start) (world : World) (who : MasterId) (hand : Option InHand) (arrived : Option FrameParts)
     (accepted : Option Reply)
     → of_master who world.hands ≡ hand → IsSound world → IsSound (turned start world who hand arrived accepted)
@@ -98,13 +90,12 @@ turned_sound start world who None arrived accepted in_hand s = s
 turned_sound start world who (Some held) arrived accepted in_hand s =
     let effect = effect_on (state_of start.device world) arrived in
     let outcome = outcome_of (of_master who start.retries) (held.sendings + 1) accepted in
-    let there = s.hands who held in_hand in record {
+    record {
       marks = marks_sound effect who held.submission world.executions world.marks s.marks;
-      lengths = rw length-set s.lengths;
-      hands = λ id other is. elim (with_master-cases id who (hand_left held outcome) world.hands other is) [
-        | inl left ↦ rw (hand_left-number held other outcome left, hand_left-request held other outcome left) there
-        | inr old ↦ s.hands id other old
-      ];
+      within = λ id other is. rw length-set (elim (with_master-cases id who (hand_left held outcome) world.hands other is) [
+        | inl left ↦ rw (hand_left-number held other outcome left) (s.within who held in_hand)
+        | inr old ↦ s.within id other old
+      ]);
     }
 
 -- EVENTS
@@ -112,7 +103,7 @@ sound_kept : (start : Start) → Keeps start IsSound
 sound_kept start = record {
   submissions = submitted_sound;
   turns = turned_sound start;
-  switches = λ world on s. record { marks = s.marks; lengths = s.lengths; hands = s.hands };
+  switches = λ world on s. record { marks = s.marks; within = s.within };
 }
 
 pub step_sound : (start : Start) (world : World) (event : LineEvent) (next : World) → Step start world event next → IsSound world
@@ -130,6 +121,5 @@ nothing_first Secondary is = cc
 pub first_sound : (start : Start) → IsSound (first_world start)
 first_sound start = record {
   marks = λ id mark is. nothing_first id is;
-  lengths = refl;
-  hands = λ id held is. nothing_first id is;
+  within = λ id held is. nothing_first id is;
 }

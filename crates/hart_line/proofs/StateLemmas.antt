@@ -1,7 +1,7 @@
 -- The state of the device in a world, after an effect.
-use Rattle.std.proofs.Common.{◌≡◌, ℕ, ◌+◌, ◌%◌, ◌≤◌, ap, ◌∙◌, sym, refl, arith, Option, None, Some, Bool, true, false, List, [], ◌∷◌, ◌++◌, length}
+use Rattle.std.proofs.Common.{◌≡◌, ℕ, ◌+◌, ◌%◌, ◌≤◌, ◌<◌, ◌||◌, nat_lt, ap, ◌∙◌, sym, refl, arith, Option, None, Some, Bool, true, false, List, [], ◌∷◌, ◌++◌, length}
 use Rattle.std.proofs.lemmas.List.{map-append}
-use Rattle.std.proofs.Math.Nat.{mod-add-mod}
+use Rattle.std.proofs.Math.Nat.{mod-add-mod, mod-eq_of_lt}
 use Rattle.std.proofs.lemmas.Grind.{common_steps}
 use Rattle.std.proofs.lemmas.Bool.{lt-ltb, le-ltb}
 use Rattle.hart_values.specs.declared.master_id.MasterId.{MasterId}
@@ -9,7 +9,7 @@ use Rattle.hart_values.specs.declared.master_id.MasterId.TheVariants.{Primary, S
 use Rattle.hart_commands.specs.Registers.{Contents, NamedBytes, registers_of, overwritten}
 use Rattle.hart_device.specs.Device.{DeviceState, Effect, Nothing, Executes, Resets, after}
 use Rattle.hart_device.specs.declared.identity_parts.IdentityParts.{IdentityParts}
-use Rattle.hart_line.specs.World.{World, Execution, state_of, overwrites_of, is_changed}
+use Rattle.hart_line.specs.World.{World, Execution, Start, first_world, state_of, overwrites_of, is_changed}
 use Rattle.hart_line.specs.Parts.{MarksWithin}
 use Rattle.hart_line.specs.Step.{executions_after, marks_after}
 
@@ -77,3 +77,17 @@ state-after last initial world next Primary number Resets within executions mark
 state-after last initial world next Secondary number Resets within executions marks protected =
     rw (executions, marks, protected)
     (same_state _ _ refl refl refl refl (is_changed-now initial.changed.secondary (length world.executions)) refl)
+
+-- THE FIRST WORLD
+or_none : (b : Bool) → (b || nat_lt 0 0) ≡ b
+or_none true = refl
+or_none false = refl
+
+small_mod : (n : ℕ) → n < 65536 → (n + 0) % 65536 ≡ n
+small_mod n h = let same : n + 0 ≡ n = omega arith in rw same (mod-eq_of_lt h)
+
+-- The device stands for the world before a script.
+pub state-first : ((initial : Contents) → registers_of [] initial ≡ initial) → (start : Start) → start.device.counter < 65536
+    → state_of start.device (first_world start) ≡ start.device
+state-first none start small = same_state _ _ refl (none start.device.contents) (small_mod start.device.counter small)
+    (or_none start.device.changed.primary) (or_none start.device.changed.secondary) refl

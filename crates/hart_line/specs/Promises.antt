@@ -1,10 +1,11 @@
 -- What is promised of a whole script (own profile).
-use Rattle.std.specs.Prelude.{◌≡◌, ◌≢◌, ◌⊎◌, ℕ, ◌+◌, List, [], ◌∷◌, ◌++◌, Option, None, Some, Ok, false, slice_get}
+use Rattle.std.specs.Prelude.{◌≡◌, ◌≢◌, ◌⊎◌, ℕ, ◌+◌, List, [], ◌∷◌, ◌++◌, All, Option, None, Some, IsTrue, Ok, false, true, slice_get}
 use Rattle.hart_values.specs.declared.master_id.MasterId.{MasterId}
 use Rattle.hart_frame.specs.FrameParts.{FrameParts}
 use Rattle.hart_values.specs.EachMaster.{of_master}
 use Rattle.hart_commands.specs.Registers.{NamedBytes, overwrite_of}
-use Rattle.hart_commands.specs.RequestData.{IsRequest, command_of, request_data, request_reading}
+use Rattle.hart_commands.specs.RequestCode.{is_write}
+use Rattle.hart_commands.specs.RequestData.{IsRequest}
 use Rattle.hart_commands.specs.declared.reply.Reply.{Reply}
 use Rattle.hart_commands.specs.declared.request.Request.{Request}
 use Rattle.hart_commands.specs.declared.request.Request.TheVariants.{ResetChanged}
@@ -17,7 +18,7 @@ use Rattle.hart_line.specs.Step.{Run, Step, effect_on, executions_after, message
 use Rattle.hart_line.specs.World.{InHand, Start, World, first_world, state_of}
 use Rattle.hart_line.specs.declared.event.Heard.{Heard}
 use Rattle.hart_line.specs.declared.event.LineEvent.{LineEvent}
-use Rattle.hart_line.specs.declared.event.LineEvent.TheVariants.{Submit, Turn}
+use Rattle.hart_line.specs.declared.event.LineEvent.TheVariants.{Submit, Turn, Protect, Noise}
 use Rattle.hart_line.specs.declared.report.Outcome.{Outcome}
 use Rattle.hart_line.specs.declared.report.Outcome.TheVariants.{Answered, NoReply, Unfinished, Refused}
 
@@ -72,6 +73,10 @@ requests_of [] = []
 requests_of (Submit who address request ∷ events) = request ∷ requests_of events
 requests_of (event ∷ events) = requests_of events
 
+-- Each request that is submitted is well made.
+abbrev pub AreWellMade : List LineEvent → Type 0
+AreWellMade events = All IsRequest (requests_of events)
+
 -- How often a submission was sent, as its outcome tells; a refused one, or one that is not there, never was.
 abbrev pub sendings_told : Option Outcome → ℕ
 sendings_told (Some (Answered reply sendings)) = sendings
@@ -80,18 +85,38 @@ sendings_told (Some (Unfinished sendings)) = sendings
 sendings_told (Some (Refused fault)) = 0
 sendings_told None = 0
 
--- In the turn in which a submission was answered one execution was added: the overwrite of the request that its written data are
--- read as, which for a well-made request is the request itself.
+-- In the turn in which a submission was answered one execution was added, of this submission with the overwrite of its request.
 pub record IsExecutedInItsTurn (start : Start) (events : List LineEvent) (number : ℕ) (request : Request) (reply : Reply) (sendings : ℕ)
     : Type 0 where
   pub answered : AnswersLastSending start events number reply sendings
-  pub read : Request
-  pub reading : request_reading (command_of request) (request_data request) ≡ Ok read
-  pub own : IsRequest request → read ≡ request
   pub overwrite : NamedBytes
-  pub overwrites : overwrite_of read ≡ Some overwrite
+  pub overwrites : overwrite_of request ≡ Some overwrite
   pub executed : answered.next.executions
       ≡ answered.before.executions ++ record { submission = number; overwrite = overwrite } ∷ []
+
+-- What arrived at the device in an event: in a turn the frame that did, if one did, and in every other event nothing.
+abbrev pub arrived_in_step : (start : Start) (before : World) (event : LineEvent) (next : World) → Step start before event next
+    → Option FrameParts
+arrived_in_step start before (Submit who address request) next step = None
+arrived_in_step start before (Turn who up down) next step = step.arrived
+arrived_in_step start before (Protect on) next step = None
+arrived_in_step start before (Noise chars) next step = None
+
+-- What arrived is a write that is not refused: a frame of a configuration write that the device answers with code 0.
+abbrev pub IsUnrefusedWrite : DeviceState → Option FrameParts → Type 0
+IsUnrefusedWrite state None = ⊥
+IsUnrefusedWrite state (Some frame) =
+    IsTrue (is_write frame.command) × (is_answered state frame ≡ true) × (code_of state frame ≡ 0)
+
+-- In a turn of this master one execution was added: the submission of the request in its hand, with the overwrite of that request,
+-- which is the one that was submitted under this number.
+pub record IsExecutedFromHand (start : Start) (events : List LineEvent) (who : MasterId) (before next : World) : Type 0 where
+  pub held : InHand
+  pub in_hand : of_master who before.hands ≡ Some held
+  pub submitted_as : slice_get (requests_of events) held.submission ≡ Some held.request
+  pub overwrite : NamedBytes
+  pub overwrites : overwrite_of held.request ≡ Some overwrite
+  pub executed : next.executions ≡ before.executions ++ record { submission = held.submission; overwrite = overwrite } ∷ []
 
 -- A turn in which a frame arrived at the device that it answered with another code than 0, or not at all.
 pub record IsRefusedByDevice (start : Start) (events : List LineEvent) (before next : World) : Type 0 where

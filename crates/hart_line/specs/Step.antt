@@ -39,11 +39,9 @@ abbrev pub submitted : World → MasterId → Address → Request → Option Mas
 submitted world who address request None = record world {
   hands = with_master who
       (Some (record { submission = length world.outcomes; address = address; request = request; sendings = 0 })) world.hands;
-  requests = world.requests ++ request ∷ [];
   outcomes = world.outcomes ++ Unfinished 0 ∷ [];
 }
 submitted world who address request (Some fault) = record world {
-  requests = world.requests ++ request ∷ [];
   outcomes = world.outcomes ++ Refused fault ∷ [];
 }
 
@@ -123,7 +121,6 @@ turned start world who (Some held) arrived accepted =
       marks = marks_after effect who (length world.executions) world.marks;
       protected = world.protected;
       hands = with_master who (hand_left held outcome) world.hands;
-      requests = world.requests;
       outcomes = slice_set world.outcomes held.submission outcome;
       spoken = world.spoken ++ message_of who held ∷ option_to_list (sent_back start world arrived);
     }

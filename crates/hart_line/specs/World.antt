@@ -23,14 +23,13 @@ pub record InHand : Type 0 where
   pub sendings : ℕ
 
 -- A world is what was executed, oldest first; for each master its mark, which is how many executions there were when its last
--- Command 38 was executed, if any was; whether the device is protected; what each master has in hand; every request that was
--- submitted, refused ones too, and what became of each so far; and what was spoken.
+-- Command 38 was executed, if any was; whether the device is protected; what each master has in hand; what became of each
+-- submission so far; and what was spoken.
 pub record World : Type 0 where
   pub executions : List Execution
   pub marks : EachMaster (Option ℕ)
   pub protected : Bool
   pub hands : EachMaster (Option InHand)
-  pub requests : List Request
   pub outcomes : List Outcome
   pub spoken : List Message
 
@@ -47,7 +46,6 @@ first_world start = record {
   marks = record { primary = None; secondary = None };
   protected = start.device.protected;
   hands = record { primary = None; secondary = None };
-  requests = [];
   outcomes = [];
   spoken = [];
 }

@@ -1,19 +1,37 @@
 //! Laws over the definitions alone, for the crates above.
-ghost use Rattle.std.specs.Prelude.{◌≡◌, List, ℕ};
+ghost use Rattle.std.specs.Prelude.{◌≡◌, ◌≤◌, ◌<◌, ◌+◌, ◌%◌, ◌^◌, List, [], ℕ, Option, Some, IfSome, IsTrue, false, length, slice_get};
 ghost use Rattle.hart_values.specs.declared.address.Address.{Address};
 ghost use Rattle.hart_values.specs.declared.master_id.MasterId.{MasterId};
-ghost use Rattle.hart_line.specs.Faults.{AreAllShown, IsFault};
-ghost use Rattle.hart_line.specs.Promises.{IsRefusedByDevice};
+ghost use Rattle.hart_values.specs.EachMaster.{of_master};
+ghost use Rattle.hart_commands.specs.Registers.{registers_of};
+ghost use Rattle.hart_commands.specs.RequestCode.{is_write};
+ghost use Rattle.hart_commands.specs.RequestData.{command_of};
+ghost use Rattle.hart_commands.specs.declared.reply.Reply.{Reply};
+ghost use Rattle.hart_commands.specs.declared.request.Request.{Request};
+ghost use Rattle.hart_line.specs.Executions.{last_executions, times_executed};
+ghost use Rattle.hart_line.specs.Faults.{AreAllShown, IsFault, IsOfCharacters};
+ghost use Rattle.hart_line.specs.Promises.{AnswersLastSending, AreWellMade, IsExecutedFromHand, IsExecutedInItsTurn, IsLastReset, IsRefusedByDevice, IsStepOf, IsUnrefusedWrite};
+ghost use Rattle.hart_line.specs.Promises.{arrived_in_step, requests_of, sendings_told};
 ghost use Rattle.hart_line.specs.Script.{HasFirstBadLine, IsScript};
 ghost use Rattle.hart_line.specs.Step.{IsLast};
 ghost use Rattle.hart_line.specs.Words.{IsAddressWord, IsCommandWord, IsDataWord, IsWho};
-ghost use Rattle.hart_line.specs.World.{Start, World, first_world, state_of};
+ghost use Rattle.hart_line.specs.World.{Start, World, first_world, overwrites_of, state_of};
+ghost use Rattle.hart_line.specs.declared.event.Heard.{Heard};
 ghost use Rattle.hart_line.specs.declared.event.LineEvent.{LineEvent};
+ghost use Rattle.hart_line.specs.declared.event.LineEvent.TheVariants.{Turn};
 ghost use Rattle.hart_line.specs.declared.fault.Leg.{Leg};
+ghost use Rattle.hart_line.specs.declared.fault.LineFault.{LineFault};
 ghost use Rattle.hart_line.specs.declared.fault.LineFault.TheVariants.{Undetected};
+ghost use Rattle.hart_line.specs.declared.report.Outcome.TheVariants.{Answered};
 
-use hart_device::refused_commands_change_nothing;
-use hart_frame::{bodies_are_told_apart, frames_are_told_apart};
+use hart_commands::{
+    requests_have_their_command, writes_have_overwrites, written_data_are_their_request,
+};
+use hart_device::{
+    answers_tell_their_code, refused_commands_change_nothing, registers_of_lists,
+    resets_name_this_counter, writes_execute_their_overwrite,
+};
+use hart_frame::{bodies_are_told_apart, frames_are_told_apart, messages_have_their_frame_alone};
 use hart_master::replies_are_decided;
 
 /// A word is that of one master, of one address, of one command and of one list of data at most.
@@ -60,4 +78,65 @@ pub fn refused_turns_change_nothing()
 {
     // It does nothing when it runs: the law of one command is what this one rests on.
     refused_commands_change_nothing();
+}
+
+/// All that [`run`](crate::run) promises of a script: of its first world, of its turns, of its last world and of its fault. The
+/// requests that are submitted are well made where a clause says so, and every [`Request`](hart_commands::Request) is.
+pub fn scripts_keep_their_promises()
+    // The device stands for the first world, and there is one last world at most.
+    ensures first_world { (start : Start) → start.device.counter < 2 ^ 16 → state_of start.device (first_world start) ≡ start.device }
+    ensures one_world { (start : Start) (events : List LineEvent) (a b : World)
+        → IsLast start events a → IsLast start events b → a ≡ b }
+    ensures accepted_reply_answers_last_sending { (start : Start) (events : List LineEvent) (world : World) → IsLast start events world
+        → (number : ℕ) (reply : Reply) (sendings : ℕ) → slice_get world.outcomes number ≡ Some (Answered reply sendings)
+        → AnswersLastSending start events number reply sendings }
+    ensures registers_follow_last_executions { (start : Start) (events : List LineEvent) (world : World) → IsLast start events world
+        → AreWellMade events
+        → (state_of start.device world).contents
+        ≡ registers_of (overwrites_of (last_executions world.executions)) start.device.contents }
+    ensures counter_counts_executions { (start : Start) (world : World)
+        → (state_of start.device world).counter ≡ (start.device.counter + length world.executions) % 2 ^ 16 }
+    ensures refused_commands_change_nothing { (start : Start) (events : List LineEvent) (world : World) → IsLast start events world
+        → (before next : World) (refused : IsRefusedByDevice start events before next)
+        → refused.turn.back ≡ [] → state_of start.device world ≡ state_of start.device before }
+    ensures refused_turns_change_nothing { (start : Start) (events : List LineEvent) (before next : World)
+        → IsRefusedByDevice start events before next → state_of start.device next ≡ state_of start.device before }
+    ensures unrefused_writes_are_executed { (start : Start) (events : List LineEvent) → AreWellMade events
+        → (before next : World) (who : MasterId) (up down : Heard)
+        (turn : IsStepOf start (first_world start) events before (Turn who up down) next)
+        → IsUnrefusedWrite (state_of start.device before) turn.step.arrived → IsExecutedFromHand start events who before next }
+    ensures nothing_else_is_executed { (start : Start) (events : List LineEvent) (before next : World) (event : LineEvent)
+        (here : IsStepOf start (first_world start) events before event next)
+        → (IsUnrefusedWrite (state_of start.device before) (arrived_in_step start before event next here.step) → ⊥)
+        → next.executions ≡ before.executions }
+    ensures executed_in_its_turn { (start : Start) (events : List LineEvent) → AreWellMade events
+        → (number : ℕ) (request : Request) (reply : Reply) (sendings : ℕ) → AnswersLastSending start events number reply sendings
+        → slice_get (requests_of events) number ≡ Some request → IsTrue (is_write (command_of request)) → reply.code ≡ 0
+        → IsExecutedInItsTurn start events number request reply sendings }
+    ensures at_most_once_a_sending { (start : Start) (events : List LineEvent) (world : World) → IsLast start events world
+        → (number : ℕ) → times_executed number world.executions ≤ sendings_told (slice_get world.outcomes number) }
+    ensures no_change_unseen { (start : Start) (events : List LineEvent) (world : World) → IsLast start events world
+        → (who : MasterId) (before : World) (given : Option ℕ) → IsLastReset start events who before given
+        → of_master who (state_of start.device world).changed ≡ false
+        → IfSome given (λ counter. (state_of start.device world).counter ≡ counter)
+        × ((state_of start.device world).counter ≡ (state_of start.device before).counter)
+        × ((state_of start.device world).contents ≡ (state_of start.device before).contents) }
+    ensures clean_and_lost_legs_are_shown { (start : Start) (events : List LineEvent) (fault : LineFault)
+        → 5 ≤ start.device.identity.response_preambles → IsFault start events fault → IsOfCharacters events fault }
+{
+    // They do nothing when they run: these laws are what this one rests on.
+    registers_of_lists();
+    writes_execute_their_overwrite();
+    answers_tell_their_code();
+    requests_have_their_command();
+    writes_have_overwrites();
+    resets_name_this_counter();
+    refused_commands_change_nothing();
+    refused_turns_change_nothing();
+    written_data_are_their_request();
+    scripts_have_one_last_world();
+    bodies_are_told_apart();
+    frames_are_told_apart();
+    replies_are_decided();
+    messages_have_their_frame_alone();
 }

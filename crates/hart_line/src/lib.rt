@@ -35,8 +35,8 @@ pub use event::{Heard, LineEvent};
 pub use fault::{Leg, LineFault};
 pub use items::{LeadingItem, leading_item};
 pub use laws::{
-    refused_turns_change_nothing, scripts_have_one_last_world, texts_have_one_script,
-    words_have_one_value,
+    refused_turns_change_nothing, scripts_have_one_last_world, scripts_keep_their_promises,
+    texts_have_one_script, words_have_one_value,
 };
 pub use report::{Outcome, Outcomes, Party, Report, Spoken, SpokenList};
 pub use runs::run;

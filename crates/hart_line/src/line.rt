@@ -1,11 +1,13 @@
 //! The parts of a line, and what they do at each event.
-ghost use Rattle.std.specs.Prelude.{◌≡◌, ◌↔◌, Option, Some, IfSome, IfNone, IfErr, IsTrue, OnOk};
+ghost use Rattle.std.specs.Prelude.{◌≡◌, ◌↔◌, [], ◌∷◌, Option, Some, IfSome, IfNone, IfErr, IsTrue, OnOk};
 ghost use Rattle.hart_frame.specs.FrameParts.{FrameParts};
 ghost use Rattle.hart_frame.specs.Frames.{HasNoFrame};
+ghost use Rattle.hart_commands.specs.RequestData.{IsRequest};
 ghost use Rattle.hart_master.specs.Master.{IsHeard, hand_heard};
 ghost use Rattle.hart_line.specs.Damage.{Arrives, IsUndetected};
 ghost use Rattle.hart_line.specs.Parts.{ArrivesAmong, Concludes, IsPlaced, IsResting, IsSent, IsUndetectedAmong, MarksWithin, ReturnBrings, Speaks, Stands, Stepped, StopsNoise, StopsStep, StopsTurn, Submits, Turns};
 ghost use Rattle.hart_line.specs.Parts.{fault_of, state_heard};
+ghost use Rattle.hart_line.specs.Promises.{AreWellMade};
 ghost use Rattle.hart_line.specs.Spoken.{Message, message_by, party_of};
 ghost use Rattle.hart_line.specs.Step.{frame_answered};
 ghost use Rattle.hart_line.specs.World.{Start, World};
@@ -105,6 +107,7 @@ pub fn step<S: RegisterStore>(
         → Stands start world device.old primary.old.master primary.old.place secondary.old.master secondary.old.place
         log.old.outcomes log.old.spoken
         → StopsStep start world event.now stop) }
+    ensures well_made { OnOk result (AreWellMade (event.now ∷ [])) }
 {
     // It does nothing when it runs: what overwrites leave is what the world's registers rest on.
     registers_of_lists();
@@ -162,8 +165,9 @@ fn submit(
     address: Address,
     request: &Request,
 ) -> Result<(), AllocError>
-    ensures { OnOk result (Submits address request.now submitter.old.place submitter.new.place
+    ensures submits { OnOk result (Submits address request.now submitter.old.place submitter.new.place
         submitter.old.master submitter.new.master outcomes.old outcomes.new) }
+    ensures well_made { IsRequest request.now }
 {
     let place = outcomes.as_slice().len();
     let outcome = match submitter.master.submit(address, request.copy()) {

@@ -11,25 +11,22 @@ ghost use Rattle.hart_values.specs.declared.master_id.MasterId.{MasterId};
 ghost use Rattle.hart_values.specs.declared.master_id.MasterId.TheVariants.{Primary, Secondary};
 ghost use Rattle.hart_line.specs.Executions.{last_executions, times_executed};
 ghost use Rattle.hart_line.specs.Faults.{IsFault, IsOfCharacters};
-ghost use Rattle.hart_line.specs.Promises.{AnswersLastSending, IsExecutedInItsTurn, IsLastReset, IsRefusedByDevice, requests_of, sendings_told, start_of};
+ghost use Rattle.hart_line.specs.Promises.{AnswersLastSending, IsExecutedFromHand, IsExecutedInItsTurn, IsLastReset, IsRefusedByDevice, IsStepOf, IsUnrefusedWrite};
+ghost use Rattle.hart_line.specs.Promises.{arrived_in_step, requests_of, sendings_told, start_of};
 ghost use Rattle.hart_line.specs.Spoken.{AreSpoken};
 ghost use Rattle.hart_line.specs.Step.{IsLast};
-ghost use Rattle.hart_line.specs.World.{World, overwrites_of, state_of};
+ghost use Rattle.hart_line.specs.World.{World, first_world, overwrites_of, state_of};
+ghost use Rattle.hart_line.specs.declared.event.Heard.{Heard};
+ghost use Rattle.hart_line.specs.declared.event.LineEvent.{LineEvent};
+ghost use Rattle.hart_line.specs.declared.event.LineEvent.TheVariants.{Turn};
 ghost use Rattle.hart_line.specs.declared.report.Outcome.TheVariants.{Answered};
 
-use crate::laws::scripts_have_one_last_world;
+use crate::laws::scripts_keep_their_promises;
 use crate::line::{Log, Submitter, step};
 use crate::report::{Outcomes, SpokenList};
 use crate::{LineEvent, LineFault, Report};
-use hart_commands::{
-    requests_have_their_command, writes_have_overwrites, written_data_are_read_again,
-};
-use hart_device::{
-    Device, Process, RegisterStore, answers_tell_their_code, refused_commands_change_nothing,
-    registers_of_lists, resets_name_this_counter, writes_execute_their_overwrite,
-};
-use hart_frame::{bodies_are_told_apart, frames_are_told_apart, messages_have_their_frame_alone};
-use hart_master::{Master, replies_are_decided};
+use hart_device::{Device, Process, RegisterStore};
+use hart_master::Master;
 use std::alloc::Global;
 
 /// Carries out a script: what the masters ask, and what each side hears.
@@ -73,15 +70,28 @@ pub fn run<S: RegisterStore + Drop>(
     ensures registers_follow_last_executions { let start = start_of device process.now primary secondary in
         IfOk result (λ report. (world : World) → IsLast start events.now world
         → report.device.contents ≡ registers_of (overwrites_of (last_executions world.executions)) device.contents) }
-    // The counter has grown by the number of executed writes, and a last command that is refused leaves the device as it was.
+    // The counter has grown by the number of executed writes.
     ensures counter_counts_executions { let start = start_of device process.now primary secondary in
         IfOk result (λ report. (world : World) → IsLast start events.now world
         → report.device.counter ≡ (device.counter + length world.executions) % 2 ^ 16) }
+    // A command that is refused or not answered changes nothing: not as the last of a script, and not in any turn of it.
     ensures refused_commands_change_nothing { let start = start_of device process.now primary secondary in
         IfOk result (λ report. (before next : World) (refused : IsRefusedByDevice start events.now before next)
         → refused.turn.back ≡ [] → report.device ≡ state_of device before) }
-    // A write whose accepted reply has code 0 was executed in the turn of that reply; a submission was executed at most as often
-    // as it was sent, a refused one never.
+    ensures refused_turns_change_nothing { let start = start_of device process.now primary secondary in
+        IfOk result (λ _. (before next : World) → IsRefusedByDevice start events.now before next
+        → state_of device next ≡ state_of device before) }
+    // In each turn in which a write arrives that the device answers with code 0 the request in hand is executed, heard or not, and
+    // nothing else is ever executed. So a write whose accepted reply has code 0 was executed in the turn of that reply; and a
+    // submission was executed at most as often as it was sent, a refused one never.
+    ensures unrefused_writes_are_executed { let start = start_of device process.now primary secondary in
+        IfOk result (λ _. (before next : World) (who : MasterId) (up down : Heard)
+        (turn : IsStepOf start (first_world start) events.now before (Turn who up down) next)
+        → IsUnrefusedWrite (state_of device before) turn.step.arrived → IsExecutedFromHand start events.now who before next) }
+    ensures nothing_else_is_executed { let start = start_of device process.now primary secondary in
+        IfOk result (λ _. (before next : World) (event : LineEvent) (here : IsStepOf start (first_world start) events.now before event next)
+        → (IsUnrefusedWrite (state_of device before) (arrived_in_step start before event next here.step) → ⊥)
+        → next.executions ≡ before.executions) }
     ensures executed_in_its_turn { let start = start_of device process.now primary secondary in
         IfOk result (λ report. (number : ℕ) (request : Request) (reply : Reply) (sendings : ℕ)
         → slice_get (requests_of events.now) number ≡ Some request → IsTrue (is_write (command_of request))
@@ -102,20 +112,8 @@ pub fn run<S: RegisterStore + Drop>(
     ensures fault { IfErr result (IsFault (start_of device process.now primary secondary) events.now) }
     ensures clean_and_lost_legs_are_shown { IfErr result (IsOfCharacters events.now) }
 {
-    // They do nothing when they run: these laws are what the clauses rest on.
-    registers_of_lists();
-    writes_execute_their_overwrite();
-    answers_tell_their_code();
-    requests_have_their_command();
-    writes_have_overwrites();
-    resets_name_this_counter();
-    refused_commands_change_nothing();
-    written_data_are_read_again();
-    scripts_have_one_last_world();
-    bodies_are_told_apart();
-    frames_are_told_apart();
-    replies_are_decided();
-    messages_have_their_frame_alone();
+    // It does nothing when it runs: this law is what the clauses rest on.
+    scripts_keep_their_promises();
     // By what these tell, the counter has two bytes, and a message has preamble bytes.
     let (_counter, _preambles) = (device.counter(), device.response_preambles());
     let mut primary = Submitter::new(primary);

@@ -38,13 +38,13 @@ pub returns-in_ok-submit-in-Primary-clause-stepped :
     goal.returns-in_ok-submit-in-Primary-clause-stepped
 returns-in_ok-submit-in-Primary-clause-stepped g c = λ start world process within s.
     rw (c.in-Submit.is, c.in-Primary.is) (stepped_by Primary s (submitted_from start world Primary c.in-Submit.address c.in-Submit.request
-    _ _ _ _ _ _ _ _ s.device_is s.primary_is s.outcomes_are s.spoken_are c.in_ok-submit-in-Primary.ensures) refl refl refl refl)
+    _ _ _ _ _ _ _ _ s.device_is s.primary_is s.outcomes_are s.spoken_are c.in_ok-submit-in-Primary.ensures.submits) refl refl refl refl)
 
 pub returns-in_ok-submit-in-Secondary-clause-stepped :
     goal.returns-in_ok-submit-in-Secondary-clause-stepped
 returns-in_ok-submit-in-Secondary-clause-stepped g c = λ start world process within s.
     rw (c.in-Submit.is, c.in-Secondary.is) (stepped_by Secondary s (submitted_from start world Secondary c.in-Submit.address
-    c.in-Submit.request _ _ _ _ _ _ _ _ s.device_is s.secondary_is s.outcomes_are s.spoken_are c.in_ok-submit-in-Secondary.ensures)
+    c.in-Submit.request _ _ _ _ _ _ _ _ s.device_is s.secondary_is s.outcomes_are s.spoken_are c.in_ok-submit-in-Secondary.ensures.submits)
     refl refl refl refl)
 
 pub returns-in-Protect-clause-stepped : goal.returns-in-Protect-clause-stepped

@@ -1,27 +1,33 @@
-use Rattle.std.proofs.Common.{arith, ap, refl, ◌<◌, ◌≤◌, inl, inr}
+use Rattle.std.proofs.Common.{◌≡◌, ℕ, ◌<◌, ◌≤◌, Some, arith, rules, ap, ◌∙◌, refl, subst}
+use Rattle.std.specs.List.{slice_get}
+use Rattle.std.proofs.lemmas.List.{take_all}
 use Rattle.hart_device.specs.Device.{DeviceState}
 use Rattle.hart_values.specs.declared.master_id.MasterId.TheVariants.{Primary, Secondary}
-use Rattle.hart_line.specs.Promises.{start_of}
+use Rattle.hart_commands.specs.declared.reply.Reply.{Reply}
+use Rattle.hart_line.specs.Promises.{AnswersLastSending, AreWellMade, start_of}
+use Rattle.hart_line.specs.Step.{IsLast}
+use Rattle.hart_line.specs.World.{World, state_of}
+use Rattle.hart_line.specs.declared.report.Outcome.TheVariants.{Answered}
 use Rattle.hart_line.proofs.ReachedLemmas.{fault_at, party_placed, party_rests, reached_first, reached_more}
-use Rattle.hart_line.proofs.WholeLemmas.{answered_reached, at_most_reached, of_last, reached_whole, registers_reached}
-use Rattle.hart_line.proofs.WrittenLemmas.{WriteLaws, answered_executed}
-use Rattle.hart_line.proofs.RunLemmas.{Laws}
-use Rattle.hart_line.proofs.ResetLemmas.{refused_last, unseen}
-use Rattle.hart_line.proofs.ShownLemmas.{ShownLaws, fault_told}
+use Rattle.hart_line.proofs.SubmittedLemmas.{made_more}
+use Rattle.hart_line.proofs.WholeLemmas.{of_last, reached_whole}
 use Rattle.hart_line.proofs.runs.run.Goals as goal
 
 pub loop-index-init : goal.loop-index-init
 loop-index-init g c =
     let small : c.args.device.counter < 65536 = rw c.counter-counter.ensures at c.counter-counter.type_inv in
+    let start = start_of c.args.device c.args.process.now c.args.primary c.args.secondary in
     let one = c.new-primary.ensures in
-    let other = c.new-secondary.ensures in
-    rw (c.new.ensures, c.new-2.ensures, one.master, one.place, other.master, other.place)
-    (reached_first c.registers_of_lists.ensures.none c.args.device c.args.process.now c.args.primary c.args.secondary small
-    c.requires.primary c.requires.secondary)
+    let other = c.new-secondary.ensures in record {
+      reached = rw (c.new.ensures, c.new-2.ensures, one.master, one.place, other.master, other.place)
+          (reached_first c.args.device c.args.process.now c.args.primary c.args.secondary
+          (c.scripts_keep_their_promises.ensures.first_world start small) c.requires.primary c.requires.secondary);
+      well_made = search rules;
+    }
 
 pub step-stepped-requires : goal.step-stepped-requires
 step-stepped-requires g c =
-    let reached = c.loop-index.invariant in
+    let reached = c.loop-index.invariant.reached in
     let stands = reached.stands in
     record {
       primary_placed = party_placed Primary _ reached.world _ _ _ stands.primary_is stands.outcomes_are reached.sound;
@@ -33,68 +39,69 @@ step-stepped-requires g c =
 pub returns-in-Err-clause-fault : goal.returns-in-Err-clause-fault
 returns-in-Err-clause-fault g c =
     let start = start_of c.args.device c.args.process.now c.args.primary c.args.secondary in
-    let reached = c.loop-index.invariant in
+    let reached = c.loop-index.invariant.reached in
     rw c.at.ensures (fault_at start c.args.events.now c.loop-index.index _ reached.world c.in-Err.stop c.loop-index-test.true
     reached.is_last
     (rw c.index-events-index.is at (c.in-Err.ensures.stopped start reached.world refl reached.stands)))
 
 pub returns-in-Err-clause-clean_and_lost_legs_are_shown : goal.returns-in-Err-clause-clean_and_lost_legs_are_shown
 returns-in-Err-clause-clean_and_lost_legs_are_shown g c =
-    let laws : ShownLaws = record {
-      one_list = c.frames_are_told_apart.ensures.one_list;
-      message = c.messages_have_their_frame_alone.ensures.message;
-      nothing = c.messages_have_their_frame_alone.ensures.nothing;
-    } in
     let preambles = c.response_preambles-preambles in
     let enough : 5 ≤ c.args.device.identity.response_preambles = rw preambles.ensures.same at preambles.ensures.in_range.0 in
-    fault_told laws (start_of c.args.device c.args.process.now c.args.primary c.args.secondary) c.args.events.now c.at.result enough
+    c.scripts_keep_their_promises.ensures.clean_and_lost_legs_are_shown
+    (start_of c.args.device c.args.process.now c.args.primary c.args.secondary) c.args.events.now c.at.result enough
     (returns-in-Err-clause-fault g c)
 
 pub loop-index-preserved : goal.loop-index-preserved
 loop-index-preserved g c =
     let start = start_of c.args.device c.args.process.now c.args.primary c.args.secondary in
-    let reached = c.loop-index.invariant in
-    reached_more start c.args.events.now c.loop-index.index _ _ _ _ _ _ _ _ _ _ _ _ _ _ _ c.loop-index-test.true reached
-    (rw c.index-events-index.is at (c.in_default.ensures.stepped start reached.world refl reached.sound.marks reached.stands))
+    let reached = c.loop-index.invariant.reached in record {
+      reached = reached_more start c.args.events.now c.loop-index.index _ _ _ _ _ _ _ _ _ _ _ _ _ _ _ c.loop-index-test.true reached
+          (rw c.index-events-index.is at (c.in_default.ensures.stepped start reached.world refl reached.sound.marks reached.stands));
+      well_made = made_more c.args.events.now c.loop-index.index _ c.loop-index-test.true c.loop-index.invariant.well_made
+          (rw c.index-events-index.is at c.in_default.ensures.well_made);
+    }
 
 pub returns : goal.returns
 returns g c =
-    let reached = reached_whole _ _ _ _ _ _ _ _ _ _ (omega (arith, c.loop-index-test.false)) c.loop-index.invariant in
-    let one_world = c.scripts_have_one_last_world.ensures.one_world in
-    let laws : Laws = record {
-      one_body = c.bodies_are_told_apart.ensures.one_body;
-      one_list = c.frames_are_told_apart.ensures.one_list;
-      one_reply = c.replies_are_decided.ensures.one_reply;
-    } in
-    let write_laws : WriteLaws = record {
-      command = c.requests_have_their_command.ensures;
-      again = c.written_data_are_read_again.ensures;
-      overwritten = λ asked is_write. (c.writes_have_overwrites.ensures asked).0 is_write;
-      code = c.answers_tell_their_code.ensures.answered;
-      executes = c.writes_execute_their_overwrite.ensures.executes;
-    } in
+    let start = start_of c.args.device c.args.process.now c.args.primary c.args.secondary in
+    let events = c.args.events.now in
+    let promises = c.scripts_keep_their_promises.ensures in
+    let reached = reached_whole _ _ _ _ _ _ _ _ _ _ (omega (arith, c.loop-index-test.false)) c.loop-index.invariant.reached in
+    let made : AreWellMade events = subst AreWellMade (take_all c.loop-index.index events (omega (arith, c.loop-index-test.false)))
+    c.loop-index.invariant.well_made in
+    let device_is = reached.stands.device_is in
+    let outcomes_are = reached.stands.outcomes_are in
+    let device_of : (world : World) → IsLast start events world → c.loop-index.device ≡ state_of start.device world =
+    of_last promises.one_world _ reached device_is in
+    let outcomes_of : (world : World) → IsLast start events world → c.loop-index.log.outcomes ≡ world.outcomes =
+    of_last promises.one_world _ reached outcomes_are in
+    let answers : (number : ℕ) (reply : Reply) (sendings : ℕ) → slice_get c.loop-index.log.outcomes number ≡ Some (Answered reply sendings)
+    → AnswersLastSending start events number reply sendings =
+    λ number reply sendings is. promises.accepted_reply_answers_last_sending start events reached.world reached.is_last
+    number reply sendings (rw outcomes_are at is) in
     record {
       world = (reached.world, reached.is_last);
-      device = of_last one_world _ reached reached.stands.device_is;
-      outcomes = of_last one_world _ reached reached.stands.outcomes_are;
-      spoken = of_last one_world _ reached reached.stands.spoken_are;
-      identity = ap (λ (d : DeviceState). d.identity) reached.stands.device_is;
-      accepted_reply_answers_last_sending = answered_reached reached;
-      registers_follow_last_executions = of_last one_world _ reached (registers_reached
-          (λ state frame overwrite is. let asked = c.writes_execute_their_overwrite.ensures.only state frame overwrite is in
-          (asked.2, asked.3, asked.4)) c.registers_of_lists.ensures.first c.registers_of_lists.ensures.again reached);
-      counter_counts_executions = of_last one_world _ reached (ap (λ (d : DeviceState). d.counter) reached.stands.device_is);
-      refused_commands_change_nothing = λ before next refused end. refused_last laws (λ state frame is. elim is [
-        | inl code ↦ c.refused_commands_change_nothing.ensures.refused state frame code
-        | inr silent ↦ c.refused_commands_change_nothing.ensures.silent state frame silent
-      ]) _ _ reached.world before next _ reached.stands.device_is reached.is_last refused end;
-      executed_in_its_turn = λ number request reply sendings submitted write is success.
-          answered_executed write_laws _ _ number request reply sendings (answered_reached reached number reply sendings is)
-          submitted write success;
-      at_most_once_a_sending = of_last one_world _ reached (at_most_reached reached);
-      no_change_unseen = λ who before given reset clear. unseen laws
-          (λ state frame is. let asked = c.resets_name_this_counter.ensures.only state frame is in (asked.2, asked.3, asked.4))
-          _ _ reached.world who before given _ reached.stands.device_is reached.is_last reset clear;
+      device = device_of;
+      outcomes = outcomes_of;
+      spoken = of_last promises.one_world _ reached reached.stands.spoken_are;
+      identity = ap (λ (d : DeviceState). d.identity) device_is;
+      accepted_reply_answers_last_sending = answers;
+      registers_follow_last_executions = λ world last. ap (λ (d : DeviceState). d.contents) (device_of world last)
+          ∙ promises.registers_follow_last_executions start events world last made;
+      counter_counts_executions = λ world last. ap (λ (d : DeviceState). d.counter) (device_of world last)
+          ∙ promises.counter_counts_executions start world;
+      refused_commands_change_nothing = λ before next refused end.
+          device_is ∙ promises.refused_commands_change_nothing start events reached.world reached.is_last before next refused end;
+      refused_turns_change_nothing = λ before next refused. promises.refused_turns_change_nothing start events before next refused;
+      unrefused_writes_are_executed = promises.unrefused_writes_are_executed start events made;
+      nothing_else_is_executed = promises.nothing_else_is_executed start events;
+      executed_in_its_turn = λ number request reply sendings submitted write is.
+          promises.executed_in_its_turn start events made number request reply sendings (answers number reply sendings is) submitted write;
+      at_most_once_a_sending = λ world last number.
+          rw (outcomes_of world last) (promises.at_most_once_a_sending start events world last number);
+      no_change_unseen = λ who before given reset. rw device_is
+          (promises.no_change_unseen start events reached.world reached.is_last who before given reset);
       fault = tt;
       clean_and_lost_legs_are_shown = tt;
     }

@@ -1,9 +1,11 @@
 use Rattle.std.proofs.Common.{take}
-use Rattle.hart_line.specs.Promises.{start_of}
+use Rattle.hart_line.specs.Promises.{AreWellMade, start_of}
 use Rattle.hart_line.proofs.ReachedLemmas.{IsReached}
 use Rattle.hart_line.proofs.runs.run.Given as goal
 
 abbrev pub invariant-loop-index : goal.invariant-loop-index
-invariant-loop-index g l =
-    IsReached (start_of l.fn.device l.process l.fn.primary l.fn.secondary) (take l.index l.events)
-    l.device l.primary.master l.primary.place l.secondary.master l.secondary.place l.log.outcomes l.log.spoken
+invariant-loop-index g l = record {
+  reached : IsReached (start_of l.fn.device l.process l.fn.primary l.fn.secondary) (take l.index l.events)
+      l.device l.primary.master l.primary.place l.secondary.master l.secondary.place l.log.outcomes l.log.spoken;
+  well_made : AreWellMade (take l.index l.events);
+}
