@@ -22,9 +22,10 @@ use Rattle.clap.specs.declared.error.Error.{Error}
 use Rattle.clap.specs.declared.parser.matches.ArgMatches.{ArgMatches}
 use Rattle.clap.specs.declared.parser.matches.ArgMatches.TheViews.{out-ArgMatches, out-SubCommand}
 use Rattle.clap.proofs.OnLiterals.{clap_on_literals}
-use Rattle.hart_cli.specs.CommandLine.{Call, Calls, GivesValues, HasWords, hart_app, name_of}
-use Rattle.hart_cli.specs.CommandLine.{Answer, Dump, Encode, Sim}
-use Rattle.hart_cli.specs.Encode.{MessageWords}
+use Rattle.hart_cli.specs.CommandLine.{Calls, GivesValues, HasWords, hart_app, name_of}
+use Rattle.hart_cli.specs.MessageWords.{MessageWords}
+use Rattle.hart_cli.specs.declared.program.command_line.Call.{Call}
+use Rattle.hart_cli.specs.declared.program.command_line.Call.TheVariants.{Answer, Dump, Encode, Sim}
 use Rattle.hart_cli.proofs.FaultlessRowLemmas.{faults_at, first_empty, met_at, second_empty, walk_keeps}
 use Rattle.hart_cli.proofs.EncodeRowLemmas.{encode_has_words, encode_shape}
 
@@ -288,25 +289,30 @@ same_call : (a b : Call) (rows : List Row) → name_of a ≡ name_of b → Gives
 same_call Answer Answer rows names one other = refl
 same_call Answer Dump rows names one other = absurd (differ (codes "answer") (codes "dump") refl names)
 same_call Answer Sim rows names one other = absurd (differ (codes "answer") (codes "sim") refl names)
-same_call Answer (Encode words preambles) rows names one other = absurd (differ (codes "answer") (codes "encode") refl names)
+same_call Answer (Encode words) rows names one other = absurd (differ (codes "answer") (codes "encode") refl names)
 same_call Dump Answer rows names one other = absurd (differ (codes "dump") (codes "answer") refl names)
 same_call Dump Dump rows names one other = refl
 same_call Dump Sim rows names one other = absurd (differ (codes "dump") (codes "sim") refl names)
-same_call Dump (Encode words preambles) rows names one other = absurd (differ (codes "dump") (codes "encode") refl names)
+same_call Dump (Encode words) rows names one other = absurd (differ (codes "dump") (codes "encode") refl names)
 same_call Sim Answer rows names one other = absurd (differ (codes "sim") (codes "answer") refl names)
 same_call Sim Dump rows names one other = absurd (differ (codes "sim") (codes "dump") refl names)
 same_call Sim Sim rows names one other = refl
-same_call Sim (Encode words preambles) rows names one other = absurd (differ (codes "sim") (codes "encode") refl names)
-same_call (Encode words preambles) Answer rows names one other = absurd (differ (codes "encode") (codes "answer") refl names)
-same_call (Encode words preambles) Dump rows names one other = absurd (differ (codes "encode") (codes "dump") refl names)
-same_call (Encode words preambles) Sim rows names one other = absurd (differ (codes "encode") (codes "sim") refl names)
-same_call (Encode words preambles) (Encode others number) rows names one other =
-    ap₂ Encode (ap₂ (λ (p q : Text × Text). record { who = p.0; address = p.1; command = q.0; payload = q.1 })
-    (ap₂ (λ (x y : Text). (x, y)) (same_text words.who others.who one.who other.who)
-    (same_text words.address others.address one.address other.address))
-    (ap₂ (λ (x y : Text). (x, y)) (same_text words.command others.command one.command other.command) (sym one.payload ∙ other.payload)))
-    (one.value ∙ ap (λ t. digits_value 10 (without_leading_plus t)) (same_text one.number other.number one.given other.given)
-    ∙ sym other.value)
+same_call Sim (Encode words) rows names one other = absurd (differ (codes "sim") (codes "encode") refl names)
+same_call (Encode words) Answer rows names one other = absurd (differ (codes "encode") (codes "answer") refl names)
+same_call (Encode words) Dump rows names one other = absurd (differ (codes "encode") (codes "dump") refl names)
+same_call (Encode words) Sim rows names one other = absurd (differ (codes "encode") (codes "sim") refl names)
+same_call (Encode words) (Encode others) rows names one other =
+    let of : Text → Text → Text → Text → ℕ → Call =
+    λ w a c p n. Encode (record { who = w; address = a; command = c; payload = p; preambles = n }) in
+    let who = same_text words.who others.who one.who other.who in
+    let address = same_text words.address others.address one.address other.address in
+    let command = same_text words.command others.command one.command other.command in
+    let payload : words.payload ≡ others.payload = sym one.payload ∙ other.payload in
+    let number = same_text one.number other.number one.given other.given in
+    let preambles = one.value ∙ ap (λ t. digits_value 10 (without_leading_plus t)) number ∙ sym other.value in
+    let same : of words.who words.address words.command words.payload words.preambles
+    ≡ of others.who others.address others.command others.payload others.preambles = cc in
+    same
   where
     same_text : {given : Option Text} (x y : Text) → given ≡ Some x → given ≡ Some y → x ≡ y
     same_text x y first second = ap (λ o. unwrap_or o x) (sym first ∙ second)
@@ -331,10 +337,10 @@ unfolding clap_on_literals
 sim_alone = record { no_fault = refl; rows = []; named = refl; values = tt }
 
 -- and the words of `encode`, without and with a number of preamble bytes
-abbrev identify : MessageWords
-identify = record { who = codes "P"; address = codes "@0"; command = codes "0"; payload = [] }
+abbrev identify : ℕ → MessageWords
+identify preambles = record { who = codes "P"; address = codes "@0"; command = codes "0"; payload = []; preambles = preambles }
 
-pub encode_alone : Calls (Encode identify 5) (codes "encode" ∷ codes "P" ∷ codes "@0" ∷ codes "0" ∷ [])
+pub encode_alone : Calls (Encode (identify 5)) (codes "encode" ∷ codes "P" ∷ codes "@0" ∷ codes "0" ∷ [])
 unfolding clap_on_literals
 encode_alone = record {
   no_fault = refl;
@@ -353,7 +359,7 @@ encode_alone = record {
   };
 }
 
-pub encode_with_20 : Calls (Encode identify 20)
+pub encode_with_20 : Calls (Encode (identify 20))
     (codes "encode" ∷ codes "P" ∷ codes "@0" ∷ codes "0" ∷ codes "--preambles" ∷ codes "20" ∷ [])
 unfolding clap_on_literals
 encode_with_20 = record {

@@ -1,10 +1,11 @@
--- Four words have one text at most.
+-- Words have one text at most.
 use Rattle.std.proofs.Common.{◌≡◌, ℕ, Bool, List, sym, ◌∙◌}
 use Rattle.hart_values.specs.declared.address.Address.{Address}
 use Rattle.hart_values.specs.declared.master_id.MasterId.{MasterId}
 use Rattle.hart_frame.specs.declared.kind.FrameKind.{FrameKind}
 use Rattle.hart_frame.specs.FrameParts.{FrameParts}
-use Rattle.hart_cli.specs.Encode.{IsEncoding, IsRequestOf, MessageWords}
+use Rattle.hart_cli.specs.Encode.{IsEncoding, IsRequestOf}
+use Rattle.hart_cli.specs.MessageWords.{MessageWords}
 use Rattle.hart_line.specs.Words.{IsAddressWord, IsCommandWord, IsDataWord, IsWho}
 use Rattle.hart_cli.proofs.MessageLineLemmas.{IsMessageLine-one, OneBody}
 
@@ -31,8 +32,7 @@ IsRequestOf-one one words f g p q =
     ≡ of g.kind g.master g.burst g.address g.expansion g.command g.payload = cc in
     same
 
--- four words have one text
-pub IsEncoding-one : OneValue → OneBody → (words : MessageWords) (preambles : ℕ) (xs ys : List ℕ) → IsEncoding words preambles xs
-    → IsEncoding words preambles ys → xs ≡ ys
-IsEncoding-one one law words preambles xs ys p q =
-    IsMessageLine-one law p.frame q.frame preambles xs ys (IsRequestOf-one one words p.frame q.frame p.request q.request) p.line q.line
+-- words have one text
+pub IsEncoding-one : OneValue → OneBody → (words : MessageWords) (xs ys : List ℕ) → IsEncoding words xs → IsEncoding words ys → xs ≡ ys
+IsEncoding-one one law words xs ys p q =
+    IsMessageLine-one law p.frame q.frame words.preambles xs ys (IsRequestOf-one one words p.frame q.frame p.request q.request) p.line q.line

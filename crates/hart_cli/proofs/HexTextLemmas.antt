@@ -1,10 +1,10 @@
 -- Upper case hex, and one more byte in a line of it.
 use Rattle.std.proofs.Common.{◌≡◌, ℕ, zero, suc, ◌<◌, ◌≤◌, ◌+◌, ◌/◌, ◌%◌, List, [], ◌∷◌, ◌++◌, length, take, map, get_or, refl, sym, ap}
-use Rattle.std.proofs.Common.{ap₂, ◌∙◌, append_assoc, arith}
+use Rattle.std.proofs.Common.{ap₂, ◌∙◌, append_assoc, arith, slice_index}
 use Rattle.std.proofs.Math.ListN.{get_or-map}
 use Rattle.std.specs.Char.{to_ascii_uppercase}
 use Rattle.std.specs.List.{join_with_byte}
-use Rattle.std.proofs.lemmas.List.{map_more}
+use Rattle.std.proofs.lemmas.List.{append-nil, map_more, take_more}
 use Rattle.hart_cli.specs.HexText.{hex_items}
 use Rattle.hex.specs.Hex.{encode_lower, encode_upper, encode_with, lower_digits, upper_digits}
 
@@ -45,3 +45,23 @@ hex_items-more (x ∷ xs) line digits (suc i) d z h e f =
     ∙ ap (λ (us : List ℕ). hex_items (x ∷ take i xs) ++ 32 ∷ us) f
     ∙ sym (join_with_byte-push 32 (encode_upper (x ∷ [])) parts (encode_upper (get_or xs i d ∷ [])))
     ∙ sym (ap (λ (ps : List (List ℕ)). join_with_byte 32 ps) (map_more (λ (byte : ℕ). encode_upper (byte ∷ [])) (x ∷ xs) (suc i) d h))
+
+-- the digits of bytes and of more bytes
+encode_upper-append : (bytes more : List ℕ) → encode_upper (bytes ++ more) ≡ encode_upper bytes ++ encode_upper more
+unfolding encode_with
+encode_upper-append [] more = refl
+encode_upper-append (byte ∷ bytes) more =
+    ap (λ (digits : List ℕ). slice_index upper_digits (byte / 16) ∷ slice_index upper_digits (byte % 16) ∷ digits)
+    (encode_upper-append bytes more)
+
+-- at first there are none
+pub encode_upper-none : (line : List ℕ) → line ≡ line ++ encode_upper []
+unfolding encode_with
+encode_upper-none line = sym (append-nil line)
+
+-- the digits of one byte more
+pub encode_upper-more : (before bytes line digits : List ℕ) (i d : ℕ) → i < length bytes → line ≡ before ++ encode_upper (take i bytes)
+    → digits ≡ encode_upper (get_or bytes i d ∷ []) → line ++ digits ≡ before ++ encode_upper (take (i + 1) bytes)
+encode_upper-more before bytes line digits i d below is_line is_digits =
+    rw (is_line, is_digits, take_more bytes i d below, encode_upper-append (take i bytes) (get_or bytes i d ∷ []))
+    (append_assoc before (encode_upper (take i bytes)) (encode_upper (get_or bytes i d ∷ [])))

@@ -1,12 +1,12 @@
 -- What the words after the program's name ask for, as clap reads them (own profile).
-use Rattle.std.specs.Prelude.{◌≡◌, ◌≤◌, [], ◌∷◌, ℕ, List, Some, true, codes, is_some, pos, unwrap_or}
+use Rattle.std.specs.Prelude.{◌≡◌, ◌≤◌, [], ◌∷◌, List, Some, true, codes, is_some, pos, unwrap_or}
 use Rattle.std.specs.Str.Parse.{IsNumeral, digits_value, without_leading_plus}
 use Rattle.clap.specs.Words.{App, Row, Rule, Text, fault_of, first_of, new_app, new_rule, one_of, subcommand_of, with_rule, with_subcommand}
 use Rattle.clap.specs.declared.builder.value_parser.ValueParser.TheVariants.{Signed}
 use Rattle.hart_frame.specs.Message.{IsPreambleCount}
-use Rattle.hart_cli.specs.Encode.{MessageWords}
-use Rattle.hart_cli.specs.declared.program.command_line.RequestedCall.{RequestedCall}
-use Rattle.hart_cli.specs.declared.program.command_line.RequestedCall.TheVariants as requested
+use Rattle.hart_cli.specs.MessageWords.{MessageWords}
+use Rattle.hart_cli.specs.declared.program.command_line.Call.{Call}
+use Rattle.hart_cli.specs.declared.program.command_line.Call.TheVariants.{Answer, Dump, Encode, Sim}
 
 -- The rule of a required word has its name, and the word has to be there.
 abbrev pub required_rule : Text → Rule
@@ -46,23 +46,16 @@ hart_app =
     let sim = with_subcommand dump (new_app (codes "sim")).top in
     with_subcommand sim encode_app.top
 
--- The program has four calls, of which that of `encode` has the words of a message and the number of preamble bytes.
-pub data Call : Type 0 where
-  Answer : Call
-  Dump : Call
-  Sim : Call
-  Encode : (words : MessageWords) → (preambles : ℕ) → Call
-
 -- Each call has a subcommand of its own.
 abbrev pub name_of : Call → Text
 name_of Answer = codes "answer"
 name_of Dump = codes "dump"
 name_of Sim = codes "sim"
-name_of (Encode words preambles) = codes "encode"
+name_of (Encode words) = codes "encode"
 
--- The matches of `encode` have these words, an absent DATA being empty, and this number of preamble bytes: from 5 to 20, in
+-- The matches of `encode` have these words, an absent DATA being empty, and their number of preamble bytes: from 5 to 20, in
 -- decimal digits, after a plus sign at most.
-pub record GivesWords (rows : List Row) (words : MessageWords) (preambles : ℕ) : Type 0 where
+pub record GivesWords (rows : List Row) (words : MessageWords) : Type 0 where
   pub who : first_of (codes "WHO") rows ≡ Some words.who
   pub address : first_of (codes "ADDRESS") rows ≡ Some words.address
   pub command : first_of (codes "COMMAND") rows ≡ Some words.command
@@ -70,15 +63,15 @@ pub record GivesWords (rows : List Row) (words : MessageWords) (preambles : ℕ)
   pub number : Text
   pub given : first_of (codes "preambles") rows ≡ Some number
   pub digits : IsNumeral 10 (without_leading_plus number)
-  pub value : preambles ≡ digits_value 10 (without_leading_plus number)
-  pub count : IsPreambleCount preambles
+  pub value : words.preambles ≡ digits_value 10 (without_leading_plus number)
+  pub count : IsPreambleCount words.preambles
 
--- The matches of the subcommand `encode` give the words and the number of the call; those of the others have nothing to give.
+-- The matches of the subcommand `encode` give the words of the call; those of the others have nothing to give.
 abbrev pub GivesValues : Call → List Row → Type 0
 GivesValues Answer rows = Unit {0}
 GivesValues Dump rows = Unit {0}
 GivesValues Sim rows = Unit {0}
-GivesValues (Encode words preambles) rows = GivesWords rows words preambles
+GivesValues (Encode words) rows = GivesWords rows words
 
 -- The words make a call where clap finds no fault in them, they name its subcommand, and the matches of this give the call's
 -- values.
@@ -88,15 +81,7 @@ pub record Calls (call : Call) (words : List Text) : Type 0 where
   pub named : subcommand_of hart_app words ≡ Some (name_of call, rows)
   pub values : GivesValues call rows
 
--- For private calls alone: what the code has of a call, and what it knows of the matches.
-
--- What the code has of a requested call means this call.
-abbrev pub call_of : RequestedCall → Call
-call_of requested.Answer = Answer
-call_of requested.Dump = Dump
-call_of requested.Sim = Sim
-call_of (requested.Encode w) =
-    Encode (record { who = w.who.now; address = w.address.now; command = w.command.now; payload = w.payload.now }) w.preambles
+-- For private calls alone: what the code knows of the matches.
 
 -- The matches of `encode` have its three words, and a number of preamble bytes that clap let pass and reads as it is written.
 pub record HasWords (rows : List Row) : Type 0 where

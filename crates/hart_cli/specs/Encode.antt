@@ -7,15 +7,9 @@ use Rattle.hart_frame.specs.FrameParts.{FrameParts}
 use Rattle.hart_cli.specs.declared.fault.CliFault.{CliFault}
 use Rattle.hart_cli.specs.declared.fault.CliFault.TheVariants.{BadWord, Write}
 use Rattle.hart_cli.specs.MessageLine.{IsMessageLine}
+use Rattle.hart_cli.specs.MessageWords.{MessageWords}
 use Rattle.hart_cli.specs.Stream.{FailsToWrite, Stream, WritesAll, WritesNothing}
 use Rattle.hart_line.specs.Words.{IsAddressWord, IsCommandWord, IsDataWord, HasNoValue, IsWho}
-
--- A message to send is told by four words.
-pub record MessageWords : Type 0 where
-  pub who : List ℕ
-  pub address : List ℕ
-  pub command : List ℕ
-  pub payload : List ℕ
 
 -- The request of four words has what each of them writes, and is an STX with burst bit 0 and no expansion bytes.
 pub record IsRequestOf (words : MessageWords) (frame : FrameParts) : Type 0 where
@@ -27,11 +21,11 @@ pub record IsRequestOf (words : MessageWords) (frame : FrameParts) : Type 0 wher
   pub burst : frame.burst ≡ false
   pub expansion : frame.expansion ≡ []
 
--- The text of four words is the line of their request's message, with so many preamble bytes.
-pub record IsEncoding (words : MessageWords) (preambles : ℕ) (text : List ℕ) : Type 0 where
+-- The text of the words is the line of their request's message, with their number of preamble bytes.
+pub record IsEncoding (words : MessageWords) (text : List ℕ) : Type 0 where
   pub frame : FrameParts
   pub request : IsRequestOf words frame
-  pub line : IsMessageLine frame preambles text
+  pub line : IsMessageLine frame words.preambles text
 
 -- The first bad word, which writes no value, has this number: 1 is WHO, 2 ADDRESS, 3 COMMAND and 4 DATA.
 pub data IsFirstBad (words : MessageWords) : ℕ → Type 0 where
@@ -45,14 +39,14 @@ pub data IsFirstBad (words : MessageWords) : ℕ → Type 0 where
 
 -- A call of `encode_text` wrote the text of its words at `Ok`, a front of it where a write failed, and nothing where it told
 -- the first bad word.
-abbrev pub EncodeOutcome : MessageWords → ℕ → Stream → Stream → Result (Unit {0}) CliFault → Type 0
-EncodeOutcome words preambles writer writer_after (Ok done) =
-    (text : List ℕ) × IsEncoding words preambles text × WritesAll writer writer_after text
-EncodeOutcome words preambles writer writer_after (Err Write) =
-    (text : List ℕ) × IsEncoding words preambles text × FailsToWrite writer writer_after text
-EncodeOutcome words preambles writer writer_after (Err (BadWord number)) =
+abbrev pub EncodeOutcome : MessageWords → Stream → Stream → Result (Unit {0}) CliFault → Type 0
+EncodeOutcome words writer writer_after (Ok done) =
+    (text : List ℕ) × IsEncoding words text × WritesAll writer writer_after text
+EncodeOutcome words writer writer_after (Err Write) =
+    (text : List ℕ) × IsEncoding words text × FailsToWrite writer writer_after text
+EncodeOutcome words writer writer_after (Err (BadWord number)) =
     IsFirstBad words number × WritesNothing writer writer_after
-EncodeOutcome words preambles writer writer_after (Err _) = ⊥
+EncodeOutcome words writer writer_after (Err _) = ⊥
 
 -- For private calls alone: what reading the words answers.
 

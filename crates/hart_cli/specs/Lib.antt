@@ -6,6 +6,7 @@ pub mod Items
 pub mod Hearing
 pub mod HexText
 pub mod MessageLine
+pub mod MessageWords
 pub mod Answer
 pub mod Line
 pub mod DumpText

@@ -2,13 +2,15 @@
 use Rattle.std.specs.Prelude.{◌≡◌, ℕ, IfErr, List, Result, Ok, Err}
 use Rattle.clap.specs.Words.{Text}
 use Rattle.hart_cli.specs.Answer.{AnswerOutcome}
-use Rattle.hart_cli.specs.CommandLine.{Answer, Call, Calls, Dump, Encode, Sim}
+use Rattle.hart_cli.specs.CommandLine.{Calls}
 use Rattle.hart_cli.specs.Dump.{DumpOutcome}
 use Rattle.hart_cli.specs.Encode.{EncodeOutcome}
 use Rattle.hart_cli.specs.FaultText.{fault_line}
 use Rattle.hart_cli.specs.Sim.{SimOutcome}
 use Rattle.hart_cli.specs.Stream.{Stream, WritesUnlessFailed}
 use Rattle.hart_cli.specs.declared.fault.CliFault.{CliFault}
+use Rattle.hart_cli.specs.declared.program.command_line.Call.{Call}
+use Rattle.hart_cli.specs.declared.program.command_line.Call.TheVariants.{Answer, Dump, Encode, Sim}
 
 -- A call with this result had the outcome of its own kind on the reader and the writer; that of `encode` leaves the reader.
 abbrev pub CallOutcome : Call → Stream → Stream → Stream → Stream → Result (Unit {0}) CliFault → Type 0
@@ -18,8 +20,8 @@ CallOutcome Dump reader reader_after writer writer_after result =
     DumpOutcome reader reader_after writer writer_after result
 CallOutcome Sim reader reader_after writer writer_after result =
     SimOutcome reader reader_after writer writer_after result
-CallOutcome (Encode words preambles) reader reader_after writer writer_after result =
-    (reader_after ≡ reader) × EncodeOutcome words preambles writer writer_after result
+CallOutcome (Encode words) reader reader_after writer writer_after result =
+    (reader_after ≡ reader) × EncodeOutcome words writer writer_after result
 
 -- The status is 0 after a call that did its work, and 1 after a fault.
 abbrev pub status_of : Result (Unit {0}) CliFault → ℕ

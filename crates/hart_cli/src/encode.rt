@@ -1,8 +1,8 @@
 //! `hart encode`: a message to send.
-
 ghost use Rattle.std.specs.Prelude.{◌≡◌, ℕ, List};
 ghost use Rattle.hart_frame.specs.Message.{IsPreambleCount};
-ghost use Rattle.hart_cli.specs.Encode.{EncodeOutcome, IsEncoding, MessageWords, RequestOutcome};
+ghost use Rattle.hart_cli.specs.Encode.{EncodeOutcome, IsEncoding, RequestOutcome};
+ghost use Rattle.hart_cli.specs.MessageWords.{MessageWords};
 
 use crate::fault::CliFault;
 use crate::output::{message_line, write_all};
@@ -10,6 +10,36 @@ use crate::stream::Sink;
 use hart_frame::{Frame, bodies_are_told_apart};
 use hart_line::{read_address, read_command, read_data, read_who, words_have_one_value};
 use std::alloc::Global;
+use std::marker::Model;
+
+/// What `hart encode` was given: the words of a message, as they were written, and its number of preamble bytes.
+#[derive(Drop)]
+pub struct EncodeWords<'a> {
+    /// WHO, the master that asks.
+    pub who: &'a str,
+    /// ADDRESS, the device that is asked.
+    pub address: &'a str,
+    /// COMMAND, the number of the command.
+    pub command: &'a str,
+    /// DATA, empty if it is absent.
+    pub payload: &'a str,
+    /// How many preamble bytes the message begins with, from 5 to 20.
+    pub preambles: u8,
+}
+
+impl<'a> Model for EncodeWords<'a> {
+    ghost use Rattle.hart_cli.specs.MessageWords.{MessageWords};
+
+    ghost Value = { MessageWords };
+
+    ghost view = { λ words. record {
+      who = words.who.now;
+      address = words.address.now;
+      command = words.command.now;
+      payload = words.payload.now;
+      preambles = words.preambles;
+    } };
+}
 
 /// Writes the request that four words write, with so many preamble bytes, as one line of hex.
 ///
@@ -31,46 +61,69 @@ pub fn encode_text<W: Sink>(
 ) -> Result<(), CliFault>
     requires { IsPreambleCount preambles }
     ensures { EncodeOutcome
-        (record { who = who.now; address = address.now; command = command.now; payload = payload.now })
-        preambles
+        (record {
+          who = who.now;
+          address = address.now;
+          command = command.now;
+          payload = payload.now;
+          preambles = preambles;
+        })
         (W.stream writer.old) (W.stream writer.new)
         result }
 {
-    let request = read_request(who, address, command, payload)?;
-    write_all(writer, message_line(&request, preambles).as_slice())?;
+    let words = EncodeWords {
+        who,
+        address,
+        command,
+        payload,
+        preambles,
+    };
+    write_request(&words, writer)
+}
+
+/// Writes the request that the words write, as [`encode_text`] does.
+///
+/// # Errors
+///
+/// Those of [`encode_text`].
+pub fn write_request<W: Sink>(words: &EncodeWords<'_>, writer: &mut W) -> Result<(), CliFault>
+    requires { IsPreambleCount words.now.preambles }
+    ensures { EncodeOutcome words.now
+        (W.stream writer.old) (W.stream writer.new)
+        result }
+{
+    let request = read_request(words)?;
+    write_all(writer, message_line(&request, words.preambles).as_slice())?;
     Ok(())
 }
 
-/// Four words have one text at most, so that what `encode_text` writes is determined by them.
+/// Words have one text at most, so that what `encode_text` writes is determined by them.
 pub fn one_encoding()
-    ensures { (words : MessageWords) (preambles : ℕ) (xs ys : List ℕ)
-        → IsEncoding words preambles xs → IsEncoding words preambles ys → xs ≡ ys }
+    ensures { (words : MessageWords) (xs ys : List ℕ) → IsEncoding words xs → IsEncoding words ys → xs ≡ ys }
 {
     // They do nothing when they run: the laws of words and of bodies are what this one rests on.
     words_have_one_value();
     bodies_are_told_apart();
 }
 
-/// The request that four words write.
+/// The request that the words write.
 ///
 /// # Errors
 ///
 /// [`CliFault::BadWord`] with the number of the first bad word.
-fn read_request(who: &str, address: &str, command: &str, payload: &str) -> Result<Frame, CliFault>
-    ensures { RequestOutcome
-        (record { who = who.now; address = address.now; command = command.now; payload = payload.now })
-        result }
+fn read_request(words: &EncodeWords<'_>) -> Result<Frame, CliFault>
+    ensures { RequestOutcome words.now result }
 {
-    let Some(master) = read_who(who.as_bytes()) else {
+    let Some(master) = read_who(words.who.as_bytes()) else {
         return Err(CliFault::BadWord { number: 1 });
     };
-    let Some(address) = read_address(address.as_bytes()) else {
+    let Some(address) = read_address(words.address.as_bytes()) else {
         return Err(CliFault::BadWord { number: 2 });
     };
-    let Some(command) = read_command(command.as_bytes()) else {
+    let Some(command) = read_command(words.command.as_bytes()) else {
         return Err(CliFault::BadWord { number: 3 });
     };
-    let Some(payload) = read_data(payload.as_bytes()) else {
+    let Some(payload) = read_data(words.payload.as_bytes()) else {
         return Err(CliFault::BadWord { number: 4 });
     };
     Ok(Frame::request(master, address, command, payload))

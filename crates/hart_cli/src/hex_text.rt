@@ -1,6 +1,6 @@
 //! Bytes as hex text, in buffers of a fixed size.
 
-ghost use Rattle.std.specs.Prelude.{◌≡◌, ◌+◌, ◌*◌, ◌≤◌, ◌++◌, length};
+ghost use Rattle.std.specs.Prelude.{◌≡◌, ◌+◌, ◌*◌, ◌≤◌, ◌∷◌, [], ◌++◌, length};
 ghost use Rattle.hex.specs.Hex.{encode_upper};
 ghost use Rattle.hart_cli.specs.HexText.{hex_line};
 
@@ -11,16 +11,23 @@ pub type HexLine = ByteList<861>;
 
 /// Adds the bytes in upper case hex, two digits for each.
 pub fn push_hex<const N: usize>(line: &mut ByteList<N>, bytes: &[u8])
-    requires few { length bytes.now ≤ 267 }
-    requires room { length line.old + 2 * length bytes.now ≤ N }
+    requires { length line.old + 2 * length bytes.now ≤ N }
     ensures hex { line.new ≡ line.old ++ encode_upper bytes.now }
     ensures len { length line.new ≡ length line.old + 2 * length bytes.now }
 {
-    let mut room = [0; 534];
-    let digits = &mut room[..2 * bytes.len()];
-    hex::encode_to_slice(bytes, digits).unwrap();
+    for byte in bytes {
+        line.extend_from_slice(&digits_of(*byte));
+    }
+}
+
+/// The two digits of a byte in upper case hex.
+fn digits_of(byte: u8) -> [u8; 2]
+    ensures { result ≡ encode_upper (byte ∷ []) }
+{
+    let mut digits = [0; 2];
+    hex::encode_to_slice([byte], &mut digits).unwrap();
     digits.make_ascii_uppercase();
-    line.extend_from_slice(digits);
+    digits
 }
 
 /// The bytes in upper case hex as one line.
@@ -33,7 +40,7 @@ pub fn hex_line(bytes: &[u8]) -> HexLine
         if index > 0 {
             line.push(b' ');
         }
-        push_hex(&mut line, &[*byte]);
+        line.extend_from_slice(&digits_of(*byte));
     }
     line.push(b'\n');
     line

@@ -22,8 +22,7 @@ pub fn push_word(line: &mut Line, word: &str)
 
 /// Adds the word of some bytes.
 pub fn push_bytes(line: &mut Line, bytes: &[u8])
-    requires few { length bytes.now ≤ 255 }
-    requires room { length line.old + 2 * length bytes.now < 583 }
+    requires { length line.old + 2 * length bytes.now < 583 }
     ensures word { line.new ≡ line.old ++ bytes_word bytes.now }
     ensures len { length line.new ≤ length line.old + max 1 (2 * length bytes.now) }
 {

@@ -9,12 +9,12 @@ mod command_line;
 
 use crate::answer::answer;
 use crate::dump::dump;
-use crate::encode::encode_text;
+use crate::encode::write_request;
 use crate::fault::CliFault;
 use crate::output::write_all;
 use crate::sim::simulate;
 use crate::stream::{Sink, Source};
-use command_line::{EncodeWords, RequestedCall, requested_call};
+use command_line::{Call, requested_call};
 use std::alloc::Global;
 use std::fmt;
 use std::fmt::Write;
@@ -51,20 +51,10 @@ pub fn program<R: Source, W: Sink, E: Sink>(
     ensures quiet { result ≡ 0 → errors.new ≡ errors.old }
 {
     match requested_call(alloc, words) {
-        Ok(RequestedCall::Answer) => finish(answer(alloc, reader, writer), errors),
-        Ok(RequestedCall::Dump) => finish(dump(alloc, reader, writer), errors),
-        Ok(RequestedCall::Sim) => finish(simulate(alloc, reader, writer), errors),
-        Ok(RequestedCall::Encode(words)) => {
-            let EncodeWords {
-                who,
-                address,
-                command,
-                payload,
-                preambles,
-            } = words;
-            let outcome = encode_text(alloc, who, address, command, payload, preambles, writer);
-            finish(outcome, errors)
-        }
+        Ok(Call::Answer) => finish(answer(alloc, reader, writer), errors),
+        Ok(Call::Dump) => finish(dump(alloc, reader, writer), errors),
+        Ok(Call::Sim) => finish(simulate(alloc, reader, writer), errors),
+        Ok(Call::Encode(words)) => finish(write_request(&words, writer), errors),
         Err(error) => {
             show(&error, errors);
             NO_CALL

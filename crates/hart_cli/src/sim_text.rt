@@ -31,8 +31,11 @@ pub fn sim_text<S: RegisterStore>(alloc: Global, report: &Report<S>) -> Result<V
     let mut text = Vec::new(alloc);
     push_spoken(&mut text, report.spoken.as_slice())?;
     push_outcomes(&mut text, report.outcomes.as_slice())?;
-    text.extend_from_slice(counter_line(&report.device).as_slice())?;
-    text.extend_from_slice(image_line(&report.device).as_slice())?;
+    let mut line = Line::new();
+    make_counter_line(&mut line, &report.device);
+    text.extend_from_slice(line.as_slice())?;
+    make_image_line(&mut line, &report.device);
+    text.extend_from_slice(line.as_slice())?;
     Ok(text)
 }
 
@@ -40,8 +43,10 @@ pub fn sim_text<S: RegisterStore>(alloc: Global, report: &Report<S>) -> Result<V
 fn push_spoken(text: &mut Vec<u8>, messages: &[Spoken]) -> Result<(), AllocError>
     ensures { OnOk result (text.new.items ≡ text.old.items ++ flat_map spoken_line messages.now) }
 {
+    let mut line = Line::new();
     for message in messages {
-        text.extend_from_slice(spoken_line(message).as_slice())?;
+        make_spoken_line(&mut line, message);
+        text.extend_from_slice(line.as_slice())?;
     }
     Ok(())
 }
@@ -50,22 +55,23 @@ fn push_spoken(text: &mut Vec<u8>, messages: &[Spoken]) -> Result<(), AllocError
 fn push_outcomes(text: &mut Vec<u8>, outcomes: &[Outcome]) -> Result<(), AllocError>
     ensures { OnOk result (text.new.items ≡ text.old.items ++ flat_map outcome_line (enumerate_from 1 outcomes.now)) }
 {
+    let mut line = Line::new();
     for (index, outcome) in outcomes.iter().enumerate() {
-        text.extend_from_slice(outcome_line(index + 1, outcome).as_slice())?;
+        make_outcome_line(&mut line, index + 1, outcome);
+        text.extend_from_slice(line.as_slice())?;
     }
     Ok(())
 }
 
-/// The line of a message that was spoken.
-fn spoken_line(message: &Spoken) -> Line
-    ensures { result ≡ spoken_line message.now }
+/// Makes a line, whatever it holds, that of a message that was spoken.
+fn make_spoken_line(line: &mut Line, message: &Spoken)
+    ensures { line.new ≡ spoken_line message.now }
 {
-    let mut line = Line::new();
-    push_word(&mut line, party_word(message.party));
-    push_word(&mut line, Buffer::new().format(message.preambles));
-    push_hex(&mut line, message.bytes.as_slice());
+    line.clear();
+    push_word(line, party_word(message.party));
+    push_word(line, Buffer::new().format(message.preambles));
+    push_hex(line, message.bytes.as_slice());
     line.push(b'\n');
-    line
 }
 
 /// The word of a party.
@@ -80,15 +86,14 @@ fn party_word(party: Party) -> &'static str
     }
 }
 
-/// The line of the submission with this number.
-fn outcome_line(number: usize, outcome: &Outcome) -> Line
-    ensures { result ≡ outcome_line (number, outcome.now) }
+/// Makes a line that of the submission with this number.
+fn make_outcome_line(line: &mut Line, number: usize, outcome: &Outcome)
+    ensures { line.new ≡ outcome_line (number, outcome.now) }
 {
-    let mut line = Line::new();
-    push_word(&mut line, Buffer::new().format(number));
-    push_outcome(&mut line, outcome);
+    line.clear();
+    push_word(line, Buffer::new().format(number));
+    push_outcome(line, outcome);
     line.push(b'\n');
-    line
 }
 
 /// Adds the words of what became of a submission, to a line that has at most its number, of 20 digits, and a space.
@@ -143,24 +148,22 @@ fn master_fault_number(fault: MasterFault) -> u8
     }
 }
 
-/// The line of the counter.
-fn counter_line<S: RegisterStore>(device: &Device<S>) -> Line
-    ensures { result ≡ counter_line device.now }
+/// Makes a line that of the counter.
+fn make_counter_line<S: RegisterStore>(line: &mut Line, device: &Device<S>)
+    ensures { line.new ≡ counter_line device.now }
 {
-    let mut line = Line::new();
-    push_word(&mut line, "counter");
+    line.clear();
+    push_word(line, "counter");
     line.extend_from_slice(Buffer::new().format(device.counter()).as_bytes());
     line.push(b'\n');
-    line
 }
 
-/// The line of the image.
-fn image_line<S: RegisterStore>(device: &Device<S>) -> Line
-    ensures { result ≡ image_line device.now }
+/// Makes a line that of the image.
+fn make_image_line<S: RegisterStore>(line: &mut Line, device: &Device<S>)
+    ensures { line.new ≡ image_line device.now }
 {
-    let mut line = Line::new();
-    push_word(&mut line, "image");
-    push_hex(&mut line, image_of(device).as_slice());
+    line.clear();
+    push_word(line, "image");
+    push_hex(line, image_of(device).as_slice());
     line.push(b'\n');
-    line
 }

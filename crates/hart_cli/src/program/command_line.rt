@@ -2,10 +2,12 @@
 
 ghost use Rattle.std.specs.Prelude.{◌≡◌, ◌∷◌, [], ℕ, IfErr, IfOk, List, codes, false, map, string_bytes};
 ghost use Rattle.clap.specs.Words.{HasKind, app_of, fault_of, found_of, new_app, rows_of, rule_of};
-ghost use Rattle.hart_cli.specs.CommandLine.{Answer, Call, Calls, Dump, Encode, GivesWords, HasWords, Sim};
-ghost use Rattle.hart_cli.specs.CommandLine.{call_of, encode_app, hart_app, preambles_rule, required_rule};
-ghost use Rattle.hart_cli.specs.Encode.{MessageWords};
+ghost use Rattle.hart_cli.specs.CommandLine.{Calls, GivesWords, HasWords, encode_app, hart_app, preambles_rule, required_rule};
+ghost use Rattle.hart_cli.specs.MessageWords.{MessageWords};
+ghost use Rattle.hart_cli.specs.declared.program.command_line.Call.{Call};
+ghost use Rattle.hart_cli.specs.declared.program.command_line.Call.TheVariants.{Answer, Dump, Encode, Sim};
 
+use crate::encode::EncodeWords;
 use clap::{Arg, ArgMatches, Command, value_parser};
 use hart_frame::{LEAST_PREAMBLES, MOST_PREAMBLES};
 use std::alloc::{AllocError, Global};
@@ -186,10 +188,10 @@ pub fn words_are_calls()
     ensures dump { Calls Dump (codes "dump" ∷ []) }
     ensures sim { Calls Sim (codes "sim" ∷ []) }
     ensures encode { Calls
-        (Encode (record { who = codes "P"; address = codes "@0"; command = codes "0"; payload = [] }) 5)
+        (Encode (record { who = codes "P"; address = codes "@0"; command = codes "0"; payload = []; preambles = 5 }))
         (codes "encode" ∷ codes "P" ∷ codes "@0" ∷ codes "0" ∷ []) }
     ensures preambles { Calls
-        (Encode (record { who = codes "P"; address = codes "@0"; command = codes "0"; payload = [] }) 20)
+        (Encode (record { who = codes "P"; address = codes "@0"; command = codes "0"; payload = []; preambles = 20 }))
         (codes "encode" ∷ codes "P" ∷ codes "@0" ∷ codes "0" ∷ codes "--preambles" ∷ codes "20" ∷ []) }
 {}
 
@@ -199,8 +201,8 @@ pub fn one_call()
 {}
 
 /// The calls that a command line can make.
-#[derive(Clone, Copy)]
-pub enum RequestedCall<'a> {
+#[derive(Drop)]
+pub enum Call<'a> {
     /// `hart answer`.
     Answer,
     /// `hart dump`.
@@ -211,31 +213,13 @@ pub enum RequestedCall<'a> {
     Encode(EncodeWords<'a>),
 }
 
-/// What `hart encode` was given: the words of a message, as they were written, and its number of preamble bytes.
-#[derive(Clone, Copy)]
-pub struct EncodeWords<'a> {
-    /// WHO, the master that asks.
-    pub who: &'a str,
-    /// ADDRESS, the device that is asked.
-    pub address: &'a str,
-    /// COMMAND, the number of the command.
-    pub command: &'a str,
-    /// DATA, empty where it is absent.
-    pub payload: &'a str,
-    /// How many preamble bytes stand in front of the message, from 5 to 20.
-    pub preambles: u8,
-}
-
 /// The call that the words make.
 ///
 /// # Errors
 ///
 /// What clap tells where it finds no matches for them, help among it, or where memory is refused.
-pub fn requested_call<'a>(
-    alloc: Global,
-    words: &'a [String],
-) -> Result<RequestedCall<'a>, clap::Error>
-    ensures call { IfOk result (λ call. Calls (call_of call) (map string_bytes words.entry.now)) }
+pub fn requested_call<'a>(alloc: Global, words: &'a [String]) -> Result<Call<'a>, clap::Error>
+    ensures call { IfOk result (λ call. Calls call (map string_bytes words.entry.now)) }
     ensures refused { IfErr result (HasKind (fault_of hart_app (map string_bytes words.entry.now))) }
 {
     let matches = hart_command(alloc)?.try_get_matches_from(words)?;
@@ -243,10 +227,10 @@ pub fn requested_call<'a>(
         unreachable!();
     };
     match name {
-        "answer" => Ok(RequestedCall::Answer),
-        "dump" => Ok(RequestedCall::Dump),
-        "sim" => Ok(RequestedCall::Sim),
-        "encode" => Ok(RequestedCall::Encode(encode_words(given))),
+        "answer" => Ok(Call::Answer),
+        "dump" => Ok(Call::Dump),
+        "sim" => Ok(Call::Sim),
+        "encode" => Ok(Call::Encode(encode_words(given))),
         _ => unreachable!(),
     }
 }
@@ -254,13 +238,7 @@ pub fn requested_call<'a>(
 /// The words of `hart encode`, which clap let pass.
 fn encode_words<'a>(given: &ArgMatches<'a>) -> EncodeWords<'a>
     requires { HasWords (rows_of (found_of given.now)) }
-    ensures { GivesWords (rows_of (found_of given.now))
-        (record {
-          who = result.who.now;
-          address = result.address.now;
-          command = result.command.now;
-          payload = result.payload.now;
-        }) result.preambles }
+    ensures { GivesWords (rows_of (found_of given.now)) result }
 {
     EncodeWords {
         who: given.get_str("WHO").unwrap(),
@@ -326,7 +304,7 @@ fn required_word<'a>(alloc: Global, id: &'a str, help: &'a str) -> Arg<'a>
     Arg::new(alloc, id).required(true).help(help)
 }
 
-/// How many preamble bytes stand in front of a message.
+/// How many preamble bytes a message begins with.
 fn preambles_option<'a>(alloc: Global) -> Arg<'a>
     ensures rule { rule_of result ≡ preambles_rule }
     ensures local { result.global ≡ false }

@@ -1,11 +1,18 @@
-use Rattle.std.proofs.Common.{◌++◌, List, ℕ, ap, ◌∙◌, map}
-use Rattle.std.specs.Char.{to_ascii_uppercase}
-use Rattle.hart_cli.proofs.HexTextLemmas.{upper-encode_lower}
+use Rattle.std.proofs.Common.{arith, length, length-append, ap, ◌∙◌}
+use Rattle.hart_cli.proofs.HexTextLemmas.{encode_upper-more, encode_upper-none}
 use Rattle.hart_cli.proofs.hex_text.push_hex.Goals as goal
 
-pub returns-clause-hex : goal.returns-clause-hex
-returns-clause-hex g c =
-    let lower = rw c.unwrap.ensures at c.encode_to_slice.ensures.written in
-    let upper = c.make_ascii_uppercase.ensures.after ∙ ap (λ (digits : List ℕ). map to_ascii_uppercase digits) lower
-    ∙ upper-encode_lower c.args.bytes.now in
-    c.extend_from_slice.ensures ∙ ap (λ (digits : List ℕ). c.args.line.now ++ digits) upper
+pub loop-byte-init : goal.loop-byte-init
+loop-byte-init g c = record { written = encode_upper-none c.args.line.now; len = omega arith }
+
+pub loop-byte-preserved : goal.loop-byte-preserved
+loop-byte-preserved g c = record {
+  written = c.extend_from_slice.ensures
+      ∙ encode_upper-more _ _ _ _ c.loop-byte.byte-index 0 c.loop-byte-test.true c.loop-byte.invariant.written c.digits_of.ensures;
+  len = omega (
+    arith,
+    ap length c.extend_from_slice.ensures,
+    length-append c.loop-byte.line c.digits_of.result,
+    c.loop-byte.invariant.len,
+  );
+}

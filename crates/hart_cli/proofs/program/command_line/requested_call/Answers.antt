@@ -1,6 +1,6 @@
 use Rattle.std.proofs.Common.{map, string_bytes}
 use Rattle.std.proofs.lemmas.Result.{err_from_is_err_and}
-use Rattle.hart_cli.specs.CommandLine.{Answer, Dump, Encode, Sim}
+use Rattle.hart_cli.specs.declared.program.command_line.Call.TheVariants.{Answer, Dump, Encode, Sim}
 use Rattle.hart_cli.proofs.CommandLineLemmas.{call_named, encode_entered, meets_call, met_by_words, no_other_entered, tells_fault}
 use Rattle.hart_cli.proofs.program.command_line.requested_call.Goals as goal
 
@@ -39,7 +39,7 @@ pub returns-in-encode-clause-call : goal.returns-in-encode-clause-call
 returns-in-encode-clause-call c =
     let matched = c.in_ok-matches.ensures in
     let meets = meets_call _ (map string_bytes c.args.words.now) _ c.in_ok-hart_command.ensures matched.kinds matched.matches in
-    call_named _ _ (Encode _ _) _ _ meets (met_by_words _ _ _ _ meets c.in-Some.ensures.name c.in-Some.ensures.rows) c.in-encode.is
+    call_named _ _ (Encode _) _ _ meets (met_by_words _ _ _ _ meets c.in-Some.ensures.name c.in-Some.ensures.rows) c.in-encode.is
     c.encode_words.ensures
 
 pub unreachable-requires-in_default-name : goal.unreachable-requires-in_default-name
