@@ -1,9 +1,8 @@
 use Rattle.std.proofs.Common.{arith, ap, refl, ◌<◌, ◌≤◌, inl, inr}
 use Rattle.hart_device.specs.Device.{DeviceState}
-use Rattle.hart_values.specs.declared.master_id.MasterId.TheVariants.{Primary, Secondary}
 use Rattle.hart_line.specs.Promises.{start_of}
-use Rattle.hart_line.proofs.ReachedLemmas.{fault_at, party_placed, party_rests, reached_first, reached_more}
-use Rattle.hart_line.proofs.WholeLemmas.{answered_reached, at_most_reached, of_last, reached_whole, registers_reached}
+use Rattle.hart_line.proofs.ReachedLemmas.{fault_at, reached_first, reached_more, reached_report, reached_whole}
+use Rattle.hart_line.proofs.WholeLemmas.{answered_reached, at_most_reached, of_last, registers_reached}
 use Rattle.hart_line.proofs.WrittenLemmas.{WriteLaws, answered_executed}
 use Rattle.hart_line.proofs.RunLemmas.{Laws}
 use Rattle.hart_line.proofs.ResetLemmas.{refused_last, unseen}
@@ -13,22 +12,8 @@ use Rattle.hart_line.proofs.runs.run.Goals as goal
 pub loop-index-init : goal.loop-index-init
 loop-index-init g c =
     let small : c.args.device.counter < 65536 = rw c.counter-counter.ensures at c.counter-counter.type_inv in
-    let one = c.new-primary.ensures in
-    let other = c.new-secondary.ensures in
-    rw (c.new.ensures, c.new-2.ensures, one.master, one.place, other.master, other.place)
-    (reached_first c.registers_of_lists.ensures.none c.args.device c.args.process.now c.args.primary c.args.secondary small
-    c.requires.primary c.requires.secondary)
-
-pub step-stepped-requires : goal.step-stepped-requires
-step-stepped-requires g c =
-    let reached = c.loop-index.invariant in
-    let stands = reached.stands in
-    record {
-      primary_placed = party_placed Primary _ reached.world _ _ _ stands.primary_is stands.outcomes_are reached.sound;
-      primary_rests = party_rests Primary _ reached.world _ _ stands.primary_is;
-      secondary_placed = party_placed Secondary _ reached.world _ _ _ stands.secondary_is stands.outcomes_are reached.sound;
-      secondary_rests = party_rests Secondary _ reached.world _ _ stands.secondary_is;
-    }
+    rw c.new-line.ensures (reached_first c.registers_of_lists.ensures.none c.args.device c.args.process.now c.args.primary
+    c.args.secondary small c.requires.primary c.requires.secondary)
 
 pub returns-in-Err-clause-fault : goal.returns-in-Err-clause-fault
 returns-in-Err-clause-fault g c =
@@ -54,12 +39,14 @@ pub loop-index-preserved : goal.loop-index-preserved
 loop-index-preserved g c =
     let start = start_of c.args.device c.args.process.now c.args.primary c.args.secondary in
     let reached = c.loop-index.invariant in
-    reached_more start c.args.events.now c.loop-index.index _ _ _ _ _ _ _ _ _ _ _ _ _ _ _ c.loop-index-test.true reached
+    reached_more start c.args.events.now c.loop-index.index _ _ _ c.loop-index-test.true reached
     (rw c.index-events-index.is at (c.in_default.ensures.stepped start reached.world refl reached.sound.marks reached.stands))
 
 pub returns : goal.returns
 returns g c =
-    let reached = reached_whole _ _ _ _ _ _ _ _ _ _ (omega (arith, c.loop-index-test.false)) c.loop-index.invariant in
+    let report = c.into_report.ensures in
+    let reached = reached_report _ _ _ report.device report.outcomes report.spoken
+    (reached_whole _ _ _ _ (omega (arith, c.loop-index-test.false)) c.loop-index.invariant) in
     let one_world = c.scripts_have_one_last_world.ensures.one_world in
     let laws : Laws = record {
       one_body = c.bodies_are_told_apart.ensures.one_body;
