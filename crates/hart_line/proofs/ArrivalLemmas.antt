@@ -1,16 +1,10 @@
 -- What arrives, what is accepted, and what is spoken.
-use Rattle.std.proofs.Common.{◌≡◌, ℕ, refl, Option, None, Some, List, [], ◌∷◌, ◌++◌, ◌⊎◌, inl, inr, append-nil}
+use Rattle.std.proofs.Common.{◌≡◌, subst, Option, None, Some, List, [], ◌∷◌, ◌++◌, ◌⊎◌, inl, inr, append-nil}
 use Rattle.std.specs.Option.{option_to_list}
-use Rattle.hart_values.specs.declared.master_id.MasterId.{MasterId}
 use Rattle.hart_frame.specs.FrameParts.{FrameParts}
 use Rattle.hart_frame.specs.declared.found.Found.{Found}
-use Rattle.hart_commands.specs.declared.reply.Reply.{Reply}
-use Rattle.hart_master.specs.declared.hand.Hand.TheVariants.{Empty, Awaiting}
 use Rattle.hart_line.specs.Damage.{Arrives, IsShown}
-use Rattle.hart_line.specs.Parts.{AcceptsIn, Speaks}
-use Rattle.hart_line.specs.Spoken.{AreSpoken, IsSpoken, Message, frame_of}
-use Rattle.hart_line.specs.Step.{Accepts}
-use Rattle.hart_line.specs.World.{InHand}
+use Rattle.hart_line.specs.Spoken.{AreSpoken, IsSpoken, Message, Speaks, frame_of}
 use Rattle.hart_line.specs.declared.event.Heard.{Heard}
 use Rattle.hart_line.specs.declared.report.Spoken.{Spoken}
 
@@ -29,20 +23,8 @@ arrives_cases heard sent arrived a = IsShown-cases (frame_of sent) a.frames arri
 pub none_arrives : (heard : Heard) (arrived : Option FrameParts) → Arrives heard None arrived → arrived ≡ None
 none_arrives heard arrived a = elim (arrives_cases heard None arrived a) [ inl is ↦ is | inr is ↦ is ]
 
--- A master that awaits nothing accepts nothing.
-pub accepts_none : (id : MasterId) (returned : Option FrameParts) (accepted : Option Reply) → AcceptsIn id Empty returned accepted
-    → accepted ≡ None
-accepts_none id returned None accepts = refl
-accepts_none id None (Some reply) accepts = absurd accepts
-accepts_none id (Some frame) (Some reply) accepts = absurd accepts
-
-pub accepts_held : (id : MasterId) (held : InHand) (sendings time : ℕ) (returned : Option FrameParts) (accepted : Option Reply)
-    → AcceptsIn id (Awaiting (record { address = held.address; request = held.request; sendings = sendings }) time) returned accepted
-    → Accepts id (Some held) returned accepted
-accepts_held id held sendings time None None accepts = refl
-accepts_held id held sendings time None (Some reply) accepts = absurd accepts
-accepts_held id held sendings time (Some frame) None accepts = accepts
-accepts_held id held sendings time (Some frame) (Some reply) accepts = accepts
+pub nothing_arrives : (heard : Heard) (arrived : Option FrameParts) → Arrives heard None arrived → Arrives heard None None
+nothing_arrives heard arrived a = subst (Arrives heard None) (none_arrives heard arrived a) a
 
 -- Messages are spoken one after another.
 AreSpoken-push : (messages : List Message) (message : Message) (list : List Spoken) (spoken : Spoken)

@@ -8,6 +8,7 @@ mod WordsLemmas
 pub mod StateLemmas
 pub mod ArrivalLemmas
 pub mod LegLemmas
+pub mod MastersLemmas
 pub mod TurnLemmas
 pub mod EventLemmas
 pub mod RunLemmas

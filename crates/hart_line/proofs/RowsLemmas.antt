@@ -1,14 +1,21 @@
 -- The rows of the table of events, word by word.
-use Rattle.std.proofs.Common.{◌≡◌, ℕ, List, ◌∷◌, codes, get_or, Ok, sym, ap, ◌∙◌, subst, arith}
+use Rattle.std.proofs.Common.{◌≡◌, ℕ, List, ◌∷◌, codes, get_or, Ok, Option, None, Some, sym, ap, ◌∙◌, subst, arith}
+use Rattle.std.specs.Option.{ok_or}
 use Rattle.hart_values.specs.declared.address.Address.{Address}
 use Rattle.hart_values.specs.declared.master_id.MasterId.{MasterId}
 use Rattle.hart_commands.specs.RequestData.{request_reading}
 use Rattle.hart_commands.specs.declared.request.Request.{Request}
-use Rattle.hart_line.specs.Script.{AreDataWords, IsEvent, IsSubmitRow}
-use Rattle.hart_line.specs.Words.{IsCommandWord}
+use Rattle.hart_line.specs.Script.{AreDataWords, IsEvent, IsSubmitRow, Reads}
+use Rattle.hart_line.specs.Words.{Finds, IsCommandWord}
 use Rattle.hart_line.specs.declared.event.LineEvent.{LineEvent}
 use Rattle.hart_line.specs.declared.event.LineEvent.TheVariants.{Noise, Protect, Submit, Turn}
+use Rattle.hart_line.specs.declared.rows.RowFault.TheVariants.{Bad}
 use Rattle.hart_line.proofs.WordsApart.{AreDataWords-one, IsCommandWord-one}
+
+-- a value that is found is read, and where none is found the line is bad
+pub found_read : {T : Type 0} (IsValue : T → Type 0) (found : Option T) → Finds IsValue found → Reads IsValue (ok_or found Bad)
+found_read IsValue None finds = finds
+found_read IsValue (Some value) finds = finds
 
 -- equal words have the same first letter
 pub first_letter : (word other : List ℕ) (words others : List (List ℕ)) → word ∷ words ≡ other ∷ others → get_or word 0 0 ≡ get_or other 0 0

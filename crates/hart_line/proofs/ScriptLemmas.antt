@@ -1,5 +1,5 @@
 -- Scripts: a line says one thing, and no text is a script and has a bad line.
-use Rattle.std.proofs.Common.{◌≡◌, ◌⊎◌, ℕ, ◌+◌, inl, inr, true, false, List, [], ◌∷◌, ◌++◌, codes, get_or, length, Ok, refl, sym, ap}
+use Rattle.std.proofs.Common.{◌≡◌, ◌⊎◌, ℕ, ◌+◌, inl, inr, true, false, List, [], ◌∷◌, ◌++◌, codes, get_or, length, Ok, Err, refl, sym, ap}
 use Rattle.std.proofs.Common.{◌∙◌, ◌<◌, suc, drop, map, subst, take, arith}
 use Rattle.std.specs.Bool.{◌==◌}
 use Rattle.std.specs.List.{slice_split}
@@ -11,12 +11,14 @@ use Rattle.hart_frame.specs.Character.{Character}
 use Rattle.hart_line.specs.Items.{BeginsWithItems, Faulty, IsItemsWord, item, nothing, Plain}
 use Rattle.hart_line.specs.Lines.{words_of}
 use Rattle.hart_line.specs.Script.{AreEvents, HasFirstBadLine, IsBadLine, IsEvent, IsLeg, IsScript}
-use Rattle.hart_line.specs.Script.{IsSkipped, none, said, skipped}
+use Rattle.hart_line.specs.Script.{IsScriptFault, IsSkipped, SaysLine, none, said, skipped}
 use Rattle.hart_line.specs.Words.{IsAddressWord, IsWho}
 use Rattle.hart_line.specs.declared.event.Heard.{Heard}
 use Rattle.hart_line.specs.declared.event.Heard.TheVariants.{Chars, Clean, Lost}
 use Rattle.hart_line.specs.declared.event.LineEvent.{LineEvent}
 use Rattle.hart_line.specs.declared.event.LineEvent.TheVariants.{Noise, Protect, Submit, Turn}
+use Rattle.hart_line.specs.declared.fault.LineFault.{LineFault}
+use Rattle.hart_line.specs.declared.fault.LineFault.TheVariants.{BadLine, Memory, Undetected}
 use Rattle.hart_line.proofs.ItemsLemmas.{items_to_the_end, NoItemBegins-nil}
 use Rattle.hart_line.proofs.RowsLemmas.{first_letter, read_as}
 use Rattle.hart_line.proofs.WordsApart.{IsAddressWord-one, IsWho-one}
@@ -289,3 +291,10 @@ first_bad_line text n number part line events counted short at stripped front ba
       events = events;
       good = front;
     }
+
+-- the fault of a line is that of its text
+pub line_fault : (text : List ℕ) (number : ℕ) (words : List (List ℕ)) (fault : LineFault) → SaysLine number words (Err fault)
+    → (IsBadLine words → HasFirstBadLine text number) → IsScriptFault text fault
+line_fault text number words (BadLine at) says bad = rw says.0 (bad says.1)
+line_fault text number words Memory says bad = tt
+line_fault text number words (Undetected event leg) says bad = says

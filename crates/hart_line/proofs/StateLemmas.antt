@@ -10,7 +10,7 @@ use Rattle.hart_commands.specs.Registers.{Contents, NamedBytes, registers_of, ov
 use Rattle.hart_device.specs.Device.{DeviceState, Effect, Nothing, Executes, Resets, after}
 use Rattle.hart_device.specs.declared.identity_parts.IdentityParts.{IdentityParts}
 use Rattle.hart_line.specs.World.{World, Execution, Start, first_world, state_of, overwrites_of, is_changed}
-use Rattle.hart_line.specs.Parts.{MarksWithin}
+use Rattle.hart_line.specs.Line.{MarksWithin}
 use Rattle.hart_line.specs.Step.{executions_after, marks_after}
 
 -- What the law of registers says of a list with one more.

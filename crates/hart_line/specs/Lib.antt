@@ -7,6 +7,8 @@ pub mod Damage
 pub mod World
 pub mod Step
 pub mod Faults
-pub mod Parts
+pub mod Masters
+pub mod Leg
+pub mod Line
 pub mod Executions
 pub mod Promises

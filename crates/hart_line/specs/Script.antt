@@ -1,5 +1,5 @@
 -- What the lines of a script say (own profile): a table of one row for each kind of event.
-use Rattle.std.specs.Prelude.{◌≡◌, ℕ, ◌+◌, Bool, true, false, List, [], ◌∷◌, ◌++◌, codes, length, map, Ok}
+use Rattle.std.specs.Prelude.{◌≡◌, ℕ, ◌+◌, Bool, true, false, List, [], ◌∷◌, ◌++◌, codes, length, map, Option, None, Some, Result, Ok, Err}
 use Rattle.hart_values.specs.declared.address.Address.{Address}
 use Rattle.hart_values.specs.declared.master_id.MasterId.{MasterId}
 use Rattle.hart_commands.specs.RequestData.{request_reading}
@@ -7,15 +7,15 @@ use Rattle.hart_commands.specs.declared.request.Request.{Request}
 use Rattle.hart_frame.specs.Character.{Character}
 use Rattle.hart_line.specs.Items.{IsItemsWord}
 use Rattle.hart_line.specs.Lines.{lines_of, words_of}
-use Rattle.hart_line.specs.Words.{IsAddressWord, IsCommandWord, IsDataWord, IsWho}
+use Rattle.hart_line.specs.Words.{HasNoValue, IsAddressWord, IsCommandWord, IsDataWord, IsWho}
 use Rattle.hart_line.specs.declared.event.Heard.{Heard}
 use Rattle.hart_line.specs.declared.event.Heard.TheVariants.{Clean, Lost, Chars}
 use Rattle.hart_line.specs.declared.event.LineEvent.{LineEvent}
 use Rattle.hart_line.specs.declared.event.LineEvent.TheVariants.{Submit, Turn, Protect, Noise}
 use Rattle.hart_line.specs.declared.fault.LineFault.{LineFault}
 use Rattle.hart_line.specs.declared.fault.LineFault.TheVariants.{BadLine, Memory, Undetected}
-use Rattle.hart_line.specs.declared.rows.Line.{Line}
-use Rattle.hart_line.specs.declared.rows.Line.TheVariants.{Skipped, Event, Bad}
+use Rattle.hart_line.specs.declared.rows.RowFault.{RowFault}
+use Rattle.hart_line.specs.declared.rows.RowFault.TheVariants.{Bad, NoMemory}
 
 -- The words after COMMAND are none, which write no bytes, or DATA alone.
 abbrev pub AreDataWords : List (List ℕ) → List ℕ → Type 0
@@ -114,8 +114,21 @@ IsScriptFault text (Undetected number leg) = ⊥
 
 -- For private calls alone: what reading one line answers.
 
--- The words of a line say what it is read as.
-abbrev pub SaysLine : List (List ℕ) → Line → Type 0
-SaysLine words Skipped = IsSkipped words
-SaysLine words (Event told) = IsEvent words told
-SaysLine words Bad = IsBadLine words
+-- What is read is a value of which this holds, and at a bad line there is none.
+abbrev pub Reads : {T : Type 0} → (T → Type 0) → Result T RowFault → Type 0
+Reads {T} IsValue (Ok value) = IsValue value
+Reads {T} IsValue (Err Bad) = HasNoValue IsValue
+Reads {T} IsValue (Err NoMemory) = Unit {0}
+
+-- The fault of a script whose line with this number is not read.
+abbrev pub fault_at_line : ℕ → RowFault → LineFault
+fault_at_line number Bad = BadLine number
+fault_at_line number NoMemory = Memory
+
+-- The words of the line with this number say the event that is read; where none is it is skipped, and at its fault it is bad.
+abbrev pub SaysLine : ℕ → List (List ℕ) → Result (Option LineEvent) LineFault → Type 0
+SaysLine number words (Ok None) = IsSkipped words
+SaysLine number words (Ok (Some told)) = IsEvent words told
+SaysLine number words (Err (BadLine at)) = (at ≡ number) × IsBadLine words
+SaysLine number words (Err Memory) = Unit {0}
+SaysLine number words (Err (Undetected event leg)) = ⊥

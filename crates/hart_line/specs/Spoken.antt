@@ -1,5 +1,5 @@
 -- What is spoken on the line (HCF_SPEC-081).
-use Rattle.std.specs.Prelude.{◌≡◌, ℕ, List, [], ◌∷◌, Option, None, Some}
+use Rattle.std.specs.Prelude.{◌≡◌, ℕ, List, [], ◌∷◌, ◌++◌, Option, None, Some}
 use Rattle.hart_values.specs.declared.master_id.MasterId.{MasterId}
 use Rattle.hart_values.specs.declared.master_id.MasterId.TheVariants.{Primary, Secondary}
 use Rattle.hart_frame.specs.Body.{IsBody}
@@ -38,6 +38,11 @@ pub record IsSpoken (message : Message) (spoken : Spoken) : Type 0 where
   pub party : spoken.party ≡ message.party
   pub preambles : spoken.preambles ≡ message.preambles
   pub body : IsBody message.frame spoken.bytes
+
+-- The list of what was spoken grows by this message, where there is one.
+abbrev pub Speaks : Option Message → List Spoken → List Spoken → Type 0
+Speaks None old new = new ≡ old
+Speaks (Some message) old new = (spoken : Spoken) × IsSpoken message spoken × (new ≡ old ++ spoken ∷ [])
 
 -- Messages are told one by one, in order.
 abbrev pub AreSpoken : List Message → List Spoken → Type 0

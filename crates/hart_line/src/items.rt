@@ -1,12 +1,13 @@
 //! Hex items, each of which tells a received character.
-ghost use Rattle.std.specs.Prelude.{◌≡◌, ◌↔◌, IfOk, IsTrue, MatchOption, slice_index};
+ghost use Rattle.std.specs.Prelude.{◌≡◌, ◌↔◌, IsTrue, MatchOption, slice_index};
 ghost use Rattle.hart_line.specs.Items.{AreDigits, BeginsAsItem, byte_of, IsItemsWord, NoItemBegins};
-ghost use Rattle.hart_line.specs.Words.{Finds};
+ghost use Rattle.hart_line.specs.Script.{Reads};
 
 use crate::CharList;
+use crate::rows::RowFault;
 use hart_frame::Char;
 use hex::FromHex;
-use std::alloc::{AllocError, Global};
+use std::alloc::Global;
 
 /// The item that begins a text: the character that it means, and its length in bytes.
 #[derive(Clone, Copy, Debug, Drop, PartialEq, Eq)]
@@ -49,27 +50,28 @@ fn tells_faults(text: &[u8]) -> bool
     text.len() > 2 && text[2] == b'!'
 }
 
-/// The characters of a word that is items end to end, or `None` where it is not.
+/// The characters of a word that is items end to end.
 ///
 /// # Errors
 ///
-/// `AllocError` if a growth was refused.
-pub(crate) fn read_items(alloc: Global, word: &[u8]) -> Result<Option<CharList>, AllocError>
-    ensures { IfOk result (Finds (IsItemsWord word.now)) }
+/// [`RowFault::Bad`] if the word is empty or not items end to end; [`RowFault::NoMemory`] if a growth was refused.
+pub(crate) fn read_items(alloc: Global, word: &[u8]) -> Result<CharList, RowFault>
+    ensures { Reads (IsItemsWord word.now) result }
 {
     if word.is_empty() {
-        return Ok(None);
+        return Err(RowFault::Bad);
     }
-    let mut chars = Vec::new(alloc);
+    // An item has two bytes at least.
+    let mut chars = Vec::with_capacity(alloc, word.len() / 2)?;
     let mut place = 0;
     while let Some(lead) = leading_item(&word[place..]) {
         chars.push(lead.char)?;
         place += lead.len;
     }
     if place < word.len() {
-        return Ok(None);
+        return Err(RowFault::Bad);
     }
-    Ok(Some(CharList::new(chars)))
+    Ok(CharList::new(chars))
 }
 
 /// The byte that two hex digits write.

@@ -22,12 +22,15 @@ mod event;
 mod fault;
 mod items;
 mod laws;
+mod leg;
 mod line;
 mod lines;
+mod masters;
 mod report;
 mod rows;
 mod runs;
 mod script;
+mod stop;
 mod words;
 
 pub use char_list::CharList;

@@ -1,9 +1,9 @@
-ghost use Rattle.std.specs.Prelude.{◌≡◌, ◌<◌, [], ◌∷◌, ◌++◌, IfSome, OnOk, length};
-ghost use Rattle.hart_line.specs.Parts.{outcomes_with};
+ghost use Rattle.std.specs.Prelude.{◌≡◌, [], ◌∷◌, ◌++◌, OnOk, Some, slice_set};
+ghost use Rattle.hart_line.specs.Spoken.{Speaks, message_by};
 
 use hart_commands::Reply;
 use hart_device::{Device, RegisterStore};
-use hart_frame::Body;
+use hart_frame::{Body, Frame};
 use hart_master::MasterFault;
 use std::alloc::{AllocError, Global};
 use std::marker::Model;
@@ -83,13 +83,12 @@ impl Outcomes {
         Ok(())
     }
 
-    /// Gives the submission at this place this outcome; nothing changes where it is `None`.
-    pub(crate) fn replace(&mut self, place: usize, outcome: Option<Outcome>)
-        requires { IfSome outcome (λ _. place < length self.old) }
-        ensures { self.new ≡ outcomes_with place outcome self.old }
+    /// Gives the submission at this place this outcome; nothing changes if there is none.
+    pub(crate) fn replace(&mut self, place: usize, outcome: Outcome)
+        ensures { self.new ≡ slice_set self.old place outcome }
     {
-        if let Some(outcome) = outcome {
-            self.outcomes[place] = outcome;
+        if let Some(old) = self.outcomes.get_mut(place) {
+            *old = outcome;
         }
     }
 }
@@ -126,11 +125,20 @@ impl SpokenList {
         self.messages.as_slice()
     }
 
-    /// Adds a message.
-    pub(crate) fn push(&mut self, message: Spoken) -> Result<(), AllocError>
-        ensures { OnOk result (self.new ≡ self.old ++ message ∷ []) }
+    /// Adds the message of this party with this frame, after so many preamble bytes.
+    pub(crate) fn speak(
+        &mut self,
+        party: Party,
+        preambles: u8,
+        frame: &Frame,
+    ) -> Result<(), AllocError>
+        ensures { OnOk result (Speaks (message_by party preambles (Some frame.now)) self.old self.new) }
     {
-        self.messages.push(message)?;
+        self.messages.push(Spoken {
+            party,
+            preambles,
+            bytes: frame.body(),
+        })?;
         Ok(())
     }
 }

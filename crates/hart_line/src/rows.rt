@@ -1,62 +1,96 @@
 //! The rows of the table of events, and the line that says none.
-ghost use Rattle.std.specs.Prelude.{◌≡◌, ◌≢◌, [], ◌∷◌, codes, length, IfOk, MatchOption};
+ghost use Rattle.std.specs.Prelude.{◌≡◌, ◌≢◌, [], ◌∷◌, codes, length, MatchOption};
 ghost use Rattle.hart_line.specs.Lines.{words_of};
-ghost use Rattle.hart_line.specs.Script.{AreDataWords, IsEvent, IsLeg, SaysLine};
+ghost use Rattle.hart_line.specs.Script.{AreDataWords, IsEvent, IsLeg, Reads, SaysLine, fault_at_line};
 ghost use Rattle.hart_line.specs.Words.{Finds};
 
 use crate::items::read_items;
 use crate::lines::{next_word, only_word};
 use crate::words::{read_address, read_command, read_data, read_who};
-use crate::{Heard, LineEvent};
+use crate::{Heard, LineEvent, LineFault};
 use hart_commands::Request;
 use hart_frame::Payload;
-use std::alloc::{AllocError, Global};
+use std::alloc::{AllocError, AllocFailed, Global};
 
-/// What a line says.
-#[derive(Debug, Drop)]
-pub enum Line {
-    /// Nothing: it is empty, or a comment.
-    Skipped,
-    /// An event.
-    Event(LineEvent),
-    /// Neither.
+/// Why a line says no event.
+#[derive(Clone, Copy, Debug, PartialEq, Eq)]
+pub enum RowFault {
+    /// Its words are those of no row.
     Bad,
+    /// Memory was refused.
+    NoMemory,
 }
 
-/// What a line says.
+impl RowFault {
+    /// The fault of a script whose line with this number is not read.
+    pub fn at(self, number: usize) -> LineFault
+        ensures { result ≡ fault_at_line number self }
+    {
+        match self {
+            RowFault::Bad => LineFault::BadLine { number },
+            RowFault::NoMemory => LineFault::Memory,
+        }
+    }
+}
+
+impl From<AllocError> for RowFault {
+    ghost use Rattle.hart_line.specs.declared.rows.RowFault.TheVariants.{NoMemory};
+
+    ghost from_gives = { λ _ fault. fault ≡ NoMemory };
+
+    fn from(_error: AllocError) -> RowFault {
+        RowFault::NoMemory
+    }
+}
+
+impl<T: Drop> From<AllocFailed<T>> for RowFault {
+    ghost use Rattle.hart_line.specs.declared.rows.RowFault.TheVariants.{NoMemory};
+
+    ghost from_gives = { λ _ fault. fault ≡ NoMemory };
+
+    fn from(_error: AllocFailed<T>) -> RowFault {
+        RowFault::NoMemory
+    }
+}
+
+/// The event that the line with this number says, or `None` if it is empty or a comment.
 ///
 /// # Errors
 ///
-/// `AllocError` if a growth was refused.
-pub fn read_line(alloc: Global, line: &[u8]) -> Result<Line, AllocError>
-    ensures { IfOk result (SaysLine (words_of line.now)) }
+/// [`LineFault::BadLine`] with the number if it says no event and is no such line; [`LineFault::Memory`] if a growth was refused.
+pub fn read_line(
+    alloc: Global,
+    number: usize,
+    line: &[u8],
+) -> Result<Option<LineEvent>, LineFault>
+    ensures { SaysLine number (words_of line.now) result }
 {
     let Some((first, rest)) = next_word(line) else {
-        return Ok(Line::Skipped);
+        return Ok(None);
     };
     if let [b'#', ..] = first {
-        return Ok(Line::Skipped);
+        return Ok(None);
     }
-    match read_event(alloc, first, rest)? {
-        Some(event) => Ok(Line::Event(event)),
-        None => Ok(Line::Bad),
+    match read_event(alloc, first, rest) {
+        Ok(event) => Ok(Some(event)),
+        Err(fault) => Err(fault.at(number)),
     }
 }
 
-/// The event that a first word and the words behind it say.
-fn read_event(alloc: Global, first: &[u8], rest: &[u8]) -> Result<Option<LineEvent>, AllocError>
-    ensures { IfOk result (Finds (IsEvent (first.now ∷ words_of rest.now))) }
+/// The event that a first word and the words after it say.
+fn read_event(alloc: Global, first: &[u8], rest: &[u8]) -> Result<LineEvent, RowFault>
+    ensures { Reads (IsEvent (first.now ∷ words_of rest.now)) result }
 {
     match first {
-        b"submit" => Ok(read_submit(rest)),
+        b"submit" => read_submit(rest).ok_or(RowFault::Bad),
         b"turn" => read_turn(alloc, rest),
-        b"protect" => Ok(read_protect(rest)),
+        b"protect" => read_protect(rest).ok_or(RowFault::Bad),
         b"noise" => read_noise(alloc, rest),
-        _ => Ok(None),
+        _ => Err(RowFault::Bad),
     }
 }
 
-/// The submission that the words behind `submit` say.
+/// The submission that the words after `submit` say.
 fn read_submit(rest: &[u8]) -> Option<LineEvent>
     ensures { Finds (IsEvent (codes "submit" ∷ words_of rest.now)) result }
 {
@@ -72,8 +106,8 @@ fn read_submit(rest: &[u8]) -> Option<LineEvent>
     })
 }
 
-/// The data that the words behind COMMAND write, no bytes where there is no word and those of DATA where it is alone, or `None`
-/// where they write none.
+/// The data that the words after COMMAND write, no bytes if there is no word and those of DATA if it is alone, or `None`
+/// if they write none.
 fn read_payload(rest: &[u8]) -> Option<Payload>
     ensures { Finds (AreDataWords (words_of rest.now)) result }
 {
@@ -83,23 +117,16 @@ fn read_payload(rest: &[u8]) -> Option<Payload>
     }
 }
 
-/// The turn that the words behind `turn` say.
-fn read_turn(alloc: Global, rest: &[u8]) -> Result<Option<LineEvent>, AllocError>
-    ensures { IfOk result (Finds (IsEvent (codes "turn" ∷ words_of rest.now))) }
+/// The turn that the words after `turn` say.
+fn read_turn(alloc: Global, rest: &[u8]) -> Result<LineEvent, RowFault>
+    ensures { Reads (IsEvent (codes "turn" ∷ words_of rest.now)) result }
 {
-    let Some((who, up, down)) = three_words(rest) else {
-        return Ok(None);
-    };
-    let Some(who) = read_who(who) else {
-        return Ok(None);
-    };
-    let Some(up) = read_leg(alloc, up)? else {
-        return Ok(None);
-    };
-    let Some(down) = read_leg(alloc, down)? else {
-        return Ok(None);
-    };
-    Ok(Some(LineEvent::Turn { who, up, down }))
+    let (who, up, down) = three_words(rest).ok_or(RowFault::Bad)?;
+    Ok(LineEvent::Turn {
+        who: read_who(who).ok_or(RowFault::Bad)?,
+        up: read_leg(alloc, up)?,
+        down: read_leg(alloc, down)?,
+    })
 }
 
 /// The words of a line that has three, or `None` where it has fewer or more.
@@ -113,20 +140,17 @@ fn three_words(line: &[u8]) -> Option<(&[u8], &[u8], &[u8])>
 }
 
 /// What the word of a leg says that is heard.
-fn read_leg(alloc: Global, word: &[u8]) -> Result<Option<Heard>, AllocError>
-    ensures { IfOk result (Finds (IsLeg word.now)) }
+fn read_leg(alloc: Global, word: &[u8]) -> Result<Heard, RowFault>
+    ensures { Reads (IsLeg word.now) result }
 {
-    match word {
-        b"ok" => Ok(Some(Heard::Clean)),
-        b"lost" => Ok(Some(Heard::Lost)),
-        _ => match read_items(alloc, word)? {
-            Some(chars) => Ok(Some(Heard::Chars(chars))),
-            None => Ok(None),
-        },
-    }
+    Ok(match word {
+        b"ok" => Heard::Clean,
+        b"lost" => Heard::Lost,
+        _ => Heard::Chars(read_items(alloc, word)?),
+    })
 }
 
-/// The switch of the write protection that the words behind `protect` say.
+/// The switch of the write protection that the words after `protect` say.
 fn read_protect(rest: &[u8]) -> Option<LineEvent>
     ensures { Finds (IsEvent (codes "protect" ∷ words_of rest.now)) result }
 {
@@ -137,15 +161,10 @@ fn read_protect(rest: &[u8]) -> Option<LineEvent>
     }
 }
 
-/// The noise that the words behind `noise` say.
-fn read_noise(alloc: Global, rest: &[u8]) -> Result<Option<LineEvent>, AllocError>
-    ensures { IfOk result (Finds (IsEvent (codes "noise" ∷ words_of rest.now))) }
+/// The noise that the words after `noise` say.
+fn read_noise(alloc: Global, rest: &[u8]) -> Result<LineEvent, RowFault>
+    ensures { Reads (IsEvent (codes "noise" ∷ words_of rest.now)) result }
 {
-    let Some(items) = only_word(rest) else {
-        return Ok(None);
-    };
-    match read_items(alloc, items)? {
-        Some(chars) => Ok(Some(LineEvent::Noise(chars))),
-        None => Ok(None),
-    }
+    let items = only_word(rest).ok_or(RowFault::Bad)?;
+    Ok(LineEvent::Noise(read_items(alloc, items)?))
 }

@@ -22,8 +22,7 @@ ghost use Rattle.hart_line.specs.declared.event.LineEvent.TheVariants.{Turn};
 ghost use Rattle.hart_line.specs.declared.report.Outcome.TheVariants.{Answered};
 
 use crate::laws::scripts_keep_their_promises;
-use crate::line::{Log, Submitter, step};
-use crate::report::{Outcomes, SpokenList};
+use crate::line::Line;
 use crate::{LineEvent, LineFault, Report};
 use hart_device::{Device, Process, RegisterStore};
 use hart_master::Master;
@@ -43,7 +42,7 @@ use std::alloc::Global;
 /// the number of its event, counted from 0; [`LineFault::Memory`] where a growth was refused. Only the fault is given back.
 pub fn run<S: RegisterStore + Drop>(
     alloc: Global,
-    mut device: Device<S>,
+    device: Device<S>,
     primary: Master,
     secondary: Master,
     events: &[LineEvent],
@@ -116,28 +115,11 @@ pub fn run<S: RegisterStore + Drop>(
     scripts_keep_their_promises();
     // By what these tell, the counter has two bytes, and a message has preamble bytes.
     let (_counter, _preambles) = (device.counter(), device.response_preambles());
-    let mut primary = Submitter::new(primary);
-    let mut secondary = Submitter::new(secondary);
-    let mut log = Log {
-        outcomes: Outcomes::new(alloc),
-        spoken: SpokenList::new(alloc),
-    };
+    let mut line = Line::new(alloc, device, primary, secondary);
     for (index, event) in events.iter().enumerate() {
-        let stepped = step(
-            &mut device,
-            &mut primary,
-            &mut secondary,
-            &mut log,
-            event,
-            process,
-        );
-        if let Err(stop) = stepped {
+        if let Err(stop) = line.step(event, process) {
             return Err(stop.at(index));
         }
     }
-    Ok(Report {
-        device,
-        outcomes: log.outcomes,
-        spoken: log.spoken,
-    })
+    Ok(line.into_report())
 }

@@ -3,7 +3,7 @@ ghost use Rattle.std.specs.Prelude.{IfOk, IfErr};
 ghost use Rattle.hart_line.specs.Script.{IsScript, IsScriptFault};
 
 use crate::lines::without_return;
-use crate::rows::{Line, read_line};
+use crate::rows::read_line;
 use crate::{LineEvent, LineFault};
 use std::alloc::Global;
 
@@ -21,11 +21,10 @@ pub fn read_script(alloc: Global, text: &[u8]) -> Result<Vec<LineEvent>, LineFau
     let mut number = 0;
     for part in text.split(|byte| *byte == b'\n') {
         number += 1;
-        match read_line(alloc, without_return(part))? {
-            Line::Skipped => {}
-            Line::Event(event) => events.push(event)?,
-            Line::Bad => return Err(LineFault::BadLine { number }),
-        }
+        let Some(event) = read_line(alloc, number, without_return(part))? else {
+            continue;
+        };
+        events.push(event)?;
     }
     Ok(events)
 }

@@ -4,7 +4,7 @@ use Rattle.hart_line.proofs.ItemsLemmas.{item_read, no_items}
 use Rattle.hart_line.proofs.items.read_items.Goals as goal
 
 pub loop-lead-init : goal.loop-lead-init
-loop-lead-init c = record { within = omega arith; reads = rw (c.new-chars.ensures.items) (nothing c.args.word.now) }
+loop-lead-init c = record { within = omega arith; reads = rw (c.in_ok-chars.ensures.items) (nothing c.args.word.now) }
 
 pub loop-lead-preserved : goal.loop-lead-preserved
 loop-lead-preserved c =

@@ -8,32 +8,18 @@ use Rattle.hart_line.specs.Promises.{AnswersLastSending, AreWellMade, start_of}
 use Rattle.hart_line.specs.Step.{IsLast}
 use Rattle.hart_line.specs.World.{World, state_of}
 use Rattle.hart_line.specs.declared.report.Outcome.TheVariants.{Answered}
-use Rattle.hart_line.proofs.ReachedLemmas.{fault_at, party_placed, party_rests, reached_first, reached_more}
+use Rattle.hart_line.proofs.ReachedLemmas.{fault_at, reached_first, reached_more, reached_report, reached_whole}
 use Rattle.hart_line.proofs.SubmittedLemmas.{made_more}
-use Rattle.hart_line.proofs.WholeLemmas.{of_last, reached_whole}
+use Rattle.hart_line.proofs.WholeLemmas.{of_last}
 use Rattle.hart_line.proofs.runs.run.Goals as goal
 
 pub loop-index-init : goal.loop-index-init
 loop-index-init g c =
     let small : c.args.device.counter < 65536 = rw c.counter-counter.ensures at c.counter-counter.type_inv in
-    let start = start_of c.args.device c.args.process.now c.args.primary c.args.secondary in
-    let one = c.new-primary.ensures in
-    let other = c.new-secondary.ensures in record {
-      reached = rw (c.new.ensures, c.new-2.ensures, one.master, one.place, other.master, other.place)
-          (reached_first c.args.device c.args.process.now c.args.primary c.args.secondary
+    let start = start_of c.args.device c.args.process.now c.args.primary c.args.secondary in record {
+      reached = rw c.new-line.ensures (reached_first c.args.device c.args.process.now c.args.primary c.args.secondary
           (c.scripts_keep_their_promises.ensures.first_world start small) c.requires.primary c.requires.secondary);
       well_made = search rules;
-    }
-
-pub step-stepped-requires : goal.step-stepped-requires
-step-stepped-requires g c =
-    let reached = c.loop-index.invariant.reached in
-    let stands = reached.stands in
-    record {
-      primary_placed = party_placed Primary _ reached.world _ _ _ stands.primary_is stands.outcomes_are reached.sound;
-      primary_rests = party_rests Primary _ reached.world _ _ stands.primary_is;
-      secondary_placed = party_placed Secondary _ reached.world _ _ _ stands.secondary_is stands.outcomes_are reached.sound;
-      secondary_rests = party_rests Secondary _ reached.world _ _ stands.secondary_is;
     }
 
 pub returns-in-Err-clause-fault : goal.returns-in-Err-clause-fault
@@ -56,7 +42,7 @@ pub loop-index-preserved : goal.loop-index-preserved
 loop-index-preserved g c =
     let start = start_of c.args.device c.args.process.now c.args.primary c.args.secondary in
     let reached = c.loop-index.invariant.reached in record {
-      reached = reached_more start c.args.events.now c.loop-index.index _ _ _ _ _ _ _ _ _ _ _ _ _ _ _ c.loop-index-test.true reached
+      reached = reached_more start c.args.events.now c.loop-index.index _ _ _ c.loop-index-test.true reached
           (rw c.index-events-index.is at (c.in_default.ensures.stepped start reached.world refl reached.sound.marks reached.stands));
       well_made = made_more c.args.events.now c.loop-index.index _ c.loop-index-test.true c.loop-index.invariant.well_made
           (rw c.index-events-index.is at c.in_default.ensures.well_made);
@@ -67,16 +53,18 @@ returns g c =
     let start = start_of c.args.device c.args.process.now c.args.primary c.args.secondary in
     let events = c.args.events.now in
     let promises = c.scripts_keep_their_promises.ensures in
-    let reached = reached_whole _ _ _ _ _ _ _ _ _ _ (omega (arith, c.loop-index-test.false)) c.loop-index.invariant.reached in
+    let report = c.into_report.ensures in
+    let reached = reached_report _ _ _ report.device report.outcomes report.spoken
+    (reached_whole _ _ _ _ (omega (arith, c.loop-index-test.false)) c.loop-index.invariant.reached) in
     let made : AreWellMade events = subst AreWellMade (take_all c.loop-index.index events (omega (arith, c.loop-index-test.false)))
     c.loop-index.invariant.well_made in
     let device_is = reached.stands.device_is in
     let outcomes_are = reached.stands.outcomes_are in
-    let device_of : (world : World) → IsLast start events world → c.loop-index.device ≡ state_of start.device world =
+    let device_of : (world : World) → IsLast start events world → c.into_report.result.device ≡ state_of start.device world =
     of_last promises.one_world _ reached device_is in
-    let outcomes_of : (world : World) → IsLast start events world → c.loop-index.log.outcomes ≡ world.outcomes =
+    let outcomes_of : (world : World) → IsLast start events world → c.into_report.result.outcomes ≡ world.outcomes =
     of_last promises.one_world _ reached outcomes_are in
-    let answers : (number : ℕ) (reply : Reply) (sendings : ℕ) → slice_get c.loop-index.log.outcomes number ≡ Some (Answered reply sendings)
+    let answers : (number : ℕ) (reply : Reply) (sendings : ℕ) → slice_get c.into_report.result.outcomes number ≡ Some (Answered reply sendings)
     → AnswersLastSending start events number reply sendings =
     λ number reply sendings is. promises.accepted_reply_answers_last_sending start events reached.world reached.is_last
     number reply sendings (rw outcomes_are at is) in

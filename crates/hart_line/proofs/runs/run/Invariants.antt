@@ -5,7 +5,6 @@ use Rattle.hart_line.proofs.runs.run.Given as goal
 
 abbrev pub invariant-loop-index : goal.invariant-loop-index
 invariant-loop-index g l = record {
-  reached : IsReached (start_of l.fn.device l.process l.fn.primary l.fn.secondary) (take l.index l.events)
-      l.device l.primary.master l.primary.place l.secondary.master l.secondary.place l.log.outcomes l.log.spoken;
+  reached : IsReached (start_of l.fn.device l.process l.fn.primary l.fn.secondary) (take l.index l.events) l.line;
   well_made : AreWellMade (take l.index l.events);
 }

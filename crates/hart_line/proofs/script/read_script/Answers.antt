@@ -3,15 +3,27 @@ use Rattle.std.specs.Bool.{◌==◌}
 use Rattle.std.proofs.lemmas.Iterator.Consumers.{YieldsList-at, YieldsList-end, YieldsList-turn}
 use Rattle.std.proofs.lemmas.Iterator.Splits.{YieldsList-from_slice_split}
 use Rattle.std.proofs.lemmas.List.{length_push}
+use Rattle.std.proofs.lemmas.Result.{err_from_is_err_and}
 use Rattle.hart_line.specs.Script.{none}
-use Rattle.hart_line.proofs.ScriptLemmas.{first_bad_line, line_said, line_skipped, parts_of, whole_script}
+use Rattle.hart_line.proofs.ScriptLemmas.{first_bad_line, line_fault, line_said, line_skipped, parts_of, whole_script}
 use Rattle.hart_line.proofs.script.read_script.Goals as goal
 
 pub loop-part-init : goal.loop-part-init
 loop-part-init c = record { counted = refl; said = rw (c.new-events.ensures.items) none }
 
-pub loop-part-preserved-in-Skipped : goal.loop-part-preserved-in-Skipped
-loop-part-preserved-in-Skipped c =
+pub returns-in_err-event-clause-fault : goal.returns-in_err-event-clause-fault
+returns-in_err-event-clause-fault c =
+    let t = YieldsList-turn (YieldsList-at c.into_iter-part-iterator.ensures.into_iter_gives
+    (YieldsList-from_slice_split _ (λ (byte : ℕ). byte == 10) c.args.text.now c.split-part-items.ensures.rest
+    c.split-part-items.ensures.done c.split-part-items.ensures.closure (λ x b q k. search (rules, tests))))
+    c.loop-part.yielded _ c.loop-part.yielded_by _ _ c.in-Some.part c.in-Some.is c.next.ensures.steps in
+    let stop = err_from_is_err_and c.from_residual.result c.from_residual.ensures.1 in
+    rw (stop.1, stop.2) (line_fault c.args.text.now _ _ _ c.in_err-event.ensures (first_bad_line c.args.text.now
+    (length c.loop-part.yielded) _ c.in-Some.part.now _ _ (ap (λ (k : ℕ). k + 1) c.loop-part.invariant.counted) t.0 t.1
+    c.without_return.ensures c.loop-part.invariant.said))
+
+pub loop-part-preserved-in_default : goal.loop-part-preserved-in_default
+loop-part-preserved-in_default c =
     let t = YieldsList-turn (YieldsList-at c.into_iter-part-iterator.ensures.into_iter_gives
     (YieldsList-from_slice_split _ (λ (byte : ℕ). byte == 10) c.args.text.now c.split-part-items.ensures.rest
     c.split-part-items.ensures.done c.split-part-items.ensures.closure (λ x b q k. search (rules, tests))))
@@ -20,7 +32,7 @@ loop-part-preserved-in-Skipped c =
     record {
       counted = omega (arith, c.loop-part.invariant.counted, m);
       said = line_skipped (parts_of c.args.text.now) (length c.loop-part.yielded) _ c.in-Some.part.now _ _ m t.0 t.1
-          c.without_return.ensures c.loop-part.invariant.said (rw c.in-Skipped.is at c.in_ok-read_line.ensures);
+          c.without_return.ensures c.loop-part.invariant.said (rw c.in_default.is at c.in_ok-event.ensures);
     }
 
 pub loop-part-preserved : goal.loop-part-preserved
@@ -32,20 +44,10 @@ loop-part-preserved c =
     let m = length_push c.loop-part.yielded c.in-Some.part in
     record {
       counted = omega (arith, c.loop-part.invariant.counted, m);
-      said = line_said (parts_of c.args.text.now) (length c.loop-part.yielded) _ c.in-Some.part.now _ _ _ c.in-Event.event m t.0 t.1
-          c.without_return.ensures c.loop-part.invariant.said (rw c.in-Event.is at c.in_ok-read_line.ensures)
-          c.in_ok-push-in-Event.ensures.items;
+      said = line_said (parts_of c.args.text.now) (length c.loop-part.yielded) _ c.in-Some.part.now _ _ _ c.in-Some-2.event m t.0 t.1
+          c.without_return.ensures c.loop-part.invariant.said (rw c.in-Some-2.is at c.in_ok-event.ensures)
+          c.in_ok-push.ensures.items;
     }
-
-pub returns-in-Bad-clause-fault : goal.returns-in-Bad-clause-fault
-returns-in-Bad-clause-fault c =
-    let t = YieldsList-turn (YieldsList-at c.into_iter-part-iterator.ensures.into_iter_gives
-    (YieldsList-from_slice_split _ (λ (byte : ℕ). byte == 10) c.args.text.now c.split-part-items.ensures.rest
-    c.split-part-items.ensures.done c.split-part-items.ensures.closure (λ x b q k. search (rules, tests))))
-    c.loop-part.yielded _ c.loop-part.yielded_by _ _ c.in-Some.part c.in-Some.is c.next.ensures.steps in
-    first_bad_line c.args.text.now (length c.loop-part.yielded) _ c.in-Some.part.now _ _
-    (ap (λ (k : ℕ). k + 1) c.loop-part.invariant.counted) t.0 t.1 c.without_return.ensures c.loop-part.invariant.said
-    (rw c.in-Bad.is at c.in_ok-read_line.ensures)
 
 pub returns-clause-events : goal.returns-clause-events
 returns-clause-events c =

@@ -1,6 +1,6 @@
 use Rattle.std.proofs.Common.{refl}
 use Rattle.hart_line.proofs.LegLemmas.{another_among, none_among, one_among, several_among}
-use Rattle.hart_line.proofs.line.arrived_among.Goals as goal
+use Rattle.hart_line.proofs.leg.arrived_among.Goals as goal
 
 pub returns-in_default-clause-arrives : goal.returns-in_default-clause-arrives
 returns-in_default-clause-arrives c = none_among _ _ c.in_default.ensures.first

@@ -1,0 +1,49 @@
+-- What the masters of a line do is what the world says of their hands.
+use Rattle.std.proofs.Common.{◌≡◌, ℕ, refl, Bool, true, false, if◌then◌else◌, List, Option, None, Some, MatchOption, Ok, Err}
+use Rattle.hart_values.specs.declared.address.Address.{Address}
+use Rattle.hart_values.specs.declared.master_id.MasterId.{MasterId}
+use Rattle.hart_frame.specs.FrameParts.{FrameParts}
+use Rattle.hart_commands.specs.declared.request.Request.{Request}
+use Rattle.hart_master.specs.Master.{hand_submitted, result_submitted}
+use Rattle.hart_master.specs.Pairing.{may_ask}
+use Rattle.hart_master.specs.declared.fault.MasterFault.{MasterFault}
+use Rattle.hart_master.specs.declared.fault.MasterFault.TheVariants.{WrongAddress}
+use Rattle.hart_master.specs.declared.fault.Rejected.{Rejected}
+use Rattle.hart_master.specs.declared.hand.Hand.TheVariants.{Empty, ToSend}
+use Rattle.hart_line.specs.Masters.{Concludes, Submits, hand_of}
+use Rattle.hart_line.specs.Step.{submission_fault}
+use Rattle.hart_line.specs.World.{InHand}
+use Rattle.hart_line.specs.declared.report.Outcome.{Outcome}
+use Rattle.hart_line.specs.declared.report.Outcome.TheVariants.{Refused}
+
+-- A submission that the master refuses is the one that the world refuses, and the hand stays.
+pub refused_submits : (held : Option InHand) (place : ℕ) (address : Address) (request : Request) (rejected : Rejected)
+    (Left : Option InHand → Type 0) → result_submitted (hand_of held) address request ≡ Err rejected
+    → (hand_submitted (hand_of held) address request ≡ hand_of held → Left held)
+    → Submits held place address request (submission_fault held address request) (Refused rejected.fault) Left
+refused_submits (Some other) place address request rejected Left is left = (cc, left refl)
+refused_submits None place address request rejected Left is left = by_test (may_ask address request) is left
+  where
+    by_test : (may : Bool)
+        → (if may then Ok (tt {0}) else Err (record { fault = WrongAddress; request = request })) ≡ Err rejected
+        → ((if may then ToSend (record { address = address; request = request; sendings = 0 }) else Empty) ≡ Empty → Left None)
+        → Submits None place address request (if may then None else Some WrongAddress) (Refused rejected.fault) Left
+    by_test true is left = cc
+    by_test false is left = (cc, left refl)
+
+pub sends_more : {Silent Silent' : Type 0} {Sent Sent' : FrameParts → Type 0} (frame : Option FrameParts) → (Silent → Silent')
+    → ((sent : FrameParts) → Sent sent → Sent' sent) → MatchOption frame Silent Sent → MatchOption frame Silent' Sent'
+sends_more None silent sent s = silent s
+sends_more (Some frame) silent sent s = sent frame s
+
+pub submits_more : {Left Left' : Option InHand → Type 0} (held : Option InHand) (place : ℕ) (address : Address) (request : Request)
+    (fault : Option MasterFault) (outcome : Outcome) → ((left : Option InHand) → Left left → Left' left)
+    → Submits held place address request fault outcome Left → Submits held place address request fault outcome Left'
+submits_more held place address request None outcome more s = (s.0, more _ s.1)
+submits_more held place address request (Some fault) outcome more s = (s.0, more _ s.1)
+
+pub concludes_more : {Left Left' : Option InHand → Type 0} {who : MasterId} {retries : ℕ} {held : InHand} {returned : Option FrameParts}
+    {outcomes outcomes' : List Outcome} → ((left : Option InHand) → Left left → Left' left)
+    → Concludes who retries held returned outcomes outcomes' Left → Concludes who retries held returned outcomes outcomes' Left'
+concludes_more more c =
+    record { accepted = c.accepted; accepts = c.accepts; outcomes_are = c.outcomes_are; left = more _ c.left }

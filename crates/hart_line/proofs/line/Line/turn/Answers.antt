@@ -1,0 +1,69 @@
+use Rattle.std.proofs.Common.{arith}
+use Rattle.std.specs.Option.{option_copied}
+use Rattle.std.proofs.lemmas.Result.{IfErr-weaker, err_from_is_err_and, on_ok_weaker}
+use Rattle.hart_line.specs.Step.{message_of}
+use Rattle.hart_line.proofs.LegLemmas.{reply_sent, request_sent}
+use Rattle.hart_line.proofs.TurnLemmas.{turned_stands}
+use Rattle.hart_line.proofs.line.Line.turn.Goals as goal
+
+pub returns-in_default-clause-stepped : goal.returns-in_default-clause-stepped
+returns-in_default-clause-stepped g c =
+    on_ok_weaker c.pass_silence.result (λ silent start world process within stands.
+    let stands' = rw (← c.self.view_is) at stands in
+    let sent = c.in_default.ensures start.retries world.hands stands'.masters_are in
+    record {
+      next = world;
+      step = silent start world c.args.who sent.0;
+      stands = record {
+        device_is = stands'.device_is;
+        masters_are = sent.1;
+        outcomes_are = stands'.outcomes_are;
+        spoken_are = stands'.spoken_are;
+      };
+    }) c.pass_silence.ensures.stepped
+
+pub returns-in_default-clause-stopped : goal.returns-in_default-clause-stopped
+returns-in_default-clause-stopped g c =
+    IfErr-weaker c.pass_silence.result _ _ (λ stop stopped start world process stands.
+    let stands' = rw (← c.self.view_is) at stands in
+    stopped start world c.args.who (c.in_default.ensures start.retries world.hands stands'.masters_are).0)
+    c.pass_silence.ensures.stopped
+
+pub returns-in_err-arrived-clause-stopped : goal.returns-in_err-arrived-clause-stopped
+returns-in_err-arrived-clause-stopped g c =
+    let call = c.from_residual-in_err-arrived in
+    let stop = err_from_is_err_and call.result call.ensures.1 in
+    rw (stop.1, stop.2, c.in_err-arrived.ensures.leg) (λ start world process stands.
+    let s = rw (← c.self.view_is) at stands in
+    let sent = c.in-Some.ensures start.retries world.hands s.masters_are in
+    let requested = rw (c.party_of.ensures, sent.2) at c.in_ok-speak.ensures in
+    rw sent.1 (c.in_err-arrived.ensures.undetected _ (request_sent _ (message_of c.args.who sent.0) _ _ sent.2 (omega arith) requested)))
+
+pub returns-in_err-returned-clause-stopped : goal.returns-in_err-returned-clause-stopped
+returns-in_err-returned-clause-stopped g c =
+    let call = c.from_residual-in_err-returned in
+    let stop = err_from_is_err_and call.result call.ensures.1 in
+    rw (stop.1, stop.2, c.in_err-returned.ensures.leg) (λ start world process stands.
+    let s = rw (← c.self.view_is) at stands in
+    let sent = c.in-Some.ensures start.retries world.hands s.masters_are in
+    let requested = rw (c.party_of.ensures, sent.2) at c.in_ok-speak.ensures in
+    let answered = c.in_ok-answer.ensures in (
+      option_copied c.in_ok-arrived.arrived,
+      rw sent.1 (c.in_ok-arrived.ensures.arrives _ (request_sent _ (message_of c.args.who sent.0) _ _ sent.2 (omega arith) requested)),
+      rw (answered.answer, s.device_is, ← process) at (c.in_err-returned.ensures.undetected _
+          (reply_sent _ _ _ _ _ _ c.as_ref.ensures.value answered.preambles answered.told)),
+    ))
+
+pub returns-clause-stepped : goal.returns-clause-stepped
+returns-clause-stepped g c = λ start world process within stands.
+    let s = rw (← c.self.view_is) at stands in
+    let sent = c.in-Some.ensures start.retries world.hands s.masters_are in
+    let requested = rw (c.party_of.ensures, sent.2) at c.in_ok-speak.ensures in
+    let answered = c.in_ok-answer.ensures in
+    rw (answered.state, s.device_is) (turned_stands c.registers_of_lists.ensures.last start world c.args.who c.args.up.now
+    c.args.down.now sent.0 _ _ _ _ _ _ _ within sent.1
+    (c.in_ok-arrived.ensures.arrives _ (request_sent _ (message_of c.args.who sent.0) _ _ sent.2 (omega arith) requested))
+    (rw (answered.answer, s.device_is, ← process) at (c.in_ok-returned.ensures.arrives _
+    (reply_sent _ _ _ _ _ _ c.as_ref.ensures.value answered.preambles answered.told)))
+    s.spoken_are requested (rw (answered.answer, s.device_is, ← process) at answered.told)
+    (rw s.outcomes_are at (c.conclude.ensures start.retries world.hands sent.0 sent.3)))

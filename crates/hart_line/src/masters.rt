@@ -1,0 +1,167 @@
+//! The two masters of a line, each with the place of its request in hand among the outcomes.
+ghost use Rattle.std.specs.Prelude.{◌≡◌, ℕ, ◌+◌, Option, None, Some, MatchOption};
+ghost use Rattle.std.specs.Option.{option_copied};
+ghost use Rattle.hart_values.specs.declared.master_id.MasterId.{MasterId};
+ghost use Rattle.hart_values.specs.declared.each_master.EachMaster.{EachMaster};
+ghost use Rattle.hart_values.specs.EachMaster.{of_master, with_master};
+ghost use Rattle.hart_commands.specs.RequestData.{IsRequest};
+ghost use Rattle.hart_commands.specs.declared.reply.Reply.{Reply};
+ghost use Rattle.hart_line.specs.Masters.{AreHeld, AreInTurn, Awaits, Concludes, Holds, Submits};
+ghost use Rattle.hart_line.specs.Step.{Accepts, hand_left, message_of, outcome_of, submission_fault};
+ghost use Rattle.hart_line.specs.World.{InHand};
+ghost use Rattle.hart_line.specs.declared.report.Outcome.TheVariants.{Answered};
+
+use crate::Outcome;
+use crate::report::Outcomes;
+use hart_commands::Request;
+use hart_frame::Frame;
+use hart_master::{Master, MasterEvent};
+use hart_values::{Address, MasterId};
+
+/// The character times that pass at the end of a turn, which end every wait.
+const TURN_TIME: u8 = 255;
+
+/// A master, and the place of its request in hand among the outcomes.
+#[derive(Debug, Drop)]
+pub struct Submitter {
+    pub master: Master,
+    pub place: usize,
+}
+
+impl Submitter {
+    /// A master with nothing in hand, which has no place yet.
+    pub fn new(master: Master) -> Self
+        ensures master { result.master ≡ master }
+        ensures place { result.place ≡ 0 }
+    {
+        Submitter { master, place: 0 }
+    }
+
+    /// Submits a request, whose outcome will have this place, and gives its outcome so far.
+    fn submit(&mut self, place: usize, address: Address, request: &Request) -> Outcome
+        ensures submits { (id : MasterId) (retries : ℕ) (held : Option InHand) → Holds id retries held self.old
+            → Submits held place address request.now (submission_fault held address request.now) result
+            (λ left. Holds id retries left self.new) }
+        ensures well_made { IsRequest request.now }
+    {
+        match self.master.submit(address, request.copy()) {
+            Ok(()) => {
+                self.place = place;
+                Outcome::Unfinished { sendings: 0 }
+            }
+            Err(rejected) => Outcome::Refused(rejected.fault),
+        }
+    }
+
+    /// Sends the request in hand, if there is one, whose reply is then awaited.
+    fn send(&mut self) -> Option<Frame>
+        ensures { (id : MasterId) (retries : ℕ) (held : Option InHand) → Holds id retries held self.old
+            → MatchOption result ((held ≡ None) × Holds id retries held self.new) (λ frame. (sent : InHand)
+            × (held ≡ Some sent) × (frame ≡ (message_of id sent).frame) × Awaits id retries sent self.new) }
+    {
+        self.master.send()
+    }
+
+    /// Hears what comes back, and gives the outcome of its request if that is answered by it.
+    fn hear(&mut self, returned: Option<&Frame>) -> Option<Outcome>
+        ensures awaited { (id : MasterId) (retries : ℕ) (held : InHand) → Awaits id retries held self.old
+            → MatchOption result (Accepts id (Some held) (option_copied returned.entry) None × Awaits id retries held self.new)
+            (λ outcome. (reply : Reply) × Accepts id (Some held) (option_copied returned.entry) (Some reply)
+            × (outcome ≡ Answered reply (held.sendings + 1)) × Holds id retries None self.new) }
+        ensures overheard { (id : MasterId) (retries : ℕ) (held : Option InHand) → Holds id retries held self.old
+            → Holds id retries held self.new }
+        ensures place { self.new.place ≡ self.old.place }
+    {
+        match self.master.receive(returned?) {
+            MasterEvent::Answered(reply, sendings) => Some(Outcome::Answered { reply, sendings }),
+            _ => None,
+        }
+    }
+
+    /// Waits no longer for the reply to its request, whose outcome it gives.
+    fn stop_waiting(&mut self) -> Outcome
+        ensures { (id : MasterId) (retries : ℕ) (held : InHand) → Awaits id retries held self.old
+            → let outcome = outcome_of retries (held.sendings + 1) None in
+            (result ≡ outcome) × Holds id retries (hand_left held outcome) self.new }
+    {
+        match self.master.tick(TURN_TIME) {
+            MasterEvent::NoReply(sendings) => Outcome::NoReply { sendings },
+            _ => Outcome::Unfinished {
+                sendings: self.master.sendings(),
+            },
+        }
+    }
+
+    /// Ends the turn of this master: its request gets its outcome, by what comes back.
+    fn conclude(&mut self, returned: Option<&Frame>, outcomes: &mut Outcomes)
+        ensures { (id : MasterId) (retries : ℕ) (held : InHand) → Awaits id retries held self.old
+            → Concludes id retries held (option_copied returned.entry) outcomes.old outcomes.new
+            (λ left. Holds id retries left self.new) }
+    {
+        let place = self.place;
+        let outcome = match self.hear(returned) {
+            Some(answered) => answered,
+            None => self.stop_waiting(),
+        };
+        outcomes.replace(place, outcome);
+    }
+}
+
+/// The two masters of a line.
+#[derive(Debug, Drop)]
+pub struct Masters {
+    pub primary: Submitter,
+    pub secondary: Submitter,
+}
+
+impl Masters {
+    /// A master submits a request, whose outcome will have this place, and gets its outcome so far.
+    pub fn submit(
+        &mut self,
+        who: MasterId,
+        place: usize,
+        address: Address,
+        request: &Request,
+    ) -> Outcome
+        ensures submits { (retries : EachMaster ℕ) (hands : EachMaster (Option InHand)) → AreHeld retries hands self.old
+            → Submits (of_master who hands) place address request.now
+            (submission_fault (of_master who hands) address request.now) result
+            (λ left. AreHeld retries (with_master who left hands) self.new) }
+        ensures well_made { IsRequest request.now }
+    {
+        match who {
+            MasterId::Primary => self.primary.submit(place, address, request),
+            MasterId::Secondary => self.secondary.submit(place, address, request),
+        }
+    }
+
+    /// A master sends the request in its hand, if there is one, whose reply is then awaited.
+    pub fn send(&mut self, who: MasterId) -> Option<Frame>
+        ensures { (retries : EachMaster ℕ) (hands : EachMaster (Option InHand)) → AreHeld retries hands self.old
+            → MatchOption result ((of_master who hands ≡ None) × AreHeld retries hands self.new) (λ frame. (sent : InHand)
+            × (of_master who hands ≡ Some sent) × (frame ≡ (message_of who sent).frame) × AreInTurn who retries hands sent self.new) }
+    {
+        match who {
+            MasterId::Primary => self.primary.send(),
+            MasterId::Secondary => self.secondary.send(),
+        }
+    }
+
+    /// Both masters hear what comes back, and the turn of this one ends.
+    pub fn conclude(&mut self, who: MasterId, returned: Option<&Frame>, outcomes: &mut Outcomes)
+        ensures { (retries : EachMaster ℕ) (hands : EachMaster (Option InHand)) (held : InHand) → AreInTurn who retries hands held self.old
+            → Concludes who (of_master who retries) held (option_copied returned.entry) outcomes.old outcomes.new
+            (λ left. AreHeld retries (with_master who left hands) self.new) }
+    {
+        match who {
+            MasterId::Primary => {
+                let _overheard = self.secondary.hear(returned);
+                self.primary.conclude(returned, outcomes);
+            }
+            MasterId::Secondary => {
+                let _overheard = self.primary.hear(returned);
+                self.secondary.conclude(returned, outcomes);
+            }
+        }
+    }
+}
