@@ -83,29 +83,16 @@ named_by : (request : Request) (overwrite : Option NamedBytes) → overwrite_of 
 named_by request None is none = cc
 named_by request (Some overwrite) is there = record { overwrite = overwrite; is = is }
 
--- What a message with a request in hand does, where it is a write that is not refused.
-message_executes : WriteLaws → (state : DeviceState) (who : MasterId) (held : InHand) (overwrite : NamedBytes) → IsRequest held.request
-    → overwrite_of held.request ≡ Some overwrite → IsUnrefusedWrite state (Some (message_of who held).frame)
-    → effect_of state (message_of who held).frame ≡ Executes overwrite
-message_executes laws state who held overwrite made is write =
-    laws.executes state (message_of who held).frame held.request overwrite write.1 write.2 (laws.reads held.request made) is
+-- A write that is not refused and arrives in a turn is the message that was sent.
+record IsSentWrite (state : DeviceState) (sent : FrameParts) (arrived : Option FrameParts) : Type 0 where
+  pub arrived_is : arrived ≡ Some sent
+  pub write : IsUnrefusedWrite state (Some sent)
 
-arrived_executes : WriteLaws → (state : DeviceState) (who : MasterId) (held : InHand) (overwrite : NamedBytes)
-    (arrived : Option FrameParts) → IsRequest held.request → overwrite_of held.request ≡ Some overwrite
-    → (arrived ≡ None) ⊎ (arrived ≡ Some (message_of who held).frame) → IsUnrefusedWrite state arrived
-    → effect_on state arrived ≡ Executes overwrite
-arrived_executes laws state who held overwrite None made is known write = absurd write
-arrived_executes laws state who held overwrite (Some frame) made is (inl none) write = cc
-arrived_executes laws state who held overwrite (Some frame) made is (inr sent) write =
-    ap (effect_on state) sent ∙ message_executes laws state who held overwrite made is
-    (subst (IsUnrefusedWrite state) sent write)
-
-write_named : WriteLaws → (state : DeviceState) (who : MasterId) (held : InHand) (arrived : Option FrameParts)
-    → (arrived ≡ None) ⊎ (arrived ≡ Some (message_of who held).frame) → IsUnrefusedWrite state arrived → IsNamed held.request
-write_named laws state who held None known write = absurd write
-write_named laws state who held (Some frame) (inl none) write = cc
-write_named laws state who held (Some frame) (inr sent) write =
-    named_by held.request _ refl ((laws.overwritten held.request).0 (subst (IsUnrefusedWrite state) sent write).0)
+sent_write : (state : DeviceState) (sent : FrameParts) (arrived : Option FrameParts) → (arrived ≡ None) ⊎ (arrived ≡ Some sent)
+    → IsUnrefusedWrite state arrived → IsSentWrite state sent arrived
+sent_write state sent None known write = absurd write
+sent_write state sent (Some frame) (inl none) write = cc
+sent_write state sent (Some frame) (inr is) write = record { arrived_is = is; write = subst (IsUnrefusedWrite state) is write }
 
 -- A submission was executed in a step, with the overwrite of this request.
 pub record IsExecuted (number : ℕ) (request : Request) (before next : World) : Type 0 where
@@ -119,21 +106,23 @@ turned_executes : WriteLaws → (start : Start) (before : World) (who : MasterId
     → IsExecuted held.submission held.request before (turned start before who (Some held) arrived accepted)
 turned_executes laws start before who held arrived accepted made known write =
     let state = state_of start.device before in
-    let n = write_named laws state who held arrived known write in record {
-      overwrite = n.overwrite;
-      overwrites = n.is;
-      executed = ap (λ e. executions_after e held.submission before.executions)
-          (arrived_executes laws state who held n.overwrite arrived made n.is known write);
+    let frame = (message_of who held).frame in
+    let sent = sent_write state frame arrived known write in
+    let named = named_by held.request _ refl ((laws.overwritten held.request).0 sent.write.0) in
+    let executes : effect_of state frame ≡ Executes named.overwrite =
+    laws.executes state frame held.request named.overwrite sent.write.1 sent.write.2 (laws.reads held.request made) named.is in
+    record {
+      overwrite = named.overwrite;
+      overwrites = named.is;
+      executed = ap (λ e. executions_after e held.submission before.executions) (ap (effect_on state) sent.arrived_is ∙ executes);
     }
 
 turn_executes : WriteLaws → (start : Start) (before : World) (who : MasterId) (up down : Heard) (next : World)
-    (t : IsTurn start before who up down next) (hand : Option InHand) (held : InHand) → of_master who before.hands ≡ hand
-    → hand ≡ Some held → IsRequest held.request → IsUnrefusedWrite (state_of start.device before) t.arrived
-    → IsExecuted held.submission held.request before next
-turn_executes laws start before who up down next t hand held in_hand is made write =
-    let same = in_hand ∙ is in
-    rw (t.next_is, same) (turned_executes laws start before who held t.arrived t.accepted made
-    (arrives_cases up (Some (message_of who held)) t.arrived (rw same at t.arrives)) write)
+    (t : IsTurn start before who up down next) (held : InHand) → of_master who before.hands ≡ Some held → IsRequest held.request
+    → IsUnrefusedWrite (state_of start.device before) t.arrived → IsExecuted held.submission held.request before next
+turn_executes laws start before who up down next t held in_hand made write =
+    rw (t.next_is, in_hand) (turned_executes laws start before who held t.arrived t.accepted made
+    (arrives_cases up (Some (message_of who held)) t.arrived (rw in_hand at t.arrives)) write)
 
 pub turn_executed : WriteLaws → (start : Start) (events : List LineEvent) → AreWellMade events → (who : MasterId) (up down : Heard)
     (before next : World) (t : IsStepOf start (first_world start) events before (Turn who up down) next)
@@ -147,7 +136,7 @@ turn_executed laws start events made who up down before next t write =
         absurd (subst (IsUnrefusedWrite (state_of start.device before)) (none_arrives up t.step.arrived arrives) write)
     by_hand (Some held) in_hand arrives =
         let there = submitted_as start events t.front _ t.back before t.split t.led who held in_hand in
-        let e = turn_executes laws start before who up down next t.step (Some held) held in_hand refl
+        let e = turn_executes laws start before who up down next t.step held in_hand
         (made_of events held.submission held.request made there) write in record {
           held = held;
           in_hand = in_hand;
@@ -171,7 +160,7 @@ answered_executed laws start events made number request reply sendings a submitt
     let there = submitted_as start events a.turn.front _ a.turn.back a.before a.turn.split a.turn.led a.who a.held a.in_hand in
     let same : a.held.request ≡ request = some_one (sym there ∙ ap (slice_get (requests_of events)) a.of_submission ∙ submitted) in
     let unrefused : IsUnrefusedWrite state (Some frame) = (rw (← same) at write, told.0, code) in
-    let e = turn_executes laws start a.before a.who a.up a.down a.next a.turn.step (Some a.held) a.held a.in_hand refl
+    let e = turn_executes laws start a.before a.who a.up a.down a.next a.turn.step a.held a.in_hand
     (made_of events a.held.submission a.held.request made there) (subst (IsUnrefusedWrite state) (sym a.arrived) unrefused) in record {
       answered = a;
       overwrite = e.overwrite;
