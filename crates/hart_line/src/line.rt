@@ -38,7 +38,7 @@ pub struct Line<S: RegisterStore> {
 
 impl<S: RegisterStore> Model for Line<S> {
     ghost use Rattle.hart_commands.specs.RequestData.{IsRequest};
-ghost use Rattle.hart_line.specs.Line.{LineState};
+    ghost use Rattle.hart_line.specs.Line.{LineState};
 
     ghost Value = { LineState };
 

@@ -2,7 +2,6 @@ use Rattle.std.proofs.Common.{◌≡◌, ℕ, ◌<◌, ◌≤◌, Some, arith, r
 use Rattle.std.specs.List.{slice_get}
 use Rattle.std.proofs.lemmas.List.{take_all}
 use Rattle.hart_device.specs.Device.{DeviceState}
-use Rattle.hart_values.specs.declared.master_id.MasterId.TheVariants.{Primary, Secondary}
 use Rattle.hart_commands.specs.declared.reply.Reply.{Reply}
 use Rattle.hart_line.specs.Promises.{AnswersLastSending, AreWellMade, start_of}
 use Rattle.hart_line.specs.Step.{IsLast}
