@@ -1,48 +1,15 @@
 -- What arrives in a leg, from what the code finds in it.
 use Rattle.std.proofs.Common.{◌≡◌, ℕ, ◌≤◌, ap, sym, refl, Option, None, Some, List, [], ◌∷◌, ◌++◌, length, replicate}
-use Rattle.hart_frame.specs.Character.{Character, faultless}
+use Rattle.hart_frame.specs.Character.{faultless}
 use Rattle.hart_frame.specs.FrameParts.{FrameParts}
-use Rattle.hart_frame.specs.Frames.{AreFrames, HasNoFrame, IsFirst}
+use Rattle.hart_frame.specs.Frames.{AreFrames}
 use Rattle.hart_frame.specs.Message.{IsMessage}
-use Rattle.hart_frame.specs.declared.found.Found.{Found}
 use Rattle.hart_line.specs.Damage.{Arrives}
-use Rattle.hart_line.specs.Leg.{ArrivesAmong, IsSent, IsUndetectedAmong}
+use Rattle.hart_line.specs.Leg.{IsSent}
 use Rattle.hart_line.specs.Spoken.{Message, Speaks, message_by}
 use Rattle.hart_line.specs.declared.event.Heard.TheVariants.{Clean}
 use Rattle.hart_line.specs.declared.report.Party.{Party}
 use Rattle.hart_line.specs.declared.report.Spoken.{Spoken}
-
--- AMONG CHARACTERS
-pub none_among : (chars : List Character) (sent : Option FrameParts) → HasNoFrame chars 0 → ArrivesAmong chars sent None
-none_among chars sent quiet = record { frames = []; are_frames = AreFrames.none 0 quiet; shown = refl }
-
-pub one_among : (chars : List Character) (sent : Option FrameParts) (found : Found) → IsFirst found chars 0
-    → HasNoFrame chars found.stop → sent ≡ Some found.frame → ArrivesAmong chars sent sent
-one_among chars sent found is_first no_more same = record {
-  frames = found ∷ [];
-  are_frames = AreFrames.first 0 found [] is_first (AreFrames.none found.stop no_more);
-  shown = (same, refl);
-}
-
-pub another_among : (chars : List Character) (sent : Option FrameParts) (found : Found) → IsFirst found chars 0
-    → HasNoFrame chars found.stop → (sent ≡ Some found.frame → ⊥) → IsUndetectedAmong chars sent
-another_among chars sent found is_first no_more apart = record {
-  frames = found ∷ [];
-  are_frames = AreFrames.first 0 found [] is_first (AreFrames.none found.stop no_more);
-  not_shown = λ arrived shown. apart shown.0;
-}
-
--- What the law of frames says of every list.
-abbrev pub HasFrames : Type 0
-HasFrames = (chars : List Character) (from : ℕ) → (frames : List Found) × AreFrames chars from frames
-
-pub several_among : HasFrames → (chars : List Character) (sent : Option FrameParts) (found second : Found) → IsFirst found chars 0
-    → IsFirst second chars found.stop → IsUndetectedAmong chars sent
-several_among every chars sent found second is_first is_second = record {
-  frames = found ∷ second ∷ (every chars second.stop).0;
-  are_frames = AreFrames.first 0 found _ is_first (AreFrames.first found.stop second _ is_second (every chars second.stop).1);
-  not_shown = λ arrived shown. shown;
-}
 
 -- A MESSAGE
 -- What the law of messages says.

@@ -7,10 +7,7 @@ ghost use Rattle.hart_line.specs.Spoken.{Message};
 
 use crate::stop::Stop;
 use crate::{Heard, Leg};
-use hart_frame::{
-    Char, Frame, every_list_has_frames, first_frame, frames_are_told_apart,
-    messages_have_their_frame_alone,
-};
+use hart_frame::{Char, Frame, LoneFrame, lone_frame, messages_have_their_frame_alone};
 
 /// The frame that arrives in a leg, if any does: the one that was sent.
 ///
@@ -52,19 +49,10 @@ pub fn arrived_among<'a>(
     ensures undetected { IfErr result (λ stop. IsUndetectedAmong chars.now (option_copied sent.entry)) }
     ensures leg { IfErr result (λ stop. stop ≡ Stop.Undetected leg) }
 {
-    // They do nothing when they run: by these laws the frames that are found are the only ones.
-    frames_are_told_apart();
-    every_list_has_frames();
-    let Some(found) = first_frame(chars, 0) else {
-        return Ok(None);
-    };
-    if let Some(_second) = first_frame(chars, found.stop) {
-        return Err(Stop::Undetected(leg));
-    }
-    if is_frame(sent, &found.frame) {
-        Ok(sent)
-    } else {
-        Err(Stop::Undetected(leg))
+    match lone_frame(chars) {
+        LoneFrame::NoFrame => Ok(None),
+        LoneFrame::Alone(found) if is_frame(sent, &found.frame) => Ok(sent),
+        LoneFrame::Alone(_) | LoneFrame::Several => Err(Stop::Undetected(leg)),
     }
 }
 
