@@ -12,7 +12,13 @@
 //! assert_eq!(rt; data.as_slice(), [0x01, 0x23, 0x45].as_slice());
 //! ```
 //!
-//! Who answers, and with what, is not of this crate. No call of it takes memory.
+//! [`request_code`] puts the refusals of a request in their order, for a device's write protection and its counter, and
+//! [`writes_of`] tells which registers a write gives which bytes. Who answers, and with what, is not of this crate. No call
+//! of it takes memory.
+//!
+//! The other crates of `hart` call neither [`is_write`] nor [`CodeList::new`]: these are for whoever makes requests with this
+//! library, and so are the laws that a written reply is read again, that only unknown commands are refused with code 64, and
+//! that [`Register::ALL`] has every register once.
 #![tactic(auto)]
 
 mod code_list;

@@ -22,9 +22,9 @@ impl<'a> Model for Overwrite<'a> {
     ghost view = { λ overwrite. overwrite.write.now };
 }
 
-impl Overwrite<'_> {
+impl<'a> Overwrite<'a> {
     /// The bytes that it gives a register, or `None` if it does not name it.
-    pub fn get(&self, register: Register) -> Option<&[u8]>
+    pub fn get(&self, register: Register) -> Option<&'a [u8]>
         ensures named { option_map (λ bytes. bytes.now) result ≡ named_in self.now register }
         ensures valid { IfSome result (λ bytes. IsValidIn register bytes.now) }
         ensures size { IfSome result (λ bytes. length bytes.now ≡ size_of register) }

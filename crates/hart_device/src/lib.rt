@@ -13,7 +13,9 @@
 //! assert_eq!(rt; reply.payload(), [0, 0, 0, 1].as_slice());
 //! ```
 //!
-//! No call of this crate takes memory.
+//! The program `hart` has the device of [`bench`]; [`Identity::new`] and [`RegisterStore`] are for devices of one's own. The laws
+//! [`overwrites_absorb`] and [`frames_leave_identity_and_protection`] no crate of `hart` cites: they are for whoever proves more of
+//! a device. No call of this crate takes memory.
 #![tactic(auto)]
 
 pub mod bench;
