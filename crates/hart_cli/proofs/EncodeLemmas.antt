@@ -35,4 +35,5 @@ IsRequestOf-one one words f g p q =
 -- words have one text
 pub IsEncoding-one : OneValue → OneBody → (words : MessageWords) (xs ys : List ℕ) → IsEncoding words xs → IsEncoding words ys → xs ≡ ys
 IsEncoding-one one law words xs ys p q =
-    IsMessageLine-one law p.frame q.frame words.preambles xs ys (IsRequestOf-one one words p.frame q.frame p.request q.request) p.line q.line
+    let frames = IsRequestOf-one one words p.frame q.frame p.request q.request in
+    IsMessageLine-one law p.frame q.frame words.preambles xs ys frames p.line q.line

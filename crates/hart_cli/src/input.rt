@@ -87,6 +87,3 @@ pub fn read_input<R: Source>(alloc: Global, reader: &mut R) -> Result<Input, All
         text.extend_from_slice(&buffer[..given])?;
     }
 }
-
-#[cfg(test)]
-mod tests;

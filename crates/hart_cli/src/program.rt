@@ -30,10 +30,10 @@ pub const NO_CALL: u8 = 2;
 
 /// Makes the call that the words after the program's name ask for, and gives the program's status.
 ///
-/// `answer`, `dump` and `sim` read from `reader` and write to `writer`; `encode` reads its words alone. The fault of a call
-/// goes to `errors` as a line. Where clap finds no matches for the words, reader and writer are not touched, and clap's own
-/// text, help among it, goes to `errors`: no clause says which. A failed write to `errors` ends the text there, and the status
-/// stays what it was.
+/// `answer`, `dump` and `sim` read from `reader` and write to `writer`; `encode` reads its words alone. At status 0 nothing goes
+/// to `errors`; at status 1 the line of the call's fault does, or a beginning of it if `errors` failed. At status 2, where clap
+/// finds no matches for the words, reader and writer are not touched, and clap's own text, help among it, goes to `errors`: no
+/// clause says which. A failed write to `errors` ends the text there, and the status stays what it was.
 pub fn program<R: Source, W: Sink, E: Sink>(
     alloc: Global,
     words: &[String],

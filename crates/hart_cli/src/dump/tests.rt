@@ -25,27 +25,6 @@ const FAILED_READS: &[(&str, usize, CliFault, &str)] = &[
     ),
 ];
 
-/// What `dump` answers for this input, and what it wrote where there is this much room.
-fn dumped(alloc: Global, input: &str, room: u64) -> (Result<(), CliFault>, Trickle) {
-    let mut reader = Tape::new(input.as_bytes(), None);
-    let mut writer = Trickle::new(alloc, room);
-    let result = dump(alloc, &mut reader, &mut writer);
-    (result, writer)
-}
-
-#[test]
-fn the_longest_body_is_dumped(rt: HostRuntime) -> Result<(), Fail> {
-    let alloc = rt.alloc();
-    let preamble = "FF".repeat(alloc, 20)?;
-    let payload = "00".repeat(alloc, 255)?;
-    let input = format!(in alloc; "{preamble}E28000000000000000 00FF{payload}9D")?;
-    let (result, writer) = dumped(alloc, input.as_str(), u64::MAX);
-    assert_eq!(rt; result, Ok(()));
-    let line = format!(in alloc; "20 287 STX P 0 all 000000 0 {payload}\n")?;
-    assert_eq!(rt; writer.taken(), line.as_bytes());
-    Ok(())
-}
-
 #[test]
 fn a_failed_read_comes_after_what_was_decided_before_it(rt: HostRuntime) {
     for (input, read, fault, lines) in FAILED_READS {
@@ -54,17 +33,6 @@ fn a_failed_read_comes_after_what_was_decided_before_it(rt: HostRuntime) {
         let result = dump(rt.alloc(), &mut reader, &mut writer);
         assert_eq!(rt; result, Err(*fault), "at read {read}");
         assert_eq!(rt; writer.taken(), lines.as_bytes(), "at read {read}");
-    }
-}
-
-#[test]
-fn a_failed_write_leaves_a_front_of_the_lines(rt: HostRuntime) {
-    let lines = BOTH_LINES.as_bytes();
-    for (room, _) in lines.iter().enumerate() {
-        let (result, writer) = dumped(rt.alloc(), TWO_FRAMES, room as u64);
-        assert_eq!(rt; result, Err(CliFault::Write), "with room for {room}");
-        assert_eq!(rt; writer.taken(), &lines[..room]);
-        assert_eq!(rt; writer.failures(), 1);
     }
 }
 

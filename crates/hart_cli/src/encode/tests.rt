@@ -79,17 +79,12 @@ const BAD_WORDS: &[([&str; 4], u8)] = &[
     (["S", "all", "", "0"], 3),
 ];
 
-/// What `encode_text` answers for these four words, and what it wrote where there is this much room.
-fn encoded(
-    alloc: Global,
-    words: [&str; 4],
-    preambles: u8,
-    room: u64,
-) -> (Result<(), CliFault>, Trickle)
+/// What `encode_text` answers for these four words, and what it wrote.
+fn encoded(alloc: Global, words: [&str; 4], preambles: u8) -> (Result<(), CliFault>, Trickle)
     requires { IsPreambleCount preambles }
 {
     let [who, address, command, payload] = words;
-    let mut writer = Trickle::new(alloc, room);
+    let mut writer = Trickle::new(alloc, u64::MAX);
     let result = encode_text(
         alloc,
         who,
@@ -105,7 +100,7 @@ fn encoded(
 #[test]
 fn requests_are_written(rt: HostRuntime) {
     for (words, line) in REQUESTS {
-        let (result, writer) = encoded(rt.alloc(), *words, 5, 1000);
+        let (result, writer) = encoded(rt.alloc(), *words, 5);
         assert_eq!(rt; result, Ok(()), "at {line}");
         assert_eq!(rt; writer.taken(), line.as_bytes(), "at {line}");
     }
@@ -116,14 +111,14 @@ fn data_have_255_bytes_at_most(rt: HostRuntime) -> Result<(), Fail> {
     let alloc = rt.alloc();
     let payload = "00".repeat(alloc, 255)?;
     let words = ["P", "4000000000", "0", payload.as_str()];
-    let (result, writer) = encoded(alloc, words, 20, 1000);
+    let (result, writer) = encoded(alloc, words, 20);
     assert_eq!(rt; result, Ok(()));
     let preamble = "FF ".repeat(alloc, 20)?;
     let zeros = "00 ".repeat(alloc, 255)?;
     let line = format!(in alloc; "{preamble}82 80 00 00 00 00 00 FF {zeros}FD\n")?;
     assert_eq!(rt; writer.taken(), line.as_bytes());
     let longer = "7F".repeat(alloc, 256)?;
-    let (result, writer) = encoded(alloc, ["P", "all", "0", longer.as_str()], 5, 1000);
+    let (result, writer) = encoded(alloc, ["P", "all", "0", longer.as_str()], 5);
     assert_eq!(rt; result, Err(CliFault::BadWord { number: 4 }));
     assert!(rt; writer.taken().is_empty());
     Ok(())
@@ -132,22 +127,10 @@ fn data_have_255_bytes_at_most(rt: HostRuntime) -> Result<(), Fail> {
 #[test]
 fn the_first_bad_word_is_told(rt: HostRuntime) {
     for (words, number) in BAD_WORDS {
-        let (result, writer) = encoded(rt.alloc(), *words, 5, 1000);
+        let (result, writer) = encoded(rt.alloc(), *words, 5);
         let number = *number;
         assert_eq!(rt; result, Err(CliFault::BadWord { number }));
         assert!(rt; writer.taken().is_empty());
         assert_eq!(rt; writer.failures(), 0);
-    }
-}
-
-#[test]
-fn a_failed_write_leaves_a_front_of_the_line(rt: HostRuntime) {
-    let line = "FF FF FF FF FF 02 80 00 00 82\n".as_bytes();
-    for (room, _) in line.iter().enumerate() {
-        let words = ["P", "@0", "0", ""];
-        let (result, writer) = encoded(rt.alloc(), words, 5, room as u64);
-        assert_eq!(rt; result, Err(CliFault::Write));
-        assert_eq!(rt; writer.taken(), &line[..room]);
-        assert_eq!(rt; writer.failures(), 1);
     }
 }

@@ -5,6 +5,7 @@ use crate::plain::Plain;
 use crate::stream::fakes::{Drip, Tape, Trickle};
 use crate::stream::{Sink, Source};
 use std::alloc::{AllocError, Global};
+use std::process::Abort;
 use std::test::Fail;
 
 mod answer;
@@ -15,7 +16,7 @@ mod sim;
 /// The words of each call, an input, and what it writes where it reads that.
 const CALLS: &[(&[&str], &str, &str)] = &[
     (&["answer"], IDENTIFY, answer::REPLY_TO_PRIMARY),
-    (&["dump"], IDENTIFY, "2 7 STX P 0 @0 - 0 -\n"),
+    (&["dump"], dump::TWO_MESSAGES, dump::TWO_LINES),
     (&["sim"], "turn P ok ok", sim::AS_IT_WAS),
     (&["encode", "P", "@0", "0"], "", encode::IDENTIFY),
 ];
@@ -72,97 +73,17 @@ fn run_on(alloc: Global, words: &[&str], input: &str) -> Result<Run, AllocError>
     run_program(alloc, words, reader, u64::MAX, u64::MAX)
 }
 
-/// A subcommand without words of its own, and inputs with what it writes for each.
-const ROWS: &[(&str, &[(&str, &str)])] = &[("answer", answer::ROWS), ("sim", sim::ROWS)];
+/// An input, what is written for it, and the line of its fault, if it has one.
+type Row<'a> = (&'a str, &'a str, &'a str);
 
-#[test]
-fn inputs_are_carried_out(rt: HostRuntime) -> Result<(), Fail> {
-    for (word, rows) in ROWS {
-        for (input, want) in *rows {
-            let run = run_on(rt.alloc(), &[*word], input)?;
-            assert_eq!(rt; run.status, DONE, "on {input}");
-            assert_eq!(rt; run.output.taken(), want.as_bytes(), "on {input}");
-            assert!(rt; run.errors.taken().is_empty(), "on {input}");
-        }
-    }
-    Ok(())
-}
-
-/// Words, an input, and the line of the fault that they come to, with nothing written.
-const FAULTS: &[(&[&str], &str, &str)] = &[
-    (&["answer"], "FF FF 0G", "bad hex at 6\n"),
-    (&["dump"], "FF FF 0G", "bad hex at 6\n"),
-    (&["answer"], "FF FF 02 80 00 00 8", "bad hex at 18\n"),
-    (&["dump"], "FF FF 02 80 00 00 8", "bad hex at 18\n"),
-    (&["dump"], "02!08", "bad hex at 0\n"),
-    (&["answer"], "FF!40!40", "bad hex at 5\n"),
-    (&["answer"], "F F", "bad hex at 0\n"),
-    (&["dump"], "\u{e9}", "bad hex at 0\n"),
-    (
-        &["sim"],
-        "submit P @0 0\nturn P ok FFFF06800002000084\n",
-        "undetected damage at event 1, down\n",
-    ),
-    (
-        &["sim"],
-        "submit P 37420A1B2C 19 012345\nturn P FFFF82B7420A1B2C13030123463E ok\n",
-        "undetected damage at event 1, up\n",
-    ),
-    (
-        &["sim"],
-        "\
-submit P 37420A1B2C 17 FFFF02800000820000000000000000000000000000000000\n\
-turn P FFFF82!40B7420A1B2C1118FFFF0280000082000000000000000000000000000000000043 ok\n",
-        "undetected damage at event 1, up\n",
-    ),
-    (
-        &["sim"],
-        "turn P FFFF0280000082 ok",
-        "undetected damage at event 0, up\n",
-    ),
-    (
-        &["sim"],
-        "# Frames from nowhere\n\nprotect on\nturn P ok FFFF0280000082",
-        "undetected damage at event 1, down\n",
-    ),
-    (
-        &["sim"],
-        "noise FFFF0280000082",
-        "undetected damage at event 0, noise\n",
-    ),
-    (&["sim"], "submit P 37420A1B2C 6 4001", "bad line 1\n"),
-    (&["sim"], "submit P 37420A1B2C 19 0123", "bad line 1\n"),
-    (&["sim"], "submit P 37420A1B2C 256", "bad line 1\n"),
-    (&["sim"], "submit P @64 0", "bad line 1\n"),
-    (&["sim"], "submit X @0 0", "bad line 1\n"),
-    (&["sim"], "submit P @0", "bad line 1\n"),
-    (&["sim"], "turn P ok", "bad line 1\n"),
-    (&["sim"], "turn P ok ok\r\r", "bad line 1\n"),
-    (&["sim"], "turn P ok ok #", "bad line 1\n"),
-    (&["sim"], "turn P FF FF ok", "bad line 1\n"),
-    (&["sim"], "noise", "bad line 1\n"),
-    (&["sim"], "noise FF!08", "bad line 1\n"),
-    (&["sim"], "noise FF\rFF", "bad line 1\n"),
-    (&["sim"], "noise FF FF", "bad line 1\n"),
-    (&["sim"], "noise FF\tFF", "bad line 1\n"),
-    (&["sim"], "protect", "bad line 1\n"),
-    (&["sim"], "\r#", "bad line 1\n"),
-    (&["sim"], "protect on\nturn X ok ok\n", "bad line 2\n"),
-    (&["sim"], "#\n\nturn P ok ok ok", "bad line 3\n"),
-    (&["sim"], "noise FFFF0280000082\nprotect", "bad line 2\n"),
-    (&["encode", "p", "@64", "0"], "", "bad word 1\n"),
-    (&["encode", "P", "@64", "0"], "", "bad word 2\n"),
-    (&["encode", "P", "@0", "256"], "", "bad word 3\n"),
-    (&["encode", "P", "@0", "0", "0"], "", "bad word 4\n"),
-];
-
-#[test]
-fn a_fault_is_told_at_its_place(rt: HostRuntime) -> Result<(), Fail> {
-    for (words, input, want) in FAULTS {
-        let run = run_on(rt.alloc(), words, input)?;
-        assert_eq!(rt; run.status, FAULT, "on {input} for {want}");
-        assert_eq!(rt; run.errors.taken(), want.as_bytes(), "on {input}");
-        assert!(rt; run.output.taken().is_empty(), "on {input} for {want}");
+/// Runs a subcommand without words of its own on the input of each row.
+fn check_rows(rt: &impl Abort, alloc: Global, word: &str, rows: &[Row]) -> Result<(), Fail> {
+    for (input, want, fault) in rows {
+        let run = run_on(alloc, &[word], input)?;
+        let status = if fault.is_empty() { DONE } else { FAULT };
+        assert_eq!(rt; run.status, status, "on {input}");
+        assert_eq!(rt; run.output.taken(), want.as_bytes(), "on {input}");
+        assert_eq!(rt; run.errors.taken(), fault.as_bytes(), "on {input}");
     }
     Ok(())
 }

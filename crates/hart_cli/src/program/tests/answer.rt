@@ -1,6 +1,6 @@
 //! `hart answer`.
 
-use super::{DONE, run_on};
+use super::{DONE, Row, check_rows, run_on};
 use std::test::Fail;
 
 pub const REPLY_TO_PRIMARY: &str = "\
@@ -9,40 +9,49 @@ FF FF FF FF FF 06 80 00 18 00 00 FE 37 42 05 07 01 02 18 00 0A 1B 2C 05 04 00 00
 const REPLY_TO_SECONDARY: &str = "\
 FF FF FF FF FF 06 00 00 18 00 00 FE 37 42 05 07 01 02 18 00 0A 1B 2C 05 04 00 00 00 00 37 00 37 01 B1\n";
 
-/// A delivery, and the reply to it, which is nothing where the device keeps silent.
-pub const ROWS: &[(&str, &str)] = &[
-    ("FF FF FF FF FF 02 80 00 00 82", REPLY_TO_PRIMARY),
-    ("FF FF 02 00 00 00 02", REPLY_TO_SECONDARY),
-    ("ffff0280000082", REPLY_TO_PRIMARY),
-    ("\tFF FF\r\n02 80 00 00 82\r\n", REPLY_TO_PRIMARY),
-    ("FF FF 02 C0 00 00 C2", REPLY_TO_PRIMARY),
-    ("FF FF 02 80 00 02 12 34 A6", REPLY_TO_PRIMARY),
-    ("00 FF FF 02 80 00 00 82", REPLY_TO_PRIMARY),
-    ("FF!40 FF FF 02 80 00 00 82", REPLY_TO_PRIMARY),
-    ("FF FF 02 80 00 00 82 00!10", REPLY_TO_PRIMARY),
+/// A delivery, the reply to it, which is nothing if the device keeps silent, and the line of its fault.
+const ROWS: &[Row] = &[
+    ("FF FF FF FF FF 02 80 00 00 82", REPLY_TO_PRIMARY, ""),
+    ("FF FF 02 00 00 00 02", REPLY_TO_SECONDARY, ""),
+    ("ffff0280000082", REPLY_TO_PRIMARY, ""),
+    ("\tFF FF\r\n02 80 00 00 82\r\n", REPLY_TO_PRIMARY, ""),
+    ("FF FF 02 C0 00 00 C2", REPLY_TO_PRIMARY, ""),
+    ("FF FF 02 80 00 02 12 34 A6", REPLY_TO_PRIMARY, ""),
+    ("00 FF FF 02 80 00 00 82", REPLY_TO_PRIMARY, ""),
+    ("FF!40 FF FF 02 80 00 00 82", REPLY_TO_PRIMARY, ""),
+    ("FF FF 02 80 00 00 82 00!10", REPLY_TO_PRIMARY, ""),
     (
         "FF FF 82 B7 42 0A 1B 2C 13 FF FF FF FF FF FF 02 80 00 00 82",
         REPLY_TO_PRIMARY,
+        "",
     ),
-    ("", ""),
-    (" \t\r\n", ""),
-    ("FF FF FF", ""),
-    ("02 80 00 00 82", ""),
-    ("FF 02 80 00 00 82", ""),
-    ("FF FF!40 02 80 00 00 82", ""),
-    ("FF FF 02 80 00!02 00 82", ""),
-    ("FF FF 02 80 00 00 83", ""),
-    ("FF FF 02 80 00 00", ""),
-    ("FF FF 02 80 00 00 82 FF FF 02 80 00 00 82", ""),
-    ("FF FF 02 80 00 00 82 FF FF 02 00 00 00 02", ""),
-    ("FF FF 02 81 00 00 83", ""),
-    ("FF FF 02 80 01 00 83", ""),
-    ("FF FF 06 80 00 02 00 00 84", ""),
-    ("FF FF 22 80 55 00 00 F7", ""),
-    ("FF FF 82 B7 42 0A 1B 2D 00 00 4B", ""),
-    ("FF FF 82 80 00 00 00 00 0B 06 41 53 50 B7 1C 31 D7", ""),
-    ("FF FF 82 80 00 00 00 00 00 00 02", ""),
+    ("", "", ""),
+    (" \t\r\n", "", ""),
+    ("FF FF FF", "", ""),
+    ("02 80 00 00 82", "", ""),
+    ("FF 02 80 00 00 82", "", ""),
+    ("FF FF!40 02 80 00 00 82", "", ""),
+    ("FF FF 02 80 00!02 00 82", "", ""),
+    ("FF FF 02 80 00 00 83", "", ""),
+    ("FF FF 02 80 00 00", "", ""),
+    ("FF FF 02 80 00 00 82 FF FF 02 80 00 00 82", "", ""),
+    ("FF FF 02 80 00 00 82 FF FF 02 00 00 00 02", "", ""),
+    ("FF FF 02 81 00 00 83", "", ""),
+    ("FF FF 02 80 01 00 83", "", ""),
+    ("FF FF 06 80 00 02 00 00 84", "", ""),
+    ("FF FF 22 80 55 00 00 F7", "", ""),
+    ("FF FF 82 B7 42 0A 1B 2D 00 00 4B", "", ""),
+    ("FF FF 82 80 00 00 00 00 0B 06 41 53 50 B7 1C 31 D7", "", ""),
+    ("FF FF 82 80 00 00 00 00 00 00 02", "", ""),
+    ("FF FF 0G", "", "bad hex at 6\n"),
+    ("FF FF 02 80 00 00 8", "", "bad hex at 18\n"),
+    ("F F", "", "bad hex at 0\n"),
 ];
+
+#[test]
+fn deliveries_are_answered(rt: HostRuntime) -> Result<(), Fail> {
+    check_rows(&rt, rt.alloc(), "answer", ROWS)
+}
 
 /// What a request to the device's own unique address has after that address, and what its reply has there.
 const OWN_ROWS: &[(&str, &str)] = &[

@@ -1,6 +1,6 @@
 //! `hart dump`.
 
-use super::{DONE, FAULT, run_on};
+use super::{DONE, Row, check_rows, run_on};
 use std::test::Fail;
 
 /// A message that begins and goes on far behind the whole one within it.
@@ -8,16 +8,17 @@ const FALSE_START: &str = "FF FF 82 B7 42 0A 1B 2C 13 FF FF FF FF FF FF 02 80 00
 
 const FIRST_LINE: &str = "2 7 STX P 0 @0 - 0 -\n";
 
+/// A message of each master, and their lines.
+pub const TWO_MESSAGES: &str = "FF FF 02 80 00 00 82 FF FF 02 00 00 00 02";
+
+pub const TWO_LINES: &str = "2 7 STX P 0 @0 - 0 -\n9 14 STX S 0 @0 - 0 -\n";
+
 /// What was heard, its lines, and the line of its fault, if it has one.
-const ROWS: &[(&str, &str, &str)] = &[
+const ROWS: &[Row] = &[
     ("", "", ""),
     ("02 80 00 00 82", "", ""),
     ("FF FF 02 80 00 00 82", FIRST_LINE, ""),
-    (
-        "FF FF 02 80 00 00 82 FF FF 02 00 00 00 02",
-        "2 7 STX P 0 @0 - 0 -\n9 14 STX S 0 @0 - 0 -\n",
-        "",
-    ),
+    (TWO_MESSAGES, TWO_LINES, ""),
     (
         "FF FF 02 80 7D 00 FF FF 02 00 00 00 02",
         "2 7 STX P 0 @0 - 125 -\n",
@@ -44,6 +45,9 @@ const ROWS: &[(&str, &str, &str)] = &[
     ("FF FF 22 BF 55 00 00 C8", "2 8 STX P 0 @63 55 0 -\n", ""),
     ("FF FF 02 80 00 00 82 8", FIRST_LINE, "bad hex at 21\n"),
     ("FF FF 02 80 00 00 82!08", "", "bad hex at 18\n"),
+    ("FF FF 0G", "", "bad hex at 6\n"),
+    ("02!08", "", "bad hex at 0\n"),
+    ("\u{e9}", "", "bad hex at 0\n"),
     (
         "FFFF0280000082 G FFFF0200000002",
         FIRST_LINE,
@@ -53,22 +57,26 @@ const ROWS: &[(&str, &str, &str)] = &[
 
 #[test]
 fn frames_in_noise_have_a_line_each(rt: HostRuntime) -> Result<(), Fail> {
-    for (input, want, fault) in ROWS {
-        let run = run_on(rt.alloc(), &["dump"], input)?;
-        let status = if fault.is_empty() { DONE } else { FAULT };
-        assert_eq!(rt; run.status, status, "on {input}");
-        assert_eq!(rt; run.output.taken(), want.as_bytes(), "on {input}");
-        assert_eq!(rt; run.errors.taken(), fault.as_bytes(), "on {input}");
-    }
-    Ok(())
+    check_rows(&rt, rt.alloc(), "dump", ROWS)
 }
 
 #[test]
-fn a_frame_is_found_within_one_that_fails(rt: HostRuntime) -> Result<(), Fail> {
-    let zeros = " 00".repeat(rt.alloc(), 246)?;
-    let input = format!(in rt.alloc(); "{FALSE_START}{zeros}")?;
-    let run = run_on(rt.alloc(), &["dump"], input.as_str())?;
-    assert_eq!(rt; run.status, DONE);
-    assert_eq!(rt; run.output.taken(), b"15 20 STX P 0 @0 - 0 -\n".as_slice());
+fn long_messages_are_found_or_passed_over(rt: HostRuntime) -> Result<(), Fail> {
+    let alloc = rt.alloc();
+    let preamble = "FF".repeat(alloc, 20)?;
+    let payload = "00".repeat(alloc, 255)?;
+    let longest = format!(in alloc; "{preamble}E28000000000000000 00FF{payload}9D")?;
+    let line = format!(in alloc; "20 287 STX P 0 all 000000 0 {payload}\n")?;
+    let zeros = " 00".repeat(alloc, 246)?;
+    let failing = format!(in alloc; "{FALSE_START}{zeros}")?;
+    let rows = [
+        (longest.as_str(), line.as_str()),
+        (failing.as_str(), "15 20 STX P 0 @0 - 0 -\n"),
+    ];
+    for (input, want) in rows {
+        let run = run_on(alloc, &["dump"], input)?;
+        assert_eq!(rt; run.status, DONE, "on {input}");
+        assert_eq!(rt; run.output.taken(), want.as_bytes(), "on {input}");
+    }
     Ok(())
 }
