@@ -149,11 +149,13 @@ impl<S: RegisterStore> Line<S> {
         let Some(request) = &sent else {
             return pass_silence(up, down);
         };
-        self.spoken.speak(party_of(who), MASTER_PREAMBLES, Some(request))?;
+        self.spoken
+            .speak(party_of(who), MASTER_PREAMBLES, Some(request))?;
         let arrived = arrived_in(Leg::Up, up, Some(request))?;
         let preambles = self.device.response_preambles();
         let answer = answer(&mut self.device, arrived, process);
-        self.spoken.speak(Party::Device, preambles, answer.as_ref())?;
+        self.spoken
+            .speak(Party::Device, preambles, answer.as_ref())?;
         let returned = arrived_in(Leg::Down, down, answer.as_ref())?;
         self.masters.conclude(who, returned, &mut self.outcomes);
         Ok(())

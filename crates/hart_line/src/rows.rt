@@ -58,11 +58,7 @@ impl<T: Drop> From<AllocFailed<T>> for RowFault {
 /// # Errors
 ///
 /// [`LineFault::BadLine`] with the number if it says no event and is no such line; [`LineFault::Memory`] if a growth was refused.
-pub fn read_line(
-    alloc: Global,
-    number: usize,
-    line: &[u8],
-) -> Result<Option<LineEvent>, LineFault>
+pub fn read_line(alloc: Global, number: usize, line: &[u8]) -> Result<Option<LineEvent>, LineFault>
     ensures { SaysLine number (words_of line.now) result }
 {
     let Some((first, rest)) = next_word(line) else {

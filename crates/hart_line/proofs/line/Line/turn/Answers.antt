@@ -1,4 +1,4 @@
-use Rattle.std.proofs.Common.{arith}
+use Rattle.std.proofs.Common.{Some, arith}
 use Rattle.std.specs.Option.{option_copied}
 use Rattle.std.proofs.lemmas.Result.{IfErr-weaker, err_from_is_err_and, on_ok_weaker}
 use Rattle.hart_line.specs.Step.{message_of}
@@ -37,7 +37,8 @@ returns-in_err-arrived-clause-stopped g c =
     let s = rw (← c.self.view_is) at stands in
     let sent = rw c.in-Some.is at (c.send-sent.ensures start.retries world.hands s.masters_are) in
     let requested = rw (c.party_of.ensures, sent.2) at c.in_ok-speak.ensures in
-    rw sent.1 (c.in_err-arrived.ensures.undetected _ (request_sent _ (message_of c.args.who sent.0) _ _ sent.2 (omega arith) requested)))
+    rw sent.1 (c.in_err-arrived.ensures.undetected (Some (message_of c.args.who sent.0))
+    (request_sent _ (message_of c.args.who sent.0) _ _ sent.2 (omega arith) requested)))
 
 pub returns-in_err-returned-clause-stopped : goal.returns-in_err-returned-clause-stopped
 returns-in_err-returned-clause-stopped g c =
@@ -48,11 +49,13 @@ returns-in_err-returned-clause-stopped g c =
     let sent = rw c.in-Some.is at (c.send-sent.ensures start.retries world.hands s.masters_are) in
     let requested = rw (c.party_of.ensures, sent.2) at c.in_ok-speak.ensures in
     let enough = c.response_preambles-preambles.ensures.in_range.0 in
-    let told = rw (c.as_ref.ensures.value, c.response_preambles-preambles.ensures.same) at c.in_ok-speak-2.ensures in
-    (option_copied c.in_ok-arrived.arrived,
-    rw sent.1 (c.in_ok-arrived.ensures.arrives _ (request_sent _ (message_of c.args.who sent.0) _ _ sent.2 (omega arith) requested)),
-    rw (c.answer-answer.ensures.answer, s.device_is, ← process) at (c.in_err-returned.ensures.undetected _
-    (reply_sent _ _ _ _ _ _ c.as_ref-2.ensures.value (omega (arith, enough)) told))))
+    let told = rw (c.as_ref.ensures.value, c.response_preambles-preambles.ensures.same) at c.in_ok-speak-2.ensures in (
+      option_copied c.in_ok-arrived.arrived,
+      rw sent.1 (c.in_ok-arrived.ensures.arrives (Some (message_of c.args.who sent.0))
+          (request_sent _ (message_of c.args.who sent.0) _ _ sent.2 (omega arith) requested)),
+      rw (c.answer-answer.ensures.answer, s.device_is, ← process) at (c.in_err-returned.ensures.undetected _
+          (reply_sent _ _ _ _ _ _ c.as_ref-2.ensures.value (omega (arith, enough)) told)),
+    ))
 
 pub returns-clause-stepped : goal.returns-clause-stepped
 returns-clause-stepped g c = λ start world process within stands.
@@ -63,7 +66,8 @@ returns-clause-stepped g c = λ start world process within stands.
     let told = rw (c.as_ref.ensures.value, c.response_preambles-preambles.ensures.same) at c.in_ok-speak-2.ensures in
     rw (c.answer-answer.ensures.state, s.device_is) (turned_stands c.registers_of_lists.ensures.last start world c.args.who c.args.up.now
     c.args.down.now sent.0 _ _ _ _ _ _ _ within sent.1
-    (c.in_ok-arrived.ensures.arrives _ (request_sent _ (message_of c.args.who sent.0) _ _ sent.2 (omega arith) requested))
+    (c.in_ok-arrived.ensures.arrives (Some (message_of c.args.who sent.0))
+    (request_sent _ (message_of c.args.who sent.0) _ _ sent.2 (omega arith) requested))
     (rw (c.answer-answer.ensures.answer, s.device_is, ← process) at (c.in_ok-returned.ensures.arrives _
     (reply_sent _ _ _ _ _ _ c.as_ref-2.ensures.value (omega (arith, enough)) told)))
     s.spoken_are requested (rw (c.answer-answer.ensures.answer, s.device_is, ← process) at told)
