@@ -1,5 +1,5 @@
 -- What the masters of a line do is what the world says of their hands.
-use Rattle.std.proofs.Common.{◌≡◌, ℕ, refl, Bool, true, false, if◌then◌else◌, List, Option, None, Some, MatchOption, Ok, Err}
+use Rattle.std.proofs.Common.{◌≡◌, ℕ, refl, Bool, true, false, if◌then◌else◌, List, Option, None, Some, Ok, Err}
 use Rattle.hart_values.specs.declared.address.Address.{Address}
 use Rattle.hart_values.specs.declared.master_id.MasterId.{MasterId}
 use Rattle.hart_frame.specs.FrameParts.{FrameParts}
@@ -10,7 +10,7 @@ use Rattle.hart_master.specs.declared.fault.MasterFault.{MasterFault}
 use Rattle.hart_master.specs.declared.fault.MasterFault.TheVariants.{WrongAddress}
 use Rattle.hart_master.specs.declared.fault.Rejected.{Rejected}
 use Rattle.hart_master.specs.declared.hand.Hand.TheVariants.{Empty, ToSend}
-use Rattle.hart_line.specs.Masters.{Concludes, Submits, hand_of}
+use Rattle.hart_line.specs.Masters.{Concludes, Sends, Submits, hand_of}
 use Rattle.hart_line.specs.Step.{submission_fault}
 use Rattle.hart_line.specs.World.{InHand}
 use Rattle.hart_line.specs.declared.report.Outcome.{Outcome}
@@ -31,10 +31,11 @@ refused_submits None place address request rejected Left is left = by_test (may_
     by_test true is left = cc
     by_test false is left = (cc, left refl)
 
-pub sends_more : {Silent Silent' : Type 0} {Sent Sent' : FrameParts → Type 0} (frame : Option FrameParts) → (Silent → Silent')
-    → ((sent : FrameParts) → Sent sent → Sent' sent) → MatchOption frame Silent Sent → MatchOption frame Silent' Sent'
-sends_more None silent sent s = silent s
-sends_more (Some frame) silent sent s = sent frame s
+pub sends_more : {Silent Silent' : Type 0} {Sent Sent' : InHand → Type 0} (who : MasterId) (held : Option InHand)
+    (frame : Option FrameParts) → (Silent → Silent') → ((sent : InHand) → Sent sent → Sent' sent)
+    → Sends who held frame Silent Sent → Sends who held frame Silent' Sent'
+sends_more who held None silent sent s = (s.0, silent s.1)
+sends_more who held (Some frame) silent sent s = (s.0, s.1, s.2, sent s.0 s.3)
 
 pub submits_more : {Left Left' : Option InHand → Type 0} (held : Option InHand) (place : ℕ) (address : Address) (request : Request)
     (fault : Option MasterFault) (outcome : Outcome) → ((left : Option InHand) → Left left → Left' left)

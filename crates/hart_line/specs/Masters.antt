@@ -11,12 +11,12 @@ use Rattle.hart_master.specs.Master.{hand_sent}
 use Rattle.hart_master.specs.declared.hand.Hand.{Hand}
 use Rattle.hart_master.specs.declared.hand.Hand.TheVariants.{Empty, ToSend}
 use Rattle.hart_master.specs.declared.fault.MasterFault.{MasterFault}
-use Rattle.hart_line.specs.Step.{Accepts, hand_left, outcome_of}
+use Rattle.hart_line.specs.Step.{Accepts, hand_left, message_of, outcome_of}
 use Rattle.hart_line.specs.World.{InHand}
 use Rattle.hart_line.specs.declared.masters.Masters.{Masters}
 use Rattle.hart_line.specs.declared.masters.Submitter.{Submitter}
 use Rattle.hart_line.specs.declared.report.Outcome.{Outcome}
-use Rattle.hart_line.specs.declared.report.Outcome.TheVariants.{Unfinished, Refused}
+use Rattle.hart_line.specs.declared.report.Outcome.TheVariants.{Answered, Unfinished, Refused}
 
 -- What a world has in a master's hand is a request that is to be sent, with its sendings so far; or the hand is empty.
 abbrev pub hand_of : Option InHand → Hand
@@ -59,6 +59,18 @@ abbrev pub Submits : Option InHand → ℕ → Address → Request → Option Ma
 Submits held place address request None outcome Left = (outcome ≡ Unfinished 0)
     × Left (Some (record { submission = place; address = address; request = request; sendings = 0 }))
 Submits held place address request (Some fault) outcome Left = (outcome ≡ Refused fault) × Left held
+
+-- A master with nothing in hand sends nothing; otherwise it sends the frame of its message.
+abbrev pub Sends : MasterId → Option InHand → Option FrameParts → (Silent : Type 0) → (Sent : InHand → Type 0) → Type 0
+Sends who held None Silent Sent = (held ≡ None) × Silent
+Sends who held (Some frame) Silent Sent =
+    (sent : InHand) × (held ≡ Some sent) × (frame ≡ (message_of who sent).frame) × Sent sent
+
+-- What comes back is no reply to the request that a master awaits, or it is one, by which the request is answered.
+abbrev pub Hears : MasterId → InHand → Option FrameParts → Option Outcome → (Unanswered Done : Type 0) → Type 0
+Hears who held returned None Unanswered Done = Accepts who (Some held) returned None × Unanswered
+Hears who held returned (Some outcome) Unanswered Done =
+    (reply : Reply) × Accepts who (Some held) returned (Some reply) × (outcome ≡ Answered reply (held.sendings + 1)) × Done
 
 -- A turn of a master ends with its request's outcome, by the reply that is accepted, if any; by that the request stays in hand or
 -- leaves it.

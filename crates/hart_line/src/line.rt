@@ -1,12 +1,12 @@
 //! The line: a device and its two masters, and what an event does to them.
-ghost use Rattle.std.specs.Prelude.{◌≡◌, ◌≤◌, [], ◌∷◌, IfErr, IfOk, None, OnOk};
+ghost use Rattle.std.specs.Prelude.{◌≡◌, [], ◌∷◌, IfErr, None, OnOk};
 ghost use Rattle.std.specs.Option.{option_copied};
 ghost use Rattle.hart_values.specs.declared.master_id.MasterId.{MasterId};
 ghost use Rattle.hart_values.specs.EachMaster.{of_master};
 ghost use Rattle.hart_commands.specs.RequestData.{IsRequest};
 ghost use Rattle.hart_line.specs.Line.{MarksWithin, Stands, Stepped, StopsStep, state_heard};
 ghost use Rattle.hart_line.specs.Promises.{AreWellMade};
-ghost use Rattle.hart_line.specs.Spoken.{Speaks, message_by, party_of};
+ghost use Rattle.hart_line.specs.Spoken.{party_of};
 ghost use Rattle.hart_line.specs.Step.{Step, frame_answered, submission_fault, submitted};
 ghost use Rattle.hart_line.specs.World.{Start, World};
 ghost use Rattle.hart_line.specs.declared.event.LineEvent.TheVariants.{Turn};
@@ -149,13 +149,18 @@ impl<S: RegisterStore> Line<S> {
     {
         // It does nothing when it runs: what overwrites leave is what the world's registers rest on.
         registers_of_lists();
-        let Some(request) = self.masters.send(who) else {
+        // Frames are lent from where they were made: each is some 300 bytes.
+        let sent = self.masters.send(who);
+        let Some(request) = &sent else {
             return pass_silence(up, down);
         };
         self.spoken
-            .speak(party_of(who), MASTER_PREAMBLES, &request)?;
-        let arrived = arrived_in(Leg::Up, up, Some(&request))?;
-        let answer = answer(&mut self.device, &mut self.spoken, arrived, process)?;
+            .speak(party_of(who), MASTER_PREAMBLES, Some(request))?;
+        let arrived = arrived_in(Leg::Up, up, Some(request))?;
+        let preambles = self.device.response_preambles();
+        let answer = answer(&mut self.device, arrived, process);
+        self.spoken
+            .speak(Party::Device, preambles, answer.as_ref())?;
         let returned = arrived_in(Leg::Down, down, answer.as_ref())?;
         self.masters.conclude(who, returned, &mut self.outcomes);
         Ok(())
@@ -184,26 +189,14 @@ fn party_of(id: MasterId) -> Party
     }
 }
 
-/// What a device answers to what arrives, which is spoken.
+/// What a device answers to what arrives.
 fn answer<S: RegisterStore>(
     device: &mut Device<S>,
-    spoken: &mut SpokenList,
     arrived: Option<&Frame>,
     process: &Process,
-) -> Result<Option<Frame>, AllocError>
-    ensures answer { IfOk result (λ answer. answer ≡ frame_answered device.old process.now (option_copied arrived.entry)) }
+) -> Option<Frame>
+    ensures answer { result ≡ frame_answered device.old process.now (option_copied arrived.entry) }
     ensures state { device.new ≡ state_heard device.old (option_copied arrived.entry) }
-    ensures told { IfOk result (λ answer. Speaks (message_by Party.Device device.old.identity.response_preambles answer)
-        spoken.old spoken.new) }
-    ensures preambles { 2 ≤ device.old.identity.response_preambles }
 {
-    let preambles = device.response_preambles();
-    let answer = match arrived {
-        Some(frame) => device.receive(frame, process),
-        None => None,
-    };
-    if let Some(message) = &answer {
-        spoken.speak(Party::Device, preambles, message)?;
-    }
-    Ok(answer)
+    device.receive(arrived?, process)
 }

@@ -1,15 +1,13 @@
 //! The two masters of a line, each with the place of its request in hand among the outcomes.
-ghost use Rattle.std.specs.Prelude.{◌≡◌, ℕ, ◌+◌, Option, None, Some, MatchOption};
+ghost use Rattle.std.specs.Prelude.{◌≡◌, ℕ, ◌+◌, Option, None};
 ghost use Rattle.std.specs.Option.{option_copied};
 ghost use Rattle.hart_values.specs.declared.master_id.MasterId.{MasterId};
 ghost use Rattle.hart_values.specs.declared.each_master.EachMaster.{EachMaster};
 ghost use Rattle.hart_values.specs.EachMaster.{of_master, with_master};
 ghost use Rattle.hart_commands.specs.RequestData.{IsRequest};
-ghost use Rattle.hart_commands.specs.declared.reply.Reply.{Reply};
-ghost use Rattle.hart_line.specs.Masters.{AreHeld, AreInTurn, Awaits, Concludes, Holds, Submits};
-ghost use Rattle.hart_line.specs.Step.{Accepts, hand_left, message_of, outcome_of, submission_fault};
+ghost use Rattle.hart_line.specs.Masters.{AreHeld, AreInTurn, Awaits, Concludes, Hears, Holds, Sends, Submits};
+ghost use Rattle.hart_line.specs.Step.{hand_left, outcome_of, submission_fault};
 ghost use Rattle.hart_line.specs.World.{InHand};
-ghost use Rattle.hart_line.specs.declared.report.Outcome.TheVariants.{Answered};
 
 use crate::Outcome;
 use crate::report::Outcomes;
@@ -56,8 +54,7 @@ impl Submitter {
     /// Sends the request in hand, if there is one, whose reply is then awaited.
     fn send(&mut self) -> Option<Frame>
         ensures { (id : MasterId) (retries : ℕ) (held : Option InHand) → Holds id retries held self.old
-            → MatchOption result ((held ≡ None) × Holds id retries held self.new) (λ frame. (sent : InHand)
-            × (held ≡ Some sent) × (frame ≡ (message_of id sent).frame) × Awaits id retries sent self.new) }
+            → Sends id held result (Holds id retries held self.new) (λ sent. Awaits id retries sent self.new) }
     {
         self.master.send()
     }
@@ -65,9 +62,7 @@ impl Submitter {
     /// Hears what comes back, and gives the outcome of its request if that is answered by it.
     fn hear(&mut self, returned: Option<&Frame>) -> Option<Outcome>
         ensures awaited { (id : MasterId) (retries : ℕ) (held : InHand) → Awaits id retries held self.old
-            → MatchOption result (Accepts id (Some held) (option_copied returned.entry) None × Awaits id retries held self.new)
-            (λ outcome. (reply : Reply) × Accepts id (Some held) (option_copied returned.entry) (Some reply)
-            × (outcome ≡ Answered reply (held.sendings + 1)) × Holds id retries None self.new) }
+            → Hears id held (option_copied returned.entry) result (Awaits id retries held self.new) (Holds id retries None self.new) }
         ensures overheard { (id : MasterId) (retries : ℕ) (held : Option InHand) → Holds id retries held self.old
             → Holds id retries held self.new }
         ensures place { self.new.place ≡ self.old.place }
@@ -138,8 +133,8 @@ impl Masters {
     /// A master sends the request in its hand, if there is one, whose reply is then awaited.
     pub fn send(&mut self, who: MasterId) -> Option<Frame>
         ensures { (retries : EachMaster ℕ) (hands : EachMaster (Option InHand)) → AreHeld retries hands self.old
-            → MatchOption result ((of_master who hands ≡ None) × AreHeld retries hands self.new) (λ frame. (sent : InHand)
-            × (of_master who hands ≡ Some sent) × (frame ≡ (message_of who sent).frame) × AreInTurn who retries hands sent self.new) }
+            → Sends who (of_master who hands) result (AreHeld retries hands self.new)
+            (λ sent. AreInTurn who retries hands sent self.new) }
     {
         match who {
             MasterId::Primary => self.primary.send(),

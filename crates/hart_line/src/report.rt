@@ -1,4 +1,5 @@
-ghost use Rattle.std.specs.Prelude.{◌≡◌, [], ◌∷◌, ◌++◌, OnOk, Some, slice_set};
+ghost use Rattle.std.specs.Prelude.{◌≡◌, [], ◌∷◌, ◌++◌, OnOk, slice_set};
+ghost use Rattle.std.specs.Option.{option_copied};
 ghost use Rattle.hart_line.specs.Spoken.{Speaks, message_by};
 
 use hart_commands::Reply;
@@ -125,20 +126,25 @@ impl SpokenList {
         self.messages.as_slice()
     }
 
-    /// Adds the message of this party with this frame, after so many preamble bytes.
+    /// Adds the message of this party with this frame, after so many preamble bytes; without a frame nothing is spoken.
     pub(crate) fn speak(
         &mut self,
         party: Party,
         preambles: u8,
-        frame: &Frame,
+        frame: Option<&Frame>,
     ) -> Result<(), AllocError>
-        ensures { OnOk result (Speaks (message_by party preambles (Some frame.now)) self.old self.new) }
+        ensures { OnOk result (Speaks (message_by party preambles (option_copied frame.entry)) self.old self.new) }
     {
-        self.messages.push(Spoken {
+        let Some(frame) = frame else {
+            return Ok(());
+        };
+        // A refused push would hand the message back: where there is room first, it is moved once.
+        self.messages.reserve(1)?;
+        self.messages.push_reserved(Spoken {
             party,
             preambles,
             bytes: frame.body(),
-        })?;
+        });
         Ok(())
     }
 }

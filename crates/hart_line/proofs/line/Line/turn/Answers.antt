@@ -1,4 +1,4 @@
-use Rattle.std.proofs.Common.{arith}
+use Rattle.std.proofs.Common.{Some, arith}
 use Rattle.std.specs.Option.{option_copied}
 use Rattle.std.proofs.lemmas.Result.{IfErr-weaker, err_from_is_err_and, on_ok_weaker}
 use Rattle.hart_line.specs.Step.{message_of}
@@ -9,24 +9,24 @@ use Rattle.hart_line.proofs.line.Line.turn.Goals as goal
 pub returns-in_default-clause-stepped : goal.returns-in_default-clause-stepped
 returns-in_default-clause-stepped g c =
     on_ok_weaker c.pass_silence.result (λ silent start world process within stands.
-    let stands' = rw (← c.self.view_is) at stands in
-    let sent = c.in_default.ensures start.retries world.hands stands'.masters_are in
+    let s = rw (← c.self.view_is) at stands in
+    let sent = rw c.in_default.is at (c.send-sent.ensures start.retries world.hands s.masters_are) in
     record {
       next = world;
       step = silent start world c.args.who sent.0;
       stands = record {
-        device_is = stands'.device_is;
+        device_is = s.device_is;
         masters_are = sent.1;
-        outcomes_are = stands'.outcomes_are;
-        spoken_are = stands'.spoken_are;
+        outcomes_are = s.outcomes_are;
+        spoken_are = s.spoken_are;
       };
     }) c.pass_silence.ensures.stepped
 
 pub returns-in_default-clause-stopped : goal.returns-in_default-clause-stopped
 returns-in_default-clause-stopped g c =
     IfErr-weaker c.pass_silence.result _ _ (λ stop stopped start world process stands.
-    let stands' = rw (← c.self.view_is) at stands in
-    stopped start world c.args.who (c.in_default.ensures start.retries world.hands stands'.masters_are).0)
+    let s = rw (← c.self.view_is) at stands in
+    stopped start world c.args.who (rw c.in_default.is at (c.send-sent.ensures start.retries world.hands s.masters_are)).0)
     c.pass_silence.ensures.stopped
 
 pub returns-in_err-arrived-clause-stopped : goal.returns-in_err-arrived-clause-stopped
@@ -35,9 +35,10 @@ returns-in_err-arrived-clause-stopped g c =
     let stop = err_from_is_err_and call.result call.ensures.1 in
     rw (stop.1, stop.2, c.in_err-arrived.ensures.leg) (λ start world process stands.
     let s = rw (← c.self.view_is) at stands in
-    let sent = c.in-Some.ensures start.retries world.hands s.masters_are in
+    let sent = rw c.in-Some.is at (c.send-sent.ensures start.retries world.hands s.masters_are) in
     let requested = rw (c.party_of.ensures, sent.2) at c.in_ok-speak.ensures in
-    rw sent.1 (c.in_err-arrived.ensures.undetected _ (request_sent _ (message_of c.args.who sent.0) _ _ sent.2 (omega arith) requested)))
+    rw sent.1 (c.in_err-arrived.ensures.undetected (Some (message_of c.args.who sent.0))
+    (request_sent _ (message_of c.args.who sent.0) _ _ sent.2 (omega arith) requested)))
 
 pub returns-in_err-returned-clause-stopped : goal.returns-in_err-returned-clause-stopped
 returns-in_err-returned-clause-stopped g c =
@@ -45,25 +46,29 @@ returns-in_err-returned-clause-stopped g c =
     let stop = err_from_is_err_and call.result call.ensures.1 in
     rw (stop.1, stop.2, c.in_err-returned.ensures.leg) (λ start world process stands.
     let s = rw (← c.self.view_is) at stands in
-    let sent = c.in-Some.ensures start.retries world.hands s.masters_are in
+    let sent = rw c.in-Some.is at (c.send-sent.ensures start.retries world.hands s.masters_are) in
     let requested = rw (c.party_of.ensures, sent.2) at c.in_ok-speak.ensures in
-    let answered = c.in_ok-answer.ensures in (
+    let enough = c.response_preambles-preambles.ensures.in_range.0 in
+    let told = rw (c.as_ref.ensures.value, c.response_preambles-preambles.ensures.same) at c.in_ok-speak-2.ensures in (
       option_copied c.in_ok-arrived.arrived,
-      rw sent.1 (c.in_ok-arrived.ensures.arrives _ (request_sent _ (message_of c.args.who sent.0) _ _ sent.2 (omega arith) requested)),
-      rw (answered.answer, s.device_is, ← process) at (c.in_err-returned.ensures.undetected _
-          (reply_sent _ _ _ _ _ _ c.as_ref.ensures.value answered.preambles answered.told)),
+      rw sent.1 (c.in_ok-arrived.ensures.arrives (Some (message_of c.args.who sent.0))
+          (request_sent _ (message_of c.args.who sent.0) _ _ sent.2 (omega arith) requested)),
+      rw (c.answer-answer.ensures.answer, s.device_is, ← process) at (c.in_err-returned.ensures.undetected _
+          (reply_sent _ _ _ _ _ _ c.as_ref-2.ensures.value (omega (arith, enough)) told)),
     ))
 
 pub returns-clause-stepped : goal.returns-clause-stepped
 returns-clause-stepped g c = λ start world process within stands.
     let s = rw (← c.self.view_is) at stands in
-    let sent = c.in-Some.ensures start.retries world.hands s.masters_are in
+    let sent = rw c.in-Some.is at (c.send-sent.ensures start.retries world.hands s.masters_are) in
     let requested = rw (c.party_of.ensures, sent.2) at c.in_ok-speak.ensures in
-    let answered = c.in_ok-answer.ensures in
-    rw (answered.state, s.device_is) (turned_stands c.registers_of_lists.ensures.last start world c.args.who c.args.up.now
+    let enough = c.response_preambles-preambles.ensures.in_range.0 in
+    let told = rw (c.as_ref.ensures.value, c.response_preambles-preambles.ensures.same) at c.in_ok-speak-2.ensures in
+    rw (c.answer-answer.ensures.state, s.device_is) (turned_stands c.registers_of_lists.ensures.last start world c.args.who c.args.up.now
     c.args.down.now sent.0 _ _ _ _ _ _ _ within sent.1
-    (c.in_ok-arrived.ensures.arrives _ (request_sent _ (message_of c.args.who sent.0) _ _ sent.2 (omega arith) requested))
-    (rw (answered.answer, s.device_is, ← process) at (c.in_ok-returned.ensures.arrives _
-    (reply_sent _ _ _ _ _ _ c.as_ref.ensures.value answered.preambles answered.told)))
-    s.spoken_are requested (rw (answered.answer, s.device_is, ← process) at answered.told)
+    (c.in_ok-arrived.ensures.arrives (Some (message_of c.args.who sent.0))
+    (request_sent _ (message_of c.args.who sent.0) _ _ sent.2 (omega arith) requested))
+    (rw (c.answer-answer.ensures.answer, s.device_is, ← process) at (c.in_ok-returned.ensures.arrives _
+    (reply_sent _ _ _ _ _ _ c.as_ref-2.ensures.value (omega (arith, enough)) told)))
+    s.spoken_are requested (rw (c.answer-answer.ensures.answer, s.device_is, ← process) at told)
     (rw s.outcomes_are at (c.conclude.ensures start.retries world.hands sent.0 sent.3)))
