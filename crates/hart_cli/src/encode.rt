@@ -78,22 +78,8 @@ pub fn encode_text<W: Sink>(
         payload,
         preambles,
     };
-    write_request(&words, writer)
-}
-
-/// Writes the request that the words write, as [`encode_text`] does.
-///
-/// # Errors
-///
-/// Those of [`encode_text`].
-pub fn write_request<W: Sink>(words: &EncodeWords<'_>, writer: &mut W) -> Result<(), CliFault>
-    requires { IsPreambleCount words.now.preambles }
-    ensures { EncodeOutcome words.now
-        (W.stream writer.old) (W.stream writer.new)
-        result }
-{
-    let request = read_request(words)?;
-    write_all(writer, message_line(&request, words.preambles).as_slice())?;
+    let request = read_request(&words)?;
+    write_all(writer, message_line(&request, preambles).as_slice())?;
     Ok(())
 }
 

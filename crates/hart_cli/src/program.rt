@@ -9,7 +9,7 @@ mod command_line;
 
 use crate::answer::answer;
 use crate::dump::dump;
-use crate::encode::write_request;
+use crate::encode::{EncodeWords, encode_text};
 use crate::fault::CliFault;
 use crate::output::write_all;
 use crate::sim::simulate;
@@ -54,7 +54,17 @@ pub fn program<R: Source, W: Sink, E: Sink>(
         Ok(Call::Answer) => finish(answer(alloc, reader, writer), errors),
         Ok(Call::Dump) => finish(dump(alloc, reader, writer), errors),
         Ok(Call::Sim) => finish(simulate(alloc, reader, writer), errors),
-        Ok(Call::Encode(words)) => finish(write_request(&words, writer), errors),
+        Ok(Call::Encode(words)) => {
+            let EncodeWords {
+                who,
+                address,
+                command,
+                payload,
+                preambles,
+            } = words;
+            let outcome = encode_text(alloc, who, address, command, payload, preambles, writer);
+            finish(outcome, errors)
+        }
         Err(error) => {
             show(&error, errors);
             NO_CALL
