@@ -24,9 +24,9 @@ pub struct Reply {
 }
 
 impl Reply {
-    /// The reply to a command that a payload holds, or `None` where it holds none: where it has fewer than two bytes, where
-    /// bit 7 of the first is set, where the command is none of 0 to 3, 6 to 9, 11 to 19, 38 and 48, or where
-    /// with code 0 the data are no content of the command.
+    /// The reply to a command that a payload holds, or `None` if it holds none: if it has fewer than two bytes, if bit 7 of the
+    /// first is set, if the command is none that [`Request::read`] knows, or if with code 0 the data are no content of the
+    /// command.
     ///
     /// Data after those of the content are ignored, and with a code other than 0 all data are.
     pub fn read(command: u8, payload: &[u8]) -> Option<Self>

@@ -65,9 +65,9 @@ impl Request {
     ///
     /// # Errors
     ///
-    /// The first of these response codes that holds, which can be told without a device: 64 where the command is none of 0
-    /// to 3, 6 to 9, 11 to 19, 38 and 48; 5 where there are too few bytes; 2 for an address above 63 of Command 6, and then 12
-    /// for a mode above 1; 9 for a bad date of Command 18.
+    /// The first of these response codes that holds, which can be told without a device: 64 if no request has this command; 5
+    /// if there are too few bytes; 2 for an address above 63 of Command 6, and then 12 for a mode above 1; 9 for a bad date of
+    /// Command 18.
     pub fn read(command: u8, bytes: &[u8]) -> Result<Self, ResponseCode>
         ensures read { result ≡ request_reading command bytes.now }
         ensures well_made { IfOk result IsRequest }
