@@ -13,23 +13,37 @@ use Rattle.hart_commands.specs.RequestData.{command_of, mode_byte}
 abbrev pub registers : List Register
 registers = Polling ∷ Mode ∷ Message ∷ Tag ∷ Descriptor ∷ Date ∷ Assembly ∷ []
 
+-- A row of the table of registers says how many bytes a register has, and which of so many are valid in it.
+pub record RegisterRow : Type 1 where
+  pub size : ℕ
+  pub IsValid : List ℕ → Type 0
+
+-- Any bytes are valid.
+abbrev pub Any : List ℕ → Type 0
+Any bytes = Unit {0}
+
+-- The first byte has to be below a number.
+abbrev pub BeginsBelow : ℕ → List ℕ → Type 0
+BeginsBelow limit bytes = slice_index bytes 0 < limit
+
+-- The table of the registers: a polling address is below 64, a loop current mode below 2, and a date is one of the calendar or
+-- not set; in every other register any bytes are valid.
+abbrev pub row_of : Register → RegisterRow
+row_of Polling = record { size = 1; IsValid = BeginsBelow 64 }
+row_of Mode = record { size = 1; IsValid = BeginsBelow 2 }
+row_of Message = record { size = 24; IsValid = Any }
+row_of Tag = record { size = 6; IsValid = Any }
+row_of Descriptor = record { size = 12; IsValid = Any }
+row_of Date = record { size = 3; IsValid = IsDateBytes }
+row_of Assembly = record { size = 3; IsValid = Any }
+
 -- How many bytes a register has.
 abbrev pub size_of : Register → ℕ
-size_of Polling = 1
-size_of Mode = 1
-size_of Message = 24
-size_of Tag = 6
-size_of Descriptor = 12
-size_of Date = 3
-size_of Assembly = 3
+size_of register = (row_of register).size
 
--- A polling address is up to 63, a loop current mode is 0 or 1, and a date is one of the calendar or not set; in every other
--- register any bytes are valid, of its size.
+-- Bytes are valid in a register if they are as many as it has and its row takes them.
 abbrev pub IsValidIn : Register → List ℕ → Type 0
-IsValidIn Polling bytes = (length bytes ≡ 1) × (slice_index bytes 0 < 64)
-IsValidIn Mode bytes = (length bytes ≡ 1) × (slice_index bytes 0 < 2)
-IsValidIn Date bytes = IsDateBytes bytes
-IsValidIn register bytes = length bytes ≡ size_of register
+IsValidIn register bytes = (length bytes ≡ size_of register) × (row_of register).IsValid bytes
 
 -- The contents of a device are the bytes of every register.
 pub record Contents : Type 0 where
