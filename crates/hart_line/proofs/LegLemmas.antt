@@ -5,7 +5,7 @@ use Rattle.hart_frame.specs.FrameParts.{FrameParts}
 use Rattle.hart_frame.specs.Frames.{AreFrames, HasNoFrame, IsFirst}
 use Rattle.hart_frame.specs.Message.{IsMessage}
 use Rattle.hart_frame.specs.declared.found.Found.{Found}
-use Rattle.hart_line.specs.Damage.{Arrives}
+use Rattle.hart_line.specs.Damage.{Arrives, IsShown}
 use Rattle.hart_line.specs.Leg.{ArrivesAmong, IsSent, IsUndetectedAmong}
 use Rattle.hart_line.specs.Spoken.{Message, Speaks, message_by}
 use Rattle.hart_line.specs.declared.event.Heard.TheVariants.{Clean}
@@ -31,6 +31,15 @@ another_among chars sent found is_first no_more apart = record {
   are_frames = AreFrames.first 0 found [] is_first (AreFrames.none found.stop no_more);
   not_shown = λ arrived shown. apart shown.0;
 }
+
+-- Where nothing was sent and the damage is shown there is no frame.
+pub no_frames_among : (chars : List Character) (arrived : Option FrameParts) → ArrivesAmong chars None arrived → AreFrames chars 0 []
+no_frames_among chars arrived a = none_shown a.frames a.are_frames a.shown
+  where
+    none_shown : (frames : List Found) → AreFrames chars 0 frames → IsShown None frames arrived → AreFrames chars 0 []
+    none_shown [] are shown = are
+    none_shown (found ∷ []) are shown = cc (shown.0)
+    none_shown (found ∷ other ∷ more) are shown = absurd shown
 
 -- What the law of frames says of every list.
 abbrev pub HasFrames : Type 0
