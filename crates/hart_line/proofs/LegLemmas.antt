@@ -1,15 +1,25 @@
 -- What arrives in a leg, from what the code finds in it.
 use Rattle.std.proofs.Common.{◌≡◌, ℕ, ◌≤◌, ap, sym, refl, Option, None, Some, List, [], ◌∷◌, ◌++◌, length, replicate}
-use Rattle.hart_frame.specs.Character.{faultless}
+use Rattle.hart_frame.specs.Character.{Character, faultless}
 use Rattle.hart_frame.specs.FrameParts.{FrameParts}
 use Rattle.hart_frame.specs.Frames.{AreFrames}
 use Rattle.hart_frame.specs.Message.{IsMessage}
-use Rattle.hart_line.specs.Damage.{Arrives}
-use Rattle.hart_line.specs.Leg.{IsSent}
+use Rattle.hart_frame.specs.declared.found.Found.{Found}
+use Rattle.hart_line.specs.Damage.{Arrives, IsShown}
+use Rattle.hart_line.specs.Leg.{ArrivesAmong, IsSent, IsUndetectedAmong}
 use Rattle.hart_line.specs.Spoken.{Message, Speaks, message_by}
 use Rattle.hart_line.specs.declared.event.Heard.TheVariants.{Clean}
 use Rattle.hart_line.specs.declared.report.Party.{Party}
 use Rattle.hart_line.specs.declared.report.Spoken.{Spoken}
+
+-- Where nothing was sent and the damage is shown there is no frame.
+pub no_frames_among : (chars : List Character) (arrived : Option FrameParts) → ArrivesAmong chars None arrived → AreFrames chars 0 []
+no_frames_among chars arrived a = none_shown a.frames a.are_frames a.shown
+  where
+    none_shown : (frames : List Found) → AreFrames chars 0 frames → IsShown None frames arrived → AreFrames chars 0 []
+    none_shown [] are shown = are
+    none_shown (found ∷ []) are shown = cc (shown.0)
+    none_shown (found ∷ other ∷ more) are shown = absurd shown
 
 -- A MESSAGE
 -- What the law of messages says.

@@ -2,9 +2,11 @@
 use Rattle.std.proofs.Common.{◌≡◌, ℕ, refl, Bool, true, false, if◌then◌else◌, List, Option, None, Some, Ok, Err}
 use Rattle.hart_values.specs.declared.address.Address.{Address}
 use Rattle.hart_values.specs.declared.master_id.MasterId.{MasterId}
+use Rattle.hart_frame.specs.Character.{Character}
 use Rattle.hart_frame.specs.FrameParts.{FrameParts}
+use Rattle.hart_commands.specs.declared.reply.Reply.{Reply}
 use Rattle.hart_commands.specs.declared.request.Request.{Request}
-use Rattle.hart_master.specs.Master.{hand_submitted, result_submitted}
+use Rattle.hart_master.specs.Master.{Brings, hand_submitted, result_submitted}
 use Rattle.hart_master.specs.Pairing.{may_ask}
 use Rattle.hart_master.specs.declared.fault.MasterFault.{MasterFault}
 use Rattle.hart_master.specs.declared.fault.MasterFault.TheVariants.{WrongAddress}
@@ -48,3 +50,9 @@ pub concludes_more : {Left Left' : Option InHand → Type 0} {who : MasterId} {r
     → Concludes who retries held returned outcomes outcomes' Left → Concludes who retries held returned outcomes outcomes' Left'
 concludes_more more c =
     record { accepted = c.accepted; accepts = c.accepts; outcomes_are = c.outcomes_are; left = more _ c.left }
+
+-- Between two turns a master awaits nothing, so that no delivery brings it a reply.
+pub nothing_brought : (id : MasterId) (held : Option InHand) (delivery : List Character) (reply : Reply)
+    → Brings id (hand_of held) delivery reply → ⊥
+nothing_brought id None delivery reply brought = brought
+nothing_brought id (Some held) delivery reply brought = brought

@@ -9,7 +9,7 @@ ghost use Rattle.hart_line.specs.Promises.{AreWellMade};
 ghost use Rattle.hart_line.specs.Spoken.{party_of};
 ghost use Rattle.hart_line.specs.Step.{Step, frame_answered, submission_fault, submitted};
 ghost use Rattle.hart_line.specs.World.{Start, World};
-ghost use Rattle.hart_line.specs.declared.event.LineEvent.TheVariants.{Turn};
+ghost use Rattle.hart_line.specs.declared.event.LineEvent.TheVariants.{Noise, Turn};
 
 use crate::leg::{arrived_among, arrived_in};
 use crate::masters::{Masters, Submitter};
@@ -18,7 +18,7 @@ use crate::stop::Stop;
 use crate::{Heard, Leg, LineEvent, Party, Report};
 use hart_commands::Request;
 use hart_device::{Device, Process, RegisterStore, registers_of_lists};
-use hart_frame::Frame;
+use hart_frame::{Char, Frame};
 use hart_master::Master;
 use hart_values::{Address, MasterId};
 use std::alloc::{AllocError, Global};
@@ -109,10 +109,7 @@ impl<S: RegisterStore> Line<S> {
             } => self.submit(*who, *address, request)?,
             LineEvent::Turn { who, up, down } => self.turn(*who, up, down, process)?,
             LineEvent::Protect(on) => self.device.protect(*on),
-            // Noise of which no frame arrives brings nothing to the device or to a master.
-            LineEvent::Noise(chars) => {
-                let _nothing = arrived_among(Leg::Noise, chars.as_slice(), None)?;
-            }
+            LineEvent::Noise(chars) => self.hear_noise(chars.as_slice(), process)?,
         }
         Ok(())
     }
@@ -163,6 +160,19 @@ impl<S: RegisterStore> Line<S> {
             .speak(Party::Device, preambles, answer.as_ref())?;
         let returned = arrived_in(Leg::Down, down, answer.as_ref())?;
         self.masters.conclude(who, returned, &mut self.outcomes);
+        Ok(())
+    }
+
+    /// Noise, which the device and both masters hear.
+    fn hear_noise(&mut self, chars: &[Char], process: &Process) -> Result<(), Stop>
+        ensures stepped { OnOk result ((start : Start) (world : World) → Stands start world self.old
+            → Stepped start world (Noise chars.now) self.new) }
+        ensures stopped { IfErr result (λ stop. (start : Start) (world : World) → start.process ≡ process.now
+            → Stands start world self.old → StopsStep start world (Noise chars.now) stop) }
+    {
+        let _nothing = arrived_among(Leg::Noise, chars, None)?;
+        let _answer = self.device.hear(chars, process);
+        self.masters.hear_noise(chars);
         Ok(())
     }
 }

@@ -12,7 +12,7 @@ ghost use Rattle.hart_line.specs.World.{InHand};
 use crate::Outcome;
 use crate::report::Outcomes;
 use hart_commands::Request;
-use hart_frame::Frame;
+use hart_frame::{Char, Frame};
 use hart_master::{Master, MasterEvent};
 use hart_values::{Address, MasterId};
 
@@ -65,12 +65,19 @@ impl Submitter {
             → Hears id held (option_copied returned.entry) result (Awaits id retries held self.new) (Holds id retries None self.new) }
         ensures overheard { (id : MasterId) (retries : ℕ) (held : Option InHand) → Holds id retries held self.old
             → Holds id retries held self.new }
-        ensures place { self.new.place ≡ self.old.place }
     {
         match self.master.receive(returned?) {
             MasterEvent::Answered(reply, sendings) => Some(Outcome::Answered { reply, sendings }),
             _ => None,
         }
+    }
+
+    /// Hears noise, between two turns.
+    fn hear_noise(&mut self, chars: &[Char])
+        ensures { (id : MasterId) (retries : ℕ) (held : Option InHand) → Holds id retries held self.old
+            → Holds id retries held self.new }
+    {
+        let _event = self.master.hear(chars);
     }
 
     /// Waits no longer for the reply to its request, whose outcome it gives.
@@ -158,5 +165,14 @@ impl Masters {
                 self.secondary.conclude(returned, outcomes);
             }
         }
+    }
+
+    /// Both masters hear noise, between two turns.
+    pub fn hear_noise(&mut self, chars: &[Char])
+        ensures { (retries : EachMaster ℕ) (hands : EachMaster (Option InHand)) → AreHeld retries hands self.old
+            → AreHeld retries hands self.new }
+    {
+        self.primary.hear_noise(chars);
+        self.secondary.hear_noise(chars);
     }
 }

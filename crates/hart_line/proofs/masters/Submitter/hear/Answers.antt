@@ -1,4 +1,4 @@
-use Rattle.std.proofs.Common.{◌≡◌, refl}
+use Rattle.std.proofs.Common.{◌≡◌}
 use Rattle.hart_commands.specs.declared.reply.Reply.{Reply}
 use Rattle.hart_master.specs.Master.{FrameBrings}
 use Rattle.hart_line.proofs.masters.Submitter.hear.Goals as goal
@@ -12,5 +12,4 @@ returns-in_default c =
     record {
       awaited = λ id retries held awaits. (rw c.in_ok-returned.was (rw awaits.master_is at none), rw same awaits);
       overheard = λ id retries held holds. rw same holds;
-      place = refl;
     }
