@@ -6,7 +6,7 @@ use Rattle.hart_frame.specs.Frames.{AreFrames}
 use Rattle.hart_frame.specs.Message.{IsMessage}
 use Rattle.hart_frame.specs.declared.found.Found.{Found}
 use Rattle.hart_line.specs.Damage.{Arrives, IsShown}
-use Rattle.hart_line.specs.Leg.{ArrivesAmong, IsSent, IsUndetectedAmong}
+use Rattle.hart_line.specs.Leg.{ArrivesAmong, IsSent}
 use Rattle.hart_line.specs.Spoken.{Message, Speaks, message_by}
 use Rattle.hart_line.specs.declared.event.Heard.TheVariants.{Clean}
 use Rattle.hart_line.specs.declared.report.Party.{Party}

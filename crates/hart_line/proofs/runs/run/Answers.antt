@@ -53,7 +53,7 @@ returns g c =
     let events = c.args.events.now in
     let promises = c.scripts_keep_their_promises.ensures in
     let report = c.into_report.ensures in
-    let reached = reached_report _ _ _ report.device report.outcomes report.spoken
+    let reached = reached_report {start = start} {events = events} _ _ _ report.device report.outcomes report.spoken
     (reached_whole _ _ _ _ (omega (arith, c.loop-index-test.false)) c.loop-index.invariant.reached) in
     let made : AreWellMade events = subst AreWellMade (take_all c.loop-index.index events (omega (arith, c.loop-index-test.false)))
     c.loop-index.invariant.well_made in
