@@ -6,7 +6,7 @@ use Rattle.hart_frame.specs.declared.kind.FrameKind.{FrameKind}
 use Rattle.hart_frame.specs.FrameParts.{FrameParts}
 use Rattle.hart_cli.specs.Encode.{IsEncoding, IsRequestOf}
 use Rattle.hart_cli.specs.MessageWords.{MessageWords}
-use Rattle.hart_line.specs.Words.{IsAddressWord, IsCommandWord, IsDataWord, IsWho}
+use Rattle.hart_line.specs.Script.Words.{IsAddressWord, IsCommandWord, IsDataWord, IsWho}
 use Rattle.hart_cli.proofs.MessageLineLemmas.{IsMessageLine-one, OneBody}
 
 -- the law of words: each word has one value

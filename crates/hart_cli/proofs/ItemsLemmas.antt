@@ -5,7 +5,7 @@ use Rattle.std.proofs.lemmas.List.{append-nil, append_assoc, drop-drop, length-a
 use Rattle.hart_frame.specs.Character.{Character}
 use Rattle.hart_cli.specs.Items.{BeginsAs, BeginsWith, IsSeparator, IsWholeBefore, Item, meaning, NoPieceBegins, nothing}
 use Rattle.hart_cli.specs.Items.{Piece, piece, ReadsUpTo, Separator, spelling}
-use Rattle.hart_line.specs.Items.{Faulty, Plain}
+use Rattle.hart_line.specs.Script.Items.{Faulty, Plain}
 use Rattle.std.proofs.Math.Seq.{drop-append_seam}
 use Rattle.std.specs.Option.{option_to_list}
 use Rattle.hex.specs.Hex.{is_hex_digit}

@@ -6,20 +6,20 @@ use Rattle.std.specs.List.{enumerate_from, flat_map}
 use Rattle.hart_device.specs.Bench.{bench_process}
 use Rattle.hart_device.specs.Device.{DeviceState}
 use Rattle.hart_device.specs.declared.process.Process.{Process}
-use Rattle.hart_line.specs.Promises.{start_of}
-use Rattle.hart_line.specs.Faults.{IsFault}
-use Rattle.hart_line.specs.Script.{HasFirstBadLine, IsScript}
+use Rattle.hart_line.specs.Line.Promises.{start_of}
+use Rattle.hart_line.specs.Line.Faults.{IsFault}
+use Rattle.hart_line.specs.Script.Rows.{HasFirstBadLine, IsScript}
 use Rattle.hart_master.specs.Master.{MasterState}
-use Rattle.hart_line.specs.Spoken.{AreSpoken, Message}
-use Rattle.hart_line.specs.Step.{IsLast}
-use Rattle.hart_line.specs.World.{Start, World, state_of}
+use Rattle.hart_line.specs.Line.Spoken.{AreSpoken, Message}
+use Rattle.hart_line.specs.Line.Step.{IsLast}
+use Rattle.hart_line.specs.Line.World.{Start, World, state_of}
 use Rattle.hart_line.specs.declared.event.LineEvent.{LineEvent}
 use Rattle.hart_line.specs.declared.fault.Leg.{Leg}
 use Rattle.hart_line.specs.declared.fault.LineFault.{LineFault}
 use Rattle.hart_line.specs.declared.fault.LineFault.TheVariants as line_faults
-use Rattle.hart_line.specs.declared.report.Outcome.{Outcome}
-use Rattle.hart_line.specs.declared.report.Party.{Party}
-use Rattle.hart_line.specs.declared.report.Spoken.{Spoken}
+use Rattle.hart_line.specs.declared.line.report.Outcome.{Outcome}
+use Rattle.hart_line.specs.declared.line.report.Party.{Party}
+use Rattle.hart_line.specs.declared.line.report.Spoken.{Spoken}
 use Rattle.hart_cli.specs.Answer.{bench_device}
 use Rattle.hart_cli.specs.FaultText.{call_fault}
 use Rattle.hart_cli.specs.Sim.{HasLineFault, IsSimulation, IsSimulationFault, IsWorldText, bench_start}

@@ -9,7 +9,7 @@ use Rattle.hart_cli.specs.declared.fault.CliFault.TheVariants.{BadWord, Write}
 use Rattle.hart_cli.specs.MessageLine.{IsMessageLine}
 use Rattle.hart_cli.specs.MessageWords.{MessageWords}
 use Rattle.hart_cli.specs.Stream.{FailsToWrite, Stream, WritesAll, WritesNothing}
-use Rattle.hart_line.specs.Words.{IsAddressWord, IsCommandWord, IsDataWord, HasNoValue, IsWho}
+use Rattle.hart_line.specs.Script.Words.{IsAddressWord, IsCommandWord, IsDataWord, HasNoValue, IsWho}
 
 -- The request of four words has what each of them writes, and is an STX with burst bit 0 and no expansion bytes.
 pub record IsRequestOf (words : MessageWords) (frame : FrameParts) : Type 0 where

@@ -2,8 +2,8 @@
 use Rattle.std.specs.Prelude.{◌≡◌, ◌≢◌, ℕ, ◌+◌, ◌⊎◌, List, [], ◌∷◌, ◌++◌, length, Option, ⊤}
 use Rattle.std.specs.Option.{option_to_list}
 use Rattle.hart_frame.specs.Character.{Character}
-use Rattle.hart_line.specs.Items as items
-use Rattle.hart_line.specs.Items.{EndsBefore, item_meaning, item_spelling, IsValidItem}
+use Rattle.hart_line.specs.Script.Items as items
+use Rattle.hart_line.specs.Script.Items.{EndsBefore, item_meaning, item_spelling, IsValidItem}
 
 -- A piece of a text is a separator or an item.
 pub data Piece : Type 0 where

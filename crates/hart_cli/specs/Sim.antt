@@ -1,15 +1,15 @@
 -- What `hart sim` writes for what it reads (own profile).
 use Rattle.std.specs.Prelude.{◌≡◌, ℕ, List, Result}
 use Rattle.hart_device.specs.Bench.{bench_process}
-use Rattle.hart_line.specs.Faults.{IsFault}
-use Rattle.hart_line.specs.Script.{HasFirstBadLine, IsScript}
-use Rattle.hart_line.specs.Spoken.{AreSpoken}
-use Rattle.hart_line.specs.Step.{IsLast}
-use Rattle.hart_line.specs.World.{Start, World, state_of}
+use Rattle.hart_line.specs.Line.Faults.{IsFault}
+use Rattle.hart_line.specs.Script.Rows.{HasFirstBadLine, IsScript}
+use Rattle.hart_line.specs.Line.Spoken.{AreSpoken}
+use Rattle.hart_line.specs.Line.Step.{IsLast}
+use Rattle.hart_line.specs.Line.World.{Start, World, state_of}
 use Rattle.hart_line.specs.declared.event.LineEvent.{LineEvent}
 use Rattle.hart_line.specs.declared.fault.LineFault.{LineFault}
 use Rattle.hart_line.specs.declared.fault.LineFault.TheVariants as line_faults
-use Rattle.hart_line.specs.declared.report.Spoken.{Spoken}
+use Rattle.hart_line.specs.declared.line.report.Spoken.{Spoken}
 use Rattle.hart_cli.specs.declared.fault.CliFault.{CliFault}
 use Rattle.hart_cli.specs.declared.fault.CliFault.TheVariants.{Line, Memory}
 use Rattle.hart_cli.specs.Answer.{bench_device}

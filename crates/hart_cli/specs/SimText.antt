@@ -6,11 +6,11 @@ use Rattle.hart_commands.specs.ReplyData.{content_bytes}
 use Rattle.hart_device.specs.Device.{DeviceState}
 use Rattle.hart_master.specs.declared.fault.MasterFault.{MasterFault}
 use Rattle.hart_master.specs.declared.fault.MasterFault.TheVariants.{OutOfRange, Pending, WrongAddress}
-use Rattle.hart_line.specs.declared.report.Outcome.{Outcome}
-use Rattle.hart_line.specs.declared.report.Outcome.TheVariants.{Answered, NoReply, Refused, Unfinished}
-use Rattle.hart_line.specs.declared.report.Party.{Party}
-use Rattle.hart_line.specs.declared.report.Party.TheVariants.{Device, Primary, Secondary}
-use Rattle.hart_line.specs.declared.report.Spoken.{Spoken}
+use Rattle.hart_line.specs.declared.line.report.Outcome.{Outcome}
+use Rattle.hart_line.specs.declared.line.report.Outcome.TheVariants.{Answered, NoReply, Refused, Unfinished}
+use Rattle.hart_line.specs.declared.line.report.Party.{Party}
+use Rattle.hart_line.specs.declared.line.report.Party.TheVariants.{Device, Primary, Secondary}
+use Rattle.hart_line.specs.declared.line.report.Spoken.{Spoken}
 use Rattle.hart_cli.specs.Image.{image_of}
 use Rattle.hart_cli.specs.Line.{bytes_word, line_of}
 

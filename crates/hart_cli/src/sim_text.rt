@@ -1,7 +1,7 @@
 //! The text that `hart sim` writes.
 ghost use Rattle.std.specs.Prelude.{◌≡◌, ◌≤◌, ◌<◌, ◌+◌, ◌∷◌, [], ◌++◌, OnOk, IfOk, decimal, length};
 ghost use Rattle.std.specs.List.{enumerate_from, flat_map, join_with_byte};
-ghost use Rattle.hart_line.specs.declared.report.Outcome.TheVariants.{Answered};
+ghost use Rattle.hart_line.specs.declared.line.report.Outcome.TheVariants.{Answered};
 ghost use Rattle.hart_cli.specs.SimText.{counter_line, master_fault_number, image_line, outcome_line, outcome_words, party_word};
 ghost use Rattle.hart_cli.specs.SimText.{sim_text, spoken_line};
 

@@ -1,14 +1,2 @@
-pub mod Items
-pub mod Words
-pub mod Lines
 pub mod Script
-pub mod Spoken
-pub mod Damage
-pub mod World
-pub mod Step
-pub mod Faults
-pub mod Masters
-pub mod Leg
 pub mod Line
-pub mod Executions
-pub mod Promises

@@ -8,21 +8,21 @@ ghost use Rattle.hart_commands.specs.RequestCode.{is_write};
 ghost use Rattle.hart_commands.specs.RequestData.{command_of};
 ghost use Rattle.hart_commands.specs.declared.reply.Reply.{Reply};
 ghost use Rattle.hart_commands.specs.declared.request.Request.{Request};
-ghost use Rattle.hart_line.specs.Executions.{last_executions, times_executed};
-ghost use Rattle.hart_line.specs.Faults.{AreAllShown, IsFault, IsOfCharacters};
-ghost use Rattle.hart_line.specs.Promises.{AnswersLastSending, AreWellMade, IsExecutedFromHand, IsExecutedInItsTurn, IsLastReset, IsRefusedByDevice, IsStepOf, IsUnrefusedWrite};
-ghost use Rattle.hart_line.specs.Promises.{arrived_in_step, requests_of, sendings_told};
-ghost use Rattle.hart_line.specs.Script.{HasFirstBadLine, IsScript};
-ghost use Rattle.hart_line.specs.Step.{IsLast};
-ghost use Rattle.hart_line.specs.Words.{IsAddressWord, IsCommandWord, IsDataWord, IsWho};
-ghost use Rattle.hart_line.specs.World.{Start, World, first_world, overwrites_of, state_of};
+ghost use Rattle.hart_line.specs.Line.Executions.{last_executions, times_executed};
+ghost use Rattle.hart_line.specs.Line.Faults.{AreAllShown, IsFault, IsOfCharacters};
+ghost use Rattle.hart_line.specs.Line.Promises.{AnswersLastSending, AreWellMade, IsExecutedFromHand, IsExecutedInItsTurn, IsLastReset, IsRefusedByDevice, IsStepOf, IsUnrefusedWrite};
+ghost use Rattle.hart_line.specs.Line.Promises.{arrived_in_step, requests_of, sendings_told};
+ghost use Rattle.hart_line.specs.Script.Rows.{HasFirstBadLine, IsScript};
+ghost use Rattle.hart_line.specs.Line.Step.{IsLast};
+ghost use Rattle.hart_line.specs.Script.Words.{IsAddressWord, IsCommandWord, IsDataWord, IsWho};
+ghost use Rattle.hart_line.specs.Line.World.{Start, World, first_world, overwrites_of, state_of};
 ghost use Rattle.hart_line.specs.declared.event.Heard.{Heard};
 ghost use Rattle.hart_line.specs.declared.event.LineEvent.{LineEvent};
 ghost use Rattle.hart_line.specs.declared.event.LineEvent.TheVariants.{Turn};
 ghost use Rattle.hart_line.specs.declared.fault.Leg.{Leg};
 ghost use Rattle.hart_line.specs.declared.fault.LineFault.{LineFault};
 ghost use Rattle.hart_line.specs.declared.fault.LineFault.TheVariants.{Undetected};
-ghost use Rattle.hart_line.specs.declared.report.Outcome.TheVariants.{Answered};
+ghost use Rattle.hart_line.specs.declared.line.report.Outcome.TheVariants.{Answered};
 
 use hart_commands::{
     requests_have_their_command, writes_have_overwrites, written_data_are_their_request,

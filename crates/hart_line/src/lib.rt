@@ -20,31 +20,22 @@
 mod char_list;
 mod event;
 mod fault;
-mod items;
 mod laws;
-mod leg;
 mod line;
-mod lines;
-mod masters;
-mod report;
-mod rows;
-mod runs;
 mod script;
-mod stop;
-mod words;
 
 pub use char_list::CharList;
 pub use event::{Heard, LineEvent};
 pub use fault::{Leg, LineFault};
-pub use items::{LeadingItem, leading_item};
 pub use laws::{
     refused_turns_change_nothing, scripts_have_one_last_world, scripts_keep_their_promises,
     texts_have_one_script, words_have_one_value,
 };
-pub use report::{Outcome, Outcomes, Party, Report, Spoken, SpokenList};
-pub use runs::run;
+pub use line::report::{Outcome, Outcomes, Party, Report, Spoken, SpokenList};
+pub use line::runs::run;
+pub use script::items::{LeadingItem, leading_item};
 pub use script::read_script;
-pub use words::{read_address, read_command, read_data, read_who};
+pub use script::words::{read_address, read_command, read_data, read_who};
 
 #[cfg(test)]
 mod tests;

@@ -4,17 +4,17 @@ ghost use Rattle.std.specs.Option.{option_copied};
 ghost use Rattle.hart_values.specs.declared.master_id.MasterId.{MasterId};
 ghost use Rattle.hart_values.specs.EachMaster.{of_master};
 ghost use Rattle.hart_commands.specs.RequestData.{IsRequest};
-ghost use Rattle.hart_line.specs.Line.{MarksWithin, Stands, Stepped, StopsStep, state_heard};
-ghost use Rattle.hart_line.specs.Promises.{AreWellMade};
-ghost use Rattle.hart_line.specs.Spoken.{party_of};
-ghost use Rattle.hart_line.specs.Step.{Step, frame_answered, submission_fault, submitted};
-ghost use Rattle.hart_line.specs.World.{Start, World};
+ghost use Rattle.hart_line.specs.Line.LineState.{MarksWithin, Stands, Stepped, StopsStep, state_heard};
+ghost use Rattle.hart_line.specs.Line.Promises.{AreWellMade};
+ghost use Rattle.hart_line.specs.Line.Spoken.{party_of};
+ghost use Rattle.hart_line.specs.Line.Step.{Step, frame_answered, submission_fault, submitted};
+ghost use Rattle.hart_line.specs.Line.World.{Start, World};
 ghost use Rattle.hart_line.specs.declared.event.LineEvent.TheVariants.{Noise, Turn};
 
-use crate::leg::{arrived_among, arrived_in};
-use crate::masters::{Masters, Submitter};
-use crate::report::{Outcomes, SpokenList};
-use crate::stop::Stop;
+use crate::line::leg::{arrived_among, arrived_in};
+use crate::line::masters::{Masters, Submitter};
+use crate::line::report::{Outcomes, SpokenList};
+use crate::line::stop::Stop;
 use crate::{Heard, Leg, LineEvent, Party, Report};
 use hart_commands::Request;
 use hart_device::{Device, Process, RegisterStore, registers_of_lists};
@@ -23,6 +23,12 @@ use hart_master::Master;
 use hart_values::{Address, MasterId};
 use std::alloc::{AllocError, Global};
 use std::marker::Model;
+
+pub mod leg;
+pub mod masters;
+pub mod report;
+pub mod runs;
+pub mod stop;
 
 /// The number of preamble bytes that a master puts before a request.
 const MASTER_PREAMBLES: u8 = 20;
@@ -38,7 +44,7 @@ pub struct Line<S: RegisterStore> {
 
 impl<S: RegisterStore> Model for Line<S> {
     ghost use Rattle.hart_commands.specs.RequestData.{IsRequest};
-    ghost use Rattle.hart_line.specs.Line.{LineState};
+    ghost use Rattle.hart_line.specs.Line.LineState.{LineState};
 
     ghost Value = { LineState };
 

@@ -1,11 +1,16 @@
 //! Scripts: texts of lines that say events.
 ghost use Rattle.std.specs.Prelude.{IfOk, IfErr};
-ghost use Rattle.hart_line.specs.Script.{IsScript, IsScriptFault};
+ghost use Rattle.hart_line.specs.Script.Rows.{IsScript, IsScriptFault};
 
-use crate::lines::without_return;
-use crate::rows::read_line;
+use crate::script::lines::without_return;
+use crate::script::rows::read_line;
 use crate::{LineEvent, LineFault};
 use std::alloc::Global;
+
+pub mod items;
+pub mod lines;
+pub mod rows;
+pub mod words;
 
 /// The events that the lines of a text say, in order. Empty lines and lines whose first word begins with `#` say none.
 ///

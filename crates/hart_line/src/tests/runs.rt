@@ -204,60 +204,14 @@ fn scripts_lead_to_reports(rt: HostRuntime) -> Result<(), Fail> {
     Ok(())
 }
 
-/// The request that writes the assembly number hex 012345 to the bench device, and its reply.
-const WRITE: &[u8] = &[
-    0x82, 0xB7, 0x42, 0x0A, 0x1B, 0x2C, 0x13, 0x03, 0x01, 0x23, 0x45, 0x3D,
-];
-
-const WRITTEN: &[u8] = &[
-    0x86, 0xB7, 0x42, 0x0A, 0x1B, 0x2C, 0x13, 0x05, 0x00, 0x40, 0x01, 0x23, 0x45, 0x7F,
-];
-
-/// Who speaks, behind how many preamble bytes, and the body.
-const MESSAGES: &[(Party, u8, &[u8])] = &[
-    (Party::Primary, 20, WRITE),
-    (Party::Device, 5, WRITTEN),
-    (Party::Primary, 20, WRITE),
-    (Party::Device, 5, WRITTEN),
-];
-
 #[test]
-fn each_sending_is_spoken_and_answered(rt: HostRuntime) -> Result<(), Fail> {
-    let report = run_of(rt.alloc(), 3, REPLY_LOST)??;
-    let messages = report.spoken.as_slice();
-    assert_eq!(rt; messages.len(), MESSAGES.len());
-    for (message, (party, preambles, body)) in messages.iter().zip(MESSAGES) {
-        assert_eq!(rt; message.party, *party);
-        assert_eq!(rt; message.preambles, *preambles);
-        assert_eq!(rt; message.bytes.as_slice(), *body);
-    }
-    Ok(())
-}
-
-/// Scripts with undetected damage, and where that is.
-const DAMAGED: &[(&str, usize, Leg)] = &[
-    ("submit P @0 0\nturn P ok FFFF06800002000084", 1, Leg::Down),
-    (
-        "submit P 37420A1B2C 19 012345\nturn P FFFF82B7420A1B2C13030123463E ok",
-        1,
-        Leg::Up,
-    ),
-    (
-        "noise FFFF0280000083\nprotect on\nnoise FFFF0280000082",
-        2,
-        Leg::Noise,
-    ),
-];
-
-#[test]
-fn undetected_damage_is_told(rt: HostRuntime) -> Result<(), Fail> {
-    for (script, event, leg) in DAMAGED {
-        let fault = run_of(rt.alloc(), 3, script)?.err().ok_or("a report")?;
-        let want = LineFault::Undetected {
-            event: *event,
-            leg: *leg,
-        };
-        assert_eq!(rt; fault, want, "of {script}");
-    }
+fn noise_with_a_frame_is_undetected(rt: HostRuntime) -> Result<(), Fail> {
+    let script = "noise FFFF0280000083\nprotect on\nnoise FFFF0280000082";
+    let fault = run_of(rt.alloc(), 3, script)?.err().ok_or("a report")?;
+    let want = LineFault::Undetected {
+        event: 2,
+        leg: Leg::Noise,
+    };
+    assert_eq!(rt; fault, want);
     Ok(())
 }

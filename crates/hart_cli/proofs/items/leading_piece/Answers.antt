@@ -2,8 +2,8 @@ use Rattle.std.proofs.Common.{◌≡◌, ◌≢◌, ◌<◌, ℕ, List, length, 
 use Rattle.std.proofs.lemmas.Bool.{iff_false}
 use Rattle.std.proofs.lemmas.List.{length-append}
 use Rattle.hart_frame.specs.Character.{Character}
-use Rattle.hart_line.specs.Items as items
-use Rattle.hart_line.specs.Items.{BeginsAsItem, BeginsWithItem, EndsBefore, Faulty, item_spelling, Plain}
+use Rattle.hart_line.specs.Script.Items as items
+use Rattle.hart_line.specs.Script.Items.{BeginsAsItem, BeginsWithItem, EndsBefore, Faulty, item_spelling, Plain}
 use Rattle.hart_cli.specs.Items.{BeginsAs, IsSeparator, Item, NoPieceBegins, Separator}
 use Rattle.hart_cli.proofs.items.leading_piece.Goals as goal
 

@@ -2,7 +2,7 @@ use Rattle.std.proofs.Common.{◌≡◌, ◌≢◌, inl, inr, ℕ, zero, suc, �
 use Rattle.std.proofs.Common.{Bool, true, false, is_some, IsTrue, MatchOption, refl, sym, ap, ◌∙◌, subst, arith}
 use Rattle.std.specs.Int.{bit_at}
 use Rattle.hart_frame.specs.Character.{AreFaultBits, IsFaultBit}
-use Rattle.hart_line.specs.Items.{AreDigits, byte_of, Faulty, hex_value, Plain}
+use Rattle.hart_line.specs.Script.Items.{AreDigits, byte_of, Faulty, hex_value, Plain}
 use Rattle.hart_cli.specs.Items.{BeginsAs, BeginsWith, Item, MayBegin, NoPieceBegins, Piece}
 use Rattle.hart_cli.specs.Items.{Separator, spelling}
 use Rattle.hart_cli.specs.declared.items.Lead.{Lead}

@@ -1,5 +1,5 @@
 use Rattle.std.proofs.Common.{ap, ◌∙◌, ◌+◌}
-use Rattle.hart_line.specs.declared.report.Outcome.{Outcome}
+use Rattle.hart_line.specs.declared.line.report.Outcome.{Outcome}
 use Rattle.hart_cli.specs.SimText.{outcome_line}
 use Rattle.hart_cli.proofs.SimLemmas.{outcomes_more}
 use Rattle.hart_cli.proofs.sim_text.push_outcomes.Goals as goal

@@ -1,11 +1,11 @@
-use Rattle.hart_line.proofs.AnsweredLemmas.{answered_last}
-use Rattle.hart_line.proofs.CountLemmas.{executed_at_most}
-use Rattle.hart_line.proofs.LastLemmas.{registers_last}
-use Rattle.hart_line.proofs.ResetLemmas.{refused_last, unseen}
-use Rattle.hart_line.proofs.RunLemmas.{Laws}
-use Rattle.hart_line.proofs.ShownLemmas.{fault_told}
-use Rattle.hart_line.proofs.StateLemmas.{state-first}
-use Rattle.hart_line.proofs.WrittenLemmas.{WriteLaws, answered_executed, step_stays, turn_executed}
+use Rattle.hart_line.proofs.OfLine.AnsweredLemmas.{answered_last}
+use Rattle.hart_line.proofs.OfLine.CountLemmas.{executed_at_most}
+use Rattle.hart_line.proofs.OfLine.LastLemmas.{registers_last}
+use Rattle.hart_line.proofs.OfLine.ResetLemmas.{refused_last, unseen}
+use Rattle.hart_line.proofs.OfLine.RunLemmas.{Laws}
+use Rattle.hart_line.proofs.OfLine.ShownLemmas.{fault_told}
+use Rattle.hart_line.proofs.OfLine.StateLemmas.{state-first}
+use Rattle.hart_line.proofs.OfLine.WrittenLemmas.{WriteLaws, answered_executed, step_stays, turn_executed}
 use Rattle.std.proofs.Common.{refl}
 use Rattle.hart_line.proofs.laws.scripts_keep_their_promises.Goals as goal
 

@@ -1,7 +1,7 @@
 use Rattle.std.proofs.Common.{None, refl}
 use Rattle.std.proofs.lemmas.Result.{err_from_is_err_and}
-use Rattle.hart_line.proofs.ArrivalLemmas.{nothing_arrives}
-use Rattle.hart_line.proofs.TurnLemmas.{silent_step}
+use Rattle.hart_line.proofs.OfLine.ArrivalLemmas.{nothing_arrives}
+use Rattle.hart_line.proofs.OfLine.TurnLemmas.{silent_step}
 use Rattle.hart_line.proofs.line.pass_silence.Goals as goal
 
 pub returns-in_err-_nothing-2-clause-stopped : goal.returns-in_err-_nothing-2-clause-stopped

@@ -1,5 +1,5 @@
 use Rattle.std.proofs.Common.{◌∙◌, [], refl}
-use Rattle.hart_line.proofs.LegLemmas.{no_frames_among}
+use Rattle.hart_line.proofs.OfLine.LegLemmas.{no_frames_among}
 use Rattle.hart_line.proofs.line.Line.hear_noise.Goals as goal
 
 pub returns-clause-stepped : goal.returns-clause-stepped

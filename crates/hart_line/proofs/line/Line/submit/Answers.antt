@@ -1,5 +1,5 @@
 use Rattle.std.proofs.lemmas.Result.{on_ok_weaker}
-use Rattle.hart_line.proofs.EventLemmas.{submitted_stands}
+use Rattle.hart_line.proofs.OfLine.EventLemmas.{submitted_stands}
 use Rattle.hart_line.proofs.line.Line.submit.Goals as goal
 
 pub returns-clause-stands : goal.returns-clause-stands

@@ -1,9 +1,9 @@
 use Rattle.std.proofs.Common.{Some, arith}
 use Rattle.std.specs.Option.{option_copied}
 use Rattle.std.proofs.lemmas.Result.{IfErr-weaker, err_from_is_err_and, on_ok_weaker}
-use Rattle.hart_line.specs.Step.{message_of}
-use Rattle.hart_line.proofs.LegLemmas.{reply_sent, request_sent}
-use Rattle.hart_line.proofs.TurnLemmas.{turned_stands}
+use Rattle.hart_line.specs.Line.Step.{message_of}
+use Rattle.hart_line.proofs.OfLine.LegLemmas.{reply_sent, request_sent}
+use Rattle.hart_line.proofs.OfLine.TurnLemmas.{turned_stands}
 use Rattle.hart_line.proofs.line.Line.turn.Goals as goal
 
 pub returns-in_default-clause-stepped : goal.returns-in_default-clause-stepped

@@ -1,0 +1,93 @@
+-- The state of the device in a world, after an effect.
+use Rattle.std.proofs.Common.{◌≡◌, ℕ, ◌+◌, ◌%◌, ◌≤◌, ◌<◌, ◌||◌, nat_lt, ap, ◌∙◌, sym, refl, arith, Option, None, Some, Bool, true, false, List, [], ◌∷◌, ◌++◌, length}
+use Rattle.std.proofs.lemmas.List.{map-append}
+use Rattle.std.proofs.Math.Nat.{mod-add-mod, mod-eq_of_lt}
+use Rattle.std.proofs.lemmas.Grind.{common_steps}
+use Rattle.std.proofs.lemmas.Bool.{lt-ltb, le-ltb}
+use Rattle.hart_values.specs.declared.master_id.MasterId.{MasterId}
+use Rattle.hart_values.specs.declared.master_id.MasterId.TheVariants.{Primary, Secondary}
+use Rattle.hart_commands.specs.Registers.{Contents, NamedBytes, registers_of, overwritten}
+use Rattle.hart_device.specs.Device.{DeviceState, Effect, Nothing, Executes, Resets, after}
+use Rattle.hart_device.specs.declared.identity_parts.IdentityParts.{IdentityParts}
+use Rattle.hart_line.specs.Line.World.{World, Execution, Start, first_world, state_of, overwrites_of, is_changed}
+use Rattle.hart_line.specs.Line.LineState.{MarksWithin}
+use Rattle.hart_line.specs.Line.Step.{executions_after, marks_after}
+
+-- What the law of registers says of a list with one more.
+abbrev pub LastLaw : Type 0
+LastLaw = (overwrites : List NamedBytes) (overwrite : NamedBytes) (initial : Contents)
+    → registers_of (overwrites ++ overwrite ∷ []) initial ≡ overwritten overwrite (registers_of overwrites initial)
+
+-- A mark is behind one execution more.
+is_changed-more : (initially : Bool) (mark : Option ℕ) (count : ℕ) → ((m : ℕ) → mark ≡ Some m → m ≤ count)
+    → true ≡ is_changed initially mark (count + 1)
+is_changed-more true None count within = refl
+is_changed-more false None count within = sym (lt-ltb 0 (count + 1) (omega arith))
+is_changed-more initially (Some m) count within = let h = within m refl in sym (lt-ltb m (count + 1) (omega arith))
+
+is_changed-now : (initially : Bool) (count : ℕ) → false ≡ is_changed initially (Some count) count
+is_changed-now initially count = sym (le-ltb count count (omega arith))
+
+pub length-one_more : {A : Type 0} (xs : List A) (x : A) → length (xs ++ x ∷ []) ≡ length xs + 1
+length-one_more xs x = grind (arith, common_steps)
+
+counted : (counter count : ℕ) → ((counter + count) % 65536 + 1) % 65536 ≡ (counter + (count + 1)) % 65536
+counted counter count = mod-add-mod (counter + count) 65536 1 ∙ ap (λ n. n % 65536) (omega arith)
+
+same_parts : {A B C D E F G : Type 0} (f : A → B → C → D → E → F → G) {a a' : A} {b b' : B} {c c' : C} {d d' : D} {e e' : E}
+    {g g' : F} → a ≡ a' → b ≡ b' → c ≡ c' → d ≡ d' → e ≡ e' → g ≡ g' → f a b c d e g ≡ f a' b' c' d' e' g'
+same_parts f one two three four five six = cc
+
+state_by : IdentityParts → Contents → ℕ → Bool → Bool → Bool → DeviceState
+state_by i r n p s w = record { identity = i; contents = r; counter = n; changed = record { primary = p; secondary = s }; protected = w }
+
+pub same_state : (a b : DeviceState) → a.identity ≡ b.identity → a.contents ≡ b.contents → a.counter ≡ b.counter
+    → a.changed.primary ≡ b.changed.primary → a.changed.secondary ≡ b.changed.secondary → a.protected ≡ b.protected → a ≡ b
+unfolding state_by
+same_state a b identity contents counter primary secondary protected =
+    same_parts state_by identity contents counter primary secondary protected
+
+contents-more : LastLaw → (executions : List Execution) (execution : Execution) (initial : Contents)
+    → overwritten execution.overwrite (registers_of (overwrites_of executions) initial)
+    ≡ registers_of (overwrites_of (executions ++ execution ∷ [])) initial
+contents-more last executions execution initial =
+    sym (ap (λ os. registers_of os initial) (map-append (λ (e : Execution). e.overwrite) executions (execution ∷ []))
+    ∙ last (overwrites_of executions) execution.overwrite initial)
+
+-- The state after an effect is that of the world that the effect entered.
+pub state-after : LastLaw → (initial : DeviceState) (world next : World) (id : MasterId) (number : ℕ) (effect : Effect) → MarksWithin world
+    → next.executions ≡ executions_after effect number world.executions
+    → next.marks ≡ marks_after effect id (length world.executions) world.marks
+    → next.protected ≡ world.protected
+    → after id effect (state_of initial world) ≡ state_of initial next
+state-after last initial world next id number Nothing within executions marks protected =
+    rw (executions, marks, protected)
+state-after last initial world next id number (Executes overwrite) within executions marks protected =
+    let entry : Execution = record { submission = number; overwrite = overwrite } in
+    let more = length-one_more world.executions entry in
+    rw (executions, marks, protected) (same_state _ _ refl
+    (contents-more last world.executions entry initial.contents)
+    (rw more (counted initial.counter (length world.executions)))
+    (rw more (is_changed-more initial.changed.primary world.marks.primary (length world.executions) (within Primary)))
+    (rw more (is_changed-more initial.changed.secondary world.marks.secondary (length world.executions) (within Secondary)))
+    refl)
+state-after last initial world next Primary number Resets within executions marks protected =
+    rw (executions, marks, protected) (same_state _ _ refl refl refl (is_changed-now initial.changed.primary
+    (length world.executions)) refl refl)
+state-after last initial world next Secondary number Resets within executions marks protected =
+    rw (executions, marks, protected)
+    (same_state _ _ refl refl refl refl (is_changed-now initial.changed.secondary (length world.executions)) refl)
+
+-- THE FIRST WORLD
+or_none : (b : Bool) → (b || nat_lt 0 0) ≡ b
+or_none true = refl
+or_none false = refl
+
+small_mod : (n : ℕ) → n < 65536 → (n + 0) % 65536 ≡ n
+small_mod n h = let same : n + 0 ≡ n = omega arith in rw same (mod-eq_of_lt h)
+
+-- The device stands for the world before a script.
+pub state-first : ((initial : Contents) → registers_of [] initial ≡ initial) → (start : Start) → start.device.counter < 65536
+    → state_of start.device (first_world start) ≡ start.device
+state-first none start small = same_state _ _ refl (none start.device.contents) (small_mod start.device.counter small)
+    (or_none start.device.changed.primary) (or_none start.device.changed.secondary) refl

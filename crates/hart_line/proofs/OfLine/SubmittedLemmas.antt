@@ -1,0 +1,141 @@
+-- A request in hand is the one that was submitted under its number.
+use Rattle.std.proofs.Common.{◌≡◌, ℕ, ◌+◌, ◌<◌, zero, suc, ap, ◌∙◌, sym, refl, subst, Option, None, Some, List, [], ◌∷◌, ◌++◌, drop, get_or, length, take, inl, inr}
+use Rattle.std.specs.List.{slice_get}
+use Rattle.std.proofs.lemmas.List.{length-set, take_more}
+use Rattle.std.proofs.lemmas.List.Elements.{All-append, All-get_or}
+use Rattle.std.proofs.lemmas.Option.{get_or_from_slice_get, slice_get_within}
+use Rattle.hart_values.specs.declared.address.Address.{Address}
+use Rattle.hart_values.specs.declared.master_id.MasterId.{MasterId}
+use Rattle.hart_frame.specs.FrameParts.{FrameParts}
+use Rattle.hart_values.specs.EachMaster.{of_master}
+use Rattle.hart_commands.specs.RequestData.{IsRequest}
+use Rattle.hart_commands.specs.declared.reply.Reply.{Reply}
+use Rattle.hart_commands.specs.declared.request.Request.{Request}
+use Rattle.hart_master.specs.declared.fault.MasterFault.{MasterFault}
+use Rattle.hart_line.specs.Line.Promises.{AreWellMade, requests_of}
+use Rattle.hart_line.specs.Line.Step.{Run, Step, hand_left, outcome_of, submission_fault, submitted, turned}
+use Rattle.hart_line.specs.Line.World.{InHand, Start, World, first_world}
+use Rattle.hart_line.specs.declared.event.LineEvent.{LineEvent}
+use Rattle.hart_line.specs.declared.event.LineEvent.TheVariants.{Submit, Turn, Protect, Noise}
+use Rattle.hart_line.specs.declared.line.report.Outcome.{Outcome}
+use Rattle.hart_line.specs.declared.line.report.Outcome.TheVariants.{Answered, NoReply, Unfinished, Refused}
+use Rattle.hart_line.proofs.OfLine.SoundLemmas.{hand_left-number, nothing_first, with_master-cases}
+
+-- LISTS
+drop-next : {A : Type 0} (n : ℕ) (xs : List A) (x : A) (later : List A) → drop n xs ≡ x ∷ later → drop (suc n) xs ≡ later
+drop-next zero [] x later is = cc
+drop-next zero (y ∷ xs) x later is = cc
+drop-next (suc n) [] x later is = cc
+drop-next (suc n) (y ∷ xs) x later is = drop-next n xs x later is
+
+slice_get-drop : {A : Type 0} (n : ℕ) (xs : List A) (x : A) (later : List A) → drop n xs ≡ x ∷ later → slice_get xs n ≡ Some x
+slice_get-drop zero [] x later is = cc
+slice_get-drop zero (y ∷ xs) x later is = cc
+slice_get-drop (suc n) [] x later is = cc
+slice_get-drop (suc n) (y ∷ xs) x later is = slice_get-drop n xs x later is
+
+length-suc : {A : Type 0} (xs : List A) (x : A) → length (xs ++ x ∷ []) ≡ suc (length xs)
+length-suc [] x = refl
+length-suc (y ∷ xs) x = ap suc (length-suc xs x)
+
+-- EVENT BY EVENT
+-- The requests of the events that are to come follow as many as there are outcomes, and each request in hand stands at its number.
+pub record IsAlong (requests : List Request) (world : World) (later : List LineEvent) : Type 0 where
+  pub to_come : drop (length world.outcomes) requests ≡ requests_of later
+  pub hands : (id : MasterId) (held : InHand) → of_master id world.hands ≡ Some held
+      → slice_get requests held.submission ≡ Some held.request
+
+-- One outcome more takes the next request.
+next_to_come : (requests : List Request) (outcomes : List Outcome) (outcome : Outcome) (request : Request) (more : List Request)
+    → drop (length outcomes) requests ≡ request ∷ more → drop (length (outcomes ++ outcome ∷ [])) requests ≡ more
+next_to_come requests outcomes outcome request more is =
+    rw (length-suc outcomes outcome) (drop-next (length outcomes) requests request more is)
+
+submitted_along : (requests : List Request) (world : World) (who : MasterId) (address : Address) (request : Request)
+    (fault : Option MasterFault) (later : List LineEvent) → IsAlong requests world (Submit who address request ∷ later)
+    → IsAlong requests (submitted world who address request fault) later
+submitted_along requests world who address request None later a = record {
+  to_come = next_to_come requests world.outcomes (Unfinished 0) request (requests_of later) a.to_come;
+  hands = λ id held is. elim (with_master-cases id who _ world.hands held is) [
+    | inl new ↦ (let same : record { submission = length world.outcomes; address = address; request = request; sendings = 0 } ≡ held = cc in
+        subst (λ (h : InHand). slice_get requests h.submission ≡ Some h.request) same
+        (slice_get-drop (length world.outcomes) requests request (requests_of later) a.to_come))
+    | inr old ↦ a.hands id held old
+  ];
+}
+submitted_along requests world who address request (Some fault) later a = record {
+  to_come = next_to_come requests world.outcomes (Refused fault) request (requests_of later) a.to_come;
+  hands = a.hands;
+}
+
+hand_left-request : (held left : InHand) (outcome : Outcome) → hand_left held outcome ≡ Some left → left.request ≡ held.request
+hand_left-request held left (Unfinished n) is =
+    let same : record held { sendings = n } ≡ left = cc in ap (λ (h : InHand). h.request) (sym same)
+hand_left-request held left (Answered reply n) is = cc
+hand_left-request held left (NoReply n) is = cc
+hand_left-request held left (Refused fault) is = cc
+
+turned_along : (requests : List Request) (start : Start) (world : World) (who : MasterId) (hand : Option InHand)
+    (arrived : Option FrameParts) (accepted : Option Reply) (events later : List LineEvent) → of_master who world.hands ≡ hand
+    → requests_of events ≡ requests_of later → IsAlong requests world events
+    → IsAlong requests (turned start world who hand arrived accepted) later
+turned_along requests start world who None arrived accepted events later in_hand same a =
+    record { to_come = a.to_come ∙ same; hands = a.hands }
+turned_along requests start world who (Some held) arrived accepted events later in_hand same a =
+    let outcome = outcome_of (of_master who start.retries) (held.sendings + 1) accepted in record {
+      to_come = rw length-set (a.to_come ∙ same);
+      hands = λ id other is. elim (with_master-cases id who (hand_left held outcome) world.hands other is) [
+        | inl left ↦ rw (hand_left-number held other outcome left, hand_left-request held other outcome left) (a.hands who held in_hand)
+        | inr old ↦ a.hands id other old
+      ];
+    }
+
+pub step_along : (requests : List Request) (start : Start) (world : World) (event : LineEvent) (later : List LineEvent) (next : World)
+    → Step start world event next → IsAlong requests world (event ∷ later) → IsAlong requests next later
+step_along requests start world (Submit who address request) later next step a =
+    rw step (submitted_along requests world who address request (submission_fault (of_master who world.hands) address request) later a)
+step_along requests start world (Turn who up down) later next step a =
+    rw step.next_is (turned_along requests start world who (of_master who world.hands) step.arrived step.accepted
+    (Turn who up down ∷ later) later refl refl a)
+step_along requests start world (Protect on) later next step a = rw step (record { to_come = a.to_come; hands = a.hands })
+step_along requests start world (Noise chars) later next step a = rw step.1 (record { to_come = a.to_come; hands = a.hands })
+
+run_along : (requests : List Request) (start : Start) (front later : List LineEvent) (from before : World) → Run start from front before
+    → IsAlong requests from (front ++ later) → IsAlong requests before later
+run_along requests start [] later from before run a = rw run a
+run_along requests start (event ∷ front) later from before run a =
+    run_along requests start front later run.0 before run.2 (step_along requests start from event (front ++ later) run.0 run.1 a)
+
+pub first_along : (start : Start) (events : List LineEvent) → IsAlong (requests_of events) (first_world start) events
+first_along start events = record { to_come = refl; hands = λ id held is. nothing_first id is }
+
+-- IN A SCRIPT
+-- In the worlds of a script each request in hand is the one that was submitted under its number.
+pub submitted_as : (start : Start) (events front : List LineEvent) (event : LineEvent) (back : List LineEvent) (before : World)
+    → events ≡ front ++ event ∷ back → Run start (first_world start) front before
+    → (id : MasterId) (held : InHand) → of_master id before.hands ≡ Some held
+    → slice_get (requests_of events) held.submission ≡ Some held.request
+submitted_as start events front event back before split led =
+    (run_along (requests_of events) start front (event ∷ back) (first_world start) before led
+    (subst (IsAlong (requests_of events) (first_world start)) split (first_along start events))).hands
+
+-- A request that was submitted is well made.
+pub made_of : (events : List LineEvent) (number : ℕ) (request : Request) → AreWellMade events
+    → slice_get (requests_of events) number ≡ Some request → IsRequest request
+made_of events number request made there =
+    rw (get_or_from_slice_get (requests_of events) number request request there) at
+    (All-get_or IsRequest (requests_of events) number request (slice_get_within (requests_of events) number request there) made)
+
+requests_of-append : (front back : List LineEvent) → requests_of (front ++ back) ≡ requests_of front ++ requests_of back
+requests_of-append [] back = refl
+requests_of-append (Submit who address request ∷ front) back = ap (λ rs. request ∷ rs) (requests_of-append front back)
+requests_of-append (Turn who up down ∷ front) back = requests_of-append front back
+requests_of-append (Protect on ∷ front) back = requests_of-append front back
+requests_of-append (Noise chars ∷ front) back = requests_of-append front back
+
+-- One event more.
+pub made_more : (events : List LineEvent) (n : ℕ) (unused : LineEvent) → n < length events → AreWellMade (take n events)
+    → AreWellMade (get_or events n unused ∷ []) → AreWellMade (take (n + 1) events)
+made_more events n unused here made one =
+    rw (take_more events n unused here, requests_of-append (take n events) (get_or events n unused ∷ []))
+    (All-append IsRequest (requests_of (take n events)) (requests_of (get_or events n unused ∷ [])) made one)

@@ -1,0 +1,91 @@
+-- A turn of the line is a turn of the world.
+use Rattle.std.proofs.Common.{◌≡◌, ap, ◌∙◌, refl, Option, None, Some, List, [], ◌∷◌, ◌++◌, ◌⊎◌, inl, inr, append_assoc}
+use Rattle.std.specs.Option.{option_to_list}
+use Rattle.hart_values.specs.declared.master_id.MasterId.{MasterId}
+use Rattle.hart_values.specs.declared.master_id.MasterId.TheVariants.{Primary, Secondary}
+use Rattle.hart_frame.specs.FrameParts.{FrameParts}
+use Rattle.hart_values.specs.declared.each_master.EachMaster.{EachMaster}
+use Rattle.hart_values.specs.EachMaster.{of_master, with_master}
+use Rattle.hart_device.specs.Device.{DeviceState, after}
+use Rattle.hart_line.specs.Line.Damage.{Arrives}
+use Rattle.hart_line.specs.Line.LineState.{MarksWithin, Stepped, state_heard}
+use Rattle.hart_line.specs.Line.Masters.{AreHeld, Concludes}
+use Rattle.hart_line.specs.Line.Spoken.{AreSpoken, Speaks}
+use Rattle.hart_line.specs.Line.Step.{Step, effect_on, message_of, sent_back, turned}
+use Rattle.hart_line.specs.Line.World.{InHand, Start, World, state_of}
+use Rattle.hart_line.specs.declared.event.Heard.{Heard}
+use Rattle.hart_line.specs.declared.event.LineEvent.TheVariants.{Turn}
+use Rattle.hart_line.specs.declared.line.masters.Masters.{Masters}
+use Rattle.hart_line.specs.declared.line.report.Outcome.{Outcome}
+use Rattle.hart_line.specs.declared.line.report.Spoken.{Spoken}
+use Rattle.hart_line.proofs.OfLine.ArrivalLemmas.{AreSpoken-more, arrives_cases}
+use Rattle.hart_line.proofs.OfLine.StateLemmas.{LastLaw, state-after}
+
+pub of_master-same : {A : Type 0} (id : MasterId) (a : A) (each : EachMaster A) → of_master id (with_master id a each) ≡ a
+of_master-same Primary a each = refl
+of_master-same Secondary a each = refl
+
+-- With nothing in hand nothing changes.
+pub silent_step : (start : Start) (world : World) (who : MasterId) (up down : Heard) → of_master who world.hands ≡ None
+    → Arrives up None None → Arrives down None None → Step start world (Turn who up down) world
+silent_step start world who up down in_hand arrives returns = record {
+  arrived = None;
+  arrives = rw in_hand arrives;
+  returned = None;
+  returns = returns;
+  accepted = None;
+  accepts = rw in_hand refl;
+  next_is = rw in_hand refl;
+}
+
+state_heard-effect : (state : DeviceState) (id : MasterId) (held : InHand) (arrived : Option FrameParts)
+    → (arrived ≡ None) ⊎ (arrived ≡ Some (message_of id held).frame)
+    → state_heard state arrived ≡ after id (effect_on state arrived) state
+state_heard-effect state id held None known = refl
+state_heard-effect state id held (Some frame) (inl is) = cc
+state_heard-effect state id held (Some frame) (inr is) =
+    let master : frame.master ≡ id = ap (λ (f : FrameParts). f.master) (some_one is) in rw master
+  where
+    some_one : {A : Type 0} {x y : A} → Some x ≡ Some y → x ≡ y
+    some_one is = cc
+
+-- With a request in hand that is sent, the line stands for the world that the turn leads to.
+pub turned_stands : LastLaw → (start : Start) (world : World) (who : MasterId) (up down : Heard) (held : InHand)
+    (arrived returned : Option FrameParts) (masters : Masters) (outcomes : List Outcome) (spoken mid spoken' : List Spoken)
+    → MarksWithin world → of_master who world.hands ≡ Some held
+    → Arrives up (Some (message_of who held)) arrived → Arrives down (sent_back start world arrived) returned
+    → AreSpoken world.spoken spoken → Speaks (Some (message_of who held)) spoken mid
+    → Speaks (sent_back start world arrived) mid spoken'
+    → Concludes who (of_master who start.retries) held returned world.outcomes outcomes
+    (λ left. AreHeld start.retries (with_master who left world.hands) masters)
+    → Stepped start world (Turn who up down) (record {
+      device = state_heard (state_of start.device world) arrived;
+      masters = masters;
+      outcomes = outcomes;
+      spoken = spoken';
+    })
+turned_stands last start world who up down held arrived returned masters outcomes spoken mid spoken' within in_hand arrives returns are
+    requested replied concludes =
+    let next = turned start world who (Some held) arrived concludes.accepted in record {
+      next = next;
+      step = record {
+        arrived = arrived;
+        arrives = rw in_hand arrives;
+        returned = returned;
+        returns = returns;
+        accepted = concludes.accepted;
+        accepts = rw in_hand concludes.accepts;
+        next_is = rw in_hand refl;
+      };
+      stands = record {
+        device_is = state_heard-effect (state_of start.device world) who held arrived (arrives_cases up (Some
+            (message_of who held)) arrived arrives)
+            ∙ state-after last start.device world next who held.submission (effect_on (state_of start.device world) arrived)
+            within refl refl refl;
+        masters_are = concludes.left;
+        outcomes_are = concludes.outcomes_are;
+        spoken_are = rw (append_assoc world.spoken (message_of who held ∷ []) (option_to_list (sent_back start world arrived))) at
+            (AreSpoken-more (world.spoken ++ message_of who held ∷ []) (sent_back start world arrived) mid spoken'
+            (AreSpoken-more world.spoken (Some (message_of who held)) spoken mid are requested) replied);
+      };
+    }

@@ -1,0 +1,203 @@
+-- Unrefused writes are executed in their turn, and nothing else is.
+use Rattle.std.proofs.Common.{◌≡◌, ◌↔◌, ℕ, ◌==◌, nat_lt, ap, ◌∙◌, sym, refl, subst, Option, None, Some, Ok, IsSome, IsTrue, Bool, true, false, List, [], ◌∷◌, ◌++◌, if◌then◌else◌, ◌⊎◌, inl, inr}
+use Rattle.std.specs.List.{slice_get}
+use Rattle.std.specs.Prelude.{option_map}
+use Rattle.hart_values.specs.declared.master_id.MasterId.{MasterId}
+use Rattle.hart_frame.specs.FrameParts.{FrameParts, reply_parts}
+use Rattle.hart_values.specs.EachMaster.{of_master}
+use Rattle.hart_commands.specs.Registers.{NamedBytes, overwrite_of}
+use Rattle.hart_commands.specs.ReplyData.{content_reading, reply_reading}
+use Rattle.hart_commands.specs.RequestCode.{is_write}
+use Rattle.hart_commands.specs.RequestData.{IsRequest, command_of, is_known, request_reading}
+use Rattle.hart_commands.specs.declared.content.ReplyContent.{ReplyContent}
+use Rattle.hart_commands.specs.declared.content.ReplyContent.TheVariants.{Refused}
+use Rattle.hart_commands.specs.declared.reply.Reply.{Reply}
+use Rattle.hart_commands.specs.declared.request.Request.{Request}
+use Rattle.hart_device.specs.Answer.{answer_of, code_of, effect_of, is_answered, reading_of}
+use Rattle.hart_device.specs.Device.{DeviceState, Effect, Nothing, Executes, Resets}
+use Rattle.hart_device.specs.declared.process.Process.{Process}
+use Rattle.hart_line.specs.Line.Damage.{Arrives}
+use Rattle.hart_line.specs.Line.Promises.{AnswersLastSending, AreWellMade, IsExecutedFromHand, IsExecutedInItsTurn, IsStepOf, IsUnrefusedWrite, arrived_in_step, requests_of}
+use Rattle.hart_line.specs.Line.Step.{IsTurn, Step, effect_on, executions_after, message_of, sent_by, submission_fault, submitted, turned}
+use Rattle.hart_line.specs.Line.World.{Execution, InHand, Start, World, first_world, state_of}
+use Rattle.hart_line.specs.declared.event.Heard.{Heard}
+use Rattle.hart_line.specs.declared.event.LineEvent.{LineEvent}
+use Rattle.hart_line.specs.declared.event.LineEvent.TheVariants.{Submit, Turn, Protect, Noise}
+use Rattle.hart_line.proofs.OfLine.ArrivalLemmas.{arrives_cases, none_arrives}
+use Rattle.hart_line.proofs.OfLine.LastLemmas.{ReadsLaw}
+use Rattle.hart_line.proofs.OfLine.SubmittedLemmas.{made_of, submitted_as}
+
+-- THE CODE OF A REPLY
+some_one : {A : Type 0} {x y : A} → Some x ≡ Some y → x ≡ y
+some_one is = cc
+
+reading_code : (command : ℕ) (payload : List ℕ) (reply : Reply) (code : ℕ) → reply_reading command payload ≡ Some reply
+    → slice_get payload 0 ≡ Some code → reply.code ≡ code
+reading_code command [] reply code read is = cc
+reading_code command (c ∷ []) reply code read is = cc
+reading_code command (c ∷ status ∷ bytes) reply code read is =
+    by_tests (nat_lt 127 c) (c == 0) (is_known command) (content_reading command bytes) read ∙ some_one is
+  where
+    told : ReplyContent → Reply
+    told content = record { command = command; code = c; status = record { 0 = status }; content = content }
+
+    by_content : (content : Option ReplyContent)
+        → option_map (λ x. let r : Reply = record { command = command; code = c; status = record { 0 = status }; content = x } in r) content
+        ≡ Some reply → reply.code ≡ c
+    by_content None read = cc
+    by_content (Some content) read = ap (λ (r : Reply). r.code) (sym (some_one read))
+
+    by_tests : (above success known : Bool) (content : Option ReplyContent)
+        → (if above then None else if success
+        then option_map (λ x. let r : Reply = record { command = command; code = c; status = record { 0 = status }; content = x } in
+        r) content
+        else if known then Some (record { command = command; code = c; status = record { 0 = status }; content = Refused }) else None)
+        ≡ Some reply → reply.code ≡ c
+    by_tests true success known content read = cc
+    by_tests false true known content read = by_content content read
+    by_tests false false true content read = ap (λ (r : Reply). r.code) (sym (some_one read))
+    by_tests false false false content read = cc
+
+-- EXECUTIONS
+-- What the laws of commands and of the device say.
+pub record WriteLaws : Type 0 where
+  pub command : (number : ℕ) (bytes : List ℕ) (request : Request) → request_reading number bytes ≡ Ok request
+      → (command_of request ≡ number) × IsRequest request
+  pub reads : ReadsLaw
+  pub overwritten : (request : Request) → IsTrue (is_write (command_of request)) ↔ IsSome (overwrite_of request)
+  pub code : (state : DeviceState) (process : Process) (frame reply : FrameParts) → answer_of state process frame ≡ Some reply
+      → (is_answered state frame ≡ true) × (reply ≡ reply_parts frame reply.payload)
+      × (slice_get reply.payload 0 ≡ Some (code_of state frame))
+  pub executes : (state : DeviceState) (frame : FrameParts) (request : Request) (overwrite : NamedBytes)
+      → is_answered state frame ≡ true → code_of state frame ≡ 0 → reading_of frame ≡ Ok request → overwrite_of request ≡ Some overwrite
+      → effect_of state frame ≡ Executes overwrite
+  pub only : (state : DeviceState) (frame : FrameParts) (overwrite : NamedBytes) → effect_of state frame ≡ Executes overwrite
+      → (is_answered state frame ≡ true) × (code_of state frame ≡ 0)
+      × (request : Request) × (reading_of frame ≡ Ok request) × (overwrite_of request ≡ Some overwrite)
+
+pub record IsNamed (request : Request) : Type 0 where
+  pub overwrite : NamedBytes
+  pub is : overwrite_of request ≡ Some overwrite
+
+named_by : (request : Request) (overwrite : Option NamedBytes) → overwrite_of request ≡ overwrite → IsSome overwrite → IsNamed request
+named_by request None is none = cc
+named_by request (Some overwrite) is there = record { overwrite = overwrite; is = is }
+
+-- A write that is not refused and arrives in a turn is the message that was sent.
+record IsSentWrite (state : DeviceState) (sent : FrameParts) (arrived : Option FrameParts) : Type 0 where
+  pub arrived_is : arrived ≡ Some sent
+  pub write : IsUnrefusedWrite state (Some sent)
+
+sent_write : (state : DeviceState) (sent : FrameParts) (arrived : Option FrameParts) → (arrived ≡ None) ⊎ (arrived ≡ Some sent)
+    → IsUnrefusedWrite state arrived → IsSentWrite state sent arrived
+sent_write state sent None known write = absurd write
+sent_write state sent (Some frame) (inl none) write = cc
+sent_write state sent (Some frame) (inr is) write = record { arrived_is = is; write = subst (IsUnrefusedWrite state) is write }
+
+-- A submission was executed in a step, with the overwrite of this request.
+pub record IsExecuted (number : ℕ) (request : Request) (before next : World) : Type 0 where
+  pub overwrite : NamedBytes
+  pub overwrites : overwrite_of request ≡ Some overwrite
+  pub executed : next.executions ≡ before.executions ++ record { submission = number; overwrite = overwrite } ∷ []
+
+turned_executes : WriteLaws → (start : Start) (before : World) (who : MasterId) (held : InHand) (arrived : Option FrameParts)
+    (accepted : Option Reply) → IsRequest held.request → (arrived ≡ None) ⊎ (arrived ≡ Some (message_of who held).frame)
+    → IsUnrefusedWrite (state_of start.device before) arrived
+    → IsExecuted held.submission held.request before (turned start before who (Some held) arrived accepted)
+turned_executes laws start before who held arrived accepted made known write =
+    let state = state_of start.device before in
+    let frame = (message_of who held).frame in
+    let sent = sent_write state frame arrived known write in
+    let named = named_by held.request _ refl ((laws.overwritten held.request).0 sent.write.0) in
+    let executes : effect_of state frame ≡ Executes named.overwrite =
+    laws.executes state frame held.request named.overwrite sent.write.1 sent.write.2 (laws.reads held.request made) named.is in
+    record {
+      overwrite = named.overwrite;
+      overwrites = named.is;
+      executed = ap (λ e. executions_after e held.submission before.executions) (ap (effect_on state) sent.arrived_is ∙ executes);
+    }
+
+turn_executes : WriteLaws → (start : Start) (before : World) (who : MasterId) (up down : Heard) (next : World)
+    (t : IsTurn start before who up down next) (held : InHand) → of_master who before.hands ≡ Some held → IsRequest held.request
+    → IsUnrefusedWrite (state_of start.device before) t.arrived → IsExecuted held.submission held.request before next
+turn_executes laws start before who up down next t held in_hand made write =
+    rw (t.next_is, in_hand) (turned_executes laws start before who held t.arrived t.accepted made
+    (arrives_cases up (Some (message_of who held)) t.arrived (rw in_hand at t.arrives)) write)
+
+pub turn_executed : WriteLaws → (start : Start) (events : List LineEvent) → AreWellMade events → (who : MasterId) (up down : Heard)
+    (before next : World) (t : IsStepOf start (first_world start) events before (Turn who up down) next)
+    → IsUnrefusedWrite (state_of start.device before) t.step.arrived → IsExecutedFromHand start events who before next
+turn_executed laws start events made who up down before next t write =
+    by_hand (of_master who before.hands) refl t.step.arrives
+  where
+    by_hand : (hand : Option InHand) → of_master who before.hands ≡ hand → Arrives up (sent_by who hand) t.step.arrived
+        → IsExecutedFromHand start events who before next
+    by_hand None in_hand arrives =
+        absurd (subst (IsUnrefusedWrite (state_of start.device before)) (none_arrives up t.step.arrived arrives) write)
+    by_hand (Some held) in_hand arrives =
+        let there = submitted_as start events t.front _ t.back before t.split t.led who held in_hand in
+        let e = turn_executes laws start before who up down next t.step held in_hand
+        (made_of events held.submission held.request made there) write in record {
+          held = held;
+          in_hand = in_hand;
+          submitted_as = there;
+          overwrite = e.overwrite;
+          overwrites = e.overwrites;
+          executed = e.executed;
+        }
+
+-- AN ACCEPTED REPLY
+pub answered_executed : WriteLaws → (start : Start) (events : List LineEvent) → AreWellMade events → (number : ℕ) (request : Request)
+    (reply : Reply) (sendings : ℕ)
+    → AnswersLastSending start events number reply sendings → slice_get (requests_of events) number ≡ Some request
+    → IsTrue (is_write (command_of request)) → reply.code ≡ 0
+    → IsExecutedInItsTurn start events number request reply sendings
+answered_executed laws start events made number request reply sendings a submitted write success =
+    let state = state_of start.device a.before in
+    let frame = (message_of a.who a.held).frame in
+    let told = laws.code state start.process frame a.answer a.answered in
+    let code : code_of state frame ≡ 0 = sym (reading_code a.answer.command a.answer.payload reply _ a.is_reply.told told.2) ∙ success in
+    let there = submitted_as start events a.turn.front _ a.turn.back a.before a.turn.split a.turn.led a.who a.held a.in_hand in
+    let same : a.held.request ≡ request = some_one (sym there ∙ ap (slice_get (requests_of events)) a.of_submission ∙ submitted) in
+    let unrefused : IsUnrefusedWrite state (Some frame) = (rw (← same) at write, told.0, code) in
+    let e = turn_executes laws start a.before a.who a.up a.down a.next a.turn.step a.held a.in_hand
+    (made_of events a.held.submission a.held.request made there) (subst (IsUnrefusedWrite state) (sym a.arrived) unrefused) in record {
+      answered = a;
+      overwrite = e.overwrite;
+      overwrites = ap overwrite_of (sym same) ∙ e.overwrites;
+      executed = e.executed ∙ ap (λ n. a.before.executions ++ record { submission = n; overwrite = e.overwrite } ∷ []) a.of_submission;
+    }
+
+-- NOTHING ELSE
+frame_stays : WriteLaws → (state : DeviceState) (frame : FrameParts) (number : ℕ) (executions : List Execution) (effect : Effect)
+    → effect_of state frame ≡ effect → (IsUnrefusedWrite state (Some frame) → ⊥) → executions_after effect number executions ≡ executions
+frame_stays laws state frame number executions Nothing is other = refl
+frame_stays laws state frame number executions Resets is other = refl
+frame_stays laws state frame number executions (Executes overwrite) is other =
+    let asked = laws.only state frame overwrite is in
+    let named : IsSome (overwrite_of asked.2) = rw asked.4 refl in
+    let command = (laws.command frame.command frame.payload asked.2 asked.3).0 in
+    absurd (other (rw command at ((laws.overwritten asked.2).1 named), asked.0, asked.1))
+
+arrived_stays : WriteLaws → (state : DeviceState) (arrived : Option FrameParts) (number : ℕ) (executions : List Execution)
+    → (IsUnrefusedWrite state arrived → ⊥) → executions_after (effect_on state arrived) number executions ≡ executions
+arrived_stays laws state None number executions other = refl
+arrived_stays laws state (Some frame) number executions other = frame_stays laws state frame number executions _ refl other
+
+pub step_stays : WriteLaws → (start : Start) (before : World) (event : LineEvent) (next : World) (step : Step start before event next)
+    → (IsUnrefusedWrite (state_of start.device before) (arrived_in_step start before event next step) → ⊥)
+    → next.executions ≡ before.executions
+step_stays laws start before (Submit who address request) next step other =
+    ap (λ (w : World). w.executions) step ∙ by_fault (submission_fault (of_master who before.hands) address request)
+  where
+    by_fault : (fault : _) → (submitted before who address request fault).executions ≡ before.executions
+    by_fault None = refl
+    by_fault (Some fault) = refl
+step_stays laws start before (Turn who up down) next step other =
+    ap (λ (w : World). w.executions) step.next_is ∙ by_hand (of_master who before.hands)
+  where
+    by_hand : (hand : Option InHand) → (turned start before who hand step.arrived step.accepted).executions ≡ before.executions
+    by_hand None = refl
+    by_hand (Some held) = arrived_stays laws (state_of start.device before) step.arrived held.submission before.executions other
+step_stays laws start before (Protect on) next step other = ap (λ (w : World). w.executions) step
+step_stays laws start before (Noise chars) next step other = ap (λ (w : World). w.executions) step.1

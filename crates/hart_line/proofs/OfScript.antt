@@ -1,0 +1,8 @@
+-- How the readers of scripts are proved.
+pub mod DigitsLemmas
+pub mod ItemsLemmas
+pub mod LinesLemmas
+pub mod RowsLemmas
+pub mod ScriptLemmas
+pub mod WordsApart
+pub mod WordsLemmas

@@ -1,0 +1,45 @@
+-- The rows of the table of events, word by word.
+use Rattle.std.proofs.Common.{◌≡◌, ℕ, List, ◌∷◌, codes, get_or, Ok, Option, None, Some, sym, ap, ◌∙◌, subst, arith}
+use Rattle.std.specs.Option.{ok_or}
+use Rattle.hart_values.specs.declared.address.Address.{Address}
+use Rattle.hart_values.specs.declared.master_id.MasterId.{MasterId}
+use Rattle.hart_commands.specs.RequestData.{request_reading}
+use Rattle.hart_commands.specs.declared.request.Request.{Request}
+use Rattle.hart_line.specs.Script.Rows.{AreDataWords, IsEvent, IsSubmitRow, Reads}
+use Rattle.hart_line.specs.Script.Words.{Finds, IsCommandWord}
+use Rattle.hart_line.specs.declared.event.LineEvent.{LineEvent}
+use Rattle.hart_line.specs.declared.event.LineEvent.TheVariants.{Noise, Protect, Submit, Turn}
+use Rattle.hart_line.specs.declared.script.rows.RowFault.TheVariants.{Bad}
+use Rattle.hart_line.proofs.OfScript.WordsApart.{AreDataWords-one, IsCommandWord-one}
+
+-- a value that is found is read, and where none is found the line is bad
+pub found_read : {T : Type 0} (IsValue : T → Type 0) (found : Option T) → Finds IsValue found → Reads IsValue (ok_or found Bad)
+found_read IsValue None finds = finds
+found_read IsValue (Some value) finds = finds
+
+-- equal words have the same first letter
+pub first_letter : (word other : List ℕ) (words others : List (List ℕ)) → word ∷ words ≡ other ∷ others → get_or word 0 0 ≡ get_or other 0 0
+first_letter word other words others e = let same : word ≡ other = cc e in ap (λ (xs : List ℕ). get_or xs 0 0) same
+
+-- `submit` says no event but a submission
+pub only_submit : (words : List (List ℕ)) (event : LineEvent) → IsEvent (codes "submit" ∷ words) event
+    → ((master : MasterId) (to : Address) (request : Request) → IsSubmitRow (codes "submit" ∷ words) master to request → ⊥) → ⊥
+only_submit words (Submit master to request) is n = n master to request is
+only_submit words (Turn who up down) is n = omega (arith, first_letter _ _ _ _ is.row)
+only_submit words (Protect on) is n = omega (arith, first_letter _ _ _ _ is)
+only_submit words (Noise chars) is n = omega (arith, first_letter _ _ _ _ is.row)
+
+-- the request of a row is what its command and its data are read as
+pub read_as : (words : List (List ℕ)) (master : MasterId) (to : Address) (request : Request)
+    (who address command : List ℕ) (payload : List (List ℕ)) (number : ℕ) (bytes : List ℕ)
+    → words ≡ codes "submit" ∷ who ∷ address ∷ command ∷ payload → IsCommandWord command number → AreDataWords payload bytes
+    → IsSubmitRow words master to request → request_reading number bytes ≡ Ok request
+read_as words master to request who address command payload number bytes e c d p =
+    let row = sym e ∙ p.row in
+    let command_same : command ≡ p.command = cc in
+    let payload_same : payload ≡ p.payload = cc in
+    let number_same : number ≡ p.number =
+    IsCommandWord-one p.command number p.number (subst (λ (xs : List ℕ). IsCommandWord xs number) command_same c) p.command_written in
+    let bytes_same : bytes ≡ p.bytes =
+    AreDataWords-one p.payload bytes p.bytes (subst (λ (xs : List (List ℕ)). AreDataWords xs bytes) payload_same d) p.data_written in
+    rw (number_same, bytes_same) p.read

@@ -1,0 +1,96 @@
+use Rattle.std.proofs.Common.{◌≡◌, ◌≢◌, ◌≤◌, ℕ, List, length, [], ◌∷◌, get_or, refl, sym, ap, ◌∙◌, subst, arith}
+use Rattle.std.proofs.lemmas.Bool.{iff_false}
+use Rattle.hart_frame.specs.Character.{AreFaultBits, Character}
+use Rattle.hart_line.specs.Script.Items.{AreDigits, BeginsAsItem, byte_of, Faulty, NoItemBegins, Plain}
+use Rattle.hart_line.proofs.script.items.leading_item.Goals as goal
+
+-- an item without fault bits begins a text
+begins_as_plain : (text : List ℕ) (char : Character) (byte : ℕ) → 2 ≤ length text → AreDigits (get_or text 0 0) (get_or text 1 0)
+    → byte ≡ byte_of (get_or text 0 0) (get_or text 1 0) → (get_or text 2 0 ≡ 33 → ⊥) → char ≡ record { byte = byte; faults = 0 }
+    → BeginsAsItem text char 2
+begins_as_plain [] char byte some d b n e = absurd (omega arith)
+begins_as_plain (x ∷ []) char byte some d b n e = absurd (omega arith)
+begins_as_plain (x ∷ y ∷ []) char byte some d b n e = record {
+  item = Plain x y;
+  tail = [];
+  begins = record { valid = d; spelled = refl; ends = tt };
+  long = refl;
+  means = cc;
+}
+begins_as_plain (x ∷ y ∷ z ∷ text) char byte some d b n e = record {
+  item = Plain x y;
+  tail = z ∷ text;
+  begins = record { valid = d; spelled = refl; ends = n };
+  long = refl;
+  means = cc;
+}
+
+-- an item with fault bits begins a text
+begins_as_faulty : (text : List ℕ) (char : Character) (byte faults : ℕ) → 5 ≤ length text → AreDigits (get_or text 0 0) (get_or text 1 0)
+    → byte ≡ byte_of (get_or text 0 0) (get_or text 1 0) → get_or text 2 0 ≡ 33 → AreDigits (get_or text 3 0) (get_or text 4 0)
+    → faults ≡ byte_of (get_or text 3 0) (get_or text 4 0) → faults ≢ 0 → AreFaultBits faults
+    → char ≡ record { byte = byte; faults = faults } → BeginsAsItem text char 5
+begins_as_faulty [] char byte faults some d b n f g z a e = absurd (omega arith)
+begins_as_faulty (x ∷ []) char byte faults some d b n f g z a e = absurd (omega arith)
+begins_as_faulty (x ∷ y ∷ []) char byte faults some d b n f g z a e = absurd (omega arith)
+begins_as_faulty (x ∷ y ∷ m ∷ []) char byte faults some d b n f g z a e = absurd (omega arith)
+begins_as_faulty (x ∷ y ∷ m ∷ v ∷ []) char byte faults some d b n f g z a e = absurd (omega arith)
+begins_as_faulty (x ∷ y ∷ m ∷ v ∷ w ∷ text) char byte faults some d b n f g z a e = record {
+  item = Faulty x y v w;
+  tail = text;
+  begins = record { valid = (d, f, λ k. z (g ∙ k), subst AreFaultBits g a); spelled = cc; ends = tt };
+  long = refl;
+  means = cc;
+}
+
+-- past the end of a text stands no `!`
+zero_is_no_mark : (n : ℕ) → n ≡ 33 → n ≡ 0 → ⊥
+zero_is_no_mark n e z = omega arith
+
+-- no item begins where a `!` stands behind two digits, and no fault bits behind it
+no_item_begins : (text : List ℕ) → get_or text 2 0 ≡ 33
+    → (5 ≤ length text → AreDigits (get_or text 3 0) (get_or text 4 0) → byte_of (get_or text 3 0) (get_or text 4 0) ≢ 0
+    → AreFaultBits (byte_of (get_or text 3 0) (get_or text 4 0)) → ⊥)
+    → NoItemBegins text
+no_item_begins text m f (Plain x y) [] h =
+    absurd (zero_is_no_mark (get_or (x ∷ y ∷ []) 2 0) (ap (λ (xs : List ℕ). get_or xs 2 0) (sym h.spelled) ∙ m) refl)
+no_item_begins text m f (Plain x y) (z ∷ tail) h = h.ends (ap (λ (xs : List ℕ). get_or xs 2 0) (sym h.spelled) ∙ m)
+no_item_begins text m f (Faulty x y v w) tail h =
+    let e = h.spelled in
+    let long : 5 ≤ length text = subst (λ (xs : List ℕ). 5 ≤ length xs) (sym e) (omega arith) in
+    f long
+    (subst (λ (zs : List ℕ). AreDigits (get_or zs 3 0) (get_or zs 4 0)) (sym e) h.valid.1)
+    (subst (λ (zs : List ℕ). byte_of (get_or zs 3 0) (get_or zs 4 0) ≢ 0) (sym e) h.valid.2)
+    (subst (λ (zs : List ℕ). AreFaultBits (byte_of (get_or zs 3 0) (get_or zs 4 0))) (sym e) h.valid.3)
+
+pub returns-then-not-tells_faults : goal.returns-then-not-tells_faults
+returns-then-not-tells_faults c =
+    begins_as_plain _ _ _ c.in-len2-up.len_at_least c.in_ok-byte.ensures.0 c.in_ok-byte.ensures.1
+    (iff_false c.tells_faults.ensures c.if-not-tells_faults.true)
+    c.in_ok-char.ensures.kept
+
+pub returns : goal.returns
+returns c =
+    begins_as_faulty _ _ _ _ c.in-len5-up.len_at_least c.in_ok-byte.ensures.0 c.in_ok-byte.ensures.1
+    (c.tells_faults.ensures.0 c.if-not-tells_faults.false)
+    c.in_ok-faults.ensures.0 c.in_ok-faults.ensures.1 c.if-faults-eq0.false (c.in_ok-char-2.ensures.accepted.0 refl)
+    c.in_ok-char-2.ensures.kept
+
+pub returns-in_default-text : goal.returns-in_default-text
+returns-in_default-text c = no_item_begins _ (c.tells_faults.ensures.0 c.if-not-tells_faults.false) (λ long d z a. omega arith)
+
+pub returns-in_err-faults : goal.returns-in_err-faults
+returns-in_err-faults c =
+    rw (c.from_residual-in_err-faults.ensures)
+    (no_item_begins _ (c.tells_faults.ensures.0 c.if-not-tells_faults.false) (λ long d z a. c.in_err-faults.ensures d))
+
+pub returns-then-faults-eq0 : goal.returns-then-faults-eq0
+returns-then-faults-eq0 c =
+    no_item_begins _ (c.tells_faults.ensures.0 c.if-not-tells_faults.false)
+    (λ long d z a. z (sym c.in_ok-faults.ensures.1 ∙ c.if-faults-eq0.true))
+
+pub returns-in_err-char-2 : goal.returns-in_err-char-2
+returns-in_err-char-2 c =
+    rw (c.from_residual-in_err-char-2.ensures)
+    (no_item_begins _ (c.tells_faults.ensures.0 c.if-not-tells_faults.false)
+    (λ long d z a. let k = c.in_err-char-2.ensures.accepted.1 (subst AreFaultBits (sym c.in_ok-faults.ensures.1) a) in cc k))

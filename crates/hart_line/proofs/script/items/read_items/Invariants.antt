@@ -1,0 +1,12 @@
+use Rattle.std.proofs.Common.{◌-◌, ◌≤◌, length, drop}
+use Rattle.hart_line.specs.Script.Items.{BeginsWithItems}
+use Rattle.hart_line.proofs.script.items.read_items.Given as goal
+
+abbrev pub invariant-loop-lead : goal.invariant-loop-lead
+invariant-loop-lead l = record {
+  within : l.place ≤ length l.word;
+  reads : BeginsWithItems l.word l.chars.items (drop l.place l.word);
+}
+
+abbrev pub decreases-loop-lead : goal.decreases-loop-lead
+decreases-loop-lead l = length l.word - l.place

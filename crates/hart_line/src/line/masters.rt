@@ -1,0 +1,178 @@
+//! The two masters of a line, each with the place of its request in hand among the outcomes.
+ghost use Rattle.std.specs.Prelude.{◌≡◌, ℕ, ◌+◌, Option, None};
+ghost use Rattle.std.specs.Option.{option_copied};
+ghost use Rattle.hart_values.specs.declared.master_id.MasterId.{MasterId};
+ghost use Rattle.hart_values.specs.declared.each_master.EachMaster.{EachMaster};
+ghost use Rattle.hart_values.specs.EachMaster.{of_master, with_master};
+ghost use Rattle.hart_commands.specs.RequestData.{IsRequest};
+ghost use Rattle.hart_line.specs.Line.Masters.{AreHeld, AreInTurn, Awaits, Concludes, Hears, Holds, Sends, Submits};
+ghost use Rattle.hart_line.specs.Line.Step.{hand_left, outcome_of, submission_fault};
+ghost use Rattle.hart_line.specs.Line.World.{InHand};
+
+use crate::Outcome;
+use crate::line::report::Outcomes;
+use hart_commands::Request;
+use hart_frame::{Char, Frame};
+use hart_master::{Master, MasterEvent};
+use hart_values::{Address, MasterId};
+
+/// The character times that pass at the end of a turn, which end every wait.
+const TURN_TIME: u8 = 255;
+
+/// A master, and the place of its request in hand among the outcomes.
+#[derive(Debug, Drop)]
+pub struct Submitter {
+    pub master: Master,
+    pub place: usize,
+}
+
+impl Submitter {
+    /// A master with nothing in hand, which has no place yet.
+    pub fn new(master: Master) -> Self
+        ensures master { result.master ≡ master }
+        ensures place { result.place ≡ 0 }
+    {
+        Submitter { master, place: 0 }
+    }
+
+    /// Submits a request, whose outcome will have this place, and gives its outcome so far.
+    fn submit(&mut self, place: usize, address: Address, request: &Request) -> Outcome
+        ensures submits { (id : MasterId) (retries : ℕ) (held : Option InHand) → Holds id retries held self.old
+            → Submits held place address request.now (submission_fault held address request.now) result
+            (λ left. Holds id retries left self.new) }
+        ensures well_made { IsRequest request.now }
+    {
+        match self.master.submit(address, request.copy()) {
+            Ok(()) => {
+                self.place = place;
+                Outcome::Unfinished { sendings: 0 }
+            }
+            Err(rejected) => Outcome::Refused(rejected.fault),
+        }
+    }
+
+    /// Sends the request in hand, if there is one, whose reply is then awaited.
+    fn send(&mut self) -> Option<Frame>
+        ensures { (id : MasterId) (retries : ℕ) (held : Option InHand) → Holds id retries held self.old
+            → Sends id held result (Holds id retries held self.new) (λ sent. Awaits id retries sent self.new) }
+    {
+        self.master.send()
+    }
+
+    /// Hears what comes back, and gives the outcome of its request if that is answered by it.
+    fn hear(&mut self, returned: Option<&Frame>) -> Option<Outcome>
+        ensures awaited { (id : MasterId) (retries : ℕ) (held : InHand) → Awaits id retries held self.old
+            → Hears id held (option_copied returned.entry) result (Awaits id retries held self.new) (Holds id retries None self.new) }
+        ensures overheard { (id : MasterId) (retries : ℕ) (held : Option InHand) → Holds id retries held self.old
+            → Holds id retries held self.new }
+    {
+        match self.master.receive(returned?) {
+            MasterEvent::Answered(reply, sendings) => Some(Outcome::Answered { reply, sendings }),
+            _ => None,
+        }
+    }
+
+    /// Hears noise, between two turns.
+    fn hear_noise(&mut self, chars: &[Char])
+        ensures { (id : MasterId) (retries : ℕ) (held : Option InHand) → Holds id retries held self.old
+            → Holds id retries held self.new }
+    {
+        let _event = self.master.hear(chars);
+    }
+
+    /// Waits no longer for the reply to its request, whose outcome it gives.
+    fn stop_waiting(&mut self) -> Outcome
+        ensures { (id : MasterId) (retries : ℕ) (held : InHand) → Awaits id retries held self.old
+            → let outcome = outcome_of retries (held.sendings + 1) None in
+            (result ≡ outcome) × Holds id retries (hand_left held outcome) self.new }
+    {
+        match self.master.tick(TURN_TIME) {
+            MasterEvent::NoReply(sendings) => Outcome::NoReply { sendings },
+            _ => Outcome::Unfinished {
+                sendings: self.master.sendings(),
+            },
+        }
+    }
+
+    /// Ends the turn of this master: its request gets its outcome, by what comes back.
+    fn conclude(&mut self, returned: Option<&Frame>, outcomes: &mut Outcomes)
+        ensures { (id : MasterId) (retries : ℕ) (held : InHand) → Awaits id retries held self.old
+            → Concludes id retries held (option_copied returned.entry) outcomes.old outcomes.new
+            (λ left. Holds id retries left self.new) }
+    {
+        let place = self.place;
+        let outcome = match self.hear(returned) {
+            Some(answered) => answered,
+            None => self.stop_waiting(),
+        };
+        outcomes.replace(place, outcome);
+    }
+}
+
+/// The two masters of a line.
+#[derive(Debug, Drop)]
+pub struct Masters {
+    pub primary: Submitter,
+    pub secondary: Submitter,
+}
+
+impl Masters {
+    /// A master submits a request, whose outcome will have this place, and gets its outcome so far.
+    pub fn submit(
+        &mut self,
+        who: MasterId,
+        place: usize,
+        address: Address,
+        request: &Request,
+    ) -> Outcome
+        ensures submits { (retries : EachMaster ℕ) (hands : EachMaster (Option InHand)) → AreHeld retries hands self.old
+            → Submits (of_master who hands) place address request.now
+            (submission_fault (of_master who hands) address request.now) result
+            (λ left. AreHeld retries (with_master who left hands) self.new) }
+        ensures well_made { IsRequest request.now }
+    {
+        match who {
+            MasterId::Primary => self.primary.submit(place, address, request),
+            MasterId::Secondary => self.secondary.submit(place, address, request),
+        }
+    }
+
+    /// A master sends the request in its hand, if there is one, whose reply is then awaited.
+    pub fn send(&mut self, who: MasterId) -> Option<Frame>
+        ensures { (retries : EachMaster ℕ) (hands : EachMaster (Option InHand)) → AreHeld retries hands self.old
+            → Sends who (of_master who hands) result (AreHeld retries hands self.new)
+            (λ sent. AreInTurn who retries hands sent self.new) }
+    {
+        match who {
+            MasterId::Primary => self.primary.send(),
+            MasterId::Secondary => self.secondary.send(),
+        }
+    }
+
+    /// Both masters hear what comes back, and the turn of this one ends.
+    pub fn conclude(&mut self, who: MasterId, returned: Option<&Frame>, outcomes: &mut Outcomes)
+        ensures { (retries : EachMaster ℕ) (hands : EachMaster (Option InHand)) (held : InHand) → AreInTurn who retries hands held self.old
+            → Concludes who (of_master who retries) held (option_copied returned.entry) outcomes.old outcomes.new
+            (λ left. AreHeld retries (with_master who left hands) self.new) }
+    {
+        match who {
+            MasterId::Primary => {
+                let _overheard = self.secondary.hear(returned);
+                self.primary.conclude(returned, outcomes);
+            }
+            MasterId::Secondary => {
+                let _overheard = self.primary.hear(returned);
+                self.secondary.conclude(returned, outcomes);
+            }
+        }
+    }
+
+    /// Both masters hear noise, between two turns.
+    pub fn hear_noise(&mut self, chars: &[Char])
+        ensures { (retries : EachMaster ℕ) (hands : EachMaster (Option InHand)) → AreHeld retries hands self.old
+            → AreHeld retries hands self.new }
+    {
+        self.primary.hear_noise(chars);
+        self.secondary.hear_noise(chars);
+    }
+}

@@ -1,0 +1,83 @@
+//! Hex items, each of which tells a received character.
+ghost use Rattle.std.specs.Prelude.{◌≡◌, ◌↔◌, IsTrue, MatchOption, slice_index};
+ghost use Rattle.hart_line.specs.Script.Items.{AreDigits, BeginsAsItem, byte_of, IsItemsWord, NoItemBegins};
+ghost use Rattle.hart_line.specs.Script.Rows.{Reads};
+
+use crate::CharList;
+use crate::script::rows::RowFault;
+use hart_frame::Char;
+use hex::FromHex;
+use std::alloc::Global;
+
+/// The item that begins a text: the character that it means, and its length in bytes.
+#[derive(Clone, Copy, Debug, Drop, PartialEq, Eq)]
+pub struct LeadingItem {
+    /// The character.
+    pub char: Char,
+    /// The number of bytes that spell it.
+    pub len: usize,
+}
+
+/// The item that begins a text, or `None` where none does.
+///
+/// A `!` directly behind two digits belongs to them, so that where no fault bits follow it no item begins.
+pub fn leading_item(text: &[u8]) -> Option<LeadingItem>
+    ensures { MatchOption result (NoItemBegins text.now) (λ lead. BeginsAsItem text.now lead.char lead.len) }
+{
+    let [high, low, ..] = text else {
+        return None;
+    };
+    let byte = byte_of_digits(*high, *low)?;
+    if !tells_faults(text) {
+        let char = Char::new(byte, 0)?;
+        return Some(LeadingItem { char, len: 2 });
+    }
+    let [_, _, _, fault_high, fault_low, ..] = text else {
+        return None;
+    };
+    let faults = byte_of_digits(*fault_high, *fault_low)?;
+    if faults == 0 {
+        return None;
+    }
+    let char = Char::new(byte, faults)?;
+    Some(LeadingItem { char, len: 5 })
+}
+
+/// Whether a `!` stands behind two bytes.
+fn tells_faults(text: &[u8]) -> bool
+    ensures { IsTrue result ↔ (slice_index text.now 2 ≡ 33) }
+{
+    text.len() > 2 && text[2] == b'!'
+}
+
+/// The characters of a word that is items end to end.
+///
+/// # Errors
+///
+/// [`RowFault::Bad`] if the word is empty or not items end to end; [`RowFault::NoMemory`] if a growth was refused.
+pub(crate) fn read_items(alloc: Global, word: &[u8]) -> Result<CharList, RowFault>
+    ensures { Reads (IsItemsWord word.now) result }
+{
+    if word.is_empty() {
+        return Err(RowFault::Bad);
+    }
+    // An item has two bytes at least.
+    let mut chars = Vec::with_capacity(alloc, word.len() / 2)?;
+    let mut place = 0;
+    while let Some(lead) = leading_item(&word[place..]) {
+        chars.push(lead.char)?;
+        place += lead.len;
+    }
+    if place < word.len() {
+        return Err(RowFault::Bad);
+    }
+    Ok(CharList::new(chars))
+}
+
+/// The byte that two hex digits write.
+fn byte_of_digits(high: u8, low: u8) -> Option<u8>
+    ensures { MatchOption result (AreDigits high low → ⊥) (λ byte. AreDigits high low × (byte ≡ byte_of high low)) }
+{
+    let [byte] = <[u8; 1]>::from_hex([high, low]).ok()?;
+    Some(byte)
+}

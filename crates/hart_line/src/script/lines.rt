@@ -1,0 +1,65 @@
+//! The lines of a text and the words of a line.
+ghost use Rattle.std.specs.Prelude.{◌≡◌, ◌≢◌, ◌≤◌, [], ◌∷◌, length, not, MatchOption};
+ghost use Rattle.std.specs.List.{position_or_len};
+ghost use Rattle.std.specs.Str.Lines.{strip_carriage_return};
+ghost use Rattle.hart_line.specs.Script.Lines.{is_blank, words_of};
+
+/// The part without one carriage return at its end.
+pub fn without_return(part: &[u8]) -> &[u8]
+    ensures { result.now ≡ strip_carriage_return part.now }
+{
+    match part {
+        [line @ .., b'\r'] => line,
+        _ => part,
+    }
+}
+
+/// The first word of a line, and what follows it, or `None` where it has no word.
+pub fn next_word(line: &[u8]) -> Option<(&[u8], &[u8])>
+    ensures { MatchOption result (words_of line.now ≡ [])
+        (λ taken. words_of line.now ≡ (taken.0).now ∷ words_of (taken.1).now) }
+{
+    let rest = &line[blanks_at_front(line)..];
+    if rest.is_empty() {
+        return None;
+    }
+    Some(rest.split_at(len_before_blank(rest)))
+}
+
+/// The word of a line that has no other, or `None` where it has none or several.
+pub fn only_word(line: &[u8]) -> Option<&[u8]>
+    ensures { MatchOption result (length (words_of line.now) ≢ 1) (λ word. words_of line.now ≡ word.now ∷ []) }
+{
+    let (word, rest) = next_word(line)?;
+    match next_word(rest) {
+        None => Some(word),
+        Some(_) => None,
+    }
+}
+
+/// The number of blanks that a line begins with.
+fn blanks_at_front(line: &[u8]) -> usize
+    ensures place { result ≡ position_or_len (λ byte. not (is_blank byte)) line.now }
+    ensures within { result ≤ length line.now }
+{
+    line.iter()
+        .position(|byte| !is_blank(*byte))
+        .unwrap_or(line.len())
+}
+
+/// The number of bytes before the first blank.
+fn len_before_blank(line: &[u8]) -> usize
+    ensures place { result ≡ position_or_len is_blank line.now }
+    ensures within { result ≤ length line.now }
+{
+    line.iter()
+        .position(|byte| is_blank(*byte))
+        .unwrap_or(line.len())
+}
+
+/// Whether a byte is a space or a tab.
+fn is_blank(byte: u8) -> bool
+    ensures { result ≡ is_blank byte }
+{
+    byte == b' ' || byte == b'\t'
+}

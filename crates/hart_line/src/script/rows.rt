@@ -1,0 +1,166 @@
+//! The rows of the table of events, and the line that says none.
+ghost use Rattle.std.specs.Prelude.{◌≡◌, ◌≢◌, [], ◌∷◌, codes, length, MatchOption};
+ghost use Rattle.hart_line.specs.Script.Lines.{words_of};
+ghost use Rattle.hart_line.specs.Script.Rows.{AreDataWords, IsEvent, IsLeg, Reads, SaysLine, fault_at_line};
+ghost use Rattle.hart_line.specs.Script.Words.{Finds};
+
+use crate::script::items::read_items;
+use crate::script::lines::{next_word, only_word};
+use crate::script::words::{read_address, read_command, read_data, read_who};
+use crate::{Heard, LineEvent, LineFault};
+use hart_commands::Request;
+use hart_frame::Payload;
+use std::alloc::{AllocError, AllocFailed, Global};
+
+/// Why a line says no event.
+#[derive(Clone, Copy, Debug, PartialEq, Eq)]
+pub enum RowFault {
+    /// Its words are those of no row.
+    Bad,
+    /// Memory was refused.
+    NoMemory,
+}
+
+impl RowFault {
+    /// The fault of a script whose line with this number is not read.
+    pub fn at(self, number: usize) -> LineFault
+        ensures { result ≡ fault_at_line number self }
+    {
+        match self {
+            RowFault::Bad => LineFault::BadLine { number },
+            RowFault::NoMemory => LineFault::Memory,
+        }
+    }
+}
+
+impl From<AllocError> for RowFault {
+    ghost use Rattle.hart_line.specs.declared.script.rows.RowFault.TheVariants.{NoMemory};
+
+    ghost from_gives = { λ _ fault. fault ≡ NoMemory };
+
+    fn from(_error: AllocError) -> RowFault {
+        RowFault::NoMemory
+    }
+}
+
+impl<T: Drop> From<AllocFailed<T>> for RowFault {
+    ghost use Rattle.hart_line.specs.declared.script.rows.RowFault.TheVariants.{NoMemory};
+
+    ghost from_gives = { λ _ fault. fault ≡ NoMemory };
+
+    fn from(_error: AllocFailed<T>) -> RowFault {
+        RowFault::NoMemory
+    }
+}
+
+/// The event that the line with this number says, or `None` if it is empty or a comment.
+///
+/// # Errors
+///
+/// [`LineFault::BadLine`] with the number if it says no event and is no such line; [`LineFault::Memory`] if a growth was refused.
+pub fn read_line(alloc: Global, number: usize, line: &[u8]) -> Result<Option<LineEvent>, LineFault>
+    ensures { SaysLine number (words_of line.now) result }
+{
+    let Some((first, rest)) = next_word(line) else {
+        return Ok(None);
+    };
+    if let [b'#', ..] = first {
+        return Ok(None);
+    }
+    match read_event(alloc, first, rest) {
+        Ok(event) => Ok(Some(event)),
+        Err(fault) => Err(fault.at(number)),
+    }
+}
+
+/// The event that a first word and the words after it say.
+fn read_event(alloc: Global, first: &[u8], rest: &[u8]) -> Result<LineEvent, RowFault>
+    ensures { Reads (IsEvent (first.now ∷ words_of rest.now)) result }
+{
+    match first {
+        b"submit" => read_submit(rest).ok_or(RowFault::Bad),
+        b"turn" => read_turn(alloc, rest),
+        b"protect" => read_protect(rest).ok_or(RowFault::Bad),
+        b"noise" => read_noise(alloc, rest),
+        _ => Err(RowFault::Bad),
+    }
+}
+
+/// The submission that the words after `submit` say.
+fn read_submit(rest: &[u8]) -> Option<LineEvent>
+    ensures { Finds (IsEvent (codes "submit" ∷ words_of rest.now)) result }
+{
+    let (who, rest) = next_word(rest)?;
+    let (address, rest) = next_word(rest)?;
+    let (command, rest) = next_word(rest)?;
+    let payload = read_payload(rest)?;
+    let request = Request::read(read_command(command)?, payload.as_slice()).ok()?;
+    Some(LineEvent::Submit {
+        who: read_who(who)?,
+        address: read_address(address)?,
+        request,
+    })
+}
+
+/// The data that the words after COMMAND write, no bytes if there is no word and those of DATA if it is alone, or `None`
+/// if they write none.
+fn read_payload(rest: &[u8]) -> Option<Payload>
+    ensures { Finds (AreDataWords (words_of rest.now)) result }
+{
+    match next_word(rest) {
+        None => Some(Payload::new()),
+        Some(_) => read_data(only_word(rest)?),
+    }
+}
+
+/// The turn that the words after `turn` say.
+fn read_turn(alloc: Global, rest: &[u8]) -> Result<LineEvent, RowFault>
+    ensures { Reads (IsEvent (codes "turn" ∷ words_of rest.now)) result }
+{
+    let (who, up, down) = three_words(rest).ok_or(RowFault::Bad)?;
+    Ok(LineEvent::Turn {
+        who: read_who(who).ok_or(RowFault::Bad)?,
+        up: read_leg(alloc, up)?,
+        down: read_leg(alloc, down)?,
+    })
+}
+
+/// The words of a line that has three, or `None` where it has fewer or more.
+fn three_words(line: &[u8]) -> Option<(&[u8], &[u8], &[u8])>
+    ensures { MatchOption result (length (words_of line.now) ≢ 3)
+        (λ words. words_of line.now ≡ (words.0).now ∷ (words.1).now ∷ (words.2).now ∷ []) }
+{
+    let (first, rest) = next_word(line)?;
+    let (second, rest) = next_word(rest)?;
+    Some((first, second, only_word(rest)?))
+}
+
+/// What the word of a leg says that is heard.
+fn read_leg(alloc: Global, word: &[u8]) -> Result<Heard, RowFault>
+    ensures { Reads (IsLeg word.now) result }
+{
+    Ok(match word {
+        b"ok" => Heard::Clean,
+        b"lost" => Heard::Lost,
+        _ => Heard::Chars(read_items(alloc, word)?),
+    })
+}
+
+/// The switch of the write protection that the words after `protect` say.
+fn read_protect(rest: &[u8]) -> Option<LineEvent>
+    ensures { Finds (IsEvent (codes "protect" ∷ words_of rest.now)) result }
+{
+    match only_word(rest)? {
+        b"on" => Some(LineEvent::Protect(true)),
+        b"off" => Some(LineEvent::Protect(false)),
+        _ => None,
+    }
+}
+
+/// The noise that the words after `noise` say.
+fn read_noise(alloc: Global, rest: &[u8]) -> Result<LineEvent, RowFault>
+    ensures { Reads (IsEvent (codes "noise" ∷ words_of rest.now)) result }
+{
+    let items = only_word(rest).ok_or(RowFault::Bad)?;
+    Ok(LineEvent::Noise(read_items(alloc, items)?))
+}

@@ -1,0 +1,89 @@
+//! The words of messages to send.
+
+ghost use Rattle.hart_line.specs.Script.Words.{Finds, IsAddressWord, IsCommandWord, IsDataWord, IsWho};
+ghost use Rattle.hart_line.specs.Script.Words.{IsDecimal, IsDeviceWord, IsPollingWord};
+
+use hart_frame::Payload;
+use hart_values::{Address, MasterId, PollingAddress, UniqueAddress};
+use hex::FromHex;
+use std::str;
+
+/// The master that WHO names, `P` the primary and `S` the secondary, or `None` where it names none.
+pub fn read_who(word: &[u8]) -> Option<MasterId>
+    ensures { Finds (IsWho word.now) result }
+{
+    match word {
+        b"P" => Some(MasterId::Primary),
+        b"S" => Some(MasterId::Secondary),
+        _ => None,
+    }
+}
+
+/// The address that ADDRESS writes, as `@` and a polling address, as the ten hex digits of a device, or as `all`; or `None`
+/// where it writes none.
+pub fn read_address(word: &[u8]) -> Option<Address>
+    ensures { Finds (IsAddressWord word.now) result }
+{
+    if word == b"all".as_slice() {
+        return Address::unique(0, 0).ok();
+    }
+    if let Some(polling) = read_polling(word) {
+        return Some(Address::Polling(polling));
+    }
+    Some(Address::Unique(read_device(word)?))
+}
+
+/// The polling address that is written `@` and one or two digits.
+fn read_polling(word: &[u8]) -> Option<PollingAddress>
+    ensures { Finds (IsPollingWord word.now) result }
+{
+    let [b'@', digits @ ..] = word else {
+        return None;
+    };
+    PollingAddress::new(read_decimal(digits, 2)?).ok()
+}
+
+/// The device that is written in ten hex digits.
+fn read_device(word: &[u8]) -> Option<UniqueAddress>
+    ensures { Finds (IsDeviceWord word.now) result }
+{
+    let bytes = <[u8; 5]>::from_hex(word).ok()?;
+    let [type_high, type_low, id_high, id_middle, id_low] = bytes;
+    let expanded_type = u16::from_be_bytes([type_high, type_low]);
+    let device_id = u32::from_be_bytes([0, id_high, id_middle, id_low]);
+    UniqueAddress::new(expanded_type, device_id).ok()
+}
+
+/// The command that COMMAND writes, in one to three digits, or `None` where it writes none.
+pub fn read_command(word: &[u8]) -> Option<u8>
+    ensures { Finds (IsCommandWord word.now) result }
+{
+    read_decimal(word, 3)
+}
+
+/// The number up to 255 that a word writes in decimal, in at most so many digits.
+fn read_decimal(word: &[u8], most_digits: usize) -> Option<u8>
+    ensures { Finds (IsDecimal word.now most_digits 255) result }
+{
+    // `parse` takes a plus sign too, which is no digit.
+    if word.len() > most_digits || word.starts_with(b"+") {
+        return None;
+    }
+    match str::from_utf8(word) {
+        Ok(text) => text.parse().ok(),
+        Err(_) => None,
+    }
+}
+
+/// The bytes that DATA writes in plain hex, at most 255, or `None` where it writes none.
+pub fn read_data(word: &[u8]) -> Option<Payload>
+    ensures { Finds (IsDataWord word.now) result }
+{
+    let mut room = [0; 255];
+    if word.len() > 2 * room.len() {
+        return None;
+    }
+    let bytes = &mut room[..word.len() / 2];
+    hex::decode_to_slice(word, bytes).ok()?;
+    Payload::from_slice(bytes)
+}
