@@ -56,7 +56,7 @@ IsCalendarDay-from_jiff day (suc month) year h =
       day_to = rw (back, table) (omega (arith, ints, h));
     }
 
--- `jiff` has a date exactly where the calendar has the day
+-- `jiff` has a date exactly if the calendar has the day
 pub IsDate-iff : (y m d : ℤ) (day month year : ℕ) → y ≡ pos year → m ≡ pos month → d ≡ pos day → year ≤ 9999
     → IsDate y m d ↔ IsCalendarDay day month year
 IsDate-iff y m d day month year same_year same_month same_day small =

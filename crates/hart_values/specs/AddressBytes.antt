@@ -11,7 +11,7 @@ abbrev pub master_bit : MasterId → ℕ
 master_bit Primary = 1
 master_bit Secondary = 0
 
--- The burst bit is 1 where it is set.
+-- The burst bit is 1 if it is set.
 abbrev pub burst_bit : Bool → ℕ
 burst_bit true = 1
 burst_bit false = 0

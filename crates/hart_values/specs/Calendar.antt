@@ -3,7 +3,7 @@
 use Rattle.std.specs.Prelude.{◌≡◌, ℕ, ◌+◌, ◌-◌, ◌%◌, ◌<◌, ◌≤◌, ◌⊎◌, List, [], ◌∷◌, length, slice_index}
 use Rattle.std.specs.Prelude.{Bool, false, not, ◌==◌, ◌&&◌, ◌||◌, nat_le, nat_lt, if◌then◌else◌}
 
--- A year is a leap year where it is divisible by 4 and not by 100, or by 400.
+-- A year is a leap year if it is divisible by 4 and not by 100, or by 400.
 abbrev pub is_leap_year : ℕ → Bool
 is_leap_year year = ((year % 4 == 0) && not (year % 100 == 0)) || (year % 400 == 0)
 
@@ -15,7 +15,7 @@ february_length year = if is_leap_year year then 29 else 28
 abbrev pub month_lengths : ℕ → List ℕ
 month_lengths year = 31 ∷ february_length year ∷ 31 ∷ 30 ∷ 31 ∷ 30 ∷ 31 ∷ 31 ∷ 30 ∷ 31 ∷ 30 ∷ 31 ∷ []
 
--- The calendar has a day where its month is one of the twelve and the day lies within that month.
+-- The calendar has a day if its month is one of the twelve and the day lies within that month.
 pub record IsCalendarDay (day month year : ℕ) : Type 0 where
   pub month_from : 1 ≤ month
   pub month_to : month ≤ 12
@@ -26,7 +26,7 @@ pub record IsCalendarDay (day month year : ℕ) : Type 0 where
 abbrev pub not_set : List ℕ
 not_set = 0 ∷ 0 ∷ 0 ∷ []
 
--- Three bytes are a date where they are not set or name a day of the calendar, of the years 1900 to 2155.
+-- Three bytes are a date if they are not set or name a day of the calendar, of the years 1900 to 2155.
 abbrev pub IsDateBytes : List ℕ → Type 0
 IsDateBytes bytes =
     (length bytes ≡ 3)
@@ -34,7 +34,7 @@ IsDateBytes bytes =
     × ((bytes ≡ not_set)
     ⊎ IsCalendarDay (slice_index bytes 0) (slice_index bytes 1) (1900 + slice_index bytes 2))
 
--- The test of a day of the calendar is true where the calendar has it.
+-- The test of a day of the calendar is true if the calendar has it.
 abbrev pub is_calendar_day : (day month year : ℕ) → Bool
 is_calendar_day day month year =
     nat_le 1 month && nat_le month 12 && nat_le 1 day && nat_le day (slice_index (month_lengths year) (month - 1))

@@ -24,7 +24,7 @@ IsPackedAt text bytes place =
     (slice_index text (4 * place + 2)) (slice_index text (4 * place + 3))
     (slice_index bytes (3 * place)) (slice_index bytes (3 * place + 1)) (slice_index bytes (3 * place + 2))
 
--- A text and bytes are related where the text has packed text's characters alone, there are four characters for three
+-- A text and bytes are related if the text has packed text's characters alone, there are four characters for three
 -- bytes, and each group is packed.
 pub record IsPacked (text bytes : List ℕ) : Type 0 where
   pub lengths : 3 * length text ≡ 4 * length bytes

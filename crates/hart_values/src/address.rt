@@ -23,7 +23,7 @@ impl Address {
     ///
     /// # Errors
     ///
-    /// [`ValueFault::OutOfRange`] where `number` is above 63.
+    /// [`ValueFault::OutOfRange`] if `number` is above 63.
     pub fn polling(number: u8) -> Result<Self, ValueFault>
         ensures accepted { IsOk result ↔ (number < 64) }
         ensures kept { IfOk result (λ address. address ≡ Address.Polling number) }
@@ -36,7 +36,7 @@ impl Address {
     ///
     /// # Errors
     ///
-    /// [`ValueFault::OutOfRange`] where `device_id` is above 16,777,215.
+    /// [`ValueFault::OutOfRange`] if `device_id` is above 16,777,215.
     pub fn unique(expanded_type: u16, device_id: u32) -> Result<Self, ValueFault>
         ensures accepted { IsOk result ↔ (device_id < 2 ^ 24) }
         ensures kept { IfOk result (λ address. address ≡

@@ -34,7 +34,7 @@ impl<const N: usize> ByteList<N> {
         }
     }
 
-    /// The list of these bytes, or `None` where they are more than `N`.
+    /// The list of these bytes, or `None` if they are more than `N`.
     pub fn from_slice(bytes: &[u8]) -> Option<Self>
         ensures fits { IsSome result ↔ (length bytes.now ≤ N) }
         ensures kept { IfSome result (λ list. list ≡ bytes.now) }

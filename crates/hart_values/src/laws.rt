@@ -7,7 +7,7 @@ ghost use Rattle.hart_values.specs.declared.master_id.MasterId.{MasterId};
 ghost use Rattle.hart_values.specs.declared.address.Address.{Address};
 
 /// Bytes hold one master bit, one burst bit and one address, and these have one list of bytes.
-pub fn address_bytes_are_told_apart()
+pub fn address_bytes_are_unambiguous()
     ensures one_reading { (m n : MasterId) (b c : Bool) (x y : Address) (bytes : List ℕ)
         → IsAddressBytes m b x bytes → IsAddressBytes n c y bytes → (m ≡ n) × (b ≡ c) × (x ≡ y) }
     ensures one_list { (m : MasterId) (b : Bool) (x : Address) (bytes others : List ℕ)

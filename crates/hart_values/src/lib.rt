@@ -1,6 +1,6 @@
 //! The values that a HART message carries, and their bytes (HCF_SPEC-081, HCF_SPEC-099, HCF_SPEC-127).
 //!
-//! Each value here is one of the standard's. Where it has bytes of a form of its own, they are a relation of `specs/`. A
+//! Each value here is one of the standard's. If it has bytes of a form of its own, they are a relation of `specs/`. A
 //! pair of calls goes both ways: for an address, [`Address::bytes`] and [`Address::read`], for a text,
 //! [`PackedText::from_text`] and [`PackedText::write_text`], for a date, [`HartDate::from_bytes`] and
 //! [`HartDate::as_bytes`], and for a status, [`Status::bytes`] and [`Status::read`].
@@ -49,7 +49,7 @@ pub use each_master::EachMaster;
 pub use fault::ValueFault;
 pub use hart_date::HartDate;
 pub use laws::{
-    address_bytes_are_told_apart, packed_text_and_bytes_determine_each_other, the_test_tells_dates,
+    address_bytes_are_unambiguous, packed_text_and_bytes_determine_each_other, the_test_tells_dates,
 };
 pub use loop_mode::LoopMode;
 pub use master_id::MasterId;

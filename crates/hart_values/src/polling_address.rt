@@ -29,7 +29,7 @@ impl PollingAddress {
     ///
     /// # Errors
     ///
-    /// [`ValueFault::OutOfRange`] where `number` is above 63.
+    /// [`ValueFault::OutOfRange`] if `number` is above 63.
     pub fn new(number: u8) -> Result<Self, ValueFault>
         ensures accepted { IsOk result ↔ (number < 64) }
         ensures kept { IfOk result (λ address. address ≡ number) }

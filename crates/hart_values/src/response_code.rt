@@ -37,7 +37,7 @@ impl ResponseCode {
     /// The configuration change counter that Command 38 names is not the device's (own profile).
     pub const COUNTER_MISMATCH: ResponseCode = ResponseCode { value: 9 };
 
-    /// The date of Command 18 is none (own profile).
+    /// The date of Command 18 is no date of the calendar (own profile).
     pub const INVALID_DATE: ResponseCode = ResponseCode { value: 9 };
 
     /// The loop current mode of Command 6 is neither 0 nor 1 (own profile).
@@ -50,7 +50,7 @@ impl ResponseCode {
     ///
     /// # Errors
     ///
-    /// [`ValueFault::OutOfRange`] where `value` is above 127.
+    /// [`ValueFault::OutOfRange`] if `value` is above 127.
     pub fn new(value: u8) -> Result<Self, ValueFault>
         ensures accepted { IsOk result ↔ (value < 128) }
         ensures kept { IfOk result (λ code. code ≡ value) }

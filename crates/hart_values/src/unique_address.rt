@@ -31,7 +31,7 @@ impl UniqueAddress {
     ///
     /// # Errors
     ///
-    /// [`ValueFault::OutOfRange`] where `device_id` is above 16,777,215.
+    /// [`ValueFault::OutOfRange`] if `device_id` is above 16,777,215.
     pub fn new(expanded_type: u16, device_id: u32) -> Result<Self, ValueFault>
         ensures accepted { IsOk result ↔ (device_id < 2 ^ 24) }
         ensures kept { IfOk result (λ address. address ≡

@@ -1,5 +1,5 @@
 use Rattle.hart_values.proofs.AddressLemmas.{IsAddressBytes-one, IsAddressBytes-one_list}
-use Rattle.hart_values.proofs.laws.address_bytes_are_told_apart.Goals as goal
+use Rattle.hart_values.proofs.laws.address_bytes_are_unambiguous.Goals as goal
 
 pub returns : goal.returns
 returns c = record {
