@@ -1,10 +1,10 @@
 -- What a body consists of.
-use Rattle.std.proofs.Common.{◌≡◌, ℕ, ◌+◌, ◌-◌, ◌<◌, ◌≤◌, List, [], ◌∷◌, ◌++◌, length, take, get_or, refl, ap, ◌∙◌, arith}
+use Rattle.std.proofs.Common.{◌≡◌, ℕ, ◌+◌, ◌-◌, ◌<◌, ◌≤◌, List, [], ◌∷◌, ◌++◌, length, take, get_or, refl, sym, ap, ◌∙◌, arith}
 use Rattle.std.specs.List.{All}
 use Rattle.std.proofs.lemmas.List.Elements.{All-push}
-use Rattle.std.proofs.lemmas.List.{take_more}
+use Rattle.std.proofs.lemmas.List.{take_more, take_all}
 use Rattle.hart_frame.specs.FrameParts.{FrameParts}
-use Rattle.hart_frame.specs.Parity.{IsCheckByte}
+use Rattle.hart_frame.specs.Parity.{IsCheckByte, HasEvenParity}
 use Rattle.hart_frame.specs.Body.{IsBody, IsCheckedPart, BeginsWithBody}
 use Rattle.hart_frame.proofs.ParityLemmas.{HasEvenParity-push, even-check}
 
@@ -34,4 +34,18 @@ BeginsWithBody-front bytes frame len some within fits part check = record {
     bytes_fit = fits;
     parity = even-check (take len bytes) check;
   };
+}
+
+-- bytes of even parity whose front is what the check byte covers are a body
+pub IsBody-whole : (bytes : List ℕ) (frame : FrameParts) → 1 ≤ length bytes → All (λ byte. byte < 256) bytes
+    → IsCheckedPart frame (take (length bytes - 1) bytes) → HasEvenParity bytes → IsBody frame bytes
+IsBody-whole bytes frame some fits part even = record {
+  checked = take (length bytes - 1) bytes;
+  check = get_or bytes (length bytes - 1) 0;
+  checked_part = part;
+  parts = sym (take_all (length bytes) bytes (omega arith))
+      ∙ ap (λ n. take n bytes) (let last : length bytes ≡ length bytes - 1 + 1 = omega arith in last)
+      ∙ take_more bytes (length bytes - 1) 0 (omega arith);
+  bytes_fit = fits;
+  parity = even;
 }

@@ -1,4 +1,5 @@
 pub mod ParityLemmas
+pub mod LaneLemmas
 pub mod BodyLemmas
 pub mod BodiesApart
 pub mod LayoutLemmas
@@ -8,6 +9,18 @@ pub mod PlaceLemmas
 pub mod FramesApart
 pub mod BodiesFound
 pub mod FramesFound
+pub mod OpenLemmas
 pub mod TruncatedLemmas
 pub mod MessageLemmas
 pub mod DeliveryLemmas
+pub mod DamageLemmas
+pub mod ExampleLemmas
+pub mod PrefixLemmas
+pub mod SumLemmas
+pub mod BufferLemmas
+pub mod ScanLemmas
+pub mod StepLemmas
+pub mod UndecidedLemmas
+pub mod StreamLemmas
+pub mod RunLemmas
+pub mod FillLemmas

@@ -35,7 +35,7 @@ pub record BeginsWithBody (bytes : List ℕ) (frame : FrameParts) (count : ℕ) 
 abbrev pub HasNoBody : List ℕ → Type 0
 HasNoBody bytes = (frame : FrameParts) (count : ℕ) → BeginsWithBody bytes frame count → ⊥
 
--- A list can become a body where some bytes behind it make one that stands at the front.
+-- A list can become a body if some bytes after it make one that stands at the front.
 pub record CanBecomeBody (bytes : List ℕ) : Type 0 where
   pub rest : List ℕ
   pub frame : FrameParts

@@ -12,7 +12,7 @@ lone_of [] = NoFrame
 lone_of (found ∷ []) = Alone found
 lone_of (found ∷ other ∷ more) = Several
 
--- So it is told of the characters of a delivery.
+-- The characters of a delivery have no frame, this frame alone, or several.
 abbrev pub IsLone : List Character → LoneFrame → Type 0
 IsLone delivery NoFrame = AreFrames delivery 0 []
 IsLone delivery (Alone found) = AreFrames delivery 0 (found ∷ [])

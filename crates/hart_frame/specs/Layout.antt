@@ -3,19 +3,19 @@ use Rattle.std.specs.Prelude.{◌≡◌, ℕ, ◌+◌, ◌*◌, ◌/◌, ◌%◌
 use Rattle.hart_frame.specs.declared.layout.Layout.{Layout}
 use Rattle.hart_frame.specs.Delimiter.{kind_code}
 
--- The delimiter is the first byte, 0 where there is none.
+-- The delimiter is the first byte, 0 if there is none.
 abbrev pub delimiter_in : List ℕ → ℕ
 delimiter_in bytes = slice_index bytes 0
 
--- The address ends behind one byte or five, as bit 7 of the delimiter says.
+-- The address ends after one byte or five, as bit 7 of the delimiter says.
 abbrev pub address_end : List ℕ → ℕ
 address_end bytes = 2 + 4 * (delimiter_in bytes / 128)
 
--- The command stands behind the expansion bytes, whose number is in bits 6 and 5 of the delimiter.
+-- The command stands after the expansion bytes, whose number is in bits 6 and 5 of the delimiter.
 abbrev pub command_place : List ℕ → ℕ
 command_place bytes = address_end bytes + delimiter_in bytes / 32 % 4
 
--- The byte count stands behind the command.
+-- The byte count stands after the command.
 abbrev pub byte_count_place : List ℕ → ℕ
 byte_count_place bytes = command_place bytes + 1
 
@@ -35,3 +35,7 @@ pub record Describes (layout : Layout) (bytes : List ℕ) : Type 0 where
   pub address : layout.address_end ≡ address_end bytes
   pub command : layout.command_place ≡ command_place bytes
   pub count : layout.byte_count ≡ byte_count_in bytes
+
+-- The length of the body that has a layout.
+abbrev pub layout_length : Layout → ℕ
+layout_length layout = layout.command_place + 3 + layout.byte_count

@@ -12,3 +12,14 @@ pub mod Heard
 pub mod Place
 pub mod Frames
 pub mod Delivery
+pub mod Damage
+pub mod DamageExamples
+pub mod Scanner
+pub mod Run
+pub mod Streamed
+pub mod PlainAddress
+pub mod View
+pub mod Verdict
+pub mod Sums
+pub mod Buffer
+pub mod Settle

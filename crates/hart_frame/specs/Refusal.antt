@@ -26,7 +26,7 @@ HasGoodByteCount bytes = HasByteCount bytes × ((delimiter_in bytes % 8 ≡ 2) �
 abbrev pub HasCheckByte : List ℕ → Type 0
 HasCheckByte bytes = HasGoodByteCount bytes × (body_length bytes ≤ length bytes)
 
--- A list ends too early where it is empty, or where it stops before its byte count or its check byte with
+-- A list ends too early if it is empty, or if it stops before its byte count or its check byte with
 -- nothing wrong before.
 abbrev pub IsTruncated : List ℕ → Type 0
 IsTruncated bytes = (length bytes ≡ 0)

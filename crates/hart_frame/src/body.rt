@@ -5,7 +5,7 @@ ghost use Rattle.hart_frame.specs.Layout.{Describes, body_length};
 ghost use Rattle.hart_frame.specs.Refusal.{IsRefusedWith, HasCheckByte, HasGoodByteCount};
 
 use crate::layout::Layout;
-use crate::{Expansion, Frame, FrameFault, Payload, bodies_are_told_apart, check_byte};
+use crate::{Expansion, Frame, FrameFault, Payload, bodies_are_unambiguous, check_byte};
 use hart_values::{Address, ByteList};
 
 /// A body of a frame: at most 267 bytes.
@@ -17,20 +17,20 @@ pub type Body = ByteList<267>;
 ///
 /// The first of these that holds:
 ///
-/// - [`FrameFault::Truncated`] where there are no bytes;
-/// - [`FrameFault::BadDelimiter`] where the first is no delimiter of this profile, which has bits 4 and 3 zero and the kind
+/// - [`FrameFault::Truncated`] if there are no bytes;
+/// - [`FrameFault::BadDelimiter`] if the first is no delimiter of this profile, which has bits 4 and 3 zero and the kind
 ///   2 (STX) or 6 (ACK);
-/// - [`FrameFault::Truncated`] where the bytes end before the byte count;
-/// - [`FrameFault::ShortReply`] where an ACK has a byte count below 2;
-/// - [`FrameFault::Truncated`] where the bytes end before the check byte;
-/// - [`FrameFault::BadCheck`] where the check byte does not give the body even parity.
+/// - [`FrameFault::Truncated`] if the bytes end before the byte count;
+/// - [`FrameFault::ShortReply`] if an ACK has a byte count below 2;
+/// - [`FrameFault::Truncated`] if the bytes end before the check byte;
+/// - [`FrameFault::BadCheck`] if the check byte does not give the body even parity.
 pub fn decode(bytes: &[u8]) -> Result<(Frame, usize), FrameFault>
     ensures accepts { IfOk result (λ (frame, len). BeginsWithBody bytes.now frame len) }
     ensures only { (frame : FrameParts) (len : ℕ) → BeginsWithBody bytes.now frame len → result ≡ Ok (frame, len) }
     ensures refused { IfErr result (IsRefusedWith bytes.now) }
 {
-    // It does nothing when it runs: by this law the frame that is read is the only one.
-    bodies_are_told_apart();
+    // No-op: its contract says that the frame that is read is the only one.
+    bodies_are_unambiguous();
     read_body(bytes)
 }
 

@@ -30,7 +30,7 @@ impl Model for Char {
 impl Char {
     ghost use Rattle.hart_frame.specs.Character.{AreFaultBits};
 
-    /// The character of this byte and these fault bits, or `None` where another bit than the four is set.
+    /// The character of this byte and these fault bits, or `None` if another bit than the four is set.
     pub fn new(byte: u8, faults: u8) -> Option<Self>
         ensures accepted { IsSome result ↔ AreFaultBits faults }
         ensures kept { IfSome result (λ character. character ≡ record { byte = byte; faults = faults }) }

@@ -3,7 +3,7 @@ ghost use Rattle.hart_frame.specs.Frames.{AreFrames};
 ghost use Rattle.hart_frame.specs.Delivery.{IsLone, lone_of};
 ghost use Rattle.hart_frame.specs.declared.found.Found.{Found};
 
-use crate::laws::{every_list_has_frames, frames_are_told_apart};
+use crate::laws::{every_list_has_frames, frames_are_unambiguous};
 use crate::{Char, Found, first_frame};
 
 /// Whether a delivery, which is what is heard at once, has one frame alone.
@@ -23,7 +23,7 @@ pub fn lone_frame(delivery: &[Char]) -> LoneFrame
     ensures only { (frames : List Found) → AreFrames delivery.now 0 frames → result ≡ lone_of frames }
 {
     // No-ops: by these laws the frames that are found are the only ones.
-    frames_are_told_apart();
+    frames_are_unambiguous();
     every_list_has_frames();
     let Some(found) = first_frame(delivery, 0) else {
         return LoneFrame::NoFrame;

@@ -7,9 +7,9 @@ use crate::heard::heard_frame;
 use crate::message::PREAMBLE;
 use crate::{Char, Found};
 
-/// The first frame of what was heard, from a place of the list on, or `None` where no frame stands there.
+/// The first frame of what was heard, from a place of the list on, or `None` if no frame stands there.
 ///
-/// A frame stands behind two faultless preamble bytes `FF`, which lie at that place or behind it, where faultless characters
+/// A frame stands after two faultless preamble bytes `FF`, which lie at that place or after it, if faultless characters
 /// are a body. Of several the one with the least start is given. The frames of a whole list are the first from place 0 on,
 /// then the first from the `stop` of that on, and so forth.
 pub fn first_frame(chars: &[Char], from: usize) -> Option<Found>
@@ -41,7 +41,7 @@ fn next_start(chars: &[Char], from: usize) -> usize
     place
 }
 
-/// The frame whose two preamble bytes lie at this place, or `None` where none do.
+/// The frame whose two preamble bytes lie at this place, or `None` if none do.
 fn found_at(chars: &[Char], place: usize) -> Option<Found>
     requires { place < length chars.now }
     ensures stands { IfSome result (λ found. StandsIn found chars.now place) }

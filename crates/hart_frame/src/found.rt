@@ -5,7 +5,7 @@ use crate::Frame;
 pub struct Found {
     /// The place of the delimiter, from 0.
     pub start: usize,
-    /// The place behind the check byte.
+    /// The place after the check byte.
     pub stop: usize,
     /// The frame.
     pub frame: Frame,

@@ -5,6 +5,8 @@ use crate::{Body, FrameFault, FrameKind};
 use hart_values::{Address, ByteList, MasterId, Payload};
 use std::marker::Model;
 
+mod in_place;
+
 /// The expansion bytes of a frame, at most 3.
 pub type Expansion = ByteList<3>;
 
@@ -56,7 +58,7 @@ impl Frame {
     ///
     /// # Errors
     ///
-    /// [`FrameFault::TooShortReply`] where an ACK's payload has fewer than 2 bytes.
+    /// [`FrameFault::TooShortReply`] if an ACK's payload has fewer than 2 bytes.
     pub fn new(
         kind: FrameKind,
         master: MasterId,
@@ -185,5 +187,13 @@ impl Frame {
         let mut body = Body::new();
         push_body(self, &mut body);
         body
+    }
+
+    /// Writes the frame's body in place. What `output` held is replaced.
+    pub fn write_body(&self, output: &mut Body)
+        ensures { IsBody self.now output.new }
+    {
+        output.clear();
+        push_body(self, output);
     }
 }

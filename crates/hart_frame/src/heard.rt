@@ -9,7 +9,7 @@ ghost use Rattle.hart_frame.specs.Refusal.{HasByteCount};
 use crate::delimiter::read_delimiter;
 use crate::{Body, Char, Frame, decode};
 
-/// The frame whose body the characters begin with, and the length of that body, or `None` where they begin with none.
+/// The frame whose body the characters begin with, and the length of that body, or `None` if they begin with none.
 pub(crate) fn heard_frame(chars: &[Char]) -> Option<(Frame, usize)>
     ensures heard { IfSome result (λ (frame, len). BeginsWithHeard chars.now frame len) }
     ensures known { (frame : FrameParts) (len : ℕ) → BeginsWithHeard chars.now frame len → IsSome result }
@@ -20,7 +20,7 @@ pub(crate) fn heard_frame(chars: &[Char]) -> Option<(Frame, usize)>
 }
 
 /// The length of the body that the characters may begin with, told by its delimiter and its byte count, whatever faults
-/// these have. It is `None` where the first is no delimiter, and where the characters end before the byte count.
+/// these have. It is `None` if the first is no delimiter, and if the characters end before the byte count.
 fn told_len(chars: &[Char]) -> Option<usize>
     ensures known { IsSome result ↔ HasByteCount (bytes_of chars.now) }
     ensures told { IfSome result (λ len. len ≡ body_length (bytes_of chars.now)) }
@@ -32,7 +32,7 @@ fn told_len(chars: &[Char]) -> Option<usize>
     Some(count_place + usize::from(byte_count) + 2)
 }
 
-/// The bytes of the characters, or `None` where one of them has a fault.
+/// The bytes of the characters, or `None` if one of them has a fault.
 fn faultless_bytes(chars: &[Char]) -> Option<Body>
     requires { length chars.now ≤ 267 }
     ensures kept { IfSome result (λ bytes. chars.now ≡ faultless bytes) }

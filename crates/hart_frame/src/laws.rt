@@ -5,13 +5,14 @@ ghost use Rattle.hart_frame.specs.Body.{IsBody, BeginsWithBody, CanBecomeBody, H
 ghost use Rattle.hart_frame.specs.Character.{Character, faultless};
 ghost use Rattle.hart_frame.specs.Frames.{AreFrames, IsFirst};
 ghost use Rattle.hart_frame.specs.Message.{IsMessage};
+ghost use Rattle.hart_frame.specs.Place.{IsOpen, StandsIn};
 ghost use Rattle.hart_frame.specs.Refusal.{IsTruncated};
 ghost use Rattle.hart_frame.specs.declared.found.Found.{Found};
 
-use hart_values::address_bytes_are_told_apart;
+use hart_values::address_bytes_are_unambiguous;
 
 /// Bodies are told apart: from the front of a list of bytes at most one body of at most one frame is read.
-pub fn bodies_are_told_apart()
+pub fn bodies_are_unambiguous()
     ensures one_frame { (f g : FrameParts) (bytes : List ℕ) → IsBody f bytes → IsBody g bytes → f ≡ g }
     ensures one_body { (f : FrameParts) (bytes others : List ℕ) → IsBody f bytes → IsBody f others → bytes ≡ others }
     ensures no_proper_prefix { (f g : FrameParts) (bytes rest : List ℕ)
@@ -21,25 +22,34 @@ pub fn bodies_are_told_apart()
     ensures whatever_follows { (f : FrameParts) (body rest : List ℕ)
         → IsBody f body → BeginsWithBody (body ++ rest) f (length body) }
 {
-    // It does nothing when it runs: the law of addresses is what this one rests on.
-    address_bytes_are_told_apart();
+    // No-op: its contract is used below.
+    address_bytes_are_unambiguous();
 }
 
-/// Bytes are refused as truncated exactly where no body stands at their front and some bytes behind them would make one.
+/// Bytes are refused as truncated exactly if no body stands at their front and some bytes after them would make one.
 pub fn truncated_bytes_can_become_a_body()
     ensures { (bytes : List ℕ) → All (λ byte. byte < 256) bytes
         → IsTruncated bytes ↔ (CanBecomeBody bytes × HasNoBody bytes) }
 {}
 
+/// An open place can begin a frame: with some more characters after the list one stands there.
+pub fn open_places_can_begin_a_frame()
+    ensures { (place : ℕ) (chars : List Character) → All (λ character. character.byte < 256) chars → IsOpen place chars
+        → (more : List Character) × (found : Found) × StandsIn found (chars ++ more) 0 × (found.start ≡ place) }
+{
+    // No-op: its contract is used below.
+    truncated_bytes_can_become_a_body();
+}
+
 /// Frames of a list are told apart: a list has one first frame at most from a place on, and one list of frames.
-pub fn frames_are_told_apart()
+pub fn frames_are_unambiguous()
     ensures one_first { (f g : Found) (chars : List Character) (from : ℕ)
         → IsFirst f chars from → IsFirst g chars from → f ≡ g }
     ensures one_list { (chars : List Character) (from : ℕ) (xs ys : List Found)
         → AreFrames chars from xs → AreFrames chars from ys → xs ≡ ys }
 {
-    // It does nothing when it runs: the law of bodies is what this one rests on.
-    bodies_are_told_apart();
+    // No-op: its contract is used below.
+    bodies_are_unambiguous();
 }
 
 /// Every list of characters has its frames, from each place on.

@@ -9,7 +9,7 @@ use crate::{FrameFault, FrameKind};
 #[derive(Clone, Copy)]
 pub(crate) struct Layout {
     pub(crate) kind: FrameKind,
-    /// The place behind the address bytes.
+    /// The place after the address bytes.
     pub(crate) address_end: usize,
     pub(crate) command_place: usize,
     pub(crate) byte_count: u8,

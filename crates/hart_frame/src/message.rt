@@ -21,7 +21,7 @@ pub(crate) const PREAMBLE: u8 = 0xFF;
 ///
 /// # Errors
 ///
-/// [`FrameFault::BadPreamble`] where `preambles` is outside [`LEAST_PREAMBLES`] to [`MOST_PREAMBLES`]. The output is then
+/// [`FrameFault::BadPreamble`] if `preambles` is outside [`LEAST_PREAMBLES`] to [`MOST_PREAMBLES`]. The output is then
 /// as it was.
 pub fn encode(frame: &Frame, preambles: u8, output: &mut Message) -> Result<(), FrameFault>
     ensures accepted { IsOk result ↔ IsPreambleCount preambles }

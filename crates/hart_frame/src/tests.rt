@@ -1,4 +1,5 @@
 mod line;
+mod stream;
 
 use super::*;
 use hart_values::{Address, MasterId};
@@ -8,7 +9,7 @@ use std::test::Fail;
 /// payload of a frame of the primary master with the command 0.
 type Read<'a> = (usize, FrameKind, &'a [u8], &'a [u8], &'a [u8]);
 
-/// Bytes that begin with a body, each with a byte behind it.
+/// Bytes that begin with a body, each with a byte after it.
 const BODIES: &[(&[u8], Read)] = &[
     (
         &[0x02, 0x80, 0x00, 0x00, 0x82, 0x55],
@@ -156,10 +157,24 @@ fn the_longest_message_fits(rt: HostRuntime) -> Result<(), Fail> {
     Ok(())
 }
 
+/// Numbers of bytes, about and at whole blocks of 32.
+const CHECKED_LENGTHS: &[usize] = &[0, 1, 31, 32, 33, 63, 64, 65, 255, 267, MOST_CHECKED];
+
+const MOST_CHECKED: usize = 1000;
+
 #[test]
-fn a_check_byte_is_the_exclusive_or(rt: HostRuntime) {
+fn a_check_byte_is_the_exclusive_or(rt: HostRuntime) -> Result<(), Fail> {
     assert_eq!(rt; check_byte(&[0x02, 0x80, 0x00, 0x00]), 0x82);
-    assert_eq!(rt; check_byte(&[]), 0);
+    let mut bytes = [0; MOST_CHECKED];
+    for (place, byte) in bytes.iter_mut().enumerate() {
+        *byte = (place * 37 % 251) as u8;
+    }
+    for len in CHECKED_LENGTHS {
+        let bytes = bytes.get(..*len).ok_or("at most 1,000 bytes")?;
+        let one_by_one = bytes.iter().fold(0, |check, byte| check ^ byte);
+        assert_eq!(rt; check_byte(bytes), one_by_one, "of {len} bytes");
+    }
+    Ok(())
 }
 
 const TEXTS: &[(FrameFault, &str)] = &[

@@ -29,7 +29,7 @@ fn fault_bits_are_four(rt: HostRuntime) {
     }
 }
 
-/// Two messages, one behind the other.
+/// Two messages, one after the other.
 const TWO: &[u16] = &[
     0xFF, 0xFF, 0x02, 0x80, 0x00, 0x00, 0x82, 0xFF, 0xFF, 0x02, 0x00, 0x00, 0x00, 0x02,
 ];
@@ -87,7 +87,7 @@ const HEARD: &[(&[u16], usize, usize, Option<(usize, usize)>)] = &[
     ),
 ];
 
-/// The characters of a line and of what is heard behind it.
+/// The characters of a line and of what is heard after it.
 fn heard(line: &[u16]) -> Option<[Char; 300]> {
     let mut chars = [Char::new(0, 0)?; 300];
     for (place, both) in chars.iter_mut().zip(line) {

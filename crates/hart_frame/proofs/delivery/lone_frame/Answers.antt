@@ -6,7 +6,7 @@ returns-in_default-clause-told c = no_frame c.args.delivery.now c.in_default.ens
 
 pub returns-in_default-clause-only : goal.returns-in_default-clause-only
 returns-in_default-clause-only c =
-    only_told c.frames_are_told_apart.ensures.one_list c.args.delivery.now _ (returns-in_default-clause-told c)
+    only_told c.frames_are_unambiguous.ensures.one_list c.args.delivery.now _ (returns-in_default-clause-told c)
 
 pub returns-in-None-clause-told : goal.returns-in-None-clause-told
 returns-in-None-clause-told c =
@@ -14,7 +14,7 @@ returns-in-None-clause-told c =
 
 pub returns-in-None-clause-only : goal.returns-in-None-clause-only
 returns-in-None-clause-only c =
-    only_told c.frames_are_told_apart.ensures.one_list c.args.delivery.now _ (returns-in-None-clause-told c)
+    only_told c.frames_are_unambiguous.ensures.one_list c.args.delivery.now _ (returns-in-None-clause-told c)
 
 pub returns-in-Some-first_frame-clause-told : goal.returns-in-Some-first_frame-clause-told
 returns-in-Some-first_frame-clause-told c =
@@ -29,4 +29,4 @@ returns-in-Some-first_frame-clause-told c =
 
 pub returns-in-Some-first_frame-clause-only : goal.returns-in-Some-first_frame-clause-only
 returns-in-Some-first_frame-clause-only c =
-    only_told c.frames_are_told_apart.ensures.one_list c.args.delivery.now _ (returns-in-Some-first_frame-clause-told c)
+    only_told c.frames_are_unambiguous.ensures.one_list c.args.delivery.now _ (returns-in-Some-first_frame-clause-told c)

@@ -1,11 +1,11 @@
 use Rattle.std.proofs.Common.{[], ◌++◌, refl, sym}
 use Rattle.std.proofs.lemmas.List.{append-nil}
 use Rattle.hart_frame.proofs.BodiesApart.{bodies_apart, IsBody-one, BeginsWithBody-one, BeginsWithBody-append}
-use Rattle.hart_frame.proofs.laws.bodies_are_told_apart.Goals as goal
+use Rattle.hart_frame.proofs.laws.bodies_are_unambiguous.Goals as goal
 
 pub returns : goal.returns
 returns c =
-    let addresses = c.address_bytes_are_told_apart.ensures in
+    let addresses = c.address_bytes_are_unambiguous.ensures in
     let apart = bodies_apart addresses.one_reading in
     record {
       one_frame = λ f g bytes p q. (apart f g bytes bytes [] [] p q refl).frames;

@@ -1,0 +1,16 @@
+-- What a scanner promises of a run of faultless bytes that it hears at once (own profile).
+use Rattle.std.specs.Prelude.{◌≡◌, ℕ, true, false, ◌⊎◌}
+use Rattle.hart_frame.specs.Frames.{IsUndecided}
+use Rattle.hart_frame.specs.Place.{StandsIn}
+use Rattle.hart_frame.specs.Scanner.{Scan}
+use Rattle.hart_frame.specs.declared.found.Found.{Found}
+
+-- A frame stands at the front of what a scanner holds.
+abbrev pub HoldsFrame : Scan → Type 0
+HoldsFrame scan = (found : Found) × StandsIn found scan.held 0 × (found.start ≡ 2)
+
+-- A scanner stops after so many bytes of a run if they are all of it and nothing is decided in what it then holds; or if a
+-- frame stands at the front of that.
+abbrev pub StopsAt : Scan → ℕ → ℕ → Type 0
+StopsAt scan count all =
+    ((scan.drained ≡ true) × IsUndecided scan.held × (count ≡ all)) ⊎ ((scan.drained ≡ false) × HoldsFrame scan)

@@ -1,0 +1,250 @@
+//! A scanner against the first frames of the whole list.
+use super::*;
+
+/// Characters one after another, each so many times. Of a character the high byte is the fault bits.
+type Line = &'static [(&'static [u16], usize)];
+
+/// A request and its reply.
+const WORKED: Line = &[
+    (&[0xFF], 5),
+    (
+        &[
+            0x82, 0xB7, 0x42, 0x0A, 0x1B, 0x2C, 0x13, 0x03, 0x01, 0x23, 0x45, 0x3D,
+        ],
+        1,
+    ),
+    (&[0xFF], 5),
+    (
+        &[
+            0x86, 0xB7, 0x42, 0x0A, 0x1B, 0x2C, 0x13, 0x05, 0x00, 0x40, 0x01, 0x23, 0x45, 0x7F,
+        ],
+        1,
+    ),
+];
+
+/// The first bytes of a message with 255 bytes of payload, and a whole message in them.
+const INSIDE: &[u16] = &[
+    0xFF, 0xFF, 0x82, 0xB7, 0x42, 0x0A, 0x1B, 0x2C, 0x13, 0xFF, 0xFF, 0xFF, 0xFF, 0xFF, 0xFF, 0x02,
+    0x80, 0x00, 0x00, 0x82,
+];
+
+/// A message.
+const ONE: &[u16] = &[0xFF, 0xFF, 0x02, 0x80, 0x00, 0x00, 0x82];
+
+/// A message whose check byte is FF.
+const ENDS_WITH_FF: &[u16] = &[0xFF, 0xFF, 0x02, 0x80, 0x7D, 0x00, 0xFF];
+
+/// A false start, with the first FF of the next.
+const FALSE: &[u16] = &[0xFF, 0xFF, 0x82, 0xB7, 0x42, 0x0A, 0x1B, 0x2C, 0x13, 0xFF];
+
+/// A line, and where its last frame stops.
+const LINES: &[(Line, usize)] = &[
+    (&[], 0),
+    (WORKED, 36),
+    (&[(INSIDE, 1), (&[0x00], 246)], 20),
+    (&[(INSIDE, 1), (&[0x00], 245)], 20),
+    (&[(INSIDE, 1)], 20),
+    (&[(&[0xFF, 0xFF, 0x82, 0xFF, 0xFF, 0x82], 9), (ONE, 2)], 68),
+    (&[(INSIDE, 1), (ONE, 40)], 300),
+    (&[(ENDS_WITH_FF, 3), (ONE, 1)], 28),
+    (
+        &[
+            (ENDS_WITH_FF, 1),
+            (&[0xFF, 0x02, 0x00, 0x00, 0x00, 0x02], 1),
+        ],
+        7,
+    ),
+    (&[(FALSE, 90), (ONE, 1)], 907),
+    (
+        &[
+            (&[0xFF], 300),
+            (&[0xE2, 0x80, 0, 0, 0, 0, 1, 2, 3, 0, 255], 1),
+            (&[0x55], 255),
+            (&[0xC8], 1),
+            (ONE, 1),
+        ],
+        574,
+    ),
+    (&[(&[0xFF, 0x40FF], 1), (ONE, 1)], 9),
+    (&[(&[0xFF, 0xFF, 0x2002, 0x80, 0x00, 0x00, 0x82], 1)], 0),
+    (&[(&[0xFF, 0xFF, 0x02, 0x1080, 0x00, 0x00, 0x82], 2)], 0),
+    (&[(&[0xFF, 0xFF, 0x02, 0x80, 0x0200, 0x00, 0x82], 1)], 0),
+    (&[(&[0xFF, 0xFF, 0x02, 0x80, 0x00, 0x7200, 0x82], 1)], 0),
+    (&[(ONE, 1), (&[0x4055, 0x2082, 0x10FF], 5), (ONE, 1)], 29),
+    (&[(INSIDE, 1), (&[0x40FF], 1), (ONE, 1)], 28),
+];
+
+/// Runs are pushed with so many characters, and all at once.
+const RUNS: &[usize] = &[1, 2, 3, 7, 100, MOST_HEARD];
+
+const MOST_HEARD: usize = 1000;
+
+/// The characters of a line, and how many there are.
+fn heard(line: Line) -> Option<([Char; MOST_HEARD], usize)> {
+    let mut chars = [Char::new(0, 0)?; MOST_HEARD];
+    let mut count: usize = 0;
+    for (part, times) in line {
+        for _ in 0..*times {
+            for both in *part {
+                let place = chars.get_mut(count)?;
+                *place = Char::new((both % 256) as u8, (both / 256) as u8)?;
+                count = count.checked_add(1)?;
+            }
+        }
+    }
+    Some((chars, count))
+}
+
+/// Where the last frame stops that is taken, if all of them are the next ones of the whole list from a place on.
+fn taken(scanner: &mut Scanner, chars: &[Char], from: usize) -> Option<usize> {
+    let mut stop = from;
+    for _ in 0..MOST_HEARD {
+        let Some(view) = scanner.take() else {
+            return Some(stop);
+        };
+        let want = first_frame(chars, stop)?;
+        let places = (want.start as u64, want.stop as u64);
+        if (view.start, view.stop) != places || view.frame.to_frame() != want.frame {
+            return None;
+        }
+        stop = want.stop;
+    }
+    None
+}
+
+/// As `taken`, after the finish: no other frame is left, and the scanner is new.
+fn last_taken(scanner: &mut Scanner, chars: &[Char], from: usize) -> Option<usize> {
+    scanner.finish();
+    let stop = taken(scanner, chars, from)?;
+    if first_frame(chars, stop).is_some() || scanner.pushed() != 0 || !scanner.is_drained() {
+        return None;
+    }
+    Some(stop)
+}
+
+/// Where the last frame of a list stops, if the scanner gives all of them character by character.
+fn by_character(chars: &[Char]) -> Option<usize> {
+    let mut scanner = Scanner::new();
+    let mut stop = 0;
+    for character in chars {
+        push(&mut scanner, *character)?;
+        stop = taken(&mut scanner, chars, stop)?;
+    }
+    last_taken(&mut scanner, chars, stop)
+}
+
+/// Pushes a character, if the scanner is drained.
+fn push(scanner: &mut Scanner, character: Char) -> Option<()> {
+    if !scanner.is_drained() || scanner.pushed() >= MOST_HEARD as u64 {
+        return None;
+    }
+    scanner.push(character);
+    Some(())
+}
+
+/// As `by_character`, by runs of so many characters at most. Characters with faults are pushed alone.
+fn by_runs(chars: &[Char], size: usize) -> Option<usize> {
+    let mut scanner = Scanner::new();
+    let mut heard: usize = 0;
+    let mut stop = 0;
+    for _ in 0..chars.len() {
+        let rest = chars.get(heard..)?;
+        let Some(next) = rest.first() else {
+            break;
+        };
+        heard = if next.is_faultless() {
+            heard.checked_add(push_run(&mut scanner, rest, size)?)?
+        } else {
+            push(&mut scanner, *next)?;
+            heard.checked_add(1)?
+        };
+        stop = taken(&mut scanner, chars, stop)?;
+    }
+    if heard != chars.len() {
+        return None;
+    }
+    last_taken(&mut scanner, chars, stop)
+}
+
+/// Pushes the faultless characters at the front, so many at most, if the scanner is drained, and tells how many it heard.
+fn push_run(scanner: &mut Scanner, chars: &[Char], size: usize) -> Option<usize> {
+    let mut bytes = [0; MOST_HEARD];
+    let mut count: usize = 0;
+    for (place, character) in bytes.iter_mut().zip(chars.iter().take(size)) {
+        if !character.is_faultless() {
+            break;
+        }
+        *place = character.byte();
+        count = count.checked_add(1)?;
+    }
+    if !scanner.is_drained() || scanner.pushed() >= MOST_HEARD as u64 {
+        return None;
+    }
+    Some(scanner.push_run(bytes.get(..count)?))
+}
+
+#[test]
+fn a_scanner_gives_the_frames(rt: HostRuntime) -> Result<(), Fail> {
+    for (line, want) in LINES {
+        let (chars, count) = heard(line).ok_or("a line")?;
+        let chars = chars.get(..count).ok_or("at most 1,000 characters")?;
+        assert_eq!(rt; by_character(chars), Some(*want), "of {line:?}");
+        for size in RUNS {
+            assert_eq!(rt; by_runs(chars, *size), Some(*want), "of {line:?} by {size}");
+        }
+    }
+    Ok(())
+}
+
+/// How many characters were heard when the view came that was the first, and where it starts and stops.
+fn first_view(chars: &[Char]) -> Option<(usize, u64, u64)> {
+    let mut scanner = Scanner::new();
+    let mut count: usize = 0;
+    for character in chars {
+        push(&mut scanner, *character)?;
+        count = count.checked_add(1)?;
+        if let Some(view) = scanner.take() {
+            return Some((count, view.start, view.stop));
+        }
+    }
+    scanner.finish();
+    let view = scanner.take()?;
+    Some((count, view.start, view.stop))
+}
+
+#[test]
+fn a_view_waits_for_the_false_message_around_it(rt: HostRuntime) -> Result<(), Fail> {
+    let (chars, count) = heard(&[(INSIDE, 1), (&[0x00], 300)]).ok_or("a line")?;
+    let chars = chars.get(..count).ok_or("320 characters")?;
+    assert_eq!(rt;
+        first_view(chars),
+        Some((266, 15, 20)),
+        "after the last character of the false one"
+    );
+    assert_eq!(rt;
+        first_view(chars.get(..20).ok_or("20 characters")?),
+        Some((20, 15, 20)),
+        "after the finish"
+    );
+    Ok(())
+}
+
+#[test]
+fn false_starts_without_end_are_passed(rt: HostRuntime) -> Result<(), Fail> {
+    let mut scanner = Scanner::new();
+    let mut by_run = Scanner::new();
+    let bytes = [0xFF, 0xFF, 0x82, 0xB7, 0x42, 0x0A, 0x1B, 0x2C, 0x13, 0xFF];
+    for _ in 0..2000 {
+        for byte in &bytes {
+            assert!(rt; scanner.is_drained() && scanner.pushed() < 20_000);
+            scanner.push(Char::new(*byte, 0).ok_or("a character")?);
+            assert!(rt; scanner.take().is_none());
+        }
+        assert!(rt; by_run.is_drained() && by_run.pushed() < 20_000);
+        assert_eq!(rt; by_run.push_run(&bytes), bytes.len());
+    }
+    scanner.finish();
+    by_run.finish();
+    assert!(rt; scanner.take().is_none() && by_run.take().is_none());
+    Ok(())
+}
