@@ -13,12 +13,12 @@ chunks-flat_map n bytes_of of P size back [] rest all = refl
 chunks-flat_map {X} n bytes_of of P size back (x ∷ xs) rest all =
     let whole : (bytes_of x ++ flat_map bytes_of xs) ++ rest ≡ bytes_of x ++ (flat_map bytes_of xs ++ rest) =
     append_assoc (bytes_of x) (flat_map bytes_of xs) rest in
-    let front : take n ((bytes_of x ++ flat_map bytes_of xs) ++ rest) ≡ bytes_of x =
+    let prefix : take n ((bytes_of x ++ flat_map bytes_of xs) ++ rest) ≡ bytes_of x =
     rw whole (take_at (bytes_of x) (flat_map bytes_of xs ++ rest) n (size x all.0)) in
-    let behind : drop n ((bytes_of x ++ flat_map bytes_of xs) ++ rest) ≡ flat_map bytes_of xs ++ rest =
+    let after : drop n ((bytes_of x ++ flat_map bytes_of xs) ++ rest) ≡ flat_map bytes_of xs ++ rest =
     rw whole (drop_at (bytes_of x) (flat_map bytes_of xs ++ rest) n (size x all.0)) in
     let others = chunks-flat_map n bytes_of of P size back xs rest all.1 in
-    rw (front, behind, others, back x all.0) refl
+    rw (prefix, after, others, back x all.0) refl
 
 pub length-flat_map : {X : Type 0} (n : ℕ) (bytes_of : X → List ℕ) (P : X → Type 0) → ((x : X) → P x → length (bytes_of x) ≡ n)
     → (xs : List X) → AllByRecursion P xs → length (flat_map bytes_of xs) ≡ length xs * n

@@ -1,4 +1,4 @@
--- What is told in parts is read again.
+-- What is written in parts is read again.
 use Rattle.std.proofs.Common.{◌≡◌, ℕ, List, [], ◌∷◌, length, refl, arith, length-append}
 use Rattle.hart_commands.specs.declared.identity.IdentityContent.{IdentityContent}
 use Rattle.hart_commands.specs.declared.sensor.SensorContent.{SensorContent}

@@ -14,16 +14,16 @@ use Rattle.hart_commands.specs.Values.{unit_value_of, unit_value_bytes, variable
 use Rattle.hart_commands.specs.IdentityBytes.{identity_of}
 use Rattle.hart_commands.specs.SensorBytes.{sensor_bytes, sensor_of}
 use Rattle.hart_commands.specs.OutputBytes.{output_bytes, output_of}
-use Rattle.hart_commands.specs.ReplyData.{IsReply, IsContent, IsToldBy, having, identity_reading, current_reading, dynamic_reading, variables_reading, tag_reading, content_reading, content_bytes, reply_reading, reply_payload}
+use Rattle.hart_commands.specs.ReplyData.{IsReply, IsContent, IsContentOf, having, identity_reading, current_reading, dynamic_reading, variables_reading, tag_reading, content_reading, content_bytes, reply_reading, reply_payload}
 use Rattle.hart_commands.proofs.TestLemmas.{below, above, apart, same}
 use Rattle.hart_commands.proofs.ChunkLemmas.{chunks-flat_map, length-flat_map}
 use Rattle.hart_commands.proofs.PartsLemmas.{four, identity-back, sensor-back, output-back, unit_value-back, unit_value-size, variable-back, variable-size}
 use Rattle.hart_commands.proofs.RequestLemmas.{HasParts, parts-append}
 
 -- a content of so many bytes is read from them
-having-exactly : (size : ℕ) (told : List ℕ → ReplyContent) (bytes : List ℕ) → length bytes ≡ size
-    → having size told bytes ≡ Some (told bytes)
-having-exactly size told bytes long = rw (above (length bytes) size (omega arith), take_all size bytes (omega arith)) refl
+having-exactly : (size : ℕ) (content : List ℕ → ReplyContent) (bytes : List ℕ) → length bytes ≡ size
+    → having size content bytes ≡ Some (content bytes)
+having-exactly size content bytes long = rw (above (length bytes) size (omega arith), take_all size bytes (omega arith)) refl
 
 identity_is_read : (bytes : List ℕ) → length (254 ∷ bytes) ≡ 22
     → identity_reading (254 ∷ bytes) ≡ Some (Identity (identity_of (254 ∷ bytes)))
@@ -47,13 +47,13 @@ dynamic_is_read current values four some few all =
     length-flat_map 5 unit_value_bytes (λ v. length v.value.0 ≡ 4) unit_value-size values all in
     let enough : ltb (length (current.0 ++ groups)) 9 ≡ false =
     above (length (current.0 ++ groups)) 9 (omega (arith, length-append current.0 groups)) in
-    let front : take 4 (current.0 ++ groups) ≡ current.0 = take_at current.0 groups 4 four in
-    let behind : drop 4 (current.0 ++ groups) ≡ groups = drop_at current.0 groups 4 four in
+    let prefix : take 4 (current.0 ++ groups) ≡ current.0 = take_at current.0 groups 4 four in
+    let after : drop 4 (current.0 ++ groups) ≡ groups = drop_at current.0 groups 4 four in
     let count : min (length groups / 5) 4 ≡ length values = omega arith in
     let read : map unit_value_of (first_chunks 5 (length values) groups) ≡ values =
     ap (λ xs. map unit_value_of (first_chunks 5 (length values) xs)) (sym (append-nil groups))
     ∙ chunks-flat_map 5 unit_value_bytes unit_value_of (λ v. length v.value.0 ≡ 4) unit_value-size unit_value-back values [] all in
-    rw (enough, front, behind, count, read) refl
+    rw (enough, prefix, after, count, read) refl
 
 variables_are_read : (status : ℕ) (variables : List VariableReading) (time : List ℕ) → 0 < length variables → length variables ≤ 8
     → AllByRecursion (λ v. length v.value.0 ≡ 4) variables → length time ≡ 4
@@ -89,7 +89,7 @@ tag_is_read tag descriptor date six twelve three =
     let date_is : date_in bytes ≡ date = rw none at parts.date_is in
     rw (having-exactly 21 (λ xs. Tag (tag_in xs) (descriptor_in xs) (date_in xs)) bytes long, tag_is, descriptor_is, date_is) refl
 
-pub content_is_read : (command : ℕ) (content : ReplyContent) → IsToldBy content command → IsContent content
+pub content_is_read : (command : ℕ) (content : ReplyContent) → IsContentOf content command → IsContent content
     → content_reading command (content_bytes content) ≡ Some content
 content_is_read command (Identity identity) (inl by) is =
     rw by (identity_is_read _ (identity-back identity is).1 ∙ ap (λ i. Some (Identity i)) (identity-back identity is).0)

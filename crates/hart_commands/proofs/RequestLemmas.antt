@@ -31,7 +31,7 @@ pub record HasParts (bytes tag descriptor date : List ℕ) : Type 0 where
 pub parts-append : (tag descriptor date rest : List ℕ) → length tag ≡ 6 → length descriptor ≡ 12 → length date ≡ 3
     → HasParts (tag ++ descriptor ++ date ++ rest) tag descriptor date
 parts-append tag descriptor date rest six twelve three =
-    let behind_tag : drop 6 (tag ++ (descriptor ++ (date ++ rest))) ≡ descriptor ++ (date ++ rest) =
+    let after_tag : drop 6 (tag ++ (descriptor ++ (date ++ rest))) ≡ descriptor ++ (date ++ rest) =
     drop_at tag (descriptor ++ (date ++ rest)) 6 six in
     let both : (tag ++ descriptor) ++ date ++ rest ≡ tag ++ (descriptor ++ (date ++ rest)) = simp append_assoc in
     let eighteen : drop 18 ((tag ++ descriptor) ++ (date ++ rest)) ≡ date ++ rest =
@@ -39,7 +39,7 @@ parts-append tag descriptor date rest six twelve three =
     record {
       enough = omega (arith, length-append {A = ℕ});
       tag_is = rw both (take_at tag (descriptor ++ (date ++ rest)) 6 six);
-      descriptor_is = rw (both, behind_tag) (take_at descriptor (date ++ rest) 12 twelve);
+      descriptor_is = rw (both, after_tag) (take_at descriptor (date ++ rest) 12 twelve);
       date_is = rw (append_assoc (tag ++ descriptor) date rest, eighteen) (take_at date rest 3 three);
     }
 

@@ -8,7 +8,7 @@ use Rattle.hart_values.specs.Calendar.{IsDateBytes, is_date}
 use Rattle.hart_commands.specs.declared.request.Request.{Request}
 use Rattle.hart_commands.specs.declared.request.Request.TheVariants.{SetPolling, ReadVariables, IdentifyByTag, WriteMessage, WriteTag, WriteAssembly}
 use Rattle.hart_commands.specs.TagBytes.{tag_in, descriptor_in, date_in}
-use Rattle.hart_commands.specs.RequestData.{Line, Reading, IsRequest, command_of, is_known, needing, polling_with, mode_left_out, polling_reading, codes_reading, tag_reading, reset_reading, read_by, request_line, request_reading}
+use Rattle.hart_commands.specs.RequestData.{RequestRow, Reading, IsRequest, command_of, is_known, needing, polling_with, mode_left_out, polling_reading, codes_reading, tag_reading, reset_reading, read_by, request_row, request_reading}
 use Rattle.hart_commands.proofs.TestLemmas.{below, above, is_one}
 
 -- a well-made request of a command, or a code other than 64
@@ -16,17 +16,17 @@ abbrev pub IsGiven : ℕ → Reading → Type 0
 IsGiven command (Ok request) = (command_of request ≡ command) × IsRequest request
 IsGiven command (Err code) = code ≢ 64
 
--- a line gives that of all data
-abbrev pub IsLineOf : ℕ → Line → Type 0
-IsLineOf command line = (bytes : List ℕ) → IsGiven command (line bytes)
+-- a row gives that of all data
+abbrev pub IsRowOf : ℕ → RequestRow → Type 0
+IsRowOf command row = (bytes : List ℕ) → IsGiven command (row bytes)
 
 by_test : (b : Bool) (x y : Reading) (P : Reading → Type 0) → (b ≡ true → P x) → (b ≡ false → P y) → P (if b then x else y)
 by_test true x y P then_x else_y = then_x refl
 by_test false x y P then_x else_y = else_y refl
 
-needing-line : (command size : ℕ) (asked : List ℕ → Request) → ((xs : List ℕ) → length xs ≡ size → IsGiven command (Ok (asked xs)))
-    → IsLineOf command (needing size asked)
-needing-line command size asked each bytes = go (cases_lt (length bytes) size)
+needing-row : (command size : ℕ) (asked : List ℕ → Request) → ((xs : List ℕ) → length xs ≡ size → IsGiven command (Ok (asked xs)))
+    → IsRowOf command (needing size asked)
+needing-row command size asked each bytes = go (cases_lt (length bytes) size)
   where
     go : (length bytes < size) ⊎ (size ≤ length bytes) → IsGiven command (needing size asked bytes)
     go (inl less) = rw (below (length bytes) size less) (omega arith)
@@ -40,20 +40,20 @@ polling-with address mode =
     (λ t. (refl, small)) (λ g.
     by_test (eqb mode 1) (Ok (SetPolling address Enabled)) (Err 12) (IsGiven 6) (λ t. (refl, small)) (λ h. omega arith)))
 
-polling-line : IsLineOf 6 polling_reading
-polling-line [] = omega arith
-polling-line (address ∷ []) = polling-with address (mode_left_out address)
-polling-line (address ∷ mode ∷ rest) = polling-with address mode
+polling-row : IsRowOf 6 polling_reading
+polling-row [] = omega arith
+polling-row (address ∷ []) = polling-with address (mode_left_out address)
+polling-row (address ∷ mode ∷ rest) = polling-with address mode
 
-codes-line : IsLineOf 9 codes_reading
-codes-line [] = omega arith
-codes-line (code ∷ codes) = go 8 refl
+codes-row : IsRowOf 9 codes_reading
+codes-row [] = omega arith
+codes-row (code ∷ codes) = go 8 refl
   where
     go : (n : ℕ) → n ≡ 8 → IsGiven 9 (Ok (ReadVariables (take n (code ∷ codes))))
     go n is = (refl, (omega (arith, length-take n (code ∷ codes)), omega (arith, length-take n (code ∷ codes))))
 
-tag-line : ((bytes : List ℕ) → is_date bytes ≡ true → IsDateBytes bytes) → IsLineOf 18 tag_reading
-tag-line dates bytes =
+tag-row : ((bytes : List ℕ) → is_date bytes ≡ true → IsDateBytes bytes) → IsRowOf 18 tag_reading
+tag-row dates bytes =
     by_test (ltb (length bytes) 21) (Err 5) _ (IsGiven 18) (λ t. omega arith) (λ f.
     let enough : 21 ≤ length bytes = grind (arith, nat_tests) in
     by_test _ (Ok (WriteTag (tag_in bytes) (descriptor_in bytes) (date_in bytes))) (Err 9) (IsGiven 18)
@@ -67,61 +67,61 @@ tag-line dates bytes =
     ))
     (λ g. omega arith))
 
-reset-line : IsLineOf 38 reset_reading
-reset-line [] = (refl, tt)
-reset-line (high ∷ []) = omega arith
-reset-line (high ∷ low ∷ rest) = (refl, tt)
+reset-row : IsRowOf 38 reset_reading
+reset-row [] = (refl, tt)
+reset-row (high ∷ []) = omega arith
+reset-row (high ∷ low ∷ rest) = (refl, tt)
 
--- a line stands in the table under its number
-row : (number command : ℕ) (line : Line) (others : Option Line) → IsLineOf number line → IfSome others (IsLineOf command)
-    → IfSome (if eqb command number then Some line else others) (IsLineOf command)
-row number command line others this rest = go (eqb command number) refl
+-- a row stands in the table under its number
+entry : (number command : ℕ) (row : RequestRow) (others : Option RequestRow) → IsRowOf number row → IfSome others (IsRowOf command)
+    → IfSome (if eqb command number then Some row else others) (IsRowOf command)
+entry number command row others this rest = go (eqb command number) refl
   where
-    go : (b : Bool) → eqb command number ≡ b → IfSome (if b then Some line else others) (IsLineOf command)
+    go : (b : Bool) → eqb command number ≡ b → IfSome (if b then Some row else others) (IsRowOf command)
     go true t = rw (is_one command number t) this
     go false t = rest
 
-pub lines-given : ((bytes : List ℕ) → is_date bytes ≡ true → IsDateBytes bytes)
-    → (command : ℕ) → IfSome (request_line command) (IsLineOf command)
-lines-given dates command =
-    row 0 command _ _ (λ bytes. (refl, tt)) (
-    row 1 command _ _ (λ bytes. (refl, tt)) (
-    row 2 command _ _ (λ bytes. (refl, tt)) (
-    row 3 command _ _ (λ bytes. (refl, tt)) (
-    row 6 command _ _ polling-line (
-    row 7 command _ _ (λ bytes. (refl, tt)) (
-    row 8 command _ _ (λ bytes. (refl, tt)) (
-    row 9 command _ _ codes-line (
-    row 11 command _ _ (needing-line 11 6 IdentifyByTag (λ xs long. (refl, long))) (
-    row 12 command _ _ (λ bytes. (refl, tt)) (
-    row 13 command _ _ (λ bytes. (refl, tt)) (
-    row 14 command _ _ (λ bytes. (refl, tt)) (
-    row 15 command _ _ (λ bytes. (refl, tt)) (
-    row 16 command _ _ (λ bytes. (refl, tt)) (
-    row 17 command _ _ (needing-line 17 24 WriteMessage (λ xs long. (refl, long))) (
-    row 18 command _ _ (tag-line dates) (
-    row 19 command _ _ (needing-line 19 3 WriteAssembly (λ xs long. (refl, long))) (
-    row 38 command _ _ reset-line (
-    row 48 command _ _ (λ bytes. (refl, tt)) tt))))))))))))))))))
+pub rows-given : ((bytes : List ℕ) → is_date bytes ≡ true → IsDateBytes bytes)
+    → (command : ℕ) → IfSome (request_row command) (IsRowOf command)
+rows-given dates command =
+    entry 0 command _ _ (λ bytes. (refl, tt)) (
+    entry 1 command _ _ (λ bytes. (refl, tt)) (
+    entry 2 command _ _ (λ bytes. (refl, tt)) (
+    entry 3 command _ _ (λ bytes. (refl, tt)) (
+    entry 6 command _ _ polling-row (
+    entry 7 command _ _ (λ bytes. (refl, tt)) (
+    entry 8 command _ _ (λ bytes. (refl, tt)) (
+    entry 9 command _ _ codes-row (
+    entry 11 command _ _ (needing-row 11 6 IdentifyByTag (λ xs long. (refl, long))) (
+    entry 12 command _ _ (λ bytes. (refl, tt)) (
+    entry 13 command _ _ (λ bytes. (refl, tt)) (
+    entry 14 command _ _ (λ bytes. (refl, tt)) (
+    entry 15 command _ _ (λ bytes. (refl, tt)) (
+    entry 16 command _ _ (λ bytes. (refl, tt)) (
+    entry 17 command _ _ (needing-row 17 24 WriteMessage (λ xs long. (refl, long))) (
+    entry 18 command _ _ (tag-row dates) (
+    entry 19 command _ _ (needing-row 19 3 WriteAssembly (λ xs long. (refl, long))) (
+    entry 38 command _ _ reset-row (
+    entry 48 command _ _ (λ bytes. (refl, tt)) tt))))))))))))))))))
 
 -- the same of what is read
-given_by : (command : ℕ) (line : Option Line) (bytes : List ℕ) (request : Request) → IfSome line (IsLineOf command)
-    → read_by line bytes ≡ Ok request → IsGiven command (Ok request)
+given_by : (command : ℕ) (row : Option RequestRow) (bytes : List ℕ) (request : Request) → IfSome row (IsRowOf command)
+    → read_by row bytes ≡ Ok request → IsGiven command (Ok request)
 given_by command None bytes request given e = cc
-given_by command (Some line) bytes request given e =
+given_by command (Some row) bytes request given e =
     let P : Reading → Type 0 = IsGiven command in subst P e (given bytes)
 
 pub read-asked : ((bytes : List ℕ) → is_date bytes ≡ true → IsDateBytes bytes) → (command : ℕ) (bytes : List ℕ) (request : Request)
     → request_reading command bytes ≡ Ok request → (command_of request ≡ command) × IsRequest request
-read-asked dates command bytes request = given_by command (request_line command) bytes request (lines-given dates command)
+read-asked dates command bytes request = given_by command (request_row command) bytes request (rows-given dates command)
 
 -- only a command that is not known is refused with code 64
-told_by : (command : ℕ) (line : Option Line) (bytes : List ℕ) → IfSome line (IsLineOf command)
-    → (read_by line bytes ≡ Err 64) ↔ (is_some line ≡ false)
-told_by command None bytes given = (λ e. refl, λ n. refl)
-told_by command (Some line) bytes given =
+refused_by : (command : ℕ) (row : Option RequestRow) (bytes : List ℕ) → IfSome row (IsRowOf command)
+    → (read_by row bytes ≡ Err 64) ↔ (is_some row ≡ false)
+refused_by command None bytes given = (λ e. refl, λ n. refl)
+refused_by command (Some row) bytes given =
     (λ e. let P : Reading → Type 0 = IsGiven command in absurd (subst P e (given bytes) refl), λ n. cc)
 
-pub known-told : ((bytes : List ℕ) → is_date bytes ≡ true → IsDateBytes bytes) → (command : ℕ) (bytes : List ℕ)
+pub unknown-refused : ((bytes : List ℕ) → is_date bytes ≡ true → IsDateBytes bytes) → (command : ℕ) (bytes : List ℕ)
     → (request_reading command bytes ≡ Err 64) ↔ (is_known command ≡ false)
-known-told dates command bytes = told_by command (request_line command) bytes (lines-given dates command)
+unknown-refused dates command bytes = refused_by command (request_row command) bytes (rows-given dates command)

@@ -1,4 +1,4 @@
--- What tests of numbers tell.
+-- What tests of numbers say.
 use Rattle.std.proofs.Common.{◌≡◌, ℕ, ◌<◌, ◌≤◌, ◌⊎◌, inl, inr, refl, arith, Bool, true, false, ltb, eqb, ◌||◌}
 use Rattle.std.proofs.lemmas.Bool.Decides.{nat_tests}
 

@@ -14,7 +14,7 @@ use Rattle.hart_commands.specs.RequestData.{is_known}
 use Rattle.hart_commands.specs.IdentityBytes.{IsIdentity, identity_of}
 use Rattle.hart_commands.specs.SensorBytes.{IsSensor, sensor_of}
 use Rattle.hart_commands.specs.OutputBytes.{IsOutput, output_of}
-use Rattle.hart_commands.specs.ReplyData.{IsReply, IsContent, IsToldBy, having, identity_reading, dynamic_reading, variables_reading, tag_reading, more_reading, content_reading, reply_reading}
+use Rattle.hart_commands.specs.ReplyData.{IsReply, IsContent, IsContentOf, having, identity_reading, dynamic_reading, variables_reading, tag_reading, more_reading, content_reading, reply_reading}
 use Rattle.hart_commands.proofs.TestLemmas.{below, above, is_one, is_either}
 use Rattle.hart_commands.proofs.ChunkLemmas.{chunks-sized, length-chunks}
 
@@ -50,14 +50,14 @@ output-sized bytes long = record {
 }
 
 -- a content of a command is well made
-abbrev IsTold : ℕ → ReplyContent → Type 0
-IsTold command content = IsToldBy content command × IsContent content
+abbrev IsMade : ℕ → ReplyContent → Type 0
+IsMade command content = IsContentOf content command × IsContent content
 
-having-told : (size : ℕ) (told : List ℕ → ReplyContent) (bytes : List ℕ) (P : ReplyContent → Type 0)
-    → ((xs : List ℕ) → length xs ≡ size → P (told xs)) → IfSome (having size told bytes) P
-having-told size told bytes P each = go (cases_lt (length bytes) size)
+having-made : (size : ℕ) (content : List ℕ → ReplyContent) (bytes : List ℕ) (P : ReplyContent → Type 0)
+    → ((xs : List ℕ) → length xs ≡ size → P (content xs)) → IfSome (having size content bytes) P
+having-made size content bytes P each = go (cases_lt (length bytes) size)
   where
-    go : (length bytes < size) ⊎ (size ≤ length bytes) → IfSome (having size told bytes) P
+    go : (length bytes < size) ⊎ (size ≤ length bytes) → IfSome (having size content bytes) P
     go (inl less) = rw (below (length bytes) size less) tt
     go (inr more) = rw (above (length bytes) size more) (each (take size bytes) (length-take-le size bytes more))
 
@@ -67,22 +67,22 @@ by_test : {A : Type 0} (b : Bool) (x y : Option A) (P : A → Type 0) → (b ≡
 by_test true x y P then_x else_y = then_x refl
 by_test false x y P then_x else_y = else_y refl
 
-identity-told : (command : ℕ) (bytes : List ℕ) → (command ≡ 0) ⊎ (command ≡ 11) → IfSome (identity_reading bytes) (IsTold command)
-identity-told command bytes by = go 22 (cases_lt (length bytes) 22) refl
+identity-made : (command : ℕ) (bytes : List ℕ) → (command ≡ 0) ⊎ (command ≡ 11) → IfSome (identity_reading bytes) (IsMade command)
+identity-made command bytes by = go 22 (cases_lt (length bytes) 22) refl
   where
     named : (size : ℕ) → size ≡ 22 → size ≤ length bytes → (b : Bool)
-        → IfSome (if b then Some (Identity (identity_of (take size bytes))) else None) (IsTold command)
+        → IfSome (if b then Some (Identity (identity_of (take size bytes))) else None) (IsMade command)
     named size is more true = (by, identity-sized (take size bytes) (omega (arith, length-take-le size bytes more)))
     named size is more false = tt
 
-    go : (size : ℕ) → (length bytes < size) ⊎ (size ≤ length bytes) → size ≡ 22 → IfSome (identity_reading bytes) (IsTold command)
+    go : (size : ℕ) → (length bytes < size) ⊎ (size ≤ length bytes) → size ≡ 22 → IfSome (identity_reading bytes) (IsMade command)
     go size (inl less) is = rw (below (length bytes) 22 (omega arith)) tt
     go size (inr more) is = rw (above (length bytes) 22 (omega arith), ← is) (named size is more (eqb (slice_index bytes 0) 254))
 
-dynamic-told : (bytes : List ℕ) → IfSome (dynamic_reading bytes) (IsTold 3)
-dynamic-told bytes = go (cases_lt (length bytes) 9)
+dynamic-made : (bytes : List ℕ) → IfSome (dynamic_reading bytes) (IsMade 3)
+dynamic-made bytes = go (cases_lt (length bytes) 9)
   where
-    go : (length bytes < 9) ⊎ (9 ≤ length bytes) → IfSome (dynamic_reading bytes) (IsTold 3)
+    go : (length bytes < 9) ⊎ (9 ≤ length bytes) → IfSome (dynamic_reading bytes) (IsMade 3)
     go (inl less) = rw (below (length bytes) 9 less) tt
     go (inr more) =
         let rest : List ℕ = drop 4 bytes in
@@ -105,14 +105,14 @@ three_tests true true false e = absurd (cc)
 three_tests true false c e = absurd (cc)
 three_tests false b c e = absurd (cc)
 
-variables-told : (bytes : List ℕ) → IfSome (variables_reading bytes) (IsTold 9)
-variables-told bytes =
+variables-made : (bytes : List ℕ) → IfSome (variables_reading bytes) (IsMade 9)
+variables-made bytes =
     let groups : ℕ = (length bytes - 5) / 8 in
     let count : length (map variable_of (first_chunks 8 groups (drop 1 bytes))) ≡ groups =
     length-chunks 8 groups variable_of (drop 1 bytes) in
     by_test _
     (Some (Variables (slice_index bytes 0) (map variable_of (first_chunks 8 groups (drop 1 bytes))) (drop (1 + 8 * groups) bytes)))
-    None (IsTold 9)
+    None (IsMade 9)
     (λ t.
     let tests = three_tests (ltb 0 groups) (ltb groups 9) (eqb (length bytes) (5 + 8 * groups)) t in
     let some : 0 < groups = (let h = tests.0 in grind (arith, nat_tests)) in
@@ -129,16 +129,16 @@ variables-told bytes =
     ))
     (λ f. tt)
 
-more-told : (bytes : List ℕ) → IfSome (more_reading bytes) (IsTold 48)
-more-told [] = tt
-more-told (byte ∷ bytes) = go 25 refl
+more-made : (bytes : List ℕ) → IfSome (more_reading bytes) (IsMade 48)
+more-made [] = tt
+more-made (byte ∷ bytes) = go 25 refl
   where
-    go : (n : ℕ) → n ≡ 25 → IsTold 48 (More (take n (byte ∷ bytes)))
+    go : (n : ℕ) → n ≡ 25 → IsMade 48 (More (take n (byte ∷ bytes)))
     go n is = (refl, (omega (arith, length-take n (byte ∷ bytes)), omega (arith, length-take n (byte ∷ bytes))))
 
-tag-told : (command : ℕ) (bytes : List ℕ) → (command ≡ 13) ⊎ (command ≡ 18) → IfSome (tag_reading bytes) (IsTold command)
-tag-told command bytes by =
-    having-told 21 (λ xs. Tag (tag_in xs) (descriptor_in xs) (date_in xs)) bytes (IsTold command) (λ xs long. (
+tag-made : (command : ℕ) (bytes : List ℕ) → (command ≡ 13) ⊎ (command ≡ 18) → IfSome (tag_reading bytes) (IsMade command)
+tag-made command bytes by =
+    having-made 21 (λ xs. Tag (tag_in xs) (descriptor_in xs) (date_in xs)) bytes (IsMade command) (λ xs long. (
       by,
       (
         length-take-le 6 xs (omega arith),
@@ -147,49 +147,50 @@ tag-told command bytes by =
       ),
     ))
 
-pub content-told : (command : ℕ) (bytes : List ℕ) → IfSome (content_reading command bytes) (IsTold command)
-content-told command bytes =
-    by_test _ _ _ _ (λ t. identity-told command bytes (is_either command 0 11 t)) (λ f.
-    by_test _ _ _ _ (λ t. having-told 5 (λ xs. Primary (unit_value_of xs)) bytes (IsTold command) (λ xs long.
+pub content-made : (command : ℕ) (bytes : List ℕ) → IfSome (content_reading command bytes) (IsMade command)
+content-made command bytes =
+    by_test _ _ _ _ (λ t. identity-made command bytes (is_either command 0 11 t)) (λ f.
+    by_test _ _ _ _ (λ t. having-made 5 (λ xs. Primary (unit_value_of xs)) bytes (IsMade command) (λ xs long.
     (is_one command 1 t, float-sized xs 1 (omega arith)))) (λ f.
-    by_test _ _ _ _ (λ t. having-told 8 (λ xs. Current (float_at xs 0) (float_at xs 4)) bytes (IsTold command) (λ xs long.
+    by_test _ _ _ _ (λ t. having-made 8 (λ xs. Current (float_at xs 0) (float_at xs 4)) bytes (IsMade command) (λ xs long.
     (is_one command 2 t, (float-sized xs 0 (omega arith), float-sized xs 4 (omega arith))))) (λ f.
-    by_test _ (dynamic_reading bytes) _ (IsTold command) (λ t. rw (is_one command 3 t) (dynamic-told bytes)) (λ f.
-    by_test _ _ _ _ (λ t. having-told 2 (λ xs. Polling (slice_index xs 0) (slice_index xs 1)) bytes (IsTold command) (λ xs long.
+    by_test _ (dynamic_reading bytes) _ (IsMade command) (λ t. rw (is_one command 3 t) (dynamic-made bytes)) (λ f.
+    by_test _ _ _ _ (λ t. having-made 2 (λ xs. Polling (slice_index xs 0) (slice_index xs 1)) bytes (IsMade command) (λ xs long.
     (is_either command 6 7 t, tt))) (λ f.
-    by_test _ _ _ _ (λ t. having-told 4 Classes bytes (IsTold command) (λ xs long. (is_one command 8 t, long))) (λ f.
-    by_test _ (variables_reading bytes) _ (IsTold command) (λ t. rw (is_one command 9 t) (variables-told bytes)) (λ f.
-    by_test _ _ _ _ (λ t. having-told 24 Message bytes (IsTold command) (λ xs long. (is_either command 12 17 t, long))) (λ f.
-    by_test _ _ _ _ (λ t. tag-told command bytes (is_either command 13 18 t)) (λ f.
-    by_test _ _ _ _ (λ t. having-told 16 (λ xs. Sensor (sensor_of xs)) bytes (IsTold command) (λ xs long.
+    by_test _ _ _ _ (λ t. having-made 4 Classes bytes (IsMade command) (λ xs long. (is_one command 8 t, long))) (λ f.
+    by_test _ (variables_reading bytes) _ (IsMade command) (λ t. rw (is_one command 9 t) (variables-made bytes)) (λ f.
+    by_test _ _ _ _ (λ t. having-made 24 Message bytes (IsMade command) (λ xs long. (is_either command 12 17 t, long))) (λ f.
+    by_test _ _ _ _ (λ t. tag-made command bytes (is_either command 13 18 t)) (λ f.
+    by_test _ _ _ _ (λ t. having-made 16 (λ xs. Sensor (sensor_of xs)) bytes (IsMade command) (λ xs long.
     (is_one command 14 t, sensor-sized xs (omega arith)))) (λ f.
-    by_test _ _ _ _ (λ t. having-told 18 (λ xs. Output (output_of xs)) bytes (IsTold command) (λ xs long.
+    by_test _ _ _ _ (λ t. having-made 18 (λ xs. Output (output_of xs)) bytes (IsMade command) (λ xs long.
     (is_one command 15 t, output-sized xs (omega arith)))) (λ f.
-    by_test _ _ _ _ (λ t. having-told 3 Assembly bytes (IsTold command) (λ xs long. (is_either command 16 19 t, long))) (λ f.
-    by_test _ _ _ _ (λ t. having-told 2 Counter bytes (IsTold command) (λ xs long. (is_one command 38 t, long))) (λ f.
-    by_test _ (more_reading bytes) None (IsTold command) (λ t. rw (is_one command 48 t) (more-told bytes)) (λ f. tt))))))))))))))
+    by_test _ _ _ _ (λ t. having-made 3 Assembly bytes (IsMade command) (λ xs long. (is_either command 16 19 t, long))) (λ f.
+    by_test _ _ _ _ (λ t. having-made 2 Counter bytes (IsMade command) (λ xs long. (is_one command 38 t, long))) (λ f.
+    by_test _ (more_reading bytes) None (IsMade command) (λ t. rw (is_one command 48 t) (more-made bytes)) (λ f. tt))))))))))))))
 
--- a reading, where it gives a reply, gives a well-made one to this command
-pub reading-told : (command : ℕ) (payload : List ℕ)
+-- a reading, if it gives a reply, gives a well-made one to this command
+pub reading-to_command : (command : ℕ) (payload : List ℕ)
     → IfSome (reply_reading command payload) (λ reply. IsReply reply × (reply.command ≡ command))
-reading-told command [] = tt
-reading-told command (code ∷ []) = tt
-reading-told command (code ∷ status ∷ bytes) =
+reading-to_command command [] = tt
+reading-to_command command (code ∷ []) = tt
+reading-to_command command (code ∷ status ∷ bytes) =
     by_test _ _ _ _ (λ t. tt) (λ small.
-    by_test _ _ _ _ (λ t. success (content_reading command bytes) (is_one code 0 t) (content-told command bytes)) (λ refused.
-    by_test (is_known command) (Some (telling Refused)) None Told (λ known. (inr (positive refused, below_128 small, known, refl), refl))
+    by_test _ _ _ _ (λ t. success (content_reading command bytes) (is_one code 0 t) (content-made command bytes)) (λ refused.
+    by_test (is_known command) (Some (telling Refused)) None IsToCommand
+    (λ known. (inr (positive refused, below_128 small, known, refl), refl))
     (λ f. tt)))
   where
     telling : ReplyContent → Reply
     telling content = record { command = command; code = code; status = record { 0 = status }; content = content }
 
-    Told : Reply → Type 0
-    Told reply = IsReply reply × (reply.command ≡ command)
+    IsToCommand : Reply → Type 0
+    IsToCommand reply = IsReply reply × (reply.command ≡ command)
 
-    success : (content : Option ReplyContent) → code ≡ 0 → IfSome content (IsTold command)
+    success : (content : Option ReplyContent) → code ≡ 0 → IfSome content (IsMade command)
         → IfSome (option_map telling content) (λ reply. IsReply reply × (reply.command ≡ command))
-    success None is told = tt
-    success (Some content) is told = (inl (is, told.0, told.1), refl)
+    success None is made = tt
+    success (Some content) is made = (inl (is, made.0, made.1), refl)
 
     positive : eqb code 0 ≡ false → 0 < code
     positive f = grind (arith, nat_tests)
@@ -198,14 +199,14 @@ reading-told command (code ∷ status ∷ bytes) =
     below_128 f = grind (arith, nat_tests)
 
 -- the same of a reply that was read
-pub read-told : (command : ℕ) (payload : List ℕ) (reply : Reply) → reply_reading command payload ≡ Some reply
+pub read-to_command : (command : ℕ) (payload : List ℕ) (reply : Reply) → reply_reading command payload ≡ Some reply
     → IsReply reply × (reply.command ≡ command)
-read-told command payload reply e =
-    let P : Option Reply → Type 0 = λ o. IfSome o (λ r. IsReply r × (r.command ≡ command)) in subst P e (reading-told command payload)
+read-to_command command payload reply e =
+    let P : Option Reply → Type 0 = λ o. IfSome o (λ r. IsReply r × (r.command ≡ command)) in subst P e (reading-to_command command payload)
 
 pub reading-made : (command : ℕ) (payload : List ℕ) → IfSome (reply_reading command payload) IsReply
-reading-made command payload = go (reply_reading command payload) (reading-told command payload)
+reading-made command payload = go (reply_reading command payload) (reading-to_command command payload)
   where
     go : (o : Option Reply) → IfSome o (λ reply. IsReply reply × (reply.command ≡ command)) → IfSome o IsReply
-    go None told = tt
-    go (Some reply) told = told.0
+    go None made = tt
+    go (Some reply) made = made.0

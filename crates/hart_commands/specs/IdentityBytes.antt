@@ -1,4 +1,4 @@
--- The identity of a device, as a reply tells it in 22 bytes (HCF_SPEC-127).
+-- The identity of a device, as a reply gives it in 22 bytes (HCF_SPEC-127).
 use Rattle.std.specs.Prelude.{ℕ, ◌≡◌, List, [], ◌∷◌, ◌++◌, length, slice_index, slice_range}
 use Rattle.hart_commands.specs.declared.identity.IdentityContent.{IdentityContent}
 

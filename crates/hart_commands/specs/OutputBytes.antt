@@ -1,4 +1,4 @@
--- What a reply tells of the loop current output, in 18 bytes (HCF_SPEC-127).
+-- What a reply says of the loop current output, in 18 bytes (HCF_SPEC-127).
 use Rattle.std.specs.Prelude.{ℕ, ◌≡◌, List, [], ◌∷◌, ◌++◌, length, slice_index}
 use Rattle.hart_commands.specs.declared.output.OutputContent.{OutputContent}
 use Rattle.hart_commands.specs.Values.{float_at}

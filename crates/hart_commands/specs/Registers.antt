@@ -9,7 +9,7 @@ use Rattle.hart_commands.specs.declared.request.Request.TheVariants.{SetPolling,
 use Rattle.hart_commands.specs.RequestCode.{is_write}
 use Rattle.hart_commands.specs.RequestData.{command_of, mode_byte}
 
--- The registers, in the order of an image.
+-- The registers in their order: polling address, loop current mode, message, tag, descriptor, date, final assembly number.
 abbrev pub registers : List Register
 registers = Polling ∷ Mode ∷ Message ∷ Tag ∷ Descriptor ∷ Date ∷ Assembly ∷ []
 
@@ -77,13 +77,17 @@ contents_by bytes = record {
   assembly = bytes Assembly;
 }
 
--- An overwrite is seen as the configuration write that it is of.
-abbrev pub NamedBytes : Type 0
-NamedBytes = Request
+-- Contents are valid if every register holds bytes that are valid in it.
+abbrev pub AreValid : Contents → Type 0
+AreValid contents = (register : Register) → IsValidIn register (bytes_in contents register)
+
+-- An overwrite is seen as the request that it is of; one of a request that is no configuration write names no register.
+abbrev pub Overwrite : Type 0
+Overwrite = Request
 
 -- The bytes that an overwrite gives a register, if it names that: Command 6 names the polling address and the loop current mode,
 -- Command 17 the message, Command 18 the tag, the descriptor and the date, and Command 19 the final assembly number.
-abbrev pub named_in : NamedBytes → Register → Option (List ℕ)
+abbrev pub named_in : Overwrite → Register → Option (List ℕ)
 named_in (SetPolling address mode) Polling = Some (address ∷ [])
 named_in (SetPolling address mode) Mode = Some (mode_byte mode ∷ [])
 named_in (WriteMessage message) Message = Some message
@@ -94,19 +98,19 @@ named_in (WriteAssembly assembly) Assembly = Some assembly
 named_in _ _ = None
 
 -- A configuration write has an overwrite; every other request has none.
-abbrev pub overwrite_of : Request → Option NamedBytes
+abbrev pub overwrite_of : Request → Option Overwrite
 overwrite_of request = if is_write (command_of request) then Some request else None
 
 -- After an overwrite a register that it names holds its bytes, and every other what it held.
-abbrev pub overwritten : NamedBytes → Contents → Contents
+abbrev pub overwritten : Overwrite → Contents → Contents
 overwritten overwrite old = contents_by (λ register. unwrap_or (named_in overwrite register) (bytes_in old register))
 
 -- The bytes of the last overwrite in a list that names the register, if any does.
-abbrev pub last_named : List NamedBytes → Register → Option (List ℕ)
+abbrev pub last_named : List Overwrite → Register → Option (List ℕ)
 last_named [] register = None
 last_named (overwrite ∷ later) register = option_or (last_named later register) (named_in overwrite register)
 
 -- Each register holds the bytes of the last overwrite in the list that names it, otherwise its initial bytes.
-abbrev pub registers_of : List NamedBytes → Contents → Contents
+abbrev pub registers_of : List Overwrite → Contents → Contents
 registers_of overwrites initial =
     contents_by (λ register. unwrap_or (last_named overwrites register) (bytes_in initial register))

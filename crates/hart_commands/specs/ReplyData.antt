@@ -1,4 +1,4 @@
--- What the payload of a reply tells (HCF_SPEC-127).
+-- What the payload of a reply says (HCF_SPEC-127).
 use Rattle.std.specs.Prelude.{◌≡◌, ◌<◌, ◌≤◌, ◌⊎◌, IsTrue, ℕ, ◌+◌, ◌-◌, ◌*◌, ◌/◌, ◌==◌, ◌||◌, ◌&&◌, min, nat_lt, if◌then◌else◌, List, [], ◌∷◌, ◌++◌, length, take, drop, map, slice_index, Option, Some, None}
 use Rattle.std.specs.List.{flat_map, AllByRecursion}
 use Rattle.std.specs.Option.{option_map}
@@ -15,7 +15,7 @@ use Rattle.hart_commands.specs.OutputBytes.{IsOutput, output_of, output_bytes}
 
 -- Data that have the bytes of a content are read by these, whatever follows; fewer are no reply.
 abbrev pub having : ℕ → (List ℕ → ReplyContent) → List ℕ → Option ReplyContent
-having size told bytes = if nat_lt (length bytes) size then None else Some (told (take size bytes))
+having size content bytes = if nat_lt (length bytes) size then None else Some (content (take size bytes))
 
 -- Commands 0 and 11: an identity has 22 bytes, of which the first is 254.
 abbrev pub identity_reading : List ℕ → Option ReplyContent
@@ -85,7 +85,7 @@ abbrev pub more_reading : List ℕ → Option ReplyContent
 more_reading [] = None
 more_reading (byte ∷ bytes) = Some (More (take 25 (byte ∷ bytes)))
 
--- The table of the replies with code 0 has a line for each content; every other command has none.
+-- The table of the replies with code 0 has a row for each content; every other command has none.
 abbrev pub content_reading : ℕ → List ℕ → Option ReplyContent
 content_reading command bytes =
     if (command == 0) || (command == 11) then identity_reading bytes
@@ -104,7 +104,7 @@ content_reading command bytes =
     else if command == 48 then more_reading bytes
     else None
 
--- A payload of two bytes or more is a reply to a command of the table where its first byte is a response code below 128: with
+-- A payload of two bytes or more is a reply to a command of the table if its first byte is a response code below 128: with
 -- code 0 the data must be those of a content, and with another code the request was refused, whatever the data.
 abbrev pub reply_reading : ℕ → List ℕ → Option Reply
 reply_reading command (code ∷ status ∷ bytes) =
@@ -139,25 +139,25 @@ content_bytes Refused = []
 abbrev pub reply_payload : Reply → List ℕ
 reply_payload reply = reply.code ∷ reply.status.0 ∷ content_bytes reply.content
 
--- A content is told by these commands.
-abbrev pub IsToldBy : ReplyContent → ℕ → Type 0
-IsToldBy (Identity identity) command = (command ≡ 0) ⊎ (command ≡ 11)
-IsToldBy (Primary value) command = command ≡ 1
-IsToldBy (Current loop_current percent_of_range) command = command ≡ 2
-IsToldBy (Dynamic loop_current values) command = command ≡ 3
-IsToldBy (Polling address mode) command = (command ≡ 6) ⊎ (command ≡ 7)
-IsToldBy (Classes classes) command = command ≡ 8
-IsToldBy (Variables extended_device_status variables time_stamp) command = command ≡ 9
-IsToldBy (Message message) command = (command ≡ 12) ⊎ (command ≡ 17)
-IsToldBy (Tag tag descriptor date) command = (command ≡ 13) ⊎ (command ≡ 18)
-IsToldBy (Sensor sensor) command = command ≡ 14
-IsToldBy (Output output) command = command ≡ 15
-IsToldBy (Assembly assembly) command = (command ≡ 16) ⊎ (command ≡ 19)
-IsToldBy (Counter counter) command = command ≡ 38
-IsToldBy (More status) command = command ≡ 48
-IsToldBy Refused command = ⊥
+-- A content is that of replies to these commands.
+abbrev pub IsContentOf : ReplyContent → ℕ → Type 0
+IsContentOf (Identity identity) command = (command ≡ 0) ⊎ (command ≡ 11)
+IsContentOf (Primary value) command = command ≡ 1
+IsContentOf (Current loop_current percent_of_range) command = command ≡ 2
+IsContentOf (Dynamic loop_current values) command = command ≡ 3
+IsContentOf (Polling address mode) command = (command ≡ 6) ⊎ (command ≡ 7)
+IsContentOf (Classes classes) command = command ≡ 8
+IsContentOf (Variables extended_device_status variables time_stamp) command = command ≡ 9
+IsContentOf (Message message) command = (command ≡ 12) ⊎ (command ≡ 17)
+IsContentOf (Tag tag descriptor date) command = (command ≡ 13) ⊎ (command ≡ 18)
+IsContentOf (Sensor sensor) command = command ≡ 14
+IsContentOf (Output output) command = command ≡ 15
+IsContentOf (Assembly assembly) command = (command ≡ 16) ⊎ (command ≡ 19)
+IsContentOf (Counter counter) command = command ≡ 38
+IsContentOf (More status) command = command ≡ 48
+IsContentOf Refused command = ⊥
 
--- A content is well made where each of its parts has the size of its place in the table.
+-- A content is well made if each of its parts has the size of its place in the table.
 abbrev pub IsContent : ReplyContent → Type 0
 IsContent (Identity identity) = IsIdentity identity
 IsContent (Primary value) = length value.value.0 ≡ 4
@@ -181,5 +181,5 @@ IsContent Refused = Unit {0}
 -- A reply with code 0 has a content of its command; with another code, below 128, its command is in the table and it is refused.
 abbrev pub IsReply : Reply → Type 0
 IsReply reply =
-    ((reply.code ≡ 0) × IsToldBy reply.content reply.command × IsContent reply.content)
+    ((reply.code ≡ 0) × IsContentOf reply.content reply.command × IsContent reply.content)
     ⊎ ((0 < reply.code) × (reply.code < 128) × IsTrue (is_known reply.command) × (reply.content ≡ Refused))

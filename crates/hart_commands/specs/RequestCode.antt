@@ -8,7 +8,7 @@ use Rattle.hart_commands.specs.RequestData.{Reading}
 abbrev pub is_write : ℕ → Bool
 is_write command = (command == 6) || (command == 17) || (command == 18) || (command == 19)
 
--- A given counter of Command 38 that is not the device's is refused with code 9; nothing else is, where the data are good.
+-- A given counter of Command 38 that is not the device's is refused with code 9; nothing else is, if the data are good.
 abbrev pub counter_code : Request → ℕ → ℕ
 counter_code (ResetChanged (Some given)) counter = if given == counter then 0 else 9
 counter_code _ counter = 0
@@ -18,7 +18,7 @@ abbrev pub judged : Reading → ℕ → ℕ
 judged (Err code) counter = code
 judged (Ok request) counter = counter_code request counter
 
--- A command that is not in the table is told first, then too few data bytes, then a write under protection, then what the
+-- A command that is not in the table is refused first, then too few data bytes, then a write under protection, then what the
 -- data and the counter say; otherwise the code is 0.
 abbrev pub request_code : ℕ → Reading → Bool → ℕ → ℕ
 request_code command reading protected counter =

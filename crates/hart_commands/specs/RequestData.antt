@@ -16,7 +16,7 @@ Reading = Result Request ℕ
 abbrev pub needing : ℕ → (List ℕ → Request) → List ℕ → Reading
 needing size asked bytes = if nat_lt (length bytes) size then Err 5 else Ok (asked (take size bytes))
 
--- A loop current mode is a byte: 0 where it is disabled, 1 where it is enabled.
+-- A loop current mode is a byte: 0 if it is disabled, 1 if it is enabled.
 abbrev pub mode_byte : LoopMode → ℕ
 mode_byte Disabled = 0
 mode_byte Enabled = 1
@@ -57,17 +57,17 @@ reset_reading [] = Ok (ResetChanged None)
 reset_reading (high ∷ []) = Err 5
 reset_reading (high ∷ low ∷ rest) = Ok (ResetChanged (Some (256 * high + low)))
 
--- A line of the table says how the data of a command are read.
-abbrev pub Line : Type 0
-Line = List ℕ → Reading
+-- A row of the table of requests says how the data of a command are read.
+abbrev pub RequestRow : Type 0
+RequestRow = List ℕ → Reading
 
--- A command without data asks the same whatever its data are.
-abbrev pub always : Request → Line
+-- A command that needs no data asks the same request whatever follows it.
+abbrev pub always : Request → RequestRow
 always request bytes = Ok request
 
--- The table of the requests has a line for each command that is known.
-abbrev pub request_line : ℕ → Option Line
-request_line command =
+-- The table of requests has a row for each command that is known.
+abbrev pub request_row : ℕ → Option RequestRow
+request_row command =
     if command == 0 then Some (always Identify)
     else if command == 1 then Some (always ReadPrimary)
     else if command == 2 then Some (always ReadCurrent)
@@ -89,18 +89,18 @@ request_line command =
     else if command == 48 then Some (always ReadMore)
     else None
 
--- A command is known if the table has a line for it.
+-- A command is known if the table of requests has a row for it.
 abbrev pub is_known : ℕ → Bool
-is_known command = is_some (request_line command)
+is_known command = is_some (request_row command)
 
--- Without a line data are refused with code 64.
-abbrev pub read_by : Option Line → Line
+-- Data are read as the row says; if there is no row they are refused with code 64.
+abbrev pub read_by : Option RequestRow → RequestRow
 read_by None bytes = Err 64
-read_by (Some line) bytes = line bytes
+read_by (Some row) bytes = row bytes
 
--- Data are read by the line of their command.
-abbrev pub request_reading : ℕ → Line
-request_reading command = read_by (request_line command)
+-- Data are read by the row of their command.
+abbrev pub request_reading : ℕ → RequestRow
+request_reading command = read_by (request_row command)
 
 -- The command that asks a request.
 abbrev pub command_of : Request → ℕ
@@ -124,7 +124,7 @@ command_of (WriteAssembly assembly) = 19
 command_of (ResetChanged counter) = 38
 command_of ReadMore = 48
 
--- The data of a request are the bytes that its command needs, with none behind them: always two for Command 6, and
+-- The data of a request are the bytes that its command needs, with none after them: always two for Command 6, and
 -- none for a request without parts.
 abbrev pub request_data : Request → List ℕ
 request_data (SetPolling address mode) = address ∷ mode_byte mode ∷ []
@@ -137,7 +137,7 @@ request_data (ResetChanged None) = []
 request_data (ResetChanged (Some counter)) = counter / 256 ∷ counter % 256 ∷ []
 request_data _ = []
 
--- A request is well made where each of its parts has the size, and the values, of its place in the table.
+-- A request is well made if each of its parts has the size and the values that its command gives it.
 abbrev pub IsRequest : Request → Type 0
 IsRequest (SetPolling address mode) = address < 64
 IsRequest (ReadVariables codes) = (0 < length codes) × (length codes ≤ 8)

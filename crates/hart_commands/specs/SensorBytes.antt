@@ -1,4 +1,4 @@
--- What a reply tells of the sensor, in 16 bytes (HCF_SPEC-127).
+-- What a reply says of the sensor, in 16 bytes (HCF_SPEC-127).
 use Rattle.std.specs.Prelude.{ℕ, ◌≡◌, List, ◌∷◌, ◌++◌, length, slice_index, slice_range}
 use Rattle.hart_commands.specs.declared.sensor.SensorContent.{SensorContent}
 use Rattle.hart_commands.specs.Values.{float_at}

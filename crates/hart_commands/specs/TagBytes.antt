@@ -5,10 +5,10 @@ use Rattle.std.specs.Prelude.{ℕ, List, take, drop}
 abbrev pub tag_in : List ℕ → List ℕ
 tag_in bytes = take 6 bytes
 
--- The descriptor is the 12 bytes behind the tag.
+-- The descriptor is the 12 bytes after the tag.
 abbrev pub descriptor_in : List ℕ → List ℕ
 descriptor_in bytes = take 12 (drop 6 bytes)
 
--- The date is the 3 bytes behind the descriptor.
+-- The date is the 3 bytes after the descriptor.
 abbrev pub date_in : List ℕ → List ℕ
 date_in bytes = take 3 (drop 18 bytes)

@@ -1,9 +1,9 @@
 use crate::{IdentityContent, OutputContent, SensorContent, ShortList, UnitValue, VariableReading};
 use hart_values::{Bits32, ByteList, PackedText};
 
-/// What a reply tells after its status bytes, by its command (HCF_SPEC-127).
+/// What a reply says after its status bytes, by its command (HCF_SPEC-127).
 ///
-/// Numbers that the device told are kept as they come, also a polling address above 63, a mode above 1 or bytes that are no
+/// Numbers of the device are kept as they come, also a polling address above 63, a mode above 1 or bytes that are no
 /// date.
 #[derive(Debug, Drop, PartialEq, Eq)]
 pub enum ReplyContent {

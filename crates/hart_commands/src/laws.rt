@@ -3,7 +3,7 @@ ghost use Rattle.std.specs.Prelude.{◌≡◌, ◌≢◌, AllPairs, Contains, �
 ghost use Rattle.hart_commands.specs.RequestData.{IsRequest, MayFollow, command_of, is_known};
 ghost use Rattle.hart_commands.specs.RequestData.{request_reading, request_data};
 ghost use Rattle.hart_commands.specs.RequestCode.{is_write};
-ghost use Rattle.hart_commands.specs.Registers.{overwrite_of, registers};
+ghost use Rattle.hart_commands.specs.Registers.{AreValid, Contents, named_in, overwrite_of, overwritten, registers};
 ghost use Rattle.hart_commands.specs.ReplyData.{IsReply};
 ghost use Rattle.hart_commands.specs.ReplyData.{reply_reading, reply_payload};
 ghost use Rattle.hart_commands.specs.declared.register.Register.{Register};
@@ -13,7 +13,7 @@ ghost use Rattle.hart_commands.specs.declared.reply.Reply.{Reply};
 use crate::{Register, Request};
 use hart_values::the_test_tells_dates;
 
-/// A request is well made, whoever made it: the types of its parts tell so.
+/// A request is well made, whoever made it: the types of its parts say so.
 pub fn requests_are_well_made(request: &Request)
     ensures { IsRequest request.now }
 {
@@ -85,9 +85,19 @@ pub fn all_registers_are_listed_once()
     ensures once { AllPairs (λ register other. register ≢ other) registers }
 {}
 
-/// A request has an overwrite exactly where its command is a configuration write.
+/// A request has an overwrite exactly if its command is a configuration write; then it names a register, and no other request
+/// names one.
 pub fn writes_have_overwrites()
-    ensures { (request : Request) → IsTrue (is_write (command_of request)) ↔ IsSome (overwrite_of request) }
+    ensures exactly { (request : Request) → IsTrue (is_write (command_of request)) ↔ IsSome (overwrite_of request) }
+    ensures some_register { (request : Request) → IsTrue (is_write (command_of request))
+        → (register : Register) × IsSome (named_in request register) }
+    ensures only_writes { (request : Request) (register : Register) → IsSome (named_in request register)
+        → IsTrue (is_write (command_of request)) }
+{}
+
+/// The overwrite of a well-made write leaves valid contents valid.
+pub fn overwrites_are_valid()
+    ensures { (write : Request) (old : Contents) → IsRequest write → AreValid old → AreValid (overwritten write old) }
 {}
 
 /// The payload that a reply is written as is read as that reply, for every well-made reply; and every reply that is read is

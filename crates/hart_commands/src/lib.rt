@@ -1,7 +1,7 @@
 //! What the data bytes of HART messages mean: requests, replies and what a write overwrites (HCF_SPEC-127).
 //!
 //! The tables of the standard, command by command, are definitions of `specs/`: what the data bytes of a request ask, or
-//! with which response code they are refused, and what the payload of a reply tells. [`Request::read`] and [`Reply::read`]
+//! with which response code they are refused, and what the payload of a reply says. [`Request::read`] and [`Reply::read`]
 //! give exactly that, and `write` goes the way back.
 //!
 //! ```rust
@@ -13,7 +13,7 @@
 //! ```
 //!
 //! [`request_code`] puts the refusals of a request in their order, for a device's write protection and its counter, and
-//! [`writes_of`] tells which registers a write gives which bytes. Who answers, and with what, is not of this crate. No call
+//! [`writes_of`] says which registers a write gives which bytes. Who answers, and with what, is not of this crate. No call
 //! of it takes memory.
 //!
 //! The other crates of `hart` call neither [`is_write`] nor [`CodeList::new`]: these are for whoever makes requests with this
@@ -39,16 +39,16 @@ pub use code_list::CodeList;
 pub use content::ReplyContent;
 pub use identity::IdentityContent;
 pub use laws::{
-    all_registers_are_listed_once, requests_are_well_made, requests_have_their_command,
-    unknown_commands_are_refused, writes_have_overwrites, written_data_are_read_again,
-    written_data_are_their_request, written_payloads_are_read_again,
+    all_registers_are_listed_once, overwrites_are_valid, requests_are_well_made,
+    requests_have_their_command, unknown_commands_are_refused, writes_have_overwrites,
+    written_data_are_read_again, written_data_are_their_request, written_payloads_are_read_again,
 };
 pub use output::OutputContent;
 pub use overwrite::{Overwrite, is_write, writes_of};
 pub use register::Register;
 pub use reply::Reply;
-pub use request::Request;
 pub use request::code::request_code;
+pub use request::{Request, mode_bytes};
 pub use sensor::SensorContent;
 pub use short_list::ShortList;
 pub use value::{UnitValue, VariableReading};

@@ -15,9 +15,9 @@ pub struct Overwrite<'a> {
 }
 
 impl<'a> Model for Overwrite<'a> {
-    ghost use Rattle.hart_commands.specs.Registers.{NamedBytes};
+    ghost use Rattle.hart_commands.specs.Registers.{Overwrite};
 
-    ghost Value = { NamedBytes };
+    ghost Value = { Overwrite };
 
     ghost view = { λ overwrite. overwrite.write.now };
 }

@@ -1,10 +1,10 @@
 ghost use Rattle.std.specs.Prelude.{◌≡◌, IfSome};
-ghost use Rattle.hart_commands.specs.RequestData.{is_known};
 ghost use Rattle.hart_commands.specs.ReplyData.{IsReply, reply_reading, reply_payload};
 
+use crate::ReplyContent;
 use crate::reply::reading::read_content;
 use crate::reply::writing::push_content;
-use crate::{ReplyContent, Request};
+use crate::request::is_known;
 use hart_values::{DeviceStatus, Payload, ResponseCode};
 
 mod reading;
@@ -19,7 +19,7 @@ pub struct Reply {
     pub code: ResponseCode,
     /// The state of the device.
     pub status: DeviceStatus,
-    /// What is told: with code 0 the content of the command, otherwise [`ReplyContent::Refused`].
+    /// What it says: with code 0 the content of the command, otherwise [`ReplyContent::Refused`].
     pub content: ReplyContent,
 }
 
@@ -70,14 +70,4 @@ fn reply_in(command: u8, payload: &[u8]) -> Option<Reply>
         status: DeviceStatus(*second),
         content,
     })
-}
-
-/// Whether a command is in the table.
-fn is_known(command: u8) -> bool
-    ensures { result ≡ is_known command }
-{
-    !matches!(
-        Request::read(command, &[]),
-        Err(ResponseCode::COMMAND_NOT_IMPLEMENTED)
-    )
 }

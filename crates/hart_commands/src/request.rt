@@ -1,5 +1,5 @@
 ghost use Rattle.std.specs.Prelude.{◌≡◌, [], ◌∷◌, IfOk};
-ghost use Rattle.hart_commands.specs.RequestData.{IsRequest, request_reading, command_of, request_data, mode_byte};
+ghost use Rattle.hart_commands.specs.RequestData.{IsRequest, is_known, request_reading, command_of, request_data, mode_byte};
 
 use crate::CodeList;
 use crate::laws::requests_are_well_made;
@@ -65,7 +65,7 @@ impl Request {
     ///
     /// # Errors
     ///
-    /// The first of these response codes that holds, which can be told without a device: 64 if no request has this command; 5
+    /// The first of these response codes that holds, which can be decided without a device: 64 if no request has this command; 5
     /// if there are too few bytes; 2 for an address above 63 of Command 6, and then 12 for a mode above 1; 9 for a bad date of
     /// Command 18.
     pub fn read(command: u8, bytes: &[u8]) -> Result<Self, ResponseCode>
@@ -198,8 +198,15 @@ impl Request {
     }
 }
 
+/// Whether a command is known: whether [`Request::read`] knows how to read its data.
+pub(crate) fn is_known(command: u8) -> bool
+    ensures { result ≡ is_known command }
+{
+    matches!(command, 0..=3 | 6..=9 | 11..=19 | 38 | 48)
+}
+
 /// The byte of a loop current mode: 0 disabled, 1 enabled.
-pub(crate) fn mode_bytes(mode: LoopMode) -> &'static [u8]
+pub fn mode_bytes(mode: LoopMode) -> &'static [u8]
     ensures { result.now ≡ mode_byte mode ∷ [] }
 {
     match mode {

@@ -1,7 +1,7 @@
 ghost use Rattle.std.specs.Prelude.{◌≡◌, ◌≤◌, ◌↔◌, length, IsSome, IfSome};
 ghost use Rattle.hart_commands.specs.TagBytes.{tag_in, descriptor_in, date_in};
 
-/// The tag, the descriptor and the date that stand at the front of these bytes, or `None` where the bytes are too few.
+/// The tag, the descriptor and the date with which these bytes begin, or `None` if the bytes are too few.
 pub fn tag_parts(bytes: &[u8]) -> Option<([u8; 6], [u8; 12], [u8; 3])>
     ensures accepted { IsSome result ↔ (21 ≤ length bytes.now) }
     ensures tag { IfSome result (λ parts. parts.0 ≡ tag_in bytes.now) }

@@ -1,4 +1,4 @@
-//! The lines of the table of replies.
+//! The rows of the table of replies.
 ghost use Rattle.std.specs.Prelude.{◌≡◌, ◌<◌, ◌≤◌, IfSome, List, ℕ, length, take, drop, map};
 ghost use Rattle.hart_commands.specs.ReplyData.{content_reading, identity_reading, primary_reading, current_reading, dynamic_reading, polling_reading, variables_reading, message_reading, tag_reading, sensor_reading, output_reading, more_reading};
 
@@ -10,7 +10,7 @@ use crate::{
 };
 use hart_values::{Bits32, ByteList, PackedText};
 
-/// The content of a reply with code 0, by its command's line of the table.
+/// The content of a reply with code 0, by its command's row of the table.
 pub fn read_content(command: u8, bytes: &[u8]) -> Option<ReplyContent>
     ensures { result ≡ content_reading command bytes.now }
 {

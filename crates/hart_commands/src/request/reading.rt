@@ -1,4 +1,4 @@
-//! The lines of the table of requests whose data have parts.
+//! The rows of the table of requests whose data have parts.
 ghost use Rattle.std.specs.Prelude.{◌≡◌, ◌≤◌, ◌↔◌, length, take, IsOk, IfOk, IfErr};
 ghost use Rattle.hart_commands.specs.RequestData.{polling_reading, codes_reading, tag_reading, reset_reading};
 
@@ -6,7 +6,7 @@ use crate::tag_bytes::tag_parts;
 use crate::{CodeList, Request};
 use hart_values::{HartDate, LoopMode, PackedText, PollingAddress, ResponseCode};
 
-/// The first `N` bytes, or the code that tells of too few.
+/// The first `N` bytes, or the code of too few.
 pub fn needed<const N: usize>(all: &[u8]) -> Result<[u8; N], ResponseCode>
     ensures accepted { IsOk result ↔ (N ≤ length all.now) }
     ensures first { IfOk result (λ bytes. bytes ≡ take N all.now) }

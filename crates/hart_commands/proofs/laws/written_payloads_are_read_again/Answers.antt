@@ -1,9 +1,9 @@
 use Rattle.hart_commands.proofs.ReplyLemmas.{written_is_read}
-use Rattle.hart_commands.proofs.WellMade.{read-told}
+use Rattle.hart_commands.proofs.WellMade.{read-to_command}
 use Rattle.hart_commands.proofs.laws.written_payloads_are_read_again.Goals as goal
 
 pub returns-clause-again : goal.returns-clause-again
 returns-clause-again c = written_is_read
 
 pub returns-clause-well_made : goal.returns-clause-well_made
-returns-clause-well_made c = read-told
+returns-clause-well_made c = read-to_command
