@@ -10,7 +10,7 @@ use Rattle.hart_values.specs.declared.master_id.MasterId.{MasterId}
 use Rattle.hart_frame.specs.FrameParts.{FrameParts, reply_parts}
 use Rattle.hart_commands.specs.ReplyData.{reply_payload}
 use Rattle.hart_commands.specs.declared.reply.Reply.{Reply}
-use Rattle.hart_commands.specs.Registers.{NamedBytes, overwrite_of}
+use Rattle.hart_commands.specs.Registers.{Overwrite, overwrite_of}
 use Rattle.hart_commands.specs.declared.request.Request.{Request}
 use Rattle.hart_commands.specs.declared.request.Request.TheVariants.{ResetChanged}
 use Rattle.hart_device.specs.Answer.{asked_effect, code_of, effect_of, executed, is_answered, reading_of}
@@ -20,47 +20,47 @@ pub refused : (answered : Bool) (code : ℕ) (effect : Effect) → code ≢ 0
     → (if answered && (code == 0) then effect else Nothing) ≡ Nothing
 refused answered code effect not_zero = grind (arith, nat_tests)
 
-executed_only : (named : Option NamedBytes) (overwrite : NamedBytes) → executed named ≡ Executes overwrite → named ≡ Some overwrite
+executed_only : (named : Option Overwrite) (overwrite : Overwrite) → executed named ≡ Executes overwrite → named ≡ Some overwrite
 executed_only None overwrite is = cc
 executed_only (Some x) overwrite is = cc
 
 -- Only a write executes an overwrite, and that is its own.
-executes_only : (reading : Reading) (overwrite : NamedBytes) → asked_effect reading ≡ Executes overwrite
+executes_only : (reading : Reading) (overwrite : Overwrite) → asked_effect reading ≡ Executes overwrite
     → (request : Request) × (reading ≡ Ok request) × (overwrite_of request ≡ Some overwrite)
 executes_only (Err code) overwrite is = cc
 executes_only (Ok (ResetChanged counter)) overwrite is = cc
 executes_only (Ok request) overwrite is = (request, refl, executed_only (overwrite_of request) overwrite is)
 
 -- A write executes its overwrite.
-pub write_executes : (request : Request) (overwrite : NamedBytes) → overwrite_of request ≡ Some overwrite
+pub write_executes : (request : Request) (overwrite : Overwrite) → overwrite_of request ≡ Some overwrite
     → asked_effect (Ok request) ≡ Executes overwrite
 write_executes (ResetChanged counter) overwrite is = cc
 write_executes request overwrite is = ap executed is
 
--- Where the effect of an answer is one, the answer has code 0 and that is what was asked.
-executes_where : (answered zero : Bool) (effect : Effect) (overwrite : NamedBytes)
+-- If the effect of an answer is one, the answer has code 0 and that is what was asked.
+executes_if : (answered zero : Bool) (effect : Effect) (overwrite : Overwrite)
     → (if answered && zero then effect else Nothing) ≡ Executes overwrite
     → (answered ≡ true) × (zero ≡ true) × (effect ≡ Executes overwrite)
-executes_where true true effect overwrite is = (refl, refl, is)
-executes_where true false effect overwrite is = cc
-executes_where false zero effect overwrite is = cc
+executes_if true true effect overwrite is = (refl, refl, is)
+executes_if true false effect overwrite is = cc
+executes_if false zero effect overwrite is = cc
 
-pub effect_executes_only : (answered : Bool) (code : ℕ) (reading : Reading) (overwrite : NamedBytes)
+pub effect_executes_only : (answered : Bool) (code : ℕ) (reading : Reading) (overwrite : Overwrite)
     → (if answered && (code == 0) then asked_effect reading else Nothing) ≡ Executes overwrite
     → (answered ≡ true) × (code ≡ 0) × (request : Request) × (reading ≡ Ok request) × (overwrite_of request ≡ Some overwrite)
 effect_executes_only answered code reading overwrite is =
-    let parts = executes_where answered (code == 0) (asked_effect reading) overwrite is in
+    let parts = executes_if answered (code == 0) (asked_effect reading) overwrite is in
     let zero : code ≡ 0 = eqb-true code 0 parts.1 in
     let write = executes_only reading overwrite parts.2 in
     (parts.0, zero, write.0, write.1, write.2)
 
-resets_where : (answered zero : Bool) (effect : Effect) → (if answered && zero then effect else Nothing) ≡ Resets
+resets_if : (answered zero : Bool) (effect : Effect) → (if answered && zero then effect else Nothing) ≡ Resets
     → (answered ≡ true) × (zero ≡ true) × (effect ≡ Resets)
-resets_where true true effect is = (refl, refl, is)
-resets_where true false effect is = cc
-resets_where false zero effect is = cc
+resets_if true true effect is = (refl, refl, is)
+resets_if true false effect is = cc
+resets_if false zero effect is = cc
 
-executed_resets : (named : Option NamedBytes) → executed named ≡ Resets → ⊥
+executed_resets : (named : Option Overwrite) → executed named ≡ Resets → ⊥
 executed_resets None is = cc
 executed_resets (Some x) is = cc
 
@@ -89,7 +89,7 @@ pub resets_only : (state : DeviceState) (frame : FrameParts) → effect_of state
     × (counter : Option ℕ) × (reading_of frame ≡ Ok (ResetChanged counter)) × IfSome counter (λ n. n ≡ state.counter)
 resets_only state frame is =
     let code = code_of state frame in
-    let parts = resets_where (is_answered state frame) (code == 0) (asked_effect (reading_of frame)) is in
+    let parts = resets_if (is_answered state frame) (code == 0) (asked_effect (reading_of frame)) is in
     let zero : code ≡ 0 = eqb-true code 0 parts.1 in
     let asked = asked_resets (reading_of frame) parts.2 in
     let judged_code = judged (reading_of frame) state.counter in
@@ -110,22 +110,22 @@ after_protected master Nothing state = refl
 after_protected master (Executes overwrite) state = refl
 after_protected master Resets state = refl
 
--- What is answered where a test holds is the reply, and the test holds.
-pub told_where : {A : Type 0} (holds : Bool) (told reply : A) → (if holds then Some told else None) ≡ Some reply
-    → (holds ≡ true) × (told ≡ reply)
-told_where true told reply is = (refl, cc)
-told_where false told reply is = cc
+-- What is answered if a test holds is the reply, and the test holds.
+pub some_if : {A : Type 0} (holds : Bool) (answer reply : A) → (if holds then Some answer else None) ≡ Some reply
+    → (holds ≡ true) × (answer ≡ reply)
+some_if true answer reply is = (refl, cc)
+some_if false answer reply is = cc
 
-pub silent_where : {A : Type 0} (holds : Bool) (told : A) → (if holds then Some told else None) ≡ None → holds ≡ false
-silent_where true told is = cc
-silent_where false told is = refl
+pub none_if : {A : Type 0} (holds : Bool) (answer : A) → (if holds then Some answer else None) ≡ None → holds ≡ false
+none_if true answer is = cc
+none_if false answer is = refl
 
 -- A reply's payload begins with its code.
-pub answered_where : (holds : Bool) (frame reply : FrameParts) (told : Reply)
-    → (if holds then Some (reply_parts frame (reply_payload told)) else None) ≡ Some reply
-    → (holds ≡ true) × (reply ≡ reply_parts frame reply.payload) × (slice_get reply.payload 0 ≡ Some told.code)
-answered_where holds frame reply told is =
-    let parts = told_where holds (reply_parts frame (reply_payload told)) reply is in
-    let payload : reply_payload told ≡ reply.payload = ap (λ (f : FrameParts). f.payload) parts.1 in
-    let P : List ℕ → Type 0 = λ bytes. slice_get bytes 0 ≡ Some told.code in
+pub answered_if : (holds : Bool) (frame reply : FrameParts) (answer : Reply)
+    → (if holds then Some (reply_parts frame (reply_payload answer)) else None) ≡ Some reply
+    → (holds ≡ true) × (reply ≡ reply_parts frame reply.payload) × (slice_get reply.payload 0 ≡ Some answer.code)
+answered_if holds frame reply answer is =
+    let parts = some_if holds (reply_parts frame (reply_payload answer)) reply is in
+    let payload : reply_payload answer ≡ reply.payload = ap (λ (f : FrameParts). f.payload) parts.1 in
+    let P : List ℕ → Type 0 = λ bytes. slice_get bytes 0 ≡ Some answer.code in
     (parts.0, sym parts.1 ∙ ap (reply_parts frame) payload, subst P payload refl)

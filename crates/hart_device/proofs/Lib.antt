@@ -1,2 +1,5 @@
+pub mod RangeLemmas
+pub mod WritingLemmas
+pub mod ImageLemmas
 pub mod RegistersLemmas
 pub mod EffectLemmas

@@ -3,31 +3,31 @@ use Rattle.std.proofs.Common.{◌≡◌, ℕ, ◌<◌, zero, suc, ap, ◌∙◌,
 use Rattle.std.proofs.Common.{List, [], ◌∷◌, ◌++◌, length}
 use Rattle.std.specs.List.{Contains, slice_index_or}
 use Rattle.std.specs.Option.{option_or}
-use Rattle.hart_commands.specs.Registers.{Contents, NamedBytes, bytes_in, contents_by, named_in, overwritten}
+use Rattle.hart_commands.specs.Registers.{Contents, Overwrite, bytes_in, contents_by, named_in, overwritten}
 use Rattle.hart_commands.specs.Registers.{last_named, registers_of}
 use Rattle.hart_commands.specs.declared.register.Register.{Register}
 
 pub bytes_in-contents_by : (bytes : Register → List ℕ) (register : Register) → bytes_in (contents_by bytes) register ≡ bytes register
 bytes_in-contents_by bytes register = grind arith
 
--- Contents are told by the bytes of each register.
-pub contents_told : (contents : Contents) (bytes : Register → List ℕ)
+-- Contents are determined by the bytes of each register.
+pub contents_determined : (contents : Contents) (bytes : Register → List ℕ)
     → ((register : Register) → bytes_in contents register ≡ bytes register) → contents ≡ contents_by bytes
-contents_told contents bytes same = ap contents_by (λ i register. same register i)
+contents_determined contents bytes same = ap contents_by (λ i register. same register i)
 
 pub same_contents : (contents others : Contents)
     → ((register : Register) → bytes_in contents register ≡ bytes_in others register) → contents ≡ others
-same_contents contents others = contents_told contents (bytes_in others)
+same_contents contents others = contents_determined contents (bytes_in others)
 
 pub same_bytes : (f g : Register → List ℕ) → ((register : Register) → f register ≡ g register) → contents_by f ≡ contents_by g
 same_bytes f g same = ap contents_by (λ i register. same register i)
 
 -- After an overwrite a register holds the bytes that it names, or what it held.
-pub bytes_in-overwritten : (overwrite : NamedBytes) (old : Contents) (register : Register)
+pub bytes_in-overwritten : (overwrite : Overwrite) (old : Contents) (register : Register)
     → bytes_in (overwritten overwrite old) register ≡ unwrap_or (named_in overwrite register) (bytes_in old register)
 bytes_in-overwritten overwrite old = bytes_in-contents_by (λ register. unwrap_or (named_in overwrite register) (bytes_in old register))
 
-pub bytes_in-registers_of : (overwrites : List NamedBytes) (initial : Contents) (register : Register)
+pub bytes_in-registers_of : (overwrites : List Overwrite) (initial : Contents) (register : Register)
     → bytes_in (registers_of overwrites initial) register ≡ unwrap_or (last_named overwrites register) (bytes_in initial register)
 bytes_in-registers_of overwrites initial =
     bytes_in-contents_by (λ register. unwrap_or (last_named overwrites register) (bytes_in initial register))
@@ -45,7 +45,7 @@ option_or-assoc None b c = refl
 option_or-assoc (Some x) b c = refl
 
 -- A new overwrite comes last.
-pub last_named-append : (overwrites : List NamedBytes) (overwrite : NamedBytes) (register : Register)
+pub last_named-append : (overwrites : List Overwrite) (overwrite : Overwrite) (register : Register)
     → last_named (overwrites ++ overwrite ∷ []) register ≡ option_or (named_in overwrite register) (last_named overwrites register)
 last_named-append [] overwrite register = sym (option_or-None (named_in overwrite register))
 last_named-append (o ∷ os) overwrite register =
@@ -53,12 +53,12 @@ last_named-append (o ∷ os) overwrite register =
     ∙ option_or-assoc (named_in overwrite register) (last_named os register) (named_in o register)
 
 -- One that comes again later changes nothing.
-pub last_named-again : (later : List NamedBytes) (overwrite : NamedBytes) (register : Register) (k : ℕ)
+pub last_named-again : (later : List Overwrite) (overwrite : Overwrite) (register : Register) (k : ℕ)
     → k < length later → slice_index_or later k overwrite ≡ overwrite
     → option_or (last_named later register) (named_in overwrite register) ≡ last_named later register
 last_named-again [] overwrite register k within there = absurd (omega arith)
 last_named-again (o ∷ os) overwrite register zero within there =
-    subst (λ (x : NamedBytes). option_or (option_or (last_named os register) (named_in x register)) (named_in overwrite register)
+    subst (λ (x : Overwrite). option_or (option_or (last_named os register) (named_in x register)) (named_in overwrite register)
     ≡ option_or (last_named os register) (named_in x register)) (sym there)
     (option_or-assoc (last_named os register) (named_in overwrite register) (named_in overwrite register)
     ∙ ap (option_or (last_named os register)) (twice (named_in overwrite register)))
@@ -75,20 +75,20 @@ last_named-again (o ∷ os) overwrite register (suc k) within there =
     again_below None (Some x) c h = cc
     again_below (Some x) b c h = refl
 
-pub registers_of-cons : (overwrite : NamedBytes) (later : List NamedBytes) (initial : Contents)
+pub registers_of-cons : (overwrite : Overwrite) (later : List Overwrite) (initial : Contents)
     → registers_of (overwrite ∷ later) initial ≡ registers_of later (overwritten overwrite initial)
 registers_of-cons overwrite later initial = same_bytes _ _ (λ register.
     unwrap_or-option_or (last_named later register) (named_in overwrite register) (bytes_in initial register)
     ∙ ap (unwrap_or (last_named later register)) (sym (bytes_in-overwritten overwrite initial register)))
 
-pub registers_of-append : (overwrites : List NamedBytes) (overwrite : NamedBytes) (initial : Contents)
+pub registers_of-append : (overwrites : List Overwrite) (overwrite : Overwrite) (initial : Contents)
     → registers_of (overwrites ++ overwrite ∷ []) initial ≡ overwritten overwrite (registers_of overwrites initial)
 registers_of-append overwrites overwrite initial = same_bytes _ _ (λ register.
     ap (λ x. unwrap_or x (bytes_in initial register)) (last_named-append overwrites overwrite register)
     ∙ unwrap_or-option_or (named_in overwrite register) (last_named overwrites register) (bytes_in initial register)
     ∙ ap (unwrap_or (named_in overwrite register)) (sym (bytes_in-registers_of overwrites initial register)))
 
-pub registers_of-again : (overwrite : NamedBytes) (later : List NamedBytes) (initial : Contents) → Contains later overwrite
+pub registers_of-again : (overwrite : Overwrite) (later : List Overwrite) (initial : Contents) → Contains later overwrite
     → registers_of (overwrite ∷ later) initial ≡ registers_of later initial
 registers_of-again overwrite later initial there = same_bytes _ _ (λ register.
     ap (λ x. unwrap_or x (bytes_in initial register)) (last_named-again later overwrite register there.0 there.1 there.2))

@@ -14,12 +14,12 @@ use Rattle.hart_commands.specs.declared.reply.Reply.{Reply}
 use Rattle.hart_commands.specs.declared.content.ReplyContent.{ReplyContent}
 use Rattle.hart_commands.specs.declared.content.ReplyContent.TheVariants.{Refused}
 use Rattle.hart_commands.specs.declared.request.Request.TheVariants.{IdentifyByTag, ResetChanged}
-use Rattle.hart_commands.specs.Registers.{NamedBytes, overwrite_of}
+use Rattle.hart_commands.specs.Registers.{Overwrite, overwrite_of}
 use Rattle.hart_commands.specs.ReplyData.{reply_payload}
 use Rattle.hart_commands.specs.RequestCode.{request_code}
 use Rattle.hart_commands.specs.RequestData.{Reading, request_reading}
 use Rattle.hart_device.specs.declared.process.Process.{Process}
-use Rattle.hart_device.specs.Content.{content_told}
+use Rattle.hart_device.specs.Content.{reply_content}
 use Rattle.hart_device.specs.Device.{DeviceState, Effect, Nothing, Executes, Resets, after}
 use Rattle.hart_device.specs.Identity.{own_numbers}
 use Rattle.hart_device.specs.Status.{device_status}
@@ -29,7 +29,7 @@ abbrev pub is_request : FrameKind → Bool
 is_request Stx = true
 is_request Ack = false
 
--- Two unique addresses are the same where both of their numbers are.
+-- Two unique addresses are the same if both of their numbers are.
 abbrev pub same_numbers : DeviceNumbers → DeviceNumbers → Bool
 same_numbers a b = (a.expanded_type == b.expanded_type) && (a.device_id == b.device_id)
 
@@ -40,7 +40,7 @@ is_paired state (Polling number) command = (command == 0) && (slice_index state.
 is_paired state (Unique numbers) command =
     same_numbers numbers (own_numbers state.identity) || ((command == 11) && is_broadcast (Unique numbers))
 
--- A frame is for the device where it is a request without expansion bytes whose address and command are paired so; the burst bit
+-- A frame is for the device if it is a request without expansion bytes whose address and command are paired so; the burst bit
 -- is not looked at.
 abbrev pub is_addressed : DeviceState → FrameParts → Bool
 is_addressed state frame =
@@ -54,13 +54,13 @@ reading_of frame = request_reading frame.command frame.payload
 abbrev pub code_of : DeviceState → FrameParts → ℕ
 code_of state frame = request_code frame.command (reading_of frame) state.protected state.counter
 
--- Command 11 names another device where its tag is not the bytes of the register Tag; every other request names none.
+-- Command 11 names another device if its tag is not the bytes of the register Tag; every other request names none.
 abbrev pub names_another : DeviceState → Reading → Bool
 names_another state (Ok (IdentifyByTag tag)) = not (bytes_eq state.contents.tag tag)
 names_another state _ = false
 
--- A frame for the device that is read so and has this code is met with silence all the same where it names another's tag, on
--- either address, and where it came by broadcast and its code is not 0.
+-- A frame for the device that is read so and has this code is met with silence all the same if it names another's tag, on
+-- either address, and if it came by broadcast and its code is not 0.
 abbrev pub is_answered_with : DeviceState → FrameParts → Reading → ℕ → Bool
 is_answered_with state frame reading code =
     is_addressed state frame && not (names_another state reading) && not (is_broadcast frame.address && not (code == 0))
@@ -70,7 +70,7 @@ abbrev pub is_answered : DeviceState → FrameParts → Bool
 is_answered state frame = is_answered_with state frame (reading_of frame) (code_of state frame)
 
 -- An overwrite is executed; no overwrite is no effect.
-abbrev pub executed : Option NamedBytes → Effect
+abbrev pub executed : Option Overwrite → Effect
 executed None = Nothing
 executed (Some overwrite) = Executes overwrite
 
@@ -90,9 +90,9 @@ effect_of state frame =
 abbrev pub state_after : DeviceState → FrameParts → DeviceState
 state_after state frame = after frame.master (effect_of state frame) state
 
--- With code 0 a reply tells what was asked, and with another code nothing.
+-- With code 0 a reply says what was asked, and with another code nothing.
 abbrev pub content_with : DeviceState → Process → Reading → ℕ → ReplyContent
-content_with state process (Ok request) code = if code == 0 then content_told state process request else Refused
+content_with state process (Ok request) code = if code == 0 then reply_content state process request else Refused
 content_with state process (Err refusal) code = Refused
 
 -- The reply to a frame that is read so and has this code, by a device that is in this state after the command.

@@ -1,4 +1,4 @@
--- The bench device: the device that a program has where it is given no other (own profile).
+-- The bench device: the device that a program has if it is given no other (own profile).
 use Rattle.std.specs.Prelude.{ℕ, List, [], ◌∷◌, ◌++◌, replicate}
 use Rattle.hart_values.specs.Calendar.{not_set}
 use Rattle.hart_values.specs.declared.bits32.Bits32.{Bits32}

@@ -6,12 +6,12 @@ use Rattle.hart_device.specs.declared.process.Process.{Process}
 use Rattle.hart_device.specs.Answer.{answer_of, state_after}
 use Rattle.hart_device.specs.Device.{DeviceState}
 
--- The frames of a delivery are answered where there is exactly one, and otherwise met with silence.
+-- The frames of a delivery are answered if there is exactly one, and otherwise met with silence.
 abbrev pub answer_to : DeviceState → Process → List Found → Option FrameParts
 answer_to state process (found ∷ []) = answer_of state process found.frame
 answer_to state process _ = None
 
--- The state after a delivery of these frames: that after the frame where there is exactly one, and otherwise the same.
+-- The state after a delivery of these frames: that after the frame if there is exactly one, and otherwise the same.
 abbrev pub state_after_frames : DeviceState → List Found → DeviceState
 state_after_frames state (found ∷ []) = state_after state found.frame
 state_after_frames state _ = state

@@ -1,16 +1,16 @@
 -- What a contract sees of a device, and how a command changes it (HCF_SPEC-127; that Command 38 is no write, and that a write
--- counts also where the value was there already, is of the own profile).
+-- counts also if the value was there already, is of the own profile).
 use Rattle.std.specs.Prelude.{ℕ, ◌+◌, ◌%◌, ◌^◌, Bool, true, false}
 use Rattle.hart_values.specs.declared.master_id.MasterId.{MasterId}
 use Rattle.hart_values.specs.EachMaster.{with_master}
 use Rattle.hart_values.specs.declared.each_master.EachMaster.{EachMaster}
-use Rattle.hart_commands.specs.Registers.{Contents, NamedBytes, overwritten}
+use Rattle.hart_commands.specs.Registers.{Contents, Overwrite, overwritten}
 use Rattle.hart_device.specs.declared.identity_parts.IdentityParts.{IdentityParts}
 use Rattle.hart_device.specs.declared.values.RegisterValues.{RegisterValues}
 use Rattle.hart_device.specs.Values.{values_of}
 
 -- A device is who it is, what its registers hold, its configuration change counter, for each master its configuration-changed
--- bit, which is set where the configuration has changed since this master last reset it, and whether it is write protected.
+-- bit, which is set if the configuration has changed since this master last reset it, and whether it is write protected.
 pub record DeviceState : Type 0 where
   pub identity : IdentityParts
   pub contents : Contents
@@ -33,11 +33,11 @@ new_device identity values = record {
 -- master that asks.
 pub data Effect : Type 0 where
   Nothing : Effect
-  Executes : (overwrite : NamedBytes) → Effect
+  Executes : (overwrite : Overwrite) → Effect
   Resets : Effect
 
 -- An execution overwrites the registers, adds one to the counter, in which 65535 is followed by 0, and sets both masters'
--- configuration-changed bits, also where the registers held these bytes before; a reset clears the bit of the asking master
+-- configuration-changed bits, also if the registers held these bytes before; a reset clears the bit of the asking master
 -- alone; all else stays as it is.
 abbrev pub after : MasterId → Effect → DeviceState → DeviceState
 after master Nothing state = state

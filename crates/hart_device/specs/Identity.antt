@@ -9,7 +9,7 @@ use Rattle.hart_device.specs.declared.identity_parts.IdentityParts.{IdentityPart
 use Rattle.hart_device.specs.declared.fault.DeviceFault.{DeviceFault}
 use Rattle.hart_device.specs.declared.fault.DeviceFault.TheVariants.{BroadcastAddress, OutOfRange}
 
--- The parts of an identity are in range where the device id has 24 bits, a sender can put both numbers of preamble bytes, the
+-- The parts of an identity are in range if the device id has 24 bits, a sender can put both numbers of preamble bytes, the
 -- hardware revision has 5 bits and the physical signalling code has 3.
 pub record IsInRange (parts : IdentityParts) : Type 0 where
   pub device_id : parts.device_id < 2 ^ 24
@@ -22,7 +22,7 @@ pub record IsInRange (parts : IdentityParts) : Type 0 where
 abbrev pub own_numbers : IdentityParts → DeviceNumbers
 own_numbers parts = record { expanded_type = parts.expanded_device_type % 2 ^ 14; device_id = parts.device_id }
 
--- Parts are an identity where they are in range and the device's unique address is not the broadcast address.
+-- Parts are an identity if they are in range and the device's unique address is not the broadcast address.
 pub record AreIdentityParts (parts : IdentityParts) : Type 0 where
   pub in_range : IsInRange parts
   pub own_address : ¬ (Unique (own_numbers parts) ≡ broadcast)
@@ -31,6 +31,7 @@ pub record AreIdentityParts (parts : IdentityParts) : Type 0 where
 abbrev pub IsIdentityFault : IdentityParts → DeviceFault → Type 0
 IsIdentityFault parts OutOfRange = ¬ IsInRange parts
 IsIdentityFault parts BroadcastAddress = IsInRange parts × (Unique (own_numbers parts) ≡ broadcast)
+IsIdentityFault parts _ = ⊥
 
 -- A number below 65536 in two bytes, the most significant first.
 abbrev pub two_bytes : ℕ → List ℕ
@@ -40,7 +41,7 @@ two_bytes n = n / 256 ∷ n % 256 ∷ []
 abbrev pub three_bytes : ℕ → List ℕ
 three_bytes n = n / 65536 ∷ n / 256 % 256 ∷ n % 256 ∷ []
 
--- What an identity, a configuration change counter and an extended device status tell a master: the major revision of the
+-- What an identity, a configuration change counter and an extended device status say to a master: the major revision of the
 -- protocol is 7, and the hardware revision stands in the upper five bits of the byte that it shares with the signalling code.
 abbrev pub identity_content : IdentityParts → ℕ → ℕ → IdentityContent
 identity_content parts counter extended_device_status = record {

@@ -7,4 +7,7 @@ pub mod Variables
 pub mod Content
 pub mod Answer
 pub mod Delivery
+pub mod Ranges
+pub mod Image
+pub mod ImageParts
 pub mod Bench

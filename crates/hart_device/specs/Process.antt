@@ -17,6 +17,6 @@ extended_device_status process = slice_index process.additional_status 6
 abbrev pub is_any_set : List ℕ → Bool
 is_any_set bytes = list_any (λ byte. not (byte == 0)) bytes
 
--- More status is available where an additional status byte other than byte 6 is not zero.
+-- More status is available if an additional status byte other than byte 6 is not zero.
 abbrev pub has_more_status : Process → Bool
 has_more_status process = is_any_set (take 6 process.additional_status) || is_any_set (drop 7 process.additional_status)

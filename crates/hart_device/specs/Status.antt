@@ -11,19 +11,19 @@ use Rattle.hart_device.specs.Process.{has_more_status}
 abbrev pub process_bits : ℕ
 process_bits = 0x87
 
--- A bit of the device status, where something holds.
-abbrev pub bit_where : Bool → ℕ → ℕ
-bit_where holds bit = if holds then bit else 0
+-- A bit of the device status, if something holds.
+abbrev pub bit_if : Bool → ℕ → ℕ
+bit_if holds bit = if holds then bit else 0
 
--- The loop current is fixed where the loop current mode is 0.
+-- The loop current is fixed if the loop current mode is 0.
 abbrev pub is_loop_current_fixed : DeviceState → Bool
 is_loop_current_fixed state = slice_index state.contents.mode 0 == 0
 
--- Beside the bits of the process a device shows a master hex 40 where its configuration-changed bit is set,
--- 10 where more status is available, and 08 where the loop current is fixed.
+-- Beside the bits of the process a device shows a master hex 40 if its configuration-changed bit is set,
+-- 10 if more status is available, and 08 if the loop current is fixed.
 abbrev pub device_status : DeviceState → Process → MasterId → ℕ
 device_status state process master =
     bit_or (bit_or (bit_or (bit_and process.status process_bits)
-    (bit_where (of_master master state.changed) 0x40))
-    (bit_where (has_more_status process) 0x10))
-    (bit_where (is_loop_current_fixed state) 0x08)
+    (bit_if (of_master master state.changed) 0x40))
+    (bit_if (has_more_status process) 0x10))
+    (bit_if (is_loop_current_fixed state) 0x08)

@@ -45,7 +45,7 @@ variable_of_code process code =
     else if code == 245 then current_variable process
     else unwrap_or (dynamic_at process (place_of code)) missing_variable
 
--- What is told of a code that was asked: that code, and its variable.
+-- What is said of a code that was asked: that code, and its variable.
 abbrev pub variable_reading : Process → ℕ → VariableReading
 variable_reading process code =
     let variable = variable_of_code process code in

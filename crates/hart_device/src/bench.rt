@@ -1,4 +1,4 @@
-//! The bench device (own profile): the device that a program has where it is given no other.
+//! The bench device (own profile): the device that a program has if it is given no other.
 ghost use Rattle.std.specs.Prelude.{◌≡◌};
 ghost use Rattle.hart_device.specs.Bench.{bench_identity, bench_process, bench_values};
 

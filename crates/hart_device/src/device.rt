@@ -1,25 +1,26 @@
-ghost use Rattle.std.specs.Prelude.{◌≡◌, ◌≤◌, List, length, slice_index, Ok};
+ghost use Rattle.std.specs.Prelude.{◌≡◌, ◌≤◌, List, length, IsSome, IsTrue, IfSome, None, Ok, ◌↔◌};
 ghost use Rattle.hart_values.specs.EachMaster.{of_master};
 ghost use Rattle.hart_frame.specs.Frames.{AreFrames};
 ghost use Rattle.hart_frame.specs.Message.{IsPreambleCount};
 ghost use Rattle.hart_frame.specs.declared.found.Found.{Found};
-ghost use Rattle.hart_commands.specs.Registers.{bytes_in, size_of};
+ghost use Rattle.hart_commands.specs.Registers.{AreValid};
 ghost use Rattle.hart_commands.specs.ReplyData.{reply_payload};
-ghost use Rattle.hart_device.specs.Answer.{answer_of, asked_effect, content_with, is_addressed, is_answered_with, is_paired};
-ghost use Rattle.hart_device.specs.Answer.{names_another, reply_with, state_after};
-ghost use Rattle.hart_device.specs.Content.{content_told, polling_told, tag_told};
+ghost use Rattle.hart_device.specs.Answer.{answer_of, asked_effect, is_addressed, is_answered, is_answered_with, is_paired};
+ghost use Rattle.hart_device.specs.Answer.{names_another, reply_of, reply_with, state_after};
 ghost use Rattle.hart_device.specs.Delivery.{answer_to, state_after_frames};
 ghost use Rattle.hart_device.specs.Device.{after, new_device};
-ghost use Rattle.hart_device.specs.Status.{device_status};
+ghost use Rattle.hart_device.specs.Values.{values_of};
 
-use crate::status::{PROCESS_BITS, bit_where};
-use crate::told::{additional_status, classes, output_content, unit_value, unit_values};
-use crate::variables::variable_readings;
+use crate::values::values_are_valid;
 use crate::{Identity, Process, RegisterStore, RegisterValues};
-use hart_commands::{Register, Reply, ReplyContent, Request, request_code, writes_of};
+use hart_commands::{
+    Register, Reply, Request, overwrites_are_valid, request_code, requests_are_well_made, writes_of,
+};
 use hart_frame::{Char, Frame, FrameKind, LoneFrame, Payload, lone_frame};
-use hart_values::{Address, DeviceStatus, EachMaster, MasterId, PackedText, ResponseCode};
+use hart_values::{Address, EachMaster, MasterId, ResponseCode};
 use std::marker::Model;
+
+mod content;
 
 /// The command by which a master finds the device at a polling address.
 const IDENTIFY: u8 = 0;
@@ -30,7 +31,7 @@ const IDENTIFY_BY_TAG: u8 = 11;
 /// A HART field device (HCF_SPEC-081, HCF_SPEC-127), over any store of its registers.
 ///
 /// Contracts see who it is, the contents of its registers, the configuration change counter, the configuration-changed bit of
-/// each master, and whether it is write protected.
+/// each master, and whether it is write protected. Every register holds bytes that are valid in it.
 #[derive(Debug, Drop)]
 pub struct Device<S: RegisterStore> {
     identity: Identity,
@@ -41,6 +42,7 @@ pub struct Device<S: RegisterStore> {
 }
 
 impl<S: RegisterStore> Model for Device<S> {
+    ghost use Rattle.hart_commands.specs.Registers.{AreValid};
     ghost use Rattle.hart_device.specs.Device.{DeviceState};
 
     ghost Value = { DeviceState };
@@ -52,6 +54,8 @@ impl<S: RegisterStore> Model for Device<S> {
       changed = device.changed;
       protected = device.protected;
     } };
+
+    ghost invariant = { λ device. AreValid (S.contents device.registers) };
 }
 
 impl<S: RegisterStore> Device<S> {
@@ -60,15 +64,37 @@ impl<S: RegisterStore> Device<S> {
     pub fn new(identity: Identity, values: &RegisterValues) -> Self
         ensures { result ≡ new_device identity values.now }
     {
+        let changed = EachMaster {
+            primary: false,
+            secondary: false,
+        };
+        Device::restored(identity, values, 0, changed, false)
+    }
+
+    /// A device in this state.
+    pub(crate) fn restored(
+        identity: Identity,
+        values: &RegisterValues,
+        counter: u16,
+        changed: EachMaster<bool>,
+        protected: bool,
+    ) -> Self
+        ensures { result ≡ record {
+          identity = identity;
+          contents = values_of values.now;
+          counter = counter;
+          changed = changed;
+          protected = protected;
+        } }
+    {
+        // No-op: its contract says that the registers hold valid bytes.
+        values_are_valid(values);
         Device {
             identity,
             registers: S::with(values),
-            counter: 0,
-            changed: EachMaster {
-                primary: false,
-                secondary: false,
-            },
-            protected: false,
+            counter,
+            changed,
+            protected,
         }
     }
 
@@ -88,7 +114,8 @@ impl<S: RegisterStore> Device<S> {
 
     /// The store of its registers.
     pub fn registers(&self) -> &S
-        ensures { S.contents result.now ≡ self.now.contents }
+        ensures contents { S.contents result.now ≡ self.now.contents }
+        ensures valid { AreValid self.now.contents }
     {
         &self.registers
     }
@@ -131,22 +158,54 @@ impl<S: RegisterStore> Device<S> {
 
     /// What the device answers to a frame, or silence, `None`, which changes nothing.
     ///
-    /// The reply tells the state after the command.
+    /// The reply is about the state after the command.
     pub fn receive(&mut self, frame: &Frame, process: &Process) -> Option<Frame>
         ensures answer { result ≡ answer_of self.old process.now frame.now }
+        ensures state { self.new ≡ state_after self.old frame.now }
+    {
+        let mut payload = Payload::new();
+        if self.answer_into(frame, process, &mut payload) {
+            Some(frame.reply(payload))
+        } else {
+            None
+        }
+    }
+
+    /// Answers a frame as [`Device::receive`] does, with the answer written over `reply`, and says whether there is one. If
+    /// there is none, `reply` is as it was.
+    pub fn receive_into(&mut self, frame: &Frame, process: &Process, reply: &mut Frame) -> bool
+        ensures answers { IsTrue result ↔ IsSome (answer_of self.old process.now frame.now) }
+        ensures answer { IfSome (answer_of self.old process.now frame.now) (λ answer. reply.new ≡ answer) }
+        ensures silent { answer_of self.old process.now frame.now ≡ None → reply.new ≡ reply.old }
+        ensures state { self.new ≡ state_after self.old frame.now }
+    {
+        let mut payload = Payload::new();
+        let answers = self.answer_into(frame, process, &mut payload);
+        if answers {
+            reply.set_reply(frame, &payload);
+        }
+        answers
+    }
+
+    /// Whether the device answers a frame, which it carries out; the payload of the answer is then in `payload`.
+    fn answer_into(&mut self, frame: &Frame, process: &Process, payload: &mut Payload) -> bool
+        ensures answers { result ≡ is_answered self.old frame.now }
+        ensures written { IsTrue result → payload.new ≡ reply_payload (reply_of self.old process.now frame.now) }
+        ensures two { IsTrue result → 2 ≤ length payload.new }
         ensures state { self.new ≡ state_after self.old frame.now }
     {
         let reading = Request::read(frame.command(), frame.payload());
         let code = request_code(frame.command(), &reading, self.protected, self.counter);
         if !self.answers(frame, &reading, code) {
-            return None;
+            return false;
         }
         if code == ResponseCode::SUCCESS
             && let Ok(request) = &reading
         {
             self.execute(frame.master(), request);
         }
-        Some(frame.reply(self.payload(frame, process, &reading, code)))
+        self.write_payload(frame, process, &reading, code, payload);
+        true
     }
 
     /// Whether the device answers a frame that is read so and has this code.
@@ -202,6 +261,9 @@ impl<S: RegisterStore> Device<S> {
         ensures { self.new ≡ after master (asked_effect (Ok request.now)) self.old }
     {
         if let Some(overwrite) = writes_of(request) {
+            // No-ops: their contracts say that the registers go on holding valid bytes.
+            requests_are_well_made(request);
+            overwrites_are_valid();
             self.registers.overwrite(&overwrite);
             self.counter = self.counter.wrapping_add(1);
             self.changed = EachMaster {
@@ -213,16 +275,17 @@ impl<S: RegisterStore> Device<S> {
         }
     }
 
-    /// The payload of the reply to a frame that is read so and has this code.
-    fn payload(
+    /// Replaces `payload` by that of the reply to a frame that is read so and has this code.
+    fn write_payload(
         &self,
         frame: &Frame,
         process: &Process,
         reading: &Result<Request, ResponseCode>,
         code: ResponseCode,
-    ) -> Payload
-        ensures written { result ≡ reply_payload (reply_with self.now process.now frame.now reading.now code) }
-        ensures two { 2 ≤ length result }
+        payload: &mut Payload,
+    )
+        ensures written { payload.new ≡ reply_payload (reply_with self.now process.now frame.now reading.now code) }
+        ensures two { 2 ≤ length payload.new }
     {
         let reply = Reply {
             command: frame.command(),
@@ -230,117 +293,6 @@ impl<S: RegisterStore> Device<S> {
             status: self.status(process, frame.master()),
             content: self.content(process, reading, code),
         };
-        let mut payload = Payload::new();
-        reply.write(&mut payload);
-        payload
-    }
-
-    /// What the device shows this master of its state.
-    fn status(&self, process: &Process, master: MasterId) -> DeviceStatus
-        ensures { result.0 ≡ device_status self.now process.now master }
-    {
-        let changed = bit_where(self.changed(master), DeviceStatus::CONFIGURATION_CHANGED);
-        let more = bit_where(
-            process.has_more_status(),
-            DeviceStatus::MORE_STATUS_AVAILABLE,
-        );
-        let is_fixed = self.byte(Register::Mode) == 0;
-        let fixed = bit_where(is_fixed, DeviceStatus::LOOP_CURRENT_FIXED);
-        DeviceStatus((process.status & PROCESS_BITS) | changed | more | fixed)
-    }
-
-    /// What a reply with this code tells, where the request is read so.
-    fn content(
-        &self,
-        process: &Process,
-        reading: &Result<Request, ResponseCode>,
-        code: ResponseCode,
-    ) -> ReplyContent
-        ensures { result ≡ content_with self.now process.now reading.now code }
-    {
-        match reading {
-            Ok(request) if code == ResponseCode::SUCCESS => self.told(process, request),
-            _ => ReplyContent::Refused,
-        }
-    }
-
-    /// What the device tells in answer to a request.
-    fn told(&self, process: &Process, request: &Request) -> ReplyContent
-        ensures { result ≡ content_told self.now process.now request.now }
-    {
-        let extended_device_status = process.extended_device_status();
-        match request {
-            Request::Identify | Request::IdentifyByTag(_) => ReplyContent::Identity(
-                self.identity.content(self.counter, extended_device_status),
-            ),
-            Request::ReadPrimary => ReplyContent::Primary(unit_value(&process.first)),
-            Request::ReadCurrent => ReplyContent::Current {
-                loop_current: process.loop_current,
-                percent_of_range: process.percent_of_range,
-            },
-            Request::ReadDynamic => ReplyContent::Dynamic {
-                loop_current: process.loop_current,
-                values: unit_values(process),
-            },
-            Request::SetPolling { .. } | Request::ReadPolling => self.polling(),
-            Request::ReadClasses => ReplyContent::Classes(classes(process)),
-            Request::ReadVariables(codes) => ReplyContent::Variables {
-                extended_device_status,
-                variables: variable_readings(process, codes),
-                time_stamp: process.time_stamp,
-            },
-            Request::ReadMessage | Request::WriteMessage(_) => {
-                ReplyContent::Message(PackedText::from_bytes(self.bytes(Register::Message)))
-            }
-            Request::ReadTag | Request::WriteTag { .. } => self.tag(),
-            Request::ReadSensor => ReplyContent::Sensor(process.sensor),
-            Request::ReadOutput => {
-                ReplyContent::Output(output_content(&process.output, self.protected))
-            }
-            Request::ReadAssembly | Request::WriteAssembly(_) => {
-                ReplyContent::Assembly(self.bytes(Register::Assembly))
-            }
-            Request::ResetChanged(_) => ReplyContent::Counter(self.counter.to_be_bytes()),
-            Request::ReadMore => ReplyContent::More(additional_status(process)),
-        }
-    }
-
-    /// The polling address and the loop current mode that the registers hold.
-    fn polling(&self) -> ReplyContent
-        ensures { result ≡ polling_told self.now }
-    {
-        ReplyContent::Polling {
-            address: self.byte(Register::Polling),
-            mode: self.byte(Register::Mode),
-        }
-    }
-
-    /// The tag, the descriptor and the date that the registers hold.
-    fn tag(&self) -> ReplyContent
-        ensures { result ≡ tag_told self.now }
-    {
-        ReplyContent::Tag {
-            tag: PackedText::from_bytes(self.bytes(Register::Tag)),
-            descriptor: PackedText::from_bytes(self.bytes(Register::Descriptor)),
-            date: self.bytes(Register::Date),
-        }
-    }
-
-    /// The bytes of a register that has `N` bytes.
-    fn bytes<const N: usize>(&self, register: Register) -> [u8; N]
-        requires { size_of register ≡ N }
-        ensures { result ≡ bytes_in self.now.contents register }
-    {
-        let mut bytes = [0; N];
-        bytes.copy_from_slice(self.registers.get(register));
-        bytes
-    }
-
-    /// The byte of a register that has one.
-    fn byte(&self, register: Register) -> u8
-        requires { size_of register ≡ 1 }
-        ensures { result ≡ slice_index (bytes_in self.now.contents register) 0 }
-    {
-        self.registers.get(register)[0]
+        reply.write(payload);
     }
 }

@@ -69,7 +69,7 @@ impl RegisterStore for FieldRegisters {
     }
 }
 
-/// Gives a register other bytes, where there are any.
+/// Gives a register other bytes, if there are any.
 fn replace(register: &mut [u8], bytes: Option<&[u8]>)
     requires { IfSome bytes (λ bytes. length bytes.now ≡ length register.old) }
     ensures { register.new ≡ unwrap_or (option_map (λ bytes. bytes.now) bytes.entry) register.old }

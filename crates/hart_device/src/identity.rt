@@ -37,8 +37,8 @@ impl Identity {
     ///
     /// # Errors
     ///
-    /// [`DeviceFault::OutOfRange`] where the device id is above 16,777,215, a number of preamble bytes is outside 5 to 20, the
-    /// hardware revision is above 31 or the signalling code is above 7; then [`DeviceFault::BroadcastAddress`] where the lower
+    /// [`DeviceFault::OutOfRange`] if the device id is above 16,777,215, a number of preamble bytes is outside 5 to 20, the
+    /// hardware revision is above 31 or the signalling code is above 7; then [`DeviceFault::BroadcastAddress`] if the lower
     /// 14 bits of the type and the device id are all zero.
     pub fn new(parts: IdentityParts) -> Result<Self, DeviceFault>
         ensures accepted { IsOk result ↔ AreIdentityParts parts }
@@ -69,7 +69,7 @@ impl Identity {
         self.parts.response_preambles
     }
 
-    /// What the identity, this configuration change counter and this extended device status tell a master.
+    /// What the identity, this configuration change counter and this extended device status say to a master.
     pub(crate) fn content(&self, counter: u16, extended_device_status: u8) -> IdentityContent
         ensures { result ≡ identity_content self.now counter extended_device_status }
     {

@@ -1,13 +1,18 @@
 //! Laws over the definitions alone, for the crates above.
-ghost use Rattle.std.specs.Prelude.{◌≡◌, ◌≢◌, ℕ, false, true, List, [], ◌∷◌, ◌++◌, Contains, Ok, Option, None, Some, IfSome, slice_get, unwrap_or};
+ghost use Rattle.std.specs.Prelude.{◌≡◌, ◌≢◌, ℕ, false, true, Ok, Option, None, Some, IfSome, unwrap_or};
+ghost use Rattle.std.specs.Prelude.{List, [], ◌∷◌, ◌++◌, Contains, slice_get};
 ghost use Rattle.hart_frame.specs.FrameParts.{FrameParts, reply_parts};
-ghost use Rattle.hart_commands.specs.Registers.{Contents, NamedBytes, bytes_in, last_named, overwrite_of, overwritten, registers_of};
+ghost use Rattle.hart_commands.specs.Registers.{Contents, Overwrite, bytes_in, last_named, overwrite_of, overwritten, registers_of};
 ghost use Rattle.hart_commands.specs.declared.register.Register.{Register};
 ghost use Rattle.hart_commands.specs.declared.request.Request.{Request};
 ghost use Rattle.hart_commands.specs.declared.request.Request.TheVariants.{ResetChanged};
 ghost use Rattle.hart_device.specs.Answer.{answer_of, code_of, effect_of, is_answered, reading_of, state_after};
+ghost use Rattle.hart_device.specs.declared.fault.DeviceFault.{DeviceFault};
 ghost use Rattle.hart_device.specs.declared.process.Process.{Process};
 ghost use Rattle.hart_device.specs.Device.{DeviceState, Nothing, Executes, Resets};
+ghost use Rattle.hart_device.specs.Image.{IsImageOf, IsImageFault};
+
+use hart_commands::all_registers_are_listed_once;
 
 /// A command that is refused, or not answered, has no effect, and leaves the device as it is.
 pub fn refused_commands_change_nothing()
@@ -36,11 +41,11 @@ pub fn frames_leave_identity_and_protection()
 
 /// A configuration write that is answered with code 0 executes its own overwrite, and nothing else executes one.
 pub fn writes_execute_their_overwrite()
-    ensures executes { (state : DeviceState) (frame : FrameParts) (request : Request) (overwrite : NamedBytes)
+    ensures executes { (state : DeviceState) (frame : FrameParts) (request : Request) (overwrite : Overwrite)
         → is_answered state frame ≡ true → code_of state frame ≡ 0
         → reading_of frame ≡ Ok request → overwrite_of request ≡ Some overwrite
         → effect_of state frame ≡ Executes overwrite }
-    ensures only { (state : DeviceState) (frame : FrameParts) (overwrite : NamedBytes)
+    ensures only { (state : DeviceState) (frame : FrameParts) (overwrite : Overwrite)
         → effect_of state frame ≡ Executes overwrite
         → (is_answered state frame ≡ true) × (code_of state frame ≡ 0)
         × (request : Request) × (reading_of frame ≡ Ok request) × (overwrite_of request ≡ Some overwrite) }
@@ -59,21 +64,47 @@ pub fn resets_name_this_counter()
 
 /// An overwrite, another and the first again leave what the other and then the first leave.
 pub fn overwrites_absorb()
-    ensures { (first other : NamedBytes) (old : Contents)
+    ensures { (first other : Overwrite) (old : Contents)
         → overwritten first (overwritten other (overwritten first old)) ≡ overwritten first (overwritten other old) }
 {}
 
-/// The registers of a list of overwrites are made from its front, and from its end; and an overwrite that comes again later
-/// changes nothing.
+/// The registers of a list of overwrites are those that its first one and then the others leave, and those that the others and
+/// then its last one leave; and an overwrite that comes again later changes nothing.
 pub fn registers_of_lists()
-    ensures each { (overwrites : List NamedBytes) (initial : Contents) (register : Register)
+    ensures each { (overwrites : List Overwrite) (initial : Contents) (register : Register)
         → bytes_in (registers_of overwrites initial) register
         ≡ unwrap_or (last_named overwrites register) (bytes_in initial register) }
     ensures none { (initial : Contents) → registers_of [] initial ≡ initial }
-    ensures first { (overwrite : NamedBytes) (later : List NamedBytes) (initial : Contents)
+    ensures first { (overwrite : Overwrite) (later : List Overwrite) (initial : Contents)
         → registers_of (overwrite ∷ later) initial ≡ registers_of later (overwritten overwrite initial) }
-    ensures last { (overwrites : List NamedBytes) (overwrite : NamedBytes) (initial : Contents)
+    ensures last { (overwrites : List Overwrite) (overwrite : Overwrite) (initial : Contents)
         → registers_of (overwrites ++ overwrite ∷ []) initial ≡ overwritten overwrite (registers_of overwrites initial) }
-    ensures again { (overwrite : NamedBytes) (later : List NamedBytes) (initial : Contents)
+    ensures again { (overwrite : Overwrite) (later : List Overwrite) (initial : Contents)
         → Contains later overwrite → registers_of (overwrite ∷ later) initial ≡ registers_of later initial }
 {}
+
+/// An image has no fault.
+pub fn images_have_no_fault()
+    ensures { (state : DeviceState) (image : List ℕ) (fault : DeviceFault)
+        → IsImageOf state image → IsImageFault image fault → ⊥ }
+{
+    // No-op: its contract says that the list has every register.
+    all_registers_are_listed_once();
+}
+
+/// Bytes that are no image have one fault.
+pub fn bytes_have_one_image_fault()
+    ensures { (image : List ℕ) (fault other : DeviceFault)
+        → IsImageFault image fault → IsImageFault image other → fault ≡ other }
+{}
+
+/// A device's state has one image, and an image is of one state of a device.
+pub fn images_have_one_state()
+    ensures one_image { (state : DeviceState) (image other : List ℕ)
+        → IsImageOf state image → IsImageOf state other → image ≡ other }
+    ensures one_state { (state other : DeviceState) (image : List ℕ)
+        → IsImageOf state image → IsImageOf other image → state.identity ≡ other.identity → state ≡ other }
+{
+    // No-op: its contract says that the list has every register.
+    all_registers_are_listed_once();
+}

@@ -22,13 +22,17 @@ pub mod bench;
 mod device;
 mod fault;
 mod field_registers;
+mod flags;
 mod identity;
 mod identity_parts;
+mod image;
+mod image_registers;
 mod laws;
 mod process;
+mod process_content;
+mod ranges;
 mod registers;
 mod status;
-mod told;
 mod values;
 mod variables;
 
@@ -37,8 +41,11 @@ pub use fault::DeviceFault;
 pub use field_registers::FieldRegisters;
 pub use identity::Identity;
 pub use identity_parts::IdentityParts;
+pub use image::Image;
+pub use image_registers::ImageRegisters;
 pub use laws::{
-    answers_tell_their_code, frames_leave_identity_and_protection, overwrites_absorb,
+    answers_tell_their_code, bytes_have_one_image_fault, frames_leave_identity_and_protection,
+    images_have_no_fault, images_have_one_state, overwrites_absorb,
     refused_commands_change_nothing, registers_of_lists, resets_name_this_counter,
     writes_execute_their_overwrite,
 };

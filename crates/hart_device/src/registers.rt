@@ -26,3 +26,13 @@ pub trait RegisterStore {
         ensures { (register : Register) → bytes_in (contents self.new) register
             ≡ unwrap_or (named_in overwrite.now register) (bytes_in (contents self.old) register) };
 }
+
+/// The bytes of a register that has `N` bytes.
+pub(crate) fn bytes_of<S: RegisterStore, const N: usize>(store: &S, register: Register) -> [u8; N]
+    requires { size_of register ≡ N }
+    ensures { result ≡ bytes_in (S.contents store.now) register }
+{
+    let mut bytes = [0; N];
+    bytes.copy_from_slice(store.get(register));
+    bytes
+}

@@ -1,6 +1,6 @@
 //! The device status, the second status byte of a reply (HCF_SPEC-099).
 ghost use Rattle.std.specs.Prelude.{◌≡◌};
-ghost use Rattle.hart_device.specs.Status.{bit_where};
+ghost use Rattle.hart_device.specs.Status.{bit_if};
 
 use hart_values::DeviceStatus;
 
@@ -10,9 +10,9 @@ pub(crate) const PROCESS_BITS: u8 = DeviceStatus::DEVICE_MALFUNCTION
     | DeviceStatus::NON_PRIMARY_VARIABLE_OUT_OF_LIMITS
     | DeviceStatus::PRIMARY_VARIABLE_OUT_OF_LIMITS;
 
-/// A bit, where something holds.
-pub(crate) fn bit_where(holds: bool, bit: u8) -> u8
-    ensures { result ≡ bit_where holds bit }
+/// A bit, if something holds.
+pub(crate) fn bit_if(holds: bool, bit: u8) -> u8
+    ensures { result ≡ bit_if holds bit }
 {
     if holds { bit } else { 0 }
 }

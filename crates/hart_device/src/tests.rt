@@ -4,6 +4,8 @@ use hart_frame::{Char, Frame, Payload};
 use hart_values::{Address, LoopMode, MasterId, PackedText, PollingAddress};
 use std::test::Fail;
 
+mod images;
+
 /// The payload of the reply to Command 0, before anything is counted.
 const IDENTITY: &[u8] = &[
     0x00, 0x00, 0xFE, 0x37, 0x42, 0x05, 0x07, 0x01, 0x02, 0x18, 0x00, 0x0A, 0x1B, 0x2C, 0x05, 0x04,
@@ -286,13 +288,16 @@ fn identities_are_refused(rt: HostRuntime) {
 const FAULTS: &[(DeviceFault, &str)] = &[
     (DeviceFault::BroadcastAddress, "broadcast address"),
     (DeviceFault::OutOfRange, "out of range"),
+    (DeviceFault::BadVersion, "bad image: version"),
+    (DeviceFault::BadLength, "bad image: length"),
+    (DeviceFault::BadField, "bad image: field"),
 ];
 
 #[test]
 fn faults_have_texts(rt: HostRuntime) -> Result<(), Fail> {
     for (fault, text) in FAULTS {
-        let told = fault.to_string(rt.alloc())?;
-        assert_eq!(rt; told.as_str(), *text);
+        let written = fault.to_string(rt.alloc())?;
+        assert_eq!(rt; written.as_str(), *text);
     }
     Ok(())
 }

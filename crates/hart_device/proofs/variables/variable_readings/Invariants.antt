@@ -4,6 +4,6 @@ use Rattle.hart_device.proofs.variables.variable_readings.Given as goal
 
 abbrev pub invariant-loop-code : goal.invariant-loop-code
 invariant-loop-code l = record {
-  told : l.readings ≡ map (variable_reading l.process) (take l.code-index l.code-items);
+  so_far : l.readings ≡ map (variable_reading l.process) (take l.code-index l.code-items);
   room : length l.readings ≡ l.code-index;
 }

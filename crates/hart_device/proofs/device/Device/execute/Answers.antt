@@ -1,12 +1,12 @@
 use Rattle.std.proofs.Common.{◌≡◌, sym}
 use Rattle.hart_commands.specs.Registers.{overwritten}
 use Rattle.hart_device.proofs.EffectLemmas.{write_executes}
-use Rattle.hart_device.proofs.RegistersLemmas.{contents_told}
+use Rattle.hart_device.proofs.RegistersLemmas.{contents_determined}
 use Rattle.hart_device.proofs.device.Device.execute.Goals as goal
 
 pub returns-in-Some : goal.returns-in-Some
 returns-in-Some g c =
     let old = g.S.RegisterStore.contents c.self.inside.registers in
     let contents : g.S.RegisterStore.contents c.overwrite.new.self ≡ overwritten c.in-Some.overwrite old =
-    contents_told _ _ c.overwrite.ensures in
+    contents_determined _ _ c.overwrite.ensures in
     rw (write_executes c.args.request.now c.in-Some.overwrite (sym c.in-Some.ensures), contents, ← c.self.view_is)

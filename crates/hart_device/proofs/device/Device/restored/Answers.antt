@@ -1,7 +1,7 @@
 use Rattle.std.proofs.Common.{◌≡◌}
 use Rattle.hart_device.specs.Values.{values_of}
 use Rattle.hart_device.proofs.RegistersLemmas.{same_contents}
-use Rattle.hart_device.proofs.device.Device.new.Goals as goal
+use Rattle.hart_device.proofs.device.Device.restored.Goals as goal
 
 pub returns : goal.returns
 returns g c =

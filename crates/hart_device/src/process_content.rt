@@ -1,4 +1,4 @@
-//! What a device tells of its process (HCF_SPEC-127).
+//! What a reply says of the device's process (HCF_SPEC-127).
 ghost use Rattle.std.specs.Prelude.{◌≡◌, [], ◌∷◌, map};
 ghost use Rattle.hart_device.specs.Content.{unit_value, class_at, output_content};
 ghost use Rattle.hart_device.specs.Process.{dynamic_variables};
@@ -45,7 +45,7 @@ pub(crate) fn classes(process: &Process) -> [u8; 4]
     ]
 }
 
-/// The classification of the dynamic variable at a place, 0 where there is none.
+/// The classification of the dynamic variable at a place, 0 if there is none.
 fn class_at(process: &Process, place: u8) -> u8
     ensures { result ≡ class_at process.now place }
 {

@@ -1,0 +1,48 @@
+-- Writing registers into an array, one after another.
+use Rattle.std.proofs.Common.{◌≡◌, ℕ, ◌-◌, ◌<◌, ◌≤◌, ◌⊎◌, inl, inr, ap, ◌∙◌, subst, arith}
+use Rattle.std.proofs.Common.{List, length, take, drop, nat_lt, if◌then◌else◌, Option, unwrap_or}
+use Rattle.std.specs.List.{Contains, slice_index_or, slice_range}
+use Rattle.std.proofs.lemmas.Bool.Decides.{nat_tests}
+use Rattle.std.proofs.lemmas.List.{get_or_default}
+use Rattle.std.proofs.lemmas.Slice.{between_is, take-put_mid_below, drop-put_mid}
+use borrow.Rule.Slice.PartMut.{put_mid}
+use Rattle.hart_commands.specs.Registers.{registers}
+use Rattle.hart_commands.specs.declared.register.Register.{Register}
+use Rattle.hart_commands.specs.declared.register.Register.TheVariants.{Polling}
+use Rattle.hart_device.specs.Ranges.{standing_for}
+
+-- What is written in a range stays out of every range that lies apart from it.
+pub kept_apart : (array bytes : List ℕ) (start end other_start other_end : ℕ) → start ≤ end → end ≤ length array
+    → length bytes ≡ end - start → other_start ≤ other_end → (end ≤ other_start) ⊎ (other_end ≤ start)
+    → slice_range (put_mid start (end - start) array bytes) other_start other_end ≡ slice_range array other_start other_end
+kept_apart array bytes start end from to order fits size other (inl after) =
+    ap (take (to - from)) (drop-put_mid start (end - start) array bytes from (omega arith) (omega arith) size)
+kept_apart array bytes start end from to order fits size other (inr before) =
+    rw (between_is (put_mid start (end - start) array bytes) from to, between_is array from to)
+    (ap (drop from) (take-put_mid_below start (end - start) array bytes to before (omega arith)))
+
+-- The register at a place of the list.
+abbrev pub register_at : ℕ → Register
+register_at place = slice_index_or registers place Polling
+
+-- A register holds what it is given, if anything, and otherwise what it held.
+abbrev pub given_to : (Register → Option (List ℕ)) → List ℕ → Register → List ℕ
+given_to given old register = unwrap_or (given register) (standing_for register old)
+
+-- The registers before a place of the list have been written, and the others not yet.
+abbrev pub AreWrittenBefore : ℕ → (Register → Option (List ℕ)) → List ℕ → List ℕ → Type 0
+AreWrittenBefore place given old now = (k : ℕ) → k < length registers
+    → standing_for (register_at k) now
+    ≡ (if nat_lt k place then given_to given old (register_at k) else standing_for (register_at k) old)
+
+-- All of them have been written at the end of the list.
+pub all_written : (given : Register → Option (List ℕ)) (old now : List ℕ) (place : ℕ) → length registers ≤ place
+    → ((register : Register) → Contains registers register) → AreWrittenBefore place given old now
+    → (register : Register) → standing_for register now ≡ given_to given old register
+all_written given old now place end every before register =
+    let listed = every register in
+    let same : register_at listed.0 ≡ register = get_or_default registers listed.0 Polling register listed.1 ∙ listed.2 in
+    let held = before listed.0 listed.1 in
+    let is : standing_for (register_at listed.0) now ≡ given_to given old (register_at listed.0) =
+    grind (arith, nat_tests, held) in
+    subst (λ (r : Register). standing_for r now ≡ given_to given old r) same is

@@ -1,0 +1,14 @@
+use Rattle.std.proofs.Common.{Result, Ok, Err, IsOk, IsErr}
+use Rattle.hart_device.proofs.device.Device.from_image.Goals as goal
+
+not_both : {A E : Type 0} (result : Result A E) → IsErr result → IsOk result → ⊥
+not_both (Ok x) err ok = cc
+not_both (Err e) err ok = cc
+
+pub returns-in_err-parts-clause-accepted : goal.returns-in_err-parts-clause-accepted
+returns-in_err-parts-clause-accepted g c =
+    let err = c.from_residual.ensures.0 in (
+      (λ ok. absurd (not_both _ err ok)),
+      λ image.
+          absurd (c.images_have_no_fault.ensures image.0 c.args.image.now c.in_err-parts.field-0.0 image.1 c.in_err-parts.ensures.refused),
+    )

@@ -1,0 +1,5 @@
+use Rattle.hart_device.proofs.ImageLemmas.{one_fault}
+use Rattle.hart_device.proofs.laws.bytes_have_one_image_fault.Goals as goal
+
+pub returns : goal.returns
+returns c = one_fault

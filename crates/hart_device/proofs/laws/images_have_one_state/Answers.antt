@@ -1,0 +1,5 @@
+use Rattle.hart_device.proofs.ImageLemmas.{one_state}
+use Rattle.hart_device.proofs.laws.images_have_one_state.Goals as goal
+
+pub returns-clause-one_state : goal.returns-clause-one_state
+returns-clause-one_state c = λ state other image. one_state state other image c.all_registers_are_listed_once.ensures.every

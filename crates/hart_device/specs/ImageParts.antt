@@ -1,0 +1,15 @@
+-- What is read of an image.
+use Rattle.hart_device.specs.declared.identity_parts.IdentityParts.{IdentityParts}
+use Rattle.hart_device.specs.declared.image.ImageParts.{ImageParts}
+use Rattle.hart_device.specs.Device.{DeviceState}
+use Rattle.hart_device.specs.Values.{values_of}
+
+-- The state of a device with this identity and these parts.
+abbrev pub state_with : IdentityParts → ImageParts → DeviceState
+state_with identity parts = record {
+  identity = identity;
+  contents = values_of parts.values;
+  counter = parts.counter;
+  changed = parts.flags.changed;
+  protected = parts.flags.protected;
+}

@@ -1,0 +1,109 @@
+ghost use Rattle.std.specs.Prelude.{◌≡◌, ◌≢◌, ◌↔◌, IsSome, IfSome, IfNone, [], ◌∷◌, length};
+ghost use Rattle.hart_commands.specs.Registers.{IsValidIn, registers, size_of};
+ghost use Rattle.hart_commands.specs.RequestData.{mode_byte};
+ghost use Rattle.hart_commands.specs.declared.register.Register.{Register};
+ghost use Rattle.hart_commands.specs.declared.register.Register.TheVariants.{Polling, Mode};
+ghost use Rattle.hart_device.specs.Image.{HasBadRegister};
+ghost use Rattle.hart_device.specs.Ranges.{contents_in, standing_for};
+ghost use Rattle.hart_device.specs.Values.{values_of};
+
+use crate::ranges::{ARRAY_LEN, range_of, ranges_fill_the_array};
+use crate::registers::bytes_of;
+use crate::{RegisterStore, RegisterValues};
+use hart_commands::{Overwrite, Register, all_registers_are_listed_once};
+use hart_values::{HartDate, LoopMode, PackedText, PollingAddress};
+
+/// Registers that lie one after the other in one array, in the order of an image.
+#[derive(Clone, Copy, Debug, PartialEq, Eq)]
+pub struct ImageRegisters {
+    pub(crate) bytes: [u8; ARRAY_LEN],
+}
+
+impl RegisterStore for ImageRegisters {
+    ghost contents = { λ store. contents_in store.bytes };
+
+    fn with(values: &RegisterValues) -> Self {
+        // No-op: its contract says that each register is written once.
+        all_registers_are_listed_once();
+        let mut store = ImageRegisters {
+            bytes: [0; ARRAY_LEN],
+        };
+        for register in Register::ALL {
+            store.write(register, values.get(register));
+        }
+        store
+    }
+
+    fn get(&self, register: Register) -> &[u8] {
+        let range = range_of(register);
+        &self.bytes[range.start..range.end]
+    }
+
+    fn overwrite(&mut self, overwrite: &Overwrite) {
+        // No-op: its contract says that each register is written once.
+        all_registers_are_listed_once();
+        for register in Register::ALL {
+            if let Some(bytes) = overwrite.get(register) {
+                self.write(register, bytes);
+            }
+        }
+    }
+}
+
+impl ImageRegisters {
+    /// The values of the registers, or `None` if one of them holds bytes that are not valid in it.
+    pub(crate) fn values(&self) -> Option<RegisterValues>
+        ensures kept { IfSome result (λ values. values_of values ≡ contents_in self.now.bytes) }
+        ensures refused { IfNone result (HasBadRegister registers self.now.bytes) }
+    {
+        // No-op: its contract says that the list has every register.
+        all_registers_are_listed_once();
+        let polling = polling_in(self.get(Register::Polling))?;
+        let mode = mode_in(self.get(Register::Mode))?;
+        let date = HartDate::from_bytes(bytes_of(self, Register::Date)).ok()?;
+        Some(RegisterValues {
+            polling,
+            mode,
+            message: PackedText::from_bytes(bytes_of(self, Register::Message)),
+            tag: PackedText::from_bytes(bytes_of(self, Register::Tag)),
+            descriptor: PackedText::from_bytes(bytes_of(self, Register::Descriptor)),
+            date,
+            assembly: bytes_of(self, Register::Assembly),
+        })
+    }
+
+    /// Gives a register other bytes.
+    fn write(&mut self, register: Register, bytes: &[u8])
+        requires { length bytes.now ≡ size_of register }
+        ensures written { standing_for register self.new.bytes ≡ bytes.now }
+        ensures others { (other : Register) → other ≢ register
+            → standing_for other self.new.bytes ≡ standing_for other self.old.bytes }
+    {
+        // No-op: its contract says that the ranges lie apart.
+        ranges_fill_the_array();
+        let range = range_of(register);
+        self.bytes[range.start..range.end].copy_from_slice(bytes);
+    }
+}
+
+/// The polling address in the byte of its register, if that is valid.
+fn polling_in(bytes: &[u8]) -> Option<PollingAddress>
+    requires { length bytes.now ≡ size_of Polling }
+    ensures valid { IsSome result ↔ IsValidIn Polling bytes.now }
+    ensures kept { IfSome result (λ address. address ∷ [] ≡ bytes.now) }
+{
+    PollingAddress::new(bytes[0]).ok()
+}
+
+/// The loop current mode in the byte of its register, if that is valid.
+fn mode_in(bytes: &[u8]) -> Option<LoopMode>
+    requires { length bytes.now ≡ size_of Mode }
+    ensures valid { IsSome result ↔ IsValidIn Mode bytes.now }
+    ensures kept { IfSome result (λ mode. mode_byte mode ∷ [] ≡ bytes.now) }
+{
+    match bytes[0] {
+        0 => Some(LoopMode::Disabled),
+        1 => Some(LoopMode::Enabled),
+        _ => None,
+    }
+}
