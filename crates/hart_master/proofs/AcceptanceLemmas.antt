@@ -19,7 +19,7 @@ IsAlone chars found = AreFrames chars 0 (found ∷ [])
 abbrev pub NoOther : List Character → Found → Type 0
 NoOther chars found = (other : Found) → IsAlone chars other → other ≡ found
 
--- a frame that is told to be alone is the only one
+-- a frame that is known to be alone is the only one
 pub no_other : (chars : List Character) (found : Found)
     → ((frames : List Found) → AreFrames chars 0 frames → Alone found ≡ lone_of frames) → NoOther chars found
 no_other chars found only other alone = same (only (other ∷ []) alone)

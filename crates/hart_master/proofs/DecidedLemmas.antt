@@ -87,30 +87,30 @@ answers_decided id address request frame =
     answers_from id address request frame (kind_decided frame.kind) (expansion_decided frame.expansion)
     (master_decided frame.master id) (address_decided frame.address address) (number_decided frame.command (command_of request))
 
-told_decided : (read : Option Reply) → OneOrNone (λ reply. read ≡ Some reply)
-told_decided None = inr (λ reply is. cc)
-told_decided (Some reply) = inl (reply, refl)
+reading_decided : (read : Option Reply) → OneOrNone (λ reply. read ≡ Some reply)
+reading_decided None = inr (λ reply is. cc)
+reading_decided (Some reply) = inl (reply, refl)
 
 -- and is a reply or none
 reply_from : (id : MasterId) (address : Address) (request : Request) (frame : FrameParts)
     → Decided (Answers id address request frame) → OneOrNone (λ reply. reply_reading frame.command frame.payload ≡ Some reply)
     → OneOrNone (IsReplyTo id address request frame)
-reply_from id address request frame (inl answers) (inl told) = inl (told.0, record { answers = answers; told = told.1 })
+reply_from id address request frame (inl answers) (inl one) = inl (one.0, record { answers = answers; read = one.1 })
 reply_from id address request frame (inr other) _ = inr (λ reply is_reply. other is_reply.answers)
-reply_from id address request frame _ (inr nothing) = inr (λ reply is_reply. nothing reply is_reply.told)
+reply_from id address request frame _ (inr nothing) = inr (λ reply is_reply. nothing reply is_reply.read)
 
 pub reply_decided : (id : MasterId) (address : Address) (request : Request) (frame : FrameParts)
     → OneOrNone (IsReplyTo id address request frame)
 reply_decided id address request frame =
     reply_from id address request frame (answers_decided id address request frame)
-    (told_decided (reply_reading frame.command frame.payload))
+    (reading_decided (reply_reading frame.command frame.payload))
 
 -- so a delivery with that frame alone is accepted as that reply, or as none
 decided_alone : (id : MasterId) (address : Address) (request : Request) (chars : List Character) (found : Found)
     → IsAlone chars found → NoOther chars found → OneOrNone (IsReplyTo id address request found.frame)
     → OneOrNone (IsAccepted id address request chars)
-decided_alone id address request chars found alone no_other (inl told) =
-    inl (told.0, record { found = found; alone = alone; is_reply = told.1 })
+decided_alone id address request chars found alone no_other (inl one) =
+    inl (one.0, record { found = found; alone = alone; is_reply = one.1 })
 decided_alone id address request chars found alone no_other (inr nothing) =
     inr (λ reply accepted. nothing reply (IsReplyTo-alone id address request chars found reply no_other accepted))
 

@@ -13,7 +13,7 @@ use Rattle.hart_commands.specs.ReplyData.{reply_reading}
 use Rattle.hart_commands.specs.declared.request.Request.{Request}
 use Rattle.hart_commands.specs.declared.reply.Reply.{Reply}
 
--- A frame answers a request that a master sends to an address where it is an ACK without expansion bytes, with this master's
+-- A frame answers a request that a master sends to an address if it is an ACK without expansion bytes, with this master's
 -- bit, this address and the command of the request; the burst bit is not looked at.
 pub record Answers (id : MasterId) (address : Address) (request : Request) (frame : FrameParts) : Type 0 where
   pub kind : frame.kind ≡ Ack
@@ -22,12 +22,12 @@ pub record Answers (id : MasterId) (address : Address) (request : Request) (fram
   pub sender : frame.address ≡ address
   pub command : frame.command ≡ command_of request
 
--- A frame that answers is the reply that its payload is read as, and none where it is read as none, as with communication faults.
+-- A frame that answers is the reply that its payload is read as, and none if it is read as none, as with communication faults.
 pub record IsReplyTo (id : MasterId) (address : Address) (request : Request) (frame : FrameParts) (reply : Reply) : Type 0 where
   pub answers : Answers id address request frame
-  pub told : reply_reading frame.command frame.payload ≡ Some reply
+  pub read : reply_reading frame.command frame.payload ≡ Some reply
 
--- A delivery is accepted as a reply where its frames are one alone, and this one is that reply.
+-- A delivery is accepted as a reply if its frames are one alone, and this one is that reply.
 pub record IsAccepted (id : MasterId) (address : Address) (request : Request) (delivery : List Character) (reply : Reply) : Type 0 where
   pub found : Found
   pub alone : AreFrames delivery 0 (found ∷ [])

@@ -24,7 +24,7 @@ pub record MasterState : Type 0 where
   pub reply_limit : ℕ
   pub hand : Hand
 
--- How often the request in hand was sent; 0 where there is none.
+-- How often the request in hand was sent; 0 if there is none.
 abbrev pub sendings_of : Hand → ℕ
 sendings_of Empty = 0
 sendings_of (ToSend transaction) = transaction.sendings
@@ -37,7 +37,7 @@ IsWithin retries Empty = Unit {0}
 IsWithin retries (ToSend transaction) = transaction.sendings ≤ retries
 IsWithin retries (Awaiting transaction time) = (0 < transaction.sendings) × (transaction.sendings ≤ retries + 1)
 
--- A submission is rejected where a request is in hand, and otherwise where the request may not be sent to the address.
+-- A submission is rejected if a request is in hand, and otherwise if the request may not be sent to the address.
 abbrev pub result_submitted : Hand → Address → Request → Result (Unit {0}) Rejected
 result_submitted Empty address request =
     if may_ask address request then Ok tt else Err (record { fault = WrongAddress; request = request })
@@ -64,19 +64,19 @@ hand_sent Empty = Empty
 hand_sent (ToSend transaction) = Awaiting (record transaction { sendings = transaction.sendings + 1 }) 0
 hand_sent (Awaiting transaction time) = Awaiting transaction time
 
--- A delivery brings a reply where that is awaited, and the delivery is accepted as it.
+-- A delivery brings a reply if that is awaited, and the delivery is accepted as it.
 abbrev pub Brings : MasterId → Hand → List Character → Reply → Type 0
 Brings id Empty delivery reply = ⊥
 Brings id (ToSend transaction) delivery reply = ⊥
 Brings id (Awaiting transaction time) delivery reply = IsAccepted id transaction.address transaction.request delivery reply
 
--- A frame brings a reply where that is awaited, and the frame is it.
+-- A frame brings a reply if that is awaited, and the frame is it.
 abbrev pub FrameBrings : MasterId → Hand → FrameParts → Reply → Type 0
 FrameBrings id Empty frame reply = ⊥
 FrameBrings id (ToSend transaction) frame reply = ⊥
 FrameBrings id (Awaiting transaction time) frame reply = IsReplyTo id transaction.address transaction.request frame reply
 
--- The request is answered, with the reply that is brought and the number of its sendings, or nothing is heard, where none is
+-- The request is answered, with the reply that is brought and the number of its sendings, or nothing is heard, if none is
 -- brought.
 abbrev pub IsHeard : Hand → (Reply → Type 0) → MasterEvent → Type 0
 IsHeard hand Brought (Answered reply sendings) = Brought reply × (sendings ≡ sendings_of hand)
@@ -95,7 +95,7 @@ hand_heard hand (NoReply sendings) = hand
 abbrev pub time_ticked : ℕ → ℕ → ℕ
 time_ticked time character_times = min (time + character_times) 255
 
--- Below the reply limit a reply is still awaited; from it on the request is to be sent again where it was sent as often as there
+-- Below the reply limit a reply is still awaited; from it on the request is to be sent again if it was sent as often as there
 -- are retries at most, and otherwise it has no reply.
 abbrev pub event_ticked : (retries reply_limit : ℕ) → Hand → ℕ → MasterEvent
 event_ticked retries reply_limit Empty character_times = Nothing

@@ -8,9 +8,9 @@ use hart_commands::Reply;
 use hart_frame::{Frame, FrameKind};
 use hart_values::MasterId;
 
-/// The reply that a frame is to what this master asks, or `None` where it is none.
+/// The reply that a frame is to what this master asks, or `None` if it is none.
 pub(crate) fn reply_in(id: MasterId, transaction: &Transaction, frame: &Frame) -> Option<Reply>
-    ensures told { IfSome result (IsReplyTo id transaction.now.address transaction.now.request frame.now) }
+    ensures is_reply { IfSome result (IsReplyTo id transaction.now.address transaction.now.request frame.now) }
     ensures known { (reply : Reply) → IsReplyTo id transaction.now.address transaction.now.request frame.now reply
         → result ≡ Some reply }
 {

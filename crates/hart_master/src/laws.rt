@@ -10,7 +10,7 @@ ghost use Rattle.hart_commands.specs.declared.reply.Reply.{Reply};
 ghost use Rattle.hart_commands.specs.declared.request.Request.{Request};
 ghost use Rattle.hart_master.specs.Acceptance.{IsAccepted, IsReplyTo};
 
-use hart_frame::{every_list_has_frames, frames_are_told_apart};
+use hart_frame::{every_list_has_frames, frames_are_unambiguous};
 
 /// A frame is one reply to a request at most, and it is one or none.
 pub fn replies_are_decided()
@@ -21,7 +21,7 @@ pub fn replies_are_decided()
         ⊎ ((reply : Reply) → IsReplyTo id address request frame reply → ⊥) }
 {}
 
-/// A delivery is accepted as one reply at most, and as one or none; where its frames are known, they tell as which.
+/// A delivery is accepted as one reply at most, and as one or none; if its frames are known, they decide as which.
 pub fn acceptance_is_decided()
     ensures one_reply { (id : MasterId) (address : Address) (request : Request) (delivery : List Character) (r s : Reply)
         → IsAccepted id address request delivery r → IsAccepted id address request delivery s → r ≡ s }
@@ -34,8 +34,8 @@ pub fn acceptance_is_decided()
         (found : Found) (reply : Reply) → AreFrames delivery 0 (found ∷ [])
         → IsAccepted id address request delivery reply → IsReplyTo id address request found.frame reply }
 {
-    // They do nothing when they run: the laws of frames and of replies are what this one rests on.
+    // No-ops: their contracts are used below.
     every_list_has_frames();
-    frames_are_told_apart();
+    frames_are_unambiguous();
     replies_are_decided();
 }

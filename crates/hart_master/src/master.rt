@@ -1,4 +1,4 @@
-ghost use Rattle.std.specs.Prelude.{◌≡◌, ◌≤◌, ◌<◌, ◌↔◌, ◌+◌, ℕ, IsTrue, IsOk, IsSome, IfOk, IfErr};
+ghost use Rattle.std.specs.Prelude.{◌≡◌, ◌≤◌, ◌<◌, ◌↔◌, ◌+◌, ℕ, IsTrue, IsOk, IsSome, IfOk, IfErr, IfSome, None};
 ghost use Rattle.hart_frame.specs.FrameParts.{request_parts};
 ghost use Rattle.hart_commands.specs.RequestData.{command_of, request_data};
 ghost use Rattle.hart_commands.specs.declared.reply.Reply.{Reply};
@@ -48,7 +48,7 @@ impl Master {
     ///
     /// # Errors
     ///
-    /// [`MasterFault::OutOfRange`] where `retries` is above 15 or `reply_limit` is 0.
+    /// [`MasterFault::OutOfRange`] if `retries` is above 15 or `reply_limit` is 0.
     pub fn new(id: MasterId, retries: u8, reply_limit: u8) -> Result<Self, MasterFault>
         ensures accepted { IsOk result ↔ ((retries ≤ 15) × (0 < reply_limit)) }
         ensures kept { IfOk result (λ master. master ≡
@@ -80,7 +80,7 @@ impl Master {
         matches!(self.hand, Hand::Empty)
     }
 
-    /// How often the request in hand was sent, 0 where there is none.
+    /// How often the request in hand was sent, 0 if there is none.
     pub fn sendings(&self) -> u8
         ensures counted { result ≡ sendings_of self.now.hand }
         ensures at_most { result ≤ self.now.retries + 1 }
@@ -95,7 +95,7 @@ impl Master {
     ///
     /// # Errors
     ///
-    /// [`MasterFault::Pending`] where one is in hand already, whatever the address; then [`MasterFault::WrongAddress`] for a
+    /// [`MasterFault::Pending`] if one is in hand already, whatever the address; then [`MasterFault::WrongAddress`] for a
     /// polling address with a command other than 0, and for broadcast with a command other than 11. The request is handed back,
     /// and the master is as it was.
     pub fn submit(&mut self, address: Address, request: Request) -> Result<(), Rejected>
@@ -117,7 +117,7 @@ impl Master {
         Err(Rejected { fault, request })
     }
 
-    /// The frame of the request in hand, where that is to be sent: an STX of this master with the burst bit clear, no expansion
+    /// The frame of the request in hand, if that is to be sent: an STX of this master with the burst bit clear, no expansion
     /// bytes and the written data of the request. Its reply is then awaited. Otherwise it is `None`, and nothing changes.
     pub fn send(&mut self) -> Option<Frame>
         ensures frame { result ≡ frame_sent self.old.id self.old.hand }
@@ -146,7 +146,40 @@ impl Master {
         }
     }
 
-    /// What a delivery brings: what its frame brings to [`Master::receive`], where it has exactly one. Otherwise it is
+    /// Sends as [`Master::send`] does, with the frame written over `frame`, and says whether there is one. If there is none,
+    /// `frame` is as it was.
+    pub fn send_into(&mut self, frame: &mut Frame) -> bool
+        ensures sends { IsTrue result ↔ IsSome (frame_sent self.old.id self.old.hand) }
+        ensures frame { IfSome (frame_sent self.old.id self.old.hand) (λ sent. frame.new ≡ sent) }
+        ensures silent { frame_sent self.old.id self.old.hand ≡ None → frame.new ≡ frame.old }
+        ensures state { self.new ≡ record self.old { hand = hand_sent self.old.hand } }
+        ensures sent_before { IsTrue result → sendings_of self.old.hand ≤ self.old.retries }
+        ensures at_most { sendings_of self.new.hand ≤ self.old.retries + 1 }
+    {
+        match mem::replace(&mut self.hand, Hand::Empty) {
+            Hand::ToSend(transaction) => {
+                let mut payload = Payload::new();
+                transaction.request.write(&mut payload);
+                let command = transaction.request.command();
+                frame.set_request(self.id, transaction.address, command, &payload);
+                let sendings = transaction.sendings + 1;
+                self.hand = Hand::Awaiting(
+                    Transaction {
+                        sendings,
+                        ..transaction
+                    },
+                    0,
+                );
+                true
+            }
+            other => {
+                self.hand = other;
+                false
+            }
+        }
+    }
+
+    /// What a delivery brings: what its frame brings to [`Master::receive`], if it has exactly one. Otherwise it is
     /// [`MasterEvent::Nothing`], and nothing changes.
     pub fn hear(&mut self, delivery: &[Char]) -> MasterEvent
         ensures event { IsHeard self.old.hand (Brings self.old.id self.old.hand delivery.now) result }
@@ -192,8 +225,8 @@ impl Master {
 
     /// Passes so many character times, of which 255 stand for more too.
     ///
-    /// Where a reply is awaited they add up, to 255 at most. From the reply limit on it is [`MasterEvent::Retry`] where the
-    /// request is to be sent again, and [`MasterEvent::NoReply`] where it was sent once more than there are retries, and is no
+    /// If a reply is awaited they add up, to 255 at most. From the reply limit on it is [`MasterEvent::Retry`] if the
+    /// request is to be sent again, and [`MasterEvent::NoReply`] if it was sent once more than there are retries, and is no
     /// longer in hand. Otherwise it is [`MasterEvent::Nothing`].
     pub fn tick(&mut self, character_times: u8) -> MasterEvent
         ensures event { result ≡ event_ticked self.old.retries self.old.reply_limit self.old.hand character_times }

@@ -12,10 +12,10 @@ const TEXTS: &[(MasterFault, &str)] = &[
 ];
 
 #[test]
-fn faults_are_told(rt: HostRuntime) -> Result<(), Fail> {
+fn faults_have_texts(rt: HostRuntime) -> Result<(), Fail> {
     for (fault, text) in TEXTS {
-        let told = format!(in rt.alloc(); "{fault}")?;
-        assert_eq!(rt; told.as_str(), *text);
+        let written = format!(in rt.alloc(); "{fault}")?;
+        assert_eq!(rt; written.as_str(), *text);
     }
     Ok(())
 }
@@ -130,7 +130,7 @@ fn a_request_is_sent_twice_and_given_up(rt: HostRuntime) -> Result<(), Fail> {
     Ok(())
 }
 
-/// The identity of the bench device, told to the primary master and to the secondary.
+/// The identity of the bench device, to the primary master and to the secondary.
 const TO_PRIMARY: &[u8] = &[
     0xFF, 0xFF, 0xFF, 0xFF, 0xFF, 0x06, 0x80, 0x00, 0x18, 0x00, 0x00, 0xFE, 0x37, 0x42, 0x05, 0x07,
     0x01, 0x02, 0x18, 0x00, 0x0A, 0x1B, 0x2C, 0x05, 0x04, 0x00, 0x00, 0x00, 0x00, 0x37, 0x00, 0x37,
@@ -149,7 +149,7 @@ const IDENTITY: &[u8] = &[
     0x00, 0x00, 0x00, 0x00, 0x37, 0x00, 0x37, 0x01,
 ];
 
-/// Communication faults, response code 32, and the assembly number, told by the bench device for Command 19.
+/// Communication faults, response code 32, and the assembly number, from the bench device for Command 19.
 const FAULTY: &[u8] = &[
     0xFF, 0xFF, 0xFF, 0xFF, 0xFF, 0x86, 0xB7, 0x42, 0x0A, 0x1B, 0x2C, 0x13, 0x02, 0x88, 0x00, 0xD7,
 ];
@@ -184,10 +184,10 @@ const HEARD: &[(&[u8], u8, &[u8], &[u8], &[u8], Option<&[u8]>)] = &[
     (DEVICE, 16, &[], WRITTEN, &[], None),
 ];
 
-/// The characters of what is heard in two parts, and of zeros behind them.
-fn heard(front: &[u8], behind: &[u8]) -> Option<[Char; 80]> {
+/// The characters of what is heard in two parts, and of zeros after them.
+fn heard(first: &[u8], second: &[u8]) -> Option<[Char; 80]> {
     let mut chars = [Char::new(0, 0)?; 80];
-    for (place, byte) in chars.iter_mut().zip(front.iter().chain(behind)) {
+    for (place, byte) in chars.iter_mut().zip(first.iter().chain(second)) {
         *place = Char::new(*byte, 0)?;
     }
     Some(chars)
@@ -195,8 +195,8 @@ fn heard(front: &[u8], behind: &[u8]) -> Option<[Char; 80]> {
 
 #[test]
 fn replies_are_accepted(rt: HostRuntime) -> Result<(), Fail> {
-    for (address, command, data, front, behind, want) in HEARD {
-        let chars = heard(front, behind).ok_or("characters")?;
+    for (address, command, data, first, second, want) in HEARD {
+        let chars = heard(first, second).ok_or("characters")?;
         let mut master = Master::new(MasterId::Primary, 1, 33)?;
         let request = Request::read(*command, data).ok().ok_or("bad data")?;
         let submitted = master.submit(address_of(address)?, request);
@@ -211,7 +211,7 @@ fn replies_are_accepted(rt: HostRuntime) -> Result<(), Fail> {
             }
             None => MasterEvent::Nothing,
         };
-        assert_eq!(rt; master.hear(&chars), event, "of {front:?} and {behind:?}");
+        assert_eq!(rt; master.hear(&chars), event, "of {first:?} and {second:?}");
         assert_eq!(rt; master.is_idle(), want.is_some());
     }
     let mut master = Master::new(MasterId::Primary, 1, 33)?;
@@ -237,8 +237,8 @@ const NOWHERE: &[u8] = &[
     0x00, 0x00, 0x00, 0x00, 0x37, 0x00, 0x37, 0x01,
 ];
 
-/// A command, the payload of a reply, and the type and the id of the address that it tells.
-const TOLD: &[(u8, &[u8], Option<(u16, u32)>)] = &[
+/// A command, the payload of a reply, and the type and the id of the address that it gives.
+const IDENTITIES: &[(u8, &[u8], Option<(u16, u32)>)] = &[
     (0, IDENTITY, Some((0x3742, 0x0A1B2C))),
     (11, IDENTITY, Some((0x3742, 0x0A1B2C))),
     (0, LONG_TYPE, Some((0x3F42, 0x0A1B2C))),
@@ -249,7 +249,7 @@ const TOLD: &[(u8, &[u8], Option<(u16, u32)>)] = &[
 
 #[test]
 fn identities_tell_addresses(rt: HostRuntime) -> Result<(), Fail> {
-    for (command, payload, want) in TOLD {
+    for (command, payload, want) in IDENTITIES {
         let reply = Reply::read(*command, payload).ok_or("a reply")?;
         let want = want.and_then(|(expanded_type, id)| Address::unique(expanded_type, id).ok());
         assert_eq!(rt; unique_of(&reply), want, "of {payload:?}");

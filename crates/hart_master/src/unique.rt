@@ -1,15 +1,15 @@
 ghost use Rattle.std.specs.Prelude.{◌≡◌};
-ghost use Rattle.hart_master.specs.Unique.{address_of, unique_told};
+ghost use Rattle.hart_master.specs.Unique.{address_of, unique_in};
 
 use hart_commands::{IdentityContent, Reply, ReplyContent};
 use hart_values::Address;
 
-/// The unique address that a reply tells: that of an identity with code 0. It is `None` for every other reply, and where the
+/// The unique address that a reply gives: that of an identity with code 0. It is `None` for every other reply, and if the
 /// address is broadcast.
 ///
 /// Of the expanded device type only the lower 14 bits stand in an address.
 pub fn unique_of(reply: &Reply) -> Option<Address>
-    ensures { result ≡ unique_told reply.now }
+    ensures { result ≡ unique_in reply.now }
 {
     match &reply.content {
         ReplyContent::Identity(identity) if reply.code.value() == 0 => {
