@@ -14,5 +14,6 @@ pub mod LastLemmas
 pub mod CountLemmas
 pub mod WrittenLemmas
 pub mod ResetLemmas
-pub mod ShownLemmas
+pub mod DetectedLemmas
 pub mod WholeLemmas
+pub mod RoomLemmas

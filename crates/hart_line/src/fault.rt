@@ -1,4 +1,4 @@
-use std::alloc::{AllocError, AllocFailed};
+use crate::NoRoom;
 use std::fmt;
 use thiserror::Error;
 
@@ -30,32 +30,21 @@ pub enum LineFault {
     /// one that was sent.
     #[error("undetected damage at event {event}, {leg}")]
     Undetected { event: usize, leg: Leg },
-    /// Fault 2: memory was refused.
+    /// Fault 2: memory was refused, for so many items.
     #[error("out of memory")]
-    Memory,
-    /// Fault 3: the line with this number, counted from 1, says no event.
+    Memory(NoRoom),
+    /// Fault 3: the line of the text with this number, counted from 1, says no event.
     #[error("bad line {number}")]
     BadLine { number: usize },
 }
 
-impl From<AllocError> for LineFault {
+impl From<NoRoom> for LineFault {
     ghost use Rattle.std.specs.Prelude.{◌≡◌};
     ghost use Rattle.hart_line.specs.declared.fault.LineFault.TheVariants.{Memory};
 
-    ghost from_gives = { λ _ e. e ≡ Memory };
+    ghost from_gives = { λ none fault. fault ≡ Memory none };
 
-    fn from(_error: AllocError) -> LineFault {
-        LineFault::Memory
-    }
-}
-
-impl<T: Drop> From<AllocFailed<T>> for LineFault {
-    ghost use Rattle.std.specs.Prelude.{◌≡◌};
-    ghost use Rattle.hart_line.specs.declared.fault.LineFault.TheVariants.{Memory};
-
-    ghost from_gives = { λ _ e. e ≡ Memory };
-
-    fn from(_error: AllocFailed<T>) -> LineFault {
-        LineFault::Memory
+    fn from(none: NoRoom) -> LineFault {
+        LineFault::Memory(none)
     }
 }

@@ -9,9 +9,9 @@ ghost use Rattle.hart_commands.specs.RequestData.{command_of};
 ghost use Rattle.hart_commands.specs.declared.reply.Reply.{Reply};
 ghost use Rattle.hart_commands.specs.declared.request.Request.{Request};
 ghost use Rattle.hart_line.specs.Line.Executions.{last_executions, times_executed};
-ghost use Rattle.hart_line.specs.Line.Faults.{AreAllShown, IsFault, IsOfCharacters};
+ghost use Rattle.hart_line.specs.Line.Faults.{AreAllDetected, IsFault, IsOfCharacters};
 ghost use Rattle.hart_line.specs.Line.Promises.{AnswersLastSending, AreWellMade, IsExecutedFromHand, IsExecutedInItsTurn, IsLastReset, IsRefusedByDevice, IsStepOf, IsUnrefusedWrite};
-ghost use Rattle.hart_line.specs.Line.Promises.{arrived_in_step, requests_of, sendings_told};
+ghost use Rattle.hart_line.specs.Line.Promises.{arrived_in_step, requests_of, sendings_in};
 ghost use Rattle.hart_line.specs.Script.Rows.{HasFirstBadLine, IsScript};
 ghost use Rattle.hart_line.specs.Line.Step.{IsLast};
 ghost use Rattle.hart_line.specs.Script.Words.{IsAddressWord, IsCommandWord, IsDataWord, IsWho};
@@ -31,7 +31,7 @@ use hart_device::{
     answers_tell_their_code, refused_commands_change_nothing, registers_of_lists,
     resets_name_this_counter, writes_execute_their_overwrite,
 };
-use hart_frame::{bodies_are_told_apart, frames_are_told_apart, messages_have_their_frame_alone};
+use hart_frame::{bodies_are_unambiguous, frames_are_unambiguous, messages_have_their_frame_alone};
 use hart_master::replies_are_decided;
 
 /// A word is that of one master, of one address, of one command and of one list of data at most.
@@ -42,7 +42,7 @@ pub fn words_have_one_value()
     ensures payload { (word xs ys : List ℕ) → IsDataWord word xs → IsDataWord word ys → xs ≡ ys }
 {}
 
-/// The lines of a text say one script at most, a text has one first bad line at most, and none where it is a script.
+/// The lines of a text say one script at most, a text has one first bad line at most, and none if it is a script.
 pub fn texts_have_one_script()
     ensures one_script { (text : List ℕ) (xs ys : List LineEvent) → IsScript text xs → IsScript text ys → xs ≡ ys }
     ensures one_bad_line { (text : List ℕ) (number other : ℕ)
@@ -51,22 +51,22 @@ pub fn texts_have_one_script()
         → IsScript text events → HasFirstBadLine text number → ⊥ }
 {}
 
-/// The events of a script lead to one last world at most, to one where all that is heard is shown, and to none where an event has
+/// The events of a script lead to one last world at most, to one if all damage is detected, and to none if an event has
 /// undetected damage; and the first leg with undetected damage is one.
 pub fn scripts_have_one_last_world()
     ensures one_world { (start : Start) (events : List LineEvent) (a b : World)
         → IsLast start events a → IsLast start events b → a ≡ b }
-    ensures shown { (start : Start) (events : List LineEvent)
-        → AreAllShown start (first_world start) events → (last : World) × IsLast start events last }
+    ensures detected { (start : Start) (events : List LineEvent)
+        → AreAllDetected start (first_world start) events → (last : World) × IsLast start events last }
     ensures no_fault { (start : Start) (events : List LineEvent) (world : World) (number : ℕ) (leg : Leg)
         → IsLast start events world → IsFault start events (Undetected number leg) → ⊥ }
     ensures one_fault { (start : Start) (events : List LineEvent) (number other : ℕ) (leg another : Leg)
         → IsFault start events (Undetected number leg) → IsFault start events (Undetected other another)
         → (number ≡ other) × (leg ≡ another) }
 {
-    // They do nothing when they run: the laws of bodies, of frames and of replies are what this one rests on.
-    bodies_are_told_apart();
-    frames_are_told_apart();
+    // No-ops: their contracts are used below.
+    bodies_are_unambiguous();
+    frames_are_unambiguous();
     replies_are_decided();
 }
 
@@ -76,12 +76,12 @@ pub fn refused_turns_change_nothing()
     ensures { (start : Start) (events : List LineEvent) (before next : World)
         → IsRefusedByDevice start events before next → state_of start.device next ≡ state_of start.device before }
 {
-    // It does nothing when it runs: the law of one command is what this one rests on.
+    // No-op: its contract says that a refused command changes nothing.
     refused_commands_change_nothing();
 }
 
-/// All that [`run`](crate::run) promises of a script: of its first world, of its turns, of its last world and of its fault. The
-/// requests that are submitted are well made where a clause says so, and every [`Request`](hart_commands::Request) is.
+/// All that [`run`](crate::run) promises of a script: of its first world, of its turns, of its last world and of its fault. If a
+/// clause asks for well-made requests, each value of [`Request`](hart_commands::Request) is one.
 pub fn scripts_keep_their_promises()
     // The device stands for the first world, and there is one last world at most.
     ensures first_world { (start : Start) → start.device.counter < 2 ^ 16 → state_of start.device (first_world start) ≡ start.device }
@@ -98,7 +98,7 @@ pub fn scripts_keep_their_promises()
         → (state_of start.device world).counter ≡ (start.device.counter + length world.executions) % 2 ^ 16 }
     ensures refused_commands_change_nothing { (start : Start) (events : List LineEvent) (world : World) → IsLast start events world
         → (before next : World) (refused : IsRefusedByDevice start events before next)
-        → refused.turn.back ≡ [] → state_of start.device world ≡ state_of start.device before }
+        → refused.turn.suffix ≡ [] → state_of start.device world ≡ state_of start.device before }
     ensures refused_turns_change_nothing { (start : Start) (events : List LineEvent) (before next : World)
         → IsRefusedByDevice start events before next → state_of start.device next ≡ state_of start.device before }
     ensures unrefused_writes_are_executed { (start : Start) (events : List LineEvent) → AreWellMade events
@@ -114,17 +114,17 @@ pub fn scripts_keep_their_promises()
         → slice_get (requests_of events) number ≡ Some request → IsTrue (is_write (command_of request)) → reply.code ≡ 0
         → IsExecutedInItsTurn start events number request reply sendings }
     ensures at_most_once_a_sending { (start : Start) (events : List LineEvent) (world : World) → IsLast start events world
-        → (number : ℕ) → times_executed number world.executions ≤ sendings_told (slice_get world.outcomes number) }
+        → (number : ℕ) → times_executed number world.executions ≤ sendings_in (slice_get world.outcomes number) }
     ensures no_change_unseen { (start : Start) (events : List LineEvent) (world : World) → IsLast start events world
         → (who : MasterId) (before : World) (given : Option ℕ) → IsLastReset start events who before given
         → of_master who (state_of start.device world).changed ≡ false
         → IfSome given (λ counter. (state_of start.device world).counter ≡ counter)
         × ((state_of start.device world).counter ≡ (state_of start.device before).counter)
         × ((state_of start.device world).contents ≡ (state_of start.device before).contents) }
-    ensures clean_and_lost_legs_are_shown { (start : Start) (events : List LineEvent) (fault : LineFault)
+    ensures clean_and_lost_legs_are_detected { (start : Start) (events : List LineEvent) (fault : LineFault)
         → 5 ≤ start.device.identity.response_preambles → IsFault start events fault → IsOfCharacters events fault }
 {
-    // They do nothing when they run: these laws are what this one rests on.
+    // No-ops: their contracts are used below.
     registers_of_lists();
     writes_execute_their_overwrite();
     answers_tell_their_code();
@@ -135,8 +135,8 @@ pub fn scripts_keep_their_promises()
     refused_turns_change_nothing();
     written_data_are_their_request();
     scripts_have_one_last_world();
-    bodies_are_told_apart();
-    frames_are_told_apart();
+    bodies_are_unambiguous();
+    frames_are_unambiguous();
     replies_are_decided();
     messages_have_their_frame_alone();
 }

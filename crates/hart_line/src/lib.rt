@@ -1,11 +1,11 @@
-//! The line between a field device and its two masters: what the events of a script are, how they are written, and what they
-//! lead to.
+//! The HART line between a field device and its two masters: what the events of a script are, how they are written, and what
+//! they lead to.
 //!
-//! A script is a text of lines, each with one event but for comments and empty lines: a request that a master is asked to
-//! send, a turn with what is heard in its two legs, a switch of the write protection, or noise. [`read_script`] reads
-//! them, or tells the first bad line. The words and items of a script are those of the command line too, so their readers
+//! A script is a text, and each of its own lines has one event but for comments and empty ones: a request that a master is
+//! asked to send, a turn with what is heard in its two legs, a switch of the write protection, or noise. [`read_script`]
+//! reads them, or names the first bad line of the text. The words and items of a script are those of the command line too, so their readers
 //! are public. [`run`] carries out the events with a device and two masters, and reports what was spoken, what became of
-//! each submission, and the device as it is then; or it tells the first leg whose damage is undetected.
+//! each submission, and the device as it is then; or it names the first leg whose damage is undetected.
 //!
 //! ```rust
 //! let events = read_script(rt.alloc(), b"submit P @0 0\nturn P ok lost\n")?;
@@ -20,19 +20,23 @@
 mod char_list;
 mod event;
 mod fault;
+mod filling;
 mod laws;
 mod line;
+mod memory;
 mod script;
 
 pub use char_list::CharList;
 pub use event::{Heard, LineEvent};
 pub use fault::{Leg, LineFault};
+pub use filling::Filling;
 pub use laws::{
     refused_turns_change_nothing, scripts_have_one_last_world, scripts_keep_their_promises,
     texts_have_one_script, words_have_one_value,
 };
 pub use line::report::{Outcome, Outcomes, Party, Report, Spoken, SpokenList};
 pub use line::runs::run;
+pub use memory::{NoRoom, reserved};
 pub use script::items::{LeadingItem, leading_item};
 pub use script::read_script;
 pub use script::words::{read_address, read_command, read_data, read_who};

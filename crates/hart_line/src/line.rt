@@ -1,34 +1,36 @@
-//! The line: a device and its two masters, and what an event does to them.
+//! The HART line: a device and its two masters, and what an event does to them.
 ghost use Rattle.std.specs.Prelude.{◌≡◌, [], ◌∷◌, IfErr, None, OnOk};
 ghost use Rattle.std.specs.Option.{option_copied};
 ghost use Rattle.hart_values.specs.declared.master_id.MasterId.{MasterId};
 ghost use Rattle.hart_values.specs.EachMaster.{of_master};
 ghost use Rattle.hart_commands.specs.RequestData.{IsRequest};
-ghost use Rattle.hart_line.specs.Line.LineState.{MarksWithin, Stands, Stepped, StopsStep, state_heard};
+ghost use Rattle.hart_line.specs.Line.LineRoom.{HasRoomFor, LeavesRoom};
+ghost use Rattle.hart_line.specs.Line.LineState.{MarksWithin, Stands, Stepped, state_heard};
+ghost use Rattle.hart_line.specs.Line.Faults.{HasUndetected};
 ghost use Rattle.hart_line.specs.Line.Promises.{AreWellMade};
-ghost use Rattle.hart_line.specs.Line.Spoken.{party_of};
+ghost use Rattle.hart_line.specs.Line.Spoken.{frame_if, party_of};
 ghost use Rattle.hart_line.specs.Line.Step.{Step, frame_answered, submission_fault, submitted};
 ghost use Rattle.hart_line.specs.Line.World.{Start, World};
-ghost use Rattle.hart_line.specs.declared.event.LineEvent.TheVariants.{Noise, Turn};
+ghost use Rattle.hart_line.specs.declared.event.LineEvent.TheVariants.{Noise, Submit, Turn};
 
 use crate::line::leg::{arrived_among, arrived_in};
 use crate::line::masters::{Masters, Submitter};
-use crate::line::report::{Outcomes, SpokenList};
-use crate::line::stop::Stop;
-use crate::{Heard, Leg, LineEvent, Party, Report};
+use crate::line::room::ScriptRoom;
+use crate::line::undetected::Undetected;
+use crate::{Filling, Heard, Leg, LineEvent, Outcome, Outcomes, Party, Report, Spoken, SpokenList};
 use hart_commands::Request;
 use hart_device::{Device, Process, RegisterStore, registers_of_lists};
 use hart_frame::{Char, Frame};
 use hart_master::Master;
-use hart_values::{Address, MasterId};
-use std::alloc::{AllocError, Global};
+use hart_values::{Address, MasterId, Payload};
 use std::marker::Model;
 
 pub mod leg;
 pub mod masters;
 pub mod report;
+pub mod room;
 pub mod runs;
-pub mod stop;
+pub mod undetected;
 
 /// The number of preamble bytes that a master puts before a request.
 const MASTER_PREAMBLES: u8 = 20;
@@ -38,8 +40,11 @@ const MASTER_PREAMBLES: u8 = 20;
 pub struct Line<S: RegisterStore> {
     device: Device<S>,
     masters: Masters,
-    outcomes: Outcomes,
-    spoken: SpokenList,
+    outcomes: Filling<Outcome>,
+    spoken: Filling<Spoken>,
+    /// The frames of a turn are written here: each is some 300 bytes.
+    request: Frame,
+    reply: Frame,
 }
 
 impl<S: RegisterStore> Model for Line<S> {
@@ -51,22 +56,26 @@ impl<S: RegisterStore> Model for Line<S> {
     ghost view = { λ line. record {
       device = line.device;
       masters = line.masters;
-      outcomes = line.outcomes;
-      spoken = line.spoken;
+      outcomes = line.outcomes.items;
+      spoken = line.spoken.items;
+      outcomes_room = line.outcomes.room;
+      spoken_room = line.spoken.room;
     } };
 }
 
 impl<S: RegisterStore> Line<S> {
-    /// The line of this device and these masters, on which nothing has happened yet.
-    pub fn new(alloc: Global, device: Device<S>, primary: Master, secondary: Master) -> Self
+    /// The HART line of this device and these masters, on which nothing has happened yet, with this room for what will.
+    pub fn new(room: ScriptRoom, device: Device<S>, primary: Master, secondary: Master) -> Self
         ensures { result ≡ record {
           device = device;
           masters = record {
             primary = record { master = primary; place = 0 };
             secondary = record { master = secondary; place = 0 };
           };
-          outcomes = [];
-          spoken = [];
+          outcomes = room.outcomes.items;
+          spoken = room.spoken.items;
+          outcomes_room = room.outcomes.room;
+          spoken_room = room.spoken.room;
         } }
     {
         Line {
@@ -75,12 +84,14 @@ impl<S: RegisterStore> Line<S> {
                 primary: Submitter::new(primary),
                 secondary: Submitter::new(secondary),
             },
-            outcomes: Outcomes::new(alloc),
-            spoken: SpokenList::new(alloc),
+            outcomes: room.outcomes,
+            spoken: room.spoken,
+            request: no_frame(),
+            reply: no_frame(),
         }
     }
 
-    /// What is reported of the line.
+    /// What is reported of the HART line.
     pub fn into_report(self) -> Report<S>
         ensures device { result.device ≡ self.device }
         ensures outcomes { result.outcomes ≡ self.outcomes }
@@ -91,28 +102,36 @@ impl<S: RegisterStore> Line<S> {
             masters: _,
             outcomes,
             spoken,
+            request: _,
+            reply: _,
         } = self;
         Report {
             device,
-            outcomes,
-            spoken,
+            outcomes: Outcomes::new(outcomes.finish()),
+            spoken: SpokenList::new(spoken.finish()),
         }
     }
 
-    /// Carries out one event.
-    pub fn step(&mut self, event: &LineEvent, process: &Process) -> Result<(), Stop>
+    /// Carries out one event, for which there is room.
+    ///
+    /// # Errors
+    ///
+    /// The leg whose damage is undetected, if there is one.
+    pub fn step(&mut self, event: &LineEvent, process: &Process) -> Result<(), Undetected>
+        requires room { HasRoomFor (event.now ∷ []) self.old }
         ensures stepped { OnOk result ((start : Start) (world : World) → start.process ≡ process.now → MarksWithin world
             → Stands start world self.old → Stepped start world event.now self.new) }
-        ensures stopped { IfErr result (λ stop. (start : Start) (world : World) → start.process ≡ process.now
-            → Stands start world self.old → StopsStep start world event.now stop) }
+        ensures stopped { IfErr result (λ damage. (start : Start) (world : World) → start.process ≡ process.now
+            → Stands start world self.old → HasUndetected start world event.now damage.leg) }
         ensures well_made { OnOk result (AreWellMade (event.now ∷ [])) }
+        ensures room { OnOk result (LeavesRoom event.now self.old self.new) }
     {
         match event {
             LineEvent::Submit {
                 who,
                 address,
                 request,
-            } => self.submit(*who, *address, request)?,
+            } => self.submit(*who, *address, request),
             LineEvent::Turn { who, up, down } => self.turn(*who, up, down, process)?,
             LineEvent::Protect(on) => self.device.protect(*on),
             LineEvent::Noise(chars) => self.hear_noise(chars.as_slice(), process)?,
@@ -121,19 +140,16 @@ impl<S: RegisterStore> Line<S> {
     }
 
     /// A submission of a master.
-    fn submit(
-        &mut self,
-        who: MasterId,
-        address: Address,
-        request: &Request,
-    ) -> Result<(), AllocError>
-        ensures stands { OnOk result ((start : Start) (world : World) → Stands start world self.old → Stands start
-            (submitted world who address request.now (submission_fault (of_master who world.hands) address request.now)) self.new) }
+    fn submit(&mut self, who: MasterId, address: Address, request: &Request)
+        requires room { HasRoomFor (Submit who address request.now ∷ []) self.old }
+        ensures stands { (start : Start) (world : World) → Stands start world self.old → Stands start
+            (submitted world who address request.now (submission_fault (of_master who world.hands) address request.now)) self.new }
         ensures well_made { IsRequest request.now }
+        ensures room { LeavesRoom (Submit who address request.now) self.old self.new }
     {
-        let place = self.outcomes.as_slice().len();
+        let place = self.outcomes.len();
         let outcome = self.masters.submit(who, place, address, request);
-        self.outcomes.push(outcome)
+        self.outcomes.push(outcome);
     }
 
     /// A turn of a master: it sends the request in its hand, the device hears what goes up and answers, and both masters hear
@@ -144,37 +160,39 @@ impl<S: RegisterStore> Line<S> {
         up: &Heard,
         down: &Heard,
         process: &Process,
-    ) -> Result<(), Stop>
+    ) -> Result<(), Undetected>
+        requires room { HasRoomFor (Turn who up.now down.now ∷ []) self.old }
         ensures stepped { OnOk result ((start : Start) (world : World) → start.process ≡ process.now → MarksWithin world
             → Stands start world self.old → Stepped start world (Turn who up.now down.now) self.new) }
-        ensures stopped { IfErr result (λ stop. (start : Start) (world : World) → start.process ≡ process.now
-            → Stands start world self.old → StopsStep start world (Turn who up.now down.now) stop) }
+        ensures stopped { IfErr result (λ damage. (start : Start) (world : World) → start.process ≡ process.now
+            → Stands start world self.old → HasUndetected start world (Turn who up.now down.now) damage.leg) }
+        ensures room { OnOk result (LeavesRoom (Turn who up.now down.now) self.old self.new) }
     {
-        // It does nothing when it runs: what overwrites leave is what the world's registers rest on.
+        // No-op: its contract says what overwrites leave.
         registers_of_lists();
-        // Frames are lent from where they were made: each is some 300 bytes.
-        let sent = self.masters.send(who);
-        let Some(request) = &sent else {
+        let is_sent = self.masters.send(who, &mut self.request);
+        let Some(request) = frame_if(is_sent, &self.request) else {
             return pass_silence(up, down);
         };
         self.spoken
-            .speak(party_of(who), MASTER_PREAMBLES, Some(request))?;
+            .speak(party_of(who), MASTER_PREAMBLES, Some(request));
         let arrived = arrived_in(Leg::Up, up, Some(request))?;
         let preambles = self.device.response_preambles();
-        let answer = answer(&mut self.device, arrived, process);
-        self.spoken
-            .speak(Party::Device, preambles, answer.as_ref())?;
-        let returned = arrived_in(Leg::Down, down, answer.as_ref())?;
+        let is_answered = answer(&mut self.device, arrived, process, &mut self.reply);
+        let answer = frame_if(is_answered, &self.reply);
+        self.spoken.speak(Party::Device, preambles, answer);
+        let returned = arrived_in(Leg::Down, down, answer)?;
         self.masters.conclude(who, returned, &mut self.outcomes);
         Ok(())
     }
 
     /// Noise, which the device and both masters hear.
-    fn hear_noise(&mut self, chars: &[Char], process: &Process) -> Result<(), Stop>
+    fn hear_noise(&mut self, chars: &[Char], process: &Process) -> Result<(), Undetected>
         ensures stepped { OnOk result ((start : Start) (world : World) → Stands start world self.old
             → Stepped start world (Noise chars.now) self.new) }
-        ensures stopped { IfErr result (λ stop. (start : Start) (world : World) → start.process ≡ process.now
-            → Stands start world self.old → StopsStep start world (Noise chars.now) stop) }
+        ensures stopped { IfErr result (λ damage. (start : Start) (world : World) → start.process ≡ process.now
+            → Stands start world self.old → HasUndetected start world (Noise chars.now) damage.leg) }
+        ensures room { OnOk result (LeavesRoom (Noise chars.now) self.old self.new) }
     {
         let _nothing = arrived_among(Leg::Noise, chars, None)?;
         let _answer = self.device.hear(chars, process);
@@ -184,11 +202,11 @@ impl<S: RegisterStore> Line<S> {
 }
 
 /// A turn of a master with nothing in hand: nothing may arrive in either leg, and nothing changes.
-fn pass_silence(up: &Heard, down: &Heard) -> Result<(), Stop>
+fn pass_silence(up: &Heard, down: &Heard) -> Result<(), Undetected>
     ensures stepped { OnOk result ((start : Start) (world : World) (who : MasterId) → of_master who world.hands ≡ None
         → Step start world (Turn who up.now down.now) world) }
-    ensures stopped { IfErr result (λ stop. (start : Start) (world : World) (who : MasterId) → of_master who world.hands ≡ None
-        → StopsStep start world (Turn who up.now down.now) stop) }
+    ensures stopped { IfErr result (λ damage. (start : Start) (world : World) (who : MasterId) → of_master who world.hands ≡ None
+        → HasUndetected start world (Turn who up.now down.now) damage.leg) }
 {
     let _nothing = arrived_in(Leg::Up, up, None)?;
     let _nothing = arrived_in(Leg::Down, down, None)?;
@@ -205,14 +223,31 @@ fn party_of(id: MasterId) -> Party
     }
 }
 
-/// What a device answers to what arrives.
+/// Whether a device answers what arrives; the answer is then in `reply`.
 fn answer<S: RegisterStore>(
     device: &mut Device<S>,
     arrived: Option<&Frame>,
     process: &Process,
-) -> Option<Frame>
-    ensures answer { result ≡ frame_answered device.old process.now (option_copied arrived.entry) }
+    reply: &mut Frame,
+) -> bool
+    ensures answer { frame_if result reply.new ≡ frame_answered device.old process.now (option_copied arrived.entry) }
     ensures state { device.new ≡ state_heard device.old (option_copied arrived.entry) }
 {
-    device.receive(arrived?, process)
+    match arrived {
+        Some(frame) => device.receive_into(frame, process, reply),
+        None => false,
+    }
+}
+
+/// The frame, if there is one.
+fn frame_if(is_there: bool, frame: &Frame) -> Option<&Frame>
+    ensures { option_copied result ≡ frame_if is_there frame.now }
+{
+    if is_there { Some(frame) } else { None }
+}
+
+/// What a HART line has if no frame was written yet.
+fn no_frame() -> Frame {
+    let address = Address::polling(0).unwrap();
+    Frame::request(MasterId::Primary, address, 0, Payload::new())
 }

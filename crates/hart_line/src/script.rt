@@ -2,9 +2,9 @@
 ghost use Rattle.std.specs.Prelude.{IfOk, IfErr};
 ghost use Rattle.hart_line.specs.Script.Rows.{IsScript, IsScriptFault};
 
-use crate::script::lines::without_return;
+use crate::script::lines::{count_lines, without_return};
 use crate::script::rows::read_line;
-use crate::{LineEvent, LineFault};
+use crate::{Filling, LineEvent, LineFault};
 use std::alloc::Global;
 
 pub mod items;
@@ -17,19 +17,20 @@ pub mod words;
 /// # Errors
 ///
 /// [`LineFault::BadLine`] with the number, counted from 1, of the first line that says no event and is no such line;
-/// [`LineFault::Memory`] if a growth was refused.
+/// [`LineFault::Memory`] if room was refused: for an event of each line, or for half as many characters as a word has bytes.
 pub fn read_script(alloc: Global, text: &[u8]) -> Result<Vec<LineEvent>, LineFault>
     ensures events { IfOk result (λ events. IsScript text.now events.items) }
     ensures fault { IfErr result (IsScriptFault text.now) }
 {
-    let mut events = Vec::new(alloc);
+    // A line says one event at most.
+    let mut events = Filling::with_room(alloc, count_lines(text))?;
     let mut number = 0;
     for part in text.split(|byte| *byte == b'\n') {
         number += 1;
         let Some(event) = read_line(alloc, number, without_return(part))? else {
             continue;
         };
-        events.push(event)?;
+        events.push(event);
     }
-    Ok(events)
+    Ok(events.finish())
 }

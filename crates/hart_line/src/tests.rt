@@ -1,3 +1,4 @@
+mod room;
 mod runs;
 
 use super::*;
@@ -28,16 +29,22 @@ const FAULTS: &[(LineFault, &str)] = &[
         },
         "undetected damage at event 20, noise",
     ),
-    (LineFault::Memory, "out of memory"),
     (LineFault::BadLine { number: 1 }, "bad line 1"),
 ];
 
 #[test]
 fn faults_have_their_texts(rt: HostRuntime) -> Result<(), Fail> {
     for (fault, text) in FAULTS {
-        let shown = format!(in rt.alloc(); "{fault}")?;
-        assert_eq!(rt; shown.as_str(), *text);
+        let written = format!(in rt.alloc(); "{fault}")?;
+        assert_eq!(rt; written.as_str(), *text);
     }
+    // No room is as large as that.
+    let none = reserved::<u8>(rt.alloc(), usize::MAX).err().ok_or("room")?;
+    let written = format!(in rt.alloc(); "{}", LineFault::Memory(none))?;
+    assert_eq!(rt;
+        (written.as_str(), none.items()),
+        ("out of memory", usize::MAX)
+    );
     Ok(())
 }
 

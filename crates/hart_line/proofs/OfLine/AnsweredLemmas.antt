@@ -14,8 +14,8 @@ use Rattle.hart_master.specs.Acceptance.{IsReplyTo}
 use Rattle.hart_master.specs.declared.fault.MasterFault.{MasterFault}
 use Rattle.hart_line.specs.Line.Damage.{Arrives}
 use Rattle.hart_line.specs.Line.Promises.{AnswersLastSending, AnswersLastSendingFrom}
-use Rattle.hart_line.specs.Line.Spoken.{frame_of, message_by}
-use Rattle.hart_line.specs.Line.Step.{Accepts, IsLast, IsTurn, Run, Step, sent_back, effect_on, executions_after, frame_answered, hand_left, message_of, outcome_of, sent_by, submission_fault, submitted, turned}
+use Rattle.hart_line.specs.Line.Spoken.{frame_of, spoken_by}
+use Rattle.hart_line.specs.Line.Step.{Accepts, IsLast, IsTurn, Run, Step, sent_back, effect_on, executions_after, frame_answered, hand_left, spoken_request, outcome_of, sent_by, submission_fault, submitted, turned}
 use Rattle.hart_line.specs.Line.World.{InHand, Start, World, first_world, state_of}
 use Rattle.hart_line.specs.declared.event.Heard.{Heard}
 use Rattle.hart_line.specs.declared.event.LineEvent.{LineEvent}
@@ -68,7 +68,7 @@ came_back who held None reply accepts = cc
 came_back who held (Some frame) reply accepts = record { frame = frame; came = refl; is_reply = accepts }
 
 -- A frame that came back is the answer to what was sent.
-frame_of-by : (party : Party) (preambles : ℕ) (frame : Option FrameParts) → frame_of (message_by party preambles frame) ≡ frame
+frame_of-by : (party : Party) (preambles : ℕ) (frame : Option FrameParts) → frame_of (spoken_by party preambles frame) ≡ frame
 frame_of-by party preambles None = refl
 frame_of-by party preambles (Some frame) = refl
 
@@ -117,15 +117,15 @@ turn_answered start world who up down next (Some held) in_hand t arrives accepts
           let outcome = outcome_answered _ (held.sendings + 1) t.accepted reply sendings new.1 in
           let state = state_of start.device world in
           let back = came_back who held t.returned reply (rw outcome.0 at accepts) in
-          let sent = returned_answers start world down (message_of who held).frame t.arrived t.returned back.frame
-          (arrives_cases up (Some (message_of who held)) t.arrived arrives) t.returns back.came in
+          let sent = returned_answers start world down (spoken_request who held).frame t.arrived t.returned back.frame
+          (arrives_cases up (Some (spoken_request who held)) t.arrived arrives) t.returns back.came in
           inr (record {
             before = world;
             next = next;
             who = who;
             up = up;
             down = down;
-            turn = record { front = []; back = events; split = refl; led = refl; step = t };
+            turn = record { prefix = []; suffix = events; split = refl; led = refl; step = t };
             held = held;
             in_hand = in_hand;
             of_submission = sym new.0;
@@ -137,7 +137,7 @@ turn_answered start world who up down next (Some held) in_hand t arrives accepts
             is_reply = back.is_reply;
             executions = ap (λ (w : World). w.executions) next_is
                 ∙ ap (λ f. executions_after (effect_on state f) held.submission world.executions) sent.arrived_is
-                ∙ ap (λ n. executions_after (effect_of state (message_of who held).frame) n world.executions) (sym new.0);
+                ∙ ap (λ n. executions_after (effect_of state (spoken_request who held).frame) n world.executions) (sym new.0);
             reached = rw next_is is;
             left = rw next_is (of_master-same who _ world.hands ∙ ap (hand_left held) new.1);
           }))
@@ -177,8 +177,8 @@ later_answered start world next event events number reply sendings step a = reco
   up = a.up;
   down = a.down;
   turn = record {
-    front = event ∷ a.turn.front;
-    back = a.turn.back;
+    prefix = event ∷ a.turn.prefix;
+    suffix = a.turn.suffix;
     split = ap (λ es. event ∷ es) a.turn.split;
     led = (next, step, a.turn.led);
     step = a.turn.step;

@@ -15,7 +15,7 @@ use Rattle.hart_commands.specs.declared.request.Request.{Request}
 use Rattle.hart_device.specs.Device.{Effect, Nothing, Executes, Resets}
 use Rattle.hart_master.specs.declared.fault.MasterFault.{MasterFault}
 use Rattle.hart_line.specs.Line.Executions.{times_executed}
-use Rattle.hart_line.specs.Line.Promises.{sendings_told}
+use Rattle.hart_line.specs.Line.Promises.{sendings_in}
 use Rattle.hart_line.specs.Line.Step.{Run, effect_on, executions_after, hand_left, outcome_of, submitted, turned}
 use Rattle.hart_line.specs.Line.World.{Execution, InHand, Start, World, first_world, state_of}
 use Rattle.hart_line.specs.declared.event.LineEvent.{LineEvent}
@@ -28,7 +28,7 @@ pub record IsCounted (world : World) : Type 0 where
   pub in_hand : (id : MasterId) (hand : InHand) → of_master id world.hands ≡ Some hand
       → slice_get world.outcomes hand.submission ≡ Some (Unfinished hand.sendings)
   pub apart : (one other : InHand) → world.hands.primary ≡ Some one → world.hands.secondary ≡ Some other → one.submission ≢ other.submission
-  pub counts : (number : ℕ) → times_executed number world.executions ≤ sendings_told (slice_get world.outcomes number)
+  pub counts : (number : ℕ) → times_executed number world.executions ≤ sendings_in (slice_get world.outcomes number)
 
 times_executed-more : (effect : Effect) (own number : ℕ) (executions : List Execution)
     → times_executed number (executions_after effect own executions) ≤ times_executed number executions + (if own == number then 1 else 0)
@@ -40,7 +40,7 @@ times_executed-more (Executes overwrite) own number (e ∷ es) =
 
 -- One more outcome, which was never sent.
 sendings-append : (outcomes : List Outcome) (outcome : Outcome) (number : ℕ)
-    → sendings_told (slice_get outcomes number) ≤ sendings_told (slice_get (outcomes ++ outcome ∷ []) number)
+    → sendings_in (slice_get outcomes number) ≤ sendings_in (slice_get (outcomes ++ outcome ∷ []) number)
 sendings-append [] outcome number = omega arith
 sendings-append (o ∷ os) outcome zero = omega arith
 sendings-append (o ∷ os) outcome (suc n) = sendings-append os outcome n
@@ -57,13 +57,13 @@ slice_get-set_other (z ∷ xs) zero (suc n) y apart = refl
 slice_get-set_other (z ∷ xs) (suc k) zero y apart = refl
 slice_get-set_other (z ∷ xs) (suc k) (suc n) y apart = slice_get-set_other xs k n y (λ same. apart (ap suc same))
 
-if_sendings : (b : Bool) (s : ℕ) → sendings_told (Some (if b then Unfinished s else NoReply s)) ≡ s
+if_sendings : (b : Bool) (s : ℕ) → sendings_in (Some (if b then Unfinished s else NoReply s)) ≡ s
 if_sendings true s = refl
 if_sendings false s = refl
 
-sendings_told-outcome : (retries s : ℕ) (accepted : Option Reply) → sendings_told (Some (outcome_of retries s accepted)) ≡ s
-sendings_told-outcome retries s None = if_sendings (nat_le s retries) s
-sendings_told-outcome retries s (Some reply) = refl
+sendings_in-outcome : (retries s : ℕ) (accepted : Option Reply) → sendings_in (Some (outcome_of retries s accepted)) ≡ s
+sendings_in-outcome retries s None = if_sendings (nat_le s retries) s
+sendings_in-outcome retries s (Some reply) = refl
 
 with_master-apart : {A : Type 0} (id master : MasterId) (a : Option A) (each : EachMaster (Option A)) (x : A)
     → of_master id (with_master master a each) ≡ Some x → (a ≡ Some x) ⊎ ((id ≢ master) × (of_master id each ≡ Some x))
@@ -130,19 +130,19 @@ hand_left-unfinished hand left (Refused fault) is = cc
 
 counts_by : (b : Bool) (hand : InHand) (outcomes : List Outcome) (outcome : Outcome) (number before after : ℕ)
     → (hand.submission == number) ≡ b
-    → slice_get outcomes hand.submission ≡ Some (Unfinished hand.sendings) → sendings_told (Some outcome) ≡ hand.sendings + 1
-    → before ≤ sendings_told (slice_get outcomes number) → after ≤ before + (if b then 1 else 0)
-    → after ≤ sendings_told (slice_get (slice_set outcomes hand.submission outcome) number)
+    → slice_get outcomes hand.submission ≡ Some (Unfinished hand.sendings) → sendings_in (Some outcome) ≡ hand.sendings + 1
+    → before ≤ sendings_in (slice_get outcomes number) → after ≤ before + (if b then 1 else 0)
+    → after ≤ sendings_in (slice_get (slice_set outcomes hand.submission outcome) number)
 counts_by true hand outcomes outcome number before after same there sent old more =
     let number_is : hand.submission ≡ number = eqb-true hand.submission number same in
-    let was : sendings_told (slice_get outcomes number) ≡ hand.sendings = ap (λ n. sendings_told (slice_get outcomes n))
-    (sym number_is) ∙ ap sendings_told there in
-    let now : sendings_told (slice_get (slice_set outcomes hand.submission outcome) number) ≡ hand.sendings + 1 =
-    ap (λ n. sendings_told (slice_get (slice_set outcomes hand.submission outcome) n)) (sym number_is)
-    ∙ ap sendings_told (slice_get-set_same outcomes hand.submission _ outcome there) ∙ sent in omega arith
+    let was : sendings_in (slice_get outcomes number) ≡ hand.sendings = ap (λ n. sendings_in (slice_get outcomes n))
+    (sym number_is) ∙ ap sendings_in there in
+    let now : sendings_in (slice_get (slice_set outcomes hand.submission outcome) number) ≡ hand.sendings + 1 =
+    ap (λ n. sendings_in (slice_get (slice_set outcomes hand.submission outcome) n)) (sym number_is)
+    ∙ ap sendings_in (slice_get-set_same outcomes hand.submission _ outcome there) ∙ sent in omega arith
 counts_by false hand outcomes outcome number before after differs there sent old more =
-    let now : sendings_told (slice_get (slice_set outcomes hand.submission outcome) number) ≡ sendings_told (slice_get outcomes number) =
-    ap sendings_told (slice_get-set_other outcomes hand.submission number outcome (λ same. eqb-false hand.submission number differs
+    let now : sendings_in (slice_get (slice_set outcomes hand.submission outcome) number) ≡ sendings_in (slice_get outcomes number) =
+    ap sendings_in (slice_get-set_other outcomes hand.submission number outcome (λ same. eqb-false hand.submission number differs
     (sym same))) in omega arith
 
 turned_counted : (start : Start) (world : World) (master : MasterId) (hand : Option InHand) (arrived : Option FrameParts)
@@ -162,7 +162,7 @@ turned_counted start world master (Some hand) arrived accepted in_hand c =
       apart = next_apart master in_hand (hand_left hand outcome) (λ left is. hand_left-number hand left outcome is);
       counts = λ number. counts_by (hand.submission == number) hand world.outcomes outcome number
           (times_executed number world.executions) _ refl there
-          (sendings_told-outcome _ (hand.sendings + 1) accepted) (c.counts number)
+          (sendings_in-outcome _ (hand.sendings + 1) accepted) (c.counts number)
           (times_executed-more effect hand.submission number world.executions);
     }
   where
@@ -189,6 +189,6 @@ first_counted start = record {
 }
 
 pub executed_at_most : (start : Start) (events : List LineEvent) (last : World) → Run start (first_world start) events last
-    → (number : ℕ) → times_executed number last.executions ≤ sendings_told (slice_get last.outcomes number)
+    → (number : ℕ) → times_executed number last.executions ≤ sendings_in (slice_get last.outcomes number)
 executed_at_most start events last run =
     (run_keeps start IsCounted (counted_kept start) events (first_world start) last run (first_counted start)).counts

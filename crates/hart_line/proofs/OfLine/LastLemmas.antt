@@ -6,7 +6,7 @@ use Rattle.hart_values.specs.declared.address.Address.{Address}
 use Rattle.hart_values.specs.declared.master_id.MasterId.{MasterId}
 use Rattle.hart_frame.specs.FrameParts.{FrameParts}
 use Rattle.hart_values.specs.EachMaster.{of_master}
-use Rattle.hart_commands.specs.Registers.{Contents, NamedBytes, overwrite_of, overwritten, registers_of}
+use Rattle.hart_commands.specs.Registers.{Contents, Overwrite, overwrite_of, overwritten, registers_of}
 use Rattle.hart_commands.specs.RequestData.{IsRequest, Reading, command_of, request_data, request_reading}
 use Rattle.hart_commands.specs.declared.reply.Reply.{Reply}
 use Rattle.hart_commands.specs.declared.request.Request.{Request}
@@ -16,7 +16,7 @@ use Rattle.hart_master.specs.declared.fault.MasterFault.{MasterFault}
 use Rattle.hart_line.specs.Line.Spoken.{frame_of}
 use Rattle.hart_line.specs.Line.Executions.{has_execution_of, last_executions}
 use Rattle.hart_line.specs.Line.Promises.{AreWellMade, requests_of}
-use Rattle.hart_line.specs.Line.Step.{IsLast, Run, Step, effect_on, executions_after, message_of, sent_by, submission_fault, submitted, turned}
+use Rattle.hart_line.specs.Line.Step.{IsLast, Run, Step, effect_on, executions_after, spoken_request, sent_by, submission_fault, submitted, turned}
 use Rattle.hart_line.specs.Line.World.{Execution, InHand, Start, World, first_world, overwrites_of, state_of}
 use Rattle.hart_line.specs.declared.event.LineEvent.{LineEvent}
 use Rattle.hart_line.specs.declared.event.LineEvent.TheVariants.{Submit, Turn, Protect, Noise}
@@ -26,7 +26,7 @@ use Rattle.hart_line.proofs.OfLine.SubmittedLemmas.{IsAlong, first_along, made_o
 -- LAWS
 -- What the law of the device says of an execution.
 abbrev pub ExecutesLaw : Type 0
-ExecutesLaw = (state : DeviceState) (frame : FrameParts) (overwrite : NamedBytes) → effect_of state frame ≡ Executes overwrite
+ExecutesLaw = (state : DeviceState) (frame : FrameParts) (overwrite : Overwrite) → effect_of state frame ≡ Executes overwrite
     → (request : Request) × (reading_of frame ≡ Ok request) × (overwrite_of request ≡ Some overwrite)
 
 -- What the law of commands says of written data.
@@ -51,19 +51,19 @@ same_overwrite requests a b same x y =
     some_one (sym x.overwrites ∙ ap overwrite_of request ∙ y.overwrites)
 
 arrived_executes : ExecutesLaw → (state : DeviceState) (who : MasterId) (held : InHand) (requests : List Request)
-    (arrived : Option FrameParts) (overwrite : NamedBytes)
-    → slice_get requests held.submission ≡ Some held.request → reading_of (message_of who held).frame ≡ Ok held.request
-    → (arrived ≡ None) ⊎ (arrived ≡ Some (message_of who held).frame) → effect_on state arrived ≡ Executes overwrite
+    (arrived : Option FrameParts) (overwrite : Overwrite)
+    → slice_get requests held.submission ≡ Some held.request → reading_of (spoken_request who held).frame ≡ Ok held.request
+    → (arrived ≡ None) ⊎ (arrived ≡ Some (spoken_request who held).frame) → effect_on state arrived ≡ Executes overwrite
     → IsWriteOf requests (record { submission = held.submission; overwrite = overwrite })
 arrived_executes law state who held requests None overwrite there reading known is = cc
 arrived_executes law state who held requests (Some frame) overwrite there reading (inl none) is = cc
 arrived_executes law state who held requests (Some frame) overwrite there reading (inr sent) is =
-    let same : frame ≡ (message_of who held).frame = some_one sent in
-    let asked = law state (message_of who held).frame overwrite (rw same at is) in
+    let same : frame ≡ (spoken_request who held).frame = some_one sent in
+    let asked = law state (spoken_request who held).frame overwrite (rw same at is) in
     record {
       request = held.request;
       submitted_as = there;
-      overwrites = by_reading (reading_of (message_of who held).frame) asked.0 reading asked.1 asked.2;
+      overwrites = by_reading (reading_of (spoken_request who held).frame) asked.0 reading asked.1 asked.2;
     }
   where
     by_reading : (read : Reading) (other : Request) → read ≡ Ok held.request → read ≡ Ok other → overwrite_of other ≡ Some overwrite
@@ -84,7 +84,7 @@ submitted_writes requests world who address request None all = all
 submitted_writes requests world who address request (Some fault) all = all
 
 effect_writes : (effect : Effect) (number : ℕ) (requests : List Request) (executions : List Execution)
-    → ((overwrite : NamedBytes) → effect ≡ Executes overwrite → IsWriteOf requests (record { submission = number; overwrite = overwrite }))
+    → ((overwrite : Overwrite) → effect ≡ Executes overwrite → IsWriteOf requests (record { submission = number; overwrite = overwrite }))
     → AllByRecursion (IsWriteOf requests) executions → AllByRecursion (IsWriteOf requests) (executions_after effect number executions)
 effect_writes Nothing number requests executions writes all = all
 effect_writes (Executes overwrite) number requests executions writes all =
@@ -127,11 +127,11 @@ run_writes law reads events made start (event ∷ later) world last run a all =
 
 -- LAST EXECUTIONS
 abbrev pub FirstLaw : Type 0
-FirstLaw = (overwrite : NamedBytes) (later : List NamedBytes) (initial : Contents)
+FirstLaw = (overwrite : Overwrite) (later : List Overwrite) (initial : Contents)
     → registers_of (overwrite ∷ later) initial ≡ registers_of later (overwritten overwrite initial)
 
 abbrev pub AgainLaw : Type 0
-AgainLaw = (overwrite : NamedBytes) (later : List NamedBytes) (initial : Contents)
+AgainLaw = (overwrite : Overwrite) (later : List Overwrite) (initial : Contents)
     → Contains later overwrite → registers_of (overwrite ∷ later) initial ≡ registers_of later initial
 
 -- A later execution of the submission has the same overwrite.

@@ -7,16 +7,16 @@ use Rattle.hart_device.specs.Device.{DeviceState}
 use Rattle.hart_device.specs.declared.process.Process.{Process}
 use Rattle.hart_master.specs.Master.{MasterState}
 use Rattle.hart_master.specs.declared.hand.Hand.TheVariants.{Empty}
-use Rattle.hart_line.specs.Line.Faults.{IsFault}
-use Rattle.hart_line.specs.Line.LineState.{LineState, Stands, Stepped, StopsStep, fault_of}
+use Rattle.hart_line.specs.Line.Faults.{HasUndetected, IsFault}
+use Rattle.hart_line.specs.Line.LineState.{LineState, Stands, Stepped}
 use Rattle.hart_line.specs.Line.Promises.{start_of}
 use Rattle.hart_line.specs.Line.Step.{IsLast}
 use Rattle.hart_line.specs.Line.World.{Start, World, first_world, state_of}
 use Rattle.hart_line.specs.declared.event.LineEvent.{LineEvent}
 use Rattle.hart_line.specs.declared.line.report.Outcome.{Outcome}
 use Rattle.hart_line.specs.declared.line.report.Spoken.{Spoken}
-use Rattle.hart_line.specs.declared.line.stop.Stop.{Stop}
-use Rattle.hart_line.specs.declared.line.stop.Stop.TheVariants.{Undetected, NoMemory}
+use Rattle.hart_line.specs.declared.fault.Leg.{Leg}
+use Rattle.hart_line.specs.declared.fault.LineFault.TheVariants.{Undetected}
 use Rattle.hart_line.proofs.OfLine.RunLemmas.{run_more}
 use Rattle.hart_line.proofs.OfLine.SoundLemmas.{IsSound, first_sound, step_sound}
 
@@ -50,7 +50,7 @@ pub reached_report : {start : Start} {events : List LineEvent} {line : LineState
     → IsReached start events (record line { device = device; outcomes = outcomes; spoken = spoken })
 reached_report device outcomes spoken one two three r = rw (one, two, three) r
 
-pub reached_first : (device : DeviceState) (process : Process) (primary secondary : MasterState)
+pub reached_first : (device : DeviceState) (process : Process) (primary secondary : MasterState) (outcomes_room spoken_room : ℕ)
     → state_of device (first_world (start_of device process primary secondary)) ≡ device
     → (primary.id ≡ Primary) × (primary.hand ≡ Empty) → (secondary.id ≡ Secondary) × (secondary.hand ≡ Empty)
     → IsReached (start_of device process primary secondary) [] (record {
@@ -61,8 +61,10 @@ pub reached_first : (device : DeviceState) (process : Process) (primary secondar
       };
       outcomes = [];
       spoken = [];
+      outcomes_room = outcomes_room;
+      spoken_room = spoken_room;
     })
-reached_first device process primary secondary first one other = record {
+reached_first device process primary secondary outcomes_room spoken_room first one other = record {
   world = first_world (start_of device process primary secondary);
   is_last = refl;
   stands = record {
@@ -78,9 +80,8 @@ reached_first device process primary secondary first one other = record {
 }
 
 -- The event at which a script stops.
-pub fault_at : (start : Start) (events : List LineEvent) (n : ℕ) (unused : LineEvent) (world : World) (stop : Stop) → n < length events
-    → IsLast start (take n events) world → StopsStep start world (get_or events n unused) stop
-    → IsFault start events (fault_of n stop)
-fault_at start events n unused world (Undetected leg) here last undetected =
+pub fault_at : (start : Start) (events : List LineEvent) (n : ℕ) (unused : LineEvent) (world : World) (leg : Leg) → n < length events
+    → IsLast start (take n events) world → HasUndetected start world (get_or events n unused) leg
+    → IsFault start events (Undetected n leg)
+fault_at start events n unused world leg here last undetected =
     (world, get_or events n unused, last, slice_get-get_or events n unused here, undetected)
-fault_at start events n unused world NoMemory here last stops = tt

@@ -106,15 +106,16 @@ first_quiet start world (Submit who address request) events next id step none = 
 first_quiet start world (Turn who up down) events next id step none = λ same.
     let P : MasterId → Type 0 = λ m. (s : IsTurn start world m up down next) → HasNoReset start world (Turn m up down ∷ events) id
     → effect_on (state_of start.device world) s.arrived ≢ Resets in
-    subst P same (λ s quiet. quiet world next up down (record { front = []; back = events; split = refl; led = refl; step = s })) step none
+    subst P same
+    (λ s quiet. quiet world next up down (record { prefix = []; suffix = events; split = refl; led = refl; step = s })) step none
 first_quiet start world (Protect on) events next id step none = tt
 first_quiet start world (Noise chars) events next id step none = tt
 
 later_quiet : (start : Start) (world : World) (event : LineEvent) (events : List LineEvent) (next : World) (id : MasterId)
     → Step start world event next → HasNoReset start world (event ∷ events) id → HasNoReset start next events id
 later_quiet start world event events next id step none = λ before after up down turn. none before after up down (record {
-  front = event ∷ turn.front;
-  back = turn.back;
+  prefix = event ∷ turn.prefix;
+  suffix = turn.suffix;
   split = ap (λ es. event ∷ es) turn.split;
   led = (next, step, turn.led);
   step = turn.step;
@@ -128,14 +129,15 @@ run_kept start (event ∷ events) world last id run none =
     ∙ step_kept start world event run.0 id run.1 (first_quiet start world event events run.0 id run.1 none)
 
 -- A SCRIPT IN TWO PARTS
-run_back : Laws → (start : Start) (front : List LineEvent) (event : LineEvent) (back : List LineEvent) (from before next last : World)
-    → Run start from (front ++ event ∷ back) last → Run start from front before → Step start before event next → Run start next back last
-run_back laws start [] event back from before next last run led step =
-    subst (λ w. Run start w back last)
+run_back : Laws → (start : Start) (prefix : List LineEvent) (event : LineEvent) (suffix : List LineEvent) (from before next last : World)
+    → Run start from (prefix ++ event ∷ suffix) last → Run start from prefix before → Step start before event next
+    → Run start next suffix last
+run_back laws start [] event suffix from before next last run led step =
+    subst (λ w. Run start w suffix last)
     (step_one laws start from event run.0 next run.1 (subst (λ w. Step start w event next) led step)) run.2
-run_back laws start (e ∷ front) event back from before next last run led step =
-    run_back laws start front event back led.0 before next last
-    (subst (λ w. Run start w (front ++ event ∷ back) last) (step_one laws start from e run.0 led.0 run.1 led.1) run.2) led.2 step
+run_back laws start (e ∷ prefix) event suffix from before next last run led step =
+    run_back laws start prefix event suffix led.0 before next last
+    (subst (λ w. Run start w (prefix ++ event ∷ suffix) last) (step_one laws start from e run.0 led.0 run.1 led.1) run.2) led.2 step
 
 -- A RESET
 reset_marks : (start : Start) (world : World) (who : MasterId) (up down : Heard) (next : World) (step : IsTurn start world who up down next)
@@ -193,7 +195,7 @@ given_one state frame given counter is other named = subst (λ c. IfSome c (λ n
     same : counter ≡ given
     same = reset_one (ok_one (sym other ∙ is))
 
--- Where the master's bit is clear, nothing was executed since.
+-- If the master's bit is clear, nothing was executed since.
 pub unseen : Laws → ResetLaw → (start : Start) (events : List LineEvent) (last : World) → IsLast start events last
     → (who : MasterId) (before : World) (given : Option ℕ) → IsLastReset start events who before given
     → of_master who (state_of start.device last).changed ≡ false
@@ -202,13 +204,13 @@ pub unseen : Laws → ResetLaw → (start : Start) (events : List LineEvent) (la
     × ((state_of start.device last).contents ≡ (state_of start.device before).contents)
 unseen laws law start events last run who before given r clear =
     let split_run = rw r.turn.split at run in
-    let back = run_back laws start r.turn.front _ r.turn.back (first_world start) before r.next last split_run r.turn.led r.turn.step in
+    let back = run_back laws start r.turn.prefix _ r.turn.suffix (first_world start) before r.next last split_run r.turn.led r.turn.step in
     let resets : effect_on (state_of start.device before) r.turn.step.arrived ≡ Resets =
     ap (effect_on (state_of start.device before)) r.arrived ∙ r.resets in
     let here = reset_marks start before who r.up r.down r.next r.turn.step resets in
     let marked : of_master who last.marks ≡ Some (length before.executions) =
-    run_kept start r.turn.back r.next last who back r.last ∙ here.0 in
-    let grows = run_grows start r.turn.back r.next last back in
+    run_kept start r.turn.suffix r.next last who back r.last ∙ here.0 in
+    let grows = run_grows start r.turn.suffix r.next last back in
     let since : last.executions ≡ before.executions ++ grows.more = grows.is ∙ ap (λ xs. xs ++ grows.more) here.1 in
     let bit : nat_lt (length before.executions) (length last.executions) ≡ false =
     sym (changed_of start.device last who (length before.executions) marked) ∙ clear in
@@ -247,9 +249,9 @@ refused_step law start events before next r =
 pub refused_last : Laws → ((start : Start) (events : List LineEvent) (before next : World) → IsRefusedByDevice start events before next
     → state_of start.device next ≡ state_of start.device before)
     → (start : Start) (events : List LineEvent) (last : World) → IsLast start events last → (before next : World)
-    (r : IsRefusedByDevice start events before next) → r.turn.back ≡ [] → state_of start.device last ≡ state_of start.device before
+    (r : IsRefusedByDevice start events before next) → r.turn.suffix ≡ [] → state_of start.device last ≡ state_of start.device before
 refused_last laws stays start events last run before next r end =
     let split_run = rw r.turn.split at run in
-    let back = run_back laws start r.turn.front _ r.turn.back (first_world start) before next last split_run r.turn.led r.turn.step in
+    let back = run_back laws start r.turn.prefix _ r.turn.suffix (first_world start) before next last split_run r.turn.led r.turn.step in
     let same : last ≡ next = rw end at back in
     ap (state_of start.device) same ∙ stays start events before next r

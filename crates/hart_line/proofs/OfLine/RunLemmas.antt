@@ -13,8 +13,8 @@ use Rattle.hart_commands.specs.declared.reply.Reply.{Reply}
 use Rattle.hart_commands.specs.declared.request.Request.{Request}
 use Rattle.hart_master.specs.Acceptance.{IsReplyTo}
 use Rattle.hart_master.specs.declared.fault.MasterFault.{MasterFault}
-use Rattle.hart_line.specs.Line.Damage.{AreHeard, Arrives, IsShown, IsUndetected}
-use Rattle.hart_line.specs.Line.Spoken.{Message, frame_of}
+use Rattle.hart_line.specs.Line.Damage.{AreHeard, Arrives, IsDetected, IsUndetected}
+use Rattle.hart_line.specs.Line.Spoken.{SpokenFrame, frame_of}
 use Rattle.hart_line.specs.Line.Step.{Accepts, IsLast, IsTurn, Run, Step, sent_back, sent_by, submission_fault, submitted, turned}
 use Rattle.hart_line.specs.Line.World.{InHand, Start, World, first_world}
 use Rattle.hart_line.specs.declared.event.Heard.{Heard}
@@ -61,38 +61,40 @@ pub record Laws : Type 0 where
   pub one_reply : (id : MasterId) (address : Address) (request : Request) (frame : FrameParts) (r s : Reply)
       → IsReplyTo id address request frame r → IsReplyTo id address request frame s → r ≡ s
 
-AreHeard-one : Laws → (heard : Heard) (sent : Option Message) (a b : List Character) → AreHeard heard sent a → AreHeard heard sent b → a ≡ b
+AreHeard-one : Laws → (heard : Heard) (sent : Option SpokenFrame) (a b : List Character) → AreHeard heard sent a
+    → AreHeard heard sent b → a ≡ b
 AreHeard-one laws Clean None a b x y = x ∙ sym y
-AreHeard-one laws Clean (Some message) a b x y =
-    let body = laws.one_body message.frame x.1.body y.1.body x.1.is_body y.1.is_body in
+AreHeard-one laws Clean (Some said) a b x y =
+    let body = laws.one_body said.frame x.1.body y.1.body x.1.is_body y.1.is_body in
     let bytes : x.0 ≡ y.0 = x.1.parts ∙ rw body (sym y.1.parts) in
     x.2 ∙ rw bytes (sym y.2)
 AreHeard-one laws Lost sent a b x y = x ∙ sym y
-AreHeard-one laws (Chars told) sent a b x y = x ∙ sym y
+AreHeard-one laws (Chars given) sent a b x y = x ∙ sym y
 
-IsShown-one : (sent : Option FrameParts) (frames : List Found) (a b : Option FrameParts) → IsShown sent frames a
-    → IsShown sent frames b → a ≡ b
-IsShown-one sent [] a b x y = x ∙ sym y
-IsShown-one sent (found ∷ []) a b x y = x.1 ∙ sym y.1
-IsShown-one sent (found ∷ other ∷ more) a b x y = absurd x
+IsDetected-one : (sent : Option FrameParts) (frames : List Found) (a b : Option FrameParts) → IsDetected sent frames a
+    → IsDetected sent frames b → a ≡ b
+IsDetected-one sent [] a b x y = x ∙ sym y
+IsDetected-one sent (found ∷ []) a b x y = x.1 ∙ sym y.1
+IsDetected-one sent (found ∷ other ∷ more) a b x y = absurd x
 
--- The frames that are heard in a leg are the same, whoever tells them.
-frames_one : Laws → (heard : Heard) (sent : Option Message) (a b : List Character) (xs ys : List Found)
+-- The frames that are heard in a leg are the same, by whichever list.
+frames_one : Laws → (heard : Heard) (sent : Option SpokenFrame) (a b : List Character) (xs ys : List Found)
     → AreHeard heard sent a → AreHeard heard sent b → AreFrames a 0 xs → AreFrames b 0 ys → xs ≡ ys
 frames_one laws heard sent a b xs ys h k x y =
     let same = AreHeard-one laws heard sent a b h k in laws.one_list b 0 xs ys (rw same at x) y
 
-Arrives-one : Laws → (heard : Heard) (sent : Option Message) (a b : Option FrameParts) → Arrives heard sent a → Arrives heard sent b → a ≡ b
+Arrives-one : Laws → (heard : Heard) (sent : Option SpokenFrame) (a b : Option FrameParts) → Arrives heard sent a
+    → Arrives heard sent b → a ≡ b
 Arrives-one laws heard sent a b s t =
     let frames = frames_one laws heard sent s.chars t.chars s.frames t.frames s.are_heard t.are_heard s.are_frames t.are_frames in
-    IsShown-one (frame_of sent) t.frames a b (rw frames at s.shown) t.shown
+    IsDetected-one (frame_of sent) t.frames a b (rw frames at s.detected) t.detected
 
--- Damage that is shown is not undetected.
-pub arrives_detected : Laws → (heard : Heard) (sent : Option Message) (arrived : Option FrameParts)
+-- Damage that is detected is not undetected.
+pub arrives_detected : Laws → (heard : Heard) (sent : Option SpokenFrame) (arrived : Option FrameParts)
     → Arrives heard sent arrived → IsUndetected heard sent → ⊥
 arrives_detected laws heard sent arrived a u =
     let frames = frames_one laws heard sent a.chars u.chars a.frames u.frames a.are_heard u.are_heard a.are_frames u.are_frames in
-    u.not_shown arrived (rw frames at a.shown)
+    u.not_detected arrived (rw frames at a.detected)
 
 Accepts-one : Laws → (who : MasterId) (hand : Option InHand) (returned : Option FrameParts) (a b : Option Reply)
     → Accepts who hand returned a → Accepts who hand returned b → a ≡ b

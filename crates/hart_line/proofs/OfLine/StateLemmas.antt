@@ -6,7 +6,7 @@ use Rattle.std.proofs.lemmas.Grind.{common_steps}
 use Rattle.std.proofs.lemmas.Bool.{lt-ltb, le-ltb}
 use Rattle.hart_values.specs.declared.master_id.MasterId.{MasterId}
 use Rattle.hart_values.specs.declared.master_id.MasterId.TheVariants.{Primary, Secondary}
-use Rattle.hart_commands.specs.Registers.{Contents, NamedBytes, registers_of, overwritten}
+use Rattle.hart_commands.specs.Registers.{Contents, Overwrite, registers_of, overwritten}
 use Rattle.hart_device.specs.Device.{DeviceState, Effect, Nothing, Executes, Resets, after}
 use Rattle.hart_device.specs.declared.identity_parts.IdentityParts.{IdentityParts}
 use Rattle.hart_line.specs.Line.World.{World, Execution, Start, first_world, state_of, overwrites_of, is_changed}
@@ -15,10 +15,10 @@ use Rattle.hart_line.specs.Line.Step.{executions_after, marks_after}
 
 -- What the law of registers says of a list with one more.
 abbrev pub LastLaw : Type 0
-LastLaw = (overwrites : List NamedBytes) (overwrite : NamedBytes) (initial : Contents)
+LastLaw = (overwrites : List Overwrite) (overwrite : Overwrite) (initial : Contents)
     → registers_of (overwrites ++ overwrite ∷ []) initial ≡ overwritten overwrite (registers_of overwrites initial)
 
--- A mark is behind one execution more.
+-- A mark lies before one execution more.
 is_changed-more : (initially : Bool) (mark : Option ℕ) (count : ℕ) → ((m : ℕ) → mark ≡ Some m → m ≤ count)
     → true ≡ is_changed initially mark (count + 1)
 is_changed-more true None count within = refl

@@ -100,23 +100,23 @@ step_along requests start world (Turn who up down) later next step a =
 step_along requests start world (Protect on) later next step a = rw step (record { to_come = a.to_come; hands = a.hands })
 step_along requests start world (Noise chars) later next step a = rw step.1 (record { to_come = a.to_come; hands = a.hands })
 
-run_along : (requests : List Request) (start : Start) (front later : List LineEvent) (from before : World) → Run start from front before
-    → IsAlong requests from (front ++ later) → IsAlong requests before later
+run_along : (requests : List Request) (start : Start) (prefix later : List LineEvent) (from before : World) → Run start from prefix before
+    → IsAlong requests from (prefix ++ later) → IsAlong requests before later
 run_along requests start [] later from before run a = rw run a
-run_along requests start (event ∷ front) later from before run a =
-    run_along requests start front later run.0 before run.2 (step_along requests start from event (front ++ later) run.0 run.1 a)
+run_along requests start (event ∷ prefix) later from before run a =
+    run_along requests start prefix later run.0 before run.2 (step_along requests start from event (prefix ++ later) run.0 run.1 a)
 
 pub first_along : (start : Start) (events : List LineEvent) → IsAlong (requests_of events) (first_world start) events
 first_along start events = record { to_come = refl; hands = λ id held is. nothing_first id is }
 
 -- IN A SCRIPT
 -- In the worlds of a script each request in hand is the one that was submitted under its number.
-pub submitted_as : (start : Start) (events front : List LineEvent) (event : LineEvent) (back : List LineEvent) (before : World)
-    → events ≡ front ++ event ∷ back → Run start (first_world start) front before
+pub submitted_as : (start : Start) (events prefix : List LineEvent) (event : LineEvent) (suffix : List LineEvent) (before : World)
+    → events ≡ prefix ++ event ∷ suffix → Run start (first_world start) prefix before
     → (id : MasterId) (held : InHand) → of_master id before.hands ≡ Some held
     → slice_get (requests_of events) held.submission ≡ Some held.request
-submitted_as start events front event back before split led =
-    (run_along (requests_of events) start front (event ∷ back) (first_world start) before led
+submitted_as start events prefix event suffix before split led =
+    (run_along (requests_of events) start prefix (event ∷ suffix) (first_world start) before led
     (subst (IsAlong (requests_of events) (first_world start)) split (first_along start events))).hands
 
 -- A request that was submitted is well made.
@@ -126,12 +126,12 @@ made_of events number request made there =
     rw (get_or_from_slice_get (requests_of events) number request request there) at
     (All-get_or IsRequest (requests_of events) number request (slice_get_within (requests_of events) number request there) made)
 
-requests_of-append : (front back : List LineEvent) → requests_of (front ++ back) ≡ requests_of front ++ requests_of back
-requests_of-append [] back = refl
-requests_of-append (Submit who address request ∷ front) back = ap (λ rs. request ∷ rs) (requests_of-append front back)
-requests_of-append (Turn who up down ∷ front) back = requests_of-append front back
-requests_of-append (Protect on ∷ front) back = requests_of-append front back
-requests_of-append (Noise chars ∷ front) back = requests_of-append front back
+requests_of-append : (prefix suffix : List LineEvent) → requests_of (prefix ++ suffix) ≡ requests_of prefix ++ requests_of suffix
+requests_of-append [] suffix = refl
+requests_of-append (Submit who address request ∷ prefix) suffix = ap (λ rs. request ∷ rs) (requests_of-append prefix suffix)
+requests_of-append (Turn who up down ∷ prefix) suffix = requests_of-append prefix suffix
+requests_of-append (Protect on ∷ prefix) suffix = requests_of-append prefix suffix
+requests_of-append (Noise chars ∷ prefix) suffix = requests_of-append prefix suffix
 
 -- One event more.
 pub made_more : (events : List LineEvent) (n : ℕ) (unused : LineEvent) → n < length events → AreWellMade (take n events)

@@ -1,5 +1,5 @@
 -- A turn of the line is a turn of the world.
-use Rattle.std.proofs.Common.{◌≡◌, ap, ◌∙◌, refl, Option, None, Some, List, [], ◌∷◌, ◌++◌, ◌⊎◌, inl, inr, append_assoc}
+use Rattle.std.proofs.Common.{◌≡◌, ℕ, ap, ◌∙◌, refl, Option, None, Some, List, [], ◌∷◌, ◌++◌, ◌⊎◌, inl, inr, append_assoc}
 use Rattle.std.specs.Option.{option_to_list}
 use Rattle.hart_values.specs.declared.master_id.MasterId.{MasterId}
 use Rattle.hart_values.specs.declared.master_id.MasterId.TheVariants.{Primary, Secondary}
@@ -11,7 +11,7 @@ use Rattle.hart_line.specs.Line.Damage.{Arrives}
 use Rattle.hart_line.specs.Line.LineState.{MarksWithin, Stepped, state_heard}
 use Rattle.hart_line.specs.Line.Masters.{AreHeld, Concludes}
 use Rattle.hart_line.specs.Line.Spoken.{AreSpoken, Speaks}
-use Rattle.hart_line.specs.Line.Step.{Step, effect_on, message_of, sent_back, turned}
+use Rattle.hart_line.specs.Line.Step.{Step, effect_on, spoken_request, sent_back, turned}
 use Rattle.hart_line.specs.Line.World.{InHand, Start, World, state_of}
 use Rattle.hart_line.specs.declared.event.Heard.{Heard}
 use Rattle.hart_line.specs.declared.event.LineEvent.TheVariants.{Turn}
@@ -39,7 +39,7 @@ silent_step start world who up down in_hand arrives returns = record {
 }
 
 state_heard-effect : (state : DeviceState) (id : MasterId) (held : InHand) (arrived : Option FrameParts)
-    → (arrived ≡ None) ⊎ (arrived ≡ Some (message_of id held).frame)
+    → (arrived ≡ None) ⊎ (arrived ≡ Some (spoken_request id held).frame)
     → state_heard state arrived ≡ after id (effect_on state arrived) state
 state_heard-effect state id held None known = refl
 state_heard-effect state id held (Some frame) (inl is) = cc
@@ -52,9 +52,10 @@ state_heard-effect state id held (Some frame) (inr is) =
 -- With a request in hand that is sent, the line stands for the world that the turn leads to.
 pub turned_stands : LastLaw → (start : Start) (world : World) (who : MasterId) (up down : Heard) (held : InHand)
     (arrived returned : Option FrameParts) (masters : Masters) (outcomes : List Outcome) (spoken mid spoken' : List Spoken)
+    (outcomes_room spoken_room : ℕ)
     → MarksWithin world → of_master who world.hands ≡ Some held
-    → Arrives up (Some (message_of who held)) arrived → Arrives down (sent_back start world arrived) returned
-    → AreSpoken world.spoken spoken → Speaks (Some (message_of who held)) spoken mid
+    → Arrives up (Some (spoken_request who held)) arrived → Arrives down (sent_back start world arrived) returned
+    → AreSpoken world.spoken spoken → Speaks (Some (spoken_request who held)) spoken mid
     → Speaks (sent_back start world arrived) mid spoken'
     → Concludes who (of_master who start.retries) held returned world.outcomes outcomes
     (λ left. AreHeld start.retries (with_master who left world.hands) masters)
@@ -63,9 +64,11 @@ pub turned_stands : LastLaw → (start : Start) (world : World) (who : MasterId)
       masters = masters;
       outcomes = outcomes;
       spoken = spoken';
+      outcomes_room = outcomes_room;
+      spoken_room = spoken_room;
     })
-turned_stands last start world who up down held arrived returned masters outcomes spoken mid spoken' within in_hand arrives returns are
-    requested replied concludes =
+turned_stands last start world who up down held arrived returned masters outcomes spoken mid spoken' outcomes_room spoken_room within
+    in_hand arrives returns are requested replied concludes =
     let next = turned start world who (Some held) arrived concludes.accepted in record {
       next = next;
       step = record {
@@ -79,13 +82,13 @@ turned_stands last start world who up down held arrived returned masters outcome
       };
       stands = record {
         device_is = state_heard-effect (state_of start.device world) who held arrived (arrives_cases up (Some
-            (message_of who held)) arrived arrives)
+            (spoken_request who held)) arrived arrives)
             ∙ state-after last start.device world next who held.submission (effect_on (state_of start.device world) arrived)
             within refl refl refl;
         masters_are = concludes.left;
         outcomes_are = concludes.outcomes_are;
-        spoken_are = rw (append_assoc world.spoken (message_of who held ∷ []) (option_to_list (sent_back start world arrived))) at
-            (AreSpoken-more (world.spoken ++ message_of who held ∷ []) (sent_back start world arrived) mid spoken'
-            (AreSpoken-more world.spoken (Some (message_of who held)) spoken mid are requested) replied);
+        spoken_are = rw (append_assoc world.spoken (spoken_request who held ∷ []) (option_to_list (sent_back start world arrived))) at
+            (AreSpoken-more (world.spoken ++ spoken_request who held ∷ []) (sent_back start world arrived) mid spoken'
+            (AreSpoken-more world.spoken (Some (spoken_request who held)) spoken mid are requested) replied);
       };
     }

@@ -5,7 +5,7 @@ use Rattle.std.specs.Prelude.{option_map}
 use Rattle.hart_values.specs.declared.master_id.MasterId.{MasterId}
 use Rattle.hart_frame.specs.FrameParts.{FrameParts, reply_parts}
 use Rattle.hart_values.specs.EachMaster.{of_master}
-use Rattle.hart_commands.specs.Registers.{NamedBytes, overwrite_of}
+use Rattle.hart_commands.specs.Registers.{Overwrite, overwrite_of}
 use Rattle.hart_commands.specs.ReplyData.{content_reading, reply_reading}
 use Rattle.hart_commands.specs.RequestCode.{is_write}
 use Rattle.hart_commands.specs.RequestData.{IsRequest, command_of, is_known, request_reading}
@@ -18,7 +18,7 @@ use Rattle.hart_device.specs.Device.{DeviceState, Effect, Nothing, Executes, Res
 use Rattle.hart_device.specs.declared.process.Process.{Process}
 use Rattle.hart_line.specs.Line.Damage.{Arrives}
 use Rattle.hart_line.specs.Line.Promises.{AnswersLastSending, AreWellMade, IsExecutedFromHand, IsExecutedInItsTurn, IsStepOf, IsUnrefusedWrite, arrived_in_step, requests_of}
-use Rattle.hart_line.specs.Line.Step.{IsTurn, Step, effect_on, executions_after, message_of, sent_by, submission_fault, submitted, turned}
+use Rattle.hart_line.specs.Line.Step.{IsTurn, Step, effect_on, executions_after, spoken_request, sent_by, submission_fault, submitted, turned}
 use Rattle.hart_line.specs.Line.World.{Execution, InHand, Start, World, first_world, state_of}
 use Rattle.hart_line.specs.declared.event.Heard.{Heard}
 use Rattle.hart_line.specs.declared.event.LineEvent.{LineEvent}
@@ -38,8 +38,8 @@ reading_code command (c ∷ []) reply code read is = cc
 reading_code command (c ∷ status ∷ bytes) reply code read is =
     by_tests (nat_lt 127 c) (c == 0) (is_known command) (content_reading command bytes) read ∙ some_one is
   where
-    told : ReplyContent → Reply
-    told content = record { command = command; code = c; status = record { 0 = status }; content = content }
+    replying : ReplyContent → Reply
+    replying content = record { command = command; code = c; status = record { 0 = status }; content = content }
 
     by_content : (content : Option ReplyContent)
         → option_map (λ x. let r : Reply = record { command = command; code = c; status = record { 0 = status }; content = x } in r) content
@@ -68,22 +68,22 @@ pub record WriteLaws : Type 0 where
   pub code : (state : DeviceState) (process : Process) (frame reply : FrameParts) → answer_of state process frame ≡ Some reply
       → (is_answered state frame ≡ true) × (reply ≡ reply_parts frame reply.payload)
       × (slice_get reply.payload 0 ≡ Some (code_of state frame))
-  pub executes : (state : DeviceState) (frame : FrameParts) (request : Request) (overwrite : NamedBytes)
+  pub executes : (state : DeviceState) (frame : FrameParts) (request : Request) (overwrite : Overwrite)
       → is_answered state frame ≡ true → code_of state frame ≡ 0 → reading_of frame ≡ Ok request → overwrite_of request ≡ Some overwrite
       → effect_of state frame ≡ Executes overwrite
-  pub only : (state : DeviceState) (frame : FrameParts) (overwrite : NamedBytes) → effect_of state frame ≡ Executes overwrite
+  pub only : (state : DeviceState) (frame : FrameParts) (overwrite : Overwrite) → effect_of state frame ≡ Executes overwrite
       → (is_answered state frame ≡ true) × (code_of state frame ≡ 0)
       × (request : Request) × (reading_of frame ≡ Ok request) × (overwrite_of request ≡ Some overwrite)
 
 pub record IsNamed (request : Request) : Type 0 where
-  pub overwrite : NamedBytes
+  pub overwrite : Overwrite
   pub is : overwrite_of request ≡ Some overwrite
 
-named_by : (request : Request) (overwrite : Option NamedBytes) → overwrite_of request ≡ overwrite → IsSome overwrite → IsNamed request
+named_by : (request : Request) (overwrite : Option Overwrite) → overwrite_of request ≡ overwrite → IsSome overwrite → IsNamed request
 named_by request None is none = cc
 named_by request (Some overwrite) is there = record { overwrite = overwrite; is = is }
 
--- A write that is not refused and arrives in a turn is the message that was sent.
+-- A write that is not refused and arrives in a turn is the frame that was sent.
 record IsSentWrite (state : DeviceState) (sent : FrameParts) (arrived : Option FrameParts) : Type 0 where
   pub arrived_is : arrived ≡ Some sent
   pub write : IsUnrefusedWrite state (Some sent)
@@ -96,17 +96,17 @@ sent_write state sent (Some frame) (inr is) write = record { arrived_is = is; wr
 
 -- A submission was executed in a step, with the overwrite of this request.
 pub record IsExecuted (number : ℕ) (request : Request) (before next : World) : Type 0 where
-  pub overwrite : NamedBytes
+  pub overwrite : Overwrite
   pub overwrites : overwrite_of request ≡ Some overwrite
   pub executed : next.executions ≡ before.executions ++ record { submission = number; overwrite = overwrite } ∷ []
 
 turned_executes : WriteLaws → (start : Start) (before : World) (who : MasterId) (held : InHand) (arrived : Option FrameParts)
-    (accepted : Option Reply) → IsRequest held.request → (arrived ≡ None) ⊎ (arrived ≡ Some (message_of who held).frame)
+    (accepted : Option Reply) → IsRequest held.request → (arrived ≡ None) ⊎ (arrived ≡ Some (spoken_request who held).frame)
     → IsUnrefusedWrite (state_of start.device before) arrived
     → IsExecuted held.submission held.request before (turned start before who (Some held) arrived accepted)
 turned_executes laws start before who held arrived accepted made known write =
     let state = state_of start.device before in
-    let frame = (message_of who held).frame in
+    let frame = (spoken_request who held).frame in
     let sent = sent_write state frame arrived known write in
     let named = named_by held.request _ refl ((laws.overwritten held.request).0 sent.write.0) in
     let executes : effect_of state frame ≡ Executes named.overwrite =
@@ -122,7 +122,7 @@ turn_executes : WriteLaws → (start : Start) (before : World) (who : MasterId) 
     → IsUnrefusedWrite (state_of start.device before) t.arrived → IsExecuted held.submission held.request before next
 turn_executes laws start before who up down next t held in_hand made write =
     rw (t.next_is, in_hand) (turned_executes laws start before who held t.arrived t.accepted made
-    (arrives_cases up (Some (message_of who held)) t.arrived (rw in_hand at t.arrives)) write)
+    (arrives_cases up (Some (spoken_request who held)) t.arrived (rw in_hand at t.arrives)) write)
 
 pub turn_executed : WriteLaws → (start : Start) (events : List LineEvent) → AreWellMade events → (who : MasterId) (up down : Heard)
     (before next : World) (t : IsStepOf start (first_world start) events before (Turn who up down) next)
@@ -135,7 +135,7 @@ turn_executed laws start events made who up down before next t write =
     by_hand None in_hand arrives =
         absurd (subst (IsUnrefusedWrite (state_of start.device before)) (none_arrives up t.step.arrived arrives) write)
     by_hand (Some held) in_hand arrives =
-        let there = submitted_as start events t.front _ t.back before t.split t.led who held in_hand in
+        let there = submitted_as start events t.prefix _ t.suffix before t.split t.led who held in_hand in
         let e = turn_executes laws start before who up down next t.step held in_hand
         (made_of events held.submission held.request made there) write in record {
           held = held;
@@ -154,12 +154,12 @@ pub answered_executed : WriteLaws → (start : Start) (events : List LineEvent) 
     → IsExecutedInItsTurn start events number request reply sendings
 answered_executed laws start events made number request reply sendings a submitted write success =
     let state = state_of start.device a.before in
-    let frame = (message_of a.who a.held).frame in
-    let told = laws.code state start.process frame a.answer a.answered in
-    let code : code_of state frame ≡ 0 = sym (reading_code a.answer.command a.answer.payload reply _ a.is_reply.told told.2) ∙ success in
-    let there = submitted_as start events a.turn.front _ a.turn.back a.before a.turn.split a.turn.led a.who a.held a.in_hand in
+    let frame = (spoken_request a.who a.held).frame in
+    let coded = laws.code state start.process frame a.answer a.answered in
+    let code : code_of state frame ≡ 0 = sym (reading_code a.answer.command a.answer.payload reply _ a.is_reply.read coded.2) ∙ success in
+    let there = submitted_as start events a.turn.prefix _ a.turn.suffix a.before a.turn.split a.turn.led a.who a.held a.in_hand in
     let same : a.held.request ≡ request = some_one (sym there ∙ ap (slice_get (requests_of events)) a.of_submission ∙ submitted) in
-    let unrefused : IsUnrefusedWrite state (Some frame) = (rw (← same) at write, told.0, code) in
+    let unrefused : IsUnrefusedWrite state (Some frame) = (rw (← same) at write, coded.0, code) in
     let e = turn_executes laws start a.before a.who a.up a.down a.next a.turn.step a.held a.in_hand
     (made_of events a.held.submission a.held.request made there) (subst (IsUnrefusedWrite state) (sym a.arrived) unrefused) in record {
       answered = a;

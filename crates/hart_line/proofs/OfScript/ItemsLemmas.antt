@@ -11,7 +11,7 @@ no_end : (tail more : List ℕ) (high low : ℕ) → EndsBefore tail (Plain high
 no_end [] more high low w e = cc e
 no_end (x ∷ xs) more high low w e = w (cc e)
 
--- two items at the front of one text are one item
+-- two items that begin one text are one item
 pub same_item : (text : List ℕ) (p q : Item) (s t : List ℕ) → BeginsWithItem text p s → BeginsWithItem text q t → (p ≡ q) × (s ≡ t)
 same_item text (Plain x y) (Plain x' y') s t h k = let e = sym h.spelled ∙ k.spelled in (cc, cc)
 same_item text (Plain x y) (Faulty x' y' v w) s t h k =
@@ -20,8 +20,8 @@ same_item text (Faulty x' y' v w) (Plain x y) s t h k =
     let e = sym k.spelled ∙ h.spelled in absurd (no_end t (v ∷ w ∷ s) x y k.ends (cc))
 same_item text (Faulty x y v w) (Faulty x' y' v' w') s t h k = let e = sym h.spelled ∙ k.spelled in (cc, cc)
 
--- an item is spelled by some bytes
-item_spelling-length : (p : Item) → 0 < length (item_spelling p)
+-- an item is spelled by two bytes at least
+item_spelling-length : (p : Item) → 2 ≤ length (item_spelling p)
 item_spelling-length (Plain x y) = omega arith
 item_spelling-length (Faulty x y v w) = omega arith
 
@@ -51,7 +51,7 @@ items_to_the_end _ _ _ _ (item text p s cs rest h r) (item _ q t ds _ k l) n =
 -- a word is read one item further
 pub item_read : (text : List ℕ) (chars new : List Character) (place : ℕ) (char : Character) (len : ℕ) → place ≤ length text
     → BeginsWithItems text chars (drop place text) → BeginsAsItem (take (length text - place) (drop place text)) char len
-    → new ≡ chars ++ char ∷ [] → (0 < len) × (place + len ≤ length text) × BeginsWithItems text new (drop (place + len) text)
+    → new ≡ chars ++ char ∷ [] → (2 ≤ len) × (place + len ≤ length text) × BeginsWithItems text new (drop (place + len) text)
 item_read text chars new place char len within r b e =
     let rest : take (length text - place) (drop place text) ≡ drop place text = take_rest text place in
     let h : BeginsWithItem (drop place text) b.item b.tail = subst (λ (xs : List ℕ). BeginsWithItem xs b.item b.tail) rest b.begins in

@@ -1,21 +1,38 @@
 -- The rows of the table of events, word by word.
-use Rattle.std.proofs.Common.{◌≡◌, ℕ, List, ◌∷◌, codes, get_or, Ok, Option, None, Some, sym, ap, ◌∙◌, subst, arith}
+use Rattle.std.proofs.Common.{◌≡◌, ℕ, zero, suc, ◌<◌, List, [], ◌∷◌, codes, get_or, length, Err, Ok, Option, None, Some}
+use Rattle.std.proofs.Common.{sym, ap, ◌∙◌, subst, arith}
 use Rattle.std.specs.Option.{ok_or}
 use Rattle.hart_values.specs.declared.address.Address.{Address}
 use Rattle.hart_values.specs.declared.master_id.MasterId.{MasterId}
 use Rattle.hart_commands.specs.RequestData.{request_reading}
 use Rattle.hart_commands.specs.declared.request.Request.{Request}
-use Rattle.hart_line.specs.Script.Rows.{AreDataWords, IsEvent, IsSubmitRow, Reads}
+use Rattle.hart_line.specs.Script.Rows.{AreDataWords, IsEvent, IsLeg, IsNeededByWords, IsSubmitRow, Reads}
 use Rattle.hart_line.specs.Script.Words.{Finds, IsCommandWord}
+use Rattle.hart_line.specs.declared.event.Heard.{Heard}
 use Rattle.hart_line.specs.declared.event.LineEvent.{LineEvent}
 use Rattle.hart_line.specs.declared.event.LineEvent.TheVariants.{Noise, Protect, Submit, Turn}
-use Rattle.hart_line.specs.declared.script.rows.RowFault.TheVariants.{Bad}
+use Rattle.hart_line.specs.declared.script.rows.RowFault.{RowFault}
+use Rattle.hart_line.specs.declared.script.rows.RowFault.TheVariants.{Bad, Memory}
 use Rattle.hart_line.proofs.OfScript.WordsApart.{AreDataWords-one, IsCommandWord-one}
 
--- a value that is found is read, and where none is found the line is bad
-pub found_read : {T : Type 0} (IsValue : T → Type 0) (found : Option T) → Finds IsValue found → Reads IsValue (ok_or found Bad)
-found_read IsValue None finds = finds
-found_read IsValue (Some value) finds = finds
+-- a value that is found is read, and if none is found the line is bad
+pub found_read : {T : Type 0} (words : List (List ℕ)) (IsValue : T → Type 0) (found : Option T) → Finds IsValue found
+    → Reads words IsValue (ok_or found Bad)
+found_read words IsValue None finds = finds
+found_read words IsValue (Some value) finds = finds
+
+-- what one of some words needs room for, they need
+needed_by_words : (words : List (List ℕ)) (k : ℕ) (word : List ℕ) (items : ℕ) → k < length words → get_or words k word ≡ word
+    → IsNeededByWords (word ∷ []) items → IsNeededByWords words items
+needed_by_words words k word items short here (zero, this, one, same, half) = (k, word, short, here, rw same half)
+needed_by_words words k word items short here (suc i, this, one, same, half) = absurd (omega (arith, one))
+
+-- a leg whose word is one of the row's is no better for the row than for itself
+pub leg_fault : (words : List (List ℕ)) (k : ℕ) (word : List ℕ) (fault : RowFault) → k < length words → get_or words k word ≡ word
+    → ((event : LineEvent) → IsEvent words event → (heard : Heard) × IsLeg word heard)
+    → Reads (word ∷ []) (IsLeg word) (Err fault) → Reads words (IsEvent words) (Err fault)
+leg_fault words k word Bad short here legs reads = λ event is. reads (legs event is).0 (legs event is).1
+leg_fault words k word (Memory room) short here legs reads = needed_by_words words k word room.items short here reads
 
 -- equal words have the same first letter
 pub first_letter : (word other : List ℕ) (words others : List (List ℕ)) → word ∷ words ≡ other ∷ others → get_or word 0 0 ≡ get_or other 0 0
@@ -28,6 +45,18 @@ only_submit words (Submit master to request) is n = n master to request is
 only_submit words (Turn who up down) is n = omega (arith, first_letter _ _ _ _ is.row)
 only_submit words (Protect on) is n = omega (arith, first_letter _ _ _ _ is)
 only_submit words (Noise chars) is n = omega (arith, first_letter _ _ _ _ is.row)
+
+-- the words of a turn say what is heard in its legs
+pub turn_legs : (words : List (List ℕ)) (who up down : List ℕ) (event : LineEvent) → words ≡ who ∷ up ∷ down ∷ []
+    → IsEvent (codes "turn" ∷ words) event → ((heard : Heard) × IsLeg up heard) × ((heard : Heard) × IsLeg down heard)
+turn_legs words who up down (Submit master to request) same is = absurd (omega (arith, first_letter _ _ _ _ is.row))
+turn_legs words who up down (Turn master up_heard down_heard) same is =
+    let row = is.row in
+    let up_same : up ≡ is.up = cc in
+    let down_same : down ≡ is.down = cc in
+    ((up_heard, rw up_same is.up_written), (down_heard, rw down_same is.down_written))
+turn_legs words who up down (Protect on) same is = absurd (omega (arith, first_letter _ _ _ _ is))
+turn_legs words who up down (Noise chars) same is = absurd (omega (arith, first_letter _ _ _ _ is.row))
 
 -- the request of a row is what its command and its data are read as
 pub read_as : (words : List (List ℕ)) (master : MasterId) (to : Address) (request : Request)

@@ -4,12 +4,12 @@ use Rattle.std.proofs.Common.{◌∙◌, ◌<◌, suc, drop, map, subst, take, a
 use Rattle.std.specs.Bool.{◌==◌}
 use Rattle.std.specs.List.{slice_split}
 use Rattle.std.specs.Str.Lines.{strip_carriage_return}
-use Rattle.std.proofs.lemmas.List.{length-map, length-take-le, map-append, take-append-drop, take_all, take_more}
+use Rattle.std.proofs.lemmas.List.{get_or-map, length-map, length-take-le, map-append, take-append-drop, take_all, take_more}
 use Rattle.std.proofs.Math.Seq.{drop-cons}
 use Rattle.hex.specs.Hex.{is_hex_digit}
 use Rattle.hart_frame.specs.Character.{Character}
 use Rattle.hart_line.specs.Script.Items.{BeginsWithItems, Faulty, IsItemsWord, item, nothing, Plain}
-use Rattle.hart_line.specs.Script.Lines.{words_of}
+use Rattle.hart_line.specs.Script.Lines.{lines_of, words_of}
 use Rattle.hart_line.specs.Script.Rows.{AreEvents, HasFirstBadLine, IsBadLine, IsEvent, IsLeg, IsScript}
 use Rattle.hart_line.specs.Script.Rows.{IsScriptFault, IsSkipped, SaysLine, none, said, skipped}
 use Rattle.hart_line.specs.Script.Words.{IsAddressWord, IsWho}
@@ -36,7 +36,7 @@ first_digit _ _ _ (item text (Plain x y) tail chars rest h r) n =
 first_digit _ _ _ (item text (Faulty x y v w) tail chars rest h r) n =
     subst (λ (xs : List ℕ). is_hex_digit (get_or xs 0 0) ≡ true) (sym h.spelled) h.valid.0.0
 
--- a word of a name is no items where the name begins with no digit
+-- a word of a name is no items if the name begins with no digit
 no_items_named : (word name : List ℕ) (chars : List Character) → word ≡ name → is_hex_digit (get_or name 0 0) ≡ false
     → IsItemsWord word chars → ⊥
 no_items_named word name chars e d p =
@@ -78,8 +78,9 @@ IsEvent-one words (Turn m up down) (Turn n up' down') p q =
     let up_word : p.up ≡ q.up = cc in
     let down_word : p.down ≡ q.down = cc in
     let master : m ≡ n = IsWho-one q.who m n (subst (λ (xs : List ℕ). IsWho xs m) who p.master_named) q.master_named in
-    let ups : up ≡ up' = IsLeg-one q.up up up' (subst (λ (xs : List ℕ). IsLeg xs up) up_word p.up_told) q.up_told in
-    let downs : down ≡ down' = IsLeg-one q.down down down' (subst (λ (xs : List ℕ). IsLeg xs down) down_word p.down_told) q.down_told in
+    let ups : up ≡ up' = IsLeg-one q.up up up' (subst (λ (xs : List ℕ). IsLeg xs up) up_word p.up_written) q.up_written in
+    let downs : down ≡ down' =
+    IsLeg-one q.down down down' (subst (λ (xs : List ℕ). IsLeg xs down) down_word p.down_written) q.down_written in
     cc (master, ups, downs)
 IsEvent-one words (Turn m up down) (Protect on) p q = absurd (omega (arith, first_letter _ _ _ _ (sym p.row ∙ q)))
 IsEvent-one words (Turn m up down) (Noise chars) p q = absurd (omega (arith, first_letter _ _ _ _ (sym p.row ∙ q.row)))
@@ -187,21 +188,21 @@ not_good_and_bad words good others same first bad =
     elim first.says [ inl s ↦ bad.0 (subst IsSkipped same s) | inr e ↦ bad.1 e.0 (subst (λ ws. IsEvent ws e.0) same e.1) ]
 
 -- the first bad one of some lines stands at one place
-bad_at_one : (before others : List (List (List ℕ))) (words these : List (List ℕ)) (after behind : List (List (List ℕ)))
-    (xs ys : List LineEvent) → before ++ words ∷ after ≡ others ++ these ∷ behind → IsBadLine words → IsBadLine these
+bad_at_one : (before others : List (List (List ℕ))) (words these : List (List ℕ)) (after later : List (List (List ℕ)))
+    (xs ys : List LineEvent) → before ++ words ∷ after ≡ others ++ these ∷ later → IsBadLine words → IsBadLine these
     → AreEvents before xs → AreEvents others ys → length before ≡ length others
-bad_at_one [] [] words these after behind xs ys same bad worse good better = refl
-bad_at_one [] (line ∷ others) words these after behind xs ys same bad worse good better =
-    let front : line ≡ words = cc in
-    absurd (not_good_and_bad words line others front (first_line _ ys line others better refl) bad)
-bad_at_one (line ∷ before) [] words these after behind xs ys same bad worse good better =
-    let front : line ≡ these = cc in
-    absurd (not_good_and_bad these line before front (first_line _ xs line before good refl) worse)
-bad_at_one (line ∷ before) (other ∷ others) words these after behind xs ys same bad worse good better =
+bad_at_one [] [] words these after later xs ys same bad worse good better = refl
+bad_at_one [] (line ∷ others) words these after later xs ys same bad worse good better =
+    let same_line : line ≡ words = cc in
+    absurd (not_good_and_bad words line others same_line (first_line _ ys line others better refl) bad)
+bad_at_one (line ∷ before) [] words these after later xs ys same bad worse good better =
+    let same_line : line ≡ these = cc in
+    absurd (not_good_and_bad these line before same_line (first_line _ xs line before good refl) worse)
+bad_at_one (line ∷ before) (other ∷ others) words these after later xs ys same bad worse good better =
     let first = first_line _ xs line before good refl in
     let second = first_line _ ys other others better refl in
-    let behind_them : before ++ words ∷ after ≡ others ++ these ∷ behind = cc in
-    ap suc (bad_at_one before others words these after behind first.events second.events behind_them bad worse first.rest second.rest)
+    let after_them : before ++ words ∷ after ≡ others ++ these ∷ later = cc in
+    ap suc (bad_at_one before others words these after later first.events second.events after_them bad worse first.rest second.rest)
 
 pub first_bad_one : (text : List ℕ) (number other : ℕ) → HasFirstBadLine text number → HasFirstBadLine text other → number ≡ other
 first_bad_one text number other p q =
@@ -272,7 +273,7 @@ whole_script text n events all before =
 pub first_bad_line : (text : List ℕ) (n number : ℕ) (part line : List ℕ) (events : List LineEvent) → number ≡ n + 1
     → n < length (parts_of text) → part ≡ get_or (parts_of text) n part → line ≡ strip_carriage_return part
     → AreEvents (said_by (take n (parts_of text))) events → IsBadLine (words_of line) → HasFirstBadLine text number
-first_bad_line text n number part line events counted short at stripped front bad =
+first_bad_line text n number part line events counted short at stripped good bad =
     let parts = parts_of text in
     let cut : parts ≡ take n parts ++ get_or parts n part ∷ drop (suc n) parts =
     sym (take-append-drop n parts) ∙ ap (λ (xs : List (List ℕ)). take n parts ++ xs) (drop-cons parts n part short) in
@@ -289,12 +290,24 @@ first_bad_line text n number part line events counted short at stripped front ba
           let cut_at = length-take-le n parts (omega arith) in omega arith;
       bad = bad;
       events = events;
-      good = front;
+      good = good;
     }
 
 -- the fault of a line is that of its text
-pub line_fault : (text : List ℕ) (number : ℕ) (words : List (List ℕ)) (fault : LineFault) → SaysLine number words (Err fault)
-    → (IsBadLine words → HasFirstBadLine text number) → IsScriptFault text fault
-line_fault text number words (BadLine at) says bad = rw says.0 (bad says.1)
-line_fault text number words Memory says bad = tt
-line_fault text number words (Undetected event leg) says bad = says
+pub line_fault : (text : List ℕ) (n number : ℕ) (part line : List ℕ) (fault : LineFault) → n < length (parts_of text)
+    → part ≡ get_or (parts_of text) n part → line ≡ strip_carriage_return part → SaysLine number (words_of line) (Err fault)
+    → (IsBadLine (words_of line) → HasFirstBadLine text number) → IsScriptFault text fault
+line_fault text n number part line (BadLine at) short is stripped says bad = rw says.0 (bad says.1)
+line_fault text n number part line (Memory room) short is stripped says bad =
+    let long = length-map (lines_of text) words_of in
+    let parts = length-map (parts_of text) strip_carriage_return in
+    let here : get_or (lines_of text) n line ≡ line = get_or-map strip_carriage_return (parts_of text) n part line short
+    ∙ ap strip_carriage_return (sym is) ∙ sym stripped in
+    inr (
+      n,
+      words_of line,
+      omega (arith, long, parts, short),
+      get_or-map words_of (lines_of text) n line (words_of line) (omega (arith, parts, short)) ∙ ap words_of here,
+      says,
+    )
+line_fault text n number part line (Undetected event leg) short is stripped says bad = says

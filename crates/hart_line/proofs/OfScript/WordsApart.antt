@@ -73,7 +73,7 @@ IsCommandWord-one word m n p q = p.value ∙ sym q.value
 pub IsDataWord-one : (word xs ys : List ℕ) → IsDataWord word xs → IsDataWord word ys → xs ≡ ys
 IsDataWord-one word xs ys p q = decode_of-same word xs ys p.0 q.0
 
--- the words behind COMMAND write one list of data
+-- the words after COMMAND write one list of data
 pub AreDataWords-one : (words : List (List ℕ)) (xs ys : List ℕ) → AreDataWords words xs → AreDataWords words ys → xs ≡ ys
 AreDataWords-one [] xs ys p q = p ∙ sym q
 AreDataWords-one (word ∷ []) xs ys p q = IsDataWord-one word xs ys p q

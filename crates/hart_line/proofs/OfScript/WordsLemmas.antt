@@ -11,7 +11,7 @@ pub ok_some : {T E : Type 0} (result : Result T E) (value : T) → result_ok res
 ok_some (Ok other) value is = cc
 ok_some (Err fault) value is = cc
 
--- and where it gives nothing there was none
+-- and if it gives nothing there was none
 pub ok_none : {T E : Type 0} (result : Result T E) (value : T) → result_ok result ≡ None → result ≡ Ok value → ⊥
 ok_none (Ok other) value is same = cc
 ok_none (Err fault) value is same = cc

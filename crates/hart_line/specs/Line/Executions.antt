@@ -8,7 +8,7 @@ use Rattle.hart_line.specs.Line.World.{Execution}
 abbrev pub has_execution_of : ℕ → List Execution → Bool
 has_execution_of number executions = list_any (λ execution. execution.submission == number) executions
 
--- An execution is kept where no later one is of the same submission; the order stays.
+-- An execution is kept if no later one is of the same submission; the order stays.
 abbrev pub last_executions : List Execution → List Execution
 last_executions [] = []
 last_executions (execution ∷ later) =

@@ -4,6 +4,7 @@ use Rattle.hart_frame.specs.Character.{Character}
 use Rattle.hart_frame.specs.FrameParts.{FrameParts}
 use Rattle.hart_values.specs.EachMaster.{of_master}
 use Rattle.hart_line.specs.Line.Damage.{Arrives, IsUndetected}
+use Rattle.hart_line.specs.Line.Needs.{IsNeededBy}
 use Rattle.hart_line.specs.Line.Step.{IsLast, Step, sent_back, sent_by}
 use Rattle.hart_line.specs.Line.World.{Start, World}
 use Rattle.hart_line.specs.declared.event.Heard.{Heard}
@@ -15,7 +16,7 @@ use Rattle.hart_line.specs.declared.fault.Leg.TheVariants as legs
 use Rattle.hart_line.specs.declared.fault.LineFault.{LineFault}
 use Rattle.hart_line.specs.declared.fault.LineFault.TheVariants.{BadLine, Memory, Undetected}
 
--- A turn has undetected damage in what goes up or, where that is shown, in what comes down; noise has it where a frame is heard;
+-- A turn has undetected damage in what goes up or, if that is detected, in what comes down; noise has it if a frame is heard;
 -- nothing else has any.
 abbrev pub HasUndetected : Start → World → LineEvent → Leg → Type 0
 HasUndetected start world (Turn who up down) legs.Up = IsUndetected up (sent_by who (of_master who world.hands))
@@ -24,38 +25,38 @@ HasUndetected start world (Turn who up down) legs.Down = (arrived : Option Frame
 HasUndetected start world (Noise chars) legs.Noise = IsUndetected (Chars chars) None
 HasUndetected start world _ _ = ⊥
 
--- The fault of a script is undetected damage in a leg of an event, the events being numbered from 0, where no event before it has
--- any; or want of memory, of which no contract can say when it comes. A bad line is a fault of a text, never of events.
+-- The fault of a script is undetected damage in a leg of an event, the events being numbered from 0, if no event before it has
+-- any; or refused memory for as many items as the events need room for. A bad line is a fault of a text, never of events.
 abbrev pub IsFault : Start → List LineEvent → LineFault → Type 0
 IsFault start events (Undetected number leg) = (world : World) × (event : LineEvent)
     × IsLast start (take number events) world × (slice_get events number ≡ Some event) × HasUndetected start world event leg
-IsFault start events Memory = Unit {0}
+IsFault start events (Memory room) = IsNeededBy events room.items
 IsFault start events (BadLine line) = ⊥
 
--- What is heard in a leg of an event, where it has that leg.
+-- What is heard in a leg of an event, if it has that leg.
 abbrev pub heard_in : LineEvent → Leg → Option Heard
 heard_in (Turn who up down) legs.Up = Some up
 heard_in (Turn who up down) legs.Down = Some down
 heard_in (Noise chars) legs.Noise = Some (Chars chars)
 heard_in _ _ = None
 
--- Undetected damage is in a leg whose characters are told; a clean or lost leg has none.
+-- Undetected damage is in a leg whose characters are given; a clean or lost leg has none.
 abbrev pub IsOfCharacters : List LineEvent → LineFault → Type 0
 IsOfCharacters events (Undetected number leg) = (event : LineEvent) × (slice_get events number ≡ Some event)
     × (chars : List Character) × (heard_in event leg ≡ Some (Chars chars))
-IsOfCharacters events Memory = Unit {0}
+IsOfCharacters events (Memory room) = Unit {0}
 IsOfCharacters events (BadLine line) = Unit {0}
 
--- What is heard in each leg of an event is shown.
-abbrev pub LegsAreShown : Start → World → LineEvent → Type 0
-LegsAreShown start world (Turn who up down) = (arrived : Option FrameParts)
+-- The damage of each leg of an event is detected.
+abbrev pub LegsAreDetected : Start → World → LineEvent → Type 0
+LegsAreDetected start world (Turn who up down) = (arrived : Option FrameParts)
     × Arrives up (sent_by who (of_master who world.hands)) arrived
     × (returned : Option FrameParts) × Arrives down (sent_back start world arrived) returned
-LegsAreShown start world (Noise chars) = Arrives (Chars chars) None None
-LegsAreShown start world _ = Unit {0}
+LegsAreDetected start world (Noise chars) = Arrives (Chars chars) None None
+LegsAreDetected start world _ = Unit {0}
 
--- What is heard in each leg of these events is shown, one event after another.
-abbrev pub AreAllShown : Start → World → List LineEvent → Type 0
-AreAllShown start world [] = Unit {0}
-AreAllShown start world (event ∷ events) =
-    LegsAreShown start world event × ((next : World) → Step start world event next → AreAllShown start next events)
+-- The damage of each leg of these events is detected, one event after another.
+abbrev pub AreAllDetected : Start → World → List LineEvent → Type 0
+AreAllDetected start world [] = Unit {0}
+AreAllDetected start world (event ∷ events) =
+    LegsAreDetected start world event × ((next : World) → Step start world event next → AreAllDetected start next events)

@@ -5,30 +5,30 @@ use Rattle.hart_frame.specs.Character.{Character}
 use Rattle.hart_frame.specs.FrameParts.{FrameParts}
 use Rattle.hart_frame.specs.Frames.{AreFrames}
 use Rattle.hart_frame.specs.declared.found.Found.{Found}
-use Rattle.hart_line.specs.Line.Damage.{IsShown}
-use Rattle.hart_line.specs.Line.Spoken.{Message}
+use Rattle.hart_line.specs.Line.Damage.{IsDetected}
+use Rattle.hart_line.specs.Line.Spoken.{SpokenFrame}
 
--- Characters have frames that are shown, where this was sent, and by which this arrives.
+-- If this was sent, the damage of these characters is detected, and this arrives.
 pub record ArrivesAmong (chars : List Character) (sent arrived : Option FrameParts) : Type 0 where
   pub frames : List Found
   pub are_frames : AreFrames chars 0 frames
-  pub shown : IsShown sent frames arrived
+  pub detected : IsDetected sent frames arrived
 
--- Characters have frames that are not shown, where this was sent.
+-- If this was sent, the damage of these characters is undetected.
 pub record IsUndetectedAmong (chars : List Character) (sent : Option FrameParts) : Type 0 where
   pub frames : List Found
   pub are_frames : AreFrames chars 0 frames
-  pub not_shown : (arrived : Option FrameParts) → IsShown sent frames arrived → ⊥
+  pub not_detected : (arrived : Option FrameParts) → IsDetected sent frames arrived → ⊥
 
--- A message has this frame, two preamble bytes at least, and a body of the frame.
-pub record IsMessageOf (frame : FrameParts) (message : Message) : Type 0 where
-  pub same : message.frame ≡ frame
-  pub preambles : 2 ≤ message.preambles
+-- This frame was spoken, after two preamble bytes at least, and it has a body.
+pub record IsSpokenOf (frame : FrameParts) (said : SpokenFrame) : Type 0 where
+  pub same : said.frame ≡ frame
+  pub preambles : 2 ≤ said.preambles
   pub body : List ℕ
-  pub is_body : IsBody message.frame body
+  pub is_body : IsBody said.frame body
 
--- A frame was sent in this message, or none was and there is no message.
-abbrev pub IsSent : Option FrameParts → Option Message → Type 0
-IsSent None message = message ≡ None
+-- Either this frame was sent and spoken, or no frame was sent and nothing was spoken.
+abbrev pub IsSent : Option FrameParts → Option SpokenFrame → Type 0
+IsSent None said = said ≡ None
 IsSent (Some frame) None = ⊥
-IsSent (Some frame) (Some message) = IsMessageOf frame message
+IsSent (Some frame) (Some said) = IsSpokenOf frame said

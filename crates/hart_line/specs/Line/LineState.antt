@@ -5,26 +5,24 @@ use Rattle.hart_frame.specs.FrameParts.{FrameParts}
 use Rattle.hart_values.specs.EachMaster.{of_master}
 use Rattle.hart_device.specs.Answer.{state_after}
 use Rattle.hart_device.specs.Device.{DeviceState}
-use Rattle.hart_line.specs.Line.Faults.{HasUndetected}
 use Rattle.hart_line.specs.Line.Masters.{AreHeld}
 use Rattle.hart_line.specs.Line.Spoken.{AreSpoken}
 use Rattle.hart_line.specs.Line.Step.{Step}
 use Rattle.hart_line.specs.Line.World.{Start, World, state_of}
 use Rattle.hart_line.specs.declared.event.LineEvent.{LineEvent}
-use Rattle.hart_line.specs.declared.fault.LineFault.{LineFault}
-use Rattle.hart_line.specs.declared.fault.LineFault.TheVariants as faults
 use Rattle.hart_line.specs.declared.line.masters.Masters.{Masters}
 use Rattle.hart_line.specs.declared.line.report.Outcome.{Outcome}
 use Rattle.hart_line.specs.declared.line.report.Spoken.{Spoken}
-use Rattle.hart_line.specs.declared.line.stop.Stop.{Stop}
-use Rattle.hart_line.specs.declared.line.stop.Stop.TheVariants.{Undetected, NoMemory}
 
--- A line is a device, its two masters, what became of each submission so far, and what was spoken.
+-- A line is a device, its two masters, what became of each submission so far, what was spoken, and for how many outcomes and
+-- spoken frames there is room in all.
 pub record LineState : Type 0 where
   pub device : DeviceState
   pub masters : Masters
   pub outcomes : List Outcome
   pub spoken : List Spoken
+  pub outcomes_room : ℕ
+  pub spoken_room : ℕ
 
 -- A line stands for a world: its parts are those of the world.
 pub record Stands (start : Start) (world : World) (line : LineState) : Type 0 where
@@ -47,13 +45,3 @@ pub record Stepped (start : Start) (world : World) (event : LineEvent) (line : L
   pub next : World
   pub step : Step start world event next
   pub stands : Stands start next line
-
--- An event stops a script where it has undetected damage in the leg, or for want of memory.
-abbrev pub StopsStep : Start → World → LineEvent → Stop → Type 0
-StopsStep start world event (Undetected leg) = HasUndetected start world event leg
-StopsStep start world event NoMemory = Unit {0}
-
--- The fault of a script that stops at the event with this number.
-abbrev pub fault_of : ℕ → Stop → LineFault
-fault_of number (Undetected leg) = faults.Undetected number leg
-fault_of number NoMemory = faults.Memory

@@ -11,7 +11,7 @@ use Rattle.hart_master.specs.Master.{hand_sent}
 use Rattle.hart_master.specs.declared.hand.Hand.{Hand}
 use Rattle.hart_master.specs.declared.hand.Hand.TheVariants.{Empty, ToSend}
 use Rattle.hart_master.specs.declared.fault.MasterFault.{MasterFault}
-use Rattle.hart_line.specs.Line.Step.{Accepts, hand_left, message_of, outcome_of}
+use Rattle.hart_line.specs.Line.Step.{Accepts, hand_left, spoken_request, outcome_of}
 use Rattle.hart_line.specs.Line.World.{InHand}
 use Rattle.hart_line.specs.declared.line.masters.Masters.{Masters}
 use Rattle.hart_line.specs.declared.line.masters.Submitter.{Submitter}
@@ -60,11 +60,11 @@ Submits held place address request None outcome Left = (outcome ≡ Unfinished 0
     × Left (Some (record { submission = place; address = address; request = request; sendings = 0 }))
 Submits held place address request (Some fault) outcome Left = (outcome ≡ Refused fault) × Left held
 
--- A master with nothing in hand sends nothing; otherwise it sends the frame of its message.
+-- A master with nothing in hand sends nothing; otherwise it sends the frame of its request.
 abbrev pub Sends : MasterId → Option InHand → Option FrameParts → (Silent : Type 0) → (Sent : InHand → Type 0) → Type 0
 Sends who held None Silent Sent = (held ≡ None) × Silent
 Sends who held (Some frame) Silent Sent =
-    (sent : InHand) × (held ≡ Some sent) × (frame ≡ (message_of who sent).frame) × Sent sent
+    (sent : InHand) × (held ≡ Some sent) × (frame ≡ (spoken_request who sent).frame) × Sent sent
 
 -- What comes back is no reply to the request that a master awaits, or it is one, by which the request is answered.
 abbrev pub Hears : MasterId → InHand → Option FrameParts → Option Outcome → (Unanswered Done : Type 0) → Type 0

@@ -3,7 +3,7 @@ use Rattle.std.specs.Prelude.{◌≡◌, ◌≢◌, ◌⊎◌, ℕ, ◌+◌, Lis
 use Rattle.hart_values.specs.declared.master_id.MasterId.{MasterId}
 use Rattle.hart_frame.specs.FrameParts.{FrameParts}
 use Rattle.hart_values.specs.EachMaster.{of_master}
-use Rattle.hart_commands.specs.Registers.{NamedBytes, overwrite_of}
+use Rattle.hart_commands.specs.Registers.{Overwrite, overwrite_of}
 use Rattle.hart_commands.specs.RequestCode.{is_write}
 use Rattle.hart_commands.specs.RequestData.{IsRequest}
 use Rattle.hart_commands.specs.declared.reply.Reply.{Reply}
@@ -14,7 +14,7 @@ use Rattle.hart_device.specs.Device.{DeviceState, Resets}
 use Rattle.hart_device.specs.declared.process.Process.{Process}
 use Rattle.hart_master.specs.Acceptance.{IsReplyTo}
 use Rattle.hart_master.specs.Master.{MasterState}
-use Rattle.hart_line.specs.Line.Step.{Run, Step, effect_on, executions_after, message_of}
+use Rattle.hart_line.specs.Line.Step.{Run, Step, effect_on, executions_after, spoken_request}
 use Rattle.hart_line.specs.Line.World.{InHand, Start, World, first_world, state_of}
 use Rattle.hart_line.specs.declared.event.Heard.{Heard}
 use Rattle.hart_line.specs.declared.event.LineEvent.{LineEvent}
@@ -30,13 +30,13 @@ start_of device process primary secondary = record {
   retries = record { primary = primary.retries; secondary = secondary.retries };
 }
 
--- One event of a script: the events in front of it lead to the world before it, and it leads from there to the next.
+-- One event of a script: the events before it lead to a world, and it leads from there to the next.
 pub record IsStepOf (start : Start) (from : World) (events : List LineEvent) (before : World) (event : LineEvent) (next : World)
     : Type 0 where
-  pub front : List LineEvent
-  pub back : List LineEvent
-  pub split : events ≡ front ++ event ∷ back
-  pub led : Run start from front before
+  pub prefix : List LineEvent
+  pub suffix : List LineEvent
+  pub split : events ≡ prefix ++ event ∷ suffix
+  pub led : Run start from prefix before
   pub step : Step start before event next
 
 -- The turn in which a submission was answered: the request in hand was sent for the last time, and arrived; the device's answer to
@@ -53,13 +53,13 @@ pub record AnswersLastSendingFrom (start : Start) (from : World) (events : List 
   pub in_hand : of_master who before.hands ≡ Some held
   pub of_submission : held.submission ≡ number
   pub sent : sendings ≡ held.sendings + 1
-  pub arrived : turn.step.arrived ≡ Some (message_of who held).frame
+  pub arrived : turn.step.arrived ≡ Some (spoken_request who held).frame
   pub answer : FrameParts
-  pub answered : answer_of (state_of start.device before) start.process (message_of who held).frame ≡ Some answer
+  pub answered : answer_of (state_of start.device before) start.process (spoken_request who held).frame ≡ Some answer
   pub returned : turn.step.returned ≡ Some answer
   pub is_reply : IsReplyTo who held.address held.request answer reply
   pub executions : next.executions
-      ≡ executions_after (effect_of (state_of start.device before) (message_of who held).frame) number before.executions
+      ≡ executions_after (effect_of (state_of start.device before) (spoken_request who held).frame) number before.executions
   pub reached : slice_get next.outcomes number ≡ Some (Answered reply sendings)
   pub left : of_master who next.hands ≡ None
 
@@ -77,19 +77,19 @@ requests_of (event ∷ events) = requests_of events
 abbrev pub AreWellMade : List LineEvent → Type 0
 AreWellMade events = All IsRequest (requests_of events)
 
--- How often a submission was sent, as its outcome tells; a refused one, or one that is not there, never was.
-abbrev pub sendings_told : Option Outcome → ℕ
-sendings_told (Some (Answered reply sendings)) = sendings
-sendings_told (Some (NoReply sendings)) = sendings
-sendings_told (Some (Unfinished sendings)) = sendings
-sendings_told (Some (Refused fault)) = 0
-sendings_told None = 0
+-- How often a submission was sent, as its outcome says; a refused one, or one that is not there, never was.
+abbrev pub sendings_in : Option Outcome → ℕ
+sendings_in (Some (Answered reply sendings)) = sendings
+sendings_in (Some (NoReply sendings)) = sendings
+sendings_in (Some (Unfinished sendings)) = sendings
+sendings_in (Some (Refused fault)) = 0
+sendings_in None = 0
 
 -- In the turn in which a submission was answered one execution was added, of this submission with the overwrite of its request.
 pub record IsExecutedInItsTurn (start : Start) (events : List LineEvent) (number : ℕ) (request : Request) (reply : Reply) (sendings : ℕ)
     : Type 0 where
   pub answered : AnswersLastSending start events number reply sendings
-  pub overwrite : NamedBytes
+  pub overwrite : Overwrite
   pub overwrites : overwrite_of request ≡ Some overwrite
   pub executed : answered.next.executions
       ≡ answered.before.executions ++ record { submission = number; overwrite = overwrite } ∷ []
@@ -108,13 +108,13 @@ IsUnrefusedWrite state None = ⊥
 IsUnrefusedWrite state (Some frame) =
     IsTrue (is_write frame.command) × (is_answered state frame ≡ true) × (code_of state frame ≡ 0)
 
--- In a turn of this master one execution was added: the submission of the request in its hand, with the overwrite of that request,
--- which is the one that was submitted under this number.
+-- In a turn of this master one execution is added: that of the submission whose request is in its hand, with the overwrite of this
+-- request, which is the one that was submitted under that number.
 pub record IsExecutedFromHand (start : Start) (events : List LineEvent) (who : MasterId) (before next : World) : Type 0 where
   pub held : InHand
   pub in_hand : of_master who before.hands ≡ Some held
   pub submitted_as : slice_get (requests_of events) held.submission ≡ Some held.request
-  pub overwrite : NamedBytes
+  pub overwrite : Overwrite
   pub overwrites : overwrite_of held.request ≡ Some overwrite
   pub executed : next.executions ≡ before.executions ++ record { submission = held.submission; overwrite = overwrite } ∷ []
 
@@ -145,4 +145,4 @@ pub record IsLastReset (start : Start) (events : List LineEvent) (who : MasterId
   pub arrived : turn.step.arrived ≡ Some frame
   pub resets : effect_of (state_of start.device before) frame ≡ Resets
   pub reading : reading_of frame ≡ Ok (ResetChanged given)
-  pub last : HasNoReset start next turn.back who
+  pub last : HasNoReset start next turn.suffix who

@@ -17,7 +17,7 @@ use Rattle.hart_master.specs.Pairing.{may_ask}
 use Rattle.hart_master.specs.declared.fault.MasterFault.{MasterFault}
 use Rattle.hart_master.specs.declared.fault.MasterFault.TheVariants.{Pending, WrongAddress}
 use Rattle.hart_line.specs.Line.Damage.{Arrives}
-use Rattle.hart_line.specs.Line.Spoken.{Message, master_preambles, message_by, party_of}
+use Rattle.hart_line.specs.Line.Spoken.{SpokenFrame, master_preambles, spoken_by, party_of}
 use Rattle.hart_line.specs.Line.World.{Execution, InHand, Start, World, first_world, state_of}
 use Rattle.hart_line.specs.declared.event.Heard.{Heard}
 use Rattle.hart_line.specs.declared.event.Heard.TheVariants.{Chars}
@@ -27,7 +27,7 @@ use Rattle.hart_line.specs.declared.line.report.Outcome.{Outcome}
 use Rattle.hart_line.specs.declared.line.report.Outcome.TheVariants.{Answered, NoReply, Unfinished, Refused}
 use Rattle.hart_line.specs.declared.line.report.Party.TheVariants.{Device}
 
--- A submission is refused where a request is in the master's hand, whatever the address, and otherwise where the request may not
+-- A submission is refused if a request is in the master's hand, whatever the address, and otherwise if the request may not
 -- be sent to the address.
 abbrev pub submission_fault : Option InHand → Address → Request → Option MasterFault
 submission_fault (Some held) address request = Some Pending
@@ -45,31 +45,31 @@ submitted world who address request (Some fault) = record world {
   outcomes = world.outcomes ++ Refused fault ∷ [];
 }
 
--- In its turn a master sends the request in its hand: behind the preamble bytes of a master an STX with the written data of the
+-- In its turn a master sends the request in its hand: after the preamble bytes of a master an STX with the written data of the
 -- request.
-abbrev pub message_of : MasterId → InHand → Message
-message_of who held = record {
+abbrev pub spoken_request : MasterId → InHand → SpokenFrame
+spoken_request who held = record {
   party = party_of who;
   preambles = master_preambles;
   frame = request_parts who held.address (command_of held.request) (request_data held.request);
 }
 
 -- A master with nothing in its hand sends nothing.
-abbrev pub sent_by : MasterId → Option InHand → Option Message
+abbrev pub sent_by : MasterId → Option InHand → Option SpokenFrame
 sent_by who None = None
-sent_by who (Some held) = Some (message_of who held)
+sent_by who (Some held) = Some (spoken_request who held)
 
--- The device answers the frame that arrives, and says nothing where none arrives.
+-- The device answers the frame that arrives, and says nothing if none arrives.
 abbrev pub frame_answered : DeviceState → Process → Option FrameParts → Option FrameParts
 frame_answered state process None = None
 frame_answered state process (Some frame) = answer_of state process frame
 
--- It sends its answer back behind as many preamble bytes as its identity tells.
-abbrev pub sent_back : Start → World → Option FrameParts → Option Message
-sent_back start world arrived = message_by Device start.device.identity.response_preambles
+-- It sends its answer back after as many preamble bytes as its identity says.
+abbrev pub sent_back : Start → World → Option FrameParts → Option SpokenFrame
+sent_back start world arrived = spoken_by Device start.device.identity.response_preambles
     (frame_answered (state_of start.device world) start.process arrived)
 
--- What arrives has its effect on the device, and there is no effect where no frame arrives.
+-- What arrives has its effect on the device, and there is no effect if no frame arrives.
 abbrev pub effect_on : DeviceState → Option FrameParts → Effect
 effect_on state None = Nothing
 effect_on state (Some frame) = effect_of state frame
@@ -87,8 +87,8 @@ marks_after Nothing who count marks = marks
 marks_after (Executes overwrite) who count marks = marks
 marks_after Resets who count marks = with_master who (Some count) marks
 
--- A master accepts what comes back as the reply that it is to the request in hand; it accepts nothing where it is no such reply,
--- where nothing comes back, or where nothing is in hand.
+-- A master accepts what comes back as the reply that it is to the request in hand; it accepts nothing if it is no such reply,
+-- if nothing comes back, or if nothing is in hand.
 abbrev pub Accepts : MasterId → Option InHand → Option FrameParts → Option Reply → Type 0
 Accepts who None returned accepted = accepted ≡ None
 Accepts who (Some held) None accepted = accepted ≡ None
@@ -122,7 +122,7 @@ turned start world who (Some held) arrived accepted =
       protected = world.protected;
       hands = with_master who (hand_left held outcome) world.hands;
       outcomes = slice_set world.outcomes held.submission outcome;
-      spoken = world.spoken ++ message_of who held ∷ option_to_list (sent_back start world arrived);
+      spoken = world.spoken ++ spoken_request who held ∷ option_to_list (sent_back start world arrived);
     }
 
 -- A turn leads to the next world by what arrives of the request, what comes back of the answer to that, and the reply that is
@@ -137,7 +137,7 @@ pub record IsTurn (start : Start) (world : World) (who : MasterId) (up down : He
   pub next_is : next ≡ turned start world who (of_master who world.hands) arrived accepted
 
 -- An event leads from a world to the next: a submission by the fault that refuses it, if any; a turn; the switch of protection,
--- which changes nothing else; and noise of which no frame arrives, which changes nothing. Where damage is not shown there is no
+-- which changes nothing else; and noise of which no frame arrives, which changes nothing. If damage is not detected there is no
 -- next world.
 abbrev pub Step : Start → World → LineEvent → World → Type 0
 Step start world (Submit who address request) next =

@@ -1,19 +1,19 @@
--- The world of a script (own profile): what has happened on the line, told by executions and the numbers of submissions, which a
+-- The world of a script (own profile): what has happened on the line, by executions and the numbers of submissions, which a
 -- device and its masters do not know.
 use Rattle.std.specs.Prelude.{ℕ, ◌+◌, ◌%◌, ◌^◌, ◌||◌, nat_lt, Bool, List, [], length, map, Option, None, Some}
 use Rattle.hart_values.specs.declared.address.Address.{Address}
 use Rattle.hart_values.specs.declared.each_master.EachMaster.{EachMaster}
-use Rattle.hart_commands.specs.Registers.{NamedBytes, registers_of}
+use Rattle.hart_commands.specs.Registers.{Overwrite, registers_of}
 use Rattle.hart_commands.specs.declared.request.Request.{Request}
 use Rattle.hart_device.specs.Device.{DeviceState}
 use Rattle.hart_device.specs.declared.process.Process.{Process}
-use Rattle.hart_line.specs.Line.Spoken.{Message}
+use Rattle.hart_line.specs.Line.Spoken.{SpokenFrame}
 use Rattle.hart_line.specs.declared.line.report.Outcome.{Outcome}
 
 -- An execution of a configuration write has the number of its submission, counted from 0, and the overwrite that was executed.
 pub record Execution : Type 0 where
   pub submission : ℕ
-  pub overwrite : NamedBytes
+  pub overwrite : Overwrite
 
 -- A request in a master's hand has the number of its submission, its address, and how often it was sent.
 pub record InHand : Type 0 where
@@ -31,7 +31,7 @@ pub record World : Type 0 where
   pub protected : Bool
   pub hands : EachMaster (Option InHand)
   pub outcomes : List Outcome
-  pub spoken : List Message
+  pub spoken : List SpokenFrame
 
 -- A script starts with a device, with the process values that it is handed, and with how often each master sends again at most.
 pub record Start : Type 0 where
@@ -51,10 +51,10 @@ first_world start = record {
 }
 
 -- The overwrites of executions, in the same order.
-abbrev pub overwrites_of : List Execution → List NamedBytes
+abbrev pub overwrites_of : List Execution → List Overwrite
 overwrites_of executions = map (λ execution. execution.overwrite) executions
 
--- A master's configuration-changed bit is set where its mark is less than the number of executions or, without a mark, where it
+-- A master's configuration-changed bit is set if its mark is less than the number of executions or, without a mark, if it
 -- was set initially or there are executions.
 abbrev pub is_changed : Bool → Option ℕ → ℕ → Bool
 is_changed initially None count = initially || nat_lt 0 count
@@ -62,7 +62,7 @@ is_changed initially (Some mark) count = nat_lt mark count
 
 -- The device in a world: each register holds the bytes of the newest execution that names it, otherwise its initial bytes; the
 -- counter has grown by the number of executions, 65535 being followed by 0; each configuration-changed bit is as its master's
--- mark tells; protection is that of the world; the identity stays.
+-- mark says; protection is that of the world; the identity stays.
 abbrev pub state_of : DeviceState → World → DeviceState
 state_of initial world = record initial {
   contents = registers_of (overwrites_of world.executions) initial.contents;

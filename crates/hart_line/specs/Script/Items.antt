@@ -1,4 +1,4 @@
--- Texts of hex items (own profile): an item is two hex digits, after which a `!` and two more hex digits may tell fault bits.
+-- Texts of hex items (own profile): an item is two hex digits, after which a `!` and two more hex digits may give fault bits.
 use Rattle.std.specs.Prelude.{◌≡◌, ◌≢◌, ℕ, ◌+◌, ◌*◌, List, [], ◌∷◌, ◌++◌, length, unwrap_or, IsTrue, ⊤}
 use Rattle.hart_frame.specs.Character.{AreFaultBits, Character}
 use Rattle.hex.specs.Hex.{hex_digit_value, is_hex_digit}
@@ -13,7 +13,7 @@ abbrev pub item_spelling : Item → List ℕ
 item_spelling (Plain high low) = high ∷ low ∷ []
 item_spelling (Faulty high low fault_high fault_low) = high ∷ low ∷ 33 ∷ fault_high ∷ fault_low ∷ []
 
--- Two bytes are digits where both are hex digits, of either case.
+-- Two bytes are digits if both are hex digits, of either case.
 abbrev pub AreDigits : ℕ → ℕ → Type 0
 AreDigits high low = IsTrue (is_hex_digit high) × IsTrue (is_hex_digit low)
 
@@ -25,7 +25,7 @@ hex_value digit = unwrap_or (hex_digit_value digit) 0
 abbrev pub byte_of : ℕ → ℕ → ℕ
 byte_of high low = 16 * hex_value high + hex_value low
 
--- An item has hex digits, and its fault bits, where it tells them, are not 00 and none but those that there are.
+-- An item has hex digits, and its fault bits, if it gives them, are not 00 and none but those that there are.
 abbrev pub IsValidItem : Item → Type 0
 IsValidItem (Plain high low) = AreDigits high low
 IsValidItem (Faulty high low fault_high fault_low) =

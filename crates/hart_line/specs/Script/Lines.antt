@@ -4,7 +4,7 @@ use Rattle.std.specs.List.{slice_split}
 use Rattle.std.specs.Str.Lines.{strip_carriage_return}
 
 -- The lines of a text are its parts between line feeds, each without one carriage return at its end, if it ends with one.
--- Behind the last line feed stands a line too, perhaps an empty one.
+-- After the last line feed stands a line too, perhaps an empty one.
 abbrev pub lines_of : List ℕ → List (List ℕ)
 lines_of text = map strip_carriage_return (slice_split (λ byte. byte == 10) text)
 

@@ -1,5 +1,5 @@
 -- What the lines of a script say (own profile): a table of one row for each kind of event.
-use Rattle.std.specs.Prelude.{◌≡◌, ℕ, ◌+◌, Bool, true, false, List, [], ◌∷◌, ◌++◌, codes, length, map, Option, None, Some, Result, Ok, Err}
+use Rattle.std.specs.Prelude.{◌≡◌, ◌⊎◌, ℕ, ◌+◌, ◌/◌, Any, Bool, true, false, List, [], ◌∷◌, ◌++◌, codes, length, map, Option, None, Some, Result, Ok, Err}
 use Rattle.hart_values.specs.declared.address.Address.{Address}
 use Rattle.hart_values.specs.declared.master_id.MasterId.{MasterId}
 use Rattle.hart_commands.specs.RequestData.{request_reading}
@@ -15,7 +15,7 @@ use Rattle.hart_line.specs.declared.event.LineEvent.TheVariants.{Submit, Turn, P
 use Rattle.hart_line.specs.declared.fault.LineFault.{LineFault}
 use Rattle.hart_line.specs.declared.fault.LineFault.TheVariants.{BadLine, Memory, Undetected}
 use Rattle.hart_line.specs.declared.script.rows.RowFault.{RowFault}
-use Rattle.hart_line.specs.declared.script.rows.RowFault.TheVariants.{Bad, NoMemory}
+use Rattle.hart_line.specs.declared.script.rows.RowFault.TheVariants as rows
 
 -- The words after COMMAND are none, which write no bytes, or DATA alone.
 abbrev pub AreDataWords : List (List ℕ) → List ℕ → Type 0
@@ -51,8 +51,8 @@ pub record IsTurnRow (words : List (List ℕ)) (master : MasterId) (up_heard dow
   pub down : List ℕ
   pub row : words ≡ codes "turn" ∷ who ∷ up ∷ down ∷ []
   pub master_named : IsWho who master
-  pub up_told : IsLeg up up_heard
-  pub down_told : IsLeg down down_heard
+  pub up_written : IsLeg up up_heard
+  pub down_written : IsLeg down down_heard
 
 -- Write protection is switched by these words.
 abbrev pub switch_word : Bool → List ℕ
@@ -65,19 +65,19 @@ pub record IsNoiseRow (words : List (List ℕ)) (chars : List Character) : Type 
   pub row : words ≡ codes "noise" ∷ items ∷ []
   pub heard : IsItemsWord items chars
 
--- The words of a line say an event by the row of its kind; the rows `protect on` and `protect off` are told by their words alone.
+-- The words of a line say an event by the row of its kind; the rows `protect on` and `protect off` are these words alone.
 abbrev pub IsEvent : List (List ℕ) → LineEvent → Type 0
 IsEvent words (Submit who address request) = IsSubmitRow words who address request
 IsEvent words (Turn who up down) = IsTurnRow words who up down
 IsEvent words (Protect on) = words ≡ codes "protect" ∷ switch_word on ∷ []
 IsEvent words (Noise chars) = IsNoiseRow words chars
 
--- A line is skipped, and is no event, where it has no words or its first word begins with `#`.
+-- A line is skipped, and is no event, if it has no words or its first word begins with `#`.
 abbrev pub IsSkipped : List (List ℕ) → Type 0
 IsSkipped [] = Unit {0}
 IsSkipped (word ∷ words) = (rest : List ℕ) × (word ≡ codes "#" ++ rest)
 
--- Lines, each told by its words, say these events in order, one by each line that is not skipped.
+-- Lines, each given by its words, say these events in order, one by each line that is not skipped.
 pub data AreEvents : List (List (List ℕ)) → List LineEvent → Type 0 where
   none : AreEvents [] []
   skipped : (words : List (List ℕ)) (lines : List (List (List ℕ))) (events : List LineEvent) → IsSkipped words
@@ -89,11 +89,11 @@ pub data AreEvents : List (List (List ℕ)) → List LineEvent → Type 0 where
 abbrev pub IsScript : List ℕ → List LineEvent → Type 0
 IsScript text events = AreEvents (map words_of (lines_of text)) events
 
--- A line is bad where it is not skipped and says no event.
+-- A line is bad if it is not skipped and says no event.
 abbrev pub IsBadLine : List (List ℕ) → Type 0
 IsBadLine words = (IsSkipped words → ⊥) × ((event : LineEvent) → IsEvent words event → ⊥)
 
--- A text has its first bad line at a number, counted from 1, where that line is bad and each line before it is skipped or says
+-- A text has its first bad line at a number, counted from 1, if that line is bad and each line before it is skipped or says
 -- an event.
 pub record HasFirstBadLine (text : List ℕ) (number : ℕ) : Type 0 where
   pub before : List (List (List ℕ))
@@ -105,30 +105,40 @@ pub record HasFirstBadLine (text : List ℕ) (number : ℕ) : Type 0 where
   pub events : List LineEvent
   pub good : AreEvents before events
 
--- Reading a text is refused with its first bad line, or for want of memory, of which a contract sees nothing, and never for
+-- Characters need room for half as many of them as one of these words has bytes.
+abbrev pub IsNeededByWords : List (List ℕ) → ℕ → Type 0
+IsNeededByWords words items = Any (λ word. items ≡ length word / 2) words
+
+-- A text needs room for as many events as it has lines, and for the characters of a word of one of them.
+abbrev pub IsNeededByText : List ℕ → ℕ → Type 0
+IsNeededByText text items = (items ≡ length (lines_of text)) ⊎ Any (λ words. IsNeededByWords words items) (map words_of (lines_of text))
+
+-- Reading a text is refused with its first bad line, or because memory is refused for as many items as it needs room for, and never for
 -- damage.
 abbrev pub IsScriptFault : List ℕ → LineFault → Type 0
 IsScriptFault text (BadLine number) = HasFirstBadLine text number
-IsScriptFault text Memory = Unit {0}
+IsScriptFault text (Memory room) = IsNeededByText text room.items
 IsScriptFault text (Undetected number leg) = ⊥
 
 -- For private calls alone: what reading one line answers.
 
--- What is read is a value of which this holds, and at a bad line there is none.
-abbrev pub Reads : {T : Type 0} → (T → Type 0) → Result T RowFault → Type 0
-Reads {T} IsValue (Ok value) = IsValue value
-Reads {T} IsValue (Err Bad) = HasNoValue IsValue
-Reads {T} IsValue (Err NoMemory) = Unit {0}
+-- What is read of some words is a value of which this holds; at a bad line there is none; and no more room is asked for than they
+-- need.
+abbrev pub Reads : {T : Type 0} → List (List ℕ) → (T → Type 0) → Result T RowFault → Type 0
+Reads {T} words IsValue (Ok value) = IsValue value
+Reads {T} words IsValue (Err rows.Bad) = HasNoValue IsValue
+Reads {T} words IsValue (Err (rows.Memory room)) = IsNeededByWords words room.items
 
 -- The fault of a script whose line with this number is not read.
 abbrev pub fault_at_line : ℕ → RowFault → LineFault
-fault_at_line number Bad = BadLine number
-fault_at_line number NoMemory = Memory
+fault_at_line number rows.Bad = BadLine number
+fault_at_line number (rows.Memory room) = Memory room
 
--- The words of the line with this number say the event that is read; where none is it is skipped, and at its fault it is bad.
+-- The words of the line with this number say the event that is read; if none is read the line is skipped, and a fault that names
+-- the line says that it is bad.
 abbrev pub SaysLine : ℕ → List (List ℕ) → Result (Option LineEvent) LineFault → Type 0
 SaysLine number words (Ok None) = IsSkipped words
-SaysLine number words (Ok (Some told)) = IsEvent words told
+SaysLine number words (Ok (Some event)) = IsEvent words event
 SaysLine number words (Err (BadLine at)) = (at ≡ number) × IsBadLine words
-SaysLine number words (Err Memory) = Unit {0}
+SaysLine number words (Err (Memory room)) = IsNeededByWords words room.items
 SaysLine number words (Err (Undetected event leg)) = ⊥

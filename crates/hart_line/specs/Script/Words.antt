@@ -56,7 +56,7 @@ IsDataWord word bytes = (decode_of word ≡ Ok bytes) × (length bytes ≤ 255)
 abbrev pub HasNoValue : {T : Type 0} → (T → Type 0) → Type 0
 HasNoValue {T} IsValue = (value : T) → IsValue value → ⊥
 
--- What is found is a value of which this holds, and where nothing is found there is none.
+-- What is found is a value of which this holds, and if nothing is found there is none.
 abbrev pub Finds : {T : Type 0} → (T → Type 0) → Option T → Type 0
 Finds {T} IsValue None = HasNoValue IsValue
 Finds {T} IsValue (Some value) = IsValue value

@@ -3,9 +3,9 @@ ghost use Rattle.std.specs.Prelude.{◌≡◌, ◌↔◌, IfErr, IfOk, IsTrue, O
 ghost use Rattle.std.specs.Option.{option_copied};
 ghost use Rattle.hart_line.specs.Line.Damage.{Arrives, IsUndetected};
 ghost use Rattle.hart_line.specs.Line.Leg.{ArrivesAmong, IsSent, IsUndetectedAmong};
-ghost use Rattle.hart_line.specs.Line.Spoken.{Message};
+ghost use Rattle.hart_line.specs.Line.Spoken.{SpokenFrame};
 
-use crate::line::stop::Stop;
+use crate::line::undetected::Undetected;
 use crate::{Heard, Leg};
 use hart_frame::{Char, Frame, LoneFrame, lone_frame, messages_have_their_frame_alone};
 
@@ -15,17 +15,17 @@ use hart_frame::{Char, Frame, LoneFrame, lone_frame, messages_have_their_frame_a
 ///
 /// # Errors
 ///
-/// [`Stop::Undetected`] with the leg, if its damage is undetected.
+/// The leg, if its damage is undetected.
 pub fn arrived_in<'a>(
     leg: Leg,
     heard: &Heard,
     sent: Option<&'a Frame>,
-) -> Result<Option<&'a Frame>, Stop>
-    ensures arrives { IfOk result (λ arrived. (message : Option Message) → IsSent (option_copied sent.entry) message
-        → Arrives heard.now message (option_copied arrived)) }
-    ensures undetected { IfErr result (λ stop. (message : Option Message) → IsSent (option_copied sent.entry) message
-        → IsUndetected heard.now message) }
-    ensures leg { IfErr result (λ stop. stop ≡ Stop.Undetected leg) }
+) -> Result<Option<&'a Frame>, Undetected>
+    ensures arrives { IfOk result (λ arrived. (said : Option SpokenFrame) → IsSent (option_copied sent.entry) said
+        → Arrives heard.now said (option_copied arrived)) }
+    ensures undetected { IfErr result (λ damage. (said : Option SpokenFrame) → IsSent (option_copied sent.entry) said
+        → IsUndetected heard.now said) }
+    ensures leg { IfErr result (λ damage. damage.leg ≡ leg) }
 {
     messages_have_their_frame_alone();
     match heard {
@@ -39,20 +39,20 @@ pub fn arrived_in<'a>(
 ///
 /// # Errors
 ///
-/// [`Stop::Undetected`] with the leg, if its damage is undetected.
+/// The leg, if its damage is undetected.
 pub fn arrived_among<'a>(
     leg: Leg,
     chars: &[Char],
     sent: Option<&'a Frame>,
-) -> Result<Option<&'a Frame>, Stop>
+) -> Result<Option<&'a Frame>, Undetected>
     ensures arrives { IfOk result (λ arrived. ArrivesAmong chars.now (option_copied sent.entry) (option_copied arrived)) }
-    ensures undetected { IfErr result (λ stop. IsUndetectedAmong chars.now (option_copied sent.entry)) }
-    ensures leg { IfErr result (λ stop. stop ≡ Stop.Undetected leg) }
+    ensures undetected { IfErr result (λ damage. IsUndetectedAmong chars.now (option_copied sent.entry)) }
+    ensures leg { IfErr result (λ damage. damage.leg ≡ leg) }
 {
     match lone_frame(chars) {
         LoneFrame::NoFrame => Ok(None),
         LoneFrame::Alone(found) if is_frame(sent, &found.frame) => Ok(sent),
-        LoneFrame::Alone(_) | LoneFrame::Several => Err(Stop::Undetected(leg)),
+        LoneFrame::Alone(_) | LoneFrame::Several => Err(Undetected { leg }),
     }
 }
 

@@ -1,16 +1,16 @@
 //! The two masters of a line, each with the place of its request in hand among the outcomes.
-ghost use Rattle.std.specs.Prelude.{◌≡◌, ℕ, ◌+◌, Option, None};
+ghost use Rattle.std.specs.Prelude.{◌≡◌, ℕ, ◌+◌, Option, None, length};
 ghost use Rattle.std.specs.Option.{option_copied};
 ghost use Rattle.hart_values.specs.declared.master_id.MasterId.{MasterId};
 ghost use Rattle.hart_values.specs.declared.each_master.EachMaster.{EachMaster};
 ghost use Rattle.hart_values.specs.EachMaster.{of_master, with_master};
 ghost use Rattle.hart_commands.specs.RequestData.{IsRequest};
 ghost use Rattle.hart_line.specs.Line.Masters.{AreHeld, AreInTurn, Awaits, Concludes, Hears, Holds, Sends, Submits};
+ghost use Rattle.hart_line.specs.Line.Spoken.{frame_if};
 ghost use Rattle.hart_line.specs.Line.Step.{hand_left, outcome_of, submission_fault};
 ghost use Rattle.hart_line.specs.Line.World.{InHand};
 
-use crate::Outcome;
-use crate::line::report::Outcomes;
+use crate::{Filling, Outcome};
 use hart_commands::Request;
 use hart_frame::{Char, Frame};
 use hart_master::{Master, MasterEvent};
@@ -51,12 +51,12 @@ impl Submitter {
         }
     }
 
-    /// Sends the request in hand, if there is one, whose reply is then awaited.
-    fn send(&mut self) -> Option<Frame>
+    /// Sends the request in hand, if there is one, whose reply is then awaited, and writes its frame over `frame`.
+    fn send(&mut self, frame: &mut Frame) -> bool
         ensures { (id : MasterId) (retries : ℕ) (held : Option InHand) → Holds id retries held self.old
-            → Sends id held result (Holds id retries held self.new) (λ sent. Awaits id retries sent self.new) }
+            → Sends id held (frame_if result frame.new) (Holds id retries held self.new) (λ sent. Awaits id retries sent self.new) }
     {
-        self.master.send()
+        self.master.send_into(frame)
     }
 
     /// Hears what comes back, and gives the outcome of its request if that is answered by it.
@@ -95,10 +95,12 @@ impl Submitter {
     }
 
     /// Ends the turn of this master: its request gets its outcome, by what comes back.
-    fn conclude(&mut self, returned: Option<&Frame>, outcomes: &mut Outcomes)
-        ensures { (id : MasterId) (retries : ℕ) (held : InHand) → Awaits id retries held self.old
-            → Concludes id retries held (option_copied returned.entry) outcomes.old outcomes.new
+    fn conclude(&mut self, returned: Option<&Frame>, outcomes: &mut Filling<Outcome>)
+        ensures concludes { (id : MasterId) (retries : ℕ) (held : InHand) → Awaits id retries held self.old
+            → Concludes id retries held (option_copied returned.entry) outcomes.old.items outcomes.new.items
             (λ left. Holds id retries left self.new) }
+        ensures as_many { length outcomes.new.items ≡ length outcomes.old.items }
+        ensures room { outcomes.new.room ≡ outcomes.old.room }
     {
         let place = self.place;
         let outcome = match self.hear(returned) {
@@ -137,23 +139,31 @@ impl Masters {
         }
     }
 
-    /// A master sends the request in its hand, if there is one, whose reply is then awaited.
-    pub fn send(&mut self, who: MasterId) -> Option<Frame>
+    /// A master sends the request in its hand, if there is one, whose reply is then awaited, and writes its frame over `frame`.
+    pub fn send(&mut self, who: MasterId, frame: &mut Frame) -> bool
         ensures { (retries : EachMaster ℕ) (hands : EachMaster (Option InHand)) → AreHeld retries hands self.old
-            → Sends who (of_master who hands) result (AreHeld retries hands self.new)
+            → Sends who (of_master who hands) (frame_if result frame.new) (AreHeld retries hands self.new)
             (λ sent. AreInTurn who retries hands sent self.new) }
     {
         match who {
-            MasterId::Primary => self.primary.send(),
-            MasterId::Secondary => self.secondary.send(),
+            MasterId::Primary => self.primary.send(frame),
+            MasterId::Secondary => self.secondary.send(frame),
         }
     }
 
     /// Both masters hear what comes back, and the turn of this one ends.
-    pub fn conclude(&mut self, who: MasterId, returned: Option<&Frame>, outcomes: &mut Outcomes)
-        ensures { (retries : EachMaster ℕ) (hands : EachMaster (Option InHand)) (held : InHand) → AreInTurn who retries hands held self.old
-            → Concludes who (of_master who retries) held (option_copied returned.entry) outcomes.old outcomes.new
+    pub fn conclude(
+        &mut self,
+        who: MasterId,
+        returned: Option<&Frame>,
+        outcomes: &mut Filling<Outcome>,
+    )
+        ensures concludes { (retries : EachMaster ℕ) (hands : EachMaster (Option InHand)) (held : InHand)
+            → AreInTurn who retries hands held self.old
+            → Concludes who (of_master who retries) held (option_copied returned.entry) outcomes.old.items outcomes.new.items
             (λ left. AreHeld retries (with_master who left hands) self.new) }
+        ensures as_many { length outcomes.new.items ≡ length outcomes.old.items }
+        ensures room { outcomes.new.room ≡ outcomes.old.room }
     {
         match who {
             MasterId::Primary => {

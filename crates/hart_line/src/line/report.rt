@@ -1,12 +1,12 @@
-ghost use Rattle.std.specs.Prelude.{◌≡◌, [], ◌∷◌, ◌++◌, OnOk, slice_set};
+ghost use Rattle.std.specs.Prelude.{◌≡◌, ◌+◌, ◌<◌, ◌≤◌, length};
 ghost use Rattle.std.specs.Option.{option_copied};
-ghost use Rattle.hart_line.specs.Line.Spoken.{Speaks, message_by};
+ghost use Rattle.hart_line.specs.Line.Spoken.{Speaks, spoken_by};
 
+use crate::Filling;
 use hart_commands::Reply;
 use hart_device::{Device, RegisterStore};
 use hart_frame::{Body, Frame};
 use hart_master::MasterFault;
-use std::alloc::{AllocError, Global};
 use std::marker::Model;
 
 /// Who speaks on the line.
@@ -20,7 +20,7 @@ pub enum Party {
     Device,
 }
 
-/// A message that was spoken.
+/// A frame that was spoken, as the party, its preamble bytes and its body.
 #[derive(Debug, Drop, PartialEq, Eq)]
 pub struct Spoken {
     /// Who spoke it.
@@ -60,13 +60,11 @@ impl Model for Outcomes {
 }
 
 impl Outcomes {
-    /// No outcomes.
-    pub(crate) fn new(alloc: Global) -> Self
-        ensures { result ≡ [] }
+    /// These outcomes.
+    pub(crate) fn new(outcomes: Vec<Outcome>) -> Self
+        ensures { result ≡ outcomes.items }
     {
-        Outcomes {
-            outcomes: Vec::new(alloc),
-        }
+        Outcomes { outcomes }
     }
 
     /// The outcomes, in order.
@@ -75,29 +73,12 @@ impl Outcomes {
     {
         self.outcomes.as_slice()
     }
-
-    /// Adds the outcome of one more submission.
-    pub(crate) fn push(&mut self, outcome: Outcome) -> Result<(), AllocError>
-        ensures { OnOk result (self.new ≡ self.old ++ outcome ∷ []) }
-    {
-        self.outcomes.push(outcome)?;
-        Ok(())
-    }
-
-    /// Gives the submission at this place this outcome; nothing changes if there is none.
-    pub(crate) fn replace(&mut self, place: usize, outcome: Outcome)
-        ensures { self.new ≡ slice_set self.old place outcome }
-    {
-        if let Some(old) = self.outcomes.get_mut(place) {
-            *old = outcome;
-        }
-    }
 }
 
-/// The messages that were spoken, in order.
+/// What was spoken, in order.
 #[derive(Debug, Drop)]
 pub struct SpokenList {
-    messages: Vec<Spoken>,
+    spoken: Vec<Spoken>,
 }
 
 impl Model for SpokenList {
@@ -106,46 +87,42 @@ impl Model for SpokenList {
 
     ghost Value = { List Spoken };
 
-    ghost view = { λ list. list.messages.items };
+    ghost view = { λ list. list.spoken.items };
 }
 
 impl SpokenList {
-    /// No messages.
-    pub(crate) fn new(alloc: Global) -> Self
-        ensures { result ≡ [] }
+    /// What was spoken.
+    pub(crate) fn new(spoken: Vec<Spoken>) -> Self
+        ensures { result ≡ spoken.items }
     {
-        SpokenList {
-            messages: Vec::new(alloc),
-        }
+        SpokenList { spoken }
     }
 
-    /// The messages, in order.
+    /// What was spoken, in order.
     pub fn as_slice(&self) -> &[Spoken]
         ensures { result.now ≡ self.now }
     {
-        self.messages.as_slice()
+        self.spoken.as_slice()
     }
+}
 
-    /// Adds the message of this party with this frame, after so many preamble bytes; without a frame nothing is spoken.
-    pub(crate) fn speak(
-        &mut self,
-        party: Party,
-        preambles: u8,
-        frame: Option<&Frame>,
-    ) -> Result<(), AllocError>
-        ensures { OnOk result (Speaks (message_by party preambles (option_copied frame.entry)) self.old self.new) }
+impl Filling<Spoken> {
+    /// Adds this frame, which this party speaks after so many preamble bytes; without a frame nothing is spoken.
+    pub(crate) fn speak(&mut self, party: Party, preambles: u8, frame: Option<&Frame>)
+        requires { length self.old.items < self.old.room }
+        ensures speaks { Speaks (spoken_by party preambles (option_copied frame.entry)) self.old.items self.new.items }
+        ensures one { length self.new.items ≤ length self.old.items + 1 }
+        ensures room { self.new.room ≡ self.old.room }
     {
-        let Some(frame) = frame else {
-            return Ok(());
-        };
-        // A refused push would hand the message back: where there is room first, it is moved once.
-        self.messages.reserve(1)?;
-        self.messages.push_reserved(Spoken {
-            party,
-            preambles,
-            bytes: frame.body(),
-        });
-        Ok(())
+        if let Some(frame) = frame {
+            let mut spoken = Spoken {
+                party,
+                preambles,
+                bytes: Body::new(),
+            };
+            frame.write_body(&mut spoken.bytes);
+            self.push(spoken);
+        }
     }
 }
 

@@ -1,5 +1,6 @@
 //! Scripts are carried out.
 ghost use Rattle.std.specs.Prelude.{◌≡◌, ◌≤◌, ◌+◌, ◌%◌, ◌^◌, ℕ, false, length, [], IfErr, IfOk, IfSome, IsTrue, Option, Some, slice_get};
+ghost use Rattle.std.specs.Prelude.{Err, IsOk};
 ghost use Rattle.hart_values.specs.EachMaster.{of_master};
 ghost use Rattle.hart_commands.specs.Registers.{registers_of};
 ghost use Rattle.hart_commands.specs.RequestCode.{is_write};
@@ -11,18 +12,23 @@ ghost use Rattle.hart_values.specs.declared.master_id.MasterId.{MasterId};
 ghost use Rattle.hart_values.specs.declared.master_id.MasterId.TheVariants.{Primary, Secondary};
 ghost use Rattle.hart_line.specs.Line.Executions.{last_executions, times_executed};
 ghost use Rattle.hart_line.specs.Line.Faults.{IsFault, IsOfCharacters};
+ghost use Rattle.hart_line.specs.Line.LineRoom.{IsRoomFor};
 ghost use Rattle.hart_line.specs.Line.Promises.{AnswersLastSending, IsExecutedFromHand, IsExecutedInItsTurn, IsLastReset, IsRefusedByDevice, IsStepOf, IsUnrefusedWrite};
-ghost use Rattle.hart_line.specs.Line.Promises.{arrived_in_step, requests_of, sendings_told, start_of};
+ghost use Rattle.hart_line.specs.Line.Promises.{arrived_in_step, requests_of, sendings_in, start_of};
 ghost use Rattle.hart_line.specs.Line.Spoken.{AreSpoken};
 ghost use Rattle.hart_line.specs.Line.Step.{IsLast};
 ghost use Rattle.hart_line.specs.Line.World.{World, first_world, overwrites_of, state_of};
 ghost use Rattle.hart_line.specs.declared.event.Heard.{Heard};
 ghost use Rattle.hart_line.specs.declared.event.LineEvent.{LineEvent};
 ghost use Rattle.hart_line.specs.declared.event.LineEvent.TheVariants.{Turn};
+ghost use Rattle.hart_line.specs.declared.fault.Leg.{Leg};
+ghost use Rattle.hart_line.specs.declared.fault.LineFault.TheVariants.{Undetected};
 ghost use Rattle.hart_line.specs.declared.line.report.Outcome.TheVariants.{Answered};
 
-use crate::laws::scripts_keep_their_promises;
+use crate::laws::{scripts_have_one_last_world, scripts_keep_their_promises};
 use crate::line::Line;
+use crate::line::room::ScriptRoom;
+use crate::line::undetected::Stop;
 use crate::{LineEvent, LineFault, Report};
 use hart_device::{Device, Process, RegisterStore};
 use hart_master::Master;
@@ -38,8 +44,9 @@ use std::alloc::Global;
 ///
 /// # Errors
 ///
-/// [`LineFault::Undetected`] at the first leg in which a frame was heard that was not the one sent, or more than one frame, with
-/// the number of its event, counted from 0; [`LineFault::Memory`] where a growth was refused. Only the fault is given back.
+/// [`LineFault::Memory`] if room was refused, which is reserved before the first event: for an outcome of each submission, and
+/// for two spoken frames of each turn; otherwise [`LineFault::Undetected`] at the first leg in which a frame was heard that was not the
+/// one sent, or more than one frame, with the number of its event, counted from 0. Only the fault is given back.
 pub fn run<S: RegisterStore + Drop>(
     alloc: Global,
     device: Device<S>,
@@ -50,7 +57,7 @@ pub fn run<S: RegisterStore + Drop>(
 ) -> Result<Report<S>, LineFault>
     requires primary { (primary.id ≡ Primary) × (primary.hand ≡ Empty) }
     requires secondary { (secondary.id ≡ Secondary) × (secondary.hand ≡ Empty) }
-    // The script has a last world; device, outcomes and spoken messages are that world's.
+    // The script has a last world; device, outcomes and what was spoken are that world's.
     ensures world { let start = start_of device process.now primary secondary in IfOk result (λ _.
         (world : World) × IsLast start events.now world) }
     ensures device { let start = start_of device process.now primary secondary in IfOk result (λ report.
@@ -76,7 +83,7 @@ pub fn run<S: RegisterStore + Drop>(
     // A command that is refused or not answered changes nothing: not as the last of a script, and not in any turn of it.
     ensures refused_commands_change_nothing { let start = start_of device process.now primary secondary in
         IfOk result (λ report. (before next : World) (refused : IsRefusedByDevice start events.now before next)
-        → refused.turn.back ≡ [] → report.device ≡ state_of device before) }
+        → refused.turn.suffix ≡ [] → report.device ≡ state_of device before) }
     ensures refused_turns_change_nothing { let start = start_of device process.now primary secondary in
         IfOk result (λ _. (before next : World) → IsRefusedByDevice start events.now before next
         → state_of device next ≡ state_of device before) }
@@ -98,8 +105,8 @@ pub fn run<S: RegisterStore + Drop>(
         → IsExecutedInItsTurn start events.now number request reply sendings) }
     ensures at_most_once_a_sending { let start = start_of device process.now primary secondary in
         IfOk result (λ report. (world : World) → IsLast start events.now world → (number : ℕ)
-        → times_executed number world.executions ≤ sendings_told (slice_get report.outcomes number)) }
-    // Where a master's configuration-changed bit is clear after the script, nothing was written since its last Command 38 with
+        → times_executed number world.executions ≤ sendings_in (slice_get report.outcomes number)) }
+    // If a master's configuration-changed bit is clear after the script, nothing was written since its last Command 38 with
     // code 0: the counter is still the one that it named, if it named one, and the registers are those of that turn.
     ensures no_change_unseen { let start = start_of device process.now primary secondary in
         IfOk result (λ report. (who : MasterId) (before : World) (given : Option ℕ) → IsLastReset start events.now who before given
@@ -107,18 +114,105 @@ pub fn run<S: RegisterStore + Drop>(
         → IfSome given (λ counter. report.device.counter ≡ counter)
         × (report.device.counter ≡ (state_of device before).counter)
         × (report.device.contents ≡ (state_of device before).contents)) }
-    // A fault names the first leg whose damage is undetected.
+    // A fault names the first leg whose damage is undetected, or the outcomes or spoken frames that there is no room for.
     ensures fault { IfErr result (IsFault (start_of device process.now primary secondary) events.now) }
-    ensures clean_and_lost_legs_are_shown { IfErr result (IsOfCharacters events.now) }
+    ensures clean_and_lost_legs_are_detected { IfErr result (IsOfCharacters events.now) }
 {
-    // It does nothing when it runs: this law is what the clauses rest on.
+    let room = ScriptRoom::reserve(alloc, events)?;
+    Ok(carry_out(room, device, primary, secondary, events, process)?)
+}
+
+/// Carries out a script in room that was reserved for it.
+///
+/// # Errors
+///
+/// Where the script stops, if the damage of some leg is undetected. Nothing else stops it.
+fn carry_out<S: RegisterStore + Drop>(
+    room: ScriptRoom,
+    device: Device<S>,
+    primary: Master,
+    secondary: Master,
+    events: &[LineEvent],
+    process: &Process,
+) -> Result<Report<S>, Stop>
+    requires room { IsRoomFor events.now room }
+    requires primary { (primary.id ≡ Primary) × (primary.hand ≡ Empty) }
+    requires secondary { (secondary.id ≡ Secondary) × (secondary.hand ≡ Empty) }
+    // The script has a last world; device, outcomes and what was spoken are that world's.
+    ensures world { let start = start_of device process.now primary secondary in IfOk result (λ _.
+        (world : World) × IsLast start events.now world) }
+    ensures device { let start = start_of device process.now primary secondary in IfOk result (λ report.
+        (world : World) → IsLast start events.now world → report.device ≡ state_of device world) }
+    ensures outcomes { let start = start_of device process.now primary secondary in IfOk result (λ report.
+        (world : World) → IsLast start events.now world → report.outcomes ≡ world.outcomes) }
+    ensures spoken { let start = start_of device process.now primary secondary in IfOk result (λ report.
+        (world : World) → IsLast start events.now world → AreSpoken world.spoken report.spoken) }
+    ensures identity { IfOk result (λ report. report.device.identity ≡ device.identity) }
+    // Each accepted reply is the device's answer in the turn of its request's last sending.
+    ensures accepted_reply_answers_last_sending { let start = start_of device process.now primary secondary in IfOk result (λ report.
+        (number : ℕ) (reply : Reply) (sendings : ℕ)
+        → slice_get report.outcomes number ≡ Some (Answered reply sendings)
+        → AnswersLastSending start events.now number reply sendings) }
+    // The registers are the initial ones overwritten by the last execution of each submission, in their order.
+    ensures registers_follow_last_executions { let start = start_of device process.now primary secondary in
+        IfOk result (λ report. (world : World) → IsLast start events.now world
+        → report.device.contents ≡ registers_of (overwrites_of (last_executions world.executions)) device.contents) }
+    // The counter has grown by the number of executed writes.
+    ensures counter_counts_executions { let start = start_of device process.now primary secondary in
+        IfOk result (λ report. (world : World) → IsLast start events.now world
+        → report.device.counter ≡ (device.counter + length world.executions) % 2 ^ 16) }
+    // A command that is refused or not answered changes nothing: not as the last of a script, and not in any turn of it.
+    ensures refused_commands_change_nothing { let start = start_of device process.now primary secondary in
+        IfOk result (λ report. (before next : World) (refused : IsRefusedByDevice start events.now before next)
+        → refused.turn.suffix ≡ [] → report.device ≡ state_of device before) }
+    ensures refused_turns_change_nothing { let start = start_of device process.now primary secondary in
+        IfOk result (λ _. (before next : World) → IsRefusedByDevice start events.now before next
+        → state_of device next ≡ state_of device before) }
+    // In each turn in which a write arrives that the device answers with code 0 the request in hand is executed, heard or not, and
+    // nothing else is ever executed. So a write whose accepted reply has code 0 was executed in the turn of that reply; and a
+    // submission was executed at most as often as it was sent, a refused one never.
+    ensures unrefused_writes_are_executed { let start = start_of device process.now primary secondary in
+        IfOk result (λ _. (before next : World) (who : MasterId) (up down : Heard)
+        (turn : IsStepOf start (first_world start) events.now before (Turn who up down) next)
+        → IsUnrefusedWrite (state_of device before) turn.step.arrived → IsExecutedFromHand start events.now who before next) }
+    ensures nothing_else_is_executed { let start = start_of device process.now primary secondary in
+        IfOk result (λ _. (before next : World) (event : LineEvent) (here : IsStepOf start (first_world start) events.now before event next)
+        → (IsUnrefusedWrite (state_of device before) (arrived_in_step start before event next here.step) → ⊥)
+        → next.executions ≡ before.executions) }
+    ensures executed_in_its_turn { let start = start_of device process.now primary secondary in
+        IfOk result (λ report. (number : ℕ) (request : Request) (reply : Reply) (sendings : ℕ)
+        → slice_get (requests_of events.now) number ≡ Some request → IsTrue (is_write (command_of request))
+        → slice_get report.outcomes number ≡ Some (Answered reply sendings) → reply.code ≡ 0
+        → IsExecutedInItsTurn start events.now number request reply sendings) }
+    ensures at_most_once_a_sending { let start = start_of device process.now primary secondary in
+        IfOk result (λ report. (world : World) → IsLast start events.now world → (number : ℕ)
+        → times_executed number world.executions ≤ sendings_in (slice_get report.outcomes number)) }
+    // If a master's configuration-changed bit is clear after the script, nothing was written since its last Command 38 with
+    // code 0: the counter is still the one that it named, if it named one, and the registers are those of that turn.
+    ensures no_change_unseen { let start = start_of device process.now primary secondary in
+        IfOk result (λ report. (who : MasterId) (before : World) (given : Option ℕ) → IsLastReset start events.now who before given
+        → of_master who report.device.changed ≡ false
+        → IfSome given (λ counter. report.device.counter ≡ counter)
+        × (report.device.counter ≡ (state_of device before).counter)
+        × (report.device.contents ≡ (state_of device before).contents)) }
+    // A report is given exactly of a script that has a last world, and a fault exactly if the damage of a leg is undetected.
+    ensures reported { let start = start_of device process.now primary secondary in
+        (world : World) → IsLast start events.now world → IsOk result }
+    ensures stopped { let start = start_of device process.now primary secondary in
+        (event : ℕ) (leg : Leg) → IsFault start events.now (Undetected event leg) → result ≡ Err (record { event = event; leg = leg }) }
+    ensures fault { let start = start_of device process.now primary secondary in
+        IfErr result (λ stop. IsFault start events.now (Undetected stop.event stop.leg)) }
+    ensures clean_and_lost_legs_are_detected { IfErr result (λ stop. IsOfCharacters events.now (Undetected stop.event stop.leg)) }
+{
+    // No-ops: their contracts are used below.
     scripts_keep_their_promises();
-    // By what these tell, the counter has two bytes, and a message has preamble bytes.
+    scripts_have_one_last_world();
+    // By the contracts of these the counter has two bytes, and an answer has preamble bytes.
     let (_counter, _preambles) = (device.counter(), device.response_preambles());
-    let mut line = Line::new(alloc, device, primary, secondary);
+    let mut line = Line::new(room, device, primary, secondary);
     for (index, event) in events.iter().enumerate() {
-        if let Err(stop) = line.step(event, process) {
-            return Err(stop.at(index));
+        if let Err(damage) = line.step(event, process) {
+            return Err(damage.at(index));
         }
     }
     Ok(line.into_report())

@@ -1,10 +1,10 @@
-//! Hex items, each of which tells a received character.
-ghost use Rattle.std.specs.Prelude.{◌≡◌, ◌↔◌, IsTrue, MatchOption, slice_index};
+//! Hex items, each of which gives a received character.
+ghost use Rattle.std.specs.Prelude.{◌≡◌, ◌↔◌, [], ◌∷◌, IsTrue, MatchOption, slice_index};
 ghost use Rattle.hart_line.specs.Script.Items.{AreDigits, BeginsAsItem, byte_of, IsItemsWord, NoItemBegins};
 ghost use Rattle.hart_line.specs.Script.Rows.{Reads};
 
-use crate::CharList;
 use crate::script::rows::RowFault;
+use crate::{CharList, Filling};
 use hart_frame::Char;
 use hex::FromHex;
 use std::alloc::Global;
@@ -18,9 +18,9 @@ pub struct LeadingItem {
     pub len: usize,
 }
 
-/// The item that begins a text, or `None` where none does.
+/// The item that begins a text, or `None` if none does.
 ///
-/// A `!` directly behind two digits belongs to them, so that where no fault bits follow it no item begins.
+/// A `!` directly after two digits belongs to them, so that no item begins if no fault bits follow it.
 pub fn leading_item(text: &[u8]) -> Option<LeadingItem>
     ensures { MatchOption result (NoItemBegins text.now) (λ lead. BeginsAsItem text.now lead.char lead.len) }
 {
@@ -43,7 +43,7 @@ pub fn leading_item(text: &[u8]) -> Option<LeadingItem>
     Some(LeadingItem { char, len: 5 })
 }
 
-/// Whether a `!` stands behind two bytes.
+/// Whether a `!` stands after two bytes.
 fn tells_faults(text: &[u8]) -> bool
     ensures { IsTrue result ↔ (slice_index text.now 2 ≡ 33) }
 {
@@ -54,24 +54,25 @@ fn tells_faults(text: &[u8]) -> bool
 ///
 /// # Errors
 ///
-/// [`RowFault::Bad`] if the word is empty or not items end to end; [`RowFault::NoMemory`] if a growth was refused.
+/// [`RowFault::Bad`] if the word is empty or not items end to end; [`RowFault::Memory`] if room for half as many characters as it
+/// has bytes was refused.
 pub(crate) fn read_items(alloc: Global, word: &[u8]) -> Result<CharList, RowFault>
-    ensures { Reads (IsItemsWord word.now) result }
+    ensures { Reads (word.now ∷ []) (IsItemsWord word.now) result }
 {
     if word.is_empty() {
         return Err(RowFault::Bad);
     }
     // An item has two bytes at least.
-    let mut chars = Vec::with_capacity(alloc, word.len() / 2)?;
+    let mut chars = Filling::with_room(alloc, word.len() / 2)?;
     let mut place = 0;
     while let Some(lead) = leading_item(&word[place..]) {
-        chars.push(lead.char)?;
+        chars.push(lead.char);
         place += lead.len;
     }
     if place < word.len() {
         return Err(RowFault::Bad);
     }
-    Ok(CharList::new(chars))
+    Ok(CharList::new(chars.finish()))
 }
 
 /// The byte that two hex digits write.

@@ -1,8 +1,29 @@
 //! The lines of a text and the words of a line.
-ghost use Rattle.std.specs.Prelude.{◌≡◌, ◌≢◌, ◌≤◌, [], ◌∷◌, length, not, MatchOption};
+ghost use Rattle.std.specs.Prelude.{◌≡◌, ◌≢◌, ◌≤◌, ◌==◌, [], ◌∷◌, count_by, length, not, MatchOption};
 ghost use Rattle.std.specs.List.{position_or_len};
 ghost use Rattle.std.specs.Str.Lines.{strip_carriage_return};
-ghost use Rattle.hart_line.specs.Script.Lines.{is_blank, words_of};
+ghost use Rattle.hart_line.specs.Script.Lines.{is_blank, lines_of, words_of};
+
+/// The number of lines of a text.
+pub fn count_lines(text: &[u8]) -> usize
+    ensures { result ≡ length (lines_of text.now) }
+{
+    count_line_feeds(text) + 1
+}
+
+/// The number of line feeds in a text.
+fn count_line_feeds(text: &[u8]) -> usize
+    ensures count { result ≡ count_by (λ byte. byte == 10) text.now }
+    ensures within { result ≤ length text.now }
+{
+    let mut count = 0;
+    for byte in text {
+        if *byte == b'\n' {
+            count += 1;
+        }
+    }
+    count
+}
 
 /// The part without one carriage return at its end.
 pub fn without_return(part: &[u8]) -> &[u8]
@@ -14,19 +35,19 @@ pub fn without_return(part: &[u8]) -> &[u8]
     }
 }
 
-/// The first word of a line, and what follows it, or `None` where it has no word.
+/// The first word of a line, and what follows it, or `None` if it has no word.
 pub fn next_word(line: &[u8]) -> Option<(&[u8], &[u8])>
     ensures { MatchOption result (words_of line.now ≡ [])
         (λ taken. words_of line.now ≡ (taken.0).now ∷ words_of (taken.1).now) }
 {
-    let rest = &line[blanks_at_front(line)..];
+    let rest = &line[leading_blanks(line)..];
     if rest.is_empty() {
         return None;
     }
     Some(rest.split_at(len_before_blank(rest)))
 }
 
-/// The word of a line that has no other, or `None` where it has none or several.
+/// The word of a line that has no other, or `None` if it has none or several.
 pub fn only_word(line: &[u8]) -> Option<&[u8]>
     ensures { MatchOption result (length (words_of line.now) ≢ 1) (λ word. words_of line.now ≡ word.now ∷ []) }
 {
@@ -38,7 +59,7 @@ pub fn only_word(line: &[u8]) -> Option<&[u8]>
 }
 
 /// The number of blanks that a line begins with.
-fn blanks_at_front(line: &[u8]) -> usize
+fn leading_blanks(line: &[u8]) -> usize
     ensures place { result ≡ position_or_len (λ byte. not (is_blank byte)) line.now }
     ensures within { result ≤ length line.now }
 {

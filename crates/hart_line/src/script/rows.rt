@@ -7,18 +7,18 @@ ghost use Rattle.hart_line.specs.Script.Words.{Finds};
 use crate::script::items::read_items;
 use crate::script::lines::{next_word, only_word};
 use crate::script::words::{read_address, read_command, read_data, read_who};
-use crate::{Heard, LineEvent, LineFault};
+use crate::{Heard, LineEvent, LineFault, NoRoom};
 use hart_commands::Request;
 use hart_frame::Payload;
-use std::alloc::{AllocError, AllocFailed, Global};
+use std::alloc::Global;
 
 /// Why a line says no event.
 #[derive(Clone, Copy, Debug, PartialEq, Eq)]
 pub enum RowFault {
     /// Its words are those of no row.
     Bad,
-    /// Memory was refused.
-    NoMemory,
+    /// Memory was refused, for so many items.
+    Memory(NoRoom),
 }
 
 impl RowFault {
@@ -28,28 +28,18 @@ impl RowFault {
     {
         match self {
             RowFault::Bad => LineFault::BadLine { number },
-            RowFault::NoMemory => LineFault::Memory,
+            RowFault::Memory(none) => LineFault::Memory(none),
         }
     }
 }
 
-impl From<AllocError> for RowFault {
-    ghost use Rattle.hart_line.specs.declared.script.rows.RowFault.TheVariants.{NoMemory};
+impl From<NoRoom> for RowFault {
+    ghost use Rattle.hart_line.specs.declared.script.rows.RowFault.TheVariants.{Memory};
 
-    ghost from_gives = { λ _ fault. fault ≡ NoMemory };
+    ghost from_gives = { λ none fault. fault ≡ Memory none };
 
-    fn from(_error: AllocError) -> RowFault {
-        RowFault::NoMemory
-    }
-}
-
-impl<T: Drop> From<AllocFailed<T>> for RowFault {
-    ghost use Rattle.hart_line.specs.declared.script.rows.RowFault.TheVariants.{NoMemory};
-
-    ghost from_gives = { λ _ fault. fault ≡ NoMemory };
-
-    fn from(_error: AllocFailed<T>) -> RowFault {
-        RowFault::NoMemory
+    fn from(none: NoRoom) -> RowFault {
+        RowFault::Memory(none)
     }
 }
 
@@ -57,7 +47,8 @@ impl<T: Drop> From<AllocFailed<T>> for RowFault {
 ///
 /// # Errors
 ///
-/// [`LineFault::BadLine`] with the number if it says no event and is no such line; [`LineFault::Memory`] if a growth was refused.
+/// [`LineFault::BadLine`] with the number if it says no event and is no such line; [`LineFault::Memory`] if the room for half as
+/// many characters as one of its words has bytes was refused.
 pub fn read_line(alloc: Global, number: usize, line: &[u8]) -> Result<Option<LineEvent>, LineFault>
     ensures { SaysLine number (words_of line.now) result }
 {
@@ -75,7 +66,7 @@ pub fn read_line(alloc: Global, number: usize, line: &[u8]) -> Result<Option<Lin
 
 /// The event that a first word and the words after it say.
 fn read_event(alloc: Global, first: &[u8], rest: &[u8]) -> Result<LineEvent, RowFault>
-    ensures { Reads (IsEvent (first.now ∷ words_of rest.now)) result }
+    ensures { Reads (first.now ∷ words_of rest.now) (IsEvent (first.now ∷ words_of rest.now)) result }
 {
     match first {
         b"submit" => read_submit(rest).ok_or(RowFault::Bad),
@@ -115,9 +106,11 @@ fn read_payload(rest: &[u8]) -> Option<Payload>
 
 /// The turn that the words after `turn` say.
 fn read_turn(alloc: Global, rest: &[u8]) -> Result<LineEvent, RowFault>
-    ensures { Reads (IsEvent (codes "turn" ∷ words_of rest.now)) result }
+    ensures { Reads (codes "turn" ∷ words_of rest.now) (IsEvent (codes "turn" ∷ words_of rest.now)) result }
 {
-    let (who, up, down) = three_words(rest).ok_or(RowFault::Bad)?;
+    let Some((who, up, down)) = three_words(rest) else {
+        return Err(RowFault::Bad);
+    };
     Ok(LineEvent::Turn {
         who: read_who(who).ok_or(RowFault::Bad)?,
         up: read_leg(alloc, up)?,
@@ -125,7 +118,7 @@ fn read_turn(alloc: Global, rest: &[u8]) -> Result<LineEvent, RowFault>
     })
 }
 
-/// The words of a line that has three, or `None` where it has fewer or more.
+/// The words of a line that has three, or `None` if it has fewer or more.
 fn three_words(line: &[u8]) -> Option<(&[u8], &[u8], &[u8])>
     ensures { MatchOption result (length (words_of line.now) ≢ 3)
         (λ words. words_of line.now ≡ (words.0).now ∷ (words.1).now ∷ (words.2).now ∷ []) }
@@ -137,7 +130,7 @@ fn three_words(line: &[u8]) -> Option<(&[u8], &[u8], &[u8])>
 
 /// What the word of a leg says that is heard.
 fn read_leg(alloc: Global, word: &[u8]) -> Result<Heard, RowFault>
-    ensures { Reads (IsLeg word.now) result }
+    ensures { Reads (word.now ∷ []) (IsLeg word.now) result }
 {
     Ok(match word {
         b"ok" => Heard::Clean,
@@ -159,7 +152,7 @@ fn read_protect(rest: &[u8]) -> Option<LineEvent>
 
 /// The noise that the words after `noise` say.
 fn read_noise(alloc: Global, rest: &[u8]) -> Result<LineEvent, RowFault>
-    ensures { Reads (IsEvent (codes "noise" ∷ words_of rest.now)) result }
+    ensures { Reads (codes "noise" ∷ words_of rest.now) (IsEvent (codes "noise" ∷ words_of rest.now)) result }
 {
     let items = only_word(rest).ok_or(RowFault::Bad)?;
     Ok(LineEvent::Noise(read_items(alloc, items)?))

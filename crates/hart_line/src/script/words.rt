@@ -8,7 +8,7 @@ use hart_values::{Address, MasterId, PollingAddress, UniqueAddress};
 use hex::FromHex;
 use std::str;
 
-/// The master that WHO names, `P` the primary and `S` the secondary, or `None` where it names none.
+/// The master that WHO names, `P` the primary and `S` the secondary, or `None` if it names none.
 pub fn read_who(word: &[u8]) -> Option<MasterId>
     ensures { Finds (IsWho word.now) result }
 {
@@ -20,7 +20,7 @@ pub fn read_who(word: &[u8]) -> Option<MasterId>
 }
 
 /// The address that ADDRESS writes, as `@` and a polling address, as the ten hex digits of a device, or as `all`; or `None`
-/// where it writes none.
+/// if it writes none.
 pub fn read_address(word: &[u8]) -> Option<Address>
     ensures { Finds (IsAddressWord word.now) result }
 {
@@ -54,7 +54,7 @@ fn read_device(word: &[u8]) -> Option<UniqueAddress>
     UniqueAddress::new(expanded_type, device_id).ok()
 }
 
-/// The command that COMMAND writes, in one to three digits, or `None` where it writes none.
+/// The command that COMMAND writes, in one to three digits, or `None` if it writes none.
 pub fn read_command(word: &[u8]) -> Option<u8>
     ensures { Finds (IsCommandWord word.now) result }
 {
@@ -75,7 +75,7 @@ fn read_decimal(word: &[u8], most_digits: usize) -> Option<u8>
     }
 }
 
-/// The bytes that DATA writes in plain hex, at most 255, or `None` where it writes none.
+/// The bytes that DATA writes in plain hex, at most 255, or `None` if it writes none.
 pub fn read_data(word: &[u8]) -> Option<Payload>
     ensures { Finds (IsDataWord word.now) result }
 {

@@ -1,7 +1,7 @@
 //! Scripts that are carried out on the bench device.
 use super::*;
 use hart_commands::{Register, Reply};
-use hart_device::{Device, FieldRegisters, RegisterStore, bench};
+use hart_device::{Device, FieldRegisters, Image, ImageRegisters, RegisterStore, bench};
 use hart_master::{Master, MasterFault};
 
 /// What becomes of a submission.
@@ -15,11 +15,13 @@ enum Fate<'a> {
 
 /// A script, and what it leads to.
 struct Row<'a> {
+    /// The counter and the flags with which the image of the device ends, whose registers are those of the bench device.
+    ending: [u8; 3],
     /// How often the primary master sends again.
     retries: u8,
     script: &'a str,
     fates: &'a [Fate<'a>],
-    /// The number of messages.
+    /// The number of spoken frames.
     spoken: usize,
     counter: u16,
     /// What the registers of the polling address and of the final assembly number hold in the end; the loop current mode is
@@ -30,6 +32,7 @@ struct Row<'a> {
 
 /// The empty script, of which nothing comes.
 const NOTHING: Row = Row {
+    ending: [0x00, 0x00, 0x00],
     retries: 3,
     script: "",
     fates: &[],
@@ -49,6 +52,12 @@ const TWO_MASTERS: &str = "submit P 37420A1B2C 19 012345\nsubmit S 37420A1B2C 19
 /// The same, but the second time the device is protected.
 const PROTECTED_MEANWHILE: &str = "submit P 37420A1B2C 19 012345\nsubmit S 37420A1B2C 19 0A0B0C\n\
     turn P ok lost\nturn S ok ok\nprotect on\nturn P ok ok";
+
+/// A reset names a counter that a write of the other master overtakes, before the reset is sent again.
+const RESET_OVERTAKEN: &str = "submit P 37420A1B2C 38 0001\nsubmit S 37420A1B2C 19 0A0B0C\n\
+    turn P ok lost\nturn S ok ok\nturn P ok ok";
+
+const WRITTEN: &str = "submit P 37420A1B2C 19 012345\nturn P ok ok";
 
 /// The polling address moves between two sendings to the old one.
 const ADDRESS_MOVES: &str = "submit P @0 0\nsubmit S 37420A1B2C 6 0501\n\
@@ -99,6 +108,26 @@ const ROWS: &[Row] = &[
         ..NOTHING
     },
     Row {
+        ending: [0x00, 0x01, 0x03],
+        script: RESET_OVERTAKEN,
+        fates: &[
+            Fate::Answered(38, 2, &[0x09, 0x40]),
+            Fate::Answered(19, 1, &[0x00, 0x40, 0x0A, 0x0B, 0x0C]),
+        ],
+        spoken: 6,
+        counter: 2,
+        assembly: &[0x0A, 0x0B, 0x0C],
+        ..NOTHING
+    },
+    Row {
+        ending: [0xFF, 0xFF, 0x00],
+        script: WRITTEN,
+        fates: &[Fate::Answered(19, 1, &[0x00, 0x40, 0x01, 0x23, 0x45])],
+        spoken: 2,
+        assembly: &[0x01, 0x23, 0x45],
+        ..NOTHING
+    },
+    Row {
         script: ADDRESS_MOVES,
         fates: &[
             Fate::Unfinished(2),
@@ -142,13 +171,13 @@ const ROWS: &[Row] = &[
     },
 ];
 
-/// What comes of a script on the bench device, with a primary master that sends so often again.
-fn run_of(
+/// What comes of a script on a device, with a primary master that sends so often again.
+fn run_on<S: RegisterStore + Drop>(
     alloc: Global,
+    device: Device<S>,
     retries: u8,
     script: &str,
-) -> Result<Result<Report<FieldRegisters>, LineFault>, Fail> {
-    let device = Device::new(bench::identity(), &bench::register_values());
+) -> Result<Result<Report<S>, LineFault>, Fail> {
     let primary = Master::new(MasterId::Primary, retries, 33)?;
     let secondary = Master::new(MasterId::Secondary, 3, 41)?;
     let events = read_script(alloc, script.as_bytes())?;
@@ -160,6 +189,25 @@ fn run_of(
         events.as_slice(),
         &bench::process(),
     ))
+}
+
+/// What comes of a script on the bench device, with a primary master that sends so often again.
+pub fn run_of(
+    alloc: Global,
+    retries: u8,
+    script: &str,
+) -> Result<Result<Report<FieldRegisters>, LineFault>, Fail> {
+    let device = Device::new(bench::identity(), &bench::register_values());
+    run_on(alloc, device, retries, script)
+}
+
+/// What a row's script leads to, on a device with this store that goes on from the row's image.
+fn report_of<S: RegisterStore + Drop>(alloc: Global, row: &Row) -> Result<Report<S>, Fail> {
+    let new = Device::<S>::new(bench::identity(), &bench::register_values()).image();
+    let mut image = Image::from_slice(&new.as_slice()[..51]).ok_or("too long")?;
+    image.extend_from_slice(&row.ending);
+    let device = Device::from_image(bench::identity(), image.as_slice())?;
+    Ok(run_on(alloc, device, row.retries, row.script)??)
 }
 
 /// The outcome of a submission with this fate.
@@ -191,7 +239,7 @@ fn outcomes_of(alloc: Global, fates: &[Fate]) -> Result<Vec<Outcome>, Fail> {
 #[test]
 fn scripts_lead_to_reports(rt: HostRuntime) -> Result<(), Fail> {
     for row in ROWS {
-        let report = run_of(rt.alloc(), row.retries, row.script)??;
+        let report: Report<FieldRegisters> = report_of(rt.alloc(), row)?;
         let outcomes = outcomes_of(rt.alloc(), row.fates)?;
         assert_eq!(rt; report.outcomes.as_slice(), outcomes.as_slice());
         let numbers = (report.spoken.as_slice().len(), report.device.counter());
@@ -200,6 +248,10 @@ fn scripts_lead_to_reports(rt: HostRuntime) -> Result<(), Fail> {
         assert_eq!(rt; registers.get(Register::Polling), [row.polling].as_slice());
         assert_eq!(rt; registers.get(Register::Mode), [1].as_slice());
         assert_eq!(rt; registers.get(Register::Assembly), row.assembly);
+        let other: Report<ImageRegisters> = report_of(rt.alloc(), row)?;
+        assert_eq!(rt; other.outcomes.as_slice(), outcomes.as_slice());
+        assert_eq!(rt; other.spoken.as_slice(), report.spoken.as_slice());
+        assert_eq!(rt; other.device.image(), report.device.image());
     }
     Ok(())
 }

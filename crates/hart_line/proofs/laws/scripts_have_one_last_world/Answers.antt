@@ -1,13 +1,13 @@
 use Rattle.hart_line.specs.Line.World.{first_world}
 use Rattle.hart_line.proofs.OfLine.RunLemmas.{Laws, fault_one, no_fault, run_one}
-use Rattle.hart_line.proofs.OfLine.ShownLemmas.{run_shown}
+use Rattle.hart_line.proofs.OfLine.DetectedLemmas.{run_exists}
 use Rattle.hart_line.proofs.laws.scripts_have_one_last_world.Goals as goal
 
 pub returns-clause-one_world : goal.returns-clause-one_world
 returns-clause-one_world c = λ start events a b last other.
     let laws : Laws = record {
-      one_body = c.bodies_are_told_apart.ensures.one_body;
-      one_list = c.frames_are_told_apart.ensures.one_list;
+      one_body = c.bodies_are_unambiguous.ensures.one_body;
+      one_list = c.frames_are_unambiguous.ensures.one_list;
       one_reply = c.replies_are_decided.ensures.one_reply;
     } in
     run_one laws start events (first_world start) a b last other
@@ -15,8 +15,8 @@ returns-clause-one_world c = λ start events a b last other.
 pub returns-clause-no_fault : goal.returns-clause-no_fault
 returns-clause-no_fault c = λ start events world number leg last fault.
     let laws : Laws = record {
-      one_body = c.bodies_are_told_apart.ensures.one_body;
-      one_list = c.frames_are_told_apart.ensures.one_list;
+      one_body = c.bodies_are_unambiguous.ensures.one_body;
+      one_list = c.frames_are_unambiguous.ensures.one_list;
       one_reply = c.replies_are_decided.ensures.one_reply;
     } in
     no_fault laws start events world number leg last fault
@@ -24,11 +24,12 @@ returns-clause-no_fault c = λ start events world number leg last fault.
 pub returns-clause-one_fault : goal.returns-clause-one_fault
 returns-clause-one_fault c = λ start events number other leg another fault second.
     let laws : Laws = record {
-      one_body = c.bodies_are_told_apart.ensures.one_body;
-      one_list = c.frames_are_told_apart.ensures.one_list;
+      one_body = c.bodies_are_unambiguous.ensures.one_body;
+      one_list = c.frames_are_unambiguous.ensures.one_list;
       one_reply = c.replies_are_decided.ensures.one_reply;
     } in
     fault_one laws start events number other leg another fault second
 
-pub returns-clause-shown : goal.returns-clause-shown
-returns-clause-shown c = λ start events shown. run_shown c.replies_are_decided.ensures.decided start (first_world start) events shown
+pub returns-clause-detected : goal.returns-clause-detected
+returns-clause-detected c = λ start events detected.
+    run_exists c.replies_are_decided.ensures.decided start (first_world start) events detected

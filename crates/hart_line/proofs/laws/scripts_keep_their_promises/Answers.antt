@@ -3,7 +3,7 @@ use Rattle.hart_line.proofs.OfLine.CountLemmas.{executed_at_most}
 use Rattle.hart_line.proofs.OfLine.LastLemmas.{registers_last}
 use Rattle.hart_line.proofs.OfLine.ResetLemmas.{refused_last, unseen}
 use Rattle.hart_line.proofs.OfLine.RunLemmas.{Laws}
-use Rattle.hart_line.proofs.OfLine.ShownLemmas.{fault_told}
+use Rattle.hart_line.proofs.OfLine.DetectedLemmas.{fault_given}
 use Rattle.hart_line.proofs.OfLine.StateLemmas.{state-first}
 use Rattle.hart_line.proofs.OfLine.WrittenLemmas.{WriteLaws, answered_executed, step_stays, turn_executed}
 use Rattle.std.proofs.Common.{refl}
@@ -13,14 +13,14 @@ pub returns : goal.returns
 returns c =
     let device = c.writes_execute_their_overwrite.ensures in
     let laws : Laws = record {
-      one_body = c.bodies_are_told_apart.ensures.one_body;
-      one_list = c.frames_are_told_apart.ensures.one_list;
+      one_body = c.bodies_are_unambiguous.ensures.one_body;
+      one_list = c.frames_are_unambiguous.ensures.one_list;
       one_reply = c.replies_are_decided.ensures.one_reply;
     } in
     let write_laws : WriteLaws = record {
       command = c.requests_have_their_command.ensures;
       reads = c.written_data_are_their_request.ensures;
-      overwritten = c.writes_have_overwrites.ensures;
+      overwritten = c.writes_have_overwrites.ensures.exactly;
       code = c.answers_tell_their_code.ensures.answered;
       executes = device.executes;
       only = device.only;
@@ -43,8 +43,8 @@ returns c =
       at_most_once_a_sending = executed_at_most;
       no_change_unseen = unseen laws
           (λ state frame is. let asked = c.resets_name_this_counter.ensures.only state frame is in (asked.2, asked.3, asked.4));
-      clean_and_lost_legs_are_shown = λ start events fault enough. fault_told (record {
-        one_list = c.frames_are_told_apart.ensures.one_list;
+      clean_and_lost_legs_are_detected = λ start events fault enough. fault_given (record {
+        one_list = c.frames_are_unambiguous.ensures.one_list;
         message = c.messages_have_their_frame_alone.ensures.message;
         nothing = c.messages_have_their_frame_alone.ensures.nothing;
       }) start events fault enough;

@@ -1,15 +1,23 @@
-use Rattle.std.proofs.Common.{ℕ, ◌+◌, length, refl, ap, arith, rules, tests}
+use Rattle.std.specs.Str.Lines.{strip_carriage_return}
+use Rattle.std.proofs.Common.{ℕ, ◌∙◌, ◌+◌, length, refl, ap, arith, rules, tests}
 use Rattle.std.specs.Bool.{◌==◌}
 use Rattle.std.proofs.lemmas.Iterator.Consumers.{YieldsList-at, YieldsList-end, YieldsList-turn}
 use Rattle.std.proofs.lemmas.Iterator.Splits.{YieldsList-from_slice_split}
-use Rattle.std.proofs.lemmas.List.{length_push}
+use Rattle.std.proofs.lemmas.List.{length-map, length_push}
 use Rattle.std.proofs.lemmas.Result.{err_from_is_err_and}
+use Rattle.hart_line.specs.Room.{Filled}
 use Rattle.hart_line.specs.Script.Rows.{none}
+use Rattle.hart_line.specs.declared.event.LineEvent.{LineEvent}
 use Rattle.hart_line.proofs.OfScript.ScriptLemmas.{first_bad_line, line_fault, line_said, line_skipped, parts_of, whole_script}
 use Rattle.hart_line.proofs.script.read_script.Goals as goal
 
 pub loop-part-init : goal.loop-part-init
-loop-part-init c = record { counted = refl; said = rw (c.new-events.ensures.items) none }
+loop-part-init c = rw c.in_ok-events.ensures.empty (record {
+  counted = refl;
+  few = omega arith;
+  room = c.count_lines.ensures ∙ length-map (parts_of c.args.text.now) strip_carriage_return;
+  said = none;
+})
 
 pub returns-in_err-event-clause-fault : goal.returns-in_err-event-clause-fault
 returns-in_err-event-clause-fault c =
@@ -17,8 +25,9 @@ returns-in_err-event-clause-fault c =
     (YieldsList-from_slice_split _ (λ (byte : ℕ). byte == 10) c.args.text.now c.split-part-items.ensures.rest
     c.split-part-items.ensures.done c.split-part-items.ensures.closure (λ x b q k. search (rules, tests))))
     c.loop-part.yielded _ c.loop-part.yielded_by _ _ c.in-Some.part c.in-Some.is c.next.ensures.steps in
-    let stop = err_from_is_err_and c.from_residual.result c.from_residual.ensures.1 in
-    rw (stop.1, stop.2) (line_fault c.args.text.now _ _ _ c.in_err-event.ensures (first_bad_line c.args.text.now
+    let stop = err_from_is_err_and c.from_residual-in_err-event.result c.from_residual-in_err-event.ensures.1 in
+    rw (stop.1, stop.2) (line_fault c.args.text.now (length c.loop-part.yielded) _ c.in-Some.part.now _ _ t.0 t.1 c.without_return.ensures
+    c.in_err-event.ensures (first_bad_line c.args.text.now
     (length c.loop-part.yielded) _ c.in-Some.part.now _ _ (ap (λ (k : ℕ). k + 1) c.loop-part.invariant.counted) t.0 t.1
     c.without_return.ensures c.loop-part.invariant.said))
 
@@ -31,9 +40,19 @@ loop-part-preserved-in_default c =
     let m = length_push c.loop-part.yielded c.in-Some.part in
     record {
       counted = omega (arith, c.loop-part.invariant.counted, m);
+      few = omega (arith, m, c.loop-part.invariant.few);
+      room = c.loop-part.invariant.room;
       said = line_skipped (parts_of c.args.text.now) (length c.loop-part.yielded) _ c.in-Some.part.now _ _ m t.0 t.1
           c.without_return.ensures c.loop-part.invariant.said (rw c.in_default.is at c.in_ok-event.ensures);
     }
+
+pub push-requires : goal.push-requires
+push-requires c =
+    let t = YieldsList-turn (YieldsList-at c.into_iter-part-iterator.ensures.into_iter_gives
+    (YieldsList-from_slice_split _ (λ (byte : ℕ). byte == 10) c.args.text.now c.split-part-items.ensures.rest
+    c.split-part-items.ensures.done c.split-part-items.ensures.closure (λ x b q k. search (rules, tests))))
+    c.loop-part.yielded _ c.loop-part.yielded_by _ _ c.in-Some.part c.in-Some.is c.next.ensures.steps in
+    rw c.loop-part.invariant.room (omega (arith, t.0, c.loop-part.invariant.few))
 
 pub loop-part-preserved : goal.loop-part-preserved
 loop-part-preserved c =
@@ -44,9 +63,11 @@ loop-part-preserved c =
     let m = length_push c.loop-part.yielded c.in-Some.part in
     record {
       counted = omega (arith, c.loop-part.invariant.counted, m);
+      few = rw c.push.ensures (omega (arith, m, length_push c.loop-part.events.items c.in-Some-2.event, c.loop-part.invariant.few));
+      room = rw c.push.ensures c.loop-part.invariant.room;
       said = line_said (parts_of c.args.text.now) (length c.loop-part.yielded) _ c.in-Some.part.now _ _ _ c.in-Some-2.event m t.0 t.1
           c.without_return.ensures c.loop-part.invariant.said (rw c.in-Some-2.is at c.in_ok-event.ensures)
-          c.in_ok-push.ensures.items;
+          (ap (λ (list : Filled LineEvent). list.items) c.push.ensures);
     }
 
 pub returns-clause-events : goal.returns-clause-events
@@ -55,4 +76,4 @@ returns-clause-events c =
     (YieldsList-from_slice_split _ (λ (byte : ℕ). byte == 10) c.args.text.now c.split-part-items.ensures.rest
     c.split-part-items.ensures.done c.split-part-items.ensures.closure (λ x b q k. search (rules, tests))))
     c.loop-part.yielded _ c.loop-part.yielded_by _ _ c.in-None.is c.next.ensures.steps in
-    whole_script c.args.text.now (length c.loop-part.yielded) _ all.1 c.loop-part.invariant.said
+    rw c.finish.ensures (whole_script c.args.text.now (length c.loop-part.yielded) _ all.1 c.loop-part.invariant.said)

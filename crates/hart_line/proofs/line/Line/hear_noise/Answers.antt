@@ -8,7 +8,7 @@ returns-clause-stepped g c = λ start world stands.
     let none = no_frames_among c.args.chars.now _ c.in_ok-_nothing.ensures.arrives in
     record {
       next = world;
-      step = (record { chars = c.args.chars.now; are_heard = refl; frames = []; are_frames = none; shown = refl }, refl);
+      step = (record { chars = c.args.chars.now; are_heard = refl; frames = []; are_frames = none; detected = refl }, refl);
       stands = record {
         device_is = c.hear-answer.ensures.state [] none ∙ s.device_is;
         masters_are = c.hear_noise.ensures start.retries world.hands s.masters_are;

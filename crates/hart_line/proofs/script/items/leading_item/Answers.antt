@@ -47,7 +47,7 @@ begins_as_faulty (x ∷ y ∷ m ∷ v ∷ w ∷ text) char byte faults some d b 
 zero_is_no_mark : (n : ℕ) → n ≡ 33 → n ≡ 0 → ⊥
 zero_is_no_mark n e z = omega arith
 
--- no item begins where a `!` stands behind two digits, and no fault bits behind it
+-- no item begins if a `!` stands after two digits, and no fault bits after it
 no_item_begins : (text : List ℕ) → get_or text 2 0 ≡ 33
     → (5 ≤ length text → AreDigits (get_or text 3 0) (get_or text 4 0) → byte_of (get_or text 3 0) (get_or text 4 0) ≢ 0
     → AreFaultBits (byte_of (get_or text 3 0) (get_or text 4 0)) → ⊥)

@@ -1,16 +1,31 @@
-use Rattle.std.proofs.Common.{arith}
+use Rattle.std.proofs.Common.{arith, ap, refl}
+use Rattle.std.proofs.lemmas.List.{length_push}
+use Rattle.hart_frame.specs.Character.{Character}
+use Rattle.hart_line.specs.Room.{Filled}
 use Rattle.hart_line.specs.Script.Items.{nothing}
 use Rattle.hart_line.proofs.OfScript.ItemsLemmas.{item_read, no_items}
 use Rattle.hart_line.proofs.script.items.read_items.Goals as goal
 
 pub loop-lead-init : goal.loop-lead-init
-loop-lead-init c = record { within = omega arith; reads = rw (c.in_ok-chars.ensures.items) (nothing c.args.word.now) }
+loop-lead-init c = rw c.in_ok-chars.ensures.empty
+    (record { within = omega arith; few = omega arith; room = refl; reads = nothing c.args.word.now })
+
+pub push-requires : goal.push-requires
+push-requires c =
+    let read = item_read _ _ _ _ _ _ c.loop-lead.invariant.within c.loop-lead.invariant.reads c.in-Some.ensures refl in
+    rw c.loop-lead.invariant.room (omega (arith, read.0, read.1, c.loop-lead.invariant.few))
 
 pub loop-lead-preserved : goal.loop-lead-preserved
 loop-lead-preserved c =
     let read = item_read _ _ _ _ _ _ c.loop-lead.invariant.within c.loop-lead.invariant.reads c.in-Some.ensures
-    c.in_ok-push.ensures.items in
-    record { within = read.1; reads = read.2 }
+    (ap (λ (list : Filled Character). list.items) c.push.ensures) in
+    record {
+      within = read.1;
+      few = rw c.push.ensures
+          (omega (arith, length_push c.loop-lead.chars.items c.in-Some.lead.char, read.0, c.loop-lead.invariant.few));
+      room = rw c.push.ensures c.loop-lead.invariant.room;
+      reads = read.2;
+    }
 
 pub returns-then-place-word : goal.returns-then-place-word
 returns-then-place-word c = λ chars items.

@@ -1,10 +1,12 @@
-use Rattle.std.proofs.Common.{◌-◌, ◌≤◌, length, drop}
+use Rattle.std.proofs.Common.{◌≡◌, ◌-◌, ◌*◌, ◌/◌, ◌≤◌, length, drop}
 use Rattle.hart_line.specs.Script.Items.{BeginsWithItems}
 use Rattle.hart_line.proofs.script.items.read_items.Given as goal
 
 abbrev pub invariant-loop-lead : goal.invariant-loop-lead
 invariant-loop-lead l = record {
   within : l.place ≤ length l.word;
+  few : 2 * length l.chars.items ≤ l.place;
+  room : l.chars.room ≡ length l.word / 2;
   reads : BeginsWithItems l.word l.chars.items (drop l.place l.word);
 }
 

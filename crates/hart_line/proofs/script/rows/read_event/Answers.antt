@@ -8,12 +8,14 @@ use Rattle.hart_line.proofs.script.rows.read_event.Goals as goal
 pub returns-in-submit : goal.returns-in-submit
 returns-in-submit c =
     let word : c.args.first.now ≡ codes "submit" = text_from_reads c.args.first.now (codes "submit") (omega arith) (search rules) in
-    rw (word, c.ok_or.ensures.value) (found_read (IsEvent (codes "submit" ∷ words_of c.args.rest.now)) c.read_submit.result c.read_submit.ensures)
+    rw (word, c.ok_or.ensures.value) (found_read (codes "submit" ∷ words_of c.args.rest.now)
+    (IsEvent (codes "submit" ∷ words_of c.args.rest.now)) c.read_submit.result c.read_submit.ensures)
 
 pub returns-in-protect : goal.returns-in-protect
 returns-in-protect c =
     let word : c.args.first.now ≡ codes "protect" = text_from_reads c.args.first.now (codes "protect") (omega arith) (search rules) in
-    rw (word, c.ok_or-in-protect.ensures.value) (found_read (IsEvent (codes "protect" ∷ words_of c.args.rest.now)) c.read_protect.result c.read_protect.ensures)
+    rw (word, c.ok_or-in-protect.ensures.value) (found_read (codes "protect" ∷ words_of c.args.rest.now)
+    (IsEvent (codes "protect" ∷ words_of c.args.rest.now)) c.read_protect.result c.read_protect.ensures)
 
 pub returns-in-noise : goal.returns-in-noise
 returns-in-noise c =

@@ -6,35 +6,47 @@ use Rattle.hart_commands.specs.declared.reply.Reply.{Reply}
 use Rattle.hart_line.specs.Line.Promises.{AnswersLastSending, AreWellMade, start_of}
 use Rattle.hart_line.specs.Line.Step.{IsLast}
 use Rattle.hart_line.specs.Line.World.{World, state_of}
+use Rattle.hart_line.specs.declared.fault.LineFault.TheVariants.{Undetected}
 use Rattle.hart_line.specs.declared.line.report.Outcome.TheVariants.{Answered}
 use Rattle.hart_line.proofs.OfLine.ReachedLemmas.{fault_at, reached_first, reached_more, reached_report, reached_whole}
+use Rattle.hart_line.proofs.OfLine.RoomLemmas.{room_for_next, room_for_others}
 use Rattle.hart_line.proofs.OfLine.SubmittedLemmas.{made_more}
 use Rattle.hart_line.proofs.OfLine.WholeLemmas.{of_last}
-use Rattle.hart_line.proofs.line.runs.run.Goals as goal
+use Rattle.hart_line.proofs.line.runs.carry_out.Goals as goal
 
 pub loop-index-init : goal.loop-index-init
 loop-index-init g c =
     let small : c.args.device.counter < 65536 = rw c.counter-counter.ensures at c.counter-counter.type_inv in
     let start = start_of c.args.device c.args.process.now c.args.primary c.args.secondary in record {
-      reached = rw c.new-line.ensures (reached_first c.args.device c.args.process.now c.args.primary c.args.secondary
+      reached = rw (c.new-line.ensures, c.requires.room.no_outcomes, c.requires.room.nothing_spoken)
+          (reached_first c.args.device c.args.process.now c.args.primary c.args.secondary _ _
           (c.scripts_keep_their_promises.ensures.first_world start small) c.requires.primary c.requires.secondary);
       well_made = search rules;
+      room = rw (c.new-line.ensures, c.requires.room.no_outcomes, c.requires.room.nothing_spoken)
+          (record { outcomes = omega (arith, c.requires.room.outcomes); spoken = omega (arith, c.requires.room.spoken) });
     }
+
+pub step-requires : goal.step-requires
+step-requires g c = record {
+  room = rw c.index-events-index.is
+      (room_for_next c.args.events.now c.loop-index.index _ _ c.loop-index-test.true c.loop-index.invariant.room);
+}
 
 pub returns-in-Err-clause-fault : goal.returns-in-Err-clause-fault
 returns-in-Err-clause-fault g c =
     let start = start_of c.args.device c.args.process.now c.args.primary c.args.secondary in
     let reached = c.loop-index.invariant.reached in
-    rw c.at.ensures (fault_at start c.args.events.now c.loop-index.index _ reached.world c.in-Err.stop c.loop-index-test.true
+    rw c.at.ensures (fault_at start c.args.events.now c.loop-index.index _ reached.world c.in-Err.damage.leg c.loop-index-test.true
     reached.is_last
     (rw c.index-events-index.is at (c.in-Err.ensures.stopped start reached.world refl reached.stands)))
 
-pub returns-in-Err-clause-clean_and_lost_legs_are_shown : goal.returns-in-Err-clause-clean_and_lost_legs_are_shown
-returns-in-Err-clause-clean_and_lost_legs_are_shown g c =
+pub returns-in-Err-clause-clean_and_lost_legs_are_detected : goal.returns-in-Err-clause-clean_and_lost_legs_are_detected
+returns-in-Err-clause-clean_and_lost_legs_are_detected g c =
     let preambles = c.response_preambles-preambles in
     let enough : 5 ≤ c.args.device.identity.response_preambles = rw preambles.ensures.same at preambles.ensures.in_range.0 in
-    c.scripts_keep_their_promises.ensures.clean_and_lost_legs_are_shown
-    (start_of c.args.device c.args.process.now c.args.primary c.args.secondary) c.args.events.now c.at.result enough
+    c.scripts_keep_their_promises.ensures.clean_and_lost_legs_are_detected
+    (start_of c.args.device c.args.process.now c.args.primary c.args.secondary) c.args.events.now
+    (Undetected c.at.result.event c.at.result.leg) enough
     (returns-in-Err-clause-fault g c)
 
 pub loop-index-preserved : goal.loop-index-preserved
@@ -45,7 +57,21 @@ loop-index-preserved g c =
           (rw c.index-events-index.is at (c.in_default.ensures.stepped start reached.world refl reached.sound.marks reached.stands));
       well_made = made_more c.args.events.now c.loop-index.index _ c.loop-index-test.true c.loop-index.invariant.well_made
           (rw c.index-events-index.is at c.in_default.ensures.well_made);
+      room = room_for_others c.args.events.now c.loop-index.index _ _ _ c.loop-index-test.true c.loop-index.invariant.room
+          (rw c.index-events-index.is at c.in_default.ensures.room);
     }
+
+pub returns-in-Err-clause-reported : goal.returns-in-Err-clause-reported
+returns-in-Err-clause-reported g c = λ world last. absurd (c.scripts_have_one_last_world.ensures.no_fault
+    (start_of c.args.device c.args.process.now c.args.primary c.args.secondary) c.args.events.now world _ _ last
+    (returns-in-Err-clause-fault g c))
+
+pub returns-in-Err-clause-stopped : goal.returns-in-Err-clause-stopped
+returns-in-Err-clause-stopped g c = λ event leg fault.
+    let same = c.scripts_have_one_last_world.ensures.one_fault
+    (start_of c.args.device c.args.process.now c.args.primary c.args.secondary) c.args.events.now _ _ _ _
+    (returns-in-Err-clause-fault g c) fault in
+    rw (← same.0, ← same.1) refl
 
 pub returns : goal.returns
 returns g c =
@@ -63,7 +89,8 @@ returns g c =
     of_last promises.one_world _ reached device_is in
     let outcomes_of : (world : World) → IsLast start events world → c.into_report.result.outcomes ≡ world.outcomes =
     of_last promises.one_world _ reached outcomes_are in
-    let answers : (number : ℕ) (reply : Reply) (sendings : ℕ) → slice_get c.into_report.result.outcomes number ≡ Some (Answered reply sendings)
+    let answers : (number : ℕ) (reply : Reply) (sendings : ℕ)
+    → slice_get c.into_report.result.outcomes number ≡ Some (Answered reply sendings)
     → AnswersLastSending start events number reply sendings =
     λ number reply sendings is. promises.accepted_reply_answers_last_sending start events reached.world reached.is_last
     number reply sendings (rw outcomes_are at is) in
@@ -89,6 +116,9 @@ returns g c =
           rw (outcomes_of world last) (promises.at_most_once_a_sending start events world last number);
       no_change_unseen = λ who before given reset. rw device_is
           (promises.no_change_unseen start events reached.world reached.is_last who before given reset);
+      reported = λ world last. refl;
+      stopped = λ event leg fault. absurd (c.scripts_have_one_last_world.ensures.no_fault start events reached.world event leg
+          reached.is_last fault);
       fault = tt;
-      clean_and_lost_legs_are_shown = tt;
+      clean_and_lost_legs_are_detected = tt;
     }

@@ -1,0 +1,197 @@
+//! Scripts of many kinds and lengths, none of which is refused if there is memory.
+use super::runs::run_of;
+use super::*;
+use std::process::Abort;
+
+/// Each command, with its data.
+const COMMANDS: &[&str] = &[
+    "0",
+    "1",
+    "2",
+    "3",
+    "6 0501",
+    "7",
+    "8",
+    "9 00",
+    "9 0001020304F4F5F6",
+    "11 505494CE0D35",
+    "12",
+    "13",
+    "14",
+    "15",
+    "16",
+    "17 505494CE0D35505494CE0D35505494CE0D35505494CE0D35",
+    "18 505494CE0D35505494CE0D35505494CE0D3501027B",
+    "19 012345",
+    "38",
+    "38 0001",
+    "48",
+];
+
+/// What is heard in the two legs of a turn: each of three on each.
+const LEGS: &[&str] = &[
+    "ok ok",
+    "ok lost",
+    "ok 00FF!40",
+    "lost ok",
+    "lost lost",
+    "lost 00FF!40",
+    "FF00!10 ok",
+    "FF00!10 lost",
+    "FF00!10 00FF!40",
+];
+
+/// The master of a turn, and what the other one was asked before.
+const MASTERS: &[(&str, &str)] = &[
+    ("P", ""),
+    ("S", ""),
+    ("P", "submit S 37420A1B2C 0\n"),
+    ("S", "submit P 37420A1B2C 0\n"),
+];
+
+/// A text that grows by one part.
+struct Growing<'a> {
+    prefix: &'a str,
+    part: &'a str,
+    suffix: &'a str,
+    /// How often the part stands in the text.
+    times: &'a [usize],
+    /// What comes of each part.
+    outcomes: usize,
+    spoken: usize,
+}
+
+/// Numbers about those at which lists and counts may change their size.
+const TIMES: &[usize] = &[0, 1, 9, 10, 63, 64, 65, 255, 256, 257, 300, 2500];
+
+const GROWING: &[Growing] = &[
+    Growing {
+        prefix: "",
+        part: "submit P 37420A1B2C 0\nturn P ok ok\n",
+        suffix: "",
+        times: TIMES,
+        outcomes: 1,
+        spoken: 2,
+    },
+    Growing {
+        prefix: "",
+        part: "submit S 37420A1B2C 0\n",
+        suffix: "",
+        times: TIMES,
+        outcomes: 1,
+        spoken: 0,
+    },
+    Growing {
+        prefix: "",
+        part: "# no event\n",
+        suffix: "protect on\n",
+        times: &[255, 256, 257],
+        outcomes: 0,
+        spoken: 0,
+    },
+    Growing {
+        prefix: "noise ",
+        part: "00",
+        suffix: "\n",
+        times: &[1, 24, 25, 255, 256, 257, 1000, 1001, 4096],
+        outcomes: 0,
+        spoken: 0,
+    },
+    Growing {
+        prefix: "turn P lost ",
+        part: "FF!40",
+        suffix: "\n",
+        times: &[1, 255, 256, 257, 4096],
+        outcomes: 0,
+        spoken: 0,
+    },
+];
+
+/// A text in which a part stands so often.
+fn text_of(
+    alloc: Global,
+    prefix: &str,
+    part: &str,
+    times: usize,
+    suffix: &str,
+) -> Result<String, AllocError> {
+    let mut text = String::new(alloc);
+    text.push_str(prefix)?;
+    for _ in 0..times {
+        text.push_str(part)?;
+    }
+    text.push_str(suffix)?;
+    Ok(text)
+}
+
+/// The numbers of outcomes and of spoken frames that a script leads to.
+fn lens_of(alloc: Global, script: &str) -> Result<(usize, usize), Fail> {
+    let report = run_of(alloc, 3, script)??;
+    Ok((
+        report.outcomes.as_slice().len(),
+        report.spoken.as_slice().len(),
+    ))
+}
+
+/// A master is asked for a command, which it sends once to four times.
+fn send_often(
+    rt: &impl Abort,
+    alloc: Global,
+    command: &str,
+    legs: &str,
+    (who, before): (&str, &str),
+) -> Result<(), Fail> {
+    let submissions = if before.is_empty() { 1 } else { 2 };
+    let submissions_text = format!(in alloc; "{before}submit {who} 37420A1B2C {command}\n")?;
+    let turn = format!(in alloc; "turn {who} {legs}\n")?;
+    for times in 1..=4 {
+        let script = text_of(alloc, submissions_text.as_str(), turn.as_str(), times, "")?;
+        let (outcomes, _spoken) = lens_of(alloc, script.as_str())?;
+        assert_eq!(rt; outcomes, submissions, "of {script}");
+    }
+    Ok(())
+}
+
+/// A master is asked for a command, with and without a request in the other's hand.
+fn send_by_each(rt: &impl Abort, alloc: Global, command: &str, legs: &str) -> Result<(), Fail> {
+    for master in MASTERS {
+        send_often(rt, alloc, command, legs, *master)?;
+    }
+    Ok(())
+}
+
+/// A text grows, and all that it says is carried out.
+fn grow(rt: &impl Abort, alloc: Global, growing: &Growing) -> Result<(), Fail> {
+    for times in growing.times {
+        let text = text_of(alloc, growing.prefix, growing.part, *times, growing.suffix)?;
+        let want = (
+            times.saturating_mul(growing.outcomes),
+            times.saturating_mul(growing.spoken),
+        );
+        assert_eq!(rt;
+            lens_of(alloc, text.as_str())?,
+            want,
+            "at {times} of {}",
+            growing.part
+        );
+    }
+    Ok(())
+}
+
+#[test]
+fn every_command_has_room(rt: HostRuntime) -> Result<(), Fail> {
+    for command in COMMANDS {
+        for legs in LEGS {
+            send_by_each(&rt, rt.alloc(), *command, *legs)?;
+        }
+    }
+    Ok(())
+}
+
+#[test]
+fn every_length_has_room(rt: HostRuntime) -> Result<(), Fail> {
+    for growing in GROWING {
+        grow(&rt, rt.alloc(), growing)?;
+    }
+    Ok(())
+}
