@@ -15,59 +15,61 @@ use Rattle.hart_cli.specs.Input.{Reads}
 use Rattle.hart_cli.specs.Items.{ReadsAs}
 use Rattle.hart_cli.specs.Stream.{Stream}
 use Rattle.hart_cli.specs.Hearing.{Hears}
-use Rattle.hart_cli.specs.Answer.{AnswerOutcome, IsAnswer, IsAnswerText, IsTextFor, bench_device}
-use Rattle.hart_cli.specs.WholeInput.{WholeInput}
+use Rattle.hart_cli.specs.Answer.{IsAnswer, IsAnswerFault, IsAnswerText, IsTextFor}
+use Rattle.hart_cli.specs.WholeInput.{WholeInput, WholeOutcome}
 use Rattle.hart_cli.proofs.DumpLemmas.{OneFrames, OneHearing}
 use Rattle.hart_cli.proofs.KnownBytesLemmas.{Keeps-same}
 use Rattle.hart_cli.proofs.MessageLineLemmas.{IsMessageLine-one, OneBody}
 
 -- an answer has one text
-IsAnswerText-one : OneBody → (answer : Option FrameParts) (xs ys : List ℕ) → IsAnswerText answer xs → IsAnswerText answer ys → xs ≡ ys
-IsAnswerText-one bodies None xs ys p q = p ∙ sym q
-IsAnswerText-one bodies (Some reply) xs ys p q = IsMessageLine-one bodies reply reply _ xs ys refl p q
+IsAnswerText-one : OneBody → (device : DeviceState) (answer : Option FrameParts) (xs ys : List ℕ) → IsAnswerText device answer xs
+    → IsAnswerText device answer ys → xs ≡ ys
+IsAnswerText-one bodies device None xs ys p q = p ∙ sym q
+IsAnswerText-one bodies device (Some reply) xs ys p q = IsMessageLine-one bodies reply reply _ xs ys refl p q
 
 -- a delivery has one text
-IsTextFor-one : OneFrames → OneBody → (delivery : List Character) (xs ys : List ℕ) → IsTextFor delivery xs → IsTextFor delivery ys
-    → xs ≡ ys
-IsTextFor-one lists bodies delivery xs ys p q =
-    let P : List Found → Type 0 = λ frames. IsAnswerText (answer_to bench_device bench_process frames) xs in
-    IsAnswerText-one bodies _ xs ys (subst P (lists delivery 0 p.frames q.frames p.are_frames q.are_frames) p.answered) q.answered
+IsTextFor-one : OneFrames → OneBody → (device : DeviceState) (delivery : List Character) (xs ys : List ℕ)
+    → IsTextFor device delivery xs → IsTextFor device delivery ys → xs ≡ ys
+IsTextFor-one lists bodies device delivery xs ys p q =
+    let P : List Found → Type 0 = λ frames. IsAnswerText device (answer_to device bench_process frames) xs in
+    IsAnswerText-one bodies device _ xs ys (subst P (lists delivery 0 p.frames q.frames p.are_frames q.are_frames) p.answered) q.answered
 
--- what the bench device answers has its text
+-- what a device answers has its text
 pub IsTextFor-heard : (delivery : List Character) (frames : List Found) (device : DeviceState) (process : Process)
-    (heard answer : Option FrameParts) (text : List ℕ) → device ≡ bench_device → process ≡ bench_process → AreFrames delivery 0 frames
-    → heard ≡ answer_to device process frames → heard ≡ answer → IsAnswerText answer text → IsTextFor delivery text
-IsTextFor-heard delivery frames device process heard answer text same_device same_process are_frames answers is has =
-    let same : answer ≡ answer_to bench_device bench_process frames = cc in
-    let P : Option FrameParts → Type 0 = λ a. IsAnswerText a text in
+    (heard answer : Option FrameParts) (text : List ℕ) → process ≡ bench_process → AreFrames delivery 0 frames
+    → heard ≡ answer_to device process frames → heard ≡ answer → IsAnswerText device answer text → IsTextFor device delivery text
+IsTextFor-heard delivery frames device process heard answer text same_process are_frames answers is has =
+    let same : answer ≡ answer_to device bench_process frames = cc in
+    let P : Option FrameParts → Type 0 = λ a. IsAnswerText device a text in
     record { frames = frames; are_frames = are_frames; answered = subst P same has }
 
 -- an input has one answer
-pub IsAnswer-one : OneFrames → OneBody → OneHearing → (input xs ys : List ℕ) → IsAnswer input xs → IsAnswer input ys → xs ≡ ys
-IsAnswer-one lists bodies hearings input xs ys p q =
+pub IsAnswer-one : OneFrames → OneBody → OneHearing → (device : DeviceState) (input xs ys : List ℕ) → IsAnswer device input xs
+    → IsAnswer device input ys → xs ≡ ys
+IsAnswer-one lists bodies hearings device input xs ys p q =
     let same = (hearings input Ended p.delivery q.delivery None None (Hears.all p.delivery p.reads) (Hears.all q.delivery q.reads)).0 in
-    let P : List Character → Type 0 = λ delivery. IsTextFor delivery xs in
-    IsTextFor-one lists bodies q.delivery xs ys (subst P same p.text_for) q.text_for
+    let P : List Character → Type 0 = λ delivery. IsTextFor device delivery xs in
+    IsTextFor-one lists bodies device q.delivery xs ys (subst P same p.text_for) q.text_for
 
 -- an input that ended without a fault reads as its characters
 whole_reads : (text : List ℕ) (chars : List Character) → Hears text Ended chars None → ReadsAs text chars
 whole_reads text _ (Hears.all chars reads) = reads
 
 -- the answer to such an input
-pub answer_read : (reader reader_after : Stream) (input : List ℕ) (chars : List Character) (text : List ℕ)
-    → Reads reader reader_after input Ended → Hears input Ended chars None → IsTextFor chars text
-    → WholeInput reader reader_after (λ input. IsAnswer input text)
-answer_read reader reader_after input chars text read hears text_for = record {
+pub answer_read : (device : DeviceState) (reader reader_after : Stream) (input : List ℕ) (chars : List Character) (text : List ℕ)
+    → Reads reader reader_after input Ended → Hears input Ended chars None → IsTextFor device chars text
+    → WholeInput reader reader_after (λ input. IsAnswer device input text)
+answer_read device reader reader_after input chars text read hears text_for = record {
   input = input;
   whole = read;
   holds = record { delivery = chars; reads = whole_reads input chars hears; text_for = text_for };
 }
 
 -- the bad hex of an input that ended
-pub AnswerOutcome-fault : (reader reader_after writer : Stream) (input : List ℕ) (chars : List Character) (fault : CliFault)
-    → Reads reader reader_after input Ended → Hears input Ended chars (Some fault)
-    → AnswerOutcome reader reader_after writer writer (Err fault)
-AnswerOutcome-fault reader reader_after writer input _ _ read (Hears.bad_hex chars place bad) =
+pub AnswerOutcome-fault : (device : DeviceState) (reader reader_after writer : Stream) (input : List ℕ) (chars : List Character)
+    (fault : CliFault) → Reads reader reader_after input Ended → Hears input Ended chars (Some fault)
+    → WholeOutcome (IsAnswer device) IsAnswerFault reader reader_after writer writer (Err fault)
+AnswerOutcome-fault device reader reader_after writer input _ _ read (Hears.bad_hex chars place bad) =
     (record { input = input; whole = read; holds = (chars, bad) }, (Keeps-same writer.bytes, refl))
 
 -- a fault that is told of its cause alone

@@ -286,21 +286,21 @@ no_other_entered met name rows enters is no_answer no_dump no_sim no_encode = el
 
 -- the matches give one call
 same_call : (a b : Call) (rows : List Row) → name_of a ≡ name_of b → GivesValues a rows → GivesValues b rows → a ≡ b
-same_call Answer Answer rows names one other = refl
-same_call Answer Dump rows names one other = absurd (differ (codes "answer") (codes "dump") refl names)
-same_call Answer Sim rows names one other = absurd (differ (codes "answer") (codes "sim") refl names)
-same_call Answer (Encode words) rows names one other = absurd (differ (codes "answer") (codes "encode") refl names)
-same_call Dump Answer rows names one other = absurd (differ (codes "dump") (codes "answer") refl names)
+same_call (Answer image) (Answer other_image) rows names one other = ap (λ (i : Option Text). Answer i) (sym one ∙ other)
+same_call (Answer image) Dump rows names one other = absurd (differ (codes "answer") (codes "dump") refl names)
+same_call (Answer image) (Sim other_image) rows names one other = absurd (differ (codes "answer") (codes "sim") refl names)
+same_call (Answer image) (Encode words) rows names one other = absurd (differ (codes "answer") (codes "encode") refl names)
+same_call Dump (Answer image) rows names one other = absurd (differ (codes "dump") (codes "answer") refl names)
 same_call Dump Dump rows names one other = refl
-same_call Dump Sim rows names one other = absurd (differ (codes "dump") (codes "sim") refl names)
+same_call Dump (Sim image) rows names one other = absurd (differ (codes "dump") (codes "sim") refl names)
 same_call Dump (Encode words) rows names one other = absurd (differ (codes "dump") (codes "encode") refl names)
-same_call Sim Answer rows names one other = absurd (differ (codes "sim") (codes "answer") refl names)
-same_call Sim Dump rows names one other = absurd (differ (codes "sim") (codes "dump") refl names)
-same_call Sim Sim rows names one other = refl
-same_call Sim (Encode words) rows names one other = absurd (differ (codes "sim") (codes "encode") refl names)
-same_call (Encode words) Answer rows names one other = absurd (differ (codes "encode") (codes "answer") refl names)
+same_call (Sim image) (Answer other_image) rows names one other = absurd (differ (codes "sim") (codes "answer") refl names)
+same_call (Sim image) Dump rows names one other = absurd (differ (codes "sim") (codes "dump") refl names)
+same_call (Sim image) (Sim other_image) rows names one other = ap (λ (i : Option Text). Sim i) (sym one ∙ other)
+same_call (Sim image) (Encode words) rows names one other = absurd (differ (codes "sim") (codes "encode") refl names)
+same_call (Encode words) (Answer image) rows names one other = absurd (differ (codes "encode") (codes "answer") refl names)
 same_call (Encode words) Dump rows names one other = absurd (differ (codes "encode") (codes "dump") refl names)
-same_call (Encode words) Sim rows names one other = absurd (differ (codes "encode") (codes "sim") refl names)
+same_call (Encode words) (Sim image) rows names one other = absurd (differ (codes "encode") (codes "sim") refl names)
 same_call (Encode words) (Encode others) rows names one other =
     let of : Text → Text → Text → Text → ℕ → Call =
     λ w a c p n. Encode (record { who = w; address = a; command = c; payload = p; preambles = n }) in
@@ -323,18 +323,27 @@ words_make_one_call a b words one other =
     same_call a b one.rows (same_name _ _ _ _ _ one.named other.named) one.values
     (subst (GivesValues b) (same_rows _ _ _ _ _ other.named one.named) other.values)
 
--- the words `answer`, `dump` and `sim` alone are calls of these
-pub answer_alone : Calls Answer (codes "answer" ∷ [])
+-- the words `answer`, `dump` and `sim` alone are calls of these, without an image
+pub answer_alone : Calls (Answer None) (codes "answer" ∷ [])
 unfolding clap_on_literals
-answer_alone = record { no_fault = refl; rows = []; named = refl; values = tt }
+answer_alone = record { no_fault = refl; rows = []; named = refl; values = refl }
 
 pub dump_alone : Calls Dump (codes "dump" ∷ [])
 unfolding clap_on_literals
 dump_alone = record { no_fault = refl; rows = []; named = refl; values = tt }
 
-pub sim_alone : Calls Sim (codes "sim" ∷ [])
+pub sim_alone : Calls (Sim None) (codes "sim" ∷ [])
 unfolding clap_on_literals
-sim_alone = record { no_fault = refl; rows = []; named = refl; values = tt }
+sim_alone = record { no_fault = refl; rows = []; named = refl; values = refl }
+
+-- and with one
+pub answer_with_image : Calls (Answer (Some (codes "01"))) (codes "answer" ∷ codes "--image" ∷ codes "01" ∷ [])
+unfolding clap_on_literals
+answer_with_image = record { no_fault = refl; rows = _; named = refl; values = refl }
+
+pub sim_with_image : Calls (Sim (Some (codes "01"))) (codes "sim" ∷ codes "--image" ∷ codes "01" ∷ [])
+unfolding clap_on_literals
+sim_with_image = record { no_fault = refl; rows = _; named = refl; values = refl }
 
 -- and the words of `encode`, without and with a number of preamble bytes
 abbrev identify : ℕ → MessageWords

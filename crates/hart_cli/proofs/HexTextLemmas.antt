@@ -1,11 +1,12 @@
 -- Upper case hex, and one more byte in a line of it.
-use Rattle.std.proofs.Common.{◌≡◌, ℕ, zero, suc, ◌<◌, ◌≤◌, ◌+◌, ◌/◌, ◌%◌, List, [], ◌∷◌, ◌++◌, length, take, map, get_or, refl, sym, ap}
-use Rattle.std.proofs.Common.{ap₂, ◌∙◌, append_assoc, arith, slice_index}
+use Rattle.std.proofs.Common.{◌≡◌, ℕ, zero, suc, ◌<◌, ◌≤◌, ◌+◌, ◌*◌, ◌/◌, ◌%◌, List, [], ◌∷◌, ◌++◌, length, take, map, get_or, refl, sym, ap}
+use Rattle.std.proofs.Common.{ap₂, ◌∙◌, append_assoc, arith, length-append, slice_index}
 use Rattle.std.proofs.Math.ListN.{get_or-map}
 use Rattle.std.specs.Char.{to_ascii_uppercase}
 use Rattle.std.specs.List.{join_with_byte}
-use Rattle.std.proofs.lemmas.List.{append-nil, map_more, take_more}
+use Rattle.std.proofs.lemmas.List.{append-nil, map_more, take_at}
 use Rattle.hart_cli.specs.HexText.{hex_items}
+use Rattle.hex.proofs.HexLemmas.{length-encode_with}
 use Rattle.hex.specs.Hex.{encode_lower, encode_upper, encode_with, lower_digits, upper_digits}
 
 -- a digit in upper case
@@ -54,14 +55,31 @@ encode_upper-append (byte ∷ bytes) more =
     ap (λ (digits : List ℕ). slice_index upper_digits (byte / 16) ∷ slice_index upper_digits (byte % 16) ∷ digits)
     (encode_upper-append bytes more)
 
--- at first there are none
+-- no bytes have no digits
 pub encode_upper-none : (line : List ℕ) → line ≡ line ++ encode_upper []
 unfolding encode_with
 encode_upper-none line = sym (append-nil line)
 
--- the digits of one byte more
-pub encode_upper-more : (before bytes line digits : List ℕ) (i d : ℕ) → i < length bytes → line ≡ before ++ encode_upper (take i bytes)
-    → digits ≡ encode_upper (get_or bytes i d ∷ []) → line ++ digits ≡ before ++ encode_upper (take (i + 1) bytes)
-encode_upper-more before bytes line digits i d below is_line is_digits =
-    rw (is_line, is_digits, take_more bytes i d below, encode_upper-append (take i bytes) (get_or bytes i d ∷ []))
-    (append_assoc before (encode_upper (take i bytes)) (encode_upper (get_or bytes i d ∷ [])))
+-- the digits of a chunk, and then those of the rest
+pub encode_upper-chunk : (whole line line' digits back rest chunk rest' : List ℕ) → line ++ encode_upper rest ≡ whole
+    → rest ≡ chunk ++ rest' → digits ≡ encode_upper chunk → line' ≡ line ++ take (2 * length chunk) (digits ++ back)
+    → line' ++ encode_upper rest' ≡ whole
+encode_upper-chunk whole line line' digits back rest chunk rest' so_far parts is_digits is_line =
+    let front : take (2 * length chunk) (digits ++ back) ≡ encode_upper chunk =
+    rw is_digits (take_at (encode_upper chunk) back _ (length-encode_with upper_digits chunk)) in
+    ap (λ (xs : List ℕ). xs ++ encode_upper rest') (is_line ∙ ap (λ (xs : List ℕ). line ++ xs) front)
+    ∙ append_assoc line (encode_upper chunk) (encode_upper rest')
+    ∙ ap (λ (xs : List ℕ). line ++ xs) (sym (encode_upper-append chunk rest') ∙ ap (λ (xs : List ℕ). encode_upper xs) (sym parts))
+    ∙ so_far
+
+-- the lengths of two lines with their digits still to come
+pub encode_upper-lengths : (line other bytes others : List ℕ) → line ++ encode_upper bytes ≡ other ++ encode_upper others
+    → length line + 2 * length bytes ≡ length other + 2 * length others
+encode_upper-lengths line other bytes others same = omega (
+  arith,
+  ap length same,
+  length-append line (encode_upper bytes),
+  length-append other (encode_upper others),
+  length-encode_with upper_digits bytes,
+  length-encode_with upper_digits others,
+)

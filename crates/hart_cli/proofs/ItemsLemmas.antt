@@ -1,6 +1,6 @@
 -- Texts of items: a text reads in one way, and what follows a text leaves what was read.
 use Rattle.std.proofs.Common.{◌≡◌, ℕ, ◌+◌, ◌<◌, ◌≤◌, ◌-◌, inl, inr, true, List, [], ◌∷◌, ◌++◌, length, take, drop, Option, refl, sym, ap}
-use Rattle.std.proofs.Common.{◌∙◌, subst, arith}
+use Rattle.std.proofs.Common.{◌∙◌, ◌*◌, Some, subst, arith}
 use Rattle.std.proofs.lemmas.List.{append-nil, append_assoc, drop-drop, length-append, length-drop, take_rest}
 use Rattle.hart_frame.specs.Character.{Character}
 use Rattle.hart_cli.specs.Items.{BeginsAs, BeginsWith, IsSeparator, IsWholeBefore, Item, meaning, NoPieceBegins, nothing}
@@ -147,6 +147,44 @@ pub NoPieceBegins-nil : NoPieceBegins []
 NoPieceBegins-nil (Separator a) tail h = cc (h.spelled)
 NoPieceBegins-nil (Item (Plain x y)) tail h = cc (h.spelled)
 NoPieceBegins-nil (Item (Faulty x y v w)) tail h = cc (h.spelled)
+
+-- something has a length
+some_length : (xs : List ℕ) → (xs ≡ [] → ⊥) → 0 < length xs
+some_length [] some = absurd (some refl)
+some_length (x ∷ xs) some = omega arith
+
+-- a piece takes two bytes at least for a character that it means
+few_meant : (p : Piece) → 2 * length (meaning p) ≤ length (spelling p)
+few_meant (Separator a) = omega arith
+few_meant (Item (Plain x y)) = omega arith
+few_meant (Item (Faulty x y v w)) = omega arith
+
+pub few_read : (text : List ℕ) (char : Option Character) (len : ℕ) → BeginsAs text char len → 2 * length (option_to_list char) ≤ len
+few_read text char len b =
+    let few = few_meant b.piece in
+    let means = ap (λ (xs : List Character). length xs) b.means in
+    omega (arith, few, means, b.long)
+
+-- a byte stands behind an item
+item_inside : (text tail : List ℕ) (p : Piece) (x : Character) → BeginsWith text p tail → meaning p ≡ x ∷ []
+    → length (spelling p) < length text
+item_inside text tail (Separator a) x h e = cc e
+item_inside text tail (Item (Plain high low)) x h e =
+    let long = ap (λ (us : List ℕ). length us) h.spelled in
+    let behind = some_length tail h.whole.0 in
+    omega (arith, long, behind)
+item_inside text tail (Item (Faulty high low fault_high fault_low)) x h e =
+    let long = ap (λ (us : List ℕ). length us) h.spelled in
+    let behind = some_length tail h.whole.0 in
+    omega (arith, long, behind)
+
+pub char_inside : (text : List ℕ) (char : Option Character) (x : Character) (len : ℕ) → BeginsAs text char len → char ≡ Some x
+    → (2 ≤ len) × (len < length text)
+char_inside text char x len b is =
+    let few = few_read text char len b in
+    let one = ap (λ (c : Option Character). length (option_to_list c)) is in
+    let inside = item_inside text b.tail b.piece x b.begins (b.means ∙ ap (λ (c : Option Character). option_to_list c) is) in
+    (omega (arith, few, one), omega (arith, inside, b.long))
 
 -- a text is read one piece further
 pub piece_read : (text : List ℕ) (chars new : List Character) (place : ℕ) (char : Option Character) (len : ℕ) → place ≤ length text

@@ -6,6 +6,7 @@ mod EncodeRowLemmas
 mod FaultlessRowLemmas
 mod HearingLemmas
 mod HexTextLemmas
+mod ImageWordLemmas
 mod ItemsLemmas
 mod KnownBytesLemmas
 mod LineLemmas

@@ -1,46 +1,45 @@
 -- What `hart answer` writes for what it reads (own profile).
-use Rattle.std.specs.Prelude.{◌≡◌, ℕ, List, [], Option, None, Some, Result}
+use Rattle.std.specs.Prelude.{◌≡◌, ℕ, ◌/◌, List, [], length, Option, None, Some}
 use Rattle.hart_frame.specs.Character.{Character}
 use Rattle.hart_frame.specs.FrameParts.{FrameParts}
 use Rattle.hart_frame.specs.Frames.{AreFrames}
 use Rattle.hart_frame.specs.declared.found.Found.{Found}
-use Rattle.hart_device.specs.Bench.{bench_identity, bench_process, bench_values}
+use Rattle.hart_device.specs.Bench.{bench_process}
 use Rattle.hart_device.specs.Delivery.{answer_to}
-use Rattle.hart_device.specs.Device.{DeviceState, new_device}
+use Rattle.hart_device.specs.Device.{DeviceState}
 use Rattle.hart_cli.specs.declared.fault.CliFault.{CliFault}
-use Rattle.hart_cli.specs.declared.fault.CliFault.TheVariants.{BadHex}
+use Rattle.hart_cli.specs.declared.fault.CliFault.TheVariants.{BadHex, Memory}
+use Rattle.hart_cli.specs.ImageWord.{OutcomeWith, Outcomes}
 use Rattle.hart_cli.specs.Items.{IsBadHexAt, ReadsAs}
 use Rattle.hart_cli.specs.MessageLine.{IsMessageLine}
-use Rattle.hart_cli.specs.Stream.{Stream}
 use Rattle.hart_cli.specs.WholeInput.{WholeOutcome}
 
--- The device is the bench device, as it is new.
-abbrev pub bench_device : DeviceState
-bench_device = new_device bench_identity bench_values
-
--- The text of an answer is the line of its message, with as many preamble bytes as the identity says; silence has no text.
-abbrev pub IsAnswerText : Option FrameParts → List ℕ → Type 0
-IsAnswerText None text = text ≡ []
-IsAnswerText (Some reply) text = IsMessageLine reply bench_identity.response_preambles text
+-- The text of a device's answer is the line of its message, with as many preamble bytes as the identity says; silence has no text.
+abbrev pub IsAnswerText : DeviceState → Option FrameParts → List ℕ → Type 0
+IsAnswerText device None text = text ≡ []
+IsAnswerText device (Some reply) text = IsMessageLine reply device.identity.response_preambles text
 
 -- The text for a delivery is that of what the device answers, which hears all of its characters at once.
-pub record IsTextFor (delivery : List Character) (text : List ℕ) : Type 0 where
+pub record IsTextFor (device : DeviceState) (delivery : List Character) (text : List ℕ) : Type 0 where
   pub frames : List Found
   pub are_frames : AreFrames delivery 0 frames
-  pub answered : IsAnswerText (answer_to bench_device bench_process frames) text
+  pub answered : IsAnswerText device (answer_to device bench_process frames) text
 
 -- The text for an input is the text for the delivery that it reads as.
-pub record IsAnswer (input text : List ℕ) : Type 0 where
+pub record IsAnswer (device : DeviceState) (input text : List ℕ) : Type 0 where
   pub delivery : List Character
   pub reads : ReadsAs input delivery
-  pub text_for : IsTextFor delivery text
+  pub text_for : IsTextFor device delivery text
 
--- The only fault of an input that was read to its end is bad hex, at its place.
+-- The only fault of an input that was read to its end is bad hex, at its place, or refused memory for half as many characters as it
+-- has bytes.
 abbrev pub IsAnswerFault : List ℕ → CliFault → Type 0
 IsAnswerFault input (BadHex place) = (chars : List Character) × IsBadHexAt input chars place
+IsAnswerFault input (Memory none) = none.items ≡ length input / 2
 IsAnswerFault input _ = ⊥
 
--- A call of `answer` wrote the answer to its whole input at `Ok`, a front of it where a write failed, and nothing where it
--- told the input's fault or where memory was refused.
-abbrev pub AnswerOutcome : Stream → Stream → Stream → Stream → Result (Unit {0}) CliFault → Type 0
-AnswerOutcome = WholeOutcome IsAnswer IsAnswerFault
+-- A call of `answer` told the fault of its image, if it has one. Otherwise it wrote what its device answers to its whole input at `Ok`,
+-- a prefix of it if a write failed, and nothing if it told the input's fault or if memory for the input or its characters
+-- was refused.
+abbrev pub AnswerOutcome : Option (List ℕ) → Outcomes
+AnswerOutcome = OutcomeWith (λ device. WholeOutcome (IsAnswer device) IsAnswerFault)

@@ -12,7 +12,7 @@ use Rattle.hart_cli.specs.declared.program.command_line.Call.TheVariants.{Answer
 abbrev pub required_rule : Text → Rule
 required_rule id = record (new_rule id) { required = true }
 
--- The number of preamble bytes is told by `--preambles`, lies between 5 and 20, and is 5 where it is not told.
+-- The number of preamble bytes is told by `--preambles`, lies between 5 and 20, and is 5 if it is not told.
 abbrev pub preambles_rule : Rule
 preambles_rule = record (new_rule (codes "preambles")) {
   long = Some (codes "preambles");
@@ -21,7 +21,15 @@ preambles_rule = record (new_rule (codes "preambles")) {
   parser = Some (Signed (pos 5) (pos 20));
 }
 
--- The command `encode` takes three words, a fourth where it is given, and the number of preamble bytes.
+-- The image is told by `--image`.
+abbrev pub image_rule : Rule
+image_rule = record (new_rule (codes "image")) { long = Some (codes "image"); value_names = 1 }
+
+-- The commands `answer` and `sim` take an image, and no words.
+abbrev pub image_app : Text → App
+image_app name = with_rule (new_app name) image_rule
+
+-- The command `encode` takes three words, a fourth if it is given, and the number of preamble bytes.
 abbrev pub encode_app : App
 encode_app =
     let who = with_rule (new_app (codes "encode")) (required_rule (codes "WHO")) in
@@ -31,7 +39,7 @@ encode_app =
     with_rule payload preambles_rule
 
 -- The command `hart` takes words without the program's name, has a version, wants one of its four subcommands named, and
--- shows its help where there is no word at all; `answer`, `dump` and `sim` take no words.
+-- shows its help if there is no word at all; `dump` takes no words.
 abbrev pub hart_app : App
 hart_app =
     let plain = new_app (codes "hart") in
@@ -41,16 +49,16 @@ hart_app =
       subcommand_required = true;
       arg_required_else_help = true;
     } in
-    let answer = with_subcommand (record plain { top = top }) (new_app (codes "answer")).top in
+    let answer = with_subcommand (record plain { top = top }) (image_app (codes "answer")).top in
     let dump = with_subcommand answer (new_app (codes "dump")).top in
-    let sim = with_subcommand dump (new_app (codes "sim")).top in
+    let sim = with_subcommand dump (image_app (codes "sim")).top in
     with_subcommand sim encode_app.top
 
 -- Each call has a subcommand of its own.
 abbrev pub name_of : Call → Text
-name_of Answer = codes "answer"
+name_of (Answer image) = codes "answer"
 name_of Dump = codes "dump"
-name_of Sim = codes "sim"
+name_of (Sim image) = codes "sim"
 name_of (Encode words) = codes "encode"
 
 -- The matches of `encode` have these words, an absent DATA being empty, and their number of preamble bytes: from 5 to 20, in
@@ -66,14 +74,15 @@ pub record GivesWords (rows : List Row) (words : MessageWords) : Type 0 where
   pub value : words.preambles ≡ digits_value 10 (without_leading_plus number)
   pub count : IsPreambleCount words.preambles
 
--- The matches of the subcommand `encode` give the words of the call; those of the others have nothing to give.
+-- The matches of the subcommands `answer` and `sim` give the word of the image, or none, and those of `encode` the words of the
+-- call; those of `dump` have nothing to give.
 abbrev pub GivesValues : Call → List Row → Type 0
-GivesValues Answer rows = Unit {0}
+GivesValues (Answer image) rows = first_of (codes "image") rows ≡ image
 GivesValues Dump rows = Unit {0}
-GivesValues Sim rows = Unit {0}
+GivesValues (Sim image) rows = first_of (codes "image") rows ≡ image
 GivesValues (Encode words) rows = GivesWords rows words
 
--- The words make a call where clap finds no fault in them, they name its subcommand, and the matches of this give the call's
+-- The words make a call if clap finds no fault in them, they name its subcommand, and the matches of this give the call's
 -- values.
 pub record Calls (call : Call) (words : List Text) : Type 0 where
   pub no_fault : fault_of hart_app words ≡ []

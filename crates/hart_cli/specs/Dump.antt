@@ -1,14 +1,15 @@
 -- What `hart dump` writes for what it reads (own profile).
-use Rattle.std.specs.Prelude.{◌≡◌, ◌⊎◌, ℕ, List, Option, Some, None, Result, Ok, Err}
+use Rattle.std.specs.Prelude.{◌≡◌, ◌⊎◌, ℕ, ◌/◌, List, length, Option, Some, None, Result, Ok, Err}
 use Rattle.hart_frame.specs.Character.{Character}
 use Rattle.hart_frame.specs.Frames.{AreFrames}
 use Rattle.hart_frame.specs.declared.found.Found.{Found}
+use Rattle.hart_line.specs.declared.memory.NoRoom.{NoRoom}
 use Rattle.hart_cli.specs.declared.fault.CliFault.{CliFault}
 use Rattle.hart_cli.specs.declared.fault.CliFault.TheVariants.{BadHex, Memory, Read, TooLong, Write}
 use Rattle.hart_cli.specs.declared.input.InputEnd.{InputEnd}
 use Rattle.hart_cli.specs.DumpText.{dump_text}
 use Rattle.hart_cli.specs.Hearing.{Hears}
-use Rattle.hart_cli.specs.Input.{LacksMemory, Reads}
+use Rattle.hart_cli.specs.Input.{LacksInputRoom, Reads}
 use Rattle.hart_cli.specs.Stream.{FailsToWrite, Stream, WritesAll, WritesNothing}
 
 -- The lines of some characters are those of the frames in them.
@@ -36,13 +37,15 @@ abbrev pub DumpsUpTo : CliFault → Stream → Stream → Stream → Stream → 
 DumpsUpTo fault reader reader_after writer writer_after =
     (lines : List ℕ) × HasDump reader reader_after (Some fault) lines × WritesAll writer writer_after lines
 
--- Memory was refused: for an input while it was read, or for its characters once it was.
-abbrev pub LacksMemoryForInput : Stream → Stream → Type 0
-LacksMemoryForInput reader reader_after =
-    LacksMemory reader reader_after ⊎ ((input : List ℕ) × (end : InputEnd) × Reads reader reader_after input end)
+-- Room was refused: for an input, of which nothing was read then, or for half as many characters as an input has bytes, once it
+-- was read.
+abbrev pub LacksRoomForInput : Stream → Stream → NoRoom → Type 0
+LacksRoomForInput reader reader_after none =
+    LacksInputRoom reader reader_after none
+    ⊎ ((input : List ℕ) × (end : InputEnd) × Reads reader reader_after input end × (none.items ≡ length input / 2))
 
--- A call of `dump` wrote all lines of its input at `Ok` and where it told the input's fault, a front of them where a write
--- failed, and nothing where memory for the input or its characters was refused.
+-- A call of `dump` wrote all lines of its input at `Ok` and if it told the input's fault, a prefix of them if a write
+-- failed, and nothing if memory for the input or its characters was refused.
 abbrev pub DumpOutcome : Stream → Stream → Stream → Stream → Result (Unit {0}) CliFault → Type 0
 DumpOutcome reader reader_after writer writer_after (Ok done) =
     (lines : List ℕ) × HasDump reader reader_after None lines × WritesAll writer writer_after lines
@@ -53,6 +56,6 @@ DumpOutcome reader reader_after writer writer_after (Err Read) = DumpsUpTo Read 
 DumpOutcome reader reader_after writer writer_after (Err TooLong) = DumpsUpTo TooLong reader reader_after writer writer_after
 DumpOutcome reader reader_after writer writer_after (Err (BadHex place)) =
     DumpsUpTo (BadHex place) reader reader_after writer writer_after
-DumpOutcome reader reader_after writer writer_after (Err Memory) =
-    LacksMemoryForInput reader reader_after × WritesNothing writer writer_after
+DumpOutcome reader reader_after writer writer_after (Err (Memory none)) =
+    LacksRoomForInput reader reader_after none × WritesNothing writer writer_after
 DumpOutcome reader reader_after writer writer_after (Err _) = ⊥

@@ -22,7 +22,7 @@ abbrev pub master_word : MasterId → List ℕ
 master_word Primary = codes "P"
 master_word Secondary = codes "S"
 
--- The word of a burst bit is 1 where it is set, and 0 where it is not.
+-- The word of a burst bit is 1 if it is set, and 0 if it is not.
 abbrev pub burst_word : Bool → List ℕ
 burst_word false = codes "0"
 burst_word true = codes "1"

@@ -37,7 +37,7 @@ pub data IsFirstBad (words : MessageWords) : ℕ → Type 0 where
       → IsAddressWord words.address address → IsCommandWord words.command command → HasNoValue (IsDataWord words.payload)
       → IsFirstBad words 4
 
--- A call of `encode_text` wrote the text of its words at `Ok`, a front of it where a write failed, and nothing where it told
+-- A call of `encode_text` wrote the text of its words at `Ok`, a prefix of it if a write failed, and nothing if it told
 -- the first bad word.
 abbrev pub EncodeOutcome : MessageWords → Stream → Stream → Result (Unit {0}) CliFault → Type 0
 EncodeOutcome words writer writer_after (Ok done) =

@@ -9,7 +9,7 @@ use Rattle.hart_cli.specs.declared.input.InputEnd.{InputEnd}
 use Rattle.hart_cli.specs.declared.input.InputEnd.TheVariants as ends
 
 -- An input that ended reads as its characters without a fault, or has bad hex after them; one that was cut short has bad hex
--- after them where that is decided by then, and otherwise reads as the characters of the items that are whole so far, with
+-- after them if that is decided by then, and otherwise reads as the characters of the items that are whole so far, with
 -- the failed read or the limit as its fault.
 pub data Hears (text : List ℕ) : InputEnd → List Character → Option CliFault → Type 0 where
   all : (chars : List Character) → ReadsAs text chars → Hears text ends.Ended chars None

@@ -1,6 +1,7 @@
 -- How an input was read, and how it came to its end (own profile).
 use Rattle.std.specs.Prelude.{◌≡◌, ◌≢◌, ℕ, ◌+◌, ◌≤◌, List, [], ◌++◌, length}
 use Rattle.std.specs.Io.KnownBytes.{Consumes, IsAtEnd}
+use Rattle.hart_line.specs.declared.memory.NoRoom.{NoRoom}
 use Rattle.hart_cli.specs.Stream.{Stream, count_after_failure}
 use Rattle.hart_cli.specs.declared.fault.CliFault.{CliFault}
 use Rattle.hart_cli.specs.declared.fault.CliFault.TheVariants as faults
@@ -34,15 +35,17 @@ Reads old new text Failed =
     Consumes old.bytes new.bytes text × (length text ≤ input_limit) × (new.failures ≡ count_after_failure old.failures)
 Reads old new text TooLong = ReadsPastLimit old new text
 
--- Where memory was refused, a few bytes more than the limit were taken at most, and no read failed.
-pub record LacksMemory (old new : Stream) : Type 0 where
-  pub bytes : List ℕ
-  pub read : ReadsWell old new bytes
-  pub soon : length bytes ≤ input_limit + most_beyond
+-- An input has room for as many bytes as it may have, and for one that makes its last item whole.
+abbrev pub input_room : ℕ
+input_room = input_limit + 1
 
--- Reading a whole input comes to this fault: a read failed, there were more bytes than the limit, or memory was refused.
+-- Room for an input was refused, and nothing was read.
+abbrev pub LacksInputRoom : Stream → Stream → NoRoom → Type 0
+LacksInputRoom old new none = (none.items ≡ input_room) × (new ≡ old)
+
+-- Reading a whole input comes to this fault: a read failed, there were more bytes than the limit, or room for it was refused.
 abbrev pub IsReadingFault : Stream → Stream → CliFault → Type 0
 IsReadingFault old new faults.Read = (text : List ℕ) × Reads old new text Failed
 IsReadingFault old new faults.TooLong = (text : List ℕ) × Reads old new text TooLong
-IsReadingFault old new faults.Memory = LacksMemory old new
+IsReadingFault old new (faults.Memory none) = LacksInputRoom old new none
 IsReadingFault old new _ = ⊥

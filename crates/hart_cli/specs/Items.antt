@@ -29,7 +29,7 @@ abbrev pub meaning : Piece → List Character
 meaning (Separator byte) = []
 meaning (Item item) = item_meaning item ∷ []
 
--- A separator is whole whatever follows it, and an item where a further byte follows it and the item ends before it.
+-- A separator is whole whatever follows it, and an item if a further byte follows it and the item ends before it.
 abbrev pub IsWholeBefore : List ℕ → Piece → Type 0
 IsWholeBefore tail (Separator byte) = ⊤
 IsWholeBefore tail (Item item) = (tail ≢ []) × EndsBefore tail item
@@ -40,7 +40,7 @@ pub record BeginsWith (text : List ℕ) (piece : Piece) (tail : List ℕ) : Type
   pub spelled : text ≡ spelling piece ++ tail
   pub whole : IsWholeBefore tail piece
 
--- A text reads as characters up to a rest of it, where pieces stand end to end before that rest.
+-- A text reads as characters up to a rest of it, if pieces stand end to end before that rest.
 pub data ReadsUpTo : List ℕ → List Character → List ℕ → Type 0 where
   nothing : (rest : List ℕ) → ReadsUpTo rest [] rest
   piece : (text : List ℕ) (first : Piece) (tail : List ℕ) (chars : List Character) (rest : List ℕ)
@@ -57,7 +57,7 @@ pub record MayBegin (text : List ℕ) : Type 0 where
   pub tail : List ℕ
   pub begins : BeginsWith (text ++ more) piece tail
 
--- A text has bad hex at a place, after these characters, where it reads as them up to there, and what begins there is
+-- A text has bad hex at a place, after these characters, if it reads as them up to there, and what begins there is
 -- neither its end nor a piece.
 pub record HasBadHex (text : List ℕ) (chars : List Character) (place : ℕ) : Type 0 where
   pub rest : List ℕ
@@ -78,12 +78,12 @@ ReadsAs text chars = ReadsUpTo (closed text) chars []
 abbrev pub IsBadHexAt : List ℕ → List Character → ℕ → Type 0
 IsBadHexAt text chars place = HasBadHex (closed text) chars place
 
--- While an input may go on, bad hex in it is decided where it is bad whatever follows.
+-- While an input may go on, bad hex in it is decided if it is bad whatever follows.
 abbrev pub IsDecidedBadHexAt : List ℕ → List Character → ℕ → Type 0
 IsDecidedBadHexAt text chars place = (more : List ℕ) → HasBadHex (text ++ more) chars place
 
 -- While an input may go on, it reads so far as the characters up to a rest, perhaps empty, at whose beginning no whole piece
--- stands yet, though one would where the right bytes followed.
+-- stands yet, though one would if the right bytes followed.
 pub record ReadsSoFarAs (text : List ℕ) (chars : List Character) : Type 0 where
   pub rest : List ℕ
   pub reads : ReadsUpTo text chars rest

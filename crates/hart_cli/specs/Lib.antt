@@ -7,12 +7,12 @@ pub mod Hearing
 pub mod HexText
 pub mod MessageLine
 pub mod MessageWords
+pub mod ImageWord
 pub mod Answer
 pub mod Line
 pub mod DumpText
 pub mod Dump
 pub mod Encode
-pub mod Image
 pub mod SimText
 pub mod Sim
 pub mod FaultText

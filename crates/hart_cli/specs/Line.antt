@@ -7,7 +7,7 @@ use Rattle.hex.specs.Hex.{encode_upper}
 abbrev pub line_of : List (List ℕ) → List ℕ
 line_of words = join_with_byte 32 words ++ 10 ∷ []
 
--- The word of bytes is their upper case hex, or `-` where there are none.
+-- The word of bytes is their upper case hex, or `-` if there are none.
 abbrev pub bytes_word : List ℕ → List ℕ
 bytes_word [] = codes "-"
 bytes_word (byte ∷ bytes) = encode_upper (byte ∷ bytes)

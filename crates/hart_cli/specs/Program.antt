@@ -14,12 +14,12 @@ use Rattle.hart_cli.specs.declared.program.command_line.Call.TheVariants.{Answer
 
 -- A call with this result had the outcome of its own kind on the reader and the writer; that of `encode` leaves the reader.
 abbrev pub CallOutcome : Call → Stream → Stream → Stream → Stream → Result (Unit {0}) CliFault → Type 0
-CallOutcome Answer reader reader_after writer writer_after result =
-    AnswerOutcome reader reader_after writer writer_after result
+CallOutcome (Answer image) reader reader_after writer writer_after result =
+    AnswerOutcome image reader reader_after writer writer_after result
 CallOutcome Dump reader reader_after writer writer_after result =
     DumpOutcome reader reader_after writer writer_after result
-CallOutcome Sim reader reader_after writer writer_after result =
-    SimOutcome reader reader_after writer writer_after result
+CallOutcome (Sim image) reader reader_after writer writer_after result =
+    SimOutcome image reader reader_after writer writer_after result
 CallOutcome (Encode words) reader reader_after writer writer_after result =
     (reader_after ≡ reader) × EncodeOutcome words writer writer_after result
 

@@ -4,6 +4,7 @@ use Rattle.std.specs.List.{enumerate_from, flat_map}
 use Rattle.hex.specs.Hex.{encode_upper}
 use Rattle.hart_commands.specs.ReplyData.{content_bytes}
 use Rattle.hart_device.specs.Device.{DeviceState}
+use Rattle.hart_device.specs.Image.{image_of}
 use Rattle.hart_master.specs.declared.fault.MasterFault.{MasterFault}
 use Rattle.hart_master.specs.declared.fault.MasterFault.TheVariants.{OutOfRange, Pending, WrongAddress}
 use Rattle.hart_line.specs.declared.line.report.Outcome.{Outcome}
@@ -11,7 +12,6 @@ use Rattle.hart_line.specs.declared.line.report.Outcome.TheVariants.{Answered, N
 use Rattle.hart_line.specs.declared.line.report.Party.{Party}
 use Rattle.hart_line.specs.declared.line.report.Party.TheVariants.{Device, Primary, Secondary}
 use Rattle.hart_line.specs.declared.line.report.Spoken.{Spoken}
-use Rattle.hart_cli.specs.Image.{image_of}
 use Rattle.hart_cli.specs.Line.{bytes_word, line_of}
 
 -- The word of a party is P for the primary master, S for the secondary and D for the device.

@@ -7,7 +7,7 @@ use Rattle.hart_cli.specs.declared.stream.Failed.{Failed}
 abbrev pub count_after_failure : ℕ → ℕ
 count_after_failure count = min (count + 1) (2 ^ 64 - 1)
 
--- A reader or a writer is, to contracts, the bytes left to read or written so far, where they are told, and how often it
+-- A reader or a writer is, to contracts, the bytes left to read or written so far, if they are told, and how often it
 -- has failed.
 pub record Stream : Type 0 where
   pub bytes : Option (List ℕ)
@@ -18,7 +18,7 @@ abbrev pub CountsFailure : {T : Type 0} → Stream → Stream → Result T Faile
 CountsFailure old new result =
     MatchResult result (λ _. new.failures ≡ old.failures) (λ _. new.failures ≡ count_after_failure old.failures)
 
--- A front of the text, short of its end, was written, and nothing else.
+-- A prefix of the text, short of its end, was written, and nothing else.
 pub record WritesFront (old new : Option (List ℕ)) (text : List ℕ) : Type 0 where
   pub front : List ℕ
   pub back : List ℕ
@@ -30,15 +30,15 @@ pub record WritesFront (old new : Option (List ℕ)) (text : List ℕ) : Type 0 
 abbrev pub WritesAll : Stream → Stream → List ℕ → Type 0
 WritesAll old new text = Appends old.bytes new.bytes text × (new.failures ≡ old.failures)
 
--- A write failed, and a front of the text, short of its end, was written before.
+-- A write failed, and a prefix of the text, short of its end, was written before.
 abbrev pub FailsToWrite : Stream → Stream → List ℕ → Type 0
 FailsToWrite old new text = WritesFront old.bytes new.bytes text × (new.failures ≡ count_after_failure old.failures)
 
--- At `Ok` the whole text was written, and otherwise a write failed after a front of it.
+-- At `Ok` the whole text was written, and otherwise a write failed after a prefix of it.
 abbrev pub Writes : {T E : Type 0} → Stream → Stream → List ℕ → Result T E → Type 0
 Writes old new text result = MatchResult result (λ _. WritesAll old new text) (λ _. FailsToWrite old new text)
 
--- The whole text was written and no write failed, or one failed after a front of the text, short of its end.
+-- The whole text was written and no write failed, or one failed after a prefix of the text, short of its end.
 abbrev pub WritesUnlessFailed : Stream → Stream → List ℕ → Type 0
 WritesUnlessFailed old new text = WritesAll old new text ⊎ FailsToWrite old new text
 

@@ -1,31 +1,64 @@
 //! `hart answer`: what the bench device answers to one delivery.
 ghost use Rattle.std.specs.Prelude.{◌≡◌, ℕ, List, [], MatchOption};
-ghost use Rattle.hart_cli.specs.Answer.{AnswerOutcome, IsAnswer, IsTextFor};
+ghost use Rattle.std.specs.Option.{option_map};
+ghost use Rattle.hart_device.specs.Device.{DeviceState};
+ghost use Rattle.hart_cli.specs.Answer.{AnswerOutcome, IsAnswer, IsAnswerFault, IsTextFor};
+ghost use Rattle.hart_cli.specs.WholeInput.{WholeOutcome};
 
 use crate::fault::CliFault;
 use crate::hex_text::HexLine;
+use crate::image_word::device_of;
 use crate::input::read_whole;
 use crate::items::{hear, one_hearing};
 use crate::output::{message_line, write_all};
 use crate::stream::{Sink, Source};
-use hart_device::{Device, FieldRegisters, bench};
-use hart_frame::{Char, bodies_are_told_apart, every_list_has_frames, frames_are_told_apart};
+use hart_device::{Device, ImageRegisters, bench};
+use hart_frame::{Char, bodies_are_unambiguous, every_list_has_frames, frames_are_unambiguous};
 use std::alloc::Global;
 
-/// Reads a delivery as hex items, and writes what the bench device answers to it as one line of hex, or nothing where it is
-/// silent.
+/// Reads a delivery as hex items, and writes what the bench device answers to it as one line of hex, or nothing if it is
+/// silent. With an image, a word of hex, it is the device that goes on from that.
 ///
 /// # Errors
 ///
-/// [`CliFault::Read`], [`CliFault::TooLong`], then [`CliFault::BadHex`], then [`CliFault::Write`], and
-/// [`CliFault::Memory`] where memory for the input or its characters is refused. At a fault nothing is written, except at
-/// `Write`, where a front of the line is, short of its end.
+/// [`CliFault::BadHex`] and [`CliFault::Image`] of the image, at which nothing is read; then [`CliFault::Read`],
+/// [`CliFault::TooLong`], then [`CliFault::BadHex`] of the input, then [`CliFault::Write`], and [`CliFault::Memory`] if memory
+/// for the image, the input or its characters is refused. At a fault nothing is written, except at `Write`: there a prefix of the
+/// line is, short of its end.
 pub fn answer<R: Source, W: Sink>(
     alloc: Global,
+    image: Option<&str>,
     reader: &mut R,
     writer: &mut W,
 ) -> Result<(), CliFault>
-    ensures { AnswerOutcome
+    ensures { AnswerOutcome (option_map (λ word. word.now) image.entry)
+        (R.stream reader.old) (R.stream reader.new)
+        (W.stream writer.old) (W.stream writer.new)
+        result }
+{
+    let device = device_of(alloc, image)?;
+    answer_of(alloc, device, reader, writer)
+}
+
+/// An input has one answer of a device at most, so that what `answer` writes is determined by its image and by what it reads.
+pub fn one_answer()
+    ensures { (device : DeviceState) (input xs ys : List ℕ)
+        → IsAnswer device input xs → IsAnswer device input ys → xs ≡ ys }
+{
+    // No-ops: their contracts are used below.
+    bodies_are_unambiguous();
+    frames_are_unambiguous();
+    one_hearing();
+}
+
+/// Reads a delivery, and writes what a device answers to it.
+fn answer_of<R: Source, W: Sink>(
+    alloc: Global,
+    mut device: Device<ImageRegisters>,
+    reader: &mut R,
+    writer: &mut W,
+) -> Result<(), CliFault>
+    ensures { WholeOutcome (IsAnswer device) IsAnswerFault
         (R.stream reader.old) (R.stream reader.new)
         (W.stream writer.old) (W.stream writer.new)
         result }
@@ -35,33 +68,19 @@ pub fn answer<R: Source, W: Sink>(
     if let Some(fault) = delivery.fault {
         return Err(fault);
     }
-    let Some(line) = answer_line(&delivery.chars) else {
+    let Some(line) = answer_line(&mut device, &delivery.chars) else {
         return Ok(());
     };
     write_all(writer, line.as_slice())?;
     Ok(())
 }
 
-/// An input has one answer at most, so that what `answer` writes is determined by what it reads.
-pub fn one_answer()
-    ensures { (input xs ys : List ℕ) → IsAnswer input xs → IsAnswer input ys → xs ≡ ys }
+/// The line of what the device answers to a delivery, or `None` if it is silent.
+fn answer_line(device: &mut Device<ImageRegisters>, delivery: &[Char]) -> Option<HexLine>
+    ensures { MatchOption result (IsTextFor device.old delivery.now []) (IsTextFor device.old delivery.now) }
 {
-    // They do nothing when they run: the laws of bodies, of frames and of items are what this one rests on.
-    bodies_are_told_apart();
-    frames_are_told_apart();
-    one_hearing();
-}
-
-/// The line of what the bench device answers to a delivery, or `None` where it is silent.
-fn answer_line(delivery: &[Char]) -> Option<HexLine>
-    ensures { MatchOption result (IsTextFor delivery.now []) (IsTextFor delivery.now) }
-{
-    // It does nothing when it runs: by this law a delivery has frames, of which the device speaks.
+    // No-op: its contract says that a delivery has frames, of which the device speaks.
     every_list_has_frames();
-    let mut device: Device<FieldRegisters> = Device::new(
-        bench::identity(),
-        &bench::register_values(),
-    );
     let preambles = device.response_preambles();
     let reply = device.hear(delivery, &bench::process())?;
     Some(message_line(&reply, preambles))

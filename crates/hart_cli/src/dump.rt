@@ -11,7 +11,7 @@ use crate::input::read_input;
 use crate::items::{hear, one_hearing};
 use crate::output::write_all;
 use crate::stream::{Failed, Sink, Source};
-use hart_frame::{Char, every_list_has_frames, first_frame, frames_are_told_apart};
+use hart_frame::{Char, every_list_has_frames, first_frame, frames_are_unambiguous};
 use std::alloc::Global;
 
 /// Reads what was heard on a line as hex items, and writes a line for each frame in it.
@@ -19,8 +19,8 @@ use std::alloc::Global;
 /// # Errors
 ///
 /// The first fault of the input, in the order of its bytes: [`CliFault::Read`], [`CliFault::TooLong`] or
-/// [`CliFault::BadHex`]. The lines of the frames before it are written first, and where that fails the fault is
-/// [`CliFault::Write`], with a front of these lines written. [`CliFault::Memory`] where memory for the input or its characters
+/// [`CliFault::BadHex`]. The lines of the frames before it are written first, and if that fails the fault is
+/// [`CliFault::Write`], with a prefix of these lines written. [`CliFault::Memory`] if memory for the input or its characters
 /// is refused; nothing is written then.
 pub fn dump<R: Source, W: Sink>(
     alloc: Global,
@@ -47,8 +47,8 @@ pub fn one_dump()
     ensures { (input : List ℕ) (end : InputEnd) (f g : Option CliFault) (xs ys : List ℕ)
         → IsDump input end f xs → IsDump input end g ys → (f ≡ g) × (xs ≡ ys) }
 {
-    // They do nothing when they run: the laws of frames and of items are what this one rests on.
-    frames_are_told_apart();
+    // No-ops: their contracts are used below.
+    frames_are_unambiguous();
     one_hearing();
 }
 
@@ -56,12 +56,12 @@ pub fn one_dump()
 ///
 /// # Errors
 ///
-/// `Failed` at the first write that fails. A front of the lines is written then.
+/// `Failed` at the first write that fails. A prefix of the lines is written then.
 fn write_frames<W: Sink>(chars: &[Char], writer: &mut W) -> Result<(), Failed>
     ensures { (lines : List ℕ) × AreLines chars.now lines
         × Writes (W.stream writer.old) (W.stream writer.new) lines result }
 {
-    // It does nothing when it runs: by this law there are lines of all frames, of which a front was written.
+    // No-op: its contract says that there are lines of all frames, of which a prefix was written.
     every_list_has_frames();
     let mut place = 0;
     while let Some(found) = first_frame(chars, place) {

@@ -7,7 +7,7 @@ ghost use Rattle.hart_cli.specs.MessageWords.{MessageWords};
 use crate::fault::CliFault;
 use crate::output::{message_line, write_all};
 use crate::stream::Sink;
-use hart_frame::{Frame, bodies_are_told_apart};
+use hart_frame::{Frame, bodies_are_unambiguous};
 use hart_line::{read_address, read_command, read_data, read_who, words_have_one_value};
 use std::alloc::Global;
 use std::marker::Model;
@@ -48,7 +48,7 @@ impl<'a> Model for EncodeWords<'a> {
 /// # Errors
 ///
 /// [`CliFault::BadWord`] with the number of the first bad word: 1 is WHO, 2 ADDRESS, 3 COMMAND, 4 DATA;
-/// then [`CliFault::Write`]. At a bad word nothing is written, and at `Write` a front of the line, short of its end. No memory
+/// then [`CliFault::Write`]. At a bad word nothing is written, and at `Write` a prefix of the line, short of its end. No memory
 /// is taken.
 pub fn encode_text<W: Sink>(
     _alloc: Global,
@@ -87,9 +87,9 @@ pub fn encode_text<W: Sink>(
 pub fn one_encoding()
     ensures { (words : MessageWords) (xs ys : List ℕ) → IsEncoding words xs → IsEncoding words ys → xs ≡ ys }
 {
-    // They do nothing when they run: the laws of words and of bodies are what this one rests on.
+    // No-ops: their contracts are used below.
     words_have_one_value();
-    bodies_are_told_apart();
+    bodies_are_unambiguous();
 }
 
 /// The request that the words write.

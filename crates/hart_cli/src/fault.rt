@@ -1,14 +1,14 @@
 //! Why a call of the command line ended early.
 
 ghost use Rattle.std.specs.Prelude.{◌≡◌, ◌<◌, ◌≤◌, [], length};
-ghost use Rattle.hart_cli.specs.FaultText.{leg_word, line_fault_text};
-ghost use Rattle.hart_cli.specs.declared.fault.CliFault.TheVariants.{Memory, Write};
+ghost use Rattle.hart_cli.specs.FaultText.{device_fault_text, leg_word, line_fault_text};
+ghost use Rattle.hart_cli.specs.declared.fault.CliFault.TheVariants.{Image, Memory, Write};
 
 use crate::stream::Failed;
 use arrayvec::ArrayString;
-use hart_line::{Leg, LineFault};
+use hart_device::DeviceFault;
+use hart_line::{Leg, LineFault, NoRoom};
 use itoa::Buffer;
-use std::alloc::{AllocError, AllocFailed};
 use thiserror::Error;
 
 /// Why a call ended early.
@@ -23,15 +23,19 @@ pub enum CliFault {
     /// Fault 3: the input has more bytes than `INPUT_LIMIT`.
     #[error("input too long")]
     TooLong,
-    /// Fault 4: at this byte of the input, counted from 0, begins the first thing that is neither a separator nor an item.
+    /// Fault 4: at this byte of the input, counted from 0, begins the first thing that is neither a separator nor an item. Of the
+    /// word of an image it is the first byte that is no hex digit, or its length if this is odd.
     #[error("bad hex at {place}")]
     BadHex { place: usize },
     /// Fault 5: the input is no script, or one that is not carried out.
     #[error("{0}")]
     Line(LineFault),
-    /// Fault 7: memory was refused.
+    /// Fault 6: the image is none that a device goes on from.
+    #[error("{0}")]
+    Image(DeviceFault),
+    /// Fault 7: memory was refused, for so many items.
     #[error("out of memory")]
-    Memory,
+    Memory(NoRoom),
     /// Fault 8: this word of a message to send is bad: 1 is WHO, 2 ADDRESS, 3 COMMAND and 4 DATA.
     #[error("bad word {number}")]
     BadWord { number: u8 },
@@ -57,7 +61,8 @@ impl CliFault {
                 line.push_str(Buffer::new().format(place));
             }
             CliFault::Line(fault) => push_line_fault(&mut line, fault),
-            CliFault::Memory => line.push_str("out of memory"),
+            CliFault::Image(fault) => line.push_str(device_fault_text(fault)),
+            CliFault::Memory(_) => line.push_str("out of memory"),
             CliFault::BadWord { number } => {
                 line.push_str("bad word ");
                 line.push_str(Buffer::new().format(number));
@@ -81,11 +86,25 @@ fn push_line_fault(line: &mut ArrayString<LONGEST_LINE>, fault: LineFault)
             line.push_str(", ");
             line.push_str(leg_word(leg));
         }
-        LineFault::Memory => line.push_str("out of memory"),
+        LineFault::Memory(_) => line.push_str("out of memory"),
         LineFault::BadLine { number } => {
             line.push_str("bad line ");
             line.push_str(Buffer::new().format(number));
         }
+    }
+}
+
+/// The text of a device's fault.
+fn device_fault_text(fault: DeviceFault) -> &'static str
+    ensures text { result.now ≡ device_fault_text fault }
+    ensures short { length result.now ≤ 18 }
+{
+    match fault {
+        DeviceFault::BroadcastAddress => "broadcast address",
+        DeviceFault::OutOfRange => "out of range",
+        DeviceFault::BadVersion => "bad image: version",
+        DeviceFault::BadLength => "bad image: length",
+        DeviceFault::BadField => "bad image: field",
     }
 }
 
@@ -110,19 +129,20 @@ impl From<Failed> for CliFault {
     }
 }
 
-impl From<AllocError> for CliFault {
-    ghost from_gives = { λ _ e. e ≡ Memory };
+impl From<NoRoom> for CliFault {
+    ghost from_gives = { λ none e. e ≡ Memory none };
 
-    fn from(_error: AllocError) -> CliFault {
-        CliFault::Memory
+    fn from(none: NoRoom) -> CliFault {
+        CliFault::Memory(none)
     }
 }
 
-impl<T: Drop> From<AllocFailed<T>> for CliFault {
-    ghost from_gives = { λ _ e. e ≡ Memory };
+impl From<DeviceFault> for CliFault {
+    ghost from_gives = { λ fault e. e ≡ Image fault };
 
-    fn from(_error: AllocFailed<T>) -> CliFault {
-        CliFault::Memory
+    /// What a device is refused for is a fault of its image: the program makes no device of other parts.
+    fn from(fault: DeviceFault) -> CliFault {
+        CliFault::Image(fault)
     }
 }
 
@@ -134,7 +154,7 @@ impl From<LineFault> for CliFault {
     /// Want of memory is told as such, whatever it was refused to.
     fn from(fault: LineFault) -> CliFault {
         match fault {
-            LineFault::Memory => CliFault::Memory,
+            LineFault::Memory(none) => CliFault::Memory(none),
             other => CliFault::Line(other),
         }
     }

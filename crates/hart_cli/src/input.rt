@@ -1,14 +1,18 @@
 //! Reading a whole input.
-ghost use Rattle.std.specs.Prelude.{◌≡◌, IfErr, IfOk, OnErr};
-ghost use Rattle.hart_cli.specs.Input.{IsReadingFault, LacksMemory, Reads};
+ghost use Rattle.std.specs.Prelude.{◌≡◌, ◌<◌, [], IfErr, IfOk, OnErr, length};
+ghost use Rattle.hart_cli.specs.Input.{IsReadingFault, Reads, input_room};
 ghost use Rattle.hart_cli.specs.declared.input.InputEnd.TheVariants.{Ended};
 
 use crate::fault::CliFault;
 use crate::stream::Source;
-use std::alloc::{AllocError, Global};
+use hart_line::{Filling, NoRoom};
+use std::alloc::Global;
 
 /// The most bytes that an input may have.
 pub const INPUT_LIMIT: usize = 1_048_576;
+
+/// An input has room for all bytes that it may have, and for one that makes its last item whole.
+const INPUT_ROOM: usize = INPUT_LIMIT + 1;
 
 /// The most bytes that one read may give.
 const BUFFER_LEN: usize = 4096;
@@ -28,7 +32,7 @@ pub enum InputEnd {
 #[derive(Debug, Drop)]
 pub struct Input {
     /// The bytes within [`INPUT_LIMIT`].
-    pub text: Vec<u8>,
+    pub text: Filling<u8>,
     /// Why there are no more of them.
     pub end: InputEnd,
 }
@@ -37,12 +41,14 @@ pub struct Input {
 ///
 /// # Errors
 ///
-/// [`CliFault::Read`], [`CliFault::TooLong`] or [`CliFault::Memory`], where that kept it from the end of the input.
+/// [`CliFault::Read`] or [`CliFault::TooLong`], if that kept it from the end of the input; [`CliFault::Memory`] if the room for
+/// an input was refused, and nothing is read then.
 pub fn read_whole<R: Source>(alloc: Global, reader: &mut R) -> Result<Input, CliFault>
     ensures ended { IfOk result (λ input. input.end ≡ Ended) }
     ensures reads { IfOk result (λ input. Reads
         (R.stream reader.old) (R.stream reader.new)
         input.text.items Ended) }
+    ensures spare { IfOk result (λ input. length input.text.items < input.text.room) }
     ensures fault { IfErr result (IsReadingFault (R.stream reader.old) (R.stream reader.new)) }
 {
     let input = read_input(alloc, reader)?;
@@ -53,37 +59,48 @@ pub fn read_whole<R: Source>(alloc: Global, reader: &mut R) -> Result<Input, Cli
     }
 }
 
-/// Reads to the end, to the first read that fails, or to the limit.
+/// Reads to the end, to the first read that fails, or to the limit, into room that is reserved before the first read.
 ///
-/// A reader that never ends is left once it has given more than [`INPUT_LIMIT`] bytes.
+/// A reader that never ends is left once it has given more than [`INPUT_LIMIT`] bytes. There is room for one byte after those
+/// that were read.
 ///
 /// # Errors
 ///
-/// `AllocError` if a growth was refused.
-pub fn read_input<R: Source>(alloc: Global, reader: &mut R) -> Result<Input, AllocError>
+/// [`NoRoom`] for an input. Nothing is read then.
+pub fn read_input<R: Source>(alloc: Global, reader: &mut R) -> Result<Input, NoRoom>
     ensures reads { IfOk result (λ input. Reads
         (R.stream reader.old) (R.stream reader.new)
         input.text.items input.end) }
-    ensures lacks_memory { OnErr result (LacksMemory
-        (R.stream reader.old) (R.stream reader.new)) }
+    ensures spare { IfOk result (λ input. length input.text.items < input.text.room) }
+    ensures refused { IfErr result (λ none. none.items ≡ input_room) }
+    ensures unread { OnErr result (reader.new ≡ reader.old) }
 {
-    let mut text = Vec::new(alloc);
+    let mut text = Filling::with_room(alloc, INPUT_ROOM)?;
+    let end = read_into(reader, &mut text);
+    Ok(Input { text, end })
+}
+
+/// Reads an input into room for it.
+fn read_into<R: Source>(reader: &mut R, text: &mut Filling<u8>) -> InputEnd
+    requires { text.old ≡ record { items = []; room = input_room } }
+    ensures reads { Reads
+        (R.stream reader.old) (R.stream reader.new)
+        text.new.items result }
+    ensures room { text.new.room ≡ input_room }
+{
     let mut buffer = [0; BUFFER_LEN];
     loop {
         let Ok(given) = reader.read(&mut buffer) else {
-            let end = InputEnd::Failed;
-            return Ok(Input { text, end });
+            return InputEnd::Failed;
         };
         if given == 0 {
-            let end = InputEnd::Ended;
-            return Ok(Input { text, end });
+            return InputEnd::Ended;
         }
         let room = INPUT_LIMIT - text.len();
         if given > room {
-            text.extend_from_slice(&buffer[..room])?;
-            let end = InputEnd::TooLong;
-            return Ok(Input { text, end });
+            text.extend(&buffer[..room]);
+            return InputEnd::TooLong;
         }
-        text.extend_from_slice(&buffer[..given])?;
+        text.extend(&buffer[..given]);
     }
 }

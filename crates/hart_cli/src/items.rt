@@ -1,5 +1,6 @@
-//! The text of an input: hex items, and separators where there are any.
-ghost use Rattle.std.specs.Prelude.{◌≡◌, ◌↔◌, ◌≤◌, ℕ, List, drop, length, Option, IfOk, IsTrue, MatchOption};
+//! The text of an input: hex items, and separators if there are any.
+ghost use Rattle.std.specs.Prelude.{◌≡◌, ◌↔◌, ◌<◌, ◌≤◌, ◌+◌, ◌*◌, ◌/◌, [], ℕ, List, drop, length, Option, IfErr, IfOk, IsTrue};
+ghost use Rattle.std.specs.Prelude.{MatchOption};
 ghost use Rattle.hart_frame.specs.Character.{Character};
 ghost use Rattle.hart_cli.specs.Hearing.{Hears};
 ghost use Rattle.hart_cli.specs.Items.{BeginsAs, IsSeparator, MayBegin, NoPieceBegins, ReadsUpTo};
@@ -9,8 +10,8 @@ ghost use Rattle.hart_cli.specs.declared.input.InputEnd.{InputEnd};
 use crate::fault::CliFault;
 use crate::input::{Input, InputEnd};
 use hart_frame::Char;
-use hart_line::leading_item;
-use std::alloc::{AllocError, Global};
+use hart_line::{Filling, NoRoom, leading_item};
+use std::alloc::Global;
 
 /// What an input was heard as.
 #[derive(Debug, Drop)]
@@ -34,18 +35,22 @@ pub fn one_hearing()
 ///
 /// # Errors
 ///
-/// `AllocError` if a growth was refused.
-pub fn hear(alloc: Global, input: Input) -> Result<Hearing, AllocError>
-    ensures { IfOk result (λ hearing.
+/// [`NoRoom`] for half as many characters as it has bytes.
+pub fn hear(alloc: Global, input: Input) -> Result<Hearing, NoRoom>
+    requires spare { length input.text.items < input.text.room }
+    ensures heard { IfOk result (λ hearing.
         Hears input.text.items input.end hearing.chars.items hearing.fault) }
+    ensures refused { IfErr result (λ none. none.items ≡ length input.text.items / 2) }
 {
     let Input { mut text, end } = input;
+    // An item has two bytes at least.
+    let mut chars = Filling::with_room(alloc, text.len() / 2)?;
     if end == InputEnd::Ended {
         // Its end makes the last item whole, as a space does.
-        text.push(b' ')?;
+        text.push(b' ');
     }
     let bytes = text.as_slice();
-    let Reading { chars, place } = read_pieces(alloc, bytes)?;
+    let place = read_pieces(bytes, &mut chars);
     let rest = &bytes[place..];
     let is_open = may_begin(rest);
     let fault = match end {
@@ -54,32 +59,29 @@ pub fn hear(alloc: Global, input: Input) -> Result<Hearing, AllocError>
         InputEnd::TooLong if is_open => Some(CliFault::TooLong),
         _ => Some(CliFault::BadHex { place }),
     };
-    Ok(Hearing { chars, fault })
+    Ok(Hearing {
+        chars: chars.finish(),
+        fault,
+    })
 }
 
-/// The characters of a text up to a place.
-#[derive(Drop)]
-struct Reading {
-    chars: Vec<Char>,
-    place: usize,
-}
-
-/// Reads a text up to the place where no piece begins.
-fn read_pieces(alloc: Global, text: &[u8]) -> Result<Reading, AllocError>
-    ensures { IfOk result (λ reading.
-        (reading.place ≤ length text.now)
-        × ReadsUpTo text.now reading.chars.items (drop reading.place text.now)
-        × NoPieceBegins (drop reading.place text.now)) }
+/// Reads a text up to the place where no piece begins, and gives that place. The last byte is no item's, so that there is room
+/// for half as many characters as there are bytes before it.
+fn read_pieces(text: &[u8], chars: &mut Filling<Char>) -> usize
+    requires empty { chars.old.items ≡ [] }
+    requires room { length text.now ≤ 2 * chars.old.room + 2 }
+    ensures within { result ≤ length text.now }
+    ensures reads { ReadsUpTo text.now chars.new.items (drop result text.now) }
+    ensures stops { NoPieceBegins (drop result text.now) }
 {
-    let mut chars = Vec::new(alloc);
     let mut place = 0;
     while let Some(lead) = leading_piece(&text[place..]) {
         if let Some(char) = lead.char {
-            chars.push(char)?;
+            chars.push(char);
         }
         place += lead.len;
     }
-    Ok(Reading { chars, place })
+    place
 }
 
 /// What a piece means, and its length.
@@ -89,7 +91,7 @@ struct Lead {
     len: usize,
 }
 
-/// The piece that begins a text, or `None` where none does.
+/// The piece that begins a text, or `None` if none does.
 fn leading_piece(text: &[u8]) -> Option<Lead>
     ensures { MatchOption result (NoPieceBegins text.now) (λ lead. BeginsAs text.now lead.char lead.len) }
 {
@@ -115,12 +117,12 @@ fn is_separator(byte: u8) -> bool
     matches!(byte, b' ' | b'\t' | b'\r' | b'\n')
 }
 
-/// Whether a piece begins a text once the right bytes follow it, where none does as it stands.
+/// Whether a piece begins a text once the right bytes follow it, if none does as it stands.
 fn may_begin(text: &[u8]) -> bool
     requires { NoPieceBegins text.now }
     ensures { IsTrue result ↔ MayBegin text.now }
 {
-    // Each beginning of an item becomes one where it is filled up from these bytes.
+    // Each beginning of an item becomes one if it is filled up from these bytes.
     let mut item = *b"00!02 ";
     if text.len() > item.len() {
         return false;

@@ -10,7 +10,7 @@ mod dump_text;
 mod encode;
 mod fault;
 mod hex_text;
-mod image;
+mod image_word;
 mod input;
 mod items;
 mod line;

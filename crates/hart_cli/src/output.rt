@@ -22,7 +22,7 @@ pub fn message_line(frame: &Frame, preambles: u8) -> HexLine
 ///
 /// # Errors
 ///
-/// `Failed` at the first write that fails. A front of the text is written then.
+/// `Failed` at the first write that fails. A prefix of the text is written then.
 pub fn write_all<W: Sink>(writer: &mut W, text: &[u8]) -> Result<(), Failed>
     ensures { Writes (W.stream writer.old) (W.stream writer.new) text.now result }
 {

@@ -25,14 +25,14 @@ pub const DONE: u8 = 0;
 /// The status of a call that ended with a fault.
 pub const FAULT: u8 = 1;
 
-/// The status where the words name no call, ask for help, or were not read for want of memory.
+/// The status if the words name no call, ask for help, or were not read because memory was refused.
 pub const NO_CALL: u8 = 2;
 
 /// Makes the call that the words after the program's name ask for, and gives the program's status.
 ///
 /// `answer`, `dump` and `sim` read from `reader` and write to `writer`; `encode` reads its words alone. At status 0 nothing goes
-/// to `errors`; at status 1 the line of the call's fault does, or a beginning of it if `errors` failed. At status 2, where clap
-/// finds no matches for the words, reader and writer are not touched, and clap's own text, help among it, goes to `errors`: no
+/// to `errors`; at status 1 the line of the call's fault does, or a beginning of it if `errors` failed. Status 2 says that clap
+/// found no matches for the words: reader and writer are not touched, and clap's own text, help among it, goes to `errors`. No
 /// clause says which. A failed write to `errors` ends the text there, and the status stays what it was.
 pub fn program<R: Source, W: Sink, E: Sink>(
     alloc: Global,
@@ -51,9 +51,9 @@ pub fn program<R: Source, W: Sink, E: Sink>(
     ensures quiet { result ≡ 0 → errors.new ≡ errors.old }
 {
     match requested_call(alloc, words) {
-        Ok(Call::Answer) => finish(answer(alloc, reader, writer), errors),
+        Ok(Call::Answer(image)) => finish(answer(alloc, image.word, reader, writer), errors),
         Ok(Call::Dump) => finish(dump(alloc, reader, writer), errors),
-        Ok(Call::Sim) => finish(simulate(alloc, reader, writer), errors),
+        Ok(Call::Sim(image)) => finish(simulate(alloc, image.word, reader, writer), errors),
         Ok(Call::Encode(words)) => {
             let EncodeWords {
                 who,
@@ -83,7 +83,7 @@ fn finish<E: Sink>(outcome: Result<(), CliFault>, errors: &mut E) -> u8
     match outcome {
         Ok(()) => DONE,
         Err(fault) => {
-            // Where the line cannot be written, the status alone tells of the fault.
+            // If the line cannot be written, the status alone tells of the fault.
             let _ = write_all(errors, fault.line().as_str().as_bytes());
             FAULT
         }

@@ -1,20 +1,20 @@
 //! The text that `hart sim` writes.
-ghost use Rattle.std.specs.Prelude.{◌≡◌, ◌≤◌, ◌<◌, ◌+◌, ◌∷◌, [], ◌++◌, OnOk, IfOk, decimal, length};
+ghost use Rattle.std.specs.Prelude.{◌≡◌, ◌≤◌, ◌<◌, ◌+◌, ◌∷◌, [], ◌++◌, IfErr, IfOk, decimal, length, min};
 ghost use Rattle.std.specs.List.{enumerate_from, flat_map, join_with_byte};
 ghost use Rattle.hart_line.specs.declared.line.report.Outcome.TheVariants.{Answered};
 ghost use Rattle.hart_cli.specs.SimText.{counter_line, master_fault_number, image_line, outcome_line, outcome_words, party_word};
+ghost use Rattle.hart_cli.specs.Sim.{IsNeededByWriting};
 ghost use Rattle.hart_cli.specs.SimText.{sim_text, spoken_line};
 
 use crate::hex_text::push_hex;
-use crate::image::image_of;
 use crate::line::{Line, push_bytes, push_word};
 use hart_commands::Reply;
 use hart_device::{Device, RegisterStore};
-use hart_line::{Outcome, Party, Report, Spoken};
+use hart_line::{Filling, NoRoom, Outcome, Party, Report, Spoken};
 use hart_master::MasterFault;
 use hart_values::Payload;
 use itoa::Buffer;
-use std::alloc::{AllocError, Global};
+use std::alloc::Global;
 
 /// A payload of a reply begins with its two status bytes.
 const STATUS_LEN: usize = 2;
@@ -24,43 +24,79 @@ const STATUS_LEN: usize = 2;
 ///
 /// # Errors
 ///
-/// `AllocError` if a growth was refused.
-pub fn sim_text<S: RegisterStore>(alloc: Global, report: &Report<S>) -> Result<Vec<u8>, AllocError>
-    ensures { IfOk result (λ text. text.items ≡ sim_text report.now.spoken report.now.outcomes report.now.device) }
+/// [`NoRoom`] for its length, or for the greatest number of bytes if it is longer than that.
+pub fn sim_text<S: RegisterStore>(alloc: Global, report: &Report<S>) -> Result<Vec<u8>, NoRoom>
+    ensures text { IfOk result (λ text. text.items ≡ sim_text report.now.spoken report.now.outcomes report.now.device) }
+    ensures refused { IfErr result (λ none.
+        IsNeededByWriting (sim_text report.now.spoken report.now.outcomes report.now.device) none.items) }
 {
-    let mut text = Vec::new(alloc);
-    push_spoken(&mut text, report.spoken.as_slice())?;
-    push_outcomes(&mut text, report.outcomes.as_slice())?;
-    let mut line = Line::new();
-    make_counter_line(&mut line, &report.device);
-    text.extend_from_slice(line.as_slice())?;
-    make_image_line(&mut line, &report.device);
-    text.extend_from_slice(line.as_slice())?;
-    Ok(text)
+    let messages = report.spoken.as_slice();
+    let outcomes = report.outcomes.as_slice();
+    let last_lines = device_lines(&report.device);
+    let len = spoken_len(messages)
+        .saturating_add(outcomes_len(outcomes))
+        .saturating_add(last_lines.len());
+    let mut text = Filling::with_room(alloc, len)?;
+    push_spoken(&mut text, messages);
+    push_outcomes(&mut text, outcomes);
+    text.extend(last_lines.as_slice());
+    Ok(text.finish())
 }
 
-/// Adds a line for each message.
-fn push_spoken(text: &mut Vec<u8>, messages: &[Spoken]) -> Result<(), AllocError>
-    ensures { OnOk result (text.new.items ≡ text.old.items ++ flat_map spoken_line messages.now) }
+/// The length of the lines of messages, or the greatest number if they are longer than that.
+fn spoken_len(messages: &[Spoken]) -> usize
+    ensures { result ≡ min (length (flat_map spoken_line messages.now)) usize.MAX }
+{
+    let mut len = 0usize;
+    for message in messages {
+        len = len.saturating_add(spoken_line_len(message));
+    }
+    len
+}
+
+/// The length of the line of a message.
+fn spoken_line_len(message: &Spoken) -> usize
+    ensures { result ≡ length (spoken_line message.now) }
+{
+    let words = party_word(message.party).len() + Buffer::new().format(message.preambles).len();
+    words + 2 * message.bytes.len() + 3
+}
+
+/// The length of the lines of submissions, or the greatest number if they are longer than that.
+fn outcomes_len(outcomes: &[Outcome]) -> usize
+    ensures { result ≡ min (length (flat_map outcome_line (enumerate_from 1 outcomes.now))) usize.MAX }
+{
+    let mut len = 0usize;
+    let mut line = Line::new();
+    for (index, outcome) in outcomes.iter().enumerate() {
+        make_outcome_line(&mut line, index + 1, outcome);
+        len = len.saturating_add(line.len());
+    }
+    len
+}
+
+/// Adds a line for each message, for which there is room.
+fn push_spoken(text: &mut Filling<u8>, messages: &[Spoken])
+    requires { length text.old.items + length (flat_map spoken_line messages.now) ≤ text.old.room }
+    ensures { text.new ≡ record text.old { items = text.old.items ++ flat_map spoken_line messages.now } }
 {
     let mut line = Line::new();
     for message in messages {
         make_spoken_line(&mut line, message);
-        text.extend_from_slice(line.as_slice())?;
+        text.extend(line.as_slice());
     }
-    Ok(())
 }
 
-/// Adds a line for each submission.
-fn push_outcomes(text: &mut Vec<u8>, outcomes: &[Outcome]) -> Result<(), AllocError>
-    ensures { OnOk result (text.new.items ≡ text.old.items ++ flat_map outcome_line (enumerate_from 1 outcomes.now)) }
+/// Adds a line for each submission, for which there is room.
+fn push_outcomes(text: &mut Filling<u8>, outcomes: &[Outcome])
+    requires { length text.old.items + length (flat_map outcome_line (enumerate_from 1 outcomes.now)) ≤ text.old.room }
+    ensures { text.new ≡ record text.old { items = text.old.items ++ flat_map outcome_line (enumerate_from 1 outcomes.now) } }
 {
     let mut line = Line::new();
     for (index, outcome) in outcomes.iter().enumerate() {
         make_outcome_line(&mut line, index + 1, outcome);
-        text.extend_from_slice(line.as_slice())?;
+        text.extend(line.as_slice());
     }
-    Ok(())
 }
 
 /// Makes a line, whatever it holds, that of a message that was spoken.
@@ -148,22 +184,16 @@ fn master_fault_number(fault: MasterFault) -> u8
     }
 }
 
-/// Makes a line that of the counter.
-fn make_counter_line<S: RegisterStore>(line: &mut Line, device: &Device<S>)
-    ensures { line.new ≡ counter_line device.now }
+/// The lines of the counter and of the image.
+fn device_lines<S: RegisterStore>(device: &Device<S>) -> Line
+    ensures { result ≡ counter_line device.now ++ image_line device.now }
 {
-    line.clear();
-    push_word(line, "counter");
-    line.extend_from_slice(Buffer::new().format(device.counter()).as_bytes());
-    line.push(b'\n');
-}
-
-/// Makes a line that of the image.
-fn make_image_line<S: RegisterStore>(line: &mut Line, device: &Device<S>)
-    ensures { line.new ≡ image_line device.now }
-{
-    line.clear();
-    push_word(line, "image");
-    push_hex(line, image_of(device).as_slice());
-    line.push(b'\n');
+    let mut lines = Line::new();
+    push_word(&mut lines, "counter");
+    lines.extend_from_slice(Buffer::new().format(device.counter()).as_bytes());
+    lines.push(b'\n');
+    push_word(&mut lines, "image");
+    push_hex(&mut lines, device.image().as_slice());
+    lines.push(b'\n');
+    lines
 }

@@ -11,7 +11,7 @@ pub struct Failed;
 
 /// Bytes come from here.
 pub trait Source {
-    // The bytes that are left, where they are told, and how often a read has failed.
+    // The bytes that are left, if they are told, and how often a read has failed.
     ghost stream: { Self → Stream };
 
     /// Puts the next bytes at the front of the buffer, and gives their number; none at a buffer
@@ -29,10 +29,10 @@ pub trait Source {
 
 /// Bytes go to here.
 pub trait Sink {
-    // The bytes that were written, where they are told, and how often a write has failed.
+    // The bytes that were written, if they are told, and how often a write has failed.
     ghost stream: { Self → Stream };
 
-    /// Writes a front of the bytes, and gives its length: at least one byte, where there is one.
+    /// Writes a prefix of the bytes, and gives its length: at least one byte, if there is one.
     ///
     /// # Errors
     ///

@@ -1,5 +1,6 @@
 use super::CliFault;
-use hart_line::{Leg, LineFault};
+use hart_device::DeviceFault;
+use hart_line::{Leg, LineFault, reserved};
 use std::test::Fail;
 
 /// Each fault and its line.
@@ -37,8 +38,20 @@ const ROWS: &[(CliFault, &str)] = &[
         CliFault::Line(LineFault::BadLine { number: usize::MAX }),
         "bad line 18446744073709551615\n",
     ),
-    (CliFault::Line(LineFault::Memory), "out of memory\n"),
-    (CliFault::Memory, "out of memory\n"),
+    (
+        CliFault::Image(DeviceFault::BadVersion),
+        "bad image: version\n",
+    ),
+    (
+        CliFault::Image(DeviceFault::BadLength),
+        "bad image: length\n",
+    ),
+    (CliFault::Image(DeviceFault::BadField), "bad image: field\n"),
+    (
+        CliFault::Image(DeviceFault::BroadcastAddress),
+        "broadcast address\n",
+    ),
+    (CliFault::Image(DeviceFault::OutOfRange), "out of range\n"),
     (CliFault::BadWord { number: 1 }, "bad word 1\n"),
     (CliFault::BadWord { number: u8::MAX }, "bad word 255\n"),
 ];
@@ -49,6 +62,19 @@ fn each_line_is_the_display_and_a_line_feed(rt: HostRuntime) -> Result<(), Fail>
         assert_eq!(rt; fault.line().as_str(), *line);
         let display = format!(in rt.alloc(); "{fault}\n")?;
         assert_eq!(rt; display.as_str(), *line);
+    }
+    // No room is as large as that.
+    let none = reserved::<u8>(rt.alloc(), usize::MAX).err().ok_or("room")?;
+    for fault in [
+        CliFault::Memory(none),
+        CliFault::from(LineFault::Memory(none)),
+    ] {
+        assert_eq!(rt; fault, CliFault::Memory(none));
+        let display = format!(in rt.alloc(); "{fault}\n")?;
+        assert_eq!(rt;
+            (fault.line().as_str(), display.as_str()),
+            ("out of memory\n", "out of memory\n")
+        );
     }
     Ok(())
 }

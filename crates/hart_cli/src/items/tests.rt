@@ -70,14 +70,11 @@ const BROKEN_OFF: &[Case] = &[
 ];
 
 /// What is heard of a text, and the fault.
-fn heard(
-    alloc: Global,
-    text: &str,
-    end: InputEnd,
-) -> Result<(Vec<Pair>, Option<CliFault>), AllocError> {
-    let mut bytes = Vec::new(alloc);
-    bytes.extend_from_slice(text.as_bytes())?;
-    let hearing = hear(alloc, Input { text: bytes, end })?;
+fn heard(alloc: Global, text: &str, end: InputEnd) -> Result<(Vec<Pair>, Option<CliFault>), Fail> {
+    let bytes = text.as_bytes();
+    let mut text = Filling::with_room(alloc, bytes.len() + 1).map_err(|_| "no room")?;
+    text.extend(bytes);
+    let hearing = hear(alloc, Input { text, end }).map_err(|_| "no room")?;
     let mut pairs = Vec::new(alloc);
     for char in hearing.chars.as_slice() {
         pairs.push((char.byte(), char.faults()))?;

@@ -1,13 +1,15 @@
 //! The call that the words after the program's name ask for, and the texts of its help.
 
-ghost use Rattle.std.specs.Prelude.{◌≡◌, ◌∷◌, [], ℕ, IfErr, IfOk, List, codes, false, map, string_bytes};
-ghost use Rattle.clap.specs.Words.{HasKind, app_of, fault_of, found_of, new_app, rows_of, rule_of};
-ghost use Rattle.hart_cli.specs.CommandLine.{Calls, GivesWords, HasWords, encode_app, hart_app, preambles_rule, required_rule};
+ghost use Rattle.std.specs.Prelude.{◌≡◌, ◌∷◌, [], ℕ, IfErr, IfOk, List, None, Some, codes, false, map, string_bytes};
+ghost use Rattle.clap.specs.Words.{HasKind, app_of, fault_of, first_of, found_of, new_app, rows_of, rule_of};
+ghost use Rattle.hart_cli.specs.CommandLine.{Calls, GivesWords, HasWords, encode_app, hart_app, image_app, image_rule};
+ghost use Rattle.hart_cli.specs.CommandLine.{preambles_rule, required_rule};
 ghost use Rattle.hart_cli.specs.MessageWords.{MessageWords};
 ghost use Rattle.hart_cli.specs.declared.program.command_line.Call.{Call};
 ghost use Rattle.hart_cli.specs.declared.program.command_line.Call.TheVariants.{Answer, Dump, Encode, Sim};
 
 use crate::encode::EncodeWords;
+use crate::image_word::ImageWord;
 use clap::{Arg, ArgMatches, Command, value_parser};
 use hart_frame::{LEAST_PREAMBLES, MOST_PREAMBLES};
 use std::alloc::{AllocError, Global};
@@ -37,14 +39,24 @@ ends may stand between bytes. The input has at most 1048576 bytes of text.
 
 Comes out, on the standard output: the reply of the device in upper case hex,
 or nothing where the device keeps silent. It answers where it hears one message
-and no other, and that is a request to it: command 0 at polling address 0, any
-command at its own address 37420A1B2C, or command 11 with its tag, to all.";
+and no other, and that is a request to it: command 0 at its polling address, any
+command at its own address 37420A1B2C, or command 11 with its tag, to all.
+
+The device is as new, with polling address 0, or goes on from an image, which
+hart sim writes in its last line. Where that is no image nothing is read, and
+standard error says why: bad image: version, length or field; bad hex at N, where
+N is a place in it, counted from 0.";
 
 const ANSWER_EXAMPLE: &str = "\
-Example:
+Examples:
   echo \"FF FF FF FF FF 02 80 00 00 82\" | hart answer
 writes
-  FF FF FF FF FF 06 80 00 18 00 00 FE 37 42 05 07 01 02 18 00 0A 1B 2C 05 04 00 00 00 00 37 00 37 01 31";
+  FF FF FF FF FF 06 80 00 18 00 00 FE 37 42 05 07 01 02 18 00 0A 1B 2C 05 04 00 00 00 00 37 00 37 01 31
+and of a write to a protected device, which it refuses,
+  echo \"FF FF 82 B7 42 0A 1B 2C 13 03 01 23 45 3D\" | hart answer --image \
+010001820820820820820820820820820820820820820820820820820820820820820820820820820820820820000000000000000004
+writes
+  FF FF FF FF FF 86 B7 42 0A 1B 2C 13 02 07 00 58";
 
 const DUMP_ABOUT: &str = "List the messages in what was heard, given in hex on the standard input";
 
@@ -131,17 +143,31 @@ Comes out, on the standard output, once the script has come to its end:
                              2, the configuration has changed for the primary and
                              the secondary master; 4, the device is protected
 
+The device is as new, or goes on from an image: with that of the last line of one
+script the next begins where that one ended. Where that is no image nothing is
+read, and standard error says why: bad image: version, length or field; bad hex
+at N, where N is a place in it, counted from 0.
+
 Where nothing is written, standard error says why: bad line N, counted from 1;
 undetected damage at event N, counted from 0, and up, down or noise, where what
 is heard has another message in it than the one that was sent, or more than one;
 input too long; read fault.";
 
 const SIM_EXAMPLE: &str = "\
-Example:
+Examples:
   printf 'submit P 37420A1B2C 19 012345\\nturn P ok ok\\n' | hart sim
 writes
   P 20 82B7420A1B2C13030123453D
   D 5 86B7420A1B2C130500400123457F
+  1 answered 1 00 40 012345
+  counter 1
+  image 010001820820820820820820820820820820820820820820820820820820820820820820820820820820820820000000012345000103
+and from there
+  printf 'submit P 37420A1B2C 16\\nturn P ok ok\\n' | hart sim --image \
+010001820820820820820820820820820820820820820820820820820820820820820820820820820820820820000000012345000103
+writes
+  P 20 82B7420A1B2C10005A
+  D 5 86B7420A1B2C100500400123457C
   1 answered 1 00 40 012345
   counter 1
   image 010001820820820820820820820820820820820820820820820820820820820820820820820820820820820820000000012345000103";
@@ -178,15 +204,21 @@ const DATA_HELP: &str = "\
 The data of the command in hex, two digits for each byte, at most 255
 bytes; left out where there are none";
 
+const IMAGE_HELP: &str = "\
+The image that the device goes on from, two hex digits for each byte, as
+hart sim writes it; left out for the device as new";
+
 const PREAMBLES_HELP: &str =
     "The number of preamble bytes FF that the message begins with, 5 to 20";
 
-/// The word `answer`, `dump` or `sim` alone is a call of it. `encode P @0 0` is a call with no data and 5 preamble bytes, and with
-/// 20 where `--preambles 20` follows.
+/// The word `answer`, `dump` or `sim` alone is a call of it, without an image; `--image 01` after `answer` or `sim` gives it the
+/// image `01`. `encode P @0 0` is a call with no data and 5 preamble bytes, and with 20 if `--preambles 20` follows.
 pub fn words_are_calls()
-    ensures answer { Calls Answer (codes "answer" ∷ []) }
+    ensures answer { Calls (Answer None) (codes "answer" ∷ []) }
+    ensures answer_image { Calls (Answer (Some (codes "01"))) (codes "answer" ∷ codes "--image" ∷ codes "01" ∷ []) }
     ensures dump { Calls Dump (codes "dump" ∷ []) }
-    ensures sim { Calls Sim (codes "sim" ∷ []) }
+    ensures sim { Calls (Sim None) (codes "sim" ∷ []) }
+    ensures sim_image { Calls (Sim (Some (codes "01"))) (codes "sim" ∷ codes "--image" ∷ codes "01" ∷ []) }
     ensures encode { Calls
         (Encode (record { who = codes "P"; address = codes "@0"; command = codes "0"; payload = []; preambles = 5 }))
         (codes "encode" ∷ codes "P" ∷ codes "@0" ∷ codes "0" ∷ []) }
@@ -204,11 +236,11 @@ pub fn one_call()
 #[derive(Drop)]
 pub enum Call<'a> {
     /// `hart answer`.
-    Answer,
+    Answer(ImageWord<'a>),
     /// `hart dump`.
     Dump,
     /// `hart sim`.
-    Sim,
+    Sim(ImageWord<'a>),
     /// `hart encode`.
     Encode(EncodeWords<'a>),
 }
@@ -217,7 +249,7 @@ pub enum Call<'a> {
 ///
 /// # Errors
 ///
-/// What clap tells where it finds no matches for them, help among it, or where memory is refused.
+/// What clap tells if it finds no matches for them, help among it, or if memory is refused.
 pub fn requested_call<'a>(alloc: Global, words: &'a [String]) -> Result<Call<'a>, clap::Error>
     ensures call { IfOk result (λ call. Calls call (map string_bytes words.entry.now)) }
     ensures refused { IfErr result (HasKind (fault_of hart_app (map string_bytes words.entry.now))) }
@@ -227,11 +259,20 @@ pub fn requested_call<'a>(alloc: Global, words: &'a [String]) -> Result<Call<'a>
         unreachable!();
     };
     match name {
-        "answer" => Ok(Call::Answer),
+        "answer" => Ok(Call::Answer(image_word(given))),
         "dump" => Ok(Call::Dump),
-        "sim" => Ok(Call::Sim),
+        "sim" => Ok(Call::Sim(image_word(given))),
         "encode" => Ok(Call::Encode(encode_words(given))),
         _ => unreachable!(),
+    }
+}
+
+/// The word of the image of `hart answer` or `hart sim`, if it was given one.
+fn image_word<'a>(given: &ArgMatches<'a>) -> ImageWord<'a>
+    ensures { first_of (codes "image") (rows_of (found_of given.now)) ≡ result }
+{
+    ImageWord {
+        word: given.get_str("image"),
     }
 }
 
@@ -260,9 +301,9 @@ fn hart_command<'a>(alloc: Global) -> Result<Command<'a>, AllocError>
         .no_binary_name(true)
         .subcommand_required(true)
         .arg_required_else_help(true)
-        .subcommand(plain_command(alloc, "answer", ANSWER_ABOUT, ANSWER_HELP, ANSWER_EXAMPLE))?
+        .subcommand(image_command(alloc, "answer", ANSWER_ABOUT, ANSWER_HELP, ANSWER_EXAMPLE)?)?
         .subcommand(plain_command(alloc, "dump", DUMP_ABOUT, DUMP_HELP, DUMP_EXAMPLE))?
-        .subcommand(plain_command(alloc, "sim", SIM_ABOUT, SIM_HELP, SIM_EXAMPLE))?
+        .subcommand(image_command(alloc, "sim", SIM_ABOUT, SIM_HELP, SIM_EXAMPLE)?)?
         .subcommand(encode_command(alloc)?)?;
     // The words do not tell clap the program's name, which the usage of a subcommand shows.
     hart.bin_name("hart")
@@ -278,6 +319,19 @@ fn encode_command<'a>(alloc: Global) -> Result<Command<'a>, AllocError>
         .arg(required_word(alloc, "COMMAND", COMMAND_HELP))?
         .arg(Arg::new(alloc, "DATA").help(DATA_HELP))?
         .arg(preambles_option(alloc))
+}
+
+/// A subcommand that takes an image.
+fn image_command<'a>(
+    alloc: Global,
+    name: &'a str,
+    about: &'a str,
+    help: &'a str,
+    example: &'a str,
+) -> Result<Command<'a>, AllocError>
+    ensures { IfOk result (λ command. app_of command ≡ image_app name.entry.now) }
+{
+    plain_command(alloc, name, about, help, example).arg(image_option(alloc))
 }
 
 /// A subcommand without words of its own.
@@ -302,6 +356,17 @@ fn required_word<'a>(alloc: Global, id: &'a str, help: &'a str) -> Arg<'a>
     ensures local { result.global ≡ false }
 {
     Arg::new(alloc, id).required(true).help(help)
+}
+
+/// The image that the device of a call goes on from.
+fn image_option<'a>(alloc: Global) -> Arg<'a>
+    ensures rule { rule_of result ≡ image_rule }
+    ensures local { result.global ≡ false }
+{
+    Arg::new(alloc, "image")
+        .long("image")
+        .value_name("HEX")
+        .help(IMAGE_HELP)
 }
 
 /// How many preamble bytes a message begins with.

@@ -11,6 +11,7 @@ use std::test::Fail;
 mod answer;
 mod dump;
 mod encode;
+mod image;
 mod sim;
 
 /// The words of each call, an input, and what it writes where it reads that.
@@ -24,7 +25,7 @@ const CALLS: &[(&[&str], &str, &str)] = &[
 /// A request for the identity, as it is heard.
 const IDENTIFY: &str = "FFFF0280000082";
 
-/// What a run of `program` left behind.
+/// What a run of `program` leaves.
 #[derive(Drop)]
 struct Run {
     status: u8,
@@ -129,20 +130,53 @@ fn each_failed_write_is_told(rt: HostRuntime) -> Result<(), Fail> {
     Ok(())
 }
 
-/// A subcommand, and what it writes for the largest input, of spaces alone.
-const LARGEST: &[(&str, &str)] = &[("answer", ""), ("dump", ""), ("sim", sim::AS_IT_WAS)];
+/// Runs a subcommand without words of its own on an input that has no fault.
+fn check_whole(
+    rt: &impl Abort,
+    alloc: Global,
+    word: &str,
+    input: &[u8],
+    want: &str,
+) -> Result<(), Fail> {
+    let mut reader = Plain::new(input);
+    let mut output = Plain::new(Vec::new(alloc));
+    let mut errors = Plain::new(Vec::new(alloc));
+    let status = status_of(alloc, &[word], &mut reader, &mut output, &mut errors)?;
+    assert_eq!(rt; status, DONE, "of {word}, {} bytes", input.len());
+    assert_eq!(rt; output.into_inner().as_slice(), want.as_bytes());
+    assert!(rt; errors.into_inner().is_empty());
+    Ok(())
+}
+
+/// Sizes of inputs, of which the last is the largest that is taken.
+const SIZES: &[usize] = &[255, 256, 1000, 1001, 4095, 4096, 4097, 65_536, 1_048_576];
 
 #[test]
-fn the_largest_input_is_taken(rt: HostRuntime) -> Result<(), Fail> {
-    let input = vec![in rt.alloc(); b' '; 1_048_576]?;
-    for (word, want) in LARGEST {
-        let mut reader = Plain::new(input.as_slice());
-        let mut output = Plain::new(Vec::new(rt.alloc()));
-        let mut errors = Plain::new(Vec::new(rt.alloc()));
-        let status = status_of(rt.alloc(), &[*word], &mut reader, &mut output, &mut errors)?;
-        assert_eq!(rt; status, DONE, "of {word}");
-        assert_eq!(rt; output.into_inner().as_slice(), want.as_bytes());
-        assert!(rt; errors.into_inner().is_empty());
+fn inputs_up_to_the_largest_are_taken(rt: HostRuntime) -> Result<(), Fail> {
+    let alloc = rt.alloc();
+    for size in SIZES {
+        let noise = size.saturating_sub(IDENTIFY.len());
+        let mut items = "00".repeat(alloc, noise / 2)?;
+        if noise % 2 == 1 {
+            items.push_str(" ")?;
+        }
+        items.push_str(IDENTIFY)?;
+        assert_eq!(rt; items.as_bytes().len(), *size);
+        let start = (noise / 2).saturating_add(2);
+        let stop = start.saturating_add(5);
+        let line = format!(in alloc; "{start} {stop} STX P 0 @0 - 0 -\n")?;
+        check_whole(
+            &rt,
+            alloc,
+            "answer",
+            items.as_bytes(),
+            answer::REPLY_TO_PRIMARY,
+        )?;
+        check_whole(&rt, alloc, "dump", items.as_bytes(), line.as_str())?;
+        let digits = "0".repeat(alloc, size.saturating_sub(7) / 2 * 2)?;
+        let noise = format!(in alloc; "noise {digits}{}", " ".repeat(alloc, 2 - size % 2)?)?;
+        assert_eq!(rt; noise.as_bytes().len(), *size);
+        check_whole(&rt, alloc, "sim", noise.as_bytes(), sim::AS_IT_WAS)?;
     }
     Ok(())
 }
@@ -194,6 +228,12 @@ const NO_CALLS: &[&[&str]] = &[
     &["answer", "--help"],
     &["answer", "extra"],
     &["answer", "dump"],
+    &["answer", "--image"],
+    &["answer", "--image", "01", "--image", "01"],
+    &["answer", "--image", "01", "01"],
+    &["--image", "01", "answer"],
+    &["dump", "--image", "01"],
+    &["sim", "--image=01", "--image=01"],
     &["dump", "--help"],
     &["dump", "extra"],
     &["sim", "--help"],
@@ -232,7 +272,7 @@ const TEXTS: &[(&[&str], &str, &str)] = &[
     (
         &["answer", "--help"],
         "Answer one message as the device on the bench does.\n",
-        "05 04 00 00 00 00 37 00 37 01 31\n",
+        "writes\n  FF FF FF FF FF 86 B7 42 0A 1B 2C 13 02 07 00 58\n",
     ),
     (
         &["dump", "--help"],
@@ -242,7 +282,7 @@ const TEXTS: &[(&[&str], &str, &str)] = &[
     (
         &["sim", "--help"],
         "Carry out a script on a line with the device on the bench and two masters.\n",
-        "1 answered 1 00 40 012345\n  counter 1\n  image 010001820820820820820820820820820820820820820820820820820820820820820820820820820820820820000000012345000103\n",
+        "20820820820820820820820820820820820820820820820820820820820000000012345000103\n",
     ),
     (
         &["encode", "--help"],

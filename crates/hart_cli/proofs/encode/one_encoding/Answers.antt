@@ -5,4 +5,4 @@ pub returns : goal.returns
 returns c =
     let words = c.words_have_one_value.ensures in
     IsEncoding-one (record { who = words.who; address = words.address; command = words.command; payload = words.payload })
-    c.bodies_are_told_apart.ensures.one_body
+    c.bodies_are_unambiguous.ensures.one_body

@@ -1,18 +1,21 @@
-use Rattle.std.proofs.Common.{arith, length, length-append, ap, ◌∙◌}
-use Rattle.hart_cli.proofs.HexTextLemmas.{encode_upper-more, encode_upper-none}
+use Rattle.std.proofs.Common.{rules, ◌∙◌}
+use Rattle.std.proofs.lemmas.List.{nil_from_length}
+use Rattle.hart_cli.proofs.HexTextLemmas.{encode_upper-chunk, encode_upper-lengths, encode_upper-none}
 use Rattle.hart_cli.proofs.hex_text.push_hex.Goals as goal
 
-pub loop-byte-init : goal.loop-byte-init
-loop-byte-init g c = record { written = encode_upper-none c.args.line.now; len = omega arith }
+pub loop-chunk-preserved : goal.loop-chunk-preserved
+loop-chunk-preserved g c =
+    let steps = c.in-Some.ensures.steps in
+    let written = encode_upper-chunk _ _ _ _ _ _ _ _ c.loop-chunk.invariant.written steps.1.0 c.write_digits.ensures
+    c.extend_from_slice.ensures in
+    record {
+      can_next = search rules;
+      is_finite = tt;
+      size = steps.0 ∙ c.loop-chunk.invariant.size;
+      written = written;
+      len = encode_upper-lengths _ _ _ _ written;
+    }
 
-pub loop-byte-preserved : goal.loop-byte-preserved
-loop-byte-preserved g c = record {
-  written = c.extend_from_slice.ensures
-      ∙ encode_upper-more _ _ _ _ c.loop-byte.byte-index 0 c.loop-byte-test.true c.loop-byte.invariant.written c.digits_of.ensures;
-  len = omega (
-    arith,
-    ap length c.extend_from_slice.ensures,
-    length-append c.loop-byte.line c.digits_of.result,
-    c.loop-byte.invariant.len,
-  );
-}
+pub returns-clause-hex : goal.returns-clause-hex
+returns-clause-hex g c =
+    let none = nil_from_length _ c.in-None.ensures.steps.1.0 in encode_upper-none _ ∙ rw none at c.loop-chunk.invariant.written

@@ -1,4 +1,4 @@
-use Rattle.std.proofs.Common.{◌≡◌, ℕ, ◌≤◌, ◌-◌, List, [], ◌∷◌, length, take, drop, Option, Some, None, Bool, true, false, Vec, Global}
+use Rattle.std.proofs.Common.{◌≡◌, ℕ, ◌≤◌, ◌-◌, List, [], ◌∷◌, length, take, drop, Option, Some, None, Bool, true, false}
 use Rattle.std.proofs.Common.{refl, sym, ap, ◌∙◌, subst, arith}
 use Rattle.std.proofs.lemmas.List.{take_rest}
 use Rattle.std.specs.Bool.{◌==◌}
@@ -6,6 +6,7 @@ use Rattle.std.proofs.lemmas.Bool.{eqb-true, iff_false}
 use denote.Enum.Bare.{sameb}
 use Rattle.hart_cli.specs.contracts.input.InputEnd.{the_type}
 use Rattle.hart_frame.specs.Character.{Character}
+use Rattle.hart_line.specs.Room.{Filled}
 use Rattle.hart_cli.specs.Hearing.{all, bad_hex, bad_hex_before_failure, bad_hex_within_limit, failure, Hears, limit}
 use Rattle.hart_cli.specs.Items.{closed, HasBadHex, IsDecidedBadHexAt, MayBegin, NoPieceBegins, ReadsSoFarAs, ReadsUpTo}
 use Rattle.hart_cli.specs.declared.fault.CliFault.{CliFault}
@@ -13,7 +14,7 @@ use Rattle.hart_cli.specs.declared.fault.CliFault.TheVariants as faults
 use Rattle.hart_cli.specs.declared.input.InputEnd.{InputEnd}
 use Rattle.hart_cli.specs.declared.input.InputEnd.TheVariants as ends
 use Rattle.hart_cli.proofs.HearingLemmas.{bad_hex_from, decided_from}
-use Rattle.hart_cli.proofs.items.hear.Goals.{then-eq+in_ok-push, else-eq, in-Ended, in-Failed, in-TooLong, in_default, in_default-2}
+use Rattle.hart_cli.proofs.items.hear.Goals.{then-eq, else-eq, in-Ended, in-Failed, in-TooLong, in_default, in_default-2}
 use Rattle.hart_cli.proofs.items.hear.Goals.{in_default-3}
 use Rattle.hart_cli.proofs.items.hear.Goals as goal
 
@@ -72,23 +73,26 @@ broken text heard chars place e within r n =
           (decided_from heard chars place within r (λ may. no (subst MayBegin (sym rest) may)));
     }
 
-pub returns : goal.returns
-returns c =
-    let read = c.in_ok-chars.ensures in
-    let heard = c.as_slice-bytes.ensures.value in
+pub returns-clause-heard : goal.returns-clause-heard
+returns-clause-heard c =
+    let read = c.read_pieces-place.ensures in
+    let heard = c.as_slice-bytes.ensures in
     let whole : c.eq.result ≡ true → c.as_slice-bytes.result.now ≡ closed c.args.input.text.items = λ is. elim c.if-eq.branch [
-      | then-eq+in_ok-push w ↦ heard ∙ ap (λ (v : Vec ℕ Global). v.items) w.text-is ∙ w.in_ok-push.ensures.items
+      | then-eq w ↦ heard ∙ ap (λ (list : Filled ℕ). list.items) (w.text-is ∙ w.push.ensures)
       | else-eq w ↦ let k = sym is ∙ w.if-eq.false in cc k
     ] in
     let front : c.eq.result ≡ false → c.as_slice-bytes.result.now ≡ c.args.input.text.items = λ is. elim c.if-eq.branch [
-      | then-eq+in_ok-push w ↦ let k = sym w.if-eq.true ∙ is in cc k
-      | else-eq w ↦ heard ∙ ap (λ (v : Vec ℕ Global). v.items) w.text-is
+      | then-eq w ↦ let k = sym w.if-eq.true ∙ is in cc k
+      | else-eq w ↦ heard ∙ ap (λ (list : Filled ℕ). list.items) w.text-is
     ] in
     let same = λ (x : InputEnd). sameb the_type x ends.Ended in
-    let at_end = λ (e : c.args.input.end ≡ ends.Ended). ended _ _ _ _ (whole (c.eq.ensures ∙ ap same e)) read.0 read.1 read.2 in
-    let at_failure = λ (e : c.args.input.end ≡ ends.Failed). broken _ _ _ _ (front (c.eq.ensures ∙ ap same e)) read.0 read.1 read.2 in
-    let at_limit = λ (e : c.args.input.end ≡ ends.TooLong). broken _ _ _ _ (front (c.eq.ensures ∙ ap same e)) read.0 read.1 read.2 in
-    elim c.match-end.branch [
+    let at_end = λ (e : c.args.input.end ≡ ends.Ended).
+    ended _ _ _ _ (whole (c.eq.ensures ∙ ap same e)) read.within read.reads read.stops in
+    let at_failure = λ (e : c.args.input.end ≡ ends.Failed).
+    broken _ _ _ _ (front (c.eq.ensures ∙ ap same e)) read.within read.reads read.stops in
+    let at_limit = λ (e : c.args.input.end ≡ ends.TooLong).
+    broken _ _ _ _ (front (c.eq.ensures ∙ ap same e)) read.within read.reads read.stops in
+    rw c.finish.ensures (elim c.match-end.branch [
       | in-Ended w ↦ hears_at _ _ _ _ _ _ w.in-Ended.is w.fault-is
           ((at_end w.in-Ended.is).all (nothing_left _ _ w.is_empty.ensures w.if-is_empty.true))
       | in-Failed w ↦ hears_at _ _ _ _ _ _ w.in-Failed.is w.fault-is
@@ -103,4 +107,4 @@ returns c =
       | in_default-3 w ↦ hears_at _ _ _ _ _ _ w.in-TooLong.is w.fault-is
           (bad_hex_within_limit _ _
           ((at_limit w.in-TooLong.is).decided (λ may. iff_false c.may_begin-is_open.ensures w.if-is_open-2.false may)))
-    ]
+    ])

@@ -4,7 +4,7 @@ use Rattle.hart_cli.proofs.sim.one_simulation.Goals as goal
 pub returns-clause-one_text : goal.returns-clause-one_text
 returns-clause-one_text c =
     IsSimulation-one c.texts_have_one_script.ensures.one_script c.scripts_have_one_last_world.ensures.one_world
-    c.bodies_are_told_apart.ensures.one_body
+    c.bodies_are_unambiguous.ensures.one_body
 
 pub returns-clause-one_fault : goal.returns-clause-one_fault
 returns-clause-one_fault c =

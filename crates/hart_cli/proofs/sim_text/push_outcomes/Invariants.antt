@@ -4,5 +4,7 @@ use Rattle.hart_cli.specs.SimText.{outcome_line}
 use Rattle.hart_cli.proofs.sim_text.push_outcomes.Given as goal
 
 abbrev pub invariant-loop-index : goal.invariant-loop-index
-invariant-loop-index l =
-    l.text.items ≡ l.initial.text.items ++ flat_map outcome_line (enumerate_from 1 (take l.index l.outcomes))
+invariant-loop-index l = record {
+  items : l.text.items ≡ l.initial.text.items ++ flat_map outcome_line (enumerate_from 1 (take l.index l.outcomes));
+  same_room : l.text.room ≡ l.initial.text.room;
+}

@@ -3,7 +3,7 @@
 use super::{DONE, Row, check_rows, run_on};
 use std::test::Fail;
 
-/// A message that begins and goes on far behind the whole one within it.
+/// A message that begins and goes on far beyond the whole one within it.
 const FALSE_START: &str = "FF FF 82 B7 42 0A 1B 2C 13 FF FF FF FF FF FF 02 80 00 00 82";
 
 const FIRST_LINE: &str = "2 7 STX P 0 @0 - 0 -\n";

@@ -1,6 +1,6 @@
 //! `hart sim`.
 
-use super::{Row, check_rows};
+use super::{Row, check_rows, check_whole};
 use std::test::Fail;
 
 /// What a script without a request leads to.
@@ -258,4 +258,28 @@ turn P FFFF82!40B7420A1B2C1118FFFF0280000082000000000000000000000000000000000043
 #[test]
 fn scripts_are_carried_out(rt: HostRuntime) -> Result<(), Fail> {
     check_rows(&rt, rt.alloc(), "sim", ROWS)
+}
+
+/// How often a master writes, each time in a turn of its own.
+const WRITES: &[usize] = &[1, 32, 33, 64, 65, 128, 129, 255, 256, 257, 300];
+
+#[test]
+fn long_scripts_have_long_texts(rt: HostRuntime) -> Result<(), Fail> {
+    let alloc = rt.alloc();
+    for writes in WRITES {
+        let script = "submit P 37420A1B2C 19 012345\nturn P ok ok\n".repeat(alloc, *writes)?;
+        let mut text = "P 20 82B7420A1B2C13030123453D\nD 5 86B7420A1B2C130500400123457F\n".repeat(
+            alloc, *writes,
+        )?;
+        for number in 1..=*writes {
+            text.push_str(format!(in alloc; "{number} answered 1 00 40 012345\n")?.as_str())?;
+        }
+        let registers =
+            "820820820820820820820820820820820820820820820820820820820820820820820820820820820820000000012345";
+        text.push_str(format!(in alloc;
+            "counter {writes}\nimage 010001{registers}{writes:04X}03\n"
+        )?.as_str())?;
+        check_whole(&rt, alloc, "sim", script.as_bytes(), text.as_str())?;
+    }
+    Ok(())
 }

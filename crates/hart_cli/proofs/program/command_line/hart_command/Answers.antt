@@ -19,12 +19,14 @@ returns c =
     let unnamed = ap app_of_fields c.no_binary_name.ensures ∙ ap (on_top (λ s. record s { no_binary_name = true })) helped in
     let required = ap app_of_fields c.subcommand_required.ensures ∙ ap (on_top (λ s. record s { subcommand_required = true })) unnamed in
     let top = ap app_of_fields c.arg_required_else_help.ensures ∙ ap (on_top (λ s. record s { arg_required_else_help = true })) required in
-    let one = c.in_ok-subcommand.ensures.shape (local _ _ c.plain_command.ensures refl)
-    ∙ ap₂ with_subcommand top (ap (λ (a : App). a.top) c.plain_command.ensures) in
-    let two = c.in_ok-subcommand-2.ensures.shape (local _ _ c.plain_command-2.ensures refl)
-    ∙ ap₂ with_subcommand one (ap (λ (a : App). a.top) c.plain_command-2.ensures) in
-    let three = c.in_ok-subcommand-3.ensures.shape (local _ _ c.plain_command-3.ensures refl)
-    ∙ ap₂ with_subcommand two (ap (λ (a : App). a.top) c.plain_command-3.ensures) in
+    let answer = c.in_ok-image_command.ensures in
+    let one = c.in_ok-subcommand.ensures.shape (local _ _ answer refl)
+    ∙ ap₂ with_subcommand top (ap (λ (a : App). a.top) answer) in
+    let two = c.in_ok-subcommand-2.ensures.shape (local _ _ c.plain_command.ensures refl)
+    ∙ ap₂ with_subcommand one (ap (λ (a : App). a.top) c.plain_command.ensures) in
+    let sim = c.in_ok-image_command-2.ensures in
+    let three = c.in_ok-subcommand-3.ensures.shape (local _ _ sim refl)
+    ∙ ap₂ with_subcommand two (ap (λ (a : App). a.top) sim) in
     let encode = c.in_ok-encode_command.ensures in
     let four = c.in_ok-hart.ensures.shape (local _ _ encode refl) ∙ ap₂ with_subcommand three (ap (λ (a : App). a.top) encode) in
     IfOk-weaker c.bin_name.result _ _ (λ command given. ap app_of_fields given.0 ∙ four) c.bin_name.ensures

@@ -15,7 +15,8 @@ pub returns-in-answer-clause-call : goal.returns-in-answer-clause-call
 returns-in-answer-clause-call c =
     let matched = c.in_ok-matches.ensures in
     let meets = meets_call _ (map string_bytes c.args.words.now) _ c.in_ok-hart_command.ensures matched.kinds matched.matches in
-    call_named _ _ Answer _ _ meets (met_by_words _ _ _ _ meets c.in-Some.ensures.name c.in-Some.ensures.rows) c.in-answer.is tt
+    call_named _ _ (Answer _) _ _ meets (met_by_words _ _ _ _ meets c.in-Some.ensures.name c.in-Some.ensures.rows) c.in-answer.is
+    c.image_word.ensures
 
 pub returns-in-dump-clause-call : goal.returns-in-dump-clause-call
 returns-in-dump-clause-call c =
@@ -27,7 +28,8 @@ pub returns-in-sim-clause-call : goal.returns-in-sim-clause-call
 returns-in-sim-clause-call c =
     let matched = c.in_ok-matches.ensures in
     let meets = meets_call _ (map string_bytes c.args.words.now) _ c.in_ok-hart_command.ensures matched.kinds matched.matches in
-    call_named _ _ Sim _ _ meets (met_by_words _ _ _ _ meets c.in-Some.ensures.name c.in-Some.ensures.rows) c.in-sim.is tt
+    call_named _ _ (Sim _) _ _ meets (met_by_words _ _ _ _ meets c.in-Some.ensures.name c.in-Some.ensures.rows) c.in-sim.is
+    c.image_word-in-sim.ensures
 
 pub encode_words-requires : goal.encode_words-requires
 encode_words-requires c =

@@ -1,11 +1,12 @@
-use Rattle.std.proofs.Common.{◌≡◌, ◌≤◌, ◌<◌, ◌+◌, ◌-◌, ℕ, List, ◌++◌, length, take, drop, Result, Ok, Err, OnErr, sym, ap, ◌∙◌, subst}
-use Rattle.std.proofs.Common.{arith, append_assoc, length-append, length-drop, length-take, take-take}
+use Rattle.std.proofs.Common.{◌≡◌, ◌≤◌, ◌<◌, ◌+◌, ◌-◌, ℕ, List, ◌++◌, length, take, drop, sym, ap, ◌∙◌, subst}
+use Rattle.std.proofs.Common.{arith, append_assoc, length-append, length-drop, take-take}
 use Rattle.std.proofs.lemmas.List.{take-append-drop, length-take-le}
 use Rattle.std.specs.Io.KnownBytes.{Consumes}
-use Rattle.hart_cli.specs.Input.{LacksMemory, input_limit, most_beyond, ReadsPastLimit, ReadsWell}
+use Rattle.hart_line.specs.Room.{Filled}
+use Rattle.hart_cli.specs.Input.{input_limit, most_beyond, ReadsPastLimit, ReadsWell}
 use Rattle.hart_cli.specs.Stream.{Stream}
 use Rattle.hart_cli.proofs.KnownBytesLemmas.{Consumes-append}
-use Rattle.hart_cli.proofs.input.read_input.Goals as goal
+use Rattle.hart_cli.proofs.input.read_into.Goals as goal
 
 -- one read more, which goes past the limit
 past_limit : (a b c : Stream) (text bytes whole : List ℕ) (given room : ℕ) → ReadsWell a b text → ReadsWell b c (take given bytes)
@@ -32,41 +33,12 @@ past_limit a b c text bytes whole given room h k full more fits soon e =
       soon = omega (arith, left, taken);
     }
 
--- memory is refused behind one read more
-lacks_memory : {T E : Type 0} (result : Result T E) (a b c : Stream) (text bytes : List ℕ) (given : ℕ) → ReadsWell a b text
-    → ReadsWell b c (take given bytes) → length text ≤ input_limit → length bytes ≤ most_beyond → OnErr result (LacksMemory a c)
-lacks_memory (Ok x) a b c text bytes given h k within soon = tt
-lacks_memory (Err x) a b c text bytes given h k within soon =
-    let all = length-append text (take given bytes) in
-    let taken = length-take given bytes in
-    record {
-      bytes = text ++ take given bytes;
-      read = (Consumes-append _ _ _ _ _ h.0 k.0, k.1 ∙ h.1);
-      soon = omega arith;
-    }
-
-pub returns-in_err-extend_from_slice-clause-lacks_memory : goal.returns-in_err-extend_from_slice-clause-lacks_memory
-returns-in_err-extend_from_slice-clause-lacks_memory g c =
-    lacks_memory _ _
-    (g.R.Source.stream c.loop-given.reader)
-    _ c.loop-given.text.items c.read.new.buffer c.in-Ok.given
-    (c.loop-given.invariant.consumed, c.loop-given.invariant.same_failures)
-    (c.in-Ok.ensures.bytes.0, c.in-Ok.ensures.count) (omega (arith, c.loop-given.text.ok.0)) (omega arith)
-
-pub returns-in_err-extend_from_slice-2-clause-lacks_memory : goal.returns-in_err-extend_from_slice-2-clause-lacks_memory
-returns-in_err-extend_from_slice-2-clause-lacks_memory g c =
-    lacks_memory _ _
-    (g.R.Source.stream c.loop-given.reader)
-    _ c.loop-given.text.items c.read.new.buffer c.in-Ok.given
-    (c.loop-given.invariant.consumed, c.loop-given.invariant.same_failures)
-    (c.in-Ok.ensures.bytes.0, c.in-Ok.ensures.count) (omega (arith, c.loop-given.text.ok.0)) (omega arith)
-
 pub returns-then-given-room-clause-reads : goal.returns-then-given-room-clause-reads
 returns-then-given-room-clause-reads g c =
     past_limit _
     (g.R.Source.stream c.loop-given.reader)
     _ c.loop-given.text.items c.read.new.buffer _ c.in-Ok.given (input_limit - c.len-room.result)
     (c.loop-given.invariant.consumed, c.loop-given.invariant.same_failures)
-    (c.in-Ok.ensures.bytes.0, c.in-Ok.ensures.count) (omega (arith, c.loop-given.text.ok.0)) (omega arith)
+    (c.in-Ok.ensures.bytes.0, c.in-Ok.ensures.count) (omega (arith, c.loop-given.invariant.within)) (omega arith)
     (omega (arith, c.in-Ok.ensures.bound)) (omega arith)
-    c.in_ok-extend_from_slice.ensures.items
+    (ap (λ (list : Filled ℕ). list.items) c.extend.ensures)

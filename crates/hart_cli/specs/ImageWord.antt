@@ -1,0 +1,72 @@
+-- The device that a call has, and the word of the image that it goes on from (own profile).
+use Rattle.std.specs.Prelude.{◌≡◌, ℕ, ◌%◌, ◌/◌, ◌<◌, ◌⊎◌, false, List, length, take, slice_index, Option, None, Some, Result, Ok, Err}
+use Rattle.std.specs.List.{AllPass}
+use Rattle.hex.specs.Hex.{decode_of, is_hex_digit}
+use Rattle.hart_device.specs.Bench.{bench_identity, bench_values}
+use Rattle.hart_device.specs.Device.{DeviceState, new_device}
+use Rattle.hart_device.specs.Image.{IsImageOf, IsImageFault}
+use Rattle.hart_cli.specs.declared.fault.CliFault.{CliFault}
+use Rattle.hart_cli.specs.declared.fault.CliFault.TheVariants.{BadHex, Image, Memory}
+use Rattle.hart_cli.specs.Stream.{Stream}
+
+-- The bench device, as it is new.
+abbrev pub bench_device : DeviceState
+bench_device = new_device bench_identity bench_values
+
+-- The word of an image is its bytes in two hex digits of either case for each.
+abbrev pub IsImageWord : List ℕ → List ℕ → Type 0
+IsImageWord word image = decode_of word ≡ Ok image
+
+-- The device of a call without an image is the bench device, as it is new; that of a call with an image is the bench device in the
+-- state that the image is of.
+abbrev pub IsDeviceOf : Option (List ℕ) → DeviceState → Type 0
+IsDeviceOf None device = device ≡ bench_device
+IsDeviceOf (Some word) device =
+    (device.identity ≡ bench_identity) × (image : List ℕ) × IsImageWord word image × IsImageOf device image
+
+-- A word is bad hex at its length if it has an odd number of bytes, and otherwise at its first byte that is no digit.
+pub data IsBadHexWord (word : List ℕ) : ℕ → Type 0 where
+  odd : length word % 2 ≡ 1 → IsBadHexWord word (length word)
+  no_digit : (place : ℕ) → length word % 2 ≡ 0 → place < length word → is_hex_digit (slice_index word place) ≡ false
+      → AllPass is_hex_digit (take place word) → IsBadHexWord word place
+
+-- The fault of an image is that its word is bad hex or, if it is not, the fault of the bytes that it writes.
+abbrev pub HasImageFault : Option (List ℕ) → CliFault → Type 0
+HasImageFault (Some word) (BadHex place) = IsBadHexWord word place
+HasImageFault (Some word) (Image fault) = (image : List ℕ) × IsImageWord word image × IsImageFault image fault
+HasImageFault _ _ = ⊥
+
+-- Room was refused for the bytes of an image, which are half as many as those of its word. This is no fault of the image.
+abbrev pub LacksImageRoom : Option (List ℕ) → CliFault → Type 0
+LacksImageRoom (Some word) (Memory none) = none.items ≡ length word / 2
+LacksImageRoom _ _ = ⊥
+
+-- A call has no device, as its image has this fault, or as there is no room for the image.
+abbrev pub HasNoDevice : Option (List ℕ) → CliFault → Type 0
+HasNoDevice image fault = HasImageFault image fault ⊎ LacksImageRoom image fault
+
+-- What a call may do with a reader and a writer, and answer.
+abbrev pub Outcomes : Type 1
+Outcomes = Stream → Stream → Stream → Stream → Result (Unit {0}) CliFault → Type 0
+
+-- A call told why it has no device, and left the reader and the writer as they were.
+pub record ToldOfImage (image : Option (List ℕ)) (reader reader_after writer writer_after : Stream)
+    (result : Result (Unit {0}) CliFault) : Type 0 where
+  pub fault : CliFault
+  pub no_device : HasNoDevice image fault
+  pub told : result ≡ Err fault
+  pub unread : reader_after ≡ reader
+  pub unwritten : writer_after ≡ writer
+
+-- A call had a device, and did what one with this device may do.
+pub record WentOn (image : Option (List ℕ)) (Did : DeviceState → Type 0) : Type 0 where
+  pub device : DeviceState
+  pub is_device : IsDeviceOf image device
+  pub did : Did device
+
+-- A call told the fault of its image and touched neither the reader nor the writer; otherwise it had an outcome that is one of its
+-- device.
+abbrev pub OutcomeWith : (DeviceState → Outcomes) → Option (List ℕ) → Outcomes
+OutcomeWith Outcome image reader reader_after writer writer_after result =
+    ToldOfImage image reader reader_after writer writer_after result
+    ⊎ WentOn image (λ device. Outcome device reader reader_after writer writer_after result)

@@ -1,0 +1,97 @@
+//! The device that a call has, and the word of the image that it goes on from.
+ghost use Rattle.std.specs.Prelude.{◌≡◌, ℕ, List, Option, Some, IfErr, IfOk, replicate};
+ghost use Rattle.std.specs.Option.{option_map};
+ghost use Rattle.hart_device.specs.Device.{DeviceState};
+ghost use Rattle.hart_cli.specs.ImageWord.{HasImageFault, HasNoDevice, IsDeviceOf, IsImageWord};
+ghost use Rattle.hart_cli.specs.declared.fault.CliFault.{CliFault};
+
+use crate::fault::CliFault;
+use hart_device::{Device, ImageRegisters, bench, images_have_no_fault, images_have_one_state};
+use hart_line::{NoRoom, reserved};
+use hex::FromHexError;
+use std::alloc::Global;
+use std::marker::Model;
+
+/// The word of an image, if a call was given one.
+#[derive(Drop)]
+pub struct ImageWord<'a> {
+    /// The image in hex, two digits for each byte.
+    pub word: Option<&'a str>,
+}
+
+impl<'a> Model for ImageWord<'a> {
+    ghost use Rattle.std.specs.Prelude.{List, Option, ℕ};
+    ghost use Rattle.std.specs.Option.{option_map};
+
+    ghost Value = { Option (List ℕ) };
+
+    ghost view = { λ image. option_map (λ word. word.now) image.word };
+}
+
+/// The bench device, as it is new or, with an image, in the state that the image is of.
+///
+/// # Errors
+///
+/// [`CliFault::BadHex`] at the word's length if this is odd, and otherwise at its first byte that is no hex digit; then
+/// [`CliFault::Image`]; and [`CliFault::Memory`] if room for the bytes of the image is refused.
+pub fn device_of(alloc: Global, image: Option<&str>) -> Result<Device<ImageRegisters>, CliFault>
+    ensures device { IfOk result (IsDeviceOf (option_map (λ word. word.now) image.entry)) }
+    ensures fault { IfErr result (HasNoDevice (option_map (λ word. word.now) image.entry)) }
+{
+    let Some(word) = image else {
+        return Ok(Device::new(bench::identity(), &bench::register_values()));
+    };
+    device_from(alloc, word.as_bytes())
+}
+
+/// The bench device in the state of the image that a word writes.
+fn device_from(alloc: Global, word: &[u8]) -> Result<Device<ImageRegisters>, CliFault>
+    ensures device { IfOk result (IsDeviceOf (Some word.now)) }
+    ensures fault { IfErr result (HasNoDevice (Some word.now)) }
+{
+    let bytes = decoded(alloc, word)?;
+    let device = Device::from_image(bench::identity(), bytes.as_slice())?;
+    Ok(device)
+}
+
+/// The bytes that a word writes.
+fn decoded(alloc: Global, word: &[u8]) -> Result<Vec<u8>, CliFault>
+    ensures bytes { IfOk result (λ bytes. IsImageWord word.now bytes.items) }
+    ensures fault { IfErr result (HasNoDevice (Some word.now)) }
+{
+    let mut bytes = zeros(alloc, word.len() / 2)?;
+    match hex::decode_to_slice(word, bytes.as_mut_slice()) {
+        Ok(()) => Ok(bytes),
+        Err(FromHexError::InvalidHexCharacter { index, .. }) => {
+            Err(CliFault::BadHex { place: index })
+        }
+        Err(FromHexError::OddLength) => Err(CliFault::BadHex { place: word.len() }),
+        // There is room for all bytes that the word can write.
+        Err(FromHexError::InvalidStringLength) => unreachable!(),
+        Err(FromHexError::OutOfMemory) => unreachable!(),
+    }
+}
+
+/// So many bytes, all zero.
+fn zeros(alloc: Global, count: usize) -> Result<Vec<u8>, NoRoom>
+    ensures zeros { IfOk result (λ bytes. bytes.items ≡ replicate count 0) }
+    ensures refused { IfErr result (λ none. none.items ≡ count) }
+{
+    let mut bytes = reserved(alloc, count)?;
+    let _there_is_room = bytes.resize(count, 0);
+    Ok(bytes)
+}
+
+/// A call has one device, or its image has one fault, and never both.
+pub fn one_device()
+    ensures one { (image : Option (List ℕ)) (device other : DeviceState)
+        → IsDeviceOf image device → IsDeviceOf image other → device ≡ other }
+    ensures one_fault { (image : Option (List ℕ)) (fault other : CliFault)
+        → HasImageFault image fault → HasImageFault image other → fault ≡ other }
+    ensures no_fault { (image : Option (List ℕ)) (device : DeviceState) (fault : CliFault)
+        → IsDeviceOf image device → HasImageFault image fault → ⊥ }
+{
+    // No-ops: their contracts are used below.
+    images_have_one_state();
+    images_have_no_fault();
+}
