@@ -2,16 +2,19 @@
 #
 #   make                      builds the proved program and leaves it as ./hart
 #   make check                runs every proof and every test, and ends with the count of what passed and what failed
+#   make test                 proves every crate and runs every test and script, but tries no wrong body: the quick one of the two
 #   make refused-growths      refuses each allocation of ./hart in turn, as make check does to the program that it proves
-#   make streams              runs ./hart on streams that fail, as make check does
+#   make streams              runs ./hart on streams that fail and for its texts, as make check does
+#   make fuzz N=..            holds ./hart against a plain model of it on N random inputs; make check does not
 #   make install PREFIX=DIR   puts hart into DIR/bin
 #   make bench                measures hart dump, hart answer and hart sim; it asserts no time
 
 PREFIX ?= /usr/local
+N ?= 10000
 CLI := crates/hart_cli
 SOURCES := crates.txt $(shell find crates -name out -prune -o \( -name '*.rt' -o -name '*.antt' \) -print)
 
-.PHONY: all check refused-growths streams bench install clean
+.PHONY: all check test refused-growths streams fuzz bench install clean
 
 all: hart
 
@@ -23,8 +26,16 @@ hart: $(SOURCES)
 check:
 	bash tools/check.sh
 
+test: hart
+	rt all test
+	sh tools/refused-growths.sh
+	sh tools/streams.sh
+
 refused-growths streams: hart
 	sh tools/$@.sh
+
+fuzz: hart
+	python3 tools/fuzz.py --cases $(N)
 
 bench: hart
 	python3 bench/dump.py

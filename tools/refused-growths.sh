@@ -1,7 +1,9 @@
 #!/bin/sh
 # Runs each call of the built program again and again, and refuses one allocation each time: the first, the second, and so
-# on. A run may do without and write what it would have, or end with `out of memory`, status 1 or 2, and a front of whole
-# lines written. That it succeeds with ample memory is the last run, in which none is left to refuse.
+# on. A run may do without and write what it would have, or end with `out of memory` and a front of whole lines written: with
+# status 2 where the growth was for the words, of which clap has most, and with 1 where it was one of the call. Of its own a call
+# has as many as its reservations, whatever the length of its input. That it succeeds with ample memory is the last run, in
+# which none is left to refuse.
 #
 # Usage: tools/refused-growths.sh [PROGRAM]; PROGRAM is the ./hart of the repository if absent. It needs cc.
 set -eu
@@ -28,10 +30,15 @@ judge() {
     fi
 }
 
-# Refuses each growth of one call in turn; its input and what it must write stand in $work.
+# Refuses each growth of one call in turn; its input and what it must write stand in $work. The first word is how many of them
+# are its own.
 refuse_each() {
+    wanted_own=$1
+    shift
     number=1
-    told=0
+    own=0
+    of_clap=0
+    of_main=0
     while :; do
         status=0
         REFUSED_GROWTH=$number LD_PRELOAD=$work/refuse_growth.so "$program" "$@" \
@@ -41,23 +48,47 @@ refuse_each() {
             exit 1
         fi
         [ -s "$work/hit" ] || break
-        [ "$status" -eq 0 ] || told=$((told + 1))
+        if [ "$status" -eq 1 ]; then
+            own=$((own + 1))
+        elif grep -q 'the words cannot be read' "$work/errors"; then
+            of_main=$((of_main + 1))
+        elif [ "$status" -eq 2 ]; then
+            of_clap=$((of_clap + 1))
+        fi
         number=$((number + 1))
     done
-    if [ "$status" -ne 0 ] || [ "$told" -eq 0 ]; then
-        echo "hart $*: status $status with ample memory, and $told of $((number - 1)) growths ended with out of memory" >&2
+    if [ "$status" -ne 0 ] || [ "$own" -ne "$wanted_own" ] || [ "$of_clap" -eq 0 ]; then
+        echo "hart $*: status $status with ample memory, and $own growths of its own, where $wanted_own are wanted" >&2
         exit 1
     fi
-    echo "hart $*: $((number - 1)) growths refused in turn, of which $told ended with out of memory"
+    without=$((number - 1 - own - of_clap - of_main))
+    echo "hart $*: $((number - 1)) growths refused in turn: $of_main for the words, $of_clap of clap, $own of its own, and" \
+        "$without that it did without"
+}
+
+# Refuses each growth of a script of so many submissions, each with a turn in which no characters are told. They are five: of
+# the input, of its events, two of `run` for outcomes and messages, and of the text.
+refuse_script() {
+    lines=0
+    while [ "$lines" -lt "$1" ]; do
+        printf 'submit P 37420A1B2C 19 012345\nturn P ok ok\n'
+        lines=$((lines + 1))
+    done >"$work/input"
+    "$program" sim <"$work/input" >"$work/wanted"
+    refuse_each 5 sim
 }
 
 cp crates/hart_cli/stdin "$work/input"
 cp crates/hart_cli/stdout "$work/wanted"
-refuse_each answer
+# Its own are of the input and of its characters.
+refuse_each 2 answer
+# With an image, that of the bench device as it is new, also of the bytes of the image.
+image=010001820820820820820820820820820820820820820820820820820820820820820820820820820820820820000000000000000000
+refuse_each 3 answer --image "$image"
 
 echo 'FF FF 02 80 00 00 82 FF!40 FF FF 82 B7 42 0A 1B 2C 13 03 01 23 45 3D' >"$work/input"
 printf '%s\n' '2 7 STX P 0 @0 - 0 -' '10 22 STX P 0 37420A1B2C - 19 012345' >"$work/wanted"
-refuse_each dump
+refuse_each 2 dump
 
 cat >"$work/input" <<'SCRIPT'
 # The reply is lost, and the request is sent again.
@@ -79,8 +110,14 @@ D 5 86B7420A1B2C130500400123457F
 counter 2
 image 010001820820820820820820820820820820820820820820820820820820820820820820820820820820820820000000012345000203
 TEXT
-refuse_each sim
+# And of two words of characters.
+refuse_each 7 sim
+refuse_each 8 sim --image "$image"
+
+for submissions in 1 65 300 3000; do
+    refuse_script "$submissions"
+done
 
 : >"$work/input"
 echo 'FF FF FF FF FF 82 B7 42 0A 1B 2C 13 03 01 23 45 3D' >"$work/wanted"
-refuse_each encode P 37420A1B2C 19 012345
+refuse_each 0 encode P 37420A1B2C 19 012345

@@ -1,7 +1,8 @@
 #!/bin/sh
-# Runs the built program on streams and words of the system that fail, of which no contract speaks, and sees that it tells
-# them: a device that is full, an input that cannot be read, a word that is not UTF-8. With a buffered standard output, for
-# one, `hart dump >/dev/full` would end with 0, every proof done and every test passed.
+# Runs the built program on what no contract speaks of. On streams and words of the system that fail it has to tell them: a
+# device that is full, an input that cannot be read, a word that is not UTF-8. With a buffered standard output, for one,
+# `hart dump >/dev/full` would end with 0, every proof done and every test passed. All words have to reach the call, the
+# seventh and an empty one too, and the texts of clap have to be those in tools/texts, each in its place.
 #
 # Usage: tools/streams.sh [PROGRAM]; PROGRAM is the ./hart of the repository if absent.
 set -eu
@@ -37,6 +38,34 @@ ends_with() {
     echo "hart $words: ended with $status, and told '$(head -n 1 "$work/errors")'"
 }
 
+# Runs hart with the words that follow the text: it has to write just this text, end with 0, and tell nothing.
+writes() {
+    text=$1
+    shift
+    status=0
+    "$program" "$@" </dev/null >"$work/output" 2>"$work/errors" || status=$?
+    if [ "$status" -ne 0 ] || [ "$(cat "$work/output")" != "$text" ] || [ -s "$work/errors" ]; then
+        echo "hart $*: status $status and '$(cat "$work/output" "$work/errors")', where 0 and '$text' are wanted" >&2
+        exit 1
+    fi
+    echo "hart $*: wrote '$text'"
+}
+
+# Runs hart with the words that follow the name of a text: it has to show the whole of this text on standard error alone, and
+# to end with 2.
+shows() {
+    wanted=tools/texts/$1.txt
+    shift
+    status=0
+    "$program" "$@" </dev/null >"$work/output" 2>"$work/errors" || status=$?
+    if [ "$status" -ne 2 ] || [ -s "$work/output" ] || ! cmp -s "$wanted" "$work/errors"; then
+        echo "hart $*: status $status, where 2 is wanted, and against $wanted:" >&2
+        diff "$wanted" "$work/errors" >&2 || true
+        exit 1
+    fi
+    echo "hart $*: showed $wanted"
+}
+
 ends_with 1 'write fault' /dev/full dump <"$request"
 ends_with 1 'write fault' /dev/full answer <"$request"
 ends_with 1 'write fault' /dev/full sim </dev/null
@@ -44,5 +73,24 @@ ends_with 1 'write fault' /dev/full encode P @0 0 </dev/null
 ends_with 1 'read fault' "$work/output" dump <"$work"
 ends_with 1 'read fault' "$work/output" answer <"$work"
 ends_with 1 'read fault' "$work/output" sim <"$work"
+# An image that is none is told before anything is read, and so before the fault of the input.
+ends_with 1 'bad image: version' "$work/output" answer --image 02 <"$work"
+ends_with 1 'bad image: length' "$work/output" sim --image '' <"$work"
+ends_with 1 'bad hex at 3' "$work/output" sim --image "$(printf '0\303\251')" <"$work"
+ends_with 2 'error: *' "$work/output" answer --image "$(printf '\377')" <"$request"
 ends_with 2 'error: *' "$work/output" "$(printf '\377')" <"$request"
 ends_with 2 'error: *' "$work/output" encode P @0 "$(printf '\377')" <"$request"
+ends_with 1 'bad word 1' "$work/output" encode '' @0 0 </dev/null
+writes 'FF FF FF FF FF FF FF FF FF FF FF FF FF FF FF FF FF FF FF FF 82 00 00 00 00 00 0B 06 41 53 50 B7 1C 31 57' \
+    encode S all 11 415350B71C31 --preambles 20
+# What a device holds is what the next run goes on from.
+image=010501820820820820820820820820820820820820820820820820820820820820820820820820820820820820000000012345000107
+writes "$(printf 'counter 1\nimage %s' "$image")" sim --image "$image"
+writes "$(printf 'counter 1\nimage %s' "$image")" sim "--image=$image"
+shows help --help
+for word in answer dump sim encode; do
+    shows "help-$word" "$word" --help
+done
+shows help-help help help
+shows version --version
+shows wrong-word frob

@@ -1,0 +1,235 @@
+#!/usr/bin/env python3
+"""Holds the built program against a plain model of it, on random frames, noise, damage, scripts, images and words.
+
+Each case is the words and the input of one call: the status, what is written and the fault that is told have to be those of the
+model in tools/fuzz, and nothing may be read after words that make no call, or that are no image. Inputs of `hart dump` without a
+fault are heard together, some of them in one call, which is quicker. At first the model and the program are tried on worked
+messages. A difference is told with the smallest words and input that were found to show one. The cases of a seed are always the
+same. The last line is `N passed, M failed`, and the status is 1 after any difference.
+
+Usage: tools/fuzz.py [PROGRAM] [--cases N] [--seed S] [--only dump|answer|sim|encode]; PROGRAM is ./hart, N 10000, and S another
+one in each run.
+"""
+
+import argparse
+import itertools
+import os
+import random
+import signal
+import sys
+from typing import NamedTuple
+
+sys.dont_write_bytecode = True
+
+from fuzz import calls, scripts, texts, worked  # noqa: E402
+from fuzz.shrink import Shrinker  # noqa: E402
+from fuzz.texts import Given  # noqa: E402
+
+LONGEST_RUN = 60
+HEARD_TOGETHER = 25
+LONGEST_TOGETHER = 10_000
+BETWEEN = b" 00!40 "
+MOST_SHRUNK = 10
+MOST_SHOWN = 2000
+
+
+class Call(NamedTuple):
+    """A call of the program: its name, how often it is tried among ten, the maker of what it is given, and the model of it."""
+
+    name: str
+    share: int
+    make: object
+    model: object
+
+
+CALLS = (
+    Call("dump", 4, calls.dump_given, texts.dump),
+    Call("answer", 2, calls.answer_given, texts.answer),
+    Call("sim", 3, calls.sim_given, scripts.sim),
+    Call("encode", 1, calls.encode_given, texts.encode),
+)
+BY_NAME = {call.name: call for call in CALLS}
+
+
+def input_stream(text):
+    """A stream of this text; for None one whose reads fail, as those of a folder do."""
+    if text is None:
+        return os.open(os.sep, os.O_RDONLY)
+    stream = os.memfd_create("input")
+    os.write(stream, text)
+    os.lseek(stream, 0, os.SEEK_SET)
+    return stream
+
+
+def run(program, call, given):
+    """What the program does: the words follow the call's name, and the text is its standard input."""
+    streams = [input_stream(given.text), os.memfd_create("output"), os.memfd_create("errors")]
+    places = [(os.POSIX_SPAWN_DUP2, stream, number) for number, stream in enumerate(streams)]
+    status = status_of(os.posix_spawn(program, [program, call.name, *given.words], {}, file_actions=places))
+    written, errors = (os.pread(stream, os.fstat(stream).st_size, 0) for stream in streams[1:])
+    unread = os.lseek(streams[0], 0, os.SEEK_CUR) == 0
+    for stream in streams:
+        os.close(stream)
+    return texts.Result(status, written, errors, unread)
+
+
+def status_of(process):
+    """The status with which a process ends; one that does not end is stopped, and has a status below 0."""
+    signal.signal(signal.SIGALRM, lambda *_: os.kill(process, signal.SIGKILL))
+    signal.alarm(LONGEST_RUN)
+    status = os.waitstatus_to_exitcode(os.waitpid(process, 0)[1])
+    signal.alarm(0)
+    return status
+
+
+def agree(shown, wanted):
+    """Whether the program ended as the model says; the text of usage and help may be any but none."""
+    if wanted.unread and not shown.unread or (shown.status, shown.written) != (wanted.status, wanted.written):
+        return False
+    return shown.fault != b"" if wanted.fault is None else shown.fault == wanted.fault
+
+
+def worked_cases():
+    """Each worked call with what it is given and how it ends."""
+    for text, lines, fault in worked.DUMPED:
+        yield "dump", given_of([], text), texts.failed(fault, lines.encode()) if fault else texts.done(lines.encode())
+    for text, reply in worked.ANSWERED:
+        yield "answer", given_of([], text), texts.done(message_line(reply))
+    for image, text, reply in worked.ANSWERED_FROM:
+        yield "answer", given_of(["--image", image], text), texts.done(message_line(reply))
+    for text, played in worked.PLAYED:
+        yield "sim", given_of([], text), texts.done(played.encode())
+    for image, text, played in worked.PLAYED_FROM:
+        yield "sim", given_of(["--image", image], text), texts.done(played.encode())
+    for text, fault in worked.NOT_PLAYED:
+        yield "sim", given_of([], text), texts.failed(fault)
+    for words, message, fault in worked.ENCODED:
+        ends = texts.USAGE if fault is None else texts.failed(fault) if fault else texts.done(message_line(message))
+        yield "encode", given_of(words.split(), ""), ends
+    yield from worked_refusals()
+
+
+def worked_refusals():
+    """Each word that is no image, for both calls, with an input that is bad too."""
+    for image, fault in worked.NO_IMAGES:
+        for name, text in itertools.product(("answer", "sim"), ("turn X ok ok", None)):
+            yield name, given_of(["--image", image], text), texts.failed(fault, unread=True)
+
+
+def given_of(words, text):
+    """What a worked call is given."""
+    return Given([word.encode() for word in words], text if text is None else text.encode())
+
+
+def message_line(digits):
+    """A message as the program writes it, or nothing."""
+    return bytes.fromhex(digits).hex(" ").upper().encode() + b"\n" if digits else b""
+
+
+def cut(value):
+    """A value as it is printed, without its middle if it is long."""
+    shown = repr(value)
+    return shown if len(shown) <= MOST_SHOWN else f"{shown[:MOST_SHOWN // 2]} .. {shown[-MOST_SHOWN // 2:]}"
+
+
+def tell(call, given, shown, wanted):
+    """Prints a difference."""
+    print(f"  words after {call.name}: {cut(given.words)}")
+    print(f"  input:   {cut(given.text)}")
+    print(f"  program: {cut(tuple(shown))}")
+    print(f"  model:   {cut(tuple(wanted))}", flush=True)
+
+
+class Fuzz:
+    """The cases of one seed, held against one program, with the counts of those that passed and failed."""
+
+    def __init__(self, program, seed):
+        self.program = program
+        self.seed = seed
+        self.passed = 0
+        self.failed = 0
+        self.waiting = []
+
+    def count(self, good):
+        """Counts a case."""
+        self.passed += good
+        self.failed += not good
+
+    def differs(self, call, given):
+        """Whether program and model differ on an input."""
+        return not agree(run(self.program, call, given), call.model(given))
+
+    def try_worked(self):
+        """Holds the model, and the program, against the worked calls."""
+        for name, given, wanted in worked_cases():
+            call = BY_NAME[name]
+            for who, shown in (("model", call.model(given)), ("program", run(self.program, call, given))):
+                good = agree(shown, wanted)
+                self.count(good)
+                if not good:
+                    print(f"the {who} differs from a worked call")
+                    tell(call, given, shown, wanted)
+
+    def try_case(self, number, only):
+        """Tries the case of a number, or lets it wait for others."""
+        rng = random.Random(f"{self.seed} {number}")
+        call = BY_NAME[only] if only else rng.choices(CALLS, [call.share for call in CALLS])[0]
+        given = call.make(rng)
+        if call.name == "dump" and len(given.text) < LONGEST_TOGETHER and call.model(given).fault == b"":
+            self.waiting.append((number, given))
+        else:
+            self.judge(call, number, given)
+        if len(self.waiting) == HEARD_TOGETHER:
+            self.try_waiting()
+
+    def try_waiting(self):
+        """Tries the inputs that wait as one, between whose characters damaged ones stand; and each alone where that differs."""
+        call, waiting, failed = BY_NAME["dump"], self.waiting, self.failed
+        self.waiting = []
+        together = Given([], BETWEEN.join(given.text for _, given in waiting))
+        if not self.differs(call, together):
+            self.passed += len(waiting)
+            return
+        for number, given in waiting:
+            self.judge(call, number, given)
+        if self.failed == failed:
+            self.judge(call, waiting[-1][0], together)
+
+    def judge(self, call, number, given):
+        """Counts the case of an input, and tells a difference."""
+        differs = self.differs(call, given)
+        self.count(not differs)
+        if differs:
+            print(f"seed {self.seed}, case {number}")
+            self.tell_smallest(call, given)
+
+    def tell_smallest(self, call, given):
+        """Prints the smallest words and input near these on which program and model differ."""
+        if self.failed <= MOST_SHRUNK:
+            given = Shrinker(lambda smaller: self.differs(call, smaller)).given(given)
+        tell(call, given, run(self.program, call, given), call.model(given))
+
+
+def main():
+    """Reads the words of the command line, tries the cases, and gives the status."""
+    parser = argparse.ArgumentParser(description=__doc__.split("\n", maxsplit=1)[0])
+    parser.add_argument("program", nargs="?", default="./hart", help="the built program")
+    parser.add_argument("--cases", type=int, default=10000, help="how many cases")
+    parser.add_argument("--seed", type=int, default=random.SystemRandom().randrange(1 << 32), help="the number of the cases")
+    parser.add_argument("--only", choices=BY_NAME, help="try this call alone")
+    chosen = parser.parse_args()
+    if not os.access(chosen.program, os.X_OK):
+        parser.error(f"there is no program {chosen.program}; make builds ./hart")
+    fuzz = Fuzz(chosen.program, chosen.seed)
+    print(f"seed {chosen.seed}", flush=True)
+    fuzz.try_worked()
+    for number in range(chosen.cases):
+        fuzz.try_case(number, chosen.only)
+    fuzz.try_waiting()
+    print(f"seed {chosen.seed}")
+    print(f"{fuzz.passed} passed, {fuzz.failed} failed")
+    return 1 if fuzz.failed else 0
+
+
+if __name__ == "__main__":
+    sys.exit(main())

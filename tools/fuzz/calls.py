@@ -1,0 +1,65 @@
+"""Makes what a call is given, its words and its text."""
+
+from . import events, images, inputs
+from .device import NEW_IMAGE, Device
+from .heard import weighted
+from .texts import INPUT_LIMIT, Given
+
+OTHER_WORDS = ("-", "--", "-x", "-i", "--help", "-h", "--version", "--preambles=5", "--imag=00", "--Image", "--image", "--image=",
+               "help", "00", "")
+
+
+def dump_given(rng):
+    """What `hart dump` is given."""
+    return Given([], inputs.dump_input(rng))
+
+
+def encode_given(rng):
+    """What `hart encode` is given."""
+    return Given(inputs.encode_input(rng), b"")
+
+
+def answer_given(rng):
+    """What `hart answer` is given."""
+    return with_image(rng, inputs.answer_input)
+
+
+def sim_given(rng):
+    """What `hart sim` is given."""
+    return with_image(rng, events.sim_input)
+
+
+def with_image(rng, make):
+    """What a call that may go on from an image is given: none, a good one, and a text made for its device, or a bad word."""
+    image, word, other = NEW_IMAGE, None, 0.02
+    kind = weighted(rng, (3, "none"), (6, "good"), (3, "bad"))
+    if kind == "good":
+        image = images.good_image(rng)
+        word = inputs.data_word(rng, image)
+    elif kind == "bad":
+        word, other = images.bad_word(rng), 0.3
+    text = other_text(rng) if rng.random() < other else make(rng, Device.from_image(image))
+    return Given(image_words(rng, word), text)
+
+
+def image_words(rng, word):
+    """The words that hand on the word of an image, or none, as a rule."""
+    words = [] if word is None else rng.choice((["--image", word], [f"--image={word}"]))
+    if rng.random() < 0.08:
+        words = spoilt_words(rng, words)
+    encoded = [word.encode() for word in words]
+    if encoded and rng.random() < 0.01:
+        encoded[-1] += rng.choice((b"\xFF", b"\x80", b"\xC3", b"\xED\xA0\x80"))
+    return encoded
+
+
+def other_text(rng):
+    """A text that one call or the other does not take, or one of which no read succeeds."""
+    return weighted(rng, (6, None), (6, b"0G"), (6, b"turn X ok ok"), (6, b"noise FFFF0280000082"), (1, b" " * (INPUT_LIMIT + 1)))
+
+
+def spoilt_words(rng, words):
+    """Words of which one is missing, twice there, or one too many."""
+    place = rng.randrange(len(words) + 1)
+    more = rng.choice(OTHER_WORDS)
+    return rng.choice((words[:place] + words[place + 1:], words + words, words[:place] + [more] + words[place:], words + ["--"]))

@@ -1,0 +1,111 @@
+"""What the data of requests and replies mean, for each command of the profile."""
+
+import datetime
+from typing import NamedTuple
+
+# How many bytes a command needs from the front of its request data.
+NEEDED = {
+    0: 0, 1: 0, 2: 0, 3: 0, 6: 1, 7: 0, 8: 0, 9: 1, 11: 6, 12: 0, 13: 0, 14: 0, 15: 0, 16: 0,
+    17: 24, 18: 21, 19: 3, 38: 0, 48: 0,
+}
+WRITES = (6, 17, 18, 19)
+MOST_CODES = 8
+
+SUCCESS = 0
+INVALID_SELECTION = 2
+TOO_FEW_BYTES = 5
+WRITE_PROTECTED = 7
+INVALID_DATE = COUNTER_MISMATCH = 9
+INVALID_MODE = 12
+NOT_IMPLEMENTED = 64
+
+# How many bytes the reply of a command has at least; Commands 3, 9 and 48 have rules of their own.
+REPLY_NEEDED = {
+    0: 22, 1: 5, 2: 8, 6: 2, 7: 2, 8: 4, 11: 22, 12: 24, 13: 21, 14: 16, 15: 18, 16: 3, 17: 24, 18: 21, 19: 3, 38: 2,
+}
+IDENTITY_COMMANDS = (0, 11)
+IDENTITY_FRONT = 254
+
+
+class Reply(NamedTuple):
+    """A reply as a master takes it: response code, device status, and the data without what was ignored."""
+
+    code: int
+    status: int
+    data: bytes
+
+
+def is_date(data):
+    """Whether three bytes are a day of the calendar from 1900 to 2155, or not set."""
+    day, month, year = data
+    try:
+        datetime.date(1900 + year, month, day)
+    except ValueError:
+        return data == bytes(3)
+    return True
+
+
+def polling_and_mode(data):
+    """What Command 6 sets: older masters send the address alone, which means mode 1 for address 0 and otherwise mode 0."""
+    return (data[0], data[1]) if len(data) > 1 else (data[0], int(data[0] == 0))
+
+
+def value_code(command, data, counter):
+    """The code of data that are long enough but say what can't be done; a counter that is None is not compared."""
+    if command == 6:
+        address, mode = polling_and_mode(data)
+        if address > 63:
+            return INVALID_SELECTION
+        return INVALID_MODE if mode > 1 else SUCCESS
+    if command == 18 and not is_date(data[18:21]):
+        return INVALID_DATE
+    if command == 38 and data and counter is not None and int.from_bytes(data[:2], "big") != counter:
+        return COUNTER_MISMATCH
+    return SUCCESS
+
+
+def request_code(command, data, protected=False, counter=None):
+    """The response code to a request: the first that holds of 64, 5, 7, 2, 12 and 9, or 0."""
+    if command not in NEEDED:
+        return NOT_IMPLEMENTED
+    if len(data) < NEEDED[command] or command == 38 and len(data) == 1:
+        return TOO_FEW_BYTES
+    if command in WRITES and protected:
+        return WRITE_PROTECTED
+    return value_code(command, data, counter)
+
+
+def written_data(command, data):
+    """The bytes that a request of these data is sent with: those that the command takes."""
+    if command == 6:
+        return bytes(polling_and_mode(data))
+    if command == 9:
+        return data[:MOST_CODES]
+    if command == 38:
+        return data[:2]
+    return data[:NEEDED[command]]
+
+
+def reply_data(command, data):
+    """What a master takes of the data of a reply with code 0; None where they do not fit the command."""
+    if command == 3:
+        groups = min((len(data) - 4) // 5, 4)
+        return data[:4 + 5 * groups] if groups >= 1 else None
+    if command == 9:
+        groups, rest = divmod(len(data) - 5, 8)
+        return data if rest == 0 and 1 <= groups <= MOST_CODES else None
+    if command == 48:
+        return data[:25] or None
+    if len(data) < REPLY_NEEDED[command] or command in IDENTITY_COMMANDS and data[0] != IDENTITY_FRONT:
+        return None
+    return data[:REPLY_NEEDED[command]]
+
+
+def read_reply(command, payload):
+    """The reply that a payload is; None where it is none, as with communication faults."""
+    if len(payload) < 2 or payload[0] & 0x80 or command not in NEEDED:
+        return None
+    if payload[0] != SUCCESS:
+        return Reply(payload[0], payload[1], b"")
+    data = reply_data(command, payload[2:])
+    return None if data is None else Reply(SUCCESS, payload[1], data)

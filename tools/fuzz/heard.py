@@ -1,0 +1,218 @@
+"""Makes random messages, and what may be heard of them: damage, noise, false starts and messages inside of others."""
+
+from .commands import NEEDED
+from .device import OWN_ADDRESS
+from .frames import BROADCAST, LONGEST_BODY, PREAMBLE, Char, Polling, Unique, address_bytes, faultless, parity, with_check_byte
+
+BLANK_TAG = bytes.fromhex("820820" * 2)
+OTHER_TAG = bytes.fromhex("415350B71C31")
+DATES = [bytes.fromhex(date) for date in ("000000", "1D0264", "1D0200", "1F0CFF", "000164", "1D02C8", "1F0400", "010101", "200101")]
+STATUS_PAIRS = [bytes.fromhex(pair) for pair in ("0000", "0040", "0740", "8800", "C005", "2000", "7F00", "8000")]
+SMALL_MESSAGE = bytes.fromhex("FFFF0280000082")
+NOISE_BYTES = [0xFF] * 6 + [0x02, 0x82, 0x06, 0x86, 0x00, 0x00, 0x80, 0x01, 0x81, 0xE2, 0x26, 0x0A]
+
+
+def weighted(rng, *choices):
+    """One of some pairs of weight and value."""
+    return rng.choices([value for _, value in choices], [weight for weight, _ in choices])[0]
+
+
+def random_master(rng):
+    """A master."""
+    return rng.choice("PS")
+
+
+def random_address(rng, polling=0):
+    """An address; the polling address is that of the device, which is often asked for."""
+    bit = rng.randrange(38)
+    near = Unique(OWN_ADDRESS.type ^ 1 << bit >> 24, OWN_ADDRESS.id ^ (1 << bit) % (1 << 24))
+    return weighted(
+        rng, (12, OWN_ADDRESS), (4, Polling(polling)), (1, Polling(rng.randrange(64))), (1, Polling(63)), (3, BROADCAST),
+        (1, near), (1, Unique(rng.randrange(1 << 14), rng.randrange(1 << 24))), (1, Unique(0, 1)))
+
+
+def random_command(rng):
+    """A command, mostly one of the profile."""
+    return weighted(rng, (12, rng.choice(list(NEEDED))), (6, rng.choice((6, 17, 18, 19, 38, 11, 9))), (1, rng.randrange(256)),
+                    (1, rng.choice((4, 5, 10, 20, 21, 22, 31, 37, 39, 47, 49, 255))))
+
+
+def random_bytes(rng, length):
+    """So many bytes, of all kinds or of those that stand in messages."""
+    if rng.random() < 0.5:
+        return rng.randbytes(length)
+    return bytes(rng.choices(NOISE_BYTES, k=length))
+
+
+def with_message_inside(rng, data):
+    """Bytes in which a whole small message stands, if there is room for it."""
+    if len(data) < len(SMALL_MESSAGE):
+        return data
+    place = rng.randrange(len(data) - len(SMALL_MESSAGE) + 1)
+    return data[:place] + SMALL_MESSAGE + data[place + len(SMALL_MESSAGE):]
+
+
+def good_data(rng, command, counter=0, tag=BLANK_TAG):
+    """Request data that the command takes, as a rule."""
+    if command == 6:
+        address = bytes([rng.choice((0, 0, 5, 62, 63, 64, 255, rng.randrange(64)))])
+        return address + bytes(rng.choices((0, 1, 1, 2, 255), k=rng.randrange(2)))
+    if command == 9:
+        return bytes(rng.choices((244, 245, 246, 247, 249, 0, 1, 3, 4, 9, 243, 250, 255), k=rng.randint(1, 9)))
+    if command == 11:
+        return rng.choice((tag, tag, tag, BLANK_TAG, OTHER_TAG, rng.randbytes(6)))
+    if command == 17:
+        text = rng.choice((BLANK_TAG * 4, rng.randbytes(24), bytes([255] * 24)))
+        return with_message_inside(rng, text) if rng.random() < 0.3 else text
+    if command == 18:
+        date = rng.choice(DATES) if rng.random() < 0.8 else rng.randbytes(3)
+        return rng.choice((BLANK_TAG, OTHER_TAG)) + rng.choice((BLANK_TAG * 2, rng.randbytes(12))) + date
+    if command == 19:
+        return rng.choice((bytes.fromhex("012345"), rng.randbytes(3), bytes.fromhex("FFFFFF")))
+    if command == 38:
+        near = (counter, counter, counter, 0, counter + 1, 0xFFFF, rng.randrange(0x10000))
+        return b"" if rng.random() < 0.3 else (rng.choice(near) % 0x10000).to_bytes(2, "big")
+    return b""
+
+
+def random_data(rng, command, counter=0, tag=BLANK_TAG):
+    """Request data of any command: as it wants them, too few, too many, the most that there are, or of any bytes."""
+    data = good_data(rng, command, counter, tag)
+    return weighted(
+        rng, (12, lambda: data), (2, lambda: data[:rng.randrange(len(data) + 1)]), (2, lambda: data[:-1]),
+        (2, lambda: data + random_bytes(rng, rng.choice((1, 1, 2, 8, 30)))),
+        (1, lambda: (data + random_bytes(rng, 255))[:rng.choice((254, 255))]),
+        (1, lambda: random_bytes(rng, rng.randrange(40))),
+        (1, lambda: with_message_inside(rng, random_bytes(rng, rng.randint(7, 40)))))()
+
+
+def random_payload(rng, command, ack):
+    """The payload of a message: request data, or of an ACK status bytes and any data, also too few for a frame."""
+    if not ack:
+        return random_data(rng, command)
+    data = rng.choice(STATUS_PAIRS) + random_bytes(rng, rng.choice((0, 0, 1, 2, 3, 5, 22, 25, rng.randrange(254))))
+    return data[:rng.randrange(4)] if rng.random() < 0.3 else data
+
+
+def random_body(rng, polling=0):
+    """A body, mostly a request to the device; the fields may be any that have a place in a body."""
+    ack = rng.random() < 0.25
+    if rng.random() < 0.02:
+        return body_of_fields(rng, ack, OWN_ADDRESS, rng.randbytes(3), random_command(rng), random_bytes(rng, 255))
+    address, command = random_address(rng, polling), random_command(rng)
+    expansion = rng.randbytes(weighted(rng, (12, 0), (1, 1), (1, 2), (1, 3)))
+    payload = random_payload(rng, command, ack)
+    return body_of_fields(rng, ack, address, expansion, command, payload)
+
+
+def body_of_fields(rng, ack, address, expansion, command, payload):
+    """The bytes of a body of any master, of which an ACK may be too short for a frame."""
+    delimiter = 0x80 * isinstance(address, Unique) | len(expansion) << 5 | (6 if ack else 2)
+    burst = int(rng.random() < 0.15)
+    front = bytes([delimiter]) + address_bytes(address, random_master(rng), burst) + expansion
+    return with_check_byte(front + bytes([command, len(payload)]) + payload)
+
+
+def with_check_byte_of_preamble(rng):
+    """A body whose check byte is FF, so that it looks like the first preamble byte of what follows."""
+    front = bytes.fromhex("02 80")
+    payload = random_bytes(rng, rng.randrange(4))
+    command = parity(front + bytes([len(payload)]) + payload) ^ 0xFF
+    return with_check_byte(front + bytes([command, len(payload)]) + payload)
+
+
+def preamble(rng):
+    """Preamble bytes, two or more as a rule."""
+    return b"\xFF" * weighted(rng, (1, 0), (2, 1), (8, 2), (3, 3), (8, 5), (1, 20), (1, rng.randrange(26)))
+
+
+def false_start(rng):
+    """Preamble bytes and the front of a body that says how many bytes follow, which are not given."""
+    delimiter = rng.choice((0x02, 0x82, 0x82, 0x86, 0x06, 0xE2, 0xA6, 0x22))
+    front = bytes([delimiter]) + random_bytes(rng, (5 if delimiter & 0x80 else 1) + (delimiter >> 5 & 3))
+    count = rng.choice((0, 1, 2, 5, 9, 30, 255, 255, rng.randrange(256)))
+    front += bytes([rng.choice((0x13, 0xFF, rng.randrange(256))), count])
+    return b"\xFF\xFF" + front[:rng.choice((1, 2, len(front), len(front), len(front)))]
+
+
+def unknown_message(rng):
+    """A message of even parity whose delimiter is of no frame: a burst message, or of another physical layer."""
+    body = random_body(rng)
+    delimiter = rng.choice((body[0] & 0xF8 | rng.choice((0, 1, 3, 4, 5, 7)), body[0] | rng.choice((0x08, 0x10, 0x18))))
+    return preamble(rng) + with_check_byte(bytes([delimiter]) + body[1:-1])
+
+
+def filled_start(rng):
+    """A message whose payload is what else may be heard; it has even parity as often as not."""
+    inner = heard_bytes(rng, rng.randrange(3))[:255]
+    body = body_of_fields(rng, False, random_address(rng), b"", random_command(rng), inner)
+    return preamble(rng) + body[:-1] + bytes([body[-1] ^ rng.choice((0, 0, 1, 0x80))])
+
+
+def noise(rng):
+    """Some bytes that mean nothing."""
+    return random_bytes(rng, rng.choice((1, 1, 2, 3, 5, 8, 13, 40)))
+
+
+def heard_bytes(rng, depth=0):
+    """The bytes of some pieces, end to end."""
+    kinds = [(10, lambda r: preamble(r) + random_body(r)), (3, noise), (4, false_start), (1, unknown_message),
+             (2, lambda r: preamble(r) + with_check_byte_of_preamble(r)), (2 if depth < 2 else 0, filled_start)]
+    return b"".join(weighted(rng, *kinds)(rng) for _ in range(weighted(rng, (6, 1), (4, 2), (3, 3), (1, 5))))
+
+
+def fault_bits(rng):
+    """Fault bits of a damaged character."""
+    return rng.choice((0x40, 0x20, 0x10, 0x02, 0x72, rng.randrange(256) & 0x72 or 0x42))
+
+
+def marked(rng, heard):
+    """One or some characters given fault bits, of whatever byte."""
+    heard = list(heard)
+    for _ in range(weighted(rng, (8, 1), (2, 2), (1, 6))):
+        place = rng.randrange(len(heard))
+        heard[place] = Char(rng.choice((heard[place].byte, rng.randrange(256), 0xFF)), fault_bits(rng))
+    return tuple(heard)
+
+
+def changed(rng, heard):
+    """A character replaced by another faultless one."""
+    place = rng.randrange(len(heard))
+    byte = rng.choice((heard[place].byte ^ 1 << rng.randrange(8), rng.randrange(256), 0xFF))
+    return heard[:place] + (Char(byte),) + heard[place + 1:]
+
+
+def mended(rng, heard):
+    """Two characters changed in the same bits, so that the parity stays."""
+    bits = rng.choice((1 << rng.randrange(8), rng.randrange(1, 256)))
+    heard = list(heard)
+    for place in (rng.randrange(len(heard)), rng.randrange(len(heard))):
+        heard[place] = Char(heard[place].byte ^ bits)
+    return tuple(heard)
+
+
+def lost_part(rng, heard):
+    """A run of characters missing."""
+    place = rng.randrange(len(heard))
+    return heard[:place] + heard[place + rng.choice((1, 1, 2, 3, 10, 300)):]
+
+
+def put_in(rng, heard):
+    """Characters that nobody sent, in between."""
+    place = rng.randrange(len(heard) + 1)
+    return heard[:place] + faultless(noise(rng)) + heard[place:]
+
+
+def damaged(rng, heard):
+    """What was heard with one kind of damage."""
+    return rng.choice((marked, marked, changed, changed, mended, lost_part, put_in))(rng, heard) if heard else heard
+
+
+def random_heard(rng):
+    """Any characters: messages end to end, in noise and in each other, damaged or not."""
+    heard = faultless(heard_bytes(rng))
+    if rng.random() < 0.02:
+        heard += (PREAMBLE,) * rng.randrange(3 * LONGEST_BODY)
+    for _ in range(weighted(rng, (6, 0), (3, 1), (1, 2), (1, 4))):
+        heard = damaged(rng, heard)
+    return heard

@@ -1,0 +1,136 @@
+"""The line: one device and two masters, and what the events of a script lead to."""
+
+from dataclasses import dataclass, field
+from typing import NamedTuple
+
+from .device import RESPONSE_PREAMBLES, Device
+from .frames import Frame, body_of, frames_of
+from .master import MASTER_PREAMBLES, MOST_SENDINGS, Master
+
+OK = "ok"
+LOST = "lost"
+
+
+class Submit(NamedTuple):
+    """A master is to take a request in hand."""
+
+    who: str
+    address: object
+    command: int
+    data: bytes
+
+
+class Turn(NamedTuple):
+    """A master has its turn. A leg is `ok`, `lost`, or the characters that are heard in place of what was sent."""
+
+    who: str
+    up: object
+    down: object
+
+
+class Protect(NamedTuple):
+    """The write protection of the device is switched."""
+
+    on: bool
+
+
+class Noise(NamedTuple):
+    """All hear characters that nobody sent."""
+
+    heard: tuple
+
+
+class Spoken(NamedTuple):
+    """A message that was spoken: by `P`, `S` or `D`, with so many preamble bytes."""
+
+    party: str
+    preambles: int
+    frame: Frame
+
+    def text(self):
+        """The message as a line of the output."""
+        return f"{self.party} {self.preambles} {body_of(self.frame).hex().upper()}"
+
+
+class Undetected(Exception):
+    """A leg in which a frame was heard that was not the one sent, or more than one."""
+
+    def __init__(self, leg):
+        super().__init__(leg)
+        self.leg = leg
+
+
+def arrives(sent, heard, leg):
+    """Whether what was sent in a leg arrives, by the frames of what is heard in it; `sent` is None where nothing was."""
+    if heard == OK:
+        return sent is not None
+    frames = [] if heard == LOST else [found.frame for found in frames_of(heard)]
+    if not frames:
+        return False
+    if frames != [sent]:
+        raise Undetected(leg)
+    return True
+
+
+@dataclass
+class Line:
+    """The device, the masters, an outcome for each submission as its words, and what was spoken."""
+
+    device: Device
+    masters: dict = field(default_factory=lambda: {who: Master(who) for who in "PS"})
+    outcomes: list = field(default_factory=list)
+    spoken: list = field(default_factory=list)
+
+    def carry_out(self, event):
+        """Does what the rule of an event says; raises `Undetected`."""
+        if isinstance(event, Submit):
+            self.submit(event)
+        elif isinstance(event, Turn):
+            self.turn(event)
+        elif isinstance(event, Protect):
+            self.device.protected = event.on
+        else:
+            arrives(None, event.heard, "noise")
+
+    def submit(self, event):
+        """A submission, which has its outcome at once: refused, or not yet sent."""
+        number = len(self.outcomes) + 1
+        refusal = self.masters[event.who].submit(number, event.address, event.command, event.data)
+        self.outcomes.append("unfinished 0" if refusal is None else f"refused {refusal}")
+
+    def turn(self, event):
+        """A turn of a master: its request goes up, the answer comes down, and its time passes."""
+        master = self.masters[event.who]
+        request, answer = master.request(), None
+        if request is not None:
+            master.pending.sendings += 1
+            self.spoken.append(Spoken(event.who, MASTER_PREAMBLES, request))
+        if arrives(request, event.up, "up"):
+            answer = self.device.receive(request)
+        if answer is not None:
+            self.spoken.append(Spoken("D", RESPONSE_PREAMBLES, answer))
+        reply = master.accepted(answer) if arrives(answer, event.down, "down") else None
+        self.end_turn(master, reply)
+
+    def end_turn(self, master, reply):
+        """Writes down what has become of the request in hand, which leaves the hand with its reply or its last sending."""
+        asked = master.pending
+        if asked is None:
+            return
+        if reply is not None:
+            data = reply.data.hex().upper() or "-"
+            outcome = f"answered {asked.sendings} {reply.code:02X} {reply.status:02X} {data}"
+        elif asked.sendings == MOST_SENDINGS:
+            outcome = f"noreply {asked.sendings}"
+        else:
+            outcome = f"unfinished {asked.sendings}"
+        self.outcomes[asked.number - 1] = outcome
+        if not outcome.startswith("unfinished"):
+            master.pending = None
+
+    def text(self):
+        """What was spoken, what became of each submission, and the device at the end."""
+        lines = [spoken.text() for spoken in self.spoken]
+        lines += [f"{number} {outcome}" for number, outcome in enumerate(self.outcomes, 1)]
+        lines += [f"counter {self.device.counter}", f"image {self.device.image().hex().upper()}"]
+        return "".join(line + "\n" for line in lines).encode()

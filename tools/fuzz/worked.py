@@ -1,0 +1,171 @@
+"""Worked messages and scripts, against which the model is held before it judges anything."""
+
+REGISTERS = "010001" + "820820" * 14 + "000000"
+IMAGE_FRONT = f"image {REGISTERS}"
+WRITE = "P 20 82B7420A1B2C13030123453D\n"
+WRITTEN = WRITE + "D 5 86B7420A1B2C130500400123457F\n"
+IDENTITY = "180000FE37420507010218000A1B2C05040000000037003701"
+SUBMIT_WRITE = "submit P 37420A1B2C 19 012345\n"
+RESET = "P 20 82B7420A1B2C260200016F\n"
+FRAME_IN_DATA = "FFFF0280000082" + "00" * 17
+REQUEST = "FF FF FF FF FF 82 B7 42 0A 1B 2C "
+REPLY = "FF FF FF FF FF 86 B7 42 0A 1B 2C "
+INSIDE = "FF FF 82 B7 42 0A 1B 2C 13 FF FF FF FF FF FF 02 80 00 00 82"
+SPACES = "82 08 20 "
+TAG_OF_PUMP = "41 53 50 B7 1C 31 "
+IDENTIFY_PUMP = "FF FF 82 80 00 00 00 00 0B 06 41 53 50 B7 1C 31 D7"
+TWO_MASTERS = SUBMIT_WRITE + "submit S 37420A1B2C 19 0A0B0C\nturn P ok lost\nturn S ok ok\n"
+TWO_WRITTEN = WRITTEN + "S 20 8237420A1B2C13030A0B0CD7\nD 5 8637420A1B2C130500400A0B0C95\n"
+
+# The input of `hart dump`, its lines, and its fault.
+DUMPED = (
+    ("FF FF 02 80 00 00 82 FF FF 02 00 00 00 02", "2 7 STX P 0 @0 - 0 -\n9 14 STX S 0 @0 - 0 -\n", ""),
+    ("FF FF 02 80 7D 00 FF FF 02 00 00 00 02", "2 7 STX P 0 @0 - 125 -\n", ""),
+    ("FF FF!40 02 80 00 00 82", "", ""),
+    (INSIDE, "15 20 STX P 0 @0 - 0 -\n", ""),
+    (INSIDE + " 00" * 246, "15 20 STX P 0 @0 - 0 -\n", ""),
+    ("FF FF 82 B7 42 0A 1B 2C 13 03 01 23 45 3D", "2 14 STX P 0 37420A1B2C - 19 012345\n", ""),
+    ("FF FF 86 77 42 0A 1B 2C 13 05 00 40 01 23 45 BF", "2 16 ACK S 1 37420A1B2C - 19 0040012345\n", ""),
+    ("FF FF 82 80 00 00 00 00 0B 06 41 53 50 B7 1C 31 D7", "2 17 STX P 0 all - 11 415350B71C31\n", ""),
+    ("FF FF 22 BF 55 00 00 C8", "2 8 STX P 0 @63 55 0 -\n", ""),
+    ("FF" * 20 + "E2800000000000000000FF" + "00" * 255 + "9D", "20 287 STX P 0 all 000000 0 " + "00" * 255 + "\n", ""),
+    ("FF FF 06 80 00 01 00 87", "", ""),
+    ("FF FF 0G", "", "bad hex at 6"),
+    ("FF FF 02 80 00 00 82 8", "2 7 STX P 0 @0 - 0 -\n", "bad hex at 21"),
+    ("02!08", "", "bad hex at 0"),
+    ("82!8", "", "bad hex at 0"),
+    ("82!0", "", "bad hex at 0"),
+    ("FF!40!40", "", "bad hex at 5"),
+    ("82 !40", "", "bad hex at 3"),
+    ("F F", "", "bad hex at 0"),
+)
+
+# The input of `hart answer`, and its reply.
+ANSWERED = (
+    ("FF FF FF FF FF 02 80 00 00 82", "FF" * 5 + "068000" + IDENTITY + "31"),
+    ("FF FF 02 00 00 00 02", "FF" * 5 + "060000" + IDENTITY + "B1"),
+    (INSIDE, "FF" * 5 + "068000" + IDENTITY + "31"),
+    ("FF FF 02 80 00 00 82 FF FF 02 00 00 00 02", ""),
+    (IDENTIFY_PUMP, ""),
+    (REQUEST + "00 00 4A", REPLY + "00" + IDENTITY + "F9"),
+    (REQUEST + "01 00 4B", REPLY + "01 07 00 00 20 41 C8 00 00 E1"),
+    (REQUEST + "02 00 48", REPLY + "02 0A 00 00 41 40 00 00 42 48 00 00 4D"),
+    (REQUEST + "03 00 49", REPLY + "03 0B 00 00 41 40 00 00 20 41 C8 00 00 EE"),
+    (REQUEST + "04 00 4E", REPLY + "04 02 40 00 08"),
+    (REQUEST + "06 01 05 48", REPLY + "06 04 00 48 05 00 01"),
+    (REQUEST + "06 02 40 01 0F", REPLY + "06 02 02 00 48"),
+    (REQUEST + "06 02 3F 02 73", REPLY + "06 02 0C 00 46"),
+    (REQUEST + "07 00 4D", REPLY + "07 04 00 00 00 01 4C"),
+    (REQUEST + "08 00 42", REPLY + "08 06 00 00 00 00 00 00 40"),
+    (REQUEST + "09 02 F5 09 BD", REPLY + "09 17 00 00 00 F5 00 27 41 40 00 00 C0 09 00 FA 7F A0 00 00 30 00 00 00 00 5F"),
+    (REQUEST + "0B 06 " + SPACES * 2 + "47", REPLY + "0B" + IDENTITY + "F2"),
+    (REQUEST + "0C 00 46", REPLY + "0C 1A 00 00 " + SPACES * 8 + "58"),
+    (REQUEST + "0D 00 47", REPLY + "0D 17 00 00 " + SPACES * 6 + "00 00 00 54"),
+    (REQUEST + "0E 00 44", REPLY + "0E 12 00 00 00 00 00 20 43 48 00 00 00 00 00 00 41 20 00 00 18"),
+    (REQUEST + "0F 00 45", REPLY + "0F 14 00 00 00 00 20 42 C8 00 00 00 00 00 00 3F 80 00 00 00 FA 00 BA"),
+    (REQUEST + "10 00 5A", REPLY + "10 05 00 00 00 00 00 5B"),
+    (REQUEST + "11 18 " + SPACES * 8 + "43", REPLY + "11 1A 00 40 " + SPACES * 8 + "05"),
+    (REQUEST + "12 15 " + TAG_OF_PUMP + SPACES * 4 + "1D 02 64 EE", REPLY + "12 17 00 40 " + TAG_OF_PUMP + SPACES * 4 + "1D 02 64 A8"),
+    (REQUEST + "12 15 " + TAG_OF_PUMP + SPACES * 4 + "1D 02 00 8A", REPLY + "12 02 09 00 57"),
+    (REQUEST + "13 03 01 23 45 3D", REPLY + "13 05 00 40 01 23 45 7F"),
+    (REQUEST + "13 03 01 23 45 3C", ""),
+    (REQUEST + "13 02 01 23 79", REPLY + "13 02 05 00 5A"),
+    (REQUEST + "13 04 01 23 45 67 5D", REPLY + "13 05 00 40 01 23 45 7F"),
+    (REQUEST + "26 02 00 01 6F", REPLY + "26 02 09 00 63"),
+    (REQUEST + "26 01 00 6D", REPLY + "26 02 05 00 6F"),
+    (REQUEST + "26 00 6C", REPLY + "26 04 00 00 00 00 6C"),
+    (REQUEST + "30 00 7A", REPLY + "30 1B 00 00" + " 00" * 25 + " 65"),
+)
+
+# The image of `hart answer`, its input, and its reply.
+ANSWERED_FROM = (
+    (f"{REGISTERS}000000000004", REQUEST + "13 03 01 23 45 3D", REPLY + "13 02 07 00 58"),
+    (f"{REGISTERS}000000000004", REQUEST + "12 15 " + TAG_OF_PUMP + SPACES * 4 + "1D 02 00 8A", REPLY + "12 02 07 00 59"),
+    (f"{REGISTERS}000000000000", REQUEST + "12 15 " + TAG_OF_PUMP + SPACES * 4 + "1D 02 00 8A", REPLY + "12 02 09 00 57"),
+    (f"{REGISTERS}000000000000", IDENTIFY_PUMP, ""),
+    ("010001" + "820820" * 8 + "415350b71c31" + "820820" * 4 + "000000000000000000", IDENTIFY_PUMP,
+     "FF" * 5 + "8680000000000B" + IDENTITY + "BA"),
+    (f"{REGISTERS}012345000103", "FF FF FF FF FF 02 80 00 00 82",
+     "FF FF FF FF FF 06 80 00 18 00 40 FE 37 42 05 07 01 02 18 00 0A 1B 2C 05 04 00 01 00 00 37 00 37 01 70"),
+    (f"{REGISTERS}012345000103", REQUEST + "26 02 00 01 6F", REPLY + "26 04 00 00 00 01 6D"),
+)
+
+# Words that are no image, and the fault of each.
+NO_IMAGES = (
+    ("0", "bad hex at 1"),
+    ("0G", "bad hex at 1"),
+    ("é", "bad hex at 0"),
+    ("0é", "bad hex at 3"),
+    ("", "bad image: length"),
+    ("02", "bad image: version"),
+    ("03", "bad image: version"),
+    ("01", "bad image: length"),
+    (f"{REGISTERS}000000000008", "bad image: field"),
+    (f"0140{REGISTERS[4:]}000000000000", "bad image: field"),
+    (f"010002{REGISTERS[6:]}000000000000", "bad image: field"),
+    (f"{REGISTERS[:-6]}1D0200000000000000", "bad image: field"),
+)
+
+# The script of `hart sim`, and its text.
+PLAYED = (
+    ("", f"counter 0\n{IMAGE_FRONT}000000000000\n"),
+    ("turn P ok ok", f"counter 0\n{IMAGE_FRONT}000000000000\n"),
+    ("submit P @0 1", f"1 refused 3\ncounter 0\n{IMAGE_FRONT}000000000000\n"),
+    (SUBMIT_WRITE + "turn P ok lost\nturn P ok ok\n",
+     WRITTEN * 2 + f"1 answered 2 00 40 012345\ncounter 2\n{IMAGE_FRONT}012345000203\n"),
+    (SUBMIT_WRITE + "turn P ok FFFF86B7420A1B2C130500400123457E\nturn P ok ok\n",
+     WRITTEN * 2 + f"1 answered 2 00 40 012345\ncounter 2\n{IMAGE_FRONT}012345000203\n"),
+    (SUBMIT_WRITE + "turn P FFFF82!40B7420A1B2C13030123453D ok\nturn P ok ok\n",
+     WRITE + WRITTEN + f"1 answered 2 00 40 012345\ncounter 1\n{IMAGE_FRONT}012345000103\n"),
+    (SUBMIT_WRITE + "turn P lost ok\n" * 4, WRITE * 4 + f"1 noreply 4\ncounter 0\n{IMAGE_FRONT}000000000000\n"),
+    ("submit P all 0\nsubmit S 37420A1B2C 16\nsubmit S 37420A1B2C 16\n",
+     f"1 refused 3\n2 unfinished 0\n3 refused 2\ncounter 0\n{IMAGE_FRONT}000000000000\n"),
+    (TWO_MASTERS + "turn P ok ok\n",
+     TWO_WRITTEN + WRITTEN + f"1 answered 2 00 40 012345\n2 answered 1 00 40 0A0B0C\ncounter 3\n{IMAGE_FRONT}012345000303\n"),
+    (TWO_MASTERS + "protect on\nturn P ok ok\n",
+     TWO_WRITTEN + WRITE + "D 5 86B7420A1B2C1302074018\n1 answered 2 07 40 -\n2 answered 1 00 40 0A0B0C\n"
+     f"counter 2\n{IMAGE_FRONT}0A0B0C000207\n"),
+    ("submit P @0 0\nsubmit S 37420A1B2C 6 0501\nturn P ok lost\nturn S ok ok\nturn P ok ok\n",
+     f"P 20 0280000082\nD 5 068000{IDENTITY}31\nS 20 8237420A1B2C06020501CA\nD 5 8637420A1B2C06040040050188\nP 20 0280000082\n"
+     "1 unfinished 2\n2 answered 1 00 40 0501\ncounter 1\nimage 010501" + "820820" * 14 + "000000000000000103\n"),
+    (SUBMIT_WRITE + "turn P ok ok\nsubmit P 37420A1B2C 38 0001\nturn P ok ok\n",
+     WRITTEN + "P 20 82B7420A1B2C260200016F\nD 5 86B7420A1B2C2604000000016D\n1 answered 1 00 40 012345\n2 answered 1 00 00 0001\n"
+     f"counter 1\n{IMAGE_FRONT}012345000102\n"),
+)
+
+# The image of `hart sim`, its script, and its text.
+PLAYED_FROM = (
+    (f"{REGISTERS}000000000000", "", f"counter 0\n{IMAGE_FRONT}000000000000\n"),
+    (f"{REGISTERS}000000000103", "submit P 37420A1B2C 38 0001\nsubmit S 37420A1B2C 19 0A0B0C\nturn P ok lost\nturn S ok ok\nturn P ok ok\n",
+     RESET + "D 5 86B7420A1B2C2604000000016D\nS 20 8237420A1B2C13030A0B0CD7\nD 5 8637420A1B2C130500400A0B0C95\n"
+     + RESET + f"D 5 86B7420A1B2C2602094023\n1 answered 2 09 40 -\n2 answered 1 00 40 0A0B0C\ncounter 2\n{IMAGE_FRONT}0A0B0C000203\n"),
+    (f"{REGISTERS}000000FFFF00", SUBMIT_WRITE + "turn P ok ok\n",
+     WRITTEN + f"1 answered 1 00 40 012345\ncounter 0\n{IMAGE_FRONT}012345000003\n"),
+    (f"{REGISTERS}012345000103", "submit P 37420A1B2C 16\nturn P ok ok\n",
+     "P 20 82B7420A1B2C10005A\nD 5 86B7420A1B2C100500400123457C\n1 answered 1 00 40 012345\n"
+     f"counter 1\n{IMAGE_FRONT}012345000103\n"),
+)
+
+# The script of `hart sim`, and its fault.
+NOT_PLAYED = (
+    ("submit P @0 0\nturn P ok FFFF06800002000084", "undetected damage at event 1, down"),
+    (SUBMIT_WRITE + "turn P FFFF82B7420A1B2C13030123463E ok", "undetected damage at event 1, up"),
+    ("turn P FFFF0280000082 ok", "undetected damage at event 0, up"),
+    ("noise FFFF0280000082", "undetected damage at event 0, noise"),
+    (f"submit P 37420A1B2C 17 {FRAME_IN_DATA}\nturn P FFFF82!40B7420A1B2C1118{FRAME_IN_DATA}43 ok", "undetected damage at event 1, up"),
+    ("protect on\nturn X ok ok\n", "bad line 2"),
+    ("# a comment\n\nturn P ok ok ok", "bad line 3"),
+)
+
+# The words of `hart encode`, its message, and its fault; words that make no call have None.
+ENCODED = (
+    ("P @0 0", "FF FF FF FF FF 02 80 00 00 82", ""),
+    ("S @07 0 --preambles 6", "FF FF FF FF FF FF 02 07 00 00 05", ""),
+    ("P 37420A1B2C 19 012345", REQUEST + "13 03 01 23 45 3D", ""),
+    ("P all 11 415350B71C31", "FF FF FF FF FF 82 80 00 00 00 00 0B 06 41 53 50 B7 1C 31 D7", ""),
+    ("p @64 0", "", "bad word 1"),
+    ("P @64 0", "", "bad word 2"),
+    ("P @0 256", "", "bad word 3"),
+    ("P @0 0 0", "", "bad word 4"),
+    ("P @0 0 --preambles 4", "", None),
+)
