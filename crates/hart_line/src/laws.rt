@@ -9,7 +9,7 @@ ghost use Rattle.hart_commands.specs.RequestData.{command_of};
 ghost use Rattle.hart_commands.specs.declared.reply.Reply.{Reply};
 ghost use Rattle.hart_commands.specs.declared.request.Request.{Request};
 ghost use Rattle.hart_line.specs.Line.Executions.{last_executions, times_executed};
-ghost use Rattle.hart_line.specs.Line.Faults.{AreAllDetected, IsFault, IsOfCharacters};
+ghost use Rattle.hart_line.specs.Line.Faults.{AreAllDetected, IsFault, IsNotDetectable};
 ghost use Rattle.hart_line.specs.Line.Promises.{AnswersLastSending, AreWellMade, IsExecutedFromHand, IsExecutedInItsTurn, IsLastReset, IsRefusedByDevice, IsStepOf, IsUnrefusedWrite};
 ghost use Rattle.hart_line.specs.Line.Promises.{arrived_in_step, requests_of, sendings_in};
 ghost use Rattle.hart_line.specs.Script.Rows.{HasFirstBadLine, IsScript};
@@ -31,7 +31,10 @@ use hart_device::{
     answers_tell_their_code, refused_commands_change_nothing, registers_of_lists,
     resets_name_this_counter, writes_execute_their_overwrite,
 };
-use hart_frame::{bodies_are_unambiguous, frames_are_unambiguous, messages_have_their_frame_alone};
+use hart_frame::{
+    bodies_are_unambiguous, damaged_messages_have_no_other_frame, frames_are_unambiguous,
+    messages_have_their_frame_alone,
+};
 use hart_master::replies_are_decided;
 
 /// A word is that of one master, of one address, of one command and of one list of data at most.
@@ -121,8 +124,8 @@ pub fn scripts_keep_their_promises()
         → IfSome given (λ counter. (state_of start.device world).counter ≡ counter)
         × ((state_of start.device world).counter ≡ (state_of start.device before).counter)
         × ((state_of start.device world).contents ≡ (state_of start.device before).contents) }
-    ensures clean_and_lost_legs_are_detected { (start : Start) (events : List LineEvent) (fault : LineFault)
-        → 5 ≤ start.device.identity.response_preambles → IsFault start events fault → IsOfCharacters events fault }
+    ensures detectable_damage_is_detected { (start : Start) (events : List LineEvent) (fault : LineFault)
+        → 5 ≤ start.device.identity.response_preambles → IsFault start events fault → IsNotDetectable start events fault }
 {
     // No-ops: their contracts are used below.
     registers_of_lists();
@@ -139,4 +142,5 @@ pub fn scripts_keep_their_promises()
     frames_are_unambiguous();
     replies_are_decided();
     messages_have_their_frame_alone();
+    damaged_messages_have_no_other_frame();
 }

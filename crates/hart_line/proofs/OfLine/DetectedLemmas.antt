@@ -1,8 +1,9 @@
--- The damage of a clean or lost leg is detected, and a script of which all damage is detected has a last world.
-use Rattle.std.proofs.Common.{◌≡◌, ℕ, ◌≤◌, ap, refl, subst, arith, Option, None, Some, List, [], ◌∷◌, length, ◌⊎◌, inl, inr}
+-- Detectable damage is detected, and a script of which all damage is detected has a last world.
+use Rattle.std.proofs.Common.{◌≡◌, ℕ, ◌≤◌, ◌∙◌, sym, refl, subst, arith, Option, None, Some, List, [], ◌∷◌, length, take, ◌⊎◌, inl, inr}
 use Rattle.hart_values.specs.declared.address.Address.{Address}
 use Rattle.hart_values.specs.declared.master_id.MasterId.{MasterId}
 use Rattle.hart_frame.specs.Character.{Character, faultless}
+use Rattle.hart_frame.specs.Damage.{IsCheckDamage, IsMarkedDamage}
 use Rattle.hart_frame.specs.FrameParts.{FrameParts}
 use Rattle.hart_frame.specs.Frames.{AreFrames}
 use Rattle.hart_frame.specs.declared.found.Found.{Found}
@@ -10,11 +11,11 @@ use Rattle.hart_values.specs.EachMaster.{of_master}
 use Rattle.hart_commands.specs.declared.reply.Reply.{Reply}
 use Rattle.hart_commands.specs.declared.request.Request.{Request}
 use Rattle.hart_master.specs.Acceptance.{IsReplyTo}
-use Rattle.hart_line.specs.Line.Damage.{IsDetected, IsUndetected}
-use Rattle.hart_line.specs.Line.Faults.{AreAllDetected, HasUndetected, IsFault, IsOfCharacters, LegsAreDetected, heard_in}
-use Rattle.hart_line.specs.Line.Spoken.{SpokenFrame, spoken_by}
+use Rattle.hart_line.specs.Line.Damage.{IsDetectable, IsDetected, IsUndetected}
+use Rattle.hart_line.specs.Line.Faults.{AreAllDetected, HasDetectable, HasUndetected, IsFault, IsNotDetectable, LegsAreDetected}
+use Rattle.hart_line.specs.Line.Spoken.{SpokenFrame, frame_of, spoken_by}
 use Rattle.hart_line.specs.Line.Step.{Accepts, Run, Step, frame_answered, sent_back, sent_by, submission_fault, submitted, turned}
-use Rattle.hart_line.specs.Line.World.{InHand, Start, World, state_of}
+use Rattle.hart_line.specs.Line.World.{InHand, Start, World, first_world, state_of}
 use Rattle.hart_line.specs.declared.event.Heard.{Heard}
 use Rattle.hart_line.specs.declared.event.Heard.TheVariants.{Clean, Lost, Chars}
 use Rattle.hart_line.specs.declared.event.LineEvent.{LineEvent}
@@ -25,43 +26,55 @@ use Rattle.hart_line.specs.declared.fault.LineFault.{LineFault}
 use Rattle.hart_line.specs.declared.fault.LineFault.TheVariants.{BadLine, Memory, Undetected}
 use Rattle.hart_line.specs.declared.line.report.Party.{Party}
 use Rattle.hart_line.proofs.OfLine.LegLemmas.{MessageLaw}
+use Rattle.hart_line.proofs.OfLine.RunLemmas.{Arrives-one, Laws, run_one, some_one}
 
--- CLEAN AND LOST LEGS
-abbrev pub OneList : Type 0
-OneList = (chars : List Character) (from : ℕ) (xs ys : List Found) → AreFrames chars from xs → AreFrames chars from ys → xs ≡ ys
-
+-- DETECTABLE DAMAGE
 pub record DetectedLaws : Type 0 where
-  pub one_list : OneList
+  pub one_list : (chars : List Character) (from : ℕ) (xs ys : List Found) → AreFrames chars from xs → AreFrames chars from ys → xs ≡ ys
   pub message : MessageLaw
   pub nothing : AreFrames [] 0 []
+  pub marked : (frame : FrameParts) (preambles : ℕ) (chars : List Character) (damage : IsMarkedDamage frame preambles chars)
+      → AreFrames chars 0 [] ⊎ AreFrames chars 0 (record { start = damage.left; stop = length chars; frame = frame } ∷ [])
+  pub check : (frame : FrameParts) (preambles : ℕ) (chars : List Character) → IsCheckDamage frame preambles chars → AreFrames chars 0 []
 
 -- A frame that a sender puts on the line has preamble bytes.
 abbrev pub IsLong : Option SpokenFrame → Type 0
 IsLong None = Unit {0}
 IsLong (Some said) = 2 ≤ said.preambles
 
-pub record AreGiven (heard : Heard) : Type 0 where
-  pub chars : List Character
-  pub is : heard ≡ Chars chars
-
-silent : DetectedLaws → (sent : Option FrameParts) (chars : List Character) (frames : List Found) → chars ≡ [] → AreFrames chars 0 frames
-    → ((arrived : Option FrameParts) → IsDetected sent frames arrived → ⊥) → ⊥
-silent laws sent chars frames none are not_detected =
-    let same = laws.one_list [] 0 [] frames laws.nothing (rw none at are) in
+-- Characters without a frame are no undetected damage.
+silent : DetectedLaws → (sent : Option FrameParts) (chars other : List Character) (frames : List Found) → chars ≡ other
+    → AreFrames other 0 [] → AreFrames chars 0 frames → ((arrived : Option FrameParts) → IsDetected sent frames arrived → ⊥) → ⊥
+silent laws sent chars other frames is empty are not_detected =
+    let same = laws.one_list other 0 [] frames empty (rw is at are) in
     not_detected None (subst (λ fs. IsDetected sent fs None) same refl)
 
-undetected_given : DetectedLaws → (heard : Heard) (sent : Option SpokenFrame) → IsLong sent → IsUndetected heard sent → AreGiven heard
-undetected_given laws Clean None long u = absurd (silent laws None u.chars u.frames u.are_heard u.are_frames u.not_detected)
-undetected_given laws Clean (Some said) long u =
-    let found : Found = record { start = said.preambles; stop = length u.are_heard.0; frame = said.frame } in
-    let same = laws.one_list (faultless u.are_heard.0) 0 (found ∷ []) u.frames
-    (laws.message said.frame said.preambles u.are_heard.0 long u.are_heard.1) (rw u.are_heard.2 at u.are_frames) in
-    absurd (u.not_detected (Some said.frame)
-    (subst (λ fs. IsDetected (Some said.frame) fs (Some said.frame)) same (refl, refl)))
-undetected_given laws Lost None long u = absurd (silent laws None u.chars u.frames u.are_heard u.are_frames u.not_detected)
-undetected_given laws Lost (Some said) long u =
-    absurd (silent laws (Some said.frame) u.chars u.frames u.are_heard u.are_frames u.not_detected)
-undetected_given laws (Chars chars) sent long u = record { chars = chars; is = refl }
+-- Nor are characters with the frame that was sent alone.
+alone : DetectedLaws → (found : Found) (chars other : List Character) (frames : List Found) → chars ≡ other
+    → AreFrames other 0 (found ∷ []) → AreFrames chars 0 frames
+    → ((arrived : Option FrameParts) → IsDetected (Some found.frame) frames arrived → ⊥) → ⊥
+alone laws found chars other frames is one are not_detected =
+    let same = laws.one_list other 0 (found ∷ []) frames one (rw is at are) in
+    not_detected (Some found.frame) (subst (λ fs. IsDetected (Some found.frame) fs (Some found.frame)) same (refl, refl))
+
+heard_detected : DetectedLaws → (heard : Heard) (sent : Option SpokenFrame) → IsLong sent → IsDetectable heard sent
+    → IsUndetected heard sent → ⊥
+heard_detected laws Clean None long d u = silent laws None u.chars [] u.frames u.are_heard laws.nothing u.are_frames u.not_detected
+heard_detected laws Clean (Some said) long d u =
+    alone laws (record { start = said.preambles; stop = length u.are_heard.0; frame = said.frame }) u.chars (faultless u.are_heard.0)
+    u.frames u.are_heard.2 (laws.message said.frame said.preambles u.are_heard.0 long u.are_heard.1) u.are_frames u.not_detected
+heard_detected laws Lost sent long d u =
+    silent laws (frame_of sent) u.chars [] u.frames u.are_heard laws.nothing u.are_frames u.not_detected
+heard_detected laws (Chars chars) None long d u = d
+heard_detected laws (Chars chars) (Some said) long (inl marked) u =
+    elim (laws.marked said.frame said.preambles chars marked) [
+      | inl empty ↦ silent laws (Some said.frame) u.chars chars u.frames u.are_heard empty u.are_frames u.not_detected
+      | inr one ↦ alone laws (record { start = marked.left; stop = length chars; frame = said.frame }) u.chars chars u.frames u.are_heard
+          one u.are_frames u.not_detected
+    ]
+heard_detected laws (Chars chars) (Some said) long (inr check) u =
+    silent laws (Some said.frame) u.chars chars u.frames u.are_heard (laws.check said.frame said.preambles chars check) u.are_frames
+    u.not_detected
 
 sent_long : (who : MasterId) (hand : Option InHand) → IsLong (sent_by who hand)
 sent_long who None = tt
@@ -71,27 +84,29 @@ frame_long : (party : Party) (preambles : ℕ) (frame : Option FrameParts) → 5
 frame_long party preambles None enough = tt
 frame_long party preambles (Some frame) enough = omega (arith, enough)
 
-leg_given : DetectedLaws → (start : Start) (world : World) (event : LineEvent) (leg : Leg) → 5 ≤ start.device.identity.response_preambles
-    → HasUndetected start world event leg → (chars : List Character) × (heard_in event leg ≡ Some (Chars chars))
-leg_given laws start world (Submit who address request) leg enough u = absurd u
-leg_given laws start world (Turn who up down) legs.Up enough u =
-    let given = undetected_given laws up _ (sent_long who (of_master who world.hands)) u in (given.chars, ap Some given.is)
-leg_given laws start world (Turn who up down) legs.Down enough u =
-    let given = undetected_given laws down (sent_back start world u.0)
-    (frame_long _ _ (frame_answered (state_of start.device world) start.process u.0) enough) u.2 in (given.chars, ap Some given.is)
-leg_given laws start world (Turn who up down) legs.Noise enough u = absurd u
-leg_given laws start world (Protect on) leg enough u = absurd u
-leg_given laws start world (Noise chars) legs.Up enough u = absurd u
-leg_given laws start world (Noise chars) legs.Down enough u = absurd u
-leg_given laws start world (Noise chars) legs.Noise enough u = (chars, refl)
+leg_detected : Laws → DetectedLaws → (start : Start) (world : World) (event : LineEvent) (leg : Leg)
+    → 5 ≤ start.device.identity.response_preambles → HasDetectable start world event leg → HasUndetected start world event leg → ⊥
+leg_detected laws damage start world (Submit who address request) leg enough d u = d
+leg_detected laws damage start world (Turn who up down) legs.Up enough d u =
+    heard_detected damage up _ (sent_long who (of_master who world.hands)) d u
+leg_detected laws damage start world (Turn who up down) legs.Down enough d u =
+    let same = Arrives-one laws up (sent_by who (of_master who world.hands)) d.0 u.0 d.1 u.1 in
+    heard_detected damage down (sent_back start world u.0)
+    (frame_long _ _ (frame_answered (state_of start.device world) start.process u.0) enough)
+    (subst (λ arrived. IsDetectable down (sent_back start world arrived)) same d.2) u.2
+leg_detected laws damage start world (Turn who up down) legs.Noise enough d u = d
+leg_detected laws damage start world (Protect on) leg enough d u = d
+leg_detected laws damage start world (Noise chars) leg enough d u = d
 
-pub fault_given : DetectedLaws → (start : Start) (events : List LineEvent) (fault : LineFault)
-    → 5 ≤ start.device.identity.response_preambles
-    → IsFault start events fault → IsOfCharacters events fault
-fault_given laws start events (Undetected number leg) enough f =
-    let given = leg_given laws start f.0 f.1 leg enough f.4 in (f.1, f.3, given.0, given.1)
-fault_given laws start events (Memory room) enough f = tt
-fault_given laws start events (BadLine line) enough f = tt
+pub fault_not_detectable : Laws → DetectedLaws → (start : Start) (events : List LineEvent) (fault : LineFault)
+    → 5 ≤ start.device.identity.response_preambles → IsFault start events fault → IsNotDetectable start events fault
+fault_not_detectable laws damage start events (Undetected number leg) enough f = λ world event last is d.
+    let reached : f.0 ≡ world = run_one laws start (take number events) (first_world start) f.0 world f.2 last in
+    let same : f.1 ≡ event = some_one (sym f.3 ∙ is) in
+    leg_detected laws damage start world event leg enough d
+    (subst (λ e. HasUndetected start world e leg) same (subst (λ w. HasUndetected start w f.1 leg) reached f.4))
+fault_not_detectable laws damage start events (Memory room) enough f = tt
+fault_not_detectable laws damage start events (BadLine line) enough f = tt
 
 -- SCRIPTS WHOSE DAMAGE IS DETECTED
 abbrev pub Decided : Type 0

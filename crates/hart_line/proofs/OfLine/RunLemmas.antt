@@ -83,7 +83,7 @@ frames_one : Laws → (heard : Heard) (sent : Option SpokenFrame) (a b : List Ch
 frames_one laws heard sent a b xs ys h k x y =
     let same = AreHeard-one laws heard sent a b h k in laws.one_list b 0 xs ys (rw same at x) y
 
-Arrives-one : Laws → (heard : Heard) (sent : Option SpokenFrame) (a b : Option FrameParts) → Arrives heard sent a
+pub Arrives-one : Laws → (heard : Heard) (sent : Option SpokenFrame) (a b : Option FrameParts) → Arrives heard sent a
     → Arrives heard sent b → a ≡ b
 Arrives-one laws heard sent a b s t =
     let frames = frames_one laws heard sent s.chars t.chars s.frames t.frames s.are_heard t.are_heard s.are_frames t.are_frames in
@@ -132,7 +132,7 @@ run_one laws start (event ∷ events) world a b s t =
     (subst (λ w. Run start w events a) (step_one laws start world event s.0 t.0 s.1 t.1) s.2) t.2
 
 -- FAULTS
-some_one : {A : Type 0} {x y : A} → Some x ≡ Some y → x ≡ y
+pub some_one : {A : Type 0} {x y : A} → Some x ≡ Some y → x ≡ y
 some_one is = cc
 
 -- An event that leads on has no undetected damage, and no other has it in two legs.

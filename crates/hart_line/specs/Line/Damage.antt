@@ -1,6 +1,7 @@
 -- What arrives of a message that was sent in a leg of the line (HCF_SPEC-081; which damage is detected is of the own profile).
-use Rattle.std.specs.Prelude.{◌≡◌, ℕ, List, [], ◌∷◌, Option, None, Some}
+use Rattle.std.specs.Prelude.{◌≡◌, ◌⊎◌, ℕ, List, [], ◌∷◌, Option, None, Some}
 use Rattle.hart_frame.specs.Character.{Character, faultless}
+use Rattle.hart_frame.specs.Damage.{IsCheckDamage, IsMarkedDamage}
 use Rattle.hart_frame.specs.FrameParts.{FrameParts}
 use Rattle.hart_frame.specs.Frames.{AreFrames}
 use Rattle.hart_frame.specs.Message.{IsMessage}
@@ -41,3 +42,12 @@ pub record IsUndetected (heard : Heard) (sent : Option SpokenFrame) : Type 0 whe
   pub frames : List Found
   pub are_frames : AreFrames chars 0 frames
   pub not_detected : (arrived : Option FrameParts) → IsDetected (frame_of sent) frames arrived → ⊥
+
+-- What is heard in a leg is detectable if the leg is clean or lost, or if something was sent in it and the characters that are given
+-- are marked or check damage of its message. If nothing was sent, nothing is said of given characters.
+abbrev pub IsDetectable : Heard → Option SpokenFrame → Type 0
+IsDetectable Clean sent = Unit {0}
+IsDetectable Lost sent = Unit {0}
+IsDetectable (Chars chars) None = ⊥
+IsDetectable (Chars chars) (Some said) =
+    IsMarkedDamage said.frame said.preambles chars ⊎ IsCheckDamage said.frame said.preambles chars

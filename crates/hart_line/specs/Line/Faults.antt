@@ -1,13 +1,11 @@
 -- Why a script is not carried out (own profile).
 use Rattle.std.specs.Prelude.{◌≡◌, List, [], ◌∷◌, take, slice_get, Option, None, Some}
-use Rattle.hart_frame.specs.Character.{Character}
 use Rattle.hart_frame.specs.FrameParts.{FrameParts}
 use Rattle.hart_values.specs.EachMaster.{of_master}
-use Rattle.hart_line.specs.Line.Damage.{Arrives, IsUndetected}
+use Rattle.hart_line.specs.Line.Damage.{Arrives, IsDetectable, IsUndetected}
 use Rattle.hart_line.specs.Line.Needs.{IsNeededBy}
 use Rattle.hart_line.specs.Line.Step.{IsLast, Step, sent_back, sent_by}
 use Rattle.hart_line.specs.Line.World.{Start, World}
-use Rattle.hart_line.specs.declared.event.Heard.{Heard}
 use Rattle.hart_line.specs.declared.event.Heard.TheVariants.{Chars}
 use Rattle.hart_line.specs.declared.event.LineEvent.{LineEvent}
 use Rattle.hart_line.specs.declared.event.LineEvent.TheVariants.{Turn, Noise}
@@ -33,19 +31,19 @@ IsFault start events (Undetected number leg) = (world : World) × (event : LineE
 IsFault start events (Memory room) = IsNeededBy events room.items
 IsFault start events (BadLine line) = ⊥
 
--- What is heard in a leg of an event, if it has that leg.
-abbrev pub heard_in : LineEvent → Leg → Option Heard
-heard_in (Turn who up down) legs.Up = Some up
-heard_in (Turn who up down) legs.Down = Some down
-heard_in (Noise chars) legs.Noise = Some (Chars chars)
-heard_in _ _ = None
+-- What is heard in a leg of a turn is detectable, by what is sent in that leg. Of noise nothing is said, since nobody sends it.
+abbrev pub HasDetectable : Start → World → LineEvent → Leg → Type 0
+HasDetectable start world (Turn who up down) legs.Up = IsDetectable up (sent_by who (of_master who world.hands))
+HasDetectable start world (Turn who up down) legs.Down = (arrived : Option FrameParts)
+    × Arrives up (sent_by who (of_master who world.hands)) arrived × IsDetectable down (sent_back start world arrived)
+HasDetectable start world _ _ = ⊥
 
--- Undetected damage is in a leg whose characters are given; a clean or lost leg has none.
-abbrev pub IsOfCharacters : List LineEvent → LineFault → Type 0
-IsOfCharacters events (Undetected number leg) = (event : LineEvent) × (slice_get events number ≡ Some event)
-    × (chars : List Character) × (heard_in event leg ≡ Some (Chars chars))
-IsOfCharacters events (Memory room) = Unit {0}
-IsOfCharacters events (BadLine line) = Unit {0}
+-- Undetected damage is in no leg in which what is heard is detectable.
+abbrev pub IsNotDetectable : Start → List LineEvent → LineFault → Type 0
+IsNotDetectable start events (Undetected number leg) = (world : World) (event : LineEvent)
+    → IsLast start (take number events) world → slice_get events number ≡ Some event → HasDetectable start world event leg → ⊥
+IsNotDetectable start events (Memory room) = Unit {0}
+IsNotDetectable start events (BadLine line) = Unit {0}
 
 -- The damage of each leg of an event is detected.
 abbrev pub LegsAreDetected : Start → World → LineEvent → Type 0

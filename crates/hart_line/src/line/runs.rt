@@ -11,7 +11,7 @@ ghost use Rattle.hart_master.specs.declared.hand.Hand.TheVariants.{Empty};
 ghost use Rattle.hart_values.specs.declared.master_id.MasterId.{MasterId};
 ghost use Rattle.hart_values.specs.declared.master_id.MasterId.TheVariants.{Primary, Secondary};
 ghost use Rattle.hart_line.specs.Line.Executions.{last_executions, times_executed};
-ghost use Rattle.hart_line.specs.Line.Faults.{IsFault, IsOfCharacters};
+ghost use Rattle.hart_line.specs.Line.Faults.{IsFault, IsNotDetectable};
 ghost use Rattle.hart_line.specs.Line.LineRoom.{IsRoomFor};
 ghost use Rattle.hart_line.specs.Line.Promises.{AnswersLastSending, IsExecutedFromHand, IsExecutedInItsTurn, IsLastReset, IsRefusedByDevice, IsStepOf, IsUnrefusedWrite};
 ghost use Rattle.hart_line.specs.Line.Promises.{arrived_in_step, requests_of, sendings_in, start_of};
@@ -116,7 +116,8 @@ pub fn run<S: RegisterStore + Drop>(
         × (report.device.contents ≡ (state_of device before).contents)) }
     // A fault names the first leg whose damage is undetected, or the outcomes or spoken frames that there is no room for.
     ensures fault { IfErr result (IsFault (start_of device process.now primary secondary) events.now) }
-    ensures clean_and_lost_legs_are_detected { IfErr result (IsOfCharacters events.now) }
+    // No leg that is clean, lost, or marked or check damage of the message that was sent in it stops a script.
+    ensures detectable_damage_is_detected { IfErr result (IsNotDetectable (start_of device process.now primary secondary) events.now) }
 {
     let room = ScriptRoom::reserve(alloc, events)?;
     Ok(carry_out(room, device, primary, secondary, events, process)?)
@@ -202,7 +203,8 @@ fn carry_out<S: RegisterStore + Drop>(
         (event : ℕ) (leg : Leg) → IsFault start events.now (Undetected event leg) → result ≡ Err (record { event = event; leg = leg }) }
     ensures fault { let start = start_of device process.now primary secondary in
         IfErr result (λ stop. IsFault start events.now (Undetected stop.event stop.leg)) }
-    ensures clean_and_lost_legs_are_detected { IfErr result (λ stop. IsOfCharacters events.now (Undetected stop.event stop.leg)) }
+    ensures detectable_damage_is_detected { let start = start_of device process.now primary secondary in
+        IfErr result (λ stop. IsNotDetectable start events.now (Undetected stop.event stop.leg)) }
 {
     // No-ops: their contracts are used below.
     scripts_keep_their_promises();

@@ -3,7 +3,7 @@ use Rattle.hart_line.proofs.OfLine.CountLemmas.{executed_at_most}
 use Rattle.hart_line.proofs.OfLine.LastLemmas.{registers_last}
 use Rattle.hart_line.proofs.OfLine.ResetLemmas.{refused_last, unseen}
 use Rattle.hart_line.proofs.OfLine.RunLemmas.{Laws}
-use Rattle.hart_line.proofs.OfLine.DetectedLemmas.{fault_given}
+use Rattle.hart_line.proofs.OfLine.DetectedLemmas.{fault_not_detectable}
 use Rattle.hart_line.proofs.OfLine.StateLemmas.{state-first}
 use Rattle.hart_line.proofs.OfLine.WrittenLemmas.{WriteLaws, answered_executed, step_stays, turn_executed}
 use Rattle.std.proofs.Common.{refl}
@@ -43,9 +43,11 @@ returns c =
       at_most_once_a_sending = executed_at_most;
       no_change_unseen = unseen laws
           (λ state frame is. let asked = c.resets_name_this_counter.ensures.only state frame is in (asked.2, asked.3, asked.4));
-      clean_and_lost_legs_are_detected = λ start events fault enough. fault_given (record {
+      detectable_damage_is_detected = λ start events fault enough. fault_not_detectable laws (record {
         one_list = c.frames_are_unambiguous.ensures.one_list;
         message = c.messages_have_their_frame_alone.ensures.message;
         nothing = c.messages_have_their_frame_alone.ensures.nothing;
+        marked = c.damaged_messages_have_no_other_frame.ensures.marked;
+        check = c.damaged_messages_have_no_other_frame.ensures.check;
       }) start events fault enough;
     }

@@ -40,11 +40,11 @@ returns-in-Err-clause-fault g c =
     reached.is_last
     (rw c.index-events-index.is at (c.in-Err.ensures.stopped start reached.world refl reached.stands)))
 
-pub returns-in-Err-clause-clean_and_lost_legs_are_detected : goal.returns-in-Err-clause-clean_and_lost_legs_are_detected
-returns-in-Err-clause-clean_and_lost_legs_are_detected g c =
+pub returns-in-Err-clause-detectable_damage_is_detected : goal.returns-in-Err-clause-detectable_damage_is_detected
+returns-in-Err-clause-detectable_damage_is_detected g c =
     let preambles = c.response_preambles-preambles in
     let enough : 5 ≤ c.args.device.identity.response_preambles = rw preambles.ensures.same at preambles.ensures.in_range.0 in
-    c.scripts_keep_their_promises.ensures.clean_and_lost_legs_are_detected
+    c.scripts_keep_their_promises.ensures.detectable_damage_is_detected
     (start_of c.args.device c.args.process.now c.args.primary c.args.secondary) c.args.events.now
     (Undetected c.at.result.event c.at.result.leg) enough
     (returns-in-Err-clause-fault g c)
@@ -120,5 +120,5 @@ returns g c =
       stopped = λ event leg fault. absurd (c.scripts_have_one_last_world.ensures.no_fault start events reached.world event leg
           reached.is_last fault);
       fault = tt;
-      clean_and_lost_legs_are_detected = tt;
+      detectable_damage_is_detected = tt;
     }
