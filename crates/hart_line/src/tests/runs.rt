@@ -74,6 +74,27 @@ const REPLIES_LOST: &str = "submit P 37420A1B2C 19 012345\nturn P ok lost\nturn 
 /// A request that may not be sent to all, and a second one of a master whose first waits.
 const REFUSED: &str = "submit P all 0\nsubmit S 37420A1B2C 16\nsubmit S 37420A1B2C 16";
 
+/// The address byte of a request is heard with a vertical parity fault.
+const ADDRESS_FAULTY: &str =
+    "submit P 37420A1B2C 19 012345\nturn P FFFF82B7!40420A1B2C13030123453D ok";
+
+/// The address byte of a request is heard as another one, and its check byte does not fit.
+const ADDRESS_REPLACED: &str =
+    "submit P 37420A1B2C 19 012345\nturn P FFFF82B6420A1B2C13030123453D ok";
+
+/// Of the preamble of a request one byte is left.
+const ONE_PREAMBLE_BYTE: &str =
+    "submit P 37420A1B2C 19 012345\nturn P FF82B7420A1B2C13030123453D ok";
+
+/// The check byte of a request is heard with a fault bit, and then, if it is sent again, a byte of the reply.
+const BOTH_LEGS_DAMAGED: &str =
+    "submit P 37420A1B2C 19 012345\nturn P FFFF82B7420A1B2C13030123453D!02 ok\n\
+    turn P ok FFFF86B7420A1B2C130500400123!10457F";
+
+/// Of the preamble of a request three bytes are left, the first with a fault bit.
+const PREAMBLE_FAULTY: &str =
+    "submit P 37420A1B2C 19 012345\nturn P FF!40FFFF82B7420A1B2C13030123453D ok";
+
 /// Scripts, and what comes of them.
 const ROWS: &[Row] = &[
     NOTHING,
@@ -167,6 +188,40 @@ const ROWS: &[Row] = &[
             Fate::Unfinished(0),
             Fate::Refused(MasterFault::Pending),
         ],
+        ..NOTHING
+    },
+    Row {
+        script: ADDRESS_FAULTY,
+        fates: &[Fate::Unfinished(1)],
+        spoken: 1,
+        ..NOTHING
+    },
+    Row {
+        script: ADDRESS_REPLACED,
+        fates: &[Fate::Unfinished(1)],
+        spoken: 1,
+        ..NOTHING
+    },
+    Row {
+        script: ONE_PREAMBLE_BYTE,
+        fates: &[Fate::Unfinished(1)],
+        spoken: 1,
+        ..NOTHING
+    },
+    Row {
+        script: BOTH_LEGS_DAMAGED,
+        fates: &[Fate::Unfinished(2)],
+        spoken: 3,
+        counter: 1,
+        assembly: &[0x01, 0x23, 0x45],
+        ..NOTHING
+    },
+    Row {
+        script: PREAMBLE_FAULTY,
+        fates: &[Fate::Answered(19, 1, &[0x00, 0x40, 0x01, 0x23, 0x45])],
+        spoken: 2,
+        counter: 1,
+        assembly: &[0x01, 0x23, 0x45],
         ..NOTHING
     },
 ];
