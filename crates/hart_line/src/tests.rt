@@ -1,9 +1,11 @@
 mod room;
 mod runs;
+mod texts;
 
 use super::*;
 use hart_values::{Address, MasterId};
 use std::alloc::{AllocError, Global};
+use std::process::Abort;
 use std::test::Fail;
 
 /// Each fault and its text.
@@ -123,20 +125,32 @@ fn letters(alloc: Global, events: &[LineEvent]) -> Result<Vec<u8>, AllocError> {
     Ok(letters)
 }
 
+/// Reads a text as a script, which is that of these letters or has its first bad line there.
+fn check_script(
+    rt: &impl Abort,
+    alloc: Global,
+    name: &str,
+    text: &[u8],
+    want: Result<&str, usize>,
+) -> Result<(), Fail> {
+    match read_script(alloc, text) {
+        Ok(events) => {
+            let found = letters(alloc, events.as_slice())?;
+            let want = want.ok().ok_or("a bad line")?;
+            assert_eq!(rt; found.as_slice(), want.as_bytes(), "at {name}");
+        }
+        Err(fault) => {
+            let number = want.err().ok_or("a script")?;
+            assert_eq!(rt; fault, LineFault::BadLine { number }, "at {name}");
+        }
+    }
+    Ok(())
+}
+
 #[test]
 fn scripts_are_read_up_to_a_bad_line(rt: HostRuntime) -> Result<(), Fail> {
     for (text, want) in SCRIPTS {
-        match read_script(rt.alloc(), text.as_bytes()) {
-            Ok(events) => {
-                let found = letters(rt.alloc(), events.as_slice())?;
-                let want = want.ok().ok_or("a bad line")?;
-                assert_eq!(rt; found.as_slice(), want.as_bytes(), "at {text}");
-            }
-            Err(fault) => {
-                let number = want.err().ok_or("a script")?;
-                assert_eq!(rt; fault, LineFault::BadLine { number }, "at {text}");
-            }
-        }
+        check_script(&rt, rt.alloc(), *text, text.as_bytes(), *want)?;
     }
     Ok(())
 }

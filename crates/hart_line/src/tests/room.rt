@@ -108,7 +108,7 @@ const GROWING: &[Growing] = &[
 ];
 
 /// A text in which a part stands so often.
-fn text_of(
+pub fn text_of(
     alloc: Global,
     prefix: &str,
     part: &str,
