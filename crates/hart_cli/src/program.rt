@@ -6,6 +6,7 @@ ghost use Rattle.hart_cli.specs.FaultText.{fault_line};
 ghost use Rattle.hart_cli.specs.Stream.{WritesUnlessFailed};
 
 mod command_line;
+mod help;
 
 use crate::answer::answer;
 use crate::dump::dump;

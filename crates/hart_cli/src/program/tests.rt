@@ -271,7 +271,7 @@ const TEXTS: &[(&[&str], &str, &str)] = &[
     (&["--version"], "hart 0.1.0\n", "hart 0.1.0\n"),
     (
         &["answer", "--help"],
-        "Answer one message as the device on the bench does.\n",
+        "Answer one message as the simulated device does.\n",
         "writes\n  FF FF FF FF FF 86 B7 42 0A 1B 2C 13 02 07 00 58\n",
     ),
     (
@@ -281,13 +281,13 @@ const TEXTS: &[(&[&str], &str, &str)] = &[
     ),
     (
         &["sim", "--help"],
-        "Carry out a script on a line with the device on the bench and two masters.\n",
-        "20820820820820820820820820820820820820820820820820820820820000000012345000103\n",
+        "Carry out a script on a line with the simulated device and two masters.\n",
+        "  1 answered 1 00 40 012345\n  counter 1\n",
     ),
     (
         &["encode", "--help"],
         "Write a request of a master to a device, ready to be sent.\n",
-        "  hart encode P @0 0\nwrites\n  FF FF FF FF FF 02 80 00 00 82\n",
+        "writes\n  FF FF FF FF FF 82 B7 42 0A 1B 2C 13 03 01 23 45 3D\n",
     ),
 ];
 

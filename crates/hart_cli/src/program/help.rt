@@ -1,0 +1,215 @@
+//! The texts of the program's help.
+
+pub(super) const HART_ABOUT: &str =
+    "Find, write and answer HART messages, and carry out scripts of them";
+
+pub(super) const HART_HELP: &str = "\
+For the input and the output of a command, and an example: hart COMMAND --help
+
+Exit status 0: the work was done.
+Exit status 1: a fault; one line on standard error names it.
+Exit status 2: the command line is invalid, or help was asked for.";
+
+pub(super) const ANSWER_ABOUT: &str = "Answer one message, in hex, from standard input";
+
+pub(super) const ANSWER_HELP: &str = "\
+Answer one message as the simulated device does.
+
+Input (stdin): what the device hears, the message with its preamble bytes FF
+and its check byte, and noise around it. Each byte is two hex digits of either
+case, and after them, if the byte came damaged, ! and two hex digits of fault
+bits (see hart dump --help). Spaces, tabs and line ends may stand between
+bytes. The input has at most 1048576 bytes of text.
+
+Output (stdout): the reply of the device in upper case hex, or nothing if the
+device is silent. It answers command 0 at its polling address, any command at
+its own address 37420A1B2C, and command 11 with its tag, sent to all. It is
+silent if it hears no whole message, or more than one; if the message is a
+reply, is damaged or has expansion bytes; and if it was sent to another address
+or another tag.
+
+Each run starts a new device, with polling address 0 and a tag of eight spaces,
+in command 11 the data 820820820820; or one that goes on from an image, as hart
+sim writes it in its last line. If that is no image nothing is read, and
+standard error says why: bad image: version, length or field; bad hex at N, a
+place in the image, counted from 0.";
+
+pub(super) const ANSWER_EXAMPLE: &str = "\
+Examples:
+  echo \"FF FF 82 B7 42 0A 1B 2C 10 00 5A\" | hart answer
+writes
+  FF FF FF FF FF 86 B7 42 0A 1B 2C 10 05 00 00 00 00 00 5B
+and of a write to a protected device, which it refuses,
+  image=$(echo protect on | hart sim | sed -n 's/^image //p')
+  echo \"FF FF 82 B7 42 0A 1B 2C 13 03 01 23 45 3D\" | hart answer --image $image
+writes
+  FF FF FF FF FF 86 B7 42 0A 1B 2C 13 02 07 00 58";
+
+pub(super) const DUMP_ABOUT: &str =
+    "List the messages in what was heard, in hex, from standard input";
+
+pub(super) const DUMP_HELP: &str = "\
+List the messages in what was heard on a line.
+
+Input (stdin): the bytes that were heard, noise among them. Each is two hex
+digits of either case, and after them, if the receiver found it damaged, ! and
+two hex digits of fault bits, as in FF!40. The fault bits are
+  40  vertical parity
+  20  overrun
+  10  framing
+  02  buffer overflow
+or a sum of these, in hex. Spaces, tabs and line ends may stand between bytes.
+0x before a byte and : between bytes are not taken: remove them first. The
+input has at most 1048576 bytes of text. Raw bytes are not hex: a capture of
+them goes in through xxd -p.
+
+Output (stdout): a line for each message that came without damage, of nine
+fields with one space between them.
+  START      place of its delimiter, the byte after its preamble bytes FF,
+             counted from 0
+  END        place after its check byte
+  KIND       STX for a request of a master, ACK for a reply of a device
+  WHO        the master: P for the primary, S for the secondary
+  BURST      burst bit, 0 or 1
+  ADDRESS    @ and the polling address; or ten hex digits, four of the type of
+             the device and six of its id; or all, for every device
+  EXPANSION  expansion bytes in hex, or - for none
+  COMMAND    number of the command
+  PAYLOAD    data in hex, or - for none; an ACK begins with two status bytes
+A message is missing if fewer than two preamble bytes FF came whole before it,
+if any byte of it is damaged, if its check byte does not fit, if it is cut
+short by the end of the input, or if it stands within another message.
+
+If the input holds anything else, is longer, or fails, the lines of the
+messages before are written, and standard error says why: bad hex at N, a place
+in the text of the input, counted from 0; input too long; read fault.";
+
+pub(super) const DUMP_EXAMPLE: &str = "\
+Examples:
+  hart dump < FILE
+for a file of hex text;
+  xxd -p FILE | hart dump
+for one of raw bytes, which are not hex;
+  tr ':' ' ' < FILE | sed 's/0x//g' | hart dump
+for bytes written as FF:82 or 0xFF;
+  echo \"FF FF 02 80 00 00 82\" | hart dump
+writes
+  2 7 STX P 0 @0 - 0 -";
+
+pub(super) const SIM_ABOUT: &str =
+    "Carry out a script of two masters and a device from standard input";
+
+pub(super) const SIM_HELP: &str = "\
+Carry out a script on a line with the simulated device and two masters.
+
+Input (stdin): a script, a line for each event.
+  submit WHO ADDRESS COMMAND [DATA]  a master takes a request in hand, which it
+                                     sends four times at most
+  turn WHO UP DOWN                   a master sends what it has in hand; the
+                                     device hears UP, and both masters DOWN
+  protect on, protect off            the write protection of the device
+  noise ITEMS                        all three hear these bytes
+WHO is P for the primary master and S for the secondary. ADDRESS is @ and the
+polling address, @0 to @63; or ten hex digits, four of the type of the device
+and six of its id; or all, for every device. DATA are hex, and such as COMMAND
+takes; a COMMAND that hart does not know makes a bad line. UP and DOWN are ok
+for what was sent, lost for nothing, or the bytes that are heard in its place:
+like ITEMS, two hex digits for each byte and, if it came damaged, ! and two hex
+digits of fault bits (see hart dump --help), with no space between bytes. Words
+have spaces or tabs between them. Empty lines, and lines that begin with #, are
+no events and are passed over. The script has at most 1048576 bytes.
+
+Output (stdout): written once the script has come to its end.
+  P, S or D, and two words   each message on the line, in order: who spoke it,
+                             the primary master, the secondary or the device;
+                             how many preamble bytes FF it had; the rest in hex
+  N answered SENDINGS CODE STATUS DATA
+                             submission N, counted from 1, got a reply: after
+                             so many sendings, with this response code and
+                             device status in hex, and these data in hex, or -
+                             for none
+  N noreply SENDINGS         it was given up after so many sendings
+  N unfinished SENDINGS      it is still in hand, sent so many times
+  N refused FAULT            the master did not take it: 2, it had another in
+                             hand; 3, the command may not go to the address
+  counter N                  the configuration change counter of the device
+  image HEX                  01, and then in hex the polling address, the loop
+                             current mode, message, tag, descriptor, date,
+                             final assembly number, counter, and a byte of
+                             flags: 1 and 2, the configuration has changed for
+                             the primary and the secondary master; 4, the
+                             device is protected
+
+Each run starts a new device, or one that goes on from an image: with that of
+the last line of one script the next begins where that one ended. If that is no
+image nothing is read, and standard error says why: bad image: version, length
+or field; bad hex at N, a place in the image, counted from 0.
+
+If no output is written, standard error says why.
+  bad line N                 every line counts, an empty one too, from 1
+  undetected damage at event N, up
+                             events alone count, from 0; also down or noise:
+                             what is heard there has another message in it
+                             than the one that was sent, or more than one
+  input too long, read fault";
+
+pub(super) const SIM_EXAMPLE: &str = "\
+Examples:
+  printf 'submit P 37420A1B2C 19 012345\\nturn P ok ok\\n' > script.txt
+  hart sim < script.txt | grep -v image
+writes
+  P 20 82B7420A1B2C13030123453D
+  D 5 86B7420A1B2C130500400123457F
+  1 answered 1 00 40 012345
+  counter 1
+and the next script goes on from the image of that one:
+  image=$(hart sim < script.txt | sed -n 's/^image //p')
+  printf 'submit P 37420A1B2C 16\\nturn P ok ok\\n' > next.txt
+  hart sim --image $image < next.txt | grep -v image
+writes
+  P 20 82B7420A1B2C10005A
+  D 5 86B7420A1B2C100500400123457C
+  1 answered 1 00 40 012345
+  counter 1";
+
+pub(super) const ENCODE_ABOUT: &str = "Write a request to a device, in hex";
+
+pub(super) const ENCODE_HELP: &str = "\
+Write a request of a master to a device, ready to be sent.
+
+Input: the words of the command line say who asks, which device, with which
+command, and the data of the command. Standard input is not read.
+
+Output (stdout): the message in upper case hex, with its preamble bytes FF and
+its check byte. If a word cannot be read nothing is written, and standard error
+tells its number, as in bad word 2: 1 is WHO, 2 ADDRESS, 3 COMMAND, 4 DATA.";
+
+pub(super) const ENCODE_EXAMPLE: &str = "\
+Examples:
+  hart encode P @0 0
+writes
+  FF FF FF FF FF 02 80 00 00 82
+and with data, a write of the final assembly number 012345,
+  hart encode P 37420A1B2C 19 012345
+writes
+  FF FF FF FF FF 82 B7 42 0A 1B 2C 13 03 01 23 45 3D";
+
+pub(super) const WHO_HELP: &str = "The master that asks: P for the primary, S for the secondary";
+
+pub(super) const ADDRESS_HELP: &str = "\
+The device that is asked: @ and its polling address, @0 to @63; or
+ten hex digits, four of its type and six of its id; or all, for every
+device";
+
+pub(super) const COMMAND_HELP: &str = "The number of the command, 0 to 255";
+
+pub(super) const DATA_HELP: &str = "\
+The data of the command in hex, two digits for each byte, at most 255
+bytes; left out if there are none";
+
+pub(super) const IMAGE_HELP: &str = "\
+The image that the device goes on from, two hex digits for each byte,
+as hart sim writes it; left out for a new device";
+
+pub(super) const PREAMBLES_HELP: &str =
+    "The number of preamble bytes FF that the message begins with, 5 to 20";
