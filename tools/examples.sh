@@ -1,0 +1,61 @@
+#!/bin/sh
+# Runs the examples of the help texts and of the pages, each with the lines that it shows below: it has to write just these. An
+# example that shows nothing of what it writes is left out, since it names a file of the reader's own.
+#
+# Usage: tools/examples.sh [PROGRAM]; PROGRAM is the ./hart of the repository if absent.
+set -eu
+program=$(realpath "${1:-$(dirname "$0")/../hart}")
+cd "$(dirname "$0")/.."
+work=$(mktemp -d)
+trap 'rm -rf "$work"' EXIT
+mkdir "$work/examples" "$work/bin" "$work/folder"
+ln -s "$program" "$work/bin/hart"
+ln -s "$program" "$work/folder/hart"
+# The program is made already.
+printf '#!/bin/sh\n' >"$work/bin/make"
+chmod +x "$work/bin/make"
+PATH=$work/bin:$PATH
+
+# A help text has its commands and what they write two spaces in, with the word "writes" between; a page has "$ " before a command.
+awk -v folder="$work/examples" '
+    function give() {
+        if (text != "") {
+            name = sprintf("%s/%03d", folder, ++number)
+            printf "%s", command >(name ".command")
+            printf "%s", text >(name ".text")
+            close(name ".command")
+            close(name ".text")
+        }
+        command = text = ""
+        writes = 0
+    }
+    FNR == 1 { give(); page = FILENAME ~ /\.md$/; on = 0 }
+    page && /^```/ { give(); on = !on; next }
+    page && on && /^\$ / { give(); command = substr($0, 3) "\n"; next }
+    page && on && command != "" { text = text $0 "\n" }
+    page { next }
+    /^Examples?:$/ { on = 1; next }
+    on && /^writes$/ { writes = 1; next }
+    on && /^  / && writes { text = text substr($0, 3) "\n"; next }
+    on && /^  / { command = command substr($0, 3) "\n"; next }
+    on { give() }
+    END { give() }
+' tools/texts/help-*.txt README.md docs/*.md
+
+ran=0
+for command in "$work/examples"/*.command; do
+    wanted=${command%.command}.text
+    (cd "$work/folder" && sh "$command") >"$work/written" 2>&1 || true
+    if ! cmp -s "$wanted" "$work/written"; then
+        echo "an example does not write what is shown below it:" >&2
+        cat "$command" >&2
+        diff "$wanted" "$work/written" >&2 || true
+        exit 1
+    fi
+    ran=$((ran + 1))
+done
+if [ "$ran" -lt 10 ]; then
+    echo "only $ran examples were found" >&2
+    exit 1
+fi
+echo "examples: $ran ran, and wrote what is shown"
