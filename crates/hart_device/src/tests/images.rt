@@ -9,7 +9,7 @@ const IMAGE: [u8; 54] = [
 ];
 
 /// The image of a new bench device, with other bytes from a place on.
-fn image_with(place: usize, bytes: &[u8]) -> Result<[u8; 54], Fail> {
+pub(super) fn image_with(place: usize, bytes: &[u8]) -> Result<[u8; 54], Fail> {
     let mut image = IMAGE;
     for (byte, other) in image.iter_mut().skip(place).zip(bytes) {
         *byte = *other;
