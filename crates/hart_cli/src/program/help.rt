@@ -78,7 +78,8 @@ fields with one space between them.
   PAYLOAD    data in hex, or - for none; an ACK begins with two status bytes
 A message is missing if fewer than two preamble bytes FF came whole before it,
 if any byte of it is damaged, if its check byte does not fit, if it is cut
-short by the end of the input, or if it stands within another message.
+short by the end of the input, if it stands within another message, or if it is
+a burst message of a device, which hart does not read.
 
 If the input holds anything else, is longer, or fails, the lines of the
 messages before are written, and standard error says why: bad hex at N, a place
