@@ -220,6 +220,9 @@ const NO_CALLS: &[&[&str]] = &[
     &["--version"],
     &["-V"],
     &["dump", "--version"],
+    &["d\u{fc}mp"],
+    &["answer", "\u{fc}"],
+    &["encode", "P", "@0", "0", "--preambles", "\u{ff17}"],
     &["help"],
     &["help", "answer"],
     &["help", "dump"],
@@ -304,20 +307,49 @@ fn texts_of_clap_go_to_errors(rt: HostRuntime) -> Result<(), Fail> {
     Ok(())
 }
 
-/// A word, how much room there is for errors, and the status.
-const FAILED_ERRORS: &[(&str, u64, u8)] = &[
-    ("answer", 0, FAULT),
-    ("dump", 4, FAULT),
-    ("frob", 0, NO_CALL),
+/// A word with which the program refuses the input `!`, and the status.
+const REFUSALS: &[(&str, u8)] = &[
+    ("answer", FAULT),
+    ("dump", FAULT),
+    ("sim", FAULT),
+    ("frob", NO_CALL),
 ];
 
 #[test]
 fn a_failed_write_of_errors_leaves_the_status(rt: HostRuntime) -> Result<(), Fail> {
-    for (word, room, want) in FAILED_ERRORS {
-        let reader = Tape::new(b"!", None);
-        let run = run_program(rt.alloc(), &[*word], reader, u64::MAX, *room)?;
-        assert_eq!(rt; run.status, *want);
-        assert!(rt; b"bad hex at 0\n".starts_with(run.errors.taken()));
+    for (word, want) in REFUSALS {
+        let whole = run_on(rt.alloc(), &[*word], "!")?;
+        let text = whole.errors.taken();
+        assert!(rt; !text.is_empty());
+        for room in 0..text.len() {
+            let reader = Tape::new(b"!", None);
+            let run = run_program(rt.alloc(), &[*word], reader, u64::MAX, room as u64)?;
+            assert_eq!(rt; run.status, *want, "{word} with room for {room}");
+            assert_eq!(rt; Some(run.errors.taken()), text.get(..room));
+        }
+    }
+    Ok(())
+}
+
+#[test]
+fn words_of_any_length_are_read(rt: HostRuntime) -> Result<(), Fail> {
+    let word = "0".repeat(rt.alloc(), 100_000)?;
+    let long = word.as_str();
+    let rows: &[(&[&str], u8, &str)] = &[
+        (&[long], NO_CALL, "error: "),
+        (&["dump", long], NO_CALL, "error: "),
+        (&["sim", "--image", long], FAULT, "bad image: version\n"),
+        (&["encode", long, "@0", "0"], FAULT, "bad word 1\n"),
+        (&["encode", "P", long, "0"], FAULT, "bad word 2\n"),
+        (&["encode", "P", "@0", long], FAULT, "bad word 3\n"),
+        (&["encode", "P", "@0", "0", long], FAULT, "bad word 4\n"),
+    ];
+    for (words, status, start) in rows {
+        let run = run_on(rt.alloc(), words, IDENTIFY)?;
+        assert_eq!(rt; run.status, *status, "where {start} is wanted");
+        assert_eq!(rt; run.reads, 0);
+        assert!(rt; run.errors.taken().starts_with(start.as_bytes()));
+        assert!(rt; run.output.taken().is_empty());
     }
     Ok(())
 }
