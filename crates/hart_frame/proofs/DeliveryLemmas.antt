@@ -1,11 +1,14 @@
 -- The frames of a delivery, by the first of them.
-use Rattle.std.proofs.Common.{◌≡◌, ℕ, List, [], ◌∷◌, ap}
+use Rattle.std.proofs.Common.{◌≡◌, ℕ, List, [], ◌∷◌, ap, Option, None, Some, true, false}
+use Rattle.std.specs.Option.{MatchOption, is_some}
 use Rattle.hart_frame.specs.Character.{Character}
 use Rattle.hart_frame.specs.Delivery.{IsLone, lone_of}
 use Rattle.hart_frame.specs.Frames.{AreFrames, HasNoFrame, IsFirst, none, first}
 use Rattle.hart_frame.specs.declared.delivery.LoneFrame.{LoneFrame}
 use Rattle.hart_frame.specs.declared.delivery.LoneFrame.TheVariants.{NoFrame, Alone, Several}
+use Rattle.hart_frame.specs.Found.{HasFirstAt}
 use Rattle.hart_frame.specs.declared.found.Found.{Found}
+use Rattle.hart_frame.specs.declared.found.FramePlaces.{FramePlaces}
 
 -- a list of characters has one list of frames
 abbrev pub OneList : Type 0
@@ -25,6 +28,18 @@ no_frame delivery no_first = none 0 no_first
 pub one_frame : (delivery : List Character) (found : Found) → IsFirst found delivery 0 → HasNoFrame delivery found.stop
     → AreFrames delivery 0 (found ∷ [])
 one_frame delivery found is_first no_second = first 0 found [] is_first (none found.stop no_second)
+
+-- places of a second frame are known, or that there is none
+pub second_none : (delivery : List Character) (from : ℕ) (second : Option FramePlaces) → is_some second ≡ false
+    → MatchOption second (HasNoFrame delivery from) (λ places. HasFirstAt places delivery from) → HasNoFrame delivery from
+second_none delivery from None is told = told
+second_none delivery from (Some places) is told = absurd cc
+
+pub second_some : (delivery : List Character) (from : ℕ) (second : Option FramePlaces) → is_some second ≡ true
+    → MatchOption second (HasNoFrame delivery from) (λ places. HasFirstAt places delivery from)
+    → (found : Found) × IsFirst found delivery from
+second_some delivery from None is told = absurd cc
+second_some delivery from (Some places) is told = (told.0, told.2)
 
 -- after a second frame come the frames of what follows it
 pub several_frames : (delivery : List Character) (found second : Found) (later : List Found) → IsFirst found delivery 0

@@ -1,17 +1,19 @@
 -- Characters that begin with a body, and their bytes.
-use Rattle.std.proofs.Common.{◌≡◌, ℕ, ◌<◌, ◌≤◌, List, [], ◌∷◌, ◌++◌, length, take, drop, get_or, refl, sym, ap, ◌∙◌, arith, subst, append_assoc, Result, Ok, Err, Option}
-use Rattle.std.specs.Option.{IfSome}
-use Rattle.std.specs.Result.{IfOk, result_ok}
-use Rattle.std.proofs.lemmas.List.{map-append, length-map, take_at, get_or-map, take-append-drop, length-take-le, append-nil}
+use Rattle.std.proofs.Common.{◌≡◌, ℕ, suc, ◌+◌, ◌*◌, ◌/◌, ◌%◌, ◌<◌, ◌≤◌, ◌⊎◌, inl, inr, List, [], ◌∷◌, ◌++◌, length, take, get_or, refl, sym, ap, ◌∙◌, arith, subst, Result, Ok}
+use Rattle.std.specs.List.{All}
+use Rattle.std.proofs.lemmas.List.Elements.{All-map}
+use Rattle.std.proofs.lemmas.List.{map-append, map_more, length-map, take_at, get_or-map}
 use Rattle.hart_frame.specs.FrameParts.{FrameParts}
 use Rattle.hart_frame.specs.declared.fault.FrameFault.{FrameFault}
 use Rattle.hart_frame.specs.Body.{BeginsWithBody}
 use Rattle.hart_frame.specs.Character.{Character, faultless}
 use Rattle.hart_frame.specs.Heard.{bytes_of, BeginsWithHeard}
-use Rattle.hart_frame.specs.Layout.{body_length}
-use Rattle.hart_frame.specs.Refusal.{IsDelimiter, HasByteCount}
+use Rattle.hart_frame.specs.Layout.{delimiter_in, byte_count_place, byte_count_in, body_length}
+use Rattle.hart_frame.specs.Parity.{IsCheckByte, HasEvenParity}
+use Rattle.hart_frame.specs.Refusal.{IsDelimiter, HasGoodByteCount}
+use Rattle.hart_frame.proofs.ParityLemmas.{check-even}
 use Rattle.hart_frame.proofs.BodiesApart.{BeginsWithBody-append}
-use Rattle.hart_frame.proofs.RefusalLemmas.{tells, IsDelimiter-of}
+use Rattle.hart_frame.proofs.RefusalLemmas.{tells, HasGoodByteCount-body}
 
 -- faultless characters have the bytes that they were made of
 pub bytes_of-faultless : (bytes : List ℕ) → bytes_of (faultless bytes) ≡ bytes
@@ -35,7 +37,7 @@ BeginsWithBody-heard chars f len heard =
 
 -- and tell its length
 pub record TellsLength (chars : List Character) (len : ℕ) : Type 0 where
-  pub counted : HasByteCount (bytes_of chars)
+  pub counted : HasGoodByteCount (bytes_of chars)
   pub told : len ≡ body_length (bytes_of chars)
   pub within : len ≤ length chars
 
@@ -43,10 +45,9 @@ pub heard_tells : (chars : List Character) (f : FrameParts) (len : ℕ) → Begi
 heard_tells chars f len heard =
     let begins = BeginsWithBody-heard chars f len heard in
     let told = tells (bytes_of chars) f len begins in
-    let is = subst IsDelimiter (sym told.delimiter) (IsDelimiter-of f begins.body.checked_part.expansion_fits) in
     let long = length-map chars (λ (character : Character). character.byte) in
     record {
-      counted = ((omega (arith, told.whole, told.within), is), omega (arith, told.whole, told.within));
+      counted = HasGoodByteCount-body (bytes_of chars) f len begins;
       told = told.whole;
       within = omega (arith, told.within, long);
     }
@@ -65,49 +66,92 @@ pub byte_at : (chars : List Character) (i : ℕ) (c : Character) → i < length 
 byte_at chars i c within is =
     get_or-map (λ (character : Character). character.byte) chars i c 0 within ∙ ap (λ (character : Character). character.byte) (sym is)
 
--- and no fault, where all are faultless
-pub faultless_at : (chars : List Character) (bytes : List ℕ) (i : ℕ) (c : Character) → i < length chars → c ≡ get_or chars i c
-    → chars ≡ faultless bytes → c.faults ≡ 0
-faultless_at chars bytes i c within is whole =
-    let long : length chars ≡ length bytes = ap length whole ∙ length-map bytes (λ (byte : ℕ). record { byte = byte; faults = 0 }) in
-    let here : c ≡ record { byte = get_or bytes i 0; faults = 0 } =
-    is ∙ ap (λ (xs : List Character). get_or xs i c) whole
-    ∙ get_or-map (λ (byte : ℕ). record { byte = byte; faults = 0 }) bytes i 0 c (omega (arith, within, long)) in
-    ap (λ (character : Character). character.faults) here
+-- so the bytes of the first so many characters grow by it
+pub bytes_of-more : (chars : List Character) (i : ℕ) (c : Character) → i < length chars → c ≡ get_or chars i c
+    → bytes_of (take (i + 1) chars) ≡ bytes_of (take i chars) ++ c.byte ∷ []
+bytes_of-more chars i c within is =
+    map_more (λ (character : Character). character.byte) chars i c within
+    ∙ ap (λ (x : Character). bytes_of (take i chars) ++ x.byte ∷ []) (sym is)
 
--- the bytes of a heard body begin with it
-pub BeginsWithBody-taken : (chars : List Character) (f : FrameParts) (len : ℕ) → BeginsWithHeard chars f len
-    → (told : ℕ) (body : List ℕ) → told ≡ len → take told chars ≡ faultless body → BeginsWithBody body f len
-BeginsWithBody-taken chars f len heard told body same taken =
-    let moved : take told chars ≡ faultless heard.body = ap (λ (n : ℕ). take n chars) same ∙ take-heard chars f len heard in
-    let one : body ≡ heard.body = faultless-one body heard.body (sym taken ∙ moved) in
-    let begins = BeginsWithBody-append f heard.body [] heard.is_body in
-    let Begins : List ℕ → Type 0 = λ xs. BeginsWithBody xs f (length heard.body) in
-    let Of : ℕ → Type 0 = λ n. BeginsWithBody body f n in
-    subst Of (sym heard.whole) (subst Begins (append-nil heard.body ∙ sym one) begins)
+-- what the delimiter and the byte count of characters tell, whatever faults they have
+pub record ToldBy (chars : List Character) (delimiter place count : ℕ) : Type 0 where
+  pub delimiter_is : delimiter_in (bytes_of chars) ≡ delimiter
+  pub place_is : byte_count_place (bytes_of chars) ≡ place
+  pub count_is : byte_count_in (bytes_of chars) ≡ count
+  pub some : 0 < length (bytes_of chars)
+  pub within : place < length (bytes_of chars)
 
--- what the bytes of faultless characters begin with, the characters begin with
-BeginsWithHeard-from : (chars : List Character) (f : FrameParts) (len told : ℕ) (body : List ℕ) → take told chars ≡ faultless body
-    → BeginsWithBody body f len → BeginsWithHeard chars f len
-BeginsWithHeard-from chars f len told body taken begins =
-    let f_of : ℕ → Character = λ byte. record { byte = byte; faults = 0 } in
-    let parts : faultless body ≡ faultless (take len body) ++ faultless (drop len body) =
-    ap faultless (sym (take-append-drop len body)) ∙ map-append f_of (take len body) (drop len body) in
+pub told_by : (chars : List Character) (first counted : Character) (delimiter place count : ℕ) → 0 < length chars
+    → first ≡ get_or chars 0 first → delimiter ≡ first.byte → place < length chars → counted ≡ get_or chars place counted
+    → count ≡ counted.byte → place ≡ 3 + 4 * (delimiter / 128) + delimiter / 32 % 4 → ToldBy chars delimiter place count
+told_by chars first counted delimiter place count some first_is is within counted_is counts at =
+    let long = length-map chars (λ (character : Character). character.byte) in
+    let delimiter_is : delimiter_in (bytes_of chars) ≡ delimiter = byte_at chars 0 first some first_is ∙ sym is in
+    let place_is : byte_count_place (bytes_of chars) ≡ place = omega (arith, delimiter_is, at) in
     record {
-      body = take len body;
-      rest = faultless (drop len body) ++ drop told chars;
-      split = sym (take-append-drop told chars) ∙ ap (λ (xs : List Character). xs ++ drop told chars) (taken ∙ parts)
-          ∙ append_assoc (faultless (take len body)) (faultless (drop len body)) (drop told chars);
-      is_body = begins.body;
-      whole = sym (length-take-le len body begins.within);
+      delimiter_is = delimiter_is;
+      place_is = place_is;
+      count_is = ap (λ (n : ℕ). get_or (bytes_of chars) n 0) place_is ∙ byte_at chars place counted within counted_is ∙ sym counts;
+      some = omega (arith, long, some);
+      within = omega (arith, long, within);
     }
 
-pub heard_from : (chars : List Character) (told : ℕ) (body : List ℕ) (decoded : Result (FrameParts × ℕ) FrameFault)
-    (result : Option (FrameParts × ℕ)) → result ≡ result_ok decoded → take told chars ≡ faultless body
-    → IfOk decoded (λ found. BeginsWithBody body found.0 found.1) → IfSome result (λ found. BeginsWithHeard chars found.0 found.1)
-heard_from chars told body (Ok found) result is taken begins =
-    let Heard : Option (FrameParts × ℕ) → Type 0 = λ r. IfSome r (λ found. BeginsWithHeard chars found.0 found.1) in
-    subst Heard (sym is) (BeginsWithHeard-from chars found.0 found.1 told body taken begins)
-heard_from chars told body (Err fault) result is taken begins =
-    let Heard : Option (FrameParts × ℕ) → Type 0 = λ r. IfSome r (λ found. BeginsWithHeard chars found.0 found.1) in
-    subst Heard (sym is) tt
+pub good_count : (chars : List Character) (delimiter place count kind : ℕ) → ToldBy chars delimiter place count → IsDelimiter delimiter
+    → kind ≡ delimiter % 8 → (kind ≡ 2) ⊎ (2 ≤ count) → HasGoodByteCount (bytes_of chars)
+good_count chars delimiter place count kind told is low allowed =
+    let delimits = subst IsDelimiter (sym told.delimiter_is) is in
+    let either : (delimiter_in (bytes_of chars) % 8 ≡ 2) ⊎ (2 ≤ byte_count_in (bytes_of chars)) = elim allowed [
+      | inl stx ↦ inl (omega (arith, told.delimiter_is, low, stx))
+      | inr enough ↦ inr (omega (arith, told.count_is, enough))
+    ] in
+    (((told.some, delimits), omega (arith, told.place_is, told.within)), either)
+
+pub allowed_count : (chars : List Character) (delimiter place count kind : ℕ) → ToldBy chars delimiter place count
+    → kind ≡ delimiter % 8 → HasGoodByteCount (bytes_of chars) → (kind ≡ 2) ⊎ (2 ≤ count)
+allowed_count chars delimiter place count kind told low good = elim good.1 [
+  | inl stx ↦ inl (omega (arith, told.delimiter_is, low, stx))
+  | inr enough ↦ inr (omega (arith, told.count_is, enough))
+]
+
+-- faultless characters have no fault
+pub no_fault : (chars : List Character) (bytes : List ℕ) → chars ≡ faultless bytes → All (λ character. character.faults ≡ 0) chars
+no_fault chars bytes are =
+    let Clear : List Character → Type 0 = λ cs. All (λ (character : Character). character.faults ≡ 0) cs in
+    subst Clear (sym are) (All-map (λ (character : Character). character.faults ≡ 0)
+    (λ (byte : ℕ). record { byte = byte; faults = 0 }) bytes (λ k d below. refl))
+
+-- a faultless character is made of its byte
+pub faultless_made : (first : Character) (others : List Character) (rest : List ℕ) → first.faults ≡ 0 → others ≡ faultless rest
+    → first ∷ others ≡ faultless (first.byte ∷ rest)
+faultless_made first others rest faults same =
+    let of : ℕ → ℕ → List Character → List Character = λ b f cs. (record { byte = b; faults = f }) ∷ cs in
+    let all : of first.byte first.faults others ≡ of first.byte 0 (faultless rest) = cc in
+    all
+
+-- so characters without faults are made of their bytes
+pub made_of_bytes : (chars : List Character) → All (λ character. character.faults ≡ 0) chars → chars ≡ faultless (bytes_of chars)
+made_of_bytes [] clear = refl
+made_of_bytes (first ∷ others) clear =
+    faultless_made first others (bytes_of others) (clear 0 first (omega arith))
+    (made_of_bytes others (λ k d below. clear (suc k) d (omega (arith, below))))
+
+-- a heard body has no fault, and its check byte is 0
+pub heard_clear : (chars part : List Character) (f : FrameParts) (len count : ℕ) → BeginsWithHeard chars f len → count ≡ len
+    → part ≡ take count chars → All (λ character. character.faults ≡ 0) part
+heard_clear chars part f len count heard same is =
+    no_fault part heard.body (is ∙ ap (λ (n : ℕ). take n chars) same ∙ take-heard chars f len heard)
+
+pub heard_even : (chars part : List Character) (f : FrameParts) (len count check : ℕ) → BeginsWithHeard chars f len → count ≡ len
+    → part ≡ take count chars → IsCheckByte (bytes_of part) check → check ≡ 0
+heard_even chars part f len count check heard same is folded =
+    let bytes : bytes_of part ≡ heard.body =
+    ap bytes_of (is ∙ ap (λ (n : ℕ). take n chars) same ∙ take-heard chars f len heard) ∙ bytes_of-faultless heard.body in
+    check-even (bytes_of part) check folded (subst HasEvenParity (sym bytes) heard.is_body.parity)
+
+-- a result that is two frames is one
+pub same_frame : (decoded : Result (FrameParts × ℕ) FrameFault) (result : FrameParts × ℕ) (f : FrameParts) (len : ℕ)
+    → decoded ≡ Ok result → decoded ≡ Ok (f, len) → result.0 ≡ f
+same_frame decoded result f len one other =
+    let pair : FrameParts × ℕ = (f, len) in
+    let same : result ≡ pair = cc in
+    ap (λ (found : FrameParts × ℕ). found.0) same

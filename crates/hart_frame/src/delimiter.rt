@@ -1,5 +1,5 @@
 //! The first byte of a body: bit 7 the address type, bits 6 and 5 the number of expansion bytes, bits 2 to 0 the kind.
-ghost use Rattle.std.specs.Prelude.{◌≡◌, ◌≤◌, ◌+◌, ◌*◌, ◌/◌, ◌%◌, ◌↔◌, IsSome, IfSome};
+ghost use Rattle.std.specs.Prelude.{◌≡◌, ◌≤◌, ◌+◌, ◌*◌, ◌/◌, ◌%◌, ◌⊎◌, ◌↔◌, IsSome, IfSome, IsTrue};
 ghost use Rattle.hart_frame.specs.Delimiter.{delimiter_of, kind_code};
 ghost use Rattle.hart_frame.specs.Refusal.{IsDelimiter};
 
@@ -34,6 +34,13 @@ impl Delimiter {
         ensures { result ≡ 1 + self.address_len + self.expansion_len }
     {
         1 + self.address_len + self.expansion_len
+    }
+
+    /// Whether its body can have this byte count: the payload of an ACK has two status bytes at least.
+    pub(crate) fn allows(self, byte_count: u8) -> bool
+        ensures { IsTrue result ↔ ((kind_code self.kind ≡ 2) ⊎ (2 ≤ byte_count)) }
+    {
+        self.kind == FrameKind::Stx || byte_count >= 2
     }
 }
 

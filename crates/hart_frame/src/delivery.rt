@@ -3,8 +3,9 @@ ghost use Rattle.hart_frame.specs.Frames.{AreFrames};
 ghost use Rattle.hart_frame.specs.Delivery.{IsLone, lone_of};
 ghost use Rattle.hart_frame.specs.declared.found.Found.{Found};
 
+use crate::first::{first_places, found_at};
 use crate::laws::{every_list_has_frames, frames_are_unambiguous};
-use crate::{Char, Found, first_frame};
+use crate::{Char, Found};
 
 /// Whether a delivery, which is what is heard at once, has one frame alone.
 #[derive(Debug, Drop, PartialEq, Eq)]
@@ -25,11 +26,11 @@ pub fn lone_frame(delivery: &[Char]) -> LoneFrame
     // No-ops: by these laws the frames that are found are the only ones.
     frames_are_unambiguous();
     every_list_has_frames();
-    let Some(found) = first_frame(delivery, 0) else {
+    let Some(first) = first_places(delivery, 0) else {
         return LoneFrame::NoFrame;
     };
-    match first_frame(delivery, found.stop) {
-        None => LoneFrame::Alone(found),
-        Some(_second) => LoneFrame::Several,
+    if first_places(delivery, first.stop).is_some() {
+        return LoneFrame::Several;
     }
+    LoneFrame::Alone(found_at(delivery, first))
 }

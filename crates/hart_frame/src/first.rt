@@ -1,9 +1,11 @@
 ghost use Rattle.std.specs.Prelude.{◌≡◌, ◌+◌, ◌<◌, ◌≤◌, ◌++◌, ◌∷◌, [], List, length, MatchOption, IsSome, IfSome, IsTrue, ◌↔◌};
 ghost use Rattle.hart_frame.specs.Character.{Character, faultless};
+ghost use Rattle.hart_frame.specs.Found.{HasFirstAt, HasFrameAt, IsPlacedAs};
 ghost use Rattle.hart_frame.specs.Place.{StandsIn};
 ghost use Rattle.hart_frame.specs.Frames.{HasNoFrame, IsFirst};
 
-use crate::heard::heard_frame;
+use crate::found::FramePlaces;
+use crate::heard::{heard_frame, heard_len};
 use crate::message::PREAMBLE;
 use crate::{Char, Found};
 
@@ -18,10 +20,18 @@ pub fn first_frame(chars: &[Char], from: usize) -> Option<Found>
     ensures order { IfSome result (λ found. found.start < found.stop) }
     ensures within { IfSome result (λ found. found.stop ≤ length chars.now) }
 {
+    let places = first_places(chars, from)?;
+    Some(found_at(chars, places))
+}
+
+/// Where the first frame stands, from a place of the list on, or `None` if no frame stands there.
+pub(crate) fn first_places(chars: &[Char], from: usize) -> Option<FramePlaces>
+    ensures first { MatchOption result (HasNoFrame chars.now from) (λ places. HasFirstAt places chars.now from) }
+{
     let mut place = next_start(chars, from);
     while place < chars.len() {
-        if let Some(found) = found_at(chars, place) {
-            return Some(found);
+        if let Some(places) = places_at(chars, place) {
+            return Some(places);
         }
         place = next_start(chars, place + 1);
     }
@@ -33,7 +43,6 @@ fn next_start(chars: &[Char], from: usize) -> usize
     ensures from { from ≤ result }
     ensures least { (found : Found) → StandsIn found chars.now from → result + 2 ≤ found.start }
 {
-    // A frame is looked for at these places alone, since an answer without one costs as much room as one with it.
     let mut place = from;
     while place < chars.len() && !is_start(&chars[place..]) {
         place += 1;
@@ -41,26 +50,37 @@ fn next_start(chars: &[Char], from: usize) -> usize
     place
 }
 
-/// The frame whose two preamble bytes lie at this place, or `None` if none do.
-fn found_at(chars: &[Char], place: usize) -> Option<Found>
+/// Where the frame stands whose two preamble bytes lie at this place, or `None` if none do.
+fn places_at(chars: &[Char], place: usize) -> Option<FramePlaces>
     requires { place < length chars.now }
-    ensures stands { IfSome result (λ found. StandsIn found chars.now place) }
-    ensures start { IfSome result (λ found. found.start ≡ place + 2) }
+    ensures stands { IfSome result (λ places. HasFrameAt places chars.now place) }
+    ensures start { IfSome result (λ places. places.start ≡ place + 2) }
     ensures known { (found : Found) → StandsIn found chars.now place → found.start ≡ place + 2 → IsSome result }
 {
-    let [first, second, behind @ ..] = &chars[place..] else {
+    let [first, second, after @ ..] = &chars[place..] else {
         return None;
     };
     if !is_preamble(*first) || !is_preamble(*second) {
         return None;
     }
-    let (frame, len) = heard_frame(behind)?;
+    let len = heard_len(after)?;
     let start = place + 2;
-    Some(Found {
+    Some(FramePlaces {
         start,
         stop: start + len,
-        frame,
     })
+}
+
+/// The frame that stands at these places.
+pub(crate) fn found_at(chars: &[Char], places: FramePlaces) -> Found
+    requires { HasFrameAt places chars.now 0 }
+    ensures { (found : Found) → IsPlacedAs found places → StandsIn found chars.now 0 → result ≡ found }
+{
+    Found {
+        start: places.start,
+        stop: places.stop,
+        frame: heard_frame(&chars[places.start..places.stop]),
+    }
 }
 
 /// Whether the characters begin with two faultless preamble bytes.

@@ -1,49 +1,80 @@
 //! Bodies as they are heard: in faultless characters.
-ghost use Rattle.std.specs.Prelude.{◌≡◌, ◌≤◌, ◌↔◌, List, ℕ, length, IsSome, IfSome};
+ghost use Rattle.std.specs.Prelude.{◌≡◌, ◌<◌, ◌≤◌, ◌↔◌, ℕ, length, All, Some, IsSome, IfSome, IsTrue};
 ghost use Rattle.hart_frame.specs.FrameParts.{FrameParts};
-ghost use Rattle.hart_frame.specs.Character.{faultless};
 ghost use Rattle.hart_frame.specs.Heard.{bytes_of, BeginsWithHeard};
 ghost use Rattle.hart_frame.specs.Layout.{body_length};
-ghost use Rattle.hart_frame.specs.Refusal.{HasByteCount};
+ghost use Rattle.hart_frame.specs.Parity.{IsCheckByte};
+ghost use Rattle.hart_frame.specs.Refusal.{HasGoodByteCount};
 
 use crate::delimiter::read_delimiter;
 use crate::{Body, Char, Frame, decode};
 
-/// The frame whose body the characters begin with, and the length of that body, or `None` if they begin with none.
-pub(crate) fn heard_frame(chars: &[Char]) -> Option<(Frame, usize)>
-    ensures heard { IfSome result (λ (frame, len). BeginsWithHeard chars.now frame len) }
-    ensures known { (frame : FrameParts) (len : ℕ) → BeginsWithHeard chars.now frame len → IsSome result }
+/// The length of the body that the characters begin with, or `None` if they begin with none. No frame is made.
+pub(crate) fn heard_len(chars: &[Char]) -> Option<usize>
+    ensures heard { IfSome result (λ len. (frame : FrameParts) × BeginsWithHeard chars.now frame len) }
+    ensures known { (frame : FrameParts) (len : ℕ) → BeginsWithHeard chars.now frame len → result ≡ Some len }
 {
-    let told = told_len(chars)?;
-    let body = faultless_bytes(chars.get(..told)?)?;
-    decode(body.as_slice()).ok()
+    let len = told_len(chars)?;
+    let body = chars.get(..len)?;
+    if !are_faultless(body) || heard_check(body) != 0 {
+        return None;
+    }
+    Some(len)
+}
+
+/// The frame whose body the characters begin with.
+pub(crate) fn heard_frame(chars: &[Char]) -> Frame
+    requires body { (frame : FrameParts) × (len : ℕ) × BeginsWithHeard chars.now frame len }
+    requires few { length chars.now ≤ 267 }
+    ensures { (frame : FrameParts) (len : ℕ) → BeginsWithHeard chars.now frame len → result ≡ frame }
+{
+    let (frame, _len) = decode(heard_bytes(chars).as_slice()).unwrap();
+    frame
 }
 
 /// The length of the body that the characters may begin with, told by its delimiter and its byte count, whatever faults
-/// these have. It is `None` if the first is no delimiter, and if the characters end before the byte count.
+/// these have. It is `None` if the first is no delimiter, if the characters end before the byte count, and if that is too
+/// low for an ACK.
 fn told_len(chars: &[Char]) -> Option<usize>
-    ensures known { IsSome result ↔ HasByteCount (bytes_of chars.now) }
+    ensures known { IsSome result ↔ HasGoodByteCount (bytes_of chars.now) }
     ensures told { IfSome result (λ len. len ≡ body_length (bytes_of chars.now)) }
-    ensures fits { IfSome result (λ len. len ≤ 267) }
 {
     let delimiter = read_delimiter(chars.first()?.byte())?;
     let count_place = delimiter.command_place() + 1;
     let byte_count = chars.get(count_place)?.byte();
+    if !delimiter.allows(byte_count) {
+        return None;
+    }
     Some(count_place + usize::from(byte_count) + 2)
 }
 
-/// The bytes of the characters, or `None` if one of them has a fault.
-fn faultless_bytes(chars: &[Char]) -> Option<Body>
+/// Whether no character has a fault.
+fn are_faultless(chars: &[Char]) -> bool
+    ensures { IsTrue result ↔ All (λ character. character.faults ≡ 0) chars.now }
+{
+    chars.iter().all(|character| character.is_faultless())
+}
+
+/// The check byte of the bytes of the characters.
+fn heard_check(chars: &[Char]) -> u8
+    ensures check { IsCheckByte (bytes_of chars.now) result }
+    ensures fits { All (λ byte. byte < 256) (bytes_of chars.now) }
+{
+    let mut check = 0;
+    for character in chars {
+        check ^= character.byte();
+    }
+    check
+}
+
+/// The bytes of the characters, whatever their faults.
+fn heard_bytes(chars: &[Char]) -> Body
     requires { length chars.now ≤ 267 }
-    ensures kept { IfSome result (λ bytes. chars.now ≡ faultless bytes) }
-    ensures known { (bytes : List ℕ) → chars.now ≡ faultless bytes → IsSome result }
+    ensures { result ≡ bytes_of chars.now }
 {
     let mut bytes = Body::new();
     for character in chars {
-        if !character.is_faultless() {
-            return None;
-        }
         bytes.push(character.byte());
     }
-    Some(bytes)
+    bytes
 }

@@ -2,7 +2,6 @@
 ghost use Rattle.std.specs.Prelude.{◌<◌, length};
 ghost use Rattle.hart_frame.specs.Verdict.{IsBodyVerdict, IsShort, IsVerdict};
 
-use crate::FrameKind;
 use crate::delimiter::read_delimiter;
 use crate::layout::Layout;
 use crate::message::PREAMBLE;
@@ -53,7 +52,7 @@ fn judge_body(bytes: &[u8]) -> Verdict
         return Verdict::Open(count_place + 1);
     }
     let byte_count = bytes[count_place];
-    if delimiter.kind == FrameKind::Ack && byte_count < 2 {
+    if !delimiter.allows(byte_count) {
         return Verdict::Never;
     }
     let body_len = count_place + usize::from(byte_count) + 2;

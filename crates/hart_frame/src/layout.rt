@@ -32,7 +32,7 @@ impl Layout {
         let delimiter = read_delimiter(*first).ok_or(FrameFault::BadDelimiter)?;
         let command_place = delimiter.command_place();
         let byte_count = *bytes.get(command_place + 1).ok_or(FrameFault::Truncated)?;
-        if delimiter.kind == FrameKind::Ack && byte_count < 2 {
+        if !delimiter.allows(byte_count) {
             return Err(FrameFault::ShortReply);
         }
         Ok(Layout {

@@ -1,4 +1,7 @@
-use Rattle.hart_frame.proofs.DeliveryLemmas.{no_frame, one_frame, only_told, several_frames}
+use Rattle.std.proofs.Common.{ℕ, [], ◌∷◌, subst, sym, ◌∙◌}
+use Rattle.hart_frame.specs.Frames.{AreFrames, HasNoFrame, IsFirst}
+use Rattle.hart_frame.specs.declared.found.Found.{Found}
+use Rattle.hart_frame.proofs.DeliveryLemmas.{no_frame, one_frame, only_told, second_none, second_some, several_frames}
 use Rattle.hart_frame.proofs.delivery.lone_frame.Goals as goal
 
 pub returns-in_default-clause-told : goal.returns-in_default-clause-told
@@ -8,25 +11,35 @@ pub returns-in_default-clause-only : goal.returns-in_default-clause-only
 returns-in_default-clause-only c =
     only_told c.frames_are_unambiguous.ensures.one_list c.args.delivery.now _ (returns-in_default-clause-told c)
 
-pub returns-in-None-clause-told : goal.returns-in-None-clause-told
-returns-in-None-clause-told c =
-    one_frame c.args.delivery.now c.in-Some.found c.in-Some.ensures.first c.in-None.ensures.first
-
-pub returns-in-None-clause-only : goal.returns-in-None-clause-only
-returns-in-None-clause-only c =
-    only_told c.frames_are_unambiguous.ensures.one_list c.args.delivery.now _ (returns-in-None-clause-told c)
-
-pub returns-in-Some-first_frame-clause-told : goal.returns-in-Some-first_frame-clause-told
-returns-in-Some-first_frame-clause-told c =
-    let second = c.in-Some-first_frame._second in
-    let later = c.every_list_has_frames.ensures c.args.delivery.now second.stop in (
-      c.in-Some.found,
-      second,
+pub returns-then-is_some-clause-told : goal.returns-then-is_some-clause-told
+returns-then-is_some-clause-told c =
+    let delivery = c.args.delivery.now in
+    let first = c.in-Some.ensures.first in
+    let second = second_some delivery c.in-Some.first.stop c.first_places-2.result (sym c.is_some.ensures ∙ c.if-is_some.true)
+    c.first_places-2.ensures.first in
+    let later = c.every_list_has_frames.ensures delivery second.0.stop in
+    let First : ℕ → Type 0 = λ from. IsFirst second.0 delivery from in (
+      first.0,
+      second.0,
       later.0,
-      several_frames c.args.delivery.now c.in-Some.found second later.0 c.in-Some.ensures.first
-          c.in-Some-first_frame.ensures.first later.1,
+      several_frames delivery first.0 second.0 later.0 first.2 (subst First (sym first.1.1) second.1) later.1,
     )
 
-pub returns-in-Some-first_frame-clause-only : goal.returns-in-Some-first_frame-clause-only
-returns-in-Some-first_frame-clause-only c =
-    only_told c.frames_are_unambiguous.ensures.one_list c.args.delivery.now _ (returns-in-Some-first_frame-clause-told c)
+pub returns-then-is_some-clause-only : goal.returns-then-is_some-clause-only
+returns-then-is_some-clause-only c =
+    only_told c.frames_are_unambiguous.ensures.one_list c.args.delivery.now _ (returns-then-is_some-clause-told c)
+
+pub returns-clause-told : goal.returns-clause-told
+returns-clause-told c =
+    let delivery = c.args.delivery.now in
+    let first = c.in-Some.ensures.first in
+    let none = second_none delivery c.in-Some.first.stop c.first_places-2.result (sym c.is_some.ensures ∙ c.if-is_some.false)
+    c.first_places-2.ensures.first in
+    let None : ℕ → Type 0 = λ from. HasNoFrame delivery from in
+    let Frames : Found → Type 0 = λ found. AreFrames delivery 0 (found ∷ []) in
+    subst Frames (sym (c.found_at.ensures first.0 first.1 first.2.stands))
+    (one_frame delivery first.0 first.2 (subst None (sym first.1.1) none))
+
+pub returns-clause-only : goal.returns-clause-only
+returns-clause-only c =
+    only_told c.frames_are_unambiguous.ensures.one_list c.args.delivery.now _ (returns-clause-told c)

@@ -1,7 +1,7 @@
 use Rattle.std.proofs.Common.{◌+◌, ◌-◌, ◌≤◌, length}
 use Rattle.hart_frame.specs.Place.{StandsIn}
 use Rattle.hart_frame.specs.declared.found.Found.{Found}
-use Rattle.hart_frame.proofs.first.first_frame.Given as goal
+use Rattle.hart_frame.proofs.first.first_places.Given as goal
 
 abbrev pub invariant-loop-place : goal.invariant-loop-place
 invariant-loop-place l = record {
