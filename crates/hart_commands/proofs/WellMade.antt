@@ -177,18 +177,18 @@ reading-to_command command (code ∷ []) = tt
 reading-to_command command (code ∷ status ∷ bytes) =
     by_test _ _ _ _ (λ t. tt) (λ small.
     by_test _ _ _ _ (λ t. success (content_reading command bytes) (is_one code 0 t) (content-made command bytes)) (λ refused.
-    by_test (is_known command) (Some (telling Refused)) None IsToCommand
+    by_test (is_known command) (Some (saying Refused)) None IsToCommand
     (λ known. (inr (positive refused, below_128 small, known, refl), refl))
     (λ f. tt)))
   where
-    telling : ReplyContent → Reply
-    telling content = record { command = command; code = code; status = record { 0 = status }; content = content }
+    saying : ReplyContent → Reply
+    saying content = record { command = command; code = code; status = record { 0 = status }; content = content }
 
     IsToCommand : Reply → Type 0
     IsToCommand reply = IsReply reply × (reply.command ≡ command)
 
     success : (content : Option ReplyContent) → code ≡ 0 → IfSome content (IsMade command)
-        → IfSome (option_map telling content) (λ reply. IsReply reply × (reply.command ≡ command))
+        → IfSome (option_map saying content) (λ reply. IsReply reply × (reply.command ≡ command))
     success None is made = tt
     success (Some content) is made = (inl (is, made.0, made.1), refl)
 

@@ -108,11 +108,11 @@ content_reading command bytes =
 -- code 0 the data must be those of a content, and with another code the request was refused, whatever the data.
 abbrev pub reply_reading : ℕ → List ℕ → Option Reply
 reply_reading command (code ∷ status ∷ bytes) =
-    let telling : ReplyContent → Reply =
+    let saying : ReplyContent → Reply =
     λ content. record { command = command; code = code; status = record { 0 = status }; content = content } in
     if nat_lt 127 code then None
-    else if code == 0 then option_map telling (content_reading command bytes)
-    else if is_known command then Some (telling Refused)
+    else if code == 0 then option_map saying (content_reading command bytes)
+    else if is_known command then Some (saying Refused)
     else None
 reply_reading command _ = None
 

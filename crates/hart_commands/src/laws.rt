@@ -11,7 +11,7 @@ ghost use Rattle.hart_commands.specs.declared.request.Request.{Request};
 ghost use Rattle.hart_commands.specs.declared.reply.Reply.{Reply};
 
 use crate::{Register, Request};
-use hart_values::the_test_tells_dates;
+use hart_values::dates_are_decided;
 
 /// A request is well made, whoever made it: the types of its parts say so.
 pub fn requests_are_well_made(request: &Request)
@@ -51,7 +51,7 @@ pub fn written_data_are_read_again()
     ensures { (request : Request) (rest : List ℕ) → IsRequest request → MayFollow request rest
         → request_reading (command_of request) (request_data request ++ rest) ≡ Ok request }
 {
-    the_test_tells_dates();
+    dates_are_decided();
 }
 
 /// The data that a request is written as, with none after them, are read as that request.
@@ -59,7 +59,7 @@ pub fn written_data_are_their_request()
     ensures { (request : Request) → IsRequest request
         → request_reading (command_of request) (request_data request) ≡ Ok request }
 {
-    the_test_tells_dates();
+    dates_are_decided();
 }
 
 /// What is read of a command and its data is a well-made request of that command.
@@ -67,7 +67,7 @@ pub fn requests_have_their_command()
     ensures { (command : ℕ) (bytes : List ℕ) (request : Request)
         → request_reading command bytes ≡ Ok request → (command_of request ≡ command) × IsRequest request }
 {
-    the_test_tells_dates();
+    dates_are_decided();
 }
 
 /// A command is known exactly if none of its data are refused with code 64.
@@ -75,7 +75,7 @@ pub fn unknown_commands_are_refused()
     ensures { (command : ℕ) (bytes : List ℕ)
         → (request_reading command bytes ≡ Err 64) ↔ (is_known command ≡ false) }
 {
-    the_test_tells_dates();
+    dates_are_decided();
 }
 
 /// `Register::ALL` has every register, and none twice.

@@ -173,7 +173,7 @@ fn an_identity_has_its_parts(rt: HostRuntime) -> Result<(), Fail> {
 }
 
 #[test]
-fn a_refusal_tells_its_code(rt: HostRuntime) -> Result<(), Fail> {
+fn a_refusal_gives_its_code(rt: HostRuntime) -> Result<(), Fail> {
     let reply = Reply::read(19, &[0x07, 0x40]).ok_or("a refusal")?;
     assert_eq!(rt; (reply.code.value(), reply.status.0), (7, 0x40));
     assert_eq!(rt; reply.content, ReplyContent::Refused);

@@ -24,7 +24,7 @@ pub fn refused_commands_change_nothing()
 
 /// An answer is a reply to the frame, whose first byte is the frame's response code; silence means that the frame is not
 /// answered.
-pub fn answers_tell_their_code()
+pub fn answers_give_their_code()
     ensures answered { (state : DeviceState) (process : Process) (frame reply : FrameParts)
         → answer_of state process frame ≡ Some reply
         → (is_answered state frame ≡ true) × (reply ≡ reply_parts frame reply.payload)

@@ -44,7 +44,7 @@ pub use identity_parts::IdentityParts;
 pub use image::Image;
 pub use image_registers::ImageRegisters;
 pub use laws::{
-    answers_tell_their_code, bytes_have_one_image_fault, frames_leave_identity_and_protection,
+    answers_give_their_code, bytes_have_one_image_fault, frames_leave_identity_and_protection,
     images_have_no_fault, images_have_one_state, overwrites_absorb,
     refused_commands_change_nothing, registers_of_lists, resets_name_this_counter,
     writes_execute_their_overwrite,

@@ -4,7 +4,7 @@ use hart_frame::{Char, Frame, Payload};
 use hart_values::{Address, LoopMode, MasterId, PackedText, PollingAddress};
 use std::test::Fail;
 
-mod hearing;
+mod deliveries;
 mod images;
 
 /// The payload of the reply to Command 0, before anything is counted.

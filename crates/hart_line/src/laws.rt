@@ -28,7 +28,7 @@ use hart_commands::{
     requests_have_their_command, writes_have_overwrites, written_data_are_their_request,
 };
 use hart_device::{
-    answers_tell_their_code, refused_commands_change_nothing, registers_of_lists,
+    answers_give_their_code, refused_commands_change_nothing, registers_of_lists,
     resets_name_this_counter, writes_execute_their_overwrite,
 };
 use hart_frame::{
@@ -130,7 +130,7 @@ pub fn scripts_keep_their_promises()
     // No-ops: their contracts are used below.
     registers_of_lists();
     writes_execute_their_overwrite();
-    answers_tell_their_code();
+    answers_give_their_code();
     requests_have_their_command();
     writes_have_overwrites();
     resets_name_this_counter();

@@ -248,7 +248,7 @@ const IDENTITIES: &[(u8, &[u8], Option<(u16, u32)>)] = &[
 ];
 
 #[test]
-fn identities_tell_addresses(rt: HostRuntime) -> Result<(), Fail> {
+fn identities_give_addresses(rt: HostRuntime) -> Result<(), Fail> {
     for (command, payload, want) in IDENTITIES {
         let reply = Reply::read(*command, payload).ok_or("a reply")?;
         let want = want.and_then(|(expanded_type, id)| Address::unique(expanded_type, id).ok());

@@ -49,7 +49,7 @@ pub use each_master::EachMaster;
 pub use fault::ValueFault;
 pub use hart_date::HartDate;
 pub use laws::{
-    address_bytes_are_unambiguous, packed_text_and_bytes_determine_each_other, the_test_tells_dates,
+    address_bytes_are_unambiguous, dates_are_decided, packed_text_and_bytes_determine_each_other,
 };
 pub use loop_mode::LoopMode;
 pub use master_id::MasterId;

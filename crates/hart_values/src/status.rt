@@ -2,7 +2,7 @@ ghost use Rattle.std.specs.Prelude.{◌≡◌, ℕ, slice_index};
 
 use crate::{CommFaults, DeviceStatus, ResponseCode};
 
-/// The bit of the first status byte that tells communication faults from a response code.
+/// The bit of the first status byte that distinguishes communication faults from a response code.
 const FAULTS_BIT: u8 = 0x80;
 
 /// What the two status bytes of a reply say (HCF_SPEC-099).

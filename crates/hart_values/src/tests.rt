@@ -122,7 +122,7 @@ fn three_zeros_alone_are_not_set(rt: HostRuntime) -> Result<(), Fail> {
 }
 
 #[test]
-fn status_bytes_tell_a_code_or_faults(rt: HostRuntime) -> Result<(), Fail> {
+fn status_bytes_hold_a_code_or_faults(rt: HostRuntime) -> Result<(), Fail> {
     let changed = DeviceStatus(DeviceStatus::CONFIGURATION_CHANGED);
     let code = Status::Code(ResponseCode::new(16)?, changed);
     assert_eq!(rt; Status::read([0x10, 0x40]), code);

@@ -36,7 +36,7 @@ abbrev pub state_heard : DeviceState → Option FrameParts → DeviceState
 state_heard device None = device
 state_heard device (Some frame) = state_after device frame
 
--- No mark lies ahead of the executions.
+-- No mark is greater than the number of executions.
 abbrev pub MarksWithin : World → Type 0
 MarksWithin world = (id : MasterId) (mark : ℕ) → of_master id world.marks ≡ Some mark → mark ≤ length world.executions
 

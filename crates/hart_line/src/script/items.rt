@@ -28,7 +28,7 @@ pub fn leading_item(text: &[u8]) -> Option<LeadingItem>
         return None;
     };
     let byte = byte_of_digits(*high, *low)?;
-    if !tells_faults(text) {
+    if !gives_faults(text) {
         let char = Char::new(byte, 0)?;
         return Some(LeadingItem { char, len: 2 });
     }
@@ -44,7 +44,7 @@ pub fn leading_item(text: &[u8]) -> Option<LeadingItem>
 }
 
 /// Whether a `!` stands after two bytes.
-fn tells_faults(text: &[u8]) -> bool
+fn gives_faults(text: &[u8]) -> bool
     ensures { IsTrue result ↔ (slice_index text.now 2 ≡ 33) }
 {
     text.len() > 2 && text[2] == b'!'

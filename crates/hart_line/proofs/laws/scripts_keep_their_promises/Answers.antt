@@ -21,7 +21,7 @@ returns c =
       command = c.requests_have_their_command.ensures;
       reads = c.written_data_are_their_request.ensures;
       overwritten = c.writes_have_overwrites.ensures.exactly;
-      code = c.answers_tell_their_code.ensures.answered;
+      code = c.answers_give_their_code.ensures.answered;
       executes = device.executes;
       only = device.only;
     } in

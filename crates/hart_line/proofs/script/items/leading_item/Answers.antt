@@ -63,34 +63,34 @@ no_item_begins text m f (Faulty x y v w) tail h =
     (subst (λ (zs : List ℕ). byte_of (get_or zs 3 0) (get_or zs 4 0) ≢ 0) (sym e) h.valid.2)
     (subst (λ (zs : List ℕ). AreFaultBits (byte_of (get_or zs 3 0) (get_or zs 4 0))) (sym e) h.valid.3)
 
-pub returns-then-not-tells_faults : goal.returns-then-not-tells_faults
-returns-then-not-tells_faults c =
+pub returns-then-not-gives_faults : goal.returns-then-not-gives_faults
+returns-then-not-gives_faults c =
     begins_as_plain _ _ _ c.in-len2-up.len_at_least c.in_ok-byte.ensures.0 c.in_ok-byte.ensures.1
-    (iff_false c.tells_faults.ensures c.if-not-tells_faults.true)
+    (iff_false c.gives_faults.ensures c.if-not-gives_faults.true)
     c.in_ok-char.ensures.kept
 
 pub returns : goal.returns
 returns c =
     begins_as_faulty _ _ _ _ c.in-len5-up.len_at_least c.in_ok-byte.ensures.0 c.in_ok-byte.ensures.1
-    (c.tells_faults.ensures.0 c.if-not-tells_faults.false)
+    (c.gives_faults.ensures.0 c.if-not-gives_faults.false)
     c.in_ok-faults.ensures.0 c.in_ok-faults.ensures.1 c.if-faults-eq0.false (c.in_ok-char-2.ensures.accepted.0 refl)
     c.in_ok-char-2.ensures.kept
 
 pub returns-in_default-text : goal.returns-in_default-text
-returns-in_default-text c = no_item_begins _ (c.tells_faults.ensures.0 c.if-not-tells_faults.false) (λ long d z a. omega arith)
+returns-in_default-text c = no_item_begins _ (c.gives_faults.ensures.0 c.if-not-gives_faults.false) (λ long d z a. omega arith)
 
 pub returns-in_err-faults : goal.returns-in_err-faults
 returns-in_err-faults c =
     rw (c.from_residual-in_err-faults.ensures)
-    (no_item_begins _ (c.tells_faults.ensures.0 c.if-not-tells_faults.false) (λ long d z a. c.in_err-faults.ensures d))
+    (no_item_begins _ (c.gives_faults.ensures.0 c.if-not-gives_faults.false) (λ long d z a. c.in_err-faults.ensures d))
 
 pub returns-then-faults-eq0 : goal.returns-then-faults-eq0
 returns-then-faults-eq0 c =
-    no_item_begins _ (c.tells_faults.ensures.0 c.if-not-tells_faults.false)
+    no_item_begins _ (c.gives_faults.ensures.0 c.if-not-gives_faults.false)
     (λ long d z a. z (sym c.in_ok-faults.ensures.1 ∙ c.if-faults-eq0.true))
 
 pub returns-in_err-char-2 : goal.returns-in_err-char-2
 returns-in_err-char-2 c =
     rw (c.from_residual-in_err-char-2.ensures)
-    (no_item_begins _ (c.tells_faults.ensures.0 c.if-not-tells_faults.false)
+    (no_item_begins _ (c.gives_faults.ensures.0 c.if-not-gives_faults.false)
     (λ long d z a. let k = c.in_err-char-2.ensures.accepted.1 (subst AreFaultBits (sym c.in_ok-faults.ensures.1) a) in cc k))

@@ -1,6 +1,6 @@
 use Rattle.hart_device.specs.Answer.{is_answered, reply_of}
 use Rattle.hart_device.proofs.EffectLemmas.{answered_if, none_if}
-use Rattle.hart_device.proofs.laws.answers_tell_their_code.Goals as goal
+use Rattle.hart_device.proofs.laws.answers_give_their_code.Goals as goal
 
 pub returns-clause-answered : goal.returns-clause-answered
 returns-clause-answered c = λ state process frame reply. answered_if (is_answered state frame) frame reply (reply_of state process frame)
