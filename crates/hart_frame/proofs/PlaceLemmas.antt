@@ -73,7 +73,8 @@ StandsIn-body found chars from stands =
     let two : List Character = faultless (255 ∷ 255 ∷ []) in
     let after : List Character = faultless stands.body ++ stands.rest in
     let whole : chars ≡ (stands.front ++ two) ++ after =
-    stands.split ∙ append_assoc stands.front (faultless (255 ∷ 255 ∷ stands.body)) stands.rest ∙ sym (append_assoc stands.front two after) in
+    stands.split ∙ append_assoc stands.front (faultless (255 ∷ 255 ∷ stands.body)) stands.rest
+    ∙ sym (append_assoc stands.front two after) in
     let dropped : drop found.start chars ≡ after =
     ap (drop found.start) whole
     ∙ drop_at (stands.front ++ two) after found.start (omega (arith, length-append stands.front two, stands.start)) in
