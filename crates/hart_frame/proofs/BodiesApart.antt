@@ -1,4 +1,4 @@
--- A list of bytes has at most one body at its front, and that body at most one frame.
+-- A list of bytes begins with one body at most, and that body has one frame at most.
 use Rattle.std.proofs.Common.{◌≡◌, ℕ, ◌+◌, ◌*◌, ◌<◌, ◌≤◌, Bool, List, [], ◌∷◌, ◌++◌, length, take, drop, refl, sym, ap, ◌∙◌, arith, append_assoc, length-append, subst}
 use Rattle.std.proofs.lemmas.List.{take_at, drop_at, append_cancel_right, take-append-drop, length-take-le}
 use Rattle.std.specs.List.{All}
@@ -20,16 +20,18 @@ abbrev pub OneReading : Type 0
 OneReading = (m n : MasterId) (b c : Bool) (x y : Address) (bytes : List ℕ)
     → IsAddressBytes m b x bytes → IsAddressBytes n c y bytes → (m ≡ n) × (b ≡ c) × (x ≡ y)
 
--- fronts of one length split equal lists alike
-pub record SameParts (front other : List ℕ) (back rest : List ℕ) : Type 0 where
-  pub fronts : front ≡ other
+-- prefixes of one length split equal lists alike
+pub record SameParts (prefix other : List ℕ) (back rest : List ℕ) : Type 0 where
+  pub prefixes : prefix ≡ other
   pub backs : back ≡ rest
 
-same_parts : (front other back rest : List ℕ) → length front ≡ length other → front ++ back ≡ other ++ rest
-    → SameParts front other back rest
-same_parts front other back rest lengths whole = record {
-  fronts = sym (take_at front back (length front) refl) ∙ ap (take (length front)) whole ∙ take_at other rest (length front) (sym lengths);
-  backs = sym (drop_at front back (length front) refl) ∙ ap (drop (length front)) whole ∙ drop_at other rest (length front) (sym lengths);
+same_parts : (prefix other back rest : List ℕ) → length prefix ≡ length other → prefix ++ back ≡ other ++ rest
+    → SameParts prefix other back rest
+same_parts prefix other back rest lengths whole = record {
+  prefixes = sym (take_at prefix back (length prefix) refl) ∙ ap (take (length prefix)) whole
+      ∙ take_at other rest (length prefix) (sym lengths);
+  backs = sym (drop_at prefix back (length prefix) refl) ∙ ap (drop (length prefix)) whole
+      ∙ drop_at other rest (length prefix) (sym lengths);
 }
 
 same_heads : (x y : ℕ) (xs ys : List ℕ) → x ∷ xs ≡ y ∷ ys → x ≡ y
@@ -115,9 +117,9 @@ bodies_apart law f g body other rest more p q whole =
     let payloads = same_parts f.payload g.payload _ _ (same_heads _ _ _ _ counts) (same_tails _ _ _ _ counts) in
     let rests = same_tails _ _ _ _ payloads.backs in
     let P : List ℕ → Type 0 = λ xs. IsAddressBytes g.master g.burst g.address xs in
-    let reading = law _ _ _ _ _ _ a.address a.address_bytes (subst P (sym addresses.fronts) b.address_bytes) in
+    let reading = law _ _ _ _ _ _ a.address a.address_bytes (subst P (sym addresses.prefixes) b.address_bytes) in
     record {
-      frames = same_frames f g delimiters.kind reading.0 reading.1 reading.2 expansions.fronts commands payloads.fronts;
+      frames = same_frames f g delimiters.kind reading.0 reading.1 reading.2 expansions.prefixes commands payloads.prefixes;
       bodies = append_cancel_right body other rest (whole ∙ ap (λ (t : List ℕ). other ++ t) (sym rests));
       rests = rests;
     }
@@ -151,7 +153,7 @@ IsBody-one law f body other p q =
     (subst HasEvenParity p.parts p.parity) (subst HasEvenParity moved q.parity) in
     p.parts ∙ ap (λ (check : ℕ). p.checked ++ check ∷ []) checks ∙ sym moved
 
--- the front of a list is one body of one frame
+-- one prefix of a list at most is a body, of one frame
 pub BeginsWithBody-one : OneReading → (f g : FrameParts) (bytes : List ℕ) (m n : ℕ)
     → BeginsWithBody bytes f m → BeginsWithBody bytes g n → (f ≡ g) × (m ≡ n)
 BeginsWithBody-one law f g bytes m n p q =
@@ -160,7 +162,7 @@ BeginsWithBody-one law f g bytes m n p q =
     let lengths = ap length apart.bodies in
     (apart.frames, omega (arith, lengths, length-take-le m bytes p.within, length-take-le n bytes q.within))
 
--- a body is the front of any list that begins with it
+-- a body is the prefix of any list that begins with it
 pub BeginsWithBody-append : (f : FrameParts) (body rest : List ℕ) → IsBody f body → BeginsWithBody (body ++ rest) f (length body)
 BeginsWithBody-append f body rest is = record {
   within = omega (arith, length-append body rest);

@@ -20,11 +20,11 @@ IsBody-push frame checked check part fits check_byte = record {
   parity = HasEvenParity-push checked check check_byte;
 }
 
--- what the check byte covers, and one more byte with which the check byte of all is 0, is a body at the front
-pub BeginsWithBody-front : (bytes : List ℕ) (frame : FrameParts) (len : ℕ) → 1 ≤ len → len ≤ length bytes
+-- what the check byte covers, and one more byte with which the check byte of all is 0, is a body that begins the bytes
+pub BeginsWithBody-prefix : (bytes : List ℕ) (frame : FrameParts) (len : ℕ) → 1 ≤ len → len ≤ length bytes
     → All (λ byte. byte < 256) (take len bytes) → IsCheckedPart frame (take (len - 1) bytes) → IsCheckByte (take len bytes) 0
     → BeginsWithBody bytes frame len
-BeginsWithBody-front bytes frame len some within fits part check = record {
+BeginsWithBody-prefix bytes frame len some within fits part check = record {
   within = within;
   body = record {
     checked = take (len - 1) bytes;
@@ -36,7 +36,7 @@ BeginsWithBody-front bytes frame len some within fits part check = record {
   };
 }
 
--- bytes of even parity whose front is what the check byte covers are a body
+-- bytes of even parity, all but the last of which are what the check byte covers, are a body
 pub IsBody-whole : (bytes : List ℕ) (frame : FrameParts) → 1 ≤ length bytes → All (λ byte. byte < 256) bytes
     → IsCheckedPart frame (take (length bytes - 1) bytes) → HasEvenParity bytes → IsBody frame bytes
 IsBody-whole bytes frame some fits part even = record {

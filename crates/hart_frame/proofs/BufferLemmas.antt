@@ -176,7 +176,7 @@ sound_open b byte sound drained room before =
 pub length_held : (b : Buffer) → IsSound b → length (held_bytes b) ≡ b.to - b.from
 length_held b sound = length_range b.bytes b.from b.to sound.order (omega (arith, sound.within, sound.bytes_len))
 
--- a buffer that has seen the frame at its front
+-- a buffer that has seen the frame that it begins with
 pub sound_seen : (b : Buffer) (layout : Layout) → IsSound b → b.drained ≡ false → BeginsWithWhole b layout
     → IsSound (record b { seen = Some layout })
 sound_seen b layout sound busy begins = record {

@@ -62,15 +62,15 @@ clear_at (sent ∷ bytes) (character ∷ others) (suc place) byte heard within i
     clear_at bytes others place byte heard.1 (omega (arith, within)) is
 
 -- bytes that are heard without faults begin what was sent
-record BeginsWith (bytes front : List ℕ) : Type 0 where
+record BeginsWith (bytes prefix : List ℕ) : Type 0 where
   pub rest : List ℕ
-  pub parts : bytes ≡ front ++ rest
+  pub parts : bytes ≡ prefix ++ rest
 
-begins_sent : (bytes front : List ℕ) (more : List Character) → AreHeardOrMarked bytes (faultless front ++ more) → BeginsWith bytes front
+begins_sent : (bytes prefix : List ℕ) (more : List Character) → AreHeardOrMarked bytes (faultless prefix ++ more) → BeginsWith bytes prefix
 begins_sent bytes [] more heard = record { rest = bytes; parts = refl }
-begins_sent [] (byte ∷ front) more heard = absurd heard
-begins_sent (sent ∷ bytes) (byte ∷ front) more heard =
-    let others = begins_sent bytes front more heard.1 in
+begins_sent [] (byte ∷ prefix) more heard = absurd heard
+begins_sent (sent ∷ bytes) (byte ∷ prefix) more heard =
+    let others = begins_sent bytes prefix more heard.1 in
     let same = clear_is sent byte heard.0 in
     record { rest = others.rest; parts = ap (λ (b : ℕ). b ∷ bytes) (sym same) ∙ ap (λ (bs : List ℕ). byte ∷ bs) others.parts }
 
@@ -87,17 +87,17 @@ delimiter_of-other f body is same = omega (arith, same, (IsDelimiter-of f is.che
 
 -- a list that a frame stands in, from its two preamble bytes on
 parts : (chars : List Character) (found : Found) (from : ℕ) (stands : StandsIn found chars from)
-    → chars ≡ stands.front ++ (faultless (255 ∷ 255 ∷ []) ++ (faultless stands.body ++ stands.rest))
-parts chars found from stands = stands.split ∙ append_assoc stands.front (faultless (255 ∷ 255 ∷ stands.body)) stands.rest
+    → chars ≡ stands.prefix ++ (faultless (255 ∷ 255 ∷ []) ++ (faultless stands.body ++ stands.rest))
+parts chars found from stands = stands.split ∙ append_assoc stands.prefix (faultless (255 ∷ 255 ∷ stands.body)) stands.rest
 
 -- the characters there, counted from the first of the two
 part_at : (chars : List Character) (found : Found) (from count place : ℕ) (stands : StandsIn found chars from)
-    → place ≡ length stands.front + count
+    → place ≡ length stands.prefix + count
     → get_or chars place preamble ≡ get_or (faultless (255 ∷ 255 ∷ []) ++ (faultless stands.body ++ stands.rest)) count preamble
 part_at chars found from count place stands is =
     ap (λ (n : ℕ). get_or chars n preamble) is
-    ∙ ap (λ (cs : List Character). get_or cs (length stands.front + count) preamble) (parts chars found from stands)
-    ∙ get_or-append-add stands.front (faultless (255 ∷ 255 ∷ []) ++ (faultless stands.body ++ stands.rest)) count preamble
+    ∙ ap (λ (cs : List Character). get_or cs (length stands.prefix + count) preamble) (parts chars found from stands)
+    ∙ get_or-append-add stands.prefix (faultless (255 ∷ 255 ∷ []) ++ (faultless stands.body ++ stands.rest)) count preamble
 
 -- the body there begins with its delimiter
 first_at : (f : FrameParts) (body : List ℕ) (rest : List Character) → IsBody f body
@@ -137,28 +137,28 @@ preamble_at left body chars place byte is before at =
 
 -- no frame stands after the delimiter
 not_after : (left : ℕ) (body : List ℕ) (chars : List Character) (found : Found) (from : ℕ) → IsHeard left body chars
-    → (stands : StandsIn found chars from) → left < length stands.front → ⊥
+    → (stands : StandsIn found chars from) → left < length stands.prefix → ⊥
 not_after left body chars found from is stands after =
     let pair : List Character = faultless (255 ∷ 255 ∷ []) in
     let rest : List Character = faultless stands.body ++ stands.rest in
-    is.no_two_preambles (drop (left + 1) stands.front) rest
-    (ap (drop (left + 1)) (parts chars found from stands) ∙ drop-append-le (left + 1) stands.front (pair ++ rest) (omega (arith, after))
-    ∙ sym (append_assoc (drop (left + 1) stands.front) pair rest))
+    is.no_two_preambles (drop (left + 1) stands.prefix) rest
+    (ap (drop (left + 1)) (parts chars found from stands) ∙ drop-append-le (left + 1) stands.prefix (pair ++ rest) (omega (arith, after))
+    ∙ sym (append_assoc (drop (left + 1) stands.prefix) pair rest))
 
 -- nor before it
 not_before : (left : ℕ) (body : List ℕ) (chars : List Character) (found : Found) (from : ℕ) → IsHeard left body chars
-    → (stands : StandsIn found chars from) → length stands.front + 2 < left → ⊥
+    → (stands : StandsIn found chars from) → length stands.prefix + 2 < left → ⊥
 not_before left body chars found from is stands before =
     delimiter_of-other found.frame stands.body stands.is_body
-    (preamble_at left body chars (length stands.front + 2) (delimiter_of found.frame) is before
-    (part_at chars found from 2 (length stands.front + 2) stands refl
+    (preamble_at left body chars (length stands.prefix + 2) (delimiter_of found.frame) is before
+    (part_at chars found from 2 (length stands.prefix + 2) stands refl
     ∙ first_at found.frame stands.body stands.rest stands.is_body))
 
 -- so a frame starts at the delimiter
 start_is : (left : ℕ) (body : List ℕ) (chars : List Character) (found : Found) (from : ℕ) → IsHeard left body chars
-    → (stands : StandsIn found chars from) → length stands.front + 2 ≡ left
+    → (stands : StandsIn found chars from) → length stands.prefix + 2 ≡ left
 start_is left body chars found from is stands =
-    let p = length stands.front in
+    let p = length stands.prefix in
     let cases : (p + 2 ≡ left) ⊎ ((p + 2 < left) ⊎ ((left < p) ⊎ ((left ≡ p + 0) ⊎ (left ≡ p + 1)))) = grind arith in
     elim cases [
       | inl here ↦ here
@@ -174,13 +174,13 @@ begins_body : (left : ℕ) (body : List ℕ) (chars : List Character) (found : F
 begins_body left body chars found from is stands =
     let pair : List Character = faultless (255 ∷ 255 ∷ []) in
     let rest : List Character = faultless stands.body ++ stands.rest in
-    let front_len : length (stands.front ++ pair) ≡ left =
-    omega (arith, length-append stands.front pair, start_is left body chars found from is stands) in
+    let prefix_len : length (stands.prefix ++ pair) ≡ left =
+    omega (arith, length-append stands.prefix pair, start_is left body chars found from is stands) in
     let heard : AreHeardOrMarked body (drop left chars) =
     subst (λ n. AreHeardOrMarked body (drop n chars)) (length-replicate left 255) (heard-drop (replicate left 255) body chars is.heard) in
     let after : drop left chars ≡ rest =
-    ap (drop left) (parts chars found from stands ∙ sym (append_assoc stands.front pair rest))
-    ∙ drop_at (stands.front ++ pair) rest left front_len in
+    ap (drop left) (parts chars found from stands ∙ sym (append_assoc stands.prefix pair rest))
+    ∙ drop_at (stands.prefix ++ pair) rest left prefix_len in
     begins_sent body stands.body stands.rest (subst (AreHeardOrMarked body) after heard)
 
 -- MARKED DAMAGE

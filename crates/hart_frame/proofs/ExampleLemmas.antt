@@ -45,12 +45,12 @@ IsOther character = character.byte < 255
 
 none_in_row : (chars : List Character) → AllByRecursion IsOther chars → HasNoTwoPreambles chars
 none_in_row [] others [] rest same = cc
-none_in_row [] others (character ∷ front) rest same = cc
+none_in_row [] others (character ∷ prefix) rest same = cc
 none_in_row (character ∷ chars) others [] rest same =
     let byte : character.byte ≡ 255 = ap (λ (cs : List Character). (get_or cs 0 preamble).byte) same in
     omega (arith, byte, others.0)
-none_in_row (character ∷ chars) others (other ∷ front) rest same =
-    none_in_row chars others.1 front rest (ap (drop 1) same)
+none_in_row (character ∷ chars) others (other ∷ prefix) rest same =
+    none_in_row chars others.1 prefix rest (ap (drop 1) same)
 
 -- a vertical parity fault
 parity_bit : (bit : ℕ) → bit < 8 → bit_at 64 bit ≡ 1 → IsFaultBit bit
@@ -135,16 +135,16 @@ other_is_not_marked one_body damage =
 -- of what is as long as these two preamble bytes are left
 two_left : OneBody → (row : List ℕ) → length row ≡ 7 → (damage : IsCheckDamage identity_request 5 (faultless row)) → damage.left ≡ 2
 two_left one_body row seven damage =
-    let front : List ℕ = replicate damage.left 255 in
-    let same : row ≡ front ++ damage.bytes = faultless-one row (front ++ damage.bytes) damage.heard in
-    let front_len : length front ≡ damage.left = length-replicate damage.left 255 in
+    let prefix : List ℕ = replicate damage.left 255 in
+    let same : row ≡ prefix ++ damage.bytes = faultless-one row (prefix ++ damage.bytes) damage.heard in
+    let prefix_len : length prefix ≡ damage.left = length-replicate damage.left 255 in
     let body = one_body identity_request damage.body request_body damage.is_body request_is in
     omega (
       arith,
       seven,
-      front_len,
+      prefix_len,
       ap length same,
-      length-append front damage.bytes,
+      length-append prefix damage.bytes,
       damage.replaces.same_length,
       ap length body,
     )
@@ -152,10 +152,10 @@ two_left one_body row seven damage =
 pub request_is_not_check : OneBody → IsCheckDamage identity_request 5 other_request → ⊥
 request_is_not_check one_body damage =
     let row : List ℕ = 255 ∷ 255 ∷ other_bytes 131 in
-    let front : List ℕ = replicate damage.left 255 in
-    let two : length front ≡ 2 = length-replicate damage.left 255 ∙ two_left one_body row refl damage in
+    let prefix : List ℕ = replicate damage.left 255 in
+    let two : length prefix ≡ 2 = length-replicate damage.left 255 ∙ two_left one_body row refl damage in
     let bytes : other_bytes 131 ≡ damage.bytes =
-    ap (drop 2) (faultless-one row (front ++ damage.bytes) damage.heard) ∙ drop_at front damage.bytes 2 two in
+    ap (drop 2) (faultless-one row (prefix ++ damage.bytes) damage.heard) ∙ drop_at prefix damage.bytes 2 two in
     let check = IsCheckByte-fold (other_bytes 131) 0 (bytes_fit (other_bytes 131) (other_fits 131 (omega arith))) refl in
     damage.parity (subst HasEvenParity bytes (even-check (other_bytes 131) check))
 

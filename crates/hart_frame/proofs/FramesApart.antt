@@ -10,9 +10,9 @@ use Rattle.hart_frame.specs.declared.found.Found.{Found}
 use Rattle.hart_frame.proofs.HeardLemmas.{BeginsWithBody-heard}
 use Rattle.hart_frame.proofs.PlaceLemmas.{StandsIn-hears}
 
--- from the front of a list of bytes at most one body is read
-abbrev pub OneFront : Type 0
-OneFront = (f g : FrameParts) (bytes : List ℕ) (m n : ℕ) → BeginsWithBody bytes f m → BeginsWithBody bytes g n → (f ≡ g) × (m ≡ n)
+-- at most one prefix of a list of bytes is a body
+abbrev pub OnePrefix : Type 0
+OnePrefix = (f g : FrameParts) (bytes : List ℕ) (m n : ℕ) → BeginsWithBody bytes f m → BeginsWithBody bytes g n → (f ≡ g) × (m ≡ n)
 
 -- what is found is the same where its parts are
 same_found : (f g : Found) → f.start ≡ g.start → f.stop ≡ g.stop → f.frame ≡ g.frame → f ≡ g
@@ -22,10 +22,10 @@ same_found f g starts stops frames =
     all
 
 -- one frame stands at one place
-StandsIn-one : OneFront → (f g : Found) (chars : List Character) (m n : ℕ) → StandsIn f chars m → StandsIn g chars n
+StandsIn-one : OnePrefix → (f g : Found) (chars : List Character) (m n : ℕ) → StandsIn f chars m → StandsIn g chars n
     → f.start ≡ g.start → f ≡ g
 StandsIn-one law f g chars m n p q starts =
-    let place = length p.front in
+    let place = length p.prefix in
     let tail : List Character = drop place chars in
     let heard = StandsIn-hears chars tail place m f p p.start refl in
     let also = StandsIn-hears chars tail place n g q (sym starts ∙ p.start) refl in
@@ -34,7 +34,7 @@ StandsIn-one law f g chars m n p q starts =
     (BeginsWithBody-heard behind f.frame (length p.body) heard) (BeginsWithBody-heard behind g.frame (length q.body) also) in
     same_found f g starts (omega (arith, same.1, starts, p.start, q.start, p.stop, q.stop)) same.0
 
-pub IsFirst-one : OneFront → (f g : Found) (chars : List Character) (from : ℕ) → IsFirst f chars from → IsFirst g chars from → f ≡ g
+pub IsFirst-one : OnePrefix → (f g : Found) (chars : List Character) (from : ℕ) → IsFirst f chars from → IsFirst g chars from → f ≡ g
 IsFirst-one law f g chars from p q =
     StandsIn-one law f g chars from from p.stands q.stands (omega (arith, p.least g q.stands, q.least f p.stands))
 
@@ -42,7 +42,7 @@ IsFirst-one law f g chars from p q =
 joined : (f g : Found) (xs ys : List Found) → f ≡ g → xs ≡ ys → f ∷ xs ≡ g ∷ ys
 joined f g xs ys heads tails = cc
 
-pub AreFrames-one : OneFront → (chars : List Character) (from : ℕ) (xs ys : List Found) → AreFrames chars from xs → AreFrames chars from ys
+pub AreFrames-one : OnePrefix → (chars : List Character) (from : ℕ) (xs ys : List Found) → AreFrames chars from xs → AreFrames chars from ys
     → xs ≡ ys
 AreFrames-one law chars from xs ys (none m empty) (none n void) = refl
 AreFrames-one law chars from xs ys (none m empty) (first n g more is rest) = absurd (empty g is.stands)

@@ -120,7 +120,7 @@ pub record Here (chars : List Character) (place : ℕ) : Type 0 where
 abbrev pub NothingHere : List Character → ℕ → Type 0
 NothingHere chars place = (found : Found) → StandsIn found chars place → found.start ≡ place + 2 → ⊥
 
--- two equal fronts of two have equal parts
+-- two equal prefixes of two have equal parts
 pub record SamePair (x y : Character) (rest : List Character) (a b : Character) (more : List Character) : Type 0 where
   pub first : x ≡ a
   pub second : y ≡ b

@@ -14,7 +14,7 @@ use Rattle.std.proofs.lemmas.Simd.{length-chunk}
 abbrev pub xor_of : List ℕ → ℕ
 xor_of bytes = fold bit_xor 0 bytes
 
--- the start goes in front
+-- the start comes first
 pub fold-start : (start : ℕ) (bytes : List ℕ) → fold bit_xor start bytes ≡ bit_xor start (xor_of bytes)
 fold-start start [] = sym (xor_comm start 0)
 fold-start start (byte ∷ bytes) =

@@ -27,12 +27,12 @@ slice_range-first xs a c ac within =
     let count : c - a ≡ suc (c - (a + 1)) = omega arith in
     sym (ap (λ n. take n (drop a xs)) count ∙ ap (take (suc (c - (a + 1)))) rest)
 
--- the front of some bytes: one byte, a range, a range, two bytes, and a range
+-- a prefix of some bytes: one byte, a range, a range, two bytes, and a range
 cut : (xs : List ℕ) (i j k : ℕ) → 1 ≤ i → i ≤ j → j + 2 ≤ k → k ≤ length xs
     → take k xs ≡ get_or xs 0 0 ∷ slice_range xs 1 i ++ slice_range xs i j ++ get_or xs j 0 ∷ get_or xs (j + 1) 0 ∷ slice_range xs (j + 2) k
 cut xs i j k low middle high within =
     let first = slice_range-first xs 0 i (omega arith) (omega arith) in
-    let front : get_or xs 0 0 ∷ slice_range xs 1 i ++ slice_range xs i j ≡ slice_range xs 0 j =
+    let prefix : get_or xs 0 0 ∷ slice_range xs 1 i ++ slice_range xs i j ≡ slice_range xs 0 j =
     ap (λ (ys : List ℕ). ys ++ slice_range xs i j) first ∙ slice_range-join xs 0 i j (omega arith) middle in
     let counted = slice_range-first xs (j + 1) k (omega arith) (omega arith) in
     let places : j + 1 + 1 ≡ j + 2 = omega arith in
@@ -41,7 +41,7 @@ cut xs i j k low middle high within =
     let back : get_or xs j 0 ∷ get_or xs (j + 1) 0 ∷ slice_range xs (j + 2) k ≡ slice_range xs j k =
     ap (λ (ys : List ℕ). get_or xs j 0 ∷ ys) last ∙ slice_range-first xs j k (omega arith) (omega arith) in
     let all : slice_range xs 0 k ≡ take k xs = ap (λ n. take n xs) (omega arith) in
-    sym (ap (λ (ys : List ℕ). ys ++ get_or xs j 0 ∷ get_or xs (j + 1) 0 ∷ slice_range xs (j + 2) k) front
+    sym (ap (λ (ys : List ℕ). ys ++ get_or xs j 0 ∷ get_or xs (j + 1) 0 ∷ slice_range xs (j + 2) k) prefix
     ∙ ap (λ (ys : List ℕ). slice_range xs 0 j ++ ys) back ∙ slice_range-join xs 0 j k (omega arith) (omega arith) ∙ all)
 
 -- what stands in the bytes where the layout says
@@ -90,14 +90,14 @@ IsCheckedPart-in bytes layout frame describes whole stands =
     omega (arith, whole_delimiter, kind, expansion_len, address_len, range_len, describes.address, describes.command) in
     let count : get_or bytes (j + 1) 0 ≡ length frame.payload =
     ap (λ (place : ℕ). get_or bytes (place + 1) 0) describes.command ∙ sym describes.count ∙ sym payload_len in
-    let front : body_length bytes - 1 ≡ j + 2 + n = omega (arith, describes.command, describes.count) in
+    let prefix : body_length bytes - 1 ≡ j + 2 + n = omega (arith, describes.command, describes.count) in
     let parts =
     cut bytes i j (j + 2 + n) (omega (arith, describes.address)) (omega (arith, describes.address, describes.command)) (omega arith)
     (omega arith) in
     record {
       address = slice_range bytes 1 i;
       address_bytes = stands.address;
-      parts = ap (λ (k : ℕ). take k bytes) front ∙ parts
+      parts = ap (λ (k : ℕ). take k bytes) prefix ∙ parts
           ∙ joined (slice_range bytes 1 i) delimiter (sym stands.expansion) (sym stands.command) count (sym stands.payload);
       expansion_fits = omega (arith, expansion_len, describes.address, describes.command);
       payload_fits = stands.payload_fits;

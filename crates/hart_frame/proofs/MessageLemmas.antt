@@ -20,26 +20,26 @@ delimiter_of-lt f few = omega (arith, kind_code-is f.kind, address_type-lt f.add
 
 -- the bytes of a list that a frame stands in
 bytes-split : (bytes : List ℕ) (found : Found) (from : ℕ) (stands : StandsIn found (faultless bytes) from)
-    → bytes ≡ bytes_of stands.front ++ (255 ∷ 255 ∷ (stands.body ++ bytes_of stands.rest))
+    → bytes ≡ bytes_of stands.prefix ++ (255 ∷ 255 ∷ (stands.body ++ bytes_of stands.rest))
 bytes-split bytes found from stands =
     let byte_of : Character → ℕ = λ character. character.byte in
     let marked : List ℕ = 255 ∷ 255 ∷ stands.body in
     sym (bytes_of-faultless bytes) ∙ ap bytes_of stands.split
-    ∙ map-append byte_of (stands.front ++ faultless marked) stands.rest
-    ∙ ap (λ (xs : List ℕ). xs ++ bytes_of stands.rest) (map-append byte_of stands.front (faultless marked))
-    ∙ append_assoc (bytes_of stands.front) (bytes_of (faultless marked)) (bytes_of stands.rest)
-    ∙ ap (λ (xs : List ℕ). bytes_of stands.front ++ (xs ++ bytes_of stands.rest)) (bytes_of-faultless marked)
+    ∙ map-append byte_of (stands.prefix ++ faultless marked) stands.rest
+    ∙ ap (λ (xs : List ℕ). xs ++ bytes_of stands.rest) (map-append byte_of stands.prefix (faultless marked))
+    ∙ append_assoc (bytes_of stands.prefix) (bytes_of (faultless marked)) (bytes_of stands.rest)
+    ∙ ap (λ (xs : List ℕ). bytes_of stands.prefix ++ (xs ++ bytes_of stands.rest)) (bytes_of-faultless marked)
 
 -- a frame starts with its delimiter
 starts : (bytes : List ℕ) (found : Found) (from : ℕ) → StandsIn found (faultless bytes) from
     → get_or bytes found.start 0 ≡ delimiter_of found.frame
 starts bytes found from stands =
-    let front : List ℕ = bytes_of stands.front in
-    let front_len : length front ≡ length stands.front = length-map stands.front (λ (character : Character). character.byte) in
-    let place : found.start ≡ length front + 2 = omega (arith, stands.start, front_len) in
+    let prefix : List ℕ = bytes_of stands.prefix in
+    let prefix_len : length prefix ≡ length stands.prefix = length-map stands.prefix (λ (character : Character). character.byte) in
+    let place : found.start ≡ length prefix + 2 = omega (arith, stands.start, prefix_len) in
     ap (λ (n : ℕ). get_or bytes n 0) place
-    ∙ ap (λ (xs : List ℕ). get_or xs (length front + 2) 0) (bytes-split bytes found from stands)
-    ∙ get_or-append-add front (255 ∷ 255 ∷ (stands.body ++ bytes_of stands.rest)) 2 0
+    ∙ ap (λ (xs : List ℕ). get_or xs (length prefix + 2) 0) (bytes-split bytes found from stands)
+    ∙ get_or-append-add prefix (255 ∷ 255 ∷ (stands.body ++ bytes_of stands.rest)) 2 0
     ∙ ap (λ (xs : List ℕ). get_or xs 0 0) (spread found.frame stands.body (bytes_of stands.rest) stands.is_body)
 
 -- so none starts among the preamble bytes
@@ -50,11 +50,11 @@ starts-behind bytes body preambles found from parts stands =
     elim cases [
       | inl behind ↦ behind
       | inr among ↦
-          let front : List ℕ = replicate preambles 255 in
-          let long : length front ≡ preambles = length-replicate preambles 255 in
+          let prefix : List ℕ = replicate preambles 255 in
+          let long : length prefix ≡ preambles = length-replicate preambles 255 in
           let here : get_or bytes found.start 0 ≡ 255 =
           ap (λ (xs : List ℕ). get_or xs found.start 0) parts
-          ∙ get_or-append front body 0 found.start (omega (arith, among, long))
+          ∙ get_or-append prefix body 0 found.start (omega (arith, among, long))
           ∙ get_or-replicate preambles found.start 255 0 among in
           let low = delimiter_of-lt found.frame stands.is_body.checked_part.expansion_fits in
           absurd (omega (arith, here, low, starts bytes found from stands))
@@ -68,24 +68,24 @@ stands_in : (f : FrameParts) (preambles more : ℕ) (bytes : List ℕ) → pream
     → StandsIn (found_in f preambles bytes) (faultless bytes) 0
 stands_in f preambles more bytes two message =
     let character_of : ℕ → Character = λ byte. record { byte = byte; faults = 0 } in
-    let front : List ℕ = replicate more 255 in
+    let prefix : List ℕ = replicate more 255 in
     let marked : List ℕ = 255 ∷ 255 ∷ message.body in
-    let whole : bytes ≡ front ++ marked =
+    let whole : bytes ≡ prefix ++ marked =
     message.parts ∙ ap (λ (n : ℕ). replicate n 255 ++ message.body) two
     ∙ ap (λ (xs : List ℕ). xs ++ message.body) (sym (replicate-append-replicate more 2 255))
-    ∙ append_assoc front (255 ∷ 255 ∷ []) message.body in
-    let front_len : length (faultless front) ≡ more = length-map front character_of ∙ length-replicate more 255 in
+    ∙ append_assoc prefix (255 ∷ 255 ∷ []) message.body in
+    let prefix_len : length (faultless prefix) ≡ more = length-map prefix character_of ∙ length-replicate more 255 in
     let len : length bytes ≡ more + 2 + length message.body =
-    ap length whole ∙ length-append front marked ∙ (let long = length-replicate {A = ℕ} more 255 in omega (arith, long)) in
+    ap length whole ∙ length-append prefix marked ∙ (let long = length-replicate {A = ℕ} more 255 in omega (arith, long)) in
     record {
-      front = faultless front;
+      prefix = faultless prefix;
       body = message.body;
       rest = [];
-      split = ap faultless whole ∙ map-append character_of front marked ∙ sym (append-nil (faultless front ++ faultless marked));
+      split = ap faultless whole ∙ map-append character_of prefix marked ∙ sym (append-nil (faultless prefix ++ faultless marked));
       is_body = message.is_body;
       behind = omega arith;
-      start = omega (arith, two, front_len);
-      stop = omega (arith, len, front_len);
+      start = omega (arith, two, prefix_len);
+      stop = omega (arith, len, prefix_len);
     }
 
 pub AreFrames-message : (f : FrameParts) (preambles : ℕ) (bytes : List ℕ) → 2 ≤ preambles → IsMessage f preambles bytes

@@ -16,9 +16,9 @@ open_fits : (place : ℕ) (chars : List Character) → All (λ character. charac
 open_fits place chars all opened =
     let make = λ (byte : ℕ). let c : Character = record { byte = byte; faults = 0 } in c in
     let behind = faultless (255 ∷ 255 ∷ opened.bytes) in
-    let n = length opened.front in
+    let n = length opened.prefix in
     let Fit : List Character → Type 0 = λ cs. All (λ character. character.byte < 256) cs in
-    let rest = subst Fit (ap (drop n) opened.split ∙ drop_at opened.front behind n refl)
+    let rest = subst Fit (ap (drop n) opened.split ∙ drop_at opened.prefix behind n refl)
     (All-drop (λ character. character.byte < 256) n chars all) in
     let long = length-map opened.bytes make in
     All-from_get_or (λ byte. byte < 256) opened.bytes 0 (λ k below.
@@ -48,15 +48,15 @@ open_begins becomes place chars all opened =
     ∙ map-append make body (drop can.count bytes) in
     record {
       more = faultless can.rest;
-      found = record { start = length opened.front + 2; stop = length opened.front + 2 + length body; frame = can.frame };
+      found = record { start = length opened.prefix + 2; stop = length opened.prefix + 2 + length body; frame = can.frame };
       stands = record {
-        front = opened.front;
+        prefix = opened.prefix;
         body = body;
         rest = rest;
         split = ap (λ (cs : List Character). cs ++ faultless can.rest) opened.split
-            ∙ append_assoc opened.front two (faultless can.rest)
-            ∙ ap (λ (cs : List Character). opened.front ++ (preamble ∷ preamble ∷ cs)) parts
-            ∙ sym (append_assoc opened.front (faultless (255 ∷ 255 ∷ body)) rest);
+            ∙ append_assoc opened.prefix two (faultless can.rest)
+            ∙ ap (λ (cs : List Character). opened.prefix ++ (preamble ∷ preamble ∷ cs)) parts
+            ∙ sym (append_assoc opened.prefix (faultless (255 ∷ 255 ∷ body)) rest);
         is_body = can.begins.body;
         behind = omega arith;
         start = refl;

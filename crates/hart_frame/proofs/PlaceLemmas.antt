@@ -32,27 +32,27 @@ StandsIn-heard chars (x ∷ []) place first second f len within is long x_is y_i
 StandsIn-heard chars (x ∷ y ∷ rest) place first second f len within is long x_is y_is x_pre y_pre heard =
     let behind = take_rest (x ∷ y ∷ rest) 2 in
     let parts = joined x y rest (faultless heard.body ++ heard.rest) (sym x_is ∙ x_pre) (sym y_is ∙ y_pre) (sym behind ∙ heard.split) in
-    let front_len = length-take-le place chars within in
+    let prefix_len = length-take-le place chars within in
     record {
-      front = take place chars;
+      prefix = take place chars;
       body = heard.body;
       rest = heard.rest;
       split = sym (take-append-drop place chars) ∙ ap (λ (xs : List Character). take place chars ++ xs) (sym is ∙ parts)
           ∙ sym (append_assoc (take place chars) (faultless (255 ∷ 255 ∷ heard.body)) heard.rest);
       is_body = heard.is_body;
-      behind = omega (arith, front_len);
-      start = omega (arith, front_len);
-      stop = omega (arith, front_len, heard.whole);
+      behind = omega (arith, prefix_len);
+      start = omega (arith, prefix_len);
+      stop = omega (arith, prefix_len, heard.whole);
     }
 
 -- what stands at a place begins there
 pub StandsIn-at : (chars : List Character) (place from : ℕ) (found : Found) (stands : StandsIn found chars from)
     → found.start ≡ place + 2 → drop place chars ≡ faultless (255 ∷ 255 ∷ stands.body) ++ stands.rest
 StandsIn-at chars place from found stands start =
-    let whole : chars ≡ stands.front ++ (faultless (255 ∷ 255 ∷ stands.body) ++ stands.rest) =
-    stands.split ∙ append_assoc stands.front (faultless (255 ∷ 255 ∷ stands.body)) stands.rest in
+    let whole : chars ≡ stands.prefix ++ (faultless (255 ∷ 255 ∷ stands.body) ++ stands.rest) =
+    stands.split ∙ append_assoc stands.prefix (faultless (255 ∷ 255 ∷ stands.body)) stands.rest in
     ap (drop place) whole
-    ∙ drop_at stands.front (faultless (255 ∷ 255 ∷ stands.body) ++ stands.rest) place (omega (arith, start, stands.start))
+    ∙ drop_at stands.prefix (faultless (255 ∷ 255 ∷ stands.body) ++ stands.rest) place (omega (arith, start, stands.start))
 
 -- and is heard there
 pub StandsIn-hears : (chars tail : List Character) (place from : ℕ) (found : Found) (stands : StandsIn found chars from)
@@ -72,12 +72,12 @@ pub StandsIn-body : (found : Found) (chars : List Character) (from : ℕ) (stand
 StandsIn-body found chars from stands =
     let two : List Character = faultless (255 ∷ 255 ∷ []) in
     let after : List Character = faultless stands.body ++ stands.rest in
-    let whole : chars ≡ (stands.front ++ two) ++ after =
-    stands.split ∙ append_assoc stands.front (faultless (255 ∷ 255 ∷ stands.body)) stands.rest
-    ∙ sym (append_assoc stands.front two after) in
+    let whole : chars ≡ (stands.prefix ++ two) ++ after =
+    stands.split ∙ append_assoc stands.prefix (faultless (255 ∷ 255 ∷ stands.body)) stands.rest
+    ∙ sym (append_assoc stands.prefix two after) in
     let dropped : drop found.start chars ≡ after =
     ap (drop found.start) whole
-    ∙ drop_at (stands.front ++ two) after found.start (omega (arith, length-append stands.front two, stands.start)) in
+    ∙ drop_at (stands.prefix ++ two) after found.start (omega (arith, length-append stands.prefix two, stands.start)) in
     let body_len : length (faultless stands.body) ≡ length stands.body =
     length-map stands.body (λ (byte : ℕ). record { byte = byte; faults = 0 }) in
     record {
@@ -94,7 +94,7 @@ StandsIn-body found chars from stands =
 pub StandsIn-from : (found : Found) (chars : List Character) (place from : ℕ) → StandsIn found chars place → from + 2 ≤ found.start
     → StandsIn found chars from
 StandsIn-from found chars place from stands behind = record {
-  front = stands.front;
+  prefix = stands.prefix;
   body = stands.body;
   rest = stands.rest;
   split = stands.split;
@@ -123,15 +123,15 @@ pub record LiesWithin (found : Found) (chars : List Character) (from : ℕ) : Ty
 pub StandsIn-within : (found : Found) (chars : List Character) (from : ℕ) → StandsIn found chars from → LiesWithin found chars from
 StandsIn-within found chars from stands =
     let all = ap length stands.split in
-    let rest = length-append (stands.front ++ faultless (255 ∷ 255 ∷ stands.body)) stands.rest in
-    let front = length-append stands.front (faultless (255 ∷ 255 ∷ stands.body)) in
+    let rest = length-append (stands.prefix ++ faultless (255 ∷ 255 ∷ stands.body)) stands.rest in
+    let prefix = length-append stands.prefix (faultless (255 ∷ 255 ∷ stands.body)) in
     let body : length (faultless stands.body) ≡ length stands.body =
     length-map stands.body (λ (byte : ℕ). record { byte = byte; faults = 0 }) in
     let some = ap length stands.is_body.parts ∙ length-append stands.is_body.checked (stands.is_body.check ∷ []) in
     record {
       behind = omega (arith, stands.behind, stands.start);
       some = omega (arith, stands.start, stands.stop, some);
-      within = omega (arith, stands.stop, all, rest, front, body);
+      within = omega (arith, stands.stop, all, rest, prefix, body);
     }
 
 -- it is known by its places and its frame

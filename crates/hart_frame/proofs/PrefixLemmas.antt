@@ -56,9 +56,9 @@ refused_more xs ys ShortReply decided refused =
     let kind = ap (λ (d : ℕ). d % 8) (delimiter_more xs ys refused.0.0.0) ∙ refused.1 in
     (HasByteCount-more xs ys refused.0, kind, omega (arith, refused.2, count_more xs ys refused.0.1))
 refused_more xs ys BadCheck decided refused =
-    let front : take (body_length (xs ++ ys)) (xs ++ ys) ≡ take (body_length xs) xs =
+    let prefix : take (body_length (xs ++ ys)) (xs ++ ys) ≡ take (body_length xs) xs =
     ap (λ (n : ℕ). take n (xs ++ ys)) (length_more xs ys refused.0.0.0.1) ∙ take-append-le (body_length xs) xs ys refused.0.1 in
-    (HasCheckByte-more xs ys refused.0, λ even. refused.1 (subst HasEvenParity front even))
+    (HasCheckByte-more xs ys refused.0, λ even. refused.1 (subst HasEvenParity prefix even))
 
 pub NeverBecomeBody-more : (xs ys : List ℕ) → NeverBecomeBody xs → NeverBecomeBody (xs ++ ys)
 NeverBecomeBody-more xs ys is =
@@ -115,10 +115,10 @@ open_short xs count verdict = elim verdict [
       omega (arith, behind, has.0, until_short (drop 2 xs) count until)
 ]
 
--- what a list tells, its front tells
-pub HasCheckByte-front : (xs ys : List ℕ) → HasCheckByte (xs ++ ys) → body_length (xs ++ ys) ≤ length xs
+-- what a list says, its prefix says
+pub HasCheckByte-prefix : (xs ys : List ℕ) → HasCheckByte (xs ++ ys) → body_length (xs ++ ys) ≤ length xs
     → HasCheckByte xs × (body_length (xs ++ ys) ≡ body_length xs)
-HasCheckByte-front xs ys has long =
+HasCheckByte-prefix xs ys has long =
     let some : 0 < length xs = omega (arith, long) in
     let place = count_place_more xs ys some in
     let within : byte_count_place xs < length xs = omega (arith, long, place) in
@@ -134,9 +134,9 @@ HasCheckByte-front xs ys has long =
     ) in
     ((good, omega (arith, long, same)), same)
 
-pub Describes-front : (layout : Layout) (xs ys : List ℕ) → Describes layout (xs ++ ys) → byte_count_place xs < length xs
+pub Describes-prefix : (layout : Layout) (xs ys : List ℕ) → Describes layout (xs ++ ys) → byte_count_place xs < length xs
     → Describes layout xs
-Describes-front layout xs ys is within =
+Describes-prefix layout xs ys is within =
     let delimiter = delimiter_more xs ys (omega (arith, within)) in
     record {
       kind = is.kind ∙ ap (λ (d : ℕ). d % 8) delimiter;

@@ -1,4 +1,4 @@
--- What has a body at its front is not refused.
+-- What begins with a body is not refused.
 use Rattle.std.proofs.Common.{◌≡◌, ℕ, ◌+◌, ◌*◌, ◌/◌, ◌%◌, ◌<◌, ◌≤◌, ◌⊎◌, inl, inr, List, [], ◌∷◌, ◌++◌, length, take, drop, get_or, sym, ap, ◌∙◌, arith, append_assoc, length-append, subst, Result, Ok, Err}
 use Rattle.std.specs.Result.{IfOk, IfErr}
 use Rattle.std.proofs.lemmas.List.Elements.{All-get_or}
@@ -30,8 +30,8 @@ length-checked f checked part =
     let address = length-address _ _ _ _ part.address_bytes in
     let parts = ap length part.parts in
     let all = length-append (delimiter_of f ∷ part.address ++ f.expansion) (f.command ∷ length f.payload ∷ f.payload) in
-    let front = length-append (delimiter_of f ∷ part.address) f.expansion in
-    omega (arith, parts, all, front, address)
+    let prefix = length-append (delimiter_of f ∷ part.address) f.expansion in
+    omega (arith, parts, all, prefix, address)
 
 kind_code-either : (byte : ℕ) (kind : FrameKind) → byte % 8 ≡ kind_code kind → (byte % 8 ≡ 2) ⊎ (byte % 8 ≡ 6)
 kind_code-either byte Stx low = inl low
@@ -56,10 +56,10 @@ tells bytes f len begins =
     let kind = kind_code-is f.kind in
     let place : byte_count_place bytes ≡ 3 + 4 * address_type f.address + length f.expansion =
     omega (arith, delimiter, few, kind, part.expansion_fits) in
-    let front : List ℕ = delimiter_of f ∷ part.address ++ f.expansion ++ f.command ∷ [] in
-    let regrouped : bytes ≡ front ++ length f.payload ∷ (f.payload ++ begins.body.check ∷ rest) = whole ∙ simp append_assoc in
+    let prefix : List ℕ = delimiter_of f ∷ part.address ++ f.expansion ++ f.command ∷ [] in
+    let regrouped : bytes ≡ prefix ++ length f.payload ∷ (f.payload ++ begins.body.check ∷ rest) = whole ∙ simp append_assoc in
     let address = length-address _ _ _ _ part.address_bytes in
-    let front_len : length front ≡ byte_count_place bytes =
+    let prefix_len : length prefix ≡ byte_count_place bytes =
     omega (
       arith,
       place,
@@ -69,7 +69,7 @@ tells bytes f len begins =
     ) in
     let count : byte_count_in bytes ≡ length f.payload =
     ap (λ (xs : List ℕ). get_or xs (byte_count_place bytes) 0) regrouped
-    ∙ get_or_at front (length f.payload) _ 0 (byte_count_place bytes) front_len in
+    ∙ get_or_at prefix (length f.payload) _ 0 (byte_count_place bytes) prefix_len in
     let taken_len : length (take len bytes) ≡ len = length-take-le len bytes begins.within in
     let body_len = ap length begins.body.parts ∙ length-append begins.body.checked (begins.body.check ∷ []) in
     record {

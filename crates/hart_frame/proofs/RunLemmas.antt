@@ -24,8 +24,8 @@ append_none (c ∷ cs) more none = absurd cc
 pub moves_hearing : (a b : Scan) (cs : List Character) → a.finished ≡ false → MovesPast a b [] → MovesPast (hearing a cs) (hearing b cs) []
 moves_hearing a b cs going p =
     let before : (more chars : List Character) → Hears (hearing a cs) more chars → Hears a (cs ++ more) chars = λ more chars hears. record {
-      front = hears.front;
-      split = hears.split ∙ ap (λ (ds : List Character). hears.front ++ ds) (append_assoc a.held cs more);
+      prefix = hears.prefix;
+      split = hears.split ∙ ap (λ (ds : List Character). hears.prefix ++ ds) (append_assoc a.held cs more);
       place = hears.place;
       ended = λ is. absurd (false≢true (sym going ∙ is));
     } in
@@ -33,8 +33,8 @@ moves_hearing a b cs going p =
       heard = λ more chars hears.
           let after = p.heard (cs ++ more) chars (before more chars hears) in
           record {
-            front = after.front;
-            split = after.split ∙ ap (λ (ds : List Character). after.front ++ ds) (sym (append_assoc b.held cs more));
+            prefix = after.prefix;
+            split = after.split ∙ ap (λ (ds : List Character). after.prefix ++ ds) (sym (append_assoc b.held cs more));
             place = after.place;
             ended = λ is. append_none cs more (after.ended is);
           };

@@ -32,7 +32,7 @@ skip_one chars from nothing found stands =
     let later = start-later found chars from from stands within.behind
     (λ here start. nothing found.frame here.body here.rest here.is_body (StandsIn-at chars from from found here start)) in
     record {
-      front = stands.front;
+      prefix = stands.prefix;
       body = stands.body;
       rest = stands.rest;
       split = stands.split;
@@ -55,13 +55,13 @@ AreFrames-earlier chars from to frames before skip (first n found later is rest)
 
 -- what is held is found behind as many characters as were let go
 pub heard_at : (scan : Scan) (more chars : List Character) (hears : Hears scan more chars) → drop scan.first chars ≡ scan.held ++ more
-heard_at scan more chars hears = ap (drop scan.first) hears.split ∙ drop_at hears.front (scan.held ++ more) scan.first hears.place
+heard_at scan more chars hears = ap (drop scan.first) hears.split ∙ drop_at hears.prefix (scan.held ++ more) scan.first hears.place
 
 pub moves_none : (old new : Scan) → new.held ≡ old.held → new.first ≡ old.first → new.finished ≡ old.finished → MovesPast old new []
 moves_none old new held firsts finished = record {
   heard = λ more chars hears. record {
-    front = hears.front;
-    split = hears.split ∙ ap (λ (cs : List Character). hears.front ++ (cs ++ more)) (sym held);
+    prefix = hears.prefix;
+    split = hears.split ∙ ap (λ (cs : List Character). hears.prefix ++ (cs ++ more)) (sym held);
     place = hears.place ∙ sym firsts;
     ended = λ is. hears.ended (sym finished ∙ is);
   };
@@ -80,10 +80,10 @@ pub moves_drop : (old new : Scan) (gone : Character) → old.held ≡ gone ∷ n
     → ((more : List Character) → (IsTrue old.finished → more ≡ []) → NothingStarts (old.held ++ more)) → MovesPast old new []
 moves_drop old new gone held firsts finished nothing = record {
   heard = λ more chars hears. record {
-    front = hears.front ++ gone ∷ [];
-    split = hears.split ∙ ap (λ (cs : List Character). hears.front ++ (cs ++ more)) held
-        ∙ sym (append_assoc hears.front (gone ∷ []) (new.held ++ more));
-    place = omega (arith, length-append hears.front (gone ∷ []), hears.place, firsts);
+    prefix = hears.prefix ++ gone ∷ [];
+    split = hears.split ∙ ap (λ (cs : List Character). hears.prefix ++ (cs ++ more)) held
+        ∙ sym (append_assoc hears.prefix (gone ∷ []) (new.held ++ more));
+    place = omega (arith, length-append hears.prefix (gone ∷ []), hears.place, firsts);
     ended = λ is. hears.ended (sym finished ∙ is);
   };
   frames = λ more chars later hears frames.
@@ -93,30 +93,30 @@ moves_drop old new gone held firsts finished nothing = record {
       AreFrames-earlier chars old.first (old.first + 1) later (omega arith) (skip_one chars old.first here) (subst Are firsts frames);
 }
 
--- a frame that stands at the front is given
+-- a frame that begins what is held is given
 pub moves_frame : (old new : Scan) (f : FrameParts) (body : List ℕ) → old.held ≡ faultless (255 ∷ 255 ∷ body) ++ new.held → IsBody f body
     → new.first ≡ old.first + 2 + length body → new.finished ≡ old.finished
     → MovesPast old new (record { start = old.first + 2; stop = new.first; frame = f } ∷ [])
 moves_frame old new f body held is firsts finished = record {
   heard = λ more chars hears. record {
-    front = hears.front ++ faultless (255 ∷ 255 ∷ body);
-    split = hears.split ∙ ap (λ (cs : List Character). hears.front ++ (cs ++ more)) held
-        ∙ ap (λ (cs : List Character). hears.front ++ cs) (append_assoc (faultless (255 ∷ 255 ∷ body)) new.held more)
-        ∙ sym (append_assoc hears.front (faultless (255 ∷ 255 ∷ body)) (new.held ++ more));
+    prefix = hears.prefix ++ faultless (255 ∷ 255 ∷ body);
+    split = hears.split ∙ ap (λ (cs : List Character). hears.prefix ++ (cs ++ more)) held
+        ∙ ap (λ (cs : List Character). hears.prefix ++ cs) (append_assoc (faultless (255 ∷ 255 ∷ body)) new.held more)
+        ∙ sym (append_assoc hears.prefix (faultless (255 ∷ 255 ∷ body)) (new.held ++ more));
     place =
         let long : length (faultless body) ≡ length body = length-map body (λ (byte : ℕ). record { byte = byte; faults = 0 }) in
-        omega (arith, length-append hears.front (faultless (255 ∷ 255 ∷ body)), long, hears.place, firsts);
+        omega (arith, length-append hears.prefix (faultless (255 ∷ 255 ∷ body)), long, hears.place, firsts);
     ended = λ is. hears.ended (sym finished ∙ is);
   };
   frames = λ more chars later hears frames.
       let found : Found = record { start = old.first + 2; stop = new.first; frame = f } in
       let stands : StandsIn found chars old.first = record {
-        front = hears.front;
+        prefix = hears.prefix;
         body = body;
         rest = new.held ++ more;
-        split = hears.split ∙ ap (λ (cs : List Character). hears.front ++ (cs ++ more)) held
-            ∙ ap (λ (cs : List Character). hears.front ++ cs) (append_assoc (faultless (255 ∷ 255 ∷ body)) new.held more)
-            ∙ sym (append_assoc hears.front (faultless (255 ∷ 255 ∷ body)) (new.held ++ more));
+        split = hears.split ∙ ap (λ (cs : List Character). hears.prefix ++ (cs ++ more)) held
+            ∙ ap (λ (cs : List Character). hears.prefix ++ cs) (append_assoc (faultless (255 ∷ 255 ∷ body)) new.held more)
+            ∙ sym (append_assoc hears.prefix (faultless (255 ∷ 255 ∷ body)) (new.held ++ more));
         is_body = is;
         behind = omega (arith, hears.place);
         start = omega (arith, hears.place);
@@ -196,10 +196,10 @@ nothing_short xs tail truncated f body rest is fits same =
     let make = λ (byte : ℕ). let c : Character = record { byte = byte; faults = 0 } in c in
     let long : length (faultless xs) ≡ length xs = length-map xs make in
     let body_long : length (faultless body) ≡ n = length-map body make in
-    let fronts : faultless (take n xs) ≡ faultless body =
+    let prefixes : faultless (take n xs) ≡ faultless body =
     sym (take-map make n xs) ∙ sym (take-append-le n (faultless xs) tail (omega (arith, long, fits)))
     ∙ ap (take n) same ∙ take_at (faultless body) rest n body_long in
-    let bytes = faultless-one (take n xs) body fronts in
+    let bytes = faultless-one (take n xs) body prefixes in
     let Is : List ℕ → Type 0 = λ ys. IsBody f ys in
     not_refused xs f n Truncated (record { within = fits; body = subst Is (sym bytes) is }) truncated
 
@@ -274,7 +274,7 @@ undecided_open (x ∷ y ∷ xs) count verdict = elim verdict [
       let nothing = nothing_open (x ∷ y ∷ xs) [] count (inr (has, until)) (inl refl) in
       inr (
         2,
-        record { front = []; bytes = xs; split = same; start = refl; truncated = truncated_until xs count until },
+        record { prefix = []; bytes = xs; split = same; start = refl; truncated = truncated_until xs count until },
         λ found stands.
             let Nothing : List Character → Type 0 = λ cs. NothingStarts cs in
             let later = skip_one held 0 (subst Nothing (append-nil held) nothing) found stands in

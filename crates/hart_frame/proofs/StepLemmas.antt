@@ -23,7 +23,7 @@ use Rattle.hart_frame.specs.declared.fault.FrameFault.TheVariants.{BadCheck}
 use Rattle.hart_frame.proofs.BodiesFound.{held_frame}
 use Rattle.hart_frame.proofs.BodyLemmas.{IsBody-whole}
 use Rattle.hart_frame.proofs.BufferLemmas.{held_first, length_held, length_range, range_split}
-use Rattle.hart_frame.proofs.PrefixLemmas.{HasCheckByte-front, Describes-front, preamble_parts}
+use Rattle.hart_frame.proofs.PrefixLemmas.{HasCheckByte-prefix, Describes-prefix, preamble_parts}
 use Rattle.hart_frame.proofs.PlaceLemmas.{HasNoFrame-end, preamble}
 use Rattle.hart_frame.proofs.UndecidedLemmas.{nothing_before}
 use Rattle.hart_frame.proofs.ScanLemmas.{NothingStarts, NothingFollows, nothing_never, nothing_open, moves_drop, moves_none, moves_then, moves_frame, undecided_open, undecided_nothing}
@@ -135,8 +135,8 @@ whole_body b layout sound verdict =
     let Has : List ℕ → Type 0 = λ xs. HasCheckByte xs in
     let Of : List ℕ → Type 0 = λ xs. Describes layout xs in
     let same : body_length (drop 2 (held_bytes b)) ≡ body_length (body ++ rest) = ap (λ (xs : List ℕ). body_length xs) is.parts in
-    let whole = HasCheckByte-front body rest (subst Has is.parts verdict.2) (omega (arith, is.long, is.length_is, same)) in
-    (Describes-front layout body rest (subst Of is.parts verdict.1) whole.0.0.0.1, whole.0)
+    let whole = HasCheckByte-prefix body rest (subst Has is.parts verdict.2) (omega (arith, is.long, is.length_is, same)) in
+    (Describes-prefix layout body rest (subst Of is.parts verdict.1) whole.0.0.0.1, whole.0)
 
 pub gives_spot : (b : Buffer) (layout : Layout) → IsSound b → b.drained ≡ false → BeginsWithWhole b layout
     → GivesSpot b (given b layout) (spot_of b layout)
@@ -282,7 +282,7 @@ holds_frame b layout sound begins =
     let is_body = IsBody-whole body frame.frame (omega (arith, exact)) begins.fits (subst Part exact frame.part) begins.even in (
       record { start = 2; stop = 2 + length body; frame = frame.frame },
       record {
-        front = [];
+        prefix = [];
         body = body;
         rest = (scan_of (given b layout)).held;
         split = held_whole b layout sound begins.verdict;

@@ -19,7 +19,7 @@ record IsStreamed (past : List Character) (scan : Scan) (given : List Found) : T
 
 streamed_new : IsStreamed [] new_scan []
 streamed_new = record {
-  hears = λ more ended. record { front = []; split = refl; place = refl; ended = ended };
+  hears = λ more ended. record { prefix = []; split = refl; place = refl; ended = ended };
   frames = λ more later ended frames. frames;
 }
 
@@ -31,9 +31,9 @@ streamed_pushed past scan given cs going streamed =
       hears = λ more ended.
           let before = streamed.hears (cs ++ more) (never (cs ++ more)) in
           record {
-            front = before.front;
+            prefix = before.prefix;
             split = append_assoc past cs more ∙ before.split
-                ∙ ap (λ (ds : List Character). before.front ++ ds) (sym (append_assoc scan.held cs more));
+                ∙ ap (λ (ds : List Character). before.prefix ++ ds) (sym (append_assoc scan.held cs more));
             place = before.place;
             ended = ended;
           };
@@ -49,7 +49,7 @@ streamed_finished : (past : List Character) (scan : Scan) (given : List Found) �
 streamed_finished past scan given streamed = record {
   hears = λ more ended.
       let before = streamed.hears more (λ _. ended refl) in
-      record { front = before.front; split = before.split; place = before.place; ended = ended };
+      record { prefix = before.prefix; split = before.split; place = before.place; ended = ended };
   frames = λ more later ended frames. streamed.frames more later (λ _. ended refl) frames;
 }
 
@@ -112,7 +112,7 @@ history_length past scan given history =
     let hears = (streamed past scan given history).hears [] (λ _. refl) in
     let before = length-append past ([]) in
     let held = length-append scan.held ([]) in
-    omega (arith, ap length hears.split, hears.place, before, held, length-append hears.front (scan.held ++ []))
+    omega (arith, ap length hears.split, hears.place, before, held, length-append hears.prefix (scan.held ++ []))
 
 -- after the end they are all
 pub history_all : (past : List Character) (given : List Found) → IsWholeHistory past given → AreFrames past 0 given

@@ -31,7 +31,7 @@ sums_push bytes sums from to byte within room are place after before =
           (sym (get_or-set_same bytes to byte 0 within) ∙ ap (λ (k : ℕ). get_or (set bytes to byte) k 0) last)
     ]
 
--- a part that is moved to the front
+-- a part that is moved to the start
 moved : (xs : List ℕ) (i j k : ℕ) → j ≤ length xs → i + k < j → get_or (copy_within xs i j 0) k 0 ≡ get_or xs (i + k) 0
 moved xs i j k within below =
     let part = take (j - i) (drop i xs) in

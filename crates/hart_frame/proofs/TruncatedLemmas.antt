@@ -58,8 +58,8 @@ HasGoodByteCount-append bytes rest good =
     (((omega (arith, long, some), is), omega (arith, long, place, good.0.1)), enough)
 
 -- what can become a body with some bytes behind it can without them
-CanBecomeBody-front : (bytes more : List ℕ) → CanBecomeBody (bytes ++ more) → CanBecomeBody bytes
-CanBecomeBody-front bytes more can = record {
+CanBecomeBody-prefix : (bytes more : List ℕ) → CanBecomeBody (bytes ++ more) → CanBecomeBody bytes
+CanBecomeBody-prefix bytes more can = record {
   rest = more ++ can.rest;
   frame = can.frame;
   count = can.count;
@@ -82,10 +82,10 @@ CanBecomeBody-last bytes fit good last =
     let all_fit : AreBytes whole = All-push (λ byte. byte < 256) bytes check fit is.byte in
     let fits : Fit whole (body_length whole) = λ k below. fits_at whole all_fit k in
     let held = held_frame whole fits (HasGoodByteCount-append bytes (check ∷ []) good, omega (arith, len)) in
-    let front : take (body_length whole - 1) whole ≡ bytes =
+    let prefix : take (body_length whole - 1) whole ≡ bytes =
     take_at bytes (check ∷ []) (body_length whole - 1) (omega (arith, len, long)) in
     let Checked : List ℕ → Type 0 = λ xs. IsCheckedPart held.frame xs in
-    let body = IsBody-push held.frame bytes check (subst Checked front held.part) fit is in
+    let body = IsBody-push held.frame bytes check (subst Checked prefix held.part) fit is in
     let Is : List ℕ → Type 0 = λ xs. IsBody held.frame xs in
     record {
       rest = check ∷ [];
@@ -106,7 +106,7 @@ CanBecomeBody-counted bytes fit good short =
     let long : length (bytes ++ zeros) ≡ length bytes + missing =
     length-append bytes zeros ∙ ap (λ (n : ℕ). length bytes + n) (length-replicate missing 0) in
     let fits = All-append (λ byte. byte < 256) bytes zeros fit (All-replicate (λ byte. byte < 256) missing 0 (omega arith)) in
-    CanBecomeBody-front bytes zeros (
+    CanBecomeBody-prefix bytes zeros (
     CanBecomeBody-last (bytes ++ zeros) fits (HasGoodByteCount-append bytes zeros good) (omega (arith, place, count, long, short))
     )
 
@@ -116,29 +116,30 @@ CanBecomeBody-begun : (bytes : List ℕ) → AreBytes bytes → HasDelimiter byt
 CanBecomeBody-begun bytes fit has short =
     let missing = byte_count_place bytes - length bytes in
     let zeros : List ℕ = replicate missing 0 in
-    let front : List ℕ = bytes ++ zeros in
-    let whole : List ℕ = front ++ 2 ∷ [] in
-    let front_long : length front ≡ byte_count_place bytes =
+    let prefix : List ℕ = bytes ++ zeros in
+    let whole : List ℕ = prefix ++ 2 ∷ [] in
+    let prefix_long : length prefix ≡ byte_count_place bytes =
     length-append bytes zeros ∙ (let zeros_long = length-replicate {A = ℕ} missing 0 in omega (arith, zeros_long, short)) in
-    let some : 0 < length front = omega (arith, front_long, has.0, short) in
-    let long = length-append front (2 ∷ []) in
-    let delimiter = delimiter_in-append front (2 ∷ []) some ∙ delimiter_in-append bytes zeros has.0 in
+    let some : 0 < length prefix = omega (arith, prefix_long, has.0, short) in
+    let long = length-append prefix (2 ∷ []) in
+    let delimiter = delimiter_in-append prefix (2 ∷ []) some ∙ delimiter_in-append bytes zeros has.0 in
     let place : byte_count_place whole ≡ byte_count_place bytes =
-    byte_count_place-append front (2 ∷ []) some ∙ byte_count_place-append bytes zeros has.0 in
-    let count : byte_count_in whole ≡ 2 = get_or_at front 2 [] 0 (byte_count_place whole) (front_long ∙ sym place) in
+    byte_count_place-append prefix (2 ∷ []) some ∙ byte_count_place-append bytes zeros has.0 in
+    let count : byte_count_in whole ≡ 2 = get_or_at prefix 2 [] 0 (byte_count_place whole) (prefix_long ∙ sym place) in
     let is : IsDelimiter (delimiter_in whole) = subst IsDelimiter (sym delimiter) has.1 in
-    let good : HasGoodByteCount whole = (((omega (arith, long), is), omega (arith, long, place, front_long)), inr (omega (arith, count))) in
-    let front_fits = All-append (λ byte. byte < 256) bytes zeros fit (All-replicate (λ byte. byte < 256) missing 0 (omega arith)) in
-    let fits : AreBytes whole = All-push (λ byte. byte < 256) front 2 front_fits (omega arith) in
-    CanBecomeBody-front bytes zeros (
-    CanBecomeBody-front front (2 ∷ []) (CanBecomeBody-counted whole fits good (omega (arith, long, place, count, front_long)))
+    let good : HasGoodByteCount whole =
+    (((omega (arith, long), is), omega (arith, long, place, prefix_long)), inr (omega (arith, count))) in
+    let prefix_fits = All-append (λ byte. byte < 256) bytes zeros fit (All-replicate (λ byte. byte < 256) missing 0 (omega arith)) in
+    let fits : AreBytes whole = All-push (λ byte. byte < 256) prefix 2 prefix_fits (omega arith) in
+    CanBecomeBody-prefix bytes zeros (
+    CanBecomeBody-prefix prefix (2 ∷ []) (CanBecomeBody-counted whole fits good (omega (arith, long, place, count, prefix_long)))
     )
 
 -- no bytes get the delimiter of an STX
 CanBecomeBody-none : (bytes : List ℕ) → length bytes ≡ 0 → CanBecomeBody bytes
 CanBecomeBody-none [] none =
     let stx : List ℕ = 2 ∷ [] in
-    CanBecomeBody-front [] stx (
+    CanBecomeBody-prefix [] stx (
     CanBecomeBody-begun stx (All-replicate (λ byte. byte < 256) 1 2 (omega arith)) (omega arith, (refl, inl refl)) (omega arith)
     )
 CanBecomeBody-none (byte ∷ bytes) none = absurd (omega (arith, none))

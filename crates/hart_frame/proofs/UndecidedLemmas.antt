@@ -21,7 +21,7 @@ sample scan = replicate scan.first other ++ (scan.held ++ [])
 
 hears_sample : (scan : Scan) → Hears scan [] (sample scan)
 hears_sample scan =
-    record { front = replicate scan.first other; split = refl; place = length-replicate scan.first other; ended = λ _. refl }
+    record { prefix = replicate scan.first other; split = refl; place = length-replicate scan.first other; ended = λ _. refl }
 
 same_head : (f g : Found) (xs ys : List Found) → f ∷ xs ≡ g ∷ ys → f ≡ g
 same_head f g xs ys same = cc
@@ -34,20 +34,20 @@ head_stands chars from frames (first n f more is rest) g later same =
     subst Stands (same_head f g more later same) is.stands
 
 -- what stands in a list stands after others
-stands_after : (front cs rest : List Character) (found : Found) (n : ℕ) → length front ≡ n → StandsIn found cs 0
-    → StandsIn (record { start = n + found.start; stop = n + found.stop; frame = found.frame }) (front ++ (cs ++ rest)) n
-stands_after front cs rest found n long stands =
+stands_after : (prefix cs rest : List Character) (found : Found) (n : ℕ) → length prefix ≡ n → StandsIn found cs 0
+    → StandsIn (record { start = n + found.start; stop = n + found.stop; frame = found.frame }) (prefix ++ (cs ++ rest)) n
+stands_after prefix cs rest found n long stands =
     let body = faultless (255 ∷ 255 ∷ stands.body) in
-    let size = length-append front stands.front in
+    let size = length-append prefix stands.prefix in
     record {
-      front = front ++ stands.front;
+      prefix = prefix ++ stands.prefix;
       body = stands.body;
       rest = stands.rest ++ rest;
-      split = ap (λ (xs : List Character). front ++ (xs ++ rest)) stands.split
-          ∙ ap (λ (xs : List Character). front ++ xs) (append_assoc (stands.front ++ body) stands.rest rest
-          ∙ append_assoc stands.front body (stands.rest ++ rest))
-          ∙ sym (append_assoc front stands.front (body ++ (stands.rest ++ rest)))
-          ∙ sym (append_assoc (front ++ stands.front) body (stands.rest ++ rest));
+      split = ap (λ (xs : List Character). prefix ++ (xs ++ rest)) stands.split
+          ∙ ap (λ (xs : List Character). prefix ++ xs) (append_assoc (stands.prefix ++ body) stands.rest rest
+          ∙ append_assoc stands.prefix body (stands.rest ++ rest))
+          ∙ sym (append_assoc prefix stands.prefix (body ++ (stands.rest ++ rest)))
+          ∙ sym (append_assoc (prefix ++ stands.prefix) body (stands.rest ++ rest));
       is_body = stands.is_body;
       behind = omega (arith, size, long);
       start = omega (arith, size, long, stands.start);
@@ -55,18 +55,18 @@ stands_after front cs rest found n long stands =
     }
 
 -- and what stands after others stands in the list
-stands_in : (front cs : List Character) (found : Found) (n : ℕ) → length front ≡ n → StandsIn found (front ++ cs) n
+stands_in : (prefix cs : List Character) (found : Found) (n : ℕ) → length prefix ≡ n → StandsIn found (prefix ++ cs) n
     → StandsIn (record { start = found.start - n; stop = found.stop - n; frame = found.frame }) cs 0
-stands_in front cs found n long stands =
+stands_in prefix cs found n long stands =
     let body = faultless (255 ∷ 255 ∷ stands.body) in
-    let size = length-drop n stands.front in
+    let size = length-drop n stands.prefix in
     record {
-      front = drop n stands.front;
+      prefix = drop n stands.prefix;
       body = stands.body;
       rest = stands.rest;
-      split = sym (drop_at front cs n long) ∙ ap (drop n) (stands.split ∙ append_assoc stands.front body stands.rest)
-          ∙ drop-append-le n stands.front (body ++ stands.rest) stands.behind
-          ∙ sym (append_assoc (drop n stands.front) body stands.rest);
+      split = sym (drop_at prefix cs n long) ∙ ap (drop n) (stands.split ∙ append_assoc stands.prefix body stands.rest)
+          ∙ drop-append-le n stands.prefix (body ++ stands.rest) stands.behind
+          ∙ sym (append_assoc (drop n stands.prefix) body stands.rest);
       is_body = stands.is_body;
       behind = omega arith;
       start = omega (arith, size, stands.start, stands.behind);
@@ -83,7 +83,7 @@ pub stands_held : (s : Scan) (chars : List Character) (found : Found) → Hears 
     → StandsIn (record { start = found.start - s.first; stop = found.stop - s.first; frame = found.frame }) s.held 0
 stands_held s chars found hears stands =
     let Stands : List Character → Type 0 = λ cs. StandsIn found cs s.first in
-    let here = stands_in hears.front (s.held ++ []) found s.first hears.place (subst Stands hears.split stands) in
+    let here = stands_in hears.prefix (s.held ++ []) found s.first hears.place (subst Stands hears.split stands) in
     let Held : List Character → Type 0 =
     λ cs. StandsIn (record { start = found.start - s.first; stop = found.stop - s.first; frame = found.frame }) cs 0 in
     subst Held (append-nil s.held) here
@@ -109,9 +109,9 @@ other_preamble : other ≡ preamble → ⊥
 other_preamble same = let bytes : 0 ≡ 255 = ap (λ (c : Character). c.byte) same in absurd (omega (arith, bytes))
 
 -- no preamble byte is among what was let go
-preamble_held : (s : Scan) (front rest : List Character) → sample s ≡ front ++ preamble ∷ rest → s.first ≤ length front
-preamble_held s front rest same =
-    let k = length front in
+preamble_held : (s : Scan) (prefix rest : List Character) → sample s ≡ prefix ++ preamble ∷ rest → s.first ≤ length prefix
+preamble_held s prefix rest same =
+    let k = length prefix in
     let cases : (k < s.first) ⊎ (s.first ≤ k) = grind arith in
     elim cases [
       | inl early ↦
@@ -119,7 +119,7 @@ preamble_held s front rest same =
           get_or_append_left (replicate s.first other) (s.held ++ []) other k (omega (arith, early, length-replicate s.first other))
           ∙ get_or-replicate s.first k other other early in
           let there : get_or (sample s) k other ≡ preamble =
-          ap (λ (cs : List Character). get_or cs k other) same ∙ get_or_at front preamble rest other k refl in
+          ap (λ (cs : List Character). get_or cs k other) same ∙ get_or_at prefix preamble rest other k refl in
           absurd (other_preamble (sym here ∙ there))
       | inr late ↦ late
     ]
@@ -138,22 +138,22 @@ undecided_before s t moves undecided = elim undecided [
   | inl empty ↦ inl (nothing_before s t moves empty)
   | inr (place, opened, before) ↦
       let after = moves.heard [] (sample s) (hears_sample s) in
-      let front = after.front ++ opened.front in
+      let prefix = after.prefix ++ opened.prefix in
       let rest = faultless (255 ∷ 255 ∷ opened.bytes) in
-      let all : sample s ≡ front ++ rest =
-      after.split ∙ ap (λ (cs : List Character). after.front ++ cs) (append-nil t.held ∙ opened.split)
-      ∙ sym (append_assoc after.front opened.front rest) in
-      let late = preamble_held s front (faultless (255 ∷ opened.bytes)) all in
-      let size = length-append after.front opened.front in
-      let dropped = length-drop s.first front in
+      let all : sample s ≡ prefix ++ rest =
+      after.split ∙ ap (λ (cs : List Character). after.prefix ++ cs) (append-nil t.held ∙ opened.split)
+      ∙ sym (append_assoc after.prefix opened.prefix rest) in
+      let late = preamble_held s prefix (faultless (255 ∷ opened.bytes)) all in
+      let size = length-append after.prefix opened.prefix in
+      let dropped = length-drop s.first prefix in
       inr (
-        length (drop s.first front) + 2,
+        length (drop s.first prefix) + 2,
         record {
-          front = drop s.first front;
+          prefix = drop s.first prefix;
           bytes = opened.bytes;
           split = sym (append-nil s.held)
               ∙ sym (drop_at (replicate s.first other) (s.held ++ []) s.first (length-replicate s.first other))
-              ∙ ap (drop s.first) all ∙ drop-append-le s.first front rest late;
+              ∙ ap (drop s.first) all ∙ drop-append-le s.first prefix rest late;
           start = refl;
           truncated = opened.truncated;
         },
@@ -167,17 +167,17 @@ undecided_before s t moves undecided = elim undecided [
       )
 ]
 
--- a frame at the front is decided
-front_decided : (chars : List Character) (found : Found) → StandsIn found chars 0 → found.start ≡ 2 → IsUndecided chars → ⊥
-front_decided chars found stands start undecided = elim undecided [
+-- a frame that begins what is held is decided
+frame_decided : (chars : List Character) (found : Found) → StandsIn found chars 0 → found.start ≡ 2 → IsUndecided chars → ⊥
+frame_decided chars found stands start undecided = elim undecided [
   | inl empty ↦ empty found stands
   | inr (place, opened, before) ↦ omega (arith, before found stands, start, opened.start)
 ]
 
--- a scanner that holds a frame at the front gives one
+-- a scanner whose characters begin with a frame gives one
 pub holds_gives : (old new : Scan) → HoldsFrame old → GivesNothing old new → ⊥
 holds_gives old new holds nothing = elim nothing [
-  | inl waits ↦ front_decided old.held holds.0 holds.1 holds.2 (undecided_before old new waits.moves waits.undecided)
+  | inl waits ↦ frame_decided old.held holds.0 holds.1 holds.2 (undecided_before old new waits.moves waits.undecided)
   | inr ends ↦
       ends.none holds.0 holds.1
 ]
@@ -200,8 +200,8 @@ moves_length a b given moves =
       all,
       old.place,
       new.place,
-      length-append old.front (a.held ++ []),
-      length-append new.front (b.held ++ []),
+      length-append old.prefix (a.held ++ []),
+      length-append new.prefix (b.held ++ []),
       length-append a.held ([]),
       length-append b.held ([]),
     )

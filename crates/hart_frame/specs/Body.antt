@@ -31,11 +31,11 @@ pub record BeginsWithBody (bytes : List ℕ) (frame : FrameParts) (count : ℕ) 
   pub within : count ≤ length bytes
   pub body : IsBody frame (take count bytes)
 
--- No body stands at the front of a list.
+-- A list begins with no body.
 abbrev pub HasNoBody : List ℕ → Type 0
 HasNoBody bytes = (frame : FrameParts) (count : ℕ) → BeginsWithBody bytes frame count → ⊥
 
--- A list can become a body if some bytes after it make one that stands at the front.
+-- A list can become a body if with some bytes after it it begins with one.
 pub record CanBecomeBody (bytes : List ℕ) : Type 0 where
   pub rest : List ℕ
   pub frame : FrameParts

@@ -45,7 +45,7 @@ abbrev pub BeginsWithWhole : Buffer → Layout → Type 0
 BeginsWithWhole b layout = IsWholeAt b.bytes b.from b.to layout
 
 -- A buffer is sound if it holds at most 269 characters, in their places of the array and of what is heard, with their sums, the
--- last of them alone with faults; if the frame that it has seen stands at the front; and if a drained one is unfinished, has seen
+-- last of them alone with faults; if they begin with the frame that it has seen; and if a drained one is unfinished, has seen
 -- none, holds no character with faults, and holds nothing or what is open until a place to which the array is not yet filled.
 pub record IsSound (b : Buffer) : Type 0 where
   pub bytes_len : length b.bytes ≡ 1024

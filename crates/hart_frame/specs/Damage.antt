@@ -9,7 +9,7 @@ use Rattle.hart_frame.specs.Parity.{HasEvenParity}
 
 -- No two faultless preamble bytes FF stand in a row in a list of characters.
 abbrev pub HasNoTwoPreambles : List Character → Type 0
-HasNoTwoPreambles chars = (front rest : List Character) → chars ≡ front ++ faultless (255 ∷ 255 ∷ []) ++ rest → ⊥
+HasNoTwoPreambles chars = (prefix rest : List Character) → chars ≡ prefix ++ faultless (255 ∷ 255 ∷ []) ++ rest → ⊥
 
 -- What was heard after the delimiter, if so many characters of the preamble were heard before it.
 abbrev pub after_delimiter : ℕ → List Character → List Character

@@ -1,4 +1,4 @@
--- Why the bytes of a list are not decoded: the first thing that is wrong, from its front (own profile).
+-- Why the bytes of a list are not decoded: the first thing that is wrong, from its first byte on (own profile).
 use Rattle.std.specs.Prelude.{◌≡◌, ℕ, ◌/◌, ◌%◌, ◌<◌, ◌≤◌, ◌⊎◌, List, length, take}
 use Rattle.hart_frame.specs.declared.fault.FrameFault.{FrameFault}
 use Rattle.hart_frame.specs.declared.fault.FrameFault.TheVariants.{TooShortReply, BadPreamble, BadDelimiter}

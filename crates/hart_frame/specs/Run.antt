@@ -5,12 +5,12 @@ use Rattle.hart_frame.specs.Place.{StandsIn}
 use Rattle.hart_frame.specs.Scanner.{Scan}
 use Rattle.hart_frame.specs.declared.found.Found.{Found}
 
--- A frame stands at the front of what a scanner holds.
+-- What a scanner holds begins with two preamble bytes and a body after them.
 abbrev pub HoldsFrame : Scan → Type 0
 HoldsFrame scan = (found : Found) × StandsIn found scan.held 0 × (found.start ≡ 2)
 
--- A scanner stops after so many bytes of a run if they are all of it and nothing is decided in what it then holds; or if a
--- frame stands at the front of that.
+-- A scanner stops after so many bytes of a run if they are all of it and nothing is decided in what it then holds; or if that
+-- begins with a frame.
 abbrev pub StopsAt : Scan → ℕ → ℕ → Type 0
 StopsAt scan count all =
     ((scan.drained ≡ true) × IsUndecided scan.held × (count ≡ all)) ⊎ ((scan.drained ≡ false) × HoldsFrame scan)

@@ -19,9 +19,9 @@ new_scan = record { first = 0; held = []; finished = false; drained = true }
 -- A list can be all that a scanner hears if it is as many characters as it let go, then those that it holds, then those still
 -- to come; after the finish none are.
 pub record Hears (scan : Scan) (more chars : List Character) : Type 0 where
-  pub front : List Character
-  pub split : chars ≡ front ++ (scan.held ++ more)
-  pub place : length front ≡ scan.first
+  pub prefix : List Character
+  pub split : chars ≡ prefix ++ (scan.held ++ more)
+  pub place : length prefix ≡ scan.first
   pub ended : IsTrue scan.finished → more ≡ []
 
 -- A scanner that has heard more holds that too, and has yet to look at it.

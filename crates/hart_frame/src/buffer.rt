@@ -39,7 +39,7 @@ pub(crate) struct Buffer {
     /// The place in what is heard of the first character that is held.
     pub(crate) first: u64,
     pub(crate) damaged: Option<Char>,
-    /// The layout of the frame that is known to stand at the front.
+    /// The layout of the frame with which what is held is known to begin.
     pub(crate) seen: Option<Layout>,
     pub(crate) finished: bool,
     pub(crate) drained: bool,

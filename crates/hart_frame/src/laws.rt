@@ -11,13 +11,13 @@ ghost use Rattle.hart_frame.specs.declared.found.Found.{Found};
 
 use hart_values::address_bytes_are_unambiguous;
 
-/// Bodies are told apart: from the front of a list of bytes at most one body of at most one frame is read.
+/// Bodies are unambiguous: at most one prefix of a list of bytes is a body, of at most one frame.
 pub fn bodies_are_unambiguous()
     ensures one_frame { (f g : FrameParts) (bytes : List ℕ) → IsBody f bytes → IsBody g bytes → f ≡ g }
     ensures one_body { (f : FrameParts) (bytes others : List ℕ) → IsBody f bytes → IsBody f others → bytes ≡ others }
     ensures no_proper_prefix { (f g : FrameParts) (bytes rest : List ℕ)
         → IsBody f bytes → IsBody g (bytes ++ rest) → rest ≡ [] }
-    ensures one_front { (f g : FrameParts) (bytes : List ℕ) (m n : ℕ)
+    ensures one_prefix { (f g : FrameParts) (bytes : List ℕ) (m n : ℕ)
         → BeginsWithBody bytes f m → BeginsWithBody bytes g n → (f ≡ g) × (m ≡ n) }
     ensures whatever_follows { (f : FrameParts) (body rest : List ℕ)
         → IsBody f body → BeginsWithBody (body ++ rest) f (length body) }
@@ -26,7 +26,7 @@ pub fn bodies_are_unambiguous()
     address_bytes_are_unambiguous();
 }
 
-/// Bytes are refused as truncated exactly if no body stands at their front and some bytes after them would make one.
+/// Bytes are refused as truncated exactly if they begin with no body, and would with some bytes after them.
 pub fn truncated_bytes_can_become_a_body()
     ensures { (bytes : List ℕ) → All (λ byte. byte < 256) bytes
         → IsTruncated bytes ↔ (CanBecomeBody bytes × HasNoBody bytes) }

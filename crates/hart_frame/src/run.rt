@@ -11,7 +11,7 @@ use crate::buffer::Buffer;
 use crate::message::PREAMBLE;
 
 impl Buffer {
-    /// Hears the bytes of a run until a frame stands at the front of what is held, or all of them.
+    /// Hears the bytes of a run until what is held begins with a frame, or all of them.
     pub(crate) fn push_run(&mut self, run: &[u8]) -> usize
         requires sound { IsSound self.old }
         requires drained { IsTrue self.old.drained }
@@ -34,7 +34,7 @@ impl Buffer {
         taken
     }
 
-    /// Hears bytes from the front of a run until something may be decided, or all of them.
+    /// Hears the bytes of a run until something may be decided, or all of them.
     fn hear(&mut self, run: &[u8]) -> usize
         requires sound { IsSound self.old }
         requires drained { IsTrue self.old.drained }
@@ -58,7 +58,7 @@ impl Buffer {
         }
     }
 
-    /// Passes over the bytes at the front of a run with which no frame begins, if none is held.
+    /// Passes over the first bytes of a run, with which no frame begins, if none is held.
     fn skip(&mut self, run: &[u8]) -> usize
         requires sound { IsSound self.old }
         requires drained { IsTrue self.old.drained }
@@ -79,7 +79,7 @@ impl Buffer {
         count
     }
 
-    /// Lets preamble bytes go, as many as stand at the front of a run, if two are held: the last two may begin a frame.
+    /// Lets preamble bytes go, as many as a run begins with, if two are held: the last two may begin a frame.
     fn skip_preamble(&mut self, run: &[u8]) -> usize
         requires sound { IsSound self.old }
         requires drained { IsTrue self.old.drained }
@@ -100,7 +100,7 @@ impl Buffer {
         count
     }
 
-    /// Keeps bytes from the front of a run until something may be decided, or all of them.
+    /// Keeps the bytes of a run until something may be decided, or all of them.
     fn fill(&mut self, run: &[u8]) -> usize
         requires sound { IsSound self.old }
         requires drained { IsTrue self.old.drained }

@@ -29,7 +29,7 @@ pub fn any_chunking_gives_the_same_frames()
     crate::frames_are_unambiguous();
 }
 
-/// A scanner that holds a frame at the front gives one, and holds less once it gave one.
+/// A scanner whose characters begin with a frame gives one, and holds less once it gave one.
 pub fn held_frames_are_given()
     ensures next { (old new : Scan) → HoldsFrame old → GivesNothing old new → ⊥ }
     ensures onward { (old new : Scan) (found : Found) → Gives old new found → length new.held < length old.held }

@@ -5,7 +5,7 @@ use super::*;
 use hart_values::{Address, MasterId};
 use std::test::Fail;
 
-/// What is read from the front of bytes: the length of the body, the kind, the address bytes, the expansion bytes and the
+/// What bytes are read as: the length of the body, the kind, the address bytes, the expansion bytes and the
 /// payload of a frame of the primary master with the command 0.
 type Read<'a> = (usize, FrameKind, &'a [u8], &'a [u8], &'a [u8]);
 

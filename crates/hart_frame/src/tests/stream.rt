@@ -166,7 +166,7 @@ fn by_runs(chars: &[Char], size: usize) -> Option<usize> {
     last_taken(&mut scanner, chars, stop)
 }
 
-/// Pushes the faultless characters at the front, so many at most, if the scanner is drained, and tells how many it heard.
+/// Pushes the first faultless characters, so many at most, if the scanner is drained, and gives how many it heard.
 fn push_run(scanner: &mut Scanner, chars: &[Char], size: usize) -> Option<usize> {
     let mut bytes = [0; MOST_HEARD];
     let mut count: usize = 0;

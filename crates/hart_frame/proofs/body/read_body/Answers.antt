@@ -4,7 +4,7 @@ use Rattle.std.proofs.lemmas.List.Elements.{All-from_get_or, All-take}
 use Rattle.hart_frame.specs.Parity.{IsCheckByte, HasEvenParity}
 use Rattle.hart_frame.specs.Body.{IsCheckedPart}
 use Rattle.hart_frame.proofs.ParityLemmas.{check-even}
-use Rattle.hart_frame.proofs.BodyLemmas.{BeginsWithBody-front}
+use Rattle.hart_frame.proofs.BodyLemmas.{BeginsWithBody-prefix}
 use Rattle.hart_frame.proofs.body.read_body.Goals as goal
 
 pub returns-then-check_byte-ne0-clause-refused : goal.returns-then-check_byte-ne0-clause-refused
@@ -24,6 +24,6 @@ returns-clause-accepts c =
     let IsChecked : ℕ → Type 0 = λ n. IsCheckedPart c.frame_in.result (take (n - 1) bytes) in
     let fits : All (λ byte. byte < 256) bytes = All-from_get_or (λ byte. byte < 256) bytes 0 (λ i _. omega (arith, c.type_inv.bytes i)) in
     let IsCheck : ℕ → Type 0 = λ check. IsCheckByte (take c.body_len-len.result bytes) check in
-    BeginsWithBody-front bytes c.frame_in.result c.body_len-len.result (omega (arith, len)) c.if-bytes-len.false
+    BeginsWithBody-prefix bytes c.frame_in.result c.body_len-len.result (omega (arith, len)) c.if-bytes-len.false
     (All-take (λ byte. byte < 256) c.body_len-len.result bytes fits)
     (subst IsChecked (sym len) c.frame_in.ensures.parts) (subst IsCheck c.if-check_byte-ne0.false c.check_byte.ensures)

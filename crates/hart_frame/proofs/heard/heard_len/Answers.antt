@@ -8,8 +8,8 @@ use Rattle.hart_frame.proofs.heard.heard_len.Goals as goal
 use Rattle.hart_frame.proofs.heard.heard_len.Goals.{then-not-are_faultless-via-then-not-are_faultless, then-not-are_faultless-via-else-not-are_faultless+then-heard_check-ne0}
 
 -- the first so many characters are a range of all
-slice_range-front : (chars : List Character) (n : ℕ) → slice_range chars 0 n ≡ take n chars
-slice_range-front chars n = ap (λ k. take k chars) (let all : n - 0 ≡ n = omega arith in all)
+slice_range-prefix : (chars : List Character) (n : ℕ) → slice_range chars 0 n ≡ take n chars
+slice_range-prefix chars n = ap (λ k. take k chars) (let all : n - 0 ≡ n = omega arith in all)
 
 pub returns-in_err-len-clause-known : goal.returns-in_err-len-clause-known
 returns-in_err-len-clause-known c = λ frame len heard.
@@ -26,7 +26,7 @@ returns-then-not-are_faultless-clause-known c = λ frame len heard.
     let part = c.in_ok-body.body.now in
     let count = c.in_ok-len.len in
     let told : count ≡ len = c.in_ok-len.ensures.told ∙ sym (heard_tells chars frame len heard).told in
-    let taken = c.in_ok-body.ensures.lookup.0.2 ∙ slice_range-front chars count in
+    let taken = c.in_ok-body.ensures.lookup.0.2 ∙ slice_range-prefix chars count in
     elim c.then-not-are_faultless.branch [
       | then-not-are_faultless-via-then-not-are_faultless w ↦
           absurd (false≢true (sym w.if-not-are_faultless.true
@@ -41,7 +41,7 @@ returns-clause-heard c =
     let chars = c.args.chars.now in
     let len = c.in_ok-len.len in
     even_heard chars c.in_ok-body.body.now len c.heard_check.result (c.in_ok-len.ensures.known.0 refl) c.in_ok-len.ensures.told
-    c.in_ok-body.ensures.lookup.0.1 (c.in_ok-body.ensures.lookup.0.2 ∙ slice_range-front chars len)
+    c.in_ok-body.ensures.lookup.0.1 (c.in_ok-body.ensures.lookup.0.2 ∙ slice_range-prefix chars len)
     (c.are_faultless.ensures.0 c.if-not-are_faultless.false) c.heard_check.ensures.check c.heard_check.ensures.fits
     c.if-heard_check-ne0.false
 

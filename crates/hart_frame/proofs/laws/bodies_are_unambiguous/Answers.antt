@@ -11,6 +11,6 @@ returns c =
       one_frame = λ f g bytes p q. (apart f g bytes bytes [] [] p q refl).frames;
       one_body = IsBody-one addresses.one_list;
       no_proper_prefix = λ f g bytes rest p q. (apart f g bytes (bytes ++ rest) rest [] p q (sym (append-nil (bytes ++ rest)))).rests;
-      one_front = BeginsWithBody-one addresses.one_reading;
+      one_prefix = BeginsWithBody-one addresses.one_reading;
       whatever_follows = BeginsWithBody-append;
     }

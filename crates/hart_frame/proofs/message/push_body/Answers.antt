@@ -6,12 +6,12 @@ use Rattle.hart_frame.specs.Parity.{IsCheckByte}
 use Rattle.hart_frame.proofs.BodyLemmas.{IsBody-push}
 use Rattle.hart_frame.proofs.message.push_body.Goals as goal
 
--- what `&s[n..]` is behind a front of n elements
-range_from_seam : (s front back : List ℕ) (n : ℕ) → s ≡ front ++ back → n ≡ length front
+-- what `&s[n..]` is after a prefix of n elements
+range_from_seam : (s prefix back : List ℕ) (n : ℕ) → s ≡ prefix ++ back → n ≡ length prefix
     → take (length s - n) (drop n s) ≡ back
-range_from_seam s front back n whole at =
-    let rest : drop n s ≡ back = ap (drop n) whole ∙ drop_at front back n (sym at) in
-    rw rest (take_all (length s - n) back (rw whole (let parts = length-append front back in omega arith)))
+range_from_seam s prefix back n whole at =
+    let rest : drop n s ≡ back = ap (drop n) whole ∙ drop_at prefix back n (sym at) in
+    rw rest (take_all (length s - n) back (rw whole (let parts = length-append prefix back in omega arith)))
 
 pub returns : goal.returns
 returns g c =
