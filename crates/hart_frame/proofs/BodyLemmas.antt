@@ -8,7 +8,7 @@ use Rattle.hart_frame.specs.Parity.{IsCheckByte, HasEvenParity}
 use Rattle.hart_frame.specs.Body.{IsBody, IsCheckedPart, BeginsWithBody}
 use Rattle.hart_frame.proofs.ParityLemmas.{HasEvenParity-push, even-check}
 
--- a check byte behind the checked part makes a body
+-- a check byte after the checked part makes a body
 pub IsBody-push : (frame : FrameParts) (checked : List ℕ) (check : ℕ) → IsCheckedPart frame checked
     → All (λ byte. byte < 256) checked → IsCheckByte checked check → IsBody frame (checked ++ check ∷ [])
 IsBody-push frame checked check part fits check_byte = record {

@@ -17,7 +17,7 @@ use Rattle.hart_frame.specs.declared.buffer.Buffer.{Buffer}
 use Rattle.hart_frame.specs.declared.layout.Layout.{Layout}
 use Rattle.hart_frame.specs.declared.judge.Verdict.TheVariants.{Open}
 
--- a range with one more element behind it
+-- a range with one more element after it
 pub range_push : (xs : List ℕ) (a n x : ℕ) → a ≤ n → n < length xs → slice_range (set xs n x) a (n + 1) ≡ slice_range xs a n ++ x ∷ []
 range_push xs a n x order within =
     let at : n ≡ a + (n - a) = omega arith in

@@ -29,9 +29,9 @@ StandsIn-one law f g chars m n p q starts =
     let tail : List Character = drop place chars in
     let heard = StandsIn-hears chars tail place m f p p.start refl in
     let also = StandsIn-hears chars tail place n g q (sym starts ∙ p.start) refl in
-    let behind : List Character = take (length tail - 2) (drop 2 tail) in
-    let same = law f.frame g.frame (bytes_of behind) (length p.body) (length q.body)
-    (BeginsWithBody-heard behind f.frame (length p.body) heard) (BeginsWithBody-heard behind g.frame (length q.body) also) in
+    let after : List Character = take (length tail - 2) (drop 2 tail) in
+    let same = law f.frame g.frame (bytes_of after) (length p.body) (length q.body)
+    (BeginsWithBody-heard after f.frame (length p.body) heard) (BeginsWithBody-heard after g.frame (length q.body) also) in
     same_found f g starts (omega (arith, same.1, starts, p.start, q.start, p.stop, q.stop)) same.0
 
 pub IsFirst-one : OnePrefix → (f g : Found) (chars : List Character) (from : ℕ) → IsFirst f chars from → IsFirst g chars from → f ≡ g

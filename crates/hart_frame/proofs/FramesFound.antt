@@ -145,16 +145,16 @@ preamble_decided x =
       ]
     ]
 
--- what is heard behind two preamble bytes stands there
+-- what is heard after two preamble bytes stands there
 here_heard : (chars : List Character) (x y : Character) (rest : List Character) (place : ℕ) → place ≤ length chars
     → x ∷ y ∷ rest ≡ drop place chars → x ≡ preamble → y ≡ preamble → HeardAhead rest → Here chars place
 here_heard chars x y rest place within is first second ahead =
     let Heard : List Character → Type 0 = λ cs. BeginsWithHeard cs ahead.frame ahead.len in
-    let behind = take_rest (x ∷ y ∷ rest) 2 in
+    let after = take_rest (x ∷ y ∷ rest) 2 in
     record {
       found = record { start = place + 2; stop = place + 2 + ahead.len; frame = ahead.frame };
       stands = StandsIn-heard chars (x ∷ y ∷ rest) place x y ahead.frame ahead.len within is (omega arith) refl refl first second
-          (subst Heard (sym behind) ahead.begins);
+          (subst Heard (sym after) ahead.begins);
       start = refl;
     }
 
@@ -201,8 +201,8 @@ past_end chars from place end none found stands =
 
 search : (chars : List Character) (from fuel place : ℕ) → from ≤ place → length chars ≤ place + fuel → NoneBefore chars from place
     → HasFirst chars from ⊎ HasNoFrame chars from
-search chars from zero place behind enough none = inr (past_end chars from place (omega (arith, enough)) none)
-search chars from (suc fuel) place behind enough none =
+search chars from zero place after enough none = inr (past_end chars from place (omega (arith, enough)) none)
+search chars from (suc fuel) place after enough none =
     let cases : (place ≤ length chars) ⊎ (length chars < place) = grind arith in
     elim cases [
       | inr past ↦ inr (past_end chars from place (omega (arith, past)) none)
@@ -210,11 +210,11 @@ search chars from (suc fuel) place behind enough none =
         | inl here ↦ inl (record {
           found = here.found;
           is_first = record {
-            stands = StandsIn-from here.found chars place from here.stands (omega (arith, behind, here.start));
+            stands = StandsIn-from here.found chars place from here.stands (omega (arith, after, here.start));
             least = λ other stands. omega (arith, here.start, none other stands);
           };
         })
-        | inr nothing ↦ search chars from fuel (place + 1) (omega (arith, behind)) (omega (arith, enough))
+        | inr nothing ↦ search chars from fuel (place + 1) (omega (arith, after)) (omega (arith, enough))
             (λ found stands. start-later found chars from place stands (none found stands) (nothing found))
       ]
     ]
@@ -222,7 +222,7 @@ search chars from (suc fuel) place behind enough none =
 -- whether a frame stands in a list from a place on
 first_decided : (chars : List Character) (from : ℕ) → HasFirst chars from ⊎ HasNoFrame chars from
 first_decided chars from =
-    search chars from (length chars) from (omega arith) (omega arith) (λ found stands. (StandsIn-within found chars from stands).behind)
+    search chars from (length chars) from (omega arith) (omega arith) (λ found stands. (StandsIn-within found chars from stands).after)
 
 frames_found : (chars : List Character) (fuel from : ℕ) → length chars ≤ from + fuel → (frames : List Found) × AreFrames chars from frames
 frames_found chars zero from enough = ([], AreFrames.none from (HasNoFrame-end chars from (omega (arith, enough))))
@@ -230,7 +230,7 @@ frames_found chars (suc fuel) from enough = elim (first_decided chars from) [
   | inr none ↦ ([], AreFrames.none from none)
   | inl has ↦
       let within = StandsIn-within has.found chars from has.is_first.stands in
-      let later = frames_found chars fuel has.found.stop (omega (arith, enough, within.behind, within.some)) in
+      let later = frames_found chars fuel has.found.stop (omega (arith, enough, within.after, within.some)) in
       (has.found ∷ later.0, AreFrames.first from has.found later.0 has.is_first later.1)
 ]
 

@@ -43,12 +43,12 @@ starts bytes found from stands =
     ∙ ap (λ (xs : List ℕ). get_or xs 0 0) (spread found.frame stands.body (bytes_of stands.rest) stands.is_body)
 
 -- so none starts among the preamble bytes
-starts-behind : (bytes body : List ℕ) (preambles : ℕ) (found : Found) (from : ℕ) → bytes ≡ replicate preambles 255 ++ body
+starts-after : (bytes body : List ℕ) (preambles : ℕ) (found : Found) (from : ℕ) → bytes ≡ replicate preambles 255 ++ body
     → StandsIn found (faultless bytes) from → preambles ≤ found.start
-starts-behind bytes body preambles found from parts stands =
+starts-after bytes body preambles found from parts stands =
     let cases : (preambles ≤ found.start) ⊎ (found.start < preambles) = grind arith in
     elim cases [
-      | inl behind ↦ behind
+      | inl after ↦ after
       | inr among ↦
           let prefix : List ℕ = replicate preambles 255 in
           let long : length prefix ≡ preambles = length-replicate preambles 255 in
@@ -83,7 +83,7 @@ stands_in f preambles more bytes two message =
       rest = [];
       split = ap faultless whole ∙ map-append character_of prefix marked ∙ sym (append-nil (faultless prefix ++ faultless marked));
       is_body = message.is_body;
-      behind = omega arith;
+      after = omega arith;
       start = omega (arith, two, prefix_len);
       stop = omega (arith, len, prefix_len);
     }
@@ -94,7 +94,7 @@ AreFrames-message f preambles bytes two message =
     let len : length (faultless bytes) ≡ length bytes = length-map bytes (λ (byte : ℕ). record { byte = byte; faults = 0 }) in
     AreFrames.first 0 (found_in f preambles bytes) [] (record {
       stands = stands_in f preambles (preambles - 2) bytes (omega (arith, two)) message;
-      least = λ other stands. starts-behind bytes message.body preambles other 0 message.parts stands;
+      least = λ other stands. starts-after bytes message.body preambles other 0 message.parts stands;
     }) (AreFrames.none (length bytes) (HasNoFrame-end (faultless bytes) (length bytes) (omega (arith, len))))
 
 pub AreFrames-nothing : AreFrames [] 0 []

@@ -15,10 +15,10 @@ open_fits : (place : ℕ) (chars : List Character) → All (λ character. charac
     → All (λ byte. byte < 256) opened.bytes
 open_fits place chars all opened =
     let make = λ (byte : ℕ). let c : Character = record { byte = byte; faults = 0 } in c in
-    let behind = faultless (255 ∷ 255 ∷ opened.bytes) in
+    let after = faultless (255 ∷ 255 ∷ opened.bytes) in
     let n = length opened.prefix in
     let Fit : List Character → Type 0 = λ cs. All (λ character. character.byte < 256) cs in
-    let rest = subst Fit (ap (drop n) opened.split ∙ drop_at opened.prefix behind n refl)
+    let rest = subst Fit (ap (drop n) opened.split ∙ drop_at opened.prefix after n refl)
     (All-drop (λ character. character.byte < 256) n chars all) in
     let long = length-map opened.bytes make in
     All-from_get_or (λ byte. byte < 256) opened.bytes 0 (λ k below.
@@ -58,7 +58,7 @@ open_begins becomes place chars all opened =
             ∙ ap (λ (cs : List Character). opened.prefix ++ (preamble ∷ preamble ∷ cs)) parts
             ∙ sym (append_assoc opened.prefix (faultless (255 ∷ 255 ∷ body)) rest);
         is_body = can.begins.body;
-        behind = omega arith;
+        after = omega arith;
         start = refl;
         stop = refl;
       };

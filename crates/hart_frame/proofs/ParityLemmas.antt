@@ -66,7 +66,7 @@ check-even bytes check is even =
 pub even-check : (bytes : List ℕ) → IsCheckByte bytes 0 → HasEvenParity bytes
 even-check bytes is = record { even = λ bit below. sym (is.odd bit below) ∙ bit_at-zero bit }
 
--- bytes have one byte behind them that gives them even parity
+-- bytes have one byte after them that gives them even parity
 pub check-one : (bytes : List ℕ) (check other : ℕ) → check < 256 → other < 256
     → HasEvenParity (bytes ++ check ∷ []) → HasEvenParity (bytes ++ other ∷ []) → check ≡ other
 check-one bytes check other small smaller even evenly = same_from_bits_below 8 check other small smaller (λ bit below.

@@ -22,7 +22,7 @@ joined : (x y : Character) (rest more : List Character) → x ≡ preamble → y
     → x ∷ y ∷ rest ≡ preamble ∷ preamble ∷ more
 joined x y rest more first second back = cc
 
--- a body that is heard behind two preamble bytes stands there
+-- a body that is heard after two preamble bytes stands there
 pub StandsIn-heard : (chars tail : List Character) (place : ℕ) (first second : Character) (f : FrameParts) (len : ℕ)
     → place ≤ length chars → tail ≡ drop place chars → 2 ≤ length tail → first ≡ get_or tail 0 first → second ≡ get_or tail 1 second
     → first ≡ preamble → second ≡ preamble → BeginsWithHeard (take (length tail - 2) (drop 2 tail)) f len
@@ -30,8 +30,8 @@ pub StandsIn-heard : (chars tail : List Character) (place : ℕ) (first second :
 StandsIn-heard chars [] place first second f len within is long x_is y_is x_pre y_pre heard = absurd (omega arith)
 StandsIn-heard chars (x ∷ []) place first second f len within is long x_is y_is x_pre y_pre heard = absurd (omega arith)
 StandsIn-heard chars (x ∷ y ∷ rest) place first second f len within is long x_is y_is x_pre y_pre heard =
-    let behind = take_rest (x ∷ y ∷ rest) 2 in
-    let parts = joined x y rest (faultless heard.body ++ heard.rest) (sym x_is ∙ x_pre) (sym y_is ∙ y_pre) (sym behind ∙ heard.split) in
+    let after = take_rest (x ∷ y ∷ rest) 2 in
+    let parts = joined x y rest (faultless heard.body ++ heard.rest) (sym x_is ∙ x_pre) (sym y_is ∙ y_pre) (sym after ∙ heard.split) in
     let prefix_len = length-take-le place chars within in
     record {
       prefix = take place chars;
@@ -40,7 +40,7 @@ StandsIn-heard chars (x ∷ y ∷ rest) place first second f len within is long 
       split = sym (take-append-drop place chars) ∙ ap (λ (xs : List Character). take place chars ++ xs) (sym is ∙ parts)
           ∙ sym (append_assoc (take place chars) (faultless (255 ∷ 255 ∷ heard.body)) heard.rest);
       is_body = heard.is_body;
-      behind = omega (arith, prefix_len);
+      after = omega (arith, prefix_len);
       start = omega (arith, prefix_len);
       stop = omega (arith, prefix_len, heard.whole);
     }
@@ -90,16 +90,16 @@ StandsIn-body found chars from stands =
       whole = refl;
     }
 
--- what stands behind a place stands in the list from that place on
+-- what stands after a place stands in the list from that place on
 pub StandsIn-from : (found : Found) (chars : List Character) (place from : ℕ) → StandsIn found chars place → from + 2 ≤ found.start
     → StandsIn found chars from
-StandsIn-from found chars place from stands behind = record {
+StandsIn-from found chars place from stands after = record {
   prefix = stands.prefix;
   body = stands.body;
   rest = stands.rest;
   split = stands.split;
   is_body = stands.is_body;
-  behind = omega (arith, behind, stands.start);
+  after = omega (arith, after, stands.start);
   start = stands.start;
   stop = stands.stop;
 }
@@ -107,16 +107,16 @@ StandsIn-from found chars place from stands behind = record {
 -- a frame that does not stand right at a place stands later
 pub start-later : (found : Found) (chars : List Character) (from place : ℕ) → StandsIn found chars from → place + 2 ≤ found.start
     → (StandsIn found chars place → found.start ≡ place + 2 → ⊥) → place + 1 + 2 ≤ found.start
-start-later found chars from place stands behind not_here =
+start-later found chars from place stands after not_here =
     let cases : (found.start ≡ place + 2) ⊎ (place + 1 + 2 ≤ found.start) = grind arith in
     elim cases [
-      | inl here ↦ absurd (not_here (StandsIn-from found chars from place stands behind) here)
+      | inl here ↦ absurd (not_here (StandsIn-from found chars from place stands after) here)
       | inr later ↦ later
     ]
 
 -- a frame lies within the list
 pub record LiesWithin (found : Found) (chars : List Character) (from : ℕ) : Type 0 where
-  pub behind : from + 2 ≤ found.start
+  pub after : from + 2 ≤ found.start
   pub some : found.start < found.stop
   pub within : found.stop ≤ length chars
 
@@ -129,7 +129,7 @@ StandsIn-within found chars from stands =
     length-map stands.body (λ (byte : ℕ). record { byte = byte; faults = 0 }) in
     let some = ap length stands.is_body.parts ∙ length-append stands.is_body.checked (stands.is_body.check ∷ []) in
     record {
-      behind = omega (arith, stands.behind, stands.start);
+      after = omega (arith, stands.after, stands.start);
       some = omega (arith, stands.start, stands.stop, some);
       within = omega (arith, stands.stop, all, rest, prefix, body);
     }
@@ -170,4 +170,4 @@ found_is found places frame placed same =
 pub HasNoFrame-end : (chars : List Character) (from : ℕ) → length chars ≤ from → HasNoFrame chars from
 HasNoFrame-end chars from end found stands =
     let lies = StandsIn-within found chars from stands in
-    omega (arith, end, lies.behind, lies.some, lies.within)
+    omega (arith, end, lies.after, lies.some, lies.within)

@@ -93,8 +93,8 @@ pub open_more : (xs : List ℕ) (y count : ℕ) → IsVerdict xs (Open count) �
 open_more xs y count verdict short = elim verdict [
   | inl one ↦ absurd (omega (arith, one, short))
   | inr (has, until) ↦
-      let behind : length (drop 2 xs) ≡ length xs - 2 = length-drop 2 xs in
-      let rest = until_more (drop 2 xs) y count until (omega (arith, behind, short, has.0)) in
+      let after : length (drop 2 xs) ≡ length xs - 2 = length-drop 2 xs in
+      let rest = until_more (drop 2 xs) y count until (omega (arith, after, short, has.0)) in
       let Until : List ℕ → Type 0 = λ zs. IsOpenUntil zs count in
       inr (preamble_more xs (y ∷ []) has, subst Until (sym (drop-append-le 2 xs (y ∷ []) has.0)) rest)
 ]
@@ -111,8 +111,8 @@ pub open_short : (xs : List ℕ) (count : ℕ) → IsVerdict xs (Open count) →
 open_short xs count verdict = elim verdict [
   | inl one ↦ omega (arith, one)
   | inr (has, until) ↦
-      let behind : length (drop 2 xs) ≡ length xs - 2 = length-drop 2 xs in
-      omega (arith, behind, has.0, until_short (drop 2 xs) count until)
+      let after : length (drop 2 xs) ≡ length xs - 2 = length-drop 2 xs in
+      omega (arith, after, has.0, until_short (drop 2 xs) count until)
 ]
 
 -- what a list says, its prefix says

@@ -29,7 +29,7 @@ pub skip_one : (chars : List Character) (from : ℕ) → NothingStarts (drop fro
     → StandsIn found chars (from + 1)
 skip_one chars from nothing found stands =
     let within = StandsIn-within found chars from stands in
-    let later = start-later found chars from from stands within.behind
+    let later = start-later found chars from from stands within.after
     (λ here start. nothing found.frame here.body here.rest here.is_body (StandsIn-at chars from from found here start)) in
     record {
       prefix = stands.prefix;
@@ -37,7 +37,7 @@ skip_one chars from nothing found stands =
       rest = stands.rest;
       split = stands.split;
       is_body = stands.is_body;
-      behind = omega (arith, later, stands.start);
+      after = omega (arith, later, stands.start);
       start = stands.start;
       stop = stands.stop;
     }
@@ -49,11 +49,11 @@ AreFrames-earlier chars from to frames before skip (none n empty) = AreFrames.no
 AreFrames-earlier chars from to frames before skip (first n found later is rest) =
     let within = StandsIn-within found chars to is.stands in
     AreFrames.first from found later (record {
-      stands = StandsIn-from found chars to from is.stands (omega (arith, within.behind, before));
+      stands = StandsIn-from found chars to from is.stands (omega (arith, within.after, before));
       least = λ other stands. is.least other (skip other stands);
     }) rest
 
--- what is held is found behind as many characters as were let go
+-- what is held is found after as many characters as were let go
 pub heard_at : (scan : Scan) (more chars : List Character) (hears : Hears scan more chars) → drop scan.first chars ≡ scan.held ++ more
 heard_at scan more chars hears = ap (drop scan.first) hears.split ∙ drop_at hears.prefix (scan.held ++ more) scan.first hears.place
 
@@ -118,13 +118,13 @@ moves_frame old new f body held is firsts finished = record {
             ∙ ap (λ (cs : List Character). hears.prefix ++ cs) (append_assoc (faultless (255 ∷ 255 ∷ body)) new.held more)
             ∙ sym (append_assoc hears.prefix (faultless (255 ∷ 255 ∷ body)) (new.held ++ more));
         is_body = is;
-        behind = omega (arith, hears.place);
+        after = omega (arith, hears.place);
         start = omega (arith, hears.place);
         stop = omega (arith, hears.place, firsts);
       } in
       AreFrames.first old.first found later (record {
         stands = stands;
-        least = λ other there. (StandsIn-within other chars old.first there).behind;
+        least = λ other there. (StandsIn-within other chars old.first there).after;
       }) frames;
 }
 
@@ -279,7 +279,7 @@ undecided_open (x ∷ y ∷ xs) count verdict = elim verdict [
             let Nothing : List Character → Type 0 = λ cs. NothingStarts cs in
             let later = skip_one held 0 (subst Nothing (append-nil held) nothing) found stands in
             let within = StandsIn-within found held 1 later in
-            omega (arith, within.behind),
+            omega (arith, within.after),
       )
 ]
 

@@ -287,7 +287,7 @@ holds_frame b layout sound begins =
         rest = (scan_of (given b layout)).held;
         split = held_whole b layout sound begins.verdict;
         is_body = is_body;
-        behind = omega arith;
+        after = omega arith;
         start = refl;
         stop = refl;
       },

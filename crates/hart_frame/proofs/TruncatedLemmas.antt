@@ -57,7 +57,7 @@ HasGoodByteCount-append bytes rest good =
     ] in
     (((omega (arith, long, some), is), omega (arith, long, place, good.0.1)), enough)
 
--- what can become a body with some bytes behind it can without them
+-- what can become a body with some bytes after it can without them
 CanBecomeBody-prefix : (bytes more : List ℕ) → CanBecomeBody (bytes ++ more) → CanBecomeBody bytes
 CanBecomeBody-prefix bytes more can = record {
   rest = more ++ can.rest;

@@ -49,7 +49,7 @@ stands_after prefix cs rest found n long stands =
           ∙ sym (append_assoc prefix stands.prefix (body ++ (stands.rest ++ rest)))
           ∙ sym (append_assoc (prefix ++ stands.prefix) body (stands.rest ++ rest));
       is_body = stands.is_body;
-      behind = omega (arith, size, long);
+      after = omega (arith, size, long);
       start = omega (arith, size, long, stands.start);
       stop = omega (arith, size, long, stands.stop);
     }
@@ -65,12 +65,12 @@ stands_in prefix cs found n long stands =
       body = stands.body;
       rest = stands.rest;
       split = sym (drop_at prefix cs n long) ∙ ap (drop n) (stands.split ∙ append_assoc stands.prefix body stands.rest)
-          ∙ drop-append-le n stands.prefix (body ++ stands.rest) stands.behind
+          ∙ drop-append-le n stands.prefix (body ++ stands.rest) stands.after
           ∙ sym (append_assoc (drop n stands.prefix) body stands.rest);
       is_body = stands.is_body;
-      behind = omega arith;
-      start = omega (arith, size, stands.start, stands.behind);
-      stop = omega (arith, size, stands.stop, stands.behind);
+      after = omega arith;
+      start = omega (arith, size, stands.start, stands.after);
+      stop = omega (arith, size, stands.stop, stands.after);
     }
 
 -- what a scanner holds, stands in all that it heard
@@ -213,4 +213,4 @@ gives_onward old new found gives =
     let frames = gives.moves.frames [] (sample old) later.0 (hears_sample old) later.1 in
     let stands = head_stands (sample old) old.first (found ∷ later.0) frames found later.0 refl in
     let within = StandsIn-within found (sample old) old.first stands in
-    omega (arith, within.behind, within.some, gives.stop, moves_length old new (found ∷ []) gives.moves)
+    omega (arith, within.after, within.some, gives.stop, moves_length old new (found ∷ []) gives.moves)

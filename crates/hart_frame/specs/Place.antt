@@ -13,7 +13,7 @@ pub record StandsIn (found : Found) (chars : List Character) (from : ℕ) : Type
   pub rest : List Character
   pub split : chars ≡ prefix ++ faultless (255 ∷ 255 ∷ body) ++ rest
   pub is_body : IsBody found.frame body
-  pub behind : from ≤ length prefix
+  pub after : from ≤ length prefix
   pub start : found.start ≡ length prefix + 2
   pub stop : found.stop ≡ length prefix + 2 + length body
 

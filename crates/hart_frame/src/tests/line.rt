@@ -50,7 +50,7 @@ const INSIDE: &[u16] = &[
 
 /// A line, how many characters of it are heard, the place to search from, and where the first frame starts and stops.
 ///
-/// Of a character on a line the high byte is the fault bits. Behind the line faultless characters 00 are heard.
+/// Of a character on a line the high byte is the fault bits. After the line faultless characters 00 are heard.
 const HEARD: &[(&[u16], usize, usize, Option<(usize, usize)>)] = &[
     (&[], 0, 0, None),
     (&[0xFF], 1, 0, None),

@@ -13,4 +13,4 @@ returns c =
     let First : Found → Type 0 = λ found. IsFirst found chars from in
     let is_first = subst First (sym (c.found_at.ensures at.0 at.1 stands)) at.2 in
     let lies = StandsIn-within c.found_at.result chars from is_first.stands in
-    record { first = is_first; start = lies.behind; order = lies.some; within = lies.within }
+    record { first = is_first; start = lies.after; order = lies.some; within = lies.within }

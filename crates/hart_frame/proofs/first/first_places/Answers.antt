@@ -11,7 +11,7 @@ returns-in-Some c =
     let at = c.in-Some.ensures.stands in
     let start = c.in-Some.ensures.start in
     let is_first : IsFirst at.0 chars c.args.from = record {
-      stands = StandsIn-from at.0 chars place c.args.from at.2 (omega (arith, at.1.0, start, c.loop-place.invariant.behind));
+      stands = StandsIn-from at.0 chars place c.args.from at.2 (omega (arith, at.1.0, start, c.loop-place.invariant.after));
       least = λ other stands. omega (arith, at.1.0, start, c.loop-place.invariant.none other stands);
     } in
     record { first = (at.0, at.1, is_first) }
@@ -22,7 +22,7 @@ loop-place-preserved c =
     let place = c.loop-place.place in
     let next = c.next_start-place-in-loop-place.ensures in
     record {
-      behind = omega (arith, c.loop-place.invariant.behind, next.from);
+      after = omega (arith, c.loop-place.invariant.after, next.from);
       none = λ found stands. next.least found (StandsIn-from found chars c.args.from (place + 1) stands
           (start-later found chars c.args.from place stands (c.loop-place.invariant.none found stands)
           (λ here start. false≢true (c.in_default.ensures.known found here start))));

@@ -10,7 +10,7 @@ loop-place-preserved c =
     let chars = c.args.chars.now in
     let place = c.loop-place.place in
     record {
-      behind = omega (arith, c.loop-place.invariant.behind);
+      after = omega (arith, c.loop-place.invariant.after);
       none = λ found stands.
           start-later found chars c.args.from place stands (c.loop-place.invariant.none found stands)
           (λ here start. false≢true (sym c.if-not-is_start.true

@@ -5,7 +5,7 @@ use Rattle.hart_frame.proofs.first.next_start.Given as goal
 
 abbrev pub invariant-loop-place : goal.invariant-loop-place
 invariant-loop-place l = record {
-  behind : l.fn.from ≤ l.place;
+  after : l.fn.from ≤ l.place;
   none : (found : Found) → StandsIn found l.chars l.fn.from → l.place + 2 ≤ found.start;
 }
 
