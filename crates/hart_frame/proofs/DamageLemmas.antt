@@ -205,7 +205,7 @@ marked_heard frame preambles chars damage =
       no_two_preambles = damage.no_two_preambles;
     }
 
--- found frames are the same where their parts are
+-- found frames are the same if their parts are
 same_found : (found : Found) (frame : FrameParts) (start stop : ℕ) → found.start ≡ start → found.stop ≡ stop → found.frame ≡ frame
     → found ≡ record { start = start; stop = stop; frame = frame }
 same_found found frame start stop starts stops frames =
@@ -232,7 +232,7 @@ marked_own laws frame preambles chars damage found from stands =
     (omega (arith, stands.stop, start, long, length-append (replicate left 255) body, length-replicate {A = ℕ} left 255, ap length same))
     frames
 
--- where each frame that stands is one that ends the list, the list has none or that one alone
+-- if each frame that stands is one that ends the list, the list has none or that one alone
 none_or_own : (chars : List Character) (from : ℕ) (one : Found) → ((found : Found) → StandsIn found chars from → found ≡ one)
     → length chars ≤ one.stop → (frames : List Found) → AreFrames chars from frames
     → AreFrames chars from [] ⊎ AreFrames chars from (one ∷ [])

@@ -14,7 +14,7 @@ use Rattle.hart_frame.proofs.PlaceLemmas.{StandsIn-hears}
 abbrev pub OnePrefix : Type 0
 OnePrefix = (f g : FrameParts) (bytes : List ℕ) (m n : ℕ) → BeginsWithBody bytes f m → BeginsWithBody bytes g n → (f ≡ g) × (m ≡ n)
 
--- what is found is the same where its parts are
+-- what is found is the same if its parts are
 same_found : (f g : Found) → f.start ≡ g.start → f.stop ≡ g.stop → f.frame ≡ g.frame → f ≡ g
 same_found f g starts stops frames =
     let of : ℕ → ℕ → FrameParts → Found = λ start stop frame. record { start = start; stop = stop; frame = frame } in

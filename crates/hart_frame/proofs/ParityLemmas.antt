@@ -1,4 +1,4 @@
--- The exclusive or of bytes has a bit where an odd number of them have it.
+-- The exclusive or of bytes has a bit if an odd number of them have it.
 use Rattle.std.proofs.Common.{◌≡◌, ℕ, ◌+◌, ◌%◌, ◌<◌, List, [], ◌∷◌, ◌++◌, sym, ap, ◌∙◌, arith, cond, eqb, fold, bit_xor, get_or, suc}
 use Rattle.std.proofs.lemmas.List.Sums.{sum_by-append}
 use Rattle.std.specs.Int.{bit_at}

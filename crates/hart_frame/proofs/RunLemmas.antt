@@ -20,7 +20,7 @@ append_none : (cs more : List Character) → cs ++ more ≡ [] → more ≡ []
 append_none [] more none = none
 append_none (c ∷ cs) more none = absurd cc
 
--- what is passed is also passed where more is heard before it is looked at
+-- what is passed is also passed if more is heard before it is looked at
 pub moves_hearing : (a b : Scan) (cs : List Character) → a.finished ≡ false → MovesPast a b [] → MovesPast (hearing a cs) (hearing b cs) []
 moves_hearing a b cs going p =
     let before : (more chars : List Character) → Hears (hearing a cs) more chars → Hears a (cs ++ more) chars = λ more chars hears. record {
@@ -78,7 +78,7 @@ moves_others a b (x ∷ xs) others held empty firsts same =
     moves_then a mid b [] (moves_drop a mid gone held refl refl nothing)
     (moves_others mid b xs (λ k d within. others (suc k) d (omega (arith, within))) refl empty (omega (arith, firsts)) same)
 
--- and heard, where nothing is held
+-- and heard, if nothing is held
 pub others_heard : (a b : Scan) (xs : List ℕ) → All (λ byte. byte ≢ 255) xs → a.held ≡ [] → b.held ≡ [] → b.first ≡ a.first + length xs
     → b.finished ≡ a.finished → MovesPast (hearing a (faultless xs)) b []
 others_heard a b xs others none empty firsts same =

@@ -92,7 +92,7 @@ no_frames : (chars : List Character) (from : ℕ) (frames : List Found) → AreF
 no_frames chars from frames (none n empty) same = empty
 no_frames chars from frames (first n g later is rest) same = absurd cc
 
--- where a frame stands, there is a first
+-- if a frame stands, there is a first
 record HasHead (chars : List Character) (from start : ℕ) (frames : List Found) : Type 0 where
   pub head : Found
   pub later : List Found

@@ -5,7 +5,7 @@ use Rattle.hart_frame.specs.Character.{Character, faultless}
 use Rattle.hart_frame.specs.Refusal.{IsTruncated}
 use Rattle.hart_frame.specs.declared.found.Found.{Found}
 
--- A frame stands in a list of characters, from a place of the list on, where two faultless preamble bytes FF at or after
+-- A frame stands in a list of characters, from a place of the list on, if two faultless preamble bytes FF at or after
 -- that place are followed by a body of it in faultless characters; it starts after the two, and stops after the body.
 pub record StandsIn (found : Found) (chars : List Character) (from : ℕ) : Type 0 where
   pub prefix : List Character

@@ -152,7 +152,7 @@ impl Buffer {
         self.due = 0;
     }
 
-    /// Lets go of two preamble bytes and the body after them, and tells where that body is.
+    /// Lets go of two preamble bytes and the body after them, and gives the place of that body.
     pub(crate) fn give(&mut self, layout: Layout) -> Spot
         requires sound { IsSound self.old }
         requires busy { self.old.drained ≡ false }
