@@ -55,7 +55,7 @@ pub address_type-lt : (a : Address) → address_type a < 2
 address_type-lt (Polling number) = omega arith
 address_type-lt (Unique numbers) = omega arith
 
--- the address type tells how long the address bytes are
+-- the address type says how long the address bytes are
 pub length-address : (m : MasterId) (b : Bool) (a : Address) (bytes : List ℕ) → IsAddressBytes m b a bytes
     → length bytes ≡ 1 + 4 * address_type a
 length-address m b (Polling number) bytes is = ap length is.1

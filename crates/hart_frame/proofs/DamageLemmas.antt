@@ -15,7 +15,7 @@ use Rattle.hart_frame.specs.declared.found.Found.{Found}
 use Rattle.hart_frame.proofs.BodiesApart.{BeginsWithBody-append}
 use Rattle.hart_frame.proofs.FramesFound.{AreFrames-found}
 use Rattle.hart_frame.proofs.PlaceLemmas.{HasNoFrame-end, preamble}
-use Rattle.hart_frame.proofs.RefusalLemmas.{IsDelimiter-of, Tells, tells}
+use Rattle.hart_frame.proofs.RefusalLemmas.{IsDelimiter-of, Says, says}
 
 -- a faultless character
 abbrev pub clear : ℕ → Character
@@ -75,11 +75,11 @@ begins_sent (sent ∷ bytes) (byte ∷ prefix) more heard =
     record { rest = others.rest; parts = ap (λ (b : ℕ). b ∷ bytes) (sym same) ∙ ap (λ (bs : List ℕ). byte ∷ bs) others.parts }
 
 -- WHERE A FRAME CAN STAND
--- a body tells its delimiter and its length
-tells_of : (f : FrameParts) (body : List ℕ) → IsBody f body → Tells body f (length body)
-tells_of f body is =
+-- a body gives its delimiter and its length
+says_of : (f : FrameParts) (body : List ℕ) → IsBody f body → Says body f (length body)
+says_of f body is =
     let Begins : List ℕ → Type 0 = λ xs. BeginsWithBody xs f (length body) in
-    tells body f (length body) (subst Begins (append-nil body) (BeginsWithBody-append f body [] is))
+    says body f (length body) (subst Begins (append-nil body) (BeginsWithBody-append f body [] is))
 
 -- a delimiter is no preamble byte
 delimiter_of-other : (f : FrameParts) (body : List ℕ) → IsBody f body → delimiter_of f ≡ 255 → ⊥
@@ -184,7 +184,7 @@ begins_body left body chars found from is stands =
     begins_sent body stands.body stands.rest (subst (AreHeardOrMarked body) after heard)
 
 -- MARKED DAMAGE
--- what bodies are told apart by
+-- what keeps bodies unambiguous
 pub record BodyLaws : Type 0 where
   pub one_frame : (f g : FrameParts) (bytes : List ℕ) → IsBody f bytes → IsBody g bytes → f ≡ g
   pub no_proper_prefix : (f g : FrameParts) (bytes rest : List ℕ) → IsBody f bytes → IsBody g (bytes ++ rest) → rest ≡ []
@@ -197,10 +197,10 @@ own frame left chars = record { start = left; stop = length chars; frame = frame
 marked_heard : (frame : FrameParts) (preambles : ℕ) (chars : List Character) (damage : IsMarkedDamage frame preambles chars)
     → IsHeard damage.left damage.body chars
 marked_heard frame preambles chars damage =
-    let told = tells_of frame damage.body damage.is_body in
+    let said = says_of frame damage.body damage.is_body in
     record {
-      some = omega (arith, told.whole);
-      delimiter = λ same. delimiter_of-other frame damage.body damage.is_body (sym told.delimiter ∙ same);
+      some = omega (arith, said.whole);
+      delimiter = λ same. delimiter_of-other frame damage.body damage.is_body (sym said.delimiter ∙ same);
       heard = damage.heard;
       no_two_preambles = damage.no_two_preambles;
     }
@@ -254,23 +254,23 @@ AreFrames-marked laws frame preambles chars damage =
 check_heard : (frame : FrameParts) (preambles : ℕ) (chars : List Character) (damage : IsCheckDamage frame preambles chars)
     → IsHeard damage.left damage.bytes chars
 check_heard frame preambles chars damage =
-    let told = tells_of frame damage.body damage.is_body in
+    let said = says_of frame damage.body damage.is_body in
     let Heard : List Character → Type 0 = λ cs. AreHeardOrMarked (replicate damage.left 255 ++ damage.bytes) cs in
     record {
-      some = omega (arith, told.whole, damage.replaces.same_length);
+      some = omega (arith, said.whole, damage.replaces.same_length);
       delimiter = λ same.
-          delimiter_of-other frame damage.body damage.is_body (sym told.delimiter ∙ sym damage.replaces.same_delimiter ∙ same);
+          delimiter_of-other frame damage.body damage.is_body (sym said.delimiter ∙ sym damage.replaces.same_delimiter ∙ same);
       heard = subst Heard (sym damage.heard) (heard_faultless (replicate damage.left 255 ++ damage.bytes));
       no_two_preambles = damage.no_two_preambles;
     }
 
--- the bytes that are heard tell the length of the body that was sent
+-- the bytes that are heard give the length of the body that was sent
 check_length : (frame : FrameParts) (preambles : ℕ) (chars : List Character) (damage : IsCheckDamage frame preambles chars)
     → body_length damage.bytes ≡ length damage.bytes
 check_length frame preambles chars damage =
-    let told = tells_of frame damage.body damage.is_body in
+    let said = says_of frame damage.body damage.is_body in
     let replaces = damage.replaces in
-    omega (arith, told.whole, replaces.same_length, replaces.same_byte_count, replaces.same_delimiter)
+    omega (arith, said.whole, replaces.same_length, replaces.same_byte_count, replaces.same_delimiter)
 
 -- so a frame that stands there has all of them, and their parity is not even
 check_none : (frame : FrameParts) (preambles : ℕ) (chars : List Character) (damage : IsCheckDamage frame preambles chars)
@@ -278,12 +278,12 @@ check_none : (frame : FrameParts) (preambles : ℕ) (chars : List Character) (da
 check_none frame preambles chars damage found stands =
     let bytes = damage.bytes in
     let begins = begins_body damage.left bytes chars found 0 (check_heard frame preambles chars damage) stands in
-    let told = tells (stands.body ++ begins.rest) found.frame (length stands.body)
+    let said = says (stands.body ++ begins.rest) found.frame (length stands.body)
     (BeginsWithBody-append found.frame stands.body begins.rest stands.is_body) in
     let lengths : length bytes ≡ length stands.body + length begins.rest = ap length begins.parts ∙ length-append stands.body begins.rest in
     let body_lengths : body_length bytes ≡ body_length (stands.body ++ begins.rest) = ap body_length begins.parts in
     let ended = nil_from_length begins.rest
-    (omega (arith, lengths, body_lengths, told.whole, check_length frame preambles chars damage)) in
+    (omega (arith, lengths, body_lengths, said.whole, check_length frame preambles chars damage)) in
     let same : stands.body ≡ bytes =
     sym (begins.parts ∙ ap (λ (xs : List ℕ). stands.body ++ xs) ended ∙ append-nil stands.body) in
     damage.parity (subst HasEvenParity same stands.is_body.parity)

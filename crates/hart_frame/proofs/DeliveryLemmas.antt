@@ -14,12 +14,12 @@ use Rattle.hart_frame.specs.declared.found.FramePlaces.{FramePlaces}
 abbrev pub OneList : Type 0
 OneList = (chars : List Character) (from : ℕ) (xs ys : List Found) → AreFrames chars from xs → AreFrames chars from ys → xs ≡ ys
 
--- what is told of some frames is told of all that a delivery has
-pub only_told : OneList → (delivery : List Character) (told : LoneFrame) → IsLone delivery told
-    → (frames : List Found) → AreFrames delivery 0 frames → told ≡ lone_of frames
-only_told one_list delivery NoFrame are frames others = ap lone_of (one_list delivery 0 [] frames are others)
-only_told one_list delivery (Alone found) are frames others = ap lone_of (one_list delivery 0 (found ∷ []) frames are others)
-only_told one_list delivery Several (found, other, more, are) frames others =
+-- what is said of some frames is said of all that a delivery has
+pub only_said : OneList → (delivery : List Character) (said : LoneFrame) → IsLone delivery said
+    → (frames : List Found) → AreFrames delivery 0 frames → said ≡ lone_of frames
+only_said one_list delivery NoFrame are frames others = ap lone_of (one_list delivery 0 [] frames are others)
+only_said one_list delivery (Alone found) are frames others = ap lone_of (one_list delivery 0 (found ∷ []) frames are others)
+only_said one_list delivery Several (found, other, more, are) frames others =
     ap lone_of (one_list delivery 0 (found ∷ other ∷ more) frames are others)
 
 pub no_frame : (delivery : List Character) → HasNoFrame delivery 0 → AreFrames delivery 0 []
@@ -32,14 +32,14 @@ one_frame delivery found is_first no_second = first 0 found [] is_first (none fo
 -- places of a second frame are known, or that there is none
 pub second_none : (delivery : List Character) (from : ℕ) (second : Option FramePlaces) → is_some second ≡ false
     → MatchOption second (HasNoFrame delivery from) (λ places. HasFirstAt places delivery from) → HasNoFrame delivery from
-second_none delivery from None is told = told
-second_none delivery from (Some places) is told = absurd cc
+second_none delivery from None is said = said
+second_none delivery from (Some places) is said = absurd cc
 
 pub second_some : (delivery : List Character) (from : ℕ) (second : Option FramePlaces) → is_some second ≡ true
     → MatchOption second (HasNoFrame delivery from) (λ places. HasFirstAt places delivery from)
     → (found : Found) × IsFirst found delivery from
-second_some delivery from None is told = absurd cc
-second_some delivery from (Some places) is told = (told.0, told.2)
+second_some delivery from None is said = absurd cc
+second_some delivery from (Some places) is said = (said.0, said.2)
 
 -- after a second frame come the frames of what follows it
 pub several_frames : (delivery : List Character) (found second : Found) (later : List Found) → IsFirst found delivery 0

@@ -14,7 +14,7 @@ use Rattle.hart_frame.specs.Frames.{AreFrames, HasNoFrame, IsFirst}
 use Rattle.hart_frame.specs.declared.found.Found.{Found}
 use Rattle.hart_frame.proofs.BodiesFound.{body_decided, even_body}
 use Rattle.hart_frame.proofs.HeardLemmas.{BeginsWithBody-heard, bytes_of-faultless, faultless_made, made_of_bytes, take-heard}
-use Rattle.hart_frame.proofs.RefusalLemmas.{tells}
+use Rattle.hart_frame.proofs.RefusalLemmas.{says}
 use Rattle.hart_frame.proofs.PlaceLemmas.{preamble, StandsIn-at, StandsIn-heard, StandsIn-hears, StandsIn-from, StandsIn-within, HasNoFrame-end, start-later}
 
 -- the first of faultless characters has no fault, and the others are faultless
@@ -81,7 +81,7 @@ damaged_body : (chars : List Character) (f : FrameParts) (len : ℕ) → BeginsW
     → NothingHeard chars
 damaged_body chars f len begins damaged g other heard =
     let also = BeginsWithBody-heard chars g other heard in
-    let same : len ≡ other = omega (arith, (tells (bytes_of chars) f len begins).whole, (tells (bytes_of chars) g other also).whole) in
+    let same : len ≡ other = omega (arith, (says (bytes_of chars) f len begins).whole, (says (bytes_of chars) g other also).whole) in
     damaged (record { bytes = heard.body; are = ap (λ (n : ℕ). take n chars) same ∙ take-heard chars g other heard })
 
 -- characters without faults up to a check byte of even parity are heard as a body

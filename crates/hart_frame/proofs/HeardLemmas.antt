@@ -13,7 +13,7 @@ use Rattle.hart_frame.specs.Parity.{IsCheckByte, HasEvenParity}
 use Rattle.hart_frame.specs.Refusal.{IsDelimiter, HasGoodByteCount}
 use Rattle.hart_frame.proofs.ParityLemmas.{check-even}
 use Rattle.hart_frame.proofs.BodiesApart.{BeginsWithBody-append}
-use Rattle.hart_frame.proofs.RefusalLemmas.{tells, HasGoodByteCount-body}
+use Rattle.hart_frame.proofs.RefusalLemmas.{says, HasGoodByteCount-body}
 
 -- faultless characters have the bytes that they were made of
 pub bytes_of-faultless : (bytes : List ℕ) → bytes_of (faultless bytes) ≡ bytes
@@ -35,21 +35,21 @@ BeginsWithBody-heard chars f len heard =
     let Of : ℕ → Type 0 = λ n. BeginsWithBody (bytes_of chars) f n in
     subst Of (sym heard.whole) (subst Begins (sym bytes) (BeginsWithBody-append f heard.body (bytes_of heard.rest) heard.is_body))
 
--- and tell its length
-pub record TellsLength (chars : List Character) (len : ℕ) : Type 0 where
+-- and give its length
+pub record SaysLength (chars : List Character) (len : ℕ) : Type 0 where
   pub counted : HasGoodByteCount (bytes_of chars)
-  pub told : len ≡ body_length (bytes_of chars)
+  pub said : len ≡ body_length (bytes_of chars)
   pub within : len ≤ length chars
 
-pub heard_tells : (chars : List Character) (f : FrameParts) (len : ℕ) → BeginsWithHeard chars f len → TellsLength chars len
-heard_tells chars f len heard =
+pub heard_says : (chars : List Character) (f : FrameParts) (len : ℕ) → BeginsWithHeard chars f len → SaysLength chars len
+heard_says chars f len heard =
     let begins = BeginsWithBody-heard chars f len heard in
-    let told = tells (bytes_of chars) f len begins in
+    let said = says (bytes_of chars) f len begins in
     let long = length-map chars (λ (character : Character). character.byte) in
     record {
       counted = HasGoodByteCount-body (bytes_of chars) f len begins;
-      told = told.whole;
-      within = omega (arith, told.within, long);
+      said = said.whole;
+      within = omega (arith, said.within, long);
     }
 
 -- the characters of a heard body
@@ -73,18 +73,18 @@ bytes_of-more chars i c within is =
     map_more (λ (character : Character). character.byte) chars i c within
     ∙ ap (λ (x : Character). bytes_of (take i chars) ++ x.byte ∷ []) (sym is)
 
--- what the delimiter and the byte count of characters tell, whatever faults they have
-pub record ToldBy (chars : List Character) (delimiter place count : ℕ) : Type 0 where
+-- what the delimiter and the byte count of characters say, whatever faults they have
+pub record SaidBy (chars : List Character) (delimiter place count : ℕ) : Type 0 where
   pub delimiter_is : delimiter_in (bytes_of chars) ≡ delimiter
   pub place_is : byte_count_place (bytes_of chars) ≡ place
   pub count_is : byte_count_in (bytes_of chars) ≡ count
   pub some : 0 < length (bytes_of chars)
   pub within : place < length (bytes_of chars)
 
-pub told_by : (chars : List Character) (first counted : Character) (delimiter place count : ℕ) → 0 < length chars
+pub said_by : (chars : List Character) (first counted : Character) (delimiter place count : ℕ) → 0 < length chars
     → first ≡ get_or chars 0 first → delimiter ≡ first.byte → place < length chars → counted ≡ get_or chars place counted
-    → count ≡ counted.byte → place ≡ 3 + 4 * (delimiter / 128) + delimiter / 32 % 4 → ToldBy chars delimiter place count
-told_by chars first counted delimiter place count some first_is is within counted_is counts at =
+    → count ≡ counted.byte → place ≡ 3 + 4 * (delimiter / 128) + delimiter / 32 % 4 → SaidBy chars delimiter place count
+said_by chars first counted delimiter place count some first_is is within counted_is counts at =
     let long = length-map chars (λ (character : Character). character.byte) in
     let delimiter_is : delimiter_in (bytes_of chars) ≡ delimiter = byte_at chars 0 first some first_is ∙ sym is in
     let place_is : byte_count_place (bytes_of chars) ≡ place = omega (arith, delimiter_is, at) in
@@ -96,21 +96,21 @@ told_by chars first counted delimiter place count some first_is is within counte
       within = omega (arith, long, within);
     }
 
-pub good_count : (chars : List Character) (delimiter place count kind : ℕ) → ToldBy chars delimiter place count → IsDelimiter delimiter
+pub good_count : (chars : List Character) (delimiter place count kind : ℕ) → SaidBy chars delimiter place count → IsDelimiter delimiter
     → kind ≡ delimiter % 8 → (kind ≡ 2) ⊎ (2 ≤ count) → HasGoodByteCount (bytes_of chars)
-good_count chars delimiter place count kind told is low allowed =
-    let delimits = subst IsDelimiter (sym told.delimiter_is) is in
+good_count chars delimiter place count kind said is low allowed =
+    let delimits = subst IsDelimiter (sym said.delimiter_is) is in
     let either : (delimiter_in (bytes_of chars) % 8 ≡ 2) ⊎ (2 ≤ byte_count_in (bytes_of chars)) = elim allowed [
-      | inl stx ↦ inl (omega (arith, told.delimiter_is, low, stx))
-      | inr enough ↦ inr (omega (arith, told.count_is, enough))
+      | inl stx ↦ inl (omega (arith, said.delimiter_is, low, stx))
+      | inr enough ↦ inr (omega (arith, said.count_is, enough))
     ] in
-    (((told.some, delimits), omega (arith, told.place_is, told.within)), either)
+    (((said.some, delimits), omega (arith, said.place_is, said.within)), either)
 
-pub allowed_count : (chars : List Character) (delimiter place count kind : ℕ) → ToldBy chars delimiter place count
+pub allowed_count : (chars : List Character) (delimiter place count kind : ℕ) → SaidBy chars delimiter place count
     → kind ≡ delimiter % 8 → HasGoodByteCount (bytes_of chars) → (kind ≡ 2) ⊎ (2 ≤ count)
-allowed_count chars delimiter place count kind told low good = elim good.1 [
-  | inl stx ↦ inl (omega (arith, told.delimiter_is, low, stx))
-  | inr enough ↦ inr (omega (arith, told.count_is, enough))
+allowed_count chars delimiter place count kind said low good = elim good.1 [
+  | inl stx ↦ inl (omega (arith, said.delimiter_is, low, stx))
+  | inr enough ↦ inr (omega (arith, said.count_is, enough))
 ]
 
 -- faultless characters have no fault

@@ -15,8 +15,8 @@ use Rattle.hart_frame.specs.Refusal.{IsRefusedWith, IsDelimiter, HasGoodByteCoun
 use Rattle.hart_frame.specs.Body.{IsBody, IsCheckedPart, BeginsWithBody}
 use Rattle.hart_frame.proofs.BodiesApart.{length-address, address_type-lt, kind_code-is, spread}
 
--- what a list that begins with a frame's body tells of it
-pub record Tells (bytes : List ℕ) (f : FrameParts) (len : ℕ) : Type 0 where
+-- what a list that begins with a frame's body says of it
+pub record Says (bytes : List ℕ) (f : FrameParts) (len : ℕ) : Type 0 where
   pub delimiter : delimiter_in bytes ≡ delimiter_of f
   pub place : byte_count_place bytes ≡ 3 + 4 * address_type f.address + length f.expansion
   pub count : byte_count_in bytes ≡ length f.payload
@@ -46,8 +46,8 @@ IsDelimiter-of f few =
     let layer : delimiter_of f / 8 % 4 ≡ 0 = omega (arith, kind, form, few) in
     (layer, kind_code-either (delimiter_of f) f.kind low)
 
-pub tells : (bytes : List ℕ) (f : FrameParts) (len : ℕ) → BeginsWithBody bytes f len → Tells bytes f len
-tells bytes f len begins =
+pub says : (bytes : List ℕ) (f : FrameParts) (len : ℕ) → BeginsWithBody bytes f len → Says bytes f len
+says bytes f len begins =
     let part = begins.body.checked_part in
     let rest = drop len bytes in
     let whole = sym (take-append-drop len bytes) ∙ spread f (take len bytes) rest begins.body in
@@ -91,24 +91,24 @@ pub not_refused : (bytes : List ℕ) (f : FrameParts) (len : ℕ) (fault : Frame
 not_refused bytes f len TooShortReply begins refused = refused
 not_refused bytes f len BadPreamble begins refused = refused
 not_refused bytes f len BadDelimiter begins refused =
-    refused.1 (subst IsDelimiter (sym (tells bytes f len begins).delimiter) (IsDelimiter-of f begins.body.checked_part.expansion_fits))
+    refused.1 (subst IsDelimiter (sym (says bytes f len begins).delimiter) (IsDelimiter-of f begins.body.checked_part.expansion_fits))
 not_refused bytes f len Truncated begins refused =
-    let told = tells bytes f len begins in
+    let said = says bytes f len begins in
     elim refused [
-      | inl empty ↦ omega (arith, told, empty)
-      | inr (inl no_count) ↦ omega (arith, told, no_count.1)
-      | inr (inr no_check) ↦ omega (arith, told, no_check.1)
+      | inl empty ↦ omega (arith, said, empty)
+      | inr (inl no_count) ↦ omega (arith, said, no_count.1)
+      | inr (inr no_check) ↦ omega (arith, said, no_check.1)
     ]
 not_refused bytes f len BadCheck begins refused =
-    let told = tells bytes f len begins in
+    let said = says bytes f len begins in
     let HasParity : ℕ → Type 0 = λ n. HasEvenParity (take n bytes) in
-    refused.1 (subst HasParity told.whole begins.body.parity)
+    refused.1 (subst HasParity said.whole begins.body.parity)
 not_refused bytes f len ShortReply begins refused =
-    let told = tells bytes f len begins in
+    let said = says bytes f len begins in
     let kind = kind_code-is f.kind in
     let few : address_type f.address < 2 = address_type-lt f.address in
-    not_short f.kind f.payload begins.body.checked_part.payload_fits (omega (arith, told.count, refused.2))
-    (omega (arith, told.delimiter, refused.1, kind, few, begins.body.checked_part.expansion_fits))
+    not_short f.kind f.payload begins.body.checked_part.payload_fits (omega (arith, said.count, refused.2))
+    (omega (arith, said.delimiter, refused.1, kind, few, begins.body.checked_part.expansion_fits))
 
 -- a body has at most 267 bytes
 pub IsBody-short : (f : FrameParts) (body : List ℕ) → IsBody f body → length body ≤ 267
@@ -118,11 +118,11 @@ IsBody-short f body is =
       within = omega arith;
       body = subst Is (sym (take_all (length body) body (omega arith))) is;
     } in
-    let told = tells body f (length body) begins in
+    let said = says body f (length body) begins in
     let few : address_type f.address < 2 = address_type-lt f.address in
     let count : byte_count_in body < 256 =
-    All-get_or (λ byte. byte < 256) body (byte_count_place body) 0 (omega (arith, told.whole)) is.bytes_fit in
-    omega (arith, told.whole, told.place, few, count, is.checked_part.expansion_fits)
+    All-get_or (λ byte. byte < 256) body (byte_count_place body) 0 (omega (arith, said.whole)) is.bytes_fit in
+    omega (arith, said.whole, said.place, few, count, is.checked_part.expansion_fits)
 
 -- a list that begins with a body has a byte count that its kind allows
 count_allowed : (kind : FrameKind) (payload : List ℕ) (byte count : ℕ) → IsLongEnough kind payload → byte % 8 ≡ kind_code kind
@@ -132,14 +132,14 @@ count_allowed Ack payload byte count long low same = inr (omega (arith, long, sa
 
 pub HasGoodByteCount-body : (bytes : List ℕ) (f : FrameParts) (len : ℕ) → BeginsWithBody bytes f len → HasGoodByteCount bytes
 HasGoodByteCount-body bytes f len begins =
-    let told = tells bytes f len begins in
+    let said = says bytes f len begins in
     let part = begins.body.checked_part in
-    let is = subst IsDelimiter (sym told.delimiter) (IsDelimiter-of f part.expansion_fits) in
+    let is = subst IsDelimiter (sym said.delimiter) (IsDelimiter-of f part.expansion_fits) in
     let kind = kind_code-is f.kind in
     let few : address_type f.address < 2 = address_type-lt f.address in
-    let low : delimiter_in bytes % 8 ≡ kind_code f.kind = omega (arith, told.delimiter, kind, few, part.expansion_fits) in (
-      ((omega (arith, told.whole, told.within), is), omega (arith, told.whole, told.within)),
-      count_allowed f.kind f.payload (delimiter_in bytes) (byte_count_in bytes) part.payload_fits low told.count,
+    let low : delimiter_in bytes % 8 ≡ kind_code f.kind = omega (arith, said.delimiter, kind, few, part.expansion_fits) in (
+      ((omega (arith, said.whole, said.within), is), omega (arith, said.whole, said.within)),
+      count_allowed f.kind f.payload (delimiter_in bytes) (byte_count_in bytes) part.payload_fits low said.count,
     )
 
 pub only : ((f g : FrameParts) (bytes : List ℕ) (m n : ℕ) → BeginsWithBody bytes f m → BeginsWithBody bytes g n → (f ≡ g) × (m ≡ n))

@@ -63,7 +63,7 @@ moves_ended b count sound some ended verdict =
     let tail = option_to_list b.damaged ++ more in
     nothing_open (held_bytes b) tail count verdict (ends_by b.damaged b.finished more sound.damage ended whole))
 
--- the body that a layout tells of lies in what is held
+-- the body that a layout describes lies in what is held
 pub record LiesIn (b : Buffer) (layout : Layout) : Type 0 where
   pub within : b.from + 2 + layout_length layout ≤ b.to
   pub length_is : layout_length layout ≡ body_length (drop 2 (held_bytes b))
@@ -125,7 +125,7 @@ held_whole b layout sound verdict =
     ∙ ap (λ (cs : List Character). cs ++ option_to_list b.damaged) (map-append make (255 ∷ 255 ∷ body) rest)
     ∙ append_assoc (faultless (255 ∷ 255 ∷ body)) (faultless rest) (option_to_list b.damaged)
 
--- what the held bytes tell of the body, its own bytes tell
+-- what the held bytes say of the body, its own bytes say
 pub whole_body : (b : Buffer) (layout : Layout) → IsSound b → IsVerdict (held_bytes b) (Whole layout)
     → Describes layout (first_body b layout) × HasCheckByte (first_body b layout)
 whole_body b layout sound verdict =
@@ -294,7 +294,7 @@ holds_frame b layout sound begins =
       refl,
     )
 
--- what a look tells that sees a frame, and what one tells that sees none
+-- what a look says that sees a frame, and what one says that sees none
 pub seen_some : (old new : Buffer) (seen : Option Layout) → true ≡ is_some seen
     → MatchOption seen (GivesNothing (scan_of old) (scan_of new)) (HoldsWhole old new) → (layout : Layout) × HoldsWhole old new layout
 seen_some old new None is holds = absurd cc

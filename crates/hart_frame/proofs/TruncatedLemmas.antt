@@ -15,7 +15,7 @@ use Rattle.hart_frame.specs.Refusal.{IsDelimiter, HasDelimiter, HasGoodByteCount
 use Rattle.hart_frame.proofs.ParityLemmas.{IsCheckByte-fold}
 use Rattle.hart_frame.proofs.BodyLemmas.{IsBody-push}
 use Rattle.hart_frame.proofs.BodiesApart.{address_type-lt, kind_code-is}
-use Rattle.hart_frame.proofs.RefusalLemmas.{tells, IsDelimiter-of}
+use Rattle.hart_frame.proofs.RefusalLemmas.{says, IsDelimiter-of}
 use Rattle.hart_frame.proofs.BodiesFound.{held_frame, Fit}
 
 -- every element is a byte
@@ -160,7 +160,7 @@ enough Ack payload byte count low is long = inr (omega (arith, is, long))
 pub IsTruncated-becomes : (bytes rest : List ℕ) (f : FrameParts) (len : ℕ) → BeginsWithBody (bytes ++ rest) f len
     → length bytes < len → IsTruncated bytes
 IsTruncated-becomes bytes rest f len begins short =
-    let told = tells (bytes ++ rest) f len begins in
+    let said = says (bytes ++ rest) f len begins in
     let part = begins.body.checked_part in
     let some : (length bytes ≡ 0) ⊎ (0 < length bytes) = grind arith in
     let long : (byte_count_place bytes < length bytes) ⊎ (length bytes ≤ byte_count_place bytes) = grind arith in
@@ -169,7 +169,7 @@ IsTruncated-becomes bytes rest f len begins short =
       | inr any ↦
           let same = delimiter_in-append bytes rest any in
           let place = byte_count_place-append bytes rest any in
-          let of : delimiter_of f ≡ delimiter_in bytes = sym told.delimiter ∙ same in
+          let of : delimiter_of f ≡ delimiter_in bytes = sym said.delimiter ∙ same in
           let is : IsDelimiter (delimiter_in bytes) = subst IsDelimiter of (IsDelimiter-of f part.expansion_fits) in
           elim long [
             | inr no_count ↦ inr (inl ((any, is), no_count))
@@ -179,8 +179,8 @@ IsTruncated-becomes bytes rest f len begins short =
                 let form : address_type f.address < 2 = address_type-lt f.address in
                 let low : delimiter_in bytes % 8 ≡ kind_code f.kind = omega (arith, of, kind, form, part.expansion_fits) in
                 let good =
-                enough f.kind f.payload (delimiter_in bytes) (byte_count_in bytes) low (sym count ∙ told.count) part.payload_fits in
-                inr (inr ((((any, is), within), good), omega (arith, told.whole, place, count, short)))
+                enough f.kind f.payload (delimiter_in bytes) (byte_count_in bytes) low (sym count ∙ said.count) part.payload_fits in
+                inr (inr ((((any, is), within), good), omega (arith, said.whole, place, count, short)))
           ]
     ]
 

@@ -35,7 +35,7 @@ pub record BeginsWithBody (bytes : List ℕ) (frame : FrameParts) (count : ℕ) 
 abbrev pub HasNoBody : List ℕ → Type 0
 HasNoBody bytes = (frame : FrameParts) (count : ℕ) → BeginsWithBody bytes frame count → ⊥
 
--- A list can become a body if with some bytes after it it begins with one.
+-- A list can become a body if, with some bytes after it, it begins with one.
 pub record CanBecomeBody (bytes : List ℕ) : Type 0 where
   pub rest : List ℕ
   pub frame : FrameParts

@@ -30,7 +30,7 @@ abbrev pub IsOpenBefore : Buffer → Type 0
 IsOpenBefore b =
     (count : ℕ) × (b.due ≡ b.from + 2 + count) × (count ≤ 267) × IsVerdict (held_bytes b) (Open count)
 
--- The bytes that a layout tells of, after the two preamble bytes that the held bytes begin with.
+-- The bytes that a layout describes, after the two preamble bytes that the held bytes begin with.
 abbrev pub first_body : Buffer → Layout → List ℕ
 first_body b layout = slice_range b.bytes (b.from + 2) (b.from + 2 + layout_length layout)
 

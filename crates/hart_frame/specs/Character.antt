@@ -7,7 +7,7 @@ pub record Character : Type 0 where
   pub byte : ℕ
   pub faults : ℕ
 
--- Bit 6 tells of vertical parity, bit 5 of overrun, bit 4 of framing and bit 1 of buffer overflow.
+-- Bit 6 stands for vertical parity, bit 5 for overrun, bit 4 for framing and bit 1 for buffer overflow.
 abbrev pub IsFaultBit : ℕ → Type 0
 IsFaultBit bit = (bit ≡ 6) ⊎ (bit ≡ 5) ⊎ (bit ≡ 4) ⊎ (bit ≡ 1)
 

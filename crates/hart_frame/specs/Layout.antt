@@ -29,7 +29,7 @@ body_length bytes = byte_count_place bytes + byte_count_in bytes + 2
 
 -- For private calls alone:
 
--- A layout of a list has the kind, the places and the byte count that the list tells.
+-- A layout of a list has the kind, the places and the byte count that the list gives.
 pub record Describes (layout : Layout) (bytes : List ℕ) : Type 0 where
   pub kind : kind_code layout.kind ≡ delimiter_in bytes % 8
   pub address : layout.address_end ≡ address_end bytes

@@ -28,7 +28,7 @@ pub record Hears (scan : Scan) (more chars : List Character) : Type 0 where
 abbrev pub hearing : Scan → List Character → Scan
 hearing scan chars = record scan { held = scan.held ++ chars; drained = false }
 
--- A scanner that is told the finish holds what it held, and has yet to look at it again.
+-- A scanner that is given the finish holds what it held, and has yet to look at it again.
 abbrev pub finishing : Scan → Scan
 finishing scan = record scan { finished = true; drained = false }
 

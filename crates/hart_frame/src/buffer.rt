@@ -266,7 +266,7 @@ impl Buffer {
     }
 }
 
-/// Whether a part of the bytes has even parity, as their sums tell.
+/// Whether a part of the bytes has even parity, as their sums say.
 fn is_even(_bytes: &[u8], sums: &[u8], start: usize, len: usize) -> bool
     requires sums { AreSums _bytes.now sums.now start (start + len) }
     requires within { start + len ≤ length _bytes.now }

@@ -13,7 +13,7 @@ use crate::bodies_are_unambiguous;
 /// With marked damage, of which every changed character has a fault bit, it has no frame, or its own alone, in its place. With
 /// check damage, of which every byte is heard without faults but the parity is not even, it has none. In neither may two faultless
 /// `FF` in a row be heard after the delimiter, since another frame could stand there; and the delimiter and the byte count are not
-/// among the bytes that check damage replaces, since they tell how long the body is.
+/// among the bytes that check damage replaces, since they say how long the body is.
 pub fn damaged_messages_have_no_other_frame()
     ensures marked { (frame : FrameParts) (preambles : ℕ) (chars : List Character) (damage : IsMarkedDamage frame preambles chars)
         → AreFrames chars 0 [] ⊎ AreFrames chars 0 (record { start = damage.left; stop = length chars; frame = frame } ∷ []) }

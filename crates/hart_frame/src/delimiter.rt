@@ -16,7 +16,7 @@ const STX: u8 = 0x02;
 
 const ACK: u8 = 0x06;
 
-/// What a delimiter tells of the bytes after it.
+/// What a delimiter says of the bytes after it.
 #[derive(Clone, Copy)]
 pub(crate) struct Delimiter {
     pub(crate) kind: FrameKind,
@@ -59,7 +59,7 @@ pub(crate) fn delimiter_byte(frame: &Frame) -> u8
     address_type + EXPANSION_BYTE * frame.expansion().len() as u8 + kind
 }
 
-/// What the delimiter tells, or `None` if it is none of this profile.
+/// What the delimiter says, or `None` if it is none of this profile.
 pub(crate) fn read_delimiter(byte: u8) -> Option<Delimiter>
     ensures known { IsSome result ↔ IsDelimiter byte }
     ensures kind { IfSome result (λ delimiter. kind_code delimiter.kind ≡ byte % 8) }

@@ -20,7 +20,7 @@ pub enum LoneFrame {
 
 /// The one frame of a delivery, if it has exactly one.
 pub fn lone_frame(delivery: &[Char]) -> LoneFrame
-    ensures told { IsLone delivery.now result }
+    ensures lone { IsLone delivery.now result }
     ensures only { (frames : List Found) → AreFrames delivery.now 0 frames → result ≡ lone_of frames }
 {
     // No-ops: by these laws the frames that are found are the only ones.

@@ -14,7 +14,7 @@ pub(crate) fn heard_len(chars: &[Char]) -> Option<usize>
     ensures heard { IfSome result (λ len. (frame : FrameParts) × BeginsWithHeard chars.now frame len) }
     ensures known { (frame : FrameParts) (len : ℕ) → BeginsWithHeard chars.now frame len → result ≡ Some len }
 {
-    let len = told_len(chars)?;
+    let len = said_len(chars)?;
     let body = chars.get(..len)?;
     if !are_faultless(body) || heard_check(body) != 0 {
         return None;
@@ -32,12 +32,12 @@ pub(crate) fn heard_frame(chars: &[Char]) -> Frame
     frame
 }
 
-/// The length of the body that the characters may begin with, told by its delimiter and its byte count, whatever faults
+/// The length of the body that the characters may begin with, as its delimiter and its byte count say, whatever faults
 /// these have. It is `None` if the first is no delimiter, if the characters end before the byte count, and if that is too
 /// low for an ACK.
-fn told_len(chars: &[Char]) -> Option<usize>
+fn said_len(chars: &[Char]) -> Option<usize>
     ensures known { IsSome result ↔ HasGoodByteCount (bytes_of chars.now) }
-    ensures told { IfSome result (λ len. len ≡ body_length (bytes_of chars.now)) }
+    ensures said { IfSome result (λ len. len ≡ body_length (bytes_of chars.now)) }
 {
     let delimiter = read_delimiter(chars.first()?.byte())?;
     let count_place = delimiter.command_place() + 1;

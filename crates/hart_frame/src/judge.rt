@@ -6,14 +6,14 @@ use crate::delimiter::read_delimiter;
 use crate::layout::Layout;
 use crate::message::PREAMBLE;
 
-/// Whether bytes begin with a frame, as far as its byte count tells.
+/// Whether bytes begin with a frame, as far as its byte count says.
 #[derive(Clone, Copy)]
 pub(crate) enum Verdict {
     /// They do not, whatever follows.
     Never,
     /// It is open until so many bytes stand after the two preamble bytes.
     Open(usize),
-    /// By this layout its check byte is there. Whether its parity is even is not told.
+    /// By this layout its check byte is there. Whether its parity is even is not said.
     Whole(Layout),
 }
 

@@ -41,7 +41,7 @@ pub fn open_places_can_begin_a_frame()
     truncated_bytes_can_become_a_body();
 }
 
-/// Frames of a list are told apart: a list has one first frame at most from a place on, and one list of frames.
+/// Frames are unambiguous: a list has one first frame at most from a place on, and one list of frames.
 pub fn frames_are_unambiguous()
     ensures one_first { (f g : Found) (chars : List Character) (from : ℕ)
         → IsFirst f chars from → IsFirst g chars from → f ≡ g }

@@ -5,7 +5,7 @@ ghost use Rattle.hart_frame.specs.Refusal.{IsRefusedWith, HasGoodByteCount};
 use crate::delimiter::read_delimiter;
 use crate::{FrameFault, FrameKind};
 
-/// The parts of a body, told by its delimiter and its byte count.
+/// The parts of a body, as its delimiter and its byte count say.
 #[derive(Clone, Copy)]
 pub(crate) struct Layout {
     pub(crate) kind: FrameKind,

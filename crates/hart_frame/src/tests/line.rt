@@ -117,7 +117,7 @@ const DELIVERIES: &[(&[u16], &str)] = &[
 ];
 
 #[test]
-fn a_lone_frame_is_told(rt: HostRuntime) -> Result<(), Fail> {
+fn a_lone_frame_is_given(rt: HostRuntime) -> Result<(), Fail> {
     for (line, want) in DELIVERIES {
         let chars = heard(line).ok_or("a line")?;
         let text = match lone_frame(&chars[..line.len()]) {

@@ -1,18 +1,18 @@
 use Rattle.std.proofs.Common.{ℕ, [], ◌∷◌, subst, sym, ◌∙◌}
 use Rattle.hart_frame.specs.Frames.{AreFrames, HasNoFrame, IsFirst}
 use Rattle.hart_frame.specs.declared.found.Found.{Found}
-use Rattle.hart_frame.proofs.DeliveryLemmas.{no_frame, one_frame, only_told, second_none, second_some, several_frames}
+use Rattle.hart_frame.proofs.DeliveryLemmas.{no_frame, one_frame, only_said, second_none, second_some, several_frames}
 use Rattle.hart_frame.proofs.delivery.lone_frame.Goals as goal
 
-pub returns-in_default-clause-told : goal.returns-in_default-clause-told
-returns-in_default-clause-told c = no_frame c.args.delivery.now c.in_default.ensures.first
+pub returns-in_default-clause-lone : goal.returns-in_default-clause-lone
+returns-in_default-clause-lone c = no_frame c.args.delivery.now c.in_default.ensures.first
 
 pub returns-in_default-clause-only : goal.returns-in_default-clause-only
 returns-in_default-clause-only c =
-    only_told c.frames_are_unambiguous.ensures.one_list c.args.delivery.now _ (returns-in_default-clause-told c)
+    only_said c.frames_are_unambiguous.ensures.one_list c.args.delivery.now _ (returns-in_default-clause-lone c)
 
-pub returns-then-is_some-clause-told : goal.returns-then-is_some-clause-told
-returns-then-is_some-clause-told c =
+pub returns-then-is_some-clause-lone : goal.returns-then-is_some-clause-lone
+returns-then-is_some-clause-lone c =
     let delivery = c.args.delivery.now in
     let first = c.in-Some.ensures.first in
     let second = second_some delivery c.in-Some.first.stop c.first_places-2.result (sym c.is_some.ensures ∙ c.if-is_some.true)
@@ -27,10 +27,10 @@ returns-then-is_some-clause-told c =
 
 pub returns-then-is_some-clause-only : goal.returns-then-is_some-clause-only
 returns-then-is_some-clause-only c =
-    only_told c.frames_are_unambiguous.ensures.one_list c.args.delivery.now _ (returns-then-is_some-clause-told c)
+    only_said c.frames_are_unambiguous.ensures.one_list c.args.delivery.now _ (returns-then-is_some-clause-lone c)
 
-pub returns-clause-told : goal.returns-clause-told
-returns-clause-told c =
+pub returns-clause-lone : goal.returns-clause-lone
+returns-clause-lone c =
     let delivery = c.args.delivery.now in
     let first = c.in-Some.ensures.first in
     let none = second_none delivery c.in-Some.first.stop c.first_places-2.result (sym c.is_some.ensures ∙ c.if-is_some.false)
@@ -42,4 +42,4 @@ returns-clause-told c =
 
 pub returns-clause-only : goal.returns-clause-only
 returns-clause-only c =
-    only_told c.frames_are_unambiguous.ensures.one_list c.args.delivery.now _ (returns-clause-told c)
+    only_said c.frames_are_unambiguous.ensures.one_list c.args.delivery.now _ (returns-clause-lone c)

@@ -4,7 +4,7 @@ use Rattle.hart_master.proofs.master.Master.hear.Goals as goal
 
 pub returns-in-Alone-clause-event : goal.returns-in-Alone-clause-event
 returns-in-Alone-clause-event c =
-    heard_of_frame _ _ _ c.in-Alone.found c.receive.result c.in-Alone.ensures.told
+    heard_of_frame _ _ _ c.in-Alone.found c.receive.result c.in-Alone.ensures.lone
     (no_other _ _ c.in-Alone.ensures.only) c.receive.ensures.event
 
 pub returns-in-Alone-clause-answered : goal.returns-in-Alone-clause-answered
@@ -15,4 +15,4 @@ returns-in-Alone-clause-answered c = λ reply brings.
 pub returns-in-Alone-clause-nothing : goal.returns-in-Alone-clause-nothing
 returns-in-Alone-clause-nothing c = λ nothing.
     c.receive.ensures.nothing
-    (λ reply brings. nothing reply (frame_brings _ _ _ c.in-Alone.found reply c.in-Alone.ensures.told brings))
+    (λ reply brings. nothing reply (frame_brings _ _ _ c.in-Alone.found reply c.in-Alone.ensures.lone brings))
