@@ -1,10 +1,10 @@
 #!/usr/bin/env python3
 """Holds the built program against a plain model of it, on random frames, noise, damage, scripts, images and words.
 
-Each case is the words and the input of one call: the status, what is written and the fault that is told have to be those of the
+Each case is the words and the input of one call: the status, what is written and the fault that is given have to be those of the
 model in tools/fuzz, and nothing may be read after words that make no call, or that are no image. Inputs of `hart dump` without a
 fault are heard together, some of them in one call, which is quicker. At first the model and the program are tried on worked
-messages. A difference is told with the smallest words and input that were found to show one. The cases of a seed are always the
+messages. A difference is printed with the smallest words and input that were found to show one. The cases of a seed are always the
 same. The last line is `N passed, M failed`, and the status is 1 after any difference.
 
 Usage: tools/fuzz.py [PROGRAM] [--cases N] [--seed S] [--only dump|answer|sim|encode]; PROGRAM is ./hart, N 10000, and S another
@@ -132,7 +132,7 @@ def cut(value):
     return shown if len(shown) <= MOST_SHOWN else f"{shown[:MOST_SHOWN // 2]} .. {shown[-MOST_SHOWN // 2:]}"
 
 
-def tell(call, given, shown, wanted):
+def print_difference(call, given, shown, wanted):
     """Prints a difference."""
     print(f"  words after {call.name}: {cut(given.words)}")
     print(f"  input:   {cut(given.text)}")
@@ -168,7 +168,7 @@ class Fuzz:
                 self.count(good)
                 if not good:
                     print(f"the {who} differs from a worked call")
-                    tell(call, given, shown, wanted)
+                    print_difference(call, given, shown, wanted)
 
     def try_case(self, number, only):
         """Tries the case of a number, or lets it wait for others."""
@@ -183,7 +183,7 @@ class Fuzz:
             self.try_waiting()
 
     def try_waiting(self):
-        """Tries the inputs that wait as one, between whose characters damaged ones stand; and each alone where that differs."""
+        """Tries the inputs that wait as one, between whose characters damaged ones stand; and each alone if that differs."""
         call, waiting, failed = BY_NAME["dump"], self.waiting, self.failed
         self.waiting = []
         together = Given([], BETWEEN.join(given.text for _, given in waiting))
@@ -196,18 +196,18 @@ class Fuzz:
             self.judge(call, waiting[-1][0], together)
 
     def judge(self, call, number, given):
-        """Counts the case of an input, and tells a difference."""
+        """Counts the case of an input, and prints a difference."""
         differs = self.differs(call, given)
         self.count(not differs)
         if differs:
             print(f"seed {self.seed}, case {number}")
-            self.tell_smallest(call, given)
+            self.print_smallest(call, given)
 
-    def tell_smallest(self, call, given):
+    def print_smallest(self, call, given):
         """Prints the smallest words and input near these on which program and model differ."""
         if self.failed <= MOST_SHRUNK:
             given = Shrinker(lambda smaller: self.differs(call, smaller)).given(given)
-        tell(call, given, run(self.program, call, given), call.model(given))
+        print_difference(call, given, run(self.program, call, given), call.model(given))
 
 
 def main():

@@ -1,7 +1,7 @@
 #!/bin/sh
 # Runs each call of the built program again and again, and refuses one allocation each time: the first, the second, and so
-# on. A run may do without and write what it would have, or end with `out of memory` and a front of whole lines written: with
-# status 2 where the growth was for the words, of which clap has most, and with 1 where it was one of the call. Of its own a call
+# on. A run may do without and write what it would have, or end with `out of memory` and a prefix of whole lines written: with
+# status 2 if the growth was for the words, of which clap has most, and with 1 if it was one of the call. Of its own a call
 # has as many as its reservations, whatever the length of its input. That it succeeds with ample memory is the last run, in
 # which none is left to refuse.
 #
@@ -14,7 +14,7 @@ trap 'rm -rf "$work"' EXIT
 cc -shared -fPIC -O1 -o "$work/refuse_growth.so" tools/refuse_growth.c -ldl
 
 # Whether the output is so many first lines of what is wanted.
-is_front() {
+is_prefix() {
     lines=$(wc -l <"$work/output")
     head -n "$lines" "$work/wanted" | cmp -s - "$work/output"
 }
@@ -24,7 +24,7 @@ judge() {
     if [ "$1" -eq 0 ]; then
         cmp -s "$work/output" "$work/wanted" && [ ! -s "$work/errors" ]
     elif [ "$1" -eq 1 ] || [ "$1" -eq 2 ]; then
-        is_front && grep -q 'out of memory' "$work/errors"
+        is_prefix && grep -q 'out of memory' "$work/errors"
     else
         false
     fi
@@ -58,7 +58,7 @@ refuse_each() {
         number=$((number + 1))
     done
     if [ "$status" -ne 0 ] || [ "$own" -ne "$wanted_own" ] || [ "$of_clap" -eq 0 ]; then
-        echo "hart $*: status $status with ample memory, and $own growths of its own, where $wanted_own are wanted" >&2
+        echo "hart $*: status $status with ample memory, and $own growths of its own, but $wanted_own are wanted" >&2
         exit 1
     fi
     without=$((number - 1 - own - of_clap - of_main))
@@ -66,7 +66,7 @@ refuse_each() {
         "$without that it did without"
 }
 
-# Refuses each growth of a script of so many submissions, each with a turn in which no characters are told. They are five: of
+# Refuses each growth of a script of so many submissions, each with a turn in which no characters are given. They are five: of
 # the input, of its events, two of `run` for outcomes and messages, and of the text.
 refuse_script() {
     lines=0

@@ -1,5 +1,5 @@
 #!/bin/sh
-# Runs the built program on what no contract speaks of. On streams and words of the system that fail it has to tell them: a
+# Runs the built program on what no contract speaks of. On streams and words of the system that fail it has to say so: a
 # device that is full, an input that cannot be read, a word that is not UTF-8. With a buffered standard output, for one,
 # `hart dump >/dev/full` would end with 0, every proof done and every test passed. All words have to reach the call, the
 # seventh and an empty one too, and the texts of clap have to be those in tools/texts, each in its place.
@@ -27,25 +27,25 @@ ends_with() {
     case $status:$(cat "$work/errors") in
     $wanted:$text) ;;
     *)
-        echo "hart $words: status $status and '$(cat "$work/errors")', where $wanted and '$text' are wanted" >&2
+        echo "hart $words: status $status and '$(cat "$work/errors")', but $wanted and '$text' are wanted" >&2
         exit 1
         ;;
     esac
     if [ -s "$work/output" ]; then
-        echo "hart $words: it wrote '$(cat "$work/output")' before it told its fault" >&2
+        echo "hart $words: it wrote '$(cat "$work/output")' before it gave its fault" >&2
         exit 1
     fi
-    echo "hart $words: ended with $status, and told '$(head -n 1 "$work/errors")'"
+    echo "hart $words: ended with $status, and gave '$(head -n 1 "$work/errors")'"
 }
 
-# Runs hart with the words that follow the text: it has to write just this text, end with 0, and tell nothing.
+# Runs hart with the words that follow the text: it has to write just this text, end with 0, and say nothing else.
 writes() {
     text=$1
     shift
     status=0
     "$program" "$@" </dev/null >"$work/output" 2>"$work/errors" || status=$?
     if [ "$status" -ne 0 ] || [ "$(cat "$work/output")" != "$text" ] || [ -s "$work/errors" ]; then
-        echo "hart $*: status $status and '$(cat "$work/output" "$work/errors")', where 0 and '$text' are wanted" >&2
+        echo "hart $*: status $status and '$(cat "$work/output" "$work/errors")', but 0 and '$text' are wanted" >&2
         exit 1
     fi
     echo "hart $*: wrote '$text'"
@@ -59,7 +59,7 @@ shows() {
     status=0
     "$program" "$@" </dev/null >"$work/output" 2>"$work/errors" || status=$?
     if [ "$status" -ne 2 ] || [ -s "$work/output" ] || ! cmp -s "$wanted" "$work/errors"; then
-        echo "hart $*: status $status, where 2 is wanted, and against $wanted:" >&2
+        echo "hart $*: status $status, but 2 is wanted, and against $wanted:" >&2
         diff "$wanted" "$work/errors" >&2 || true
         exit 1
     fi
@@ -73,7 +73,7 @@ ends_with 1 'write fault' /dev/full encode P @0 0 </dev/null
 ends_with 1 'read fault' "$work/output" dump <"$work"
 ends_with 1 'read fault' "$work/output" answer <"$work"
 ends_with 1 'read fault' "$work/output" sim <"$work"
-# An image that is none is told before anything is read, and so before the fault of the input.
+# An image that is none is refused before anything is read, and so before the fault of the input.
 ends_with 1 'bad image: version' "$work/output" answer --image 02 <"$work"
 ends_with 1 'bad image: length' "$work/output" sim --image '' <"$work"
 ends_with 1 'bad hex at 3' "$work/output" sim --image "$(printf '0\303\251')" <"$work"

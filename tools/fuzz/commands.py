@@ -3,7 +3,7 @@
 import datetime
 from typing import NamedTuple
 
-# How many bytes a command needs from the front of its request data.
+# How many bytes of its request data a command needs, from the first on.
 NEEDED = {
     0: 0, 1: 0, 2: 0, 3: 0, 6: 1, 7: 0, 8: 0, 9: 1, 11: 6, 12: 0, 13: 0, 14: 0, 15: 0, 16: 0,
     17: 24, 18: 21, 19: 3, 38: 0, 48: 0,
@@ -24,7 +24,7 @@ REPLY_NEEDED = {
     0: 22, 1: 5, 2: 8, 6: 2, 7: 2, 8: 4, 11: 22, 12: 24, 13: 21, 14: 16, 15: 18, 16: 3, 17: 24, 18: 21, 19: 3, 38: 2,
 }
 IDENTITY_COMMANDS = (0, 11)
-IDENTITY_FRONT = 254
+IDENTITY_FIRST = 254
 
 
 class Reply(NamedTuple):
@@ -87,7 +87,7 @@ def written_data(command, data):
 
 
 def reply_data(command, data):
-    """What a master takes of the data of a reply with code 0; None where they do not fit the command."""
+    """What a master takes of the data of a reply with code 0; None if they do not fit the command."""
     if command == 3:
         groups = min((len(data) - 4) // 5, 4)
         return data[:4 + 5 * groups] if groups >= 1 else None
@@ -96,13 +96,13 @@ def reply_data(command, data):
         return data if rest == 0 and 1 <= groups <= MOST_CODES else None
     if command == 48:
         return data[:25] or None
-    if len(data) < REPLY_NEEDED[command] or command in IDENTITY_COMMANDS and data[0] != IDENTITY_FRONT:
+    if len(data) < REPLY_NEEDED[command] or command in IDENTITY_COMMANDS and data[0] != IDENTITY_FIRST:
         return None
     return data[:REPLY_NEEDED[command]]
 
 
 def read_reply(command, payload):
-    """The reply that a payload is; None where it is none, as with communication faults."""
+    """The reply that a payload is; None if it is none, as with communication faults."""
     if len(payload) < 2 or payload[0] & 0x80 or command not in NEEDED:
         return None
     if payload[0] != SUCCESS:

@@ -39,7 +39,7 @@ NEW_IMAGE = bytes.fromhex("010001" + "820820" * 14 + "000000" + "000000" + "0000
 
 
 def bytes_fault(data):
-    """The first thing by which bytes are no image; None where they are one."""
+    """The first thing by which bytes are no image; None if they are one."""
     if not data:
         return "length"
     if data[0] != IMAGE_VERSION:
@@ -76,9 +76,9 @@ class Device:
     def image(self):
         """The bytes that say what the device holds."""
         flags = self.changed["P"] | 2 * self.changed["S"] | 4 * self.protected
-        front = bytes([IMAGE_VERSION, self.polling, self.mode])
+        prefix = bytes([IMAGE_VERSION, self.polling, self.mode])
         registers = self.message + self.tag + self.descriptor + self.date + self.assembly
-        return front + registers + self.counter.to_bytes(2, "big") + bytes([flags])
+        return prefix + registers + self.counter.to_bytes(2, "big") + bytes([flags])
 
     def hear(self, heard):
         """The answer to a delivery: only one with exactly one frame is received. None is silence."""
@@ -126,7 +126,7 @@ class Device:
         self.changed = {"P": True, "S": True}
 
     def status(self, master):
-        """The device status that this master is told."""
+        """The device status that this master is given."""
         return CONFIGURATION_CHANGED * self.changed[master] | LOOP_CURRENT_FIXED * (self.mode == 0)
 
     def identity(self):

@@ -55,7 +55,7 @@ def without_frames(rng):
 
 
 def random_leg(rng, sent, preambles, loss):
-    """What is heard in a leg; `sent` is None where nothing was."""
+    """What is heard in a leg; `sent` is None if nothing was."""
     kind = weighted(rng, (1 - loss, OK), (loss * 0.6, LOST), (loss * 0.4 + 0.1, "heard"))
     if kind != "heard":
         return kind

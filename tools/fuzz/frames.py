@@ -72,10 +72,10 @@ def faultless(data):
 
 def address_bytes(address, master, burst):
     """An address as it stands in a message of this master with this burst bit."""
-    front = 0x80 * (master == "P") | 0x40 * burst
+    bits = 0x80 * (master == "P") | 0x40 * burst
     if isinstance(address, Polling):
-        return bytes([front | address.number])
-    return bytes([front | address.type >> 8, address.type & 0xFF]) + address.id.to_bytes(3, "big")
+        return bytes([bits | address.number])
+    return bytes([bits | address.type >> 8, address.type & 0xFF]) + address.id.to_bytes(3, "big")
 
 
 def read_address(data):
@@ -105,8 +105,8 @@ def is_delimiter(byte):
     return byte & 0x18 == 0 and byte & 7 in KINDS
 
 
-def frame_at_front(data):
-    """The frame whose body these bytes begin with, and the length of the body; None where they begin with none."""
+def leading_frame(data):
+    """The frame whose body these bytes begin with, and the length of the body; None if they begin with none."""
     if not data or not is_delimiter(data[0]):
         return None
     kind = KINDS[data[0] & 7]
@@ -135,12 +135,12 @@ def faultless_bytes(heard, place):
 
 
 def first_frame(heard, begin):
-    """The frame at the least place of the list that begins at a place; None where there is none."""
+    """The frame at the least place of the list that begins at a place; None if there is none."""
     for place in range(begin + 2, len(heard)):
         if heard[place - 1] == heard[place - 2] == PREAMBLE and is_delimiter(heard[place].byte):
-            front = frame_at_front(faultless_bytes(heard, place))
-            if front is not None:
-                frame, length = front
+            leading = leading_frame(faultless_bytes(heard, place))
+            if leading is not None:
+                frame, length = leading
                 return Found(place, place + length, frame)
     return None
 

@@ -109,16 +109,16 @@ def body_of_fields(rng, ack, address, expansion, command, payload):
     """The bytes of a body of any master, of which an ACK may be too short for a frame."""
     delimiter = 0x80 * isinstance(address, Unique) | len(expansion) << 5 | (6 if ack else 2)
     burst = int(rng.random() < 0.15)
-    front = bytes([delimiter]) + address_bytes(address, random_master(rng), burst) + expansion
-    return with_check_byte(front + bytes([command, len(payload)]) + payload)
+    prefix = bytes([delimiter]) + address_bytes(address, random_master(rng), burst) + expansion
+    return with_check_byte(prefix + bytes([command, len(payload)]) + payload)
 
 
 def with_check_byte_of_preamble(rng):
     """A body whose check byte is FF, so that it looks like the first preamble byte of what follows."""
-    front = bytes.fromhex("02 80")
+    prefix = bytes.fromhex("02 80")
     payload = random_bytes(rng, rng.randrange(4))
-    command = parity(front + bytes([len(payload)]) + payload) ^ 0xFF
-    return with_check_byte(front + bytes([command, len(payload)]) + payload)
+    command = parity(prefix + bytes([len(payload)]) + payload) ^ 0xFF
+    return with_check_byte(prefix + bytes([command, len(payload)]) + payload)
 
 
 def preamble(rng):
@@ -127,12 +127,12 @@ def preamble(rng):
 
 
 def false_start(rng):
-    """Preamble bytes and the front of a body that says how many bytes follow, which are not given."""
+    """Preamble bytes and a prefix of a body that says how many bytes follow, which are not given."""
     delimiter = rng.choice((0x02, 0x82, 0x82, 0x86, 0x06, 0xE2, 0xA6, 0x22))
-    front = bytes([delimiter]) + random_bytes(rng, (5 if delimiter & 0x80 else 1) + (delimiter >> 5 & 3))
+    prefix = bytes([delimiter]) + random_bytes(rng, (5 if delimiter & 0x80 else 1) + (delimiter >> 5 & 3))
     count = rng.choice((0, 1, 2, 5, 9, 30, 255, 255, rng.randrange(256)))
-    front += bytes([rng.choice((0x13, 0xFF, rng.randrange(256))), count])
-    return b"\xFF\xFF" + front[:rng.choice((1, 2, len(front), len(front), len(front)))]
+    prefix += bytes([rng.choice((0x13, 0xFF, rng.randrange(256))), count])
+    return b"\xFF\xFF" + prefix[:rng.choice((1, 2, len(prefix), len(prefix), len(prefix)))]
 
 
 def unknown_message(rng):

@@ -61,7 +61,7 @@ class Undetected(Exception):
 
 
 def arrives(sent, heard, leg):
-    """Whether what was sent in a leg arrives, by the frames of what is heard in it; `sent` is None where nothing was."""
+    """Whether what was sent in a leg arrives, by the frames of what is heard in it; `sent` is None if nothing was."""
     if heard == OK:
         return sent is not None
     frames = [] if heard == LOST else [found.frame for found in frames_of(heard)]

@@ -45,7 +45,7 @@ class Master:
         return Frame("STX", self.who, 0, self.pending.address, b"", self.pending.command, self.pending.data)
 
     def accepted(self, frame):
-        """The reply that a frame is to the request in hand; None where it is none."""
+        """The reply that a frame is to the request in hand; None if it is none."""
         asked = self.pending
         if asked is None or frame.kind != "ACK" or frame.expansion or frame.master != self.who:
             return None

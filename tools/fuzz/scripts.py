@@ -11,7 +11,7 @@ SWITCH = {b"on": True, b"off": False}
 
 
 def read_heard(word):
-    """The characters of a word, which are items end to end; None where it is something else."""
+    """The characters of a word, which are items end to end; None if it is something else."""
     if b"\r" in word:
         return None
     try:
@@ -21,7 +21,7 @@ def read_heard(word):
 
 
 def read_submit(words):
-    """The event of the words after `submit`; None where they have another form, or are refused as a request."""
+    """The event of the words after `submit`; None if they have another form, or are refused as a request."""
     if len(words) not in (3, 4):
         return None
     values = [read(word) for read, word in zip(texts.REQUEST_WORDS, words)]

@@ -16,7 +16,7 @@ TOO_LONG = "input too long"
 SEPARATORS = re.compile(rb"[ \t\r\n]*")
 HEX_DIGITS = re.compile(rb"[0-9A-Fa-f]*")
 # The longest run that an item can begin with: two hex digits, and after them `!` and fault bits, from 02 to 72.
-ITEM_FRONT = re.compile(rb"(?:[0-9A-Fa-f](?:[0-9A-Fa-f](?:!(?:02?|[1-7][02]?)?)?)?)?")
+ITEM_PREFIX = re.compile(rb"(?:[0-9A-Fa-f](?:[0-9A-Fa-f](?:!(?:02?|[1-7][02]?)?)?)?)?")
 DECIMAL_DIGITS = re.compile(rb"[0-9]+")
 
 
@@ -28,7 +28,7 @@ class Given(NamedTuple):
 
 
 class Result(NamedTuple):
-    """How a call ends: its status, what it writes, the fault that it tells, and whether it leaves its input unread.
+    """How a call ends: its status, what it writes, the fault that it gives, and whether it leaves its input unread.
 
     The fault is None for any text of usage or help.
     """
@@ -76,11 +76,11 @@ def item_char(item):
 
 
 def read_items(text, cut_short=False):
-    """The characters of a text; raises `BadHex`. Where the text is cut short, what stands at its end may have gone on."""
+    """The characters of a text; raises `BadHex`. If the text is cut short, what stands at its end may have gone on."""
     heard = []
     place = SEPARATORS.match(text).end()
     while place < len(text):
-        item = ITEM_FRONT.match(text, place).group()
+        item = ITEM_PREFIX.match(text, place).group()
         if cut_short and place + len(item) == len(text):
             break
         if len(item) not in (2, LONGEST_ITEM):
@@ -113,7 +113,7 @@ def dumped(heard):
 
 
 def dump(given):
-    """What `hart dump` does with an input: the first fault in the order of the input is told, after the lines before it."""
+    """What `hart dump` does with an input: the first fault in the order of the input is given, after the lines before it."""
     text = given.text
     too_long = len(text) > INPUT_LIMIT
     try:
@@ -143,7 +143,7 @@ def answer(given):
 
 
 def decimal(word, most_digits, greatest):
-    """The number that a word of decimal digits is; None where it has another form."""
+    """The number that a word of decimal digits is; None if it has another form."""
     if not DECIMAL_DIGITS.fullmatch(word) or len(word) > most_digits or int(word) > greatest:
         return None
     return int(word)
@@ -203,7 +203,7 @@ def is_plain(word):
 
 
 def split_words(words, option):
-    """The plain words of a call, and the value of its one option, None without it; None where the words make no call."""
+    """The plain words of a call, and the value of its one option, None without it; None if the words make no call."""
     rest, plain, values = list(words), [], []
     while rest and rest[0] != b"--":
         word = rest.pop(0)
@@ -226,7 +226,7 @@ class Ended(Exception):
 
 
 def image_fault(word):
-    """What is wrong with the word of an image; None where it is one."""
+    """What is wrong with the word of an image; None if it is one."""
     digits = HEX_DIGITS.match(word).end()
     if len(word) % 2 or digits < len(word):
         return f"bad hex at {len(word) if len(word) % 2 else digits}"

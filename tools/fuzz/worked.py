@@ -1,7 +1,7 @@
 """Worked messages and scripts, against which the model is held before it judges anything."""
 
 REGISTERS = "010001" + "820820" * 14 + "000000"
-IMAGE_FRONT = f"image {REGISTERS}"
+IMAGE_PREFIX = f"image {REGISTERS}"
 WRITE = "P 20 82B7420A1B2C13030123453D\n"
 WRITTEN = WRITE + "D 5 86B7420A1B2C130500400123457F\n"
 IDENTITY = "180000FE37420507010218000A1B2C05040000000037003701"
@@ -108,42 +108,42 @@ NO_IMAGES = (
 
 # The script of `hart sim`, and its text.
 PLAYED = (
-    ("", f"counter 0\n{IMAGE_FRONT}000000000000\n"),
-    ("turn P ok ok", f"counter 0\n{IMAGE_FRONT}000000000000\n"),
-    ("submit P @0 1", f"1 refused 3\ncounter 0\n{IMAGE_FRONT}000000000000\n"),
+    ("", f"counter 0\n{IMAGE_PREFIX}000000000000\n"),
+    ("turn P ok ok", f"counter 0\n{IMAGE_PREFIX}000000000000\n"),
+    ("submit P @0 1", f"1 refused 3\ncounter 0\n{IMAGE_PREFIX}000000000000\n"),
     (SUBMIT_WRITE + "turn P ok lost\nturn P ok ok\n",
-     WRITTEN * 2 + f"1 answered 2 00 40 012345\ncounter 2\n{IMAGE_FRONT}012345000203\n"),
+     WRITTEN * 2 + f"1 answered 2 00 40 012345\ncounter 2\n{IMAGE_PREFIX}012345000203\n"),
     (SUBMIT_WRITE + "turn P ok FFFF86B7420A1B2C130500400123457E\nturn P ok ok\n",
-     WRITTEN * 2 + f"1 answered 2 00 40 012345\ncounter 2\n{IMAGE_FRONT}012345000203\n"),
+     WRITTEN * 2 + f"1 answered 2 00 40 012345\ncounter 2\n{IMAGE_PREFIX}012345000203\n"),
     (SUBMIT_WRITE + "turn P FFFF82!40B7420A1B2C13030123453D ok\nturn P ok ok\n",
-     WRITE + WRITTEN + f"1 answered 2 00 40 012345\ncounter 1\n{IMAGE_FRONT}012345000103\n"),
-    (SUBMIT_WRITE + "turn P lost ok\n" * 4, WRITE * 4 + f"1 noreply 4\ncounter 0\n{IMAGE_FRONT}000000000000\n"),
+     WRITE + WRITTEN + f"1 answered 2 00 40 012345\ncounter 1\n{IMAGE_PREFIX}012345000103\n"),
+    (SUBMIT_WRITE + "turn P lost ok\n" * 4, WRITE * 4 + f"1 noreply 4\ncounter 0\n{IMAGE_PREFIX}000000000000\n"),
     ("submit P all 0\nsubmit S 37420A1B2C 16\nsubmit S 37420A1B2C 16\n",
-     f"1 refused 3\n2 unfinished 0\n3 refused 2\ncounter 0\n{IMAGE_FRONT}000000000000\n"),
+     f"1 refused 3\n2 unfinished 0\n3 refused 2\ncounter 0\n{IMAGE_PREFIX}000000000000\n"),
     (TWO_MASTERS + "turn P ok ok\n",
-     TWO_WRITTEN + WRITTEN + f"1 answered 2 00 40 012345\n2 answered 1 00 40 0A0B0C\ncounter 3\n{IMAGE_FRONT}012345000303\n"),
+     TWO_WRITTEN + WRITTEN + f"1 answered 2 00 40 012345\n2 answered 1 00 40 0A0B0C\ncounter 3\n{IMAGE_PREFIX}012345000303\n"),
     (TWO_MASTERS + "protect on\nturn P ok ok\n",
      TWO_WRITTEN + WRITE + "D 5 86B7420A1B2C1302074018\n1 answered 2 07 40 -\n2 answered 1 00 40 0A0B0C\n"
-     f"counter 2\n{IMAGE_FRONT}0A0B0C000207\n"),
+     f"counter 2\n{IMAGE_PREFIX}0A0B0C000207\n"),
     ("submit P @0 0\nsubmit S 37420A1B2C 6 0501\nturn P ok lost\nturn S ok ok\nturn P ok ok\n",
      f"P 20 0280000082\nD 5 068000{IDENTITY}31\nS 20 8237420A1B2C06020501CA\nD 5 8637420A1B2C06040040050188\nP 20 0280000082\n"
      "1 unfinished 2\n2 answered 1 00 40 0501\ncounter 1\nimage 010501" + "820820" * 14 + "000000000000000103\n"),
     (SUBMIT_WRITE + "turn P ok ok\nsubmit P 37420A1B2C 38 0001\nturn P ok ok\n",
      WRITTEN + "P 20 82B7420A1B2C260200016F\nD 5 86B7420A1B2C2604000000016D\n1 answered 1 00 40 012345\n2 answered 1 00 00 0001\n"
-     f"counter 1\n{IMAGE_FRONT}012345000102\n"),
+     f"counter 1\n{IMAGE_PREFIX}012345000102\n"),
 )
 
 # The image of `hart sim`, its script, and its text.
 PLAYED_FROM = (
-    (f"{REGISTERS}000000000000", "", f"counter 0\n{IMAGE_FRONT}000000000000\n"),
+    (f"{REGISTERS}000000000000", "", f"counter 0\n{IMAGE_PREFIX}000000000000\n"),
     (f"{REGISTERS}000000000103", "submit P 37420A1B2C 38 0001\nsubmit S 37420A1B2C 19 0A0B0C\nturn P ok lost\nturn S ok ok\nturn P ok ok\n",
      RESET + "D 5 86B7420A1B2C2604000000016D\nS 20 8237420A1B2C13030A0B0CD7\nD 5 8637420A1B2C130500400A0B0C95\n"
-     + RESET + f"D 5 86B7420A1B2C2602094023\n1 answered 2 09 40 -\n2 answered 1 00 40 0A0B0C\ncounter 2\n{IMAGE_FRONT}0A0B0C000203\n"),
+     + RESET + f"D 5 86B7420A1B2C2602094023\n1 answered 2 09 40 -\n2 answered 1 00 40 0A0B0C\ncounter 2\n{IMAGE_PREFIX}0A0B0C000203\n"),
     (f"{REGISTERS}000000FFFF00", SUBMIT_WRITE + "turn P ok ok\n",
-     WRITTEN + f"1 answered 1 00 40 012345\ncounter 0\n{IMAGE_FRONT}012345000003\n"),
+     WRITTEN + f"1 answered 1 00 40 012345\ncounter 0\n{IMAGE_PREFIX}012345000003\n"),
     (f"{REGISTERS}012345000103", "submit P 37420A1B2C 16\nturn P ok ok\n",
      "P 20 82B7420A1B2C10005A\nD 5 86B7420A1B2C100500400123457C\n1 answered 1 00 40 012345\n"
-     f"counter 1\n{IMAGE_FRONT}012345000103\n"),
+     f"counter 1\n{IMAGE_PREFIX}012345000103\n"),
 )
 
 # The script of `hart sim`, and its fault.
