@@ -12,7 +12,7 @@ use Rattle.hart_frame.specs.Layout.{body_length, delimiter_in}
 use Rattle.hart_frame.specs.Parity.{HasEvenParity}
 use Rattle.hart_frame.specs.Place.{StandsIn}
 use Rattle.hart_frame.specs.declared.found.Found.{Found}
-use Rattle.hart_frame.proofs.BodiesApart.{BeginsWithBody-append}
+use Rattle.hart_frame.proofs.UnambiguousBodies.{BeginsWithBody-append}
 use Rattle.hart_frame.proofs.FramesFound.{AreFrames-found}
 use Rattle.hart_frame.proofs.PlaceLemmas.{HasNoFrame-end, preamble}
 use Rattle.hart_frame.proofs.RefusalLemmas.{IsDelimiter-of, Says, says}

@@ -12,7 +12,7 @@ use Rattle.hart_frame.specs.Layout.{delimiter_in, byte_count_place, byte_count_i
 use Rattle.hart_frame.specs.Parity.{IsCheckByte, HasEvenParity}
 use Rattle.hart_frame.specs.Refusal.{IsDelimiter, HasGoodByteCount}
 use Rattle.hart_frame.proofs.ParityLemmas.{check-even}
-use Rattle.hart_frame.proofs.BodiesApart.{BeginsWithBody-append}
+use Rattle.hart_frame.proofs.UnambiguousBodies.{BeginsWithBody-append}
 use Rattle.hart_frame.proofs.RefusalLemmas.{says, HasGoodByteCount-body}
 
 -- faultless characters have the bytes that they were made of

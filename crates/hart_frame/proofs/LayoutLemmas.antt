@@ -10,7 +10,7 @@ use Rattle.hart_frame.specs.Delimiter.{delimiter_of, kind_code}
 use Rattle.hart_frame.specs.Layout.{Describes, delimiter_in, body_length}
 use Rattle.hart_frame.specs.Refusal.{HasCheckByte, IsDelimiter}
 use Rattle.hart_frame.specs.Body.{IsCheckedPart}
-use Rattle.hart_frame.proofs.BodiesApart.{length-address}
+use Rattle.hart_frame.proofs.UnambiguousBodies.{length-address}
 
 -- a range and the next range are one range
 slice_range-join : (xs : List ℕ) (a b c : ℕ) → a ≤ b → b ≤ c → slice_range xs a b ++ slice_range xs b c ≡ slice_range xs a c

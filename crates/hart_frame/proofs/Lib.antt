@@ -1,12 +1,12 @@
 pub mod ParityLemmas
 pub mod LaneLemmas
 pub mod BodyLemmas
-pub mod BodiesApart
+pub mod UnambiguousBodies
 pub mod LayoutLemmas
 pub mod RefusalLemmas
 pub mod HeardLemmas
 pub mod PlaceLemmas
-pub mod FramesApart
+pub mod UnambiguousFrames
 pub mod BodiesFound
 pub mod FramesFound
 pub mod OpenLemmas

@@ -10,7 +10,7 @@ use Rattle.hart_frame.specs.Message.{IsMessage}
 use Rattle.hart_frame.specs.Place.{StandsIn}
 use Rattle.hart_frame.specs.Frames.{AreFrames}
 use Rattle.hart_frame.specs.declared.found.Found.{Found}
-use Rattle.hart_frame.proofs.BodiesApart.{address_type-lt, kind_code-is, spread}
+use Rattle.hart_frame.proofs.UnambiguousBodies.{address_type-lt, kind_code-is, spread}
 use Rattle.hart_frame.proofs.HeardLemmas.{bytes_of-faultless}
 use Rattle.hart_frame.proofs.PlaceLemmas.{HasNoFrame-end}
 

@@ -13,7 +13,7 @@ use Rattle.hart_frame.specs.Parity.{HasEvenParity}
 use Rattle.hart_frame.specs.Layout.{delimiter_in, byte_count_place, byte_count_in, body_length}
 use Rattle.hart_frame.specs.Refusal.{IsRefusedWith, IsDelimiter, HasGoodByteCount}
 use Rattle.hart_frame.specs.Body.{IsBody, IsCheckedPart, BeginsWithBody}
-use Rattle.hart_frame.proofs.BodiesApart.{length-address, address_type-lt, kind_code-is, spread}
+use Rattle.hart_frame.proofs.UnambiguousBodies.{length-address, address_type-lt, kind_code-is, spread}
 
 -- what a list that begins with a frame's body says of it
 pub record Says (bytes : List ℕ) (f : FrameParts) (len : ℕ) : Type 0 where

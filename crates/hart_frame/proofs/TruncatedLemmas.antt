@@ -14,7 +14,7 @@ use Rattle.hart_frame.specs.Parity.{IsCheckByte}
 use Rattle.hart_frame.specs.Refusal.{IsDelimiter, HasDelimiter, HasGoodByteCount, IsTruncated}
 use Rattle.hart_frame.proofs.ParityLemmas.{IsCheckByte-fold}
 use Rattle.hart_frame.proofs.BodyLemmas.{IsBody-push}
-use Rattle.hart_frame.proofs.BodiesApart.{address_type-lt, kind_code-is}
+use Rattle.hart_frame.proofs.UnambiguousBodies.{address_type-lt, kind_code-is}
 use Rattle.hart_frame.proofs.RefusalLemmas.{says, IsDelimiter-of}
 use Rattle.hart_frame.proofs.BodiesFound.{held_frame, Fit}
 

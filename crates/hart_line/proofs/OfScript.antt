@@ -4,5 +4,5 @@ pub mod ItemsLemmas
 pub mod LinesLemmas
 pub mod RowsLemmas
 pub mod ScriptLemmas
-pub mod WordsApart
+pub mod UnambiguousWords
 pub mod WordsLemmas

@@ -13,7 +13,7 @@ use Rattle.hart_line.specs.declared.event.LineEvent.{LineEvent}
 use Rattle.hart_line.specs.declared.event.LineEvent.TheVariants.{Noise, Protect, Submit, Turn}
 use Rattle.hart_line.specs.declared.script.rows.RowFault.{RowFault}
 use Rattle.hart_line.specs.declared.script.rows.RowFault.TheVariants.{Bad, Memory}
-use Rattle.hart_line.proofs.OfScript.WordsApart.{AreDataWords-one, IsCommandWord-one}
+use Rattle.hart_line.proofs.OfScript.UnambiguousWords.{AreDataWords-one, IsCommandWord-one}
 
 -- a value that is found is read, and if none is found the line is bad
 pub found_read : {T : Type 0} (words : List (List ℕ)) (IsValue : T → Type 0) (found : Option T) → Finds IsValue found

@@ -21,7 +21,7 @@ use Rattle.hart_line.specs.declared.fault.LineFault.{LineFault}
 use Rattle.hart_line.specs.declared.fault.LineFault.TheVariants.{BadLine, Memory, Undetected}
 use Rattle.hart_line.proofs.OfScript.ItemsLemmas.{items_to_the_end, NoItemBegins-nil}
 use Rattle.hart_line.proofs.OfScript.RowsLemmas.{first_letter, read_as}
-use Rattle.hart_line.proofs.OfScript.WordsApart.{IsAddressWord-one, IsWho-one}
+use Rattle.hart_line.proofs.OfScript.UnambiguousWords.{IsAddressWord-one, IsWho-one}
 
 -- a word is items in one way
 IsItemsWord-one : (word : List ℕ) (xs ys : List Character) → IsItemsWord word xs → IsItemsWord word ys → xs ≡ ys

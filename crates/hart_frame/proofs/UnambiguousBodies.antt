@@ -101,9 +101,9 @@ pub record SameBodies (f g : FrameParts) (body other rest more : List ℕ) : Typ
   pub bodies : body ≡ other
   pub rests : rest ≡ more
 
-pub bodies_apart : OneReading → (f g : FrameParts) (body other rest more : List ℕ)
+pub same_bodies : OneReading → (f g : FrameParts) (body other rest more : List ℕ)
     → IsBody f body → IsBody g other → body ++ rest ≡ other ++ more → SameBodies f g body other rest more
-bodies_apart law f g body other rest more p q whole =
+same_bodies law f g body other rest more p q whole =
     let a = p.checked_part in
     let b = q.checked_part in
     let spreads = sym (spread f body rest p) ∙ whole ∙ spread g other more q in
@@ -157,10 +157,10 @@ IsBody-one law f body other p q =
 pub BeginsWithBody-one : OneReading → (f g : FrameParts) (bytes : List ℕ) (m n : ℕ)
     → BeginsWithBody bytes f m → BeginsWithBody bytes g n → (f ≡ g) × (m ≡ n)
 BeginsWithBody-one law f g bytes m n p q =
-    let apart = bodies_apart law f g (take m bytes) (take n bytes) (drop m bytes) (drop n bytes) p.body q.body
+    let same = same_bodies law f g (take m bytes) (take n bytes) (drop m bytes) (drop n bytes) p.body q.body
     (take-append-drop m bytes ∙ sym (take-append-drop n bytes)) in
-    let lengths = ap length apart.bodies in
-    (apart.frames, omega (arith, lengths, length-take-le m bytes p.within, length-take-le n bytes q.within))
+    let lengths = ap length same.bodies in
+    (same.frames, omega (arith, lengths, length-take-le m bytes p.within, length-take-le n bytes q.within))
 
 -- a body is the prefix of any list that begins with it
 pub BeginsWithBody-append : (f : FrameParts) (body rest : List ℕ) → IsBody f body → BeginsWithBody (body ++ rest) f (length body)
