@@ -5,7 +5,7 @@ use Rattle.hart_frame.specs.Place.{StandsIn}
 use Rattle.hart_frame.specs.Scanner.{Scan}
 use Rattle.hart_frame.specs.declared.found.Found.{Found}
 
--- What a scanner holds begins with two preamble bytes and a body after them.
+-- A scanner holds a frame if what it holds begins with two preamble bytes and the frame's body.
 abbrev pub HoldsFrame : Scan → Type 0
 HoldsFrame scan = (found : Found) × StandsIn found scan.held 0 × (found.start ≡ 2)
 
