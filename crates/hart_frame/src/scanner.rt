@@ -18,7 +18,7 @@ use std::marker::Model;
 /// }
 /// scanner.finish();
 /// while let Some(view) = scanner.take() {
-///     // Frames after a start that the end of the line has shown to be false.
+///     // Frames after a start that the finish has shown to be false.
 /// }
 /// ```
 #[derive(Drop)]

@@ -48,9 +48,9 @@ const INSIDE: &[u16] = &[
     0x80, 0x00, 0x00, 0x82,
 ];
 
-/// A line, how many characters of it are heard, the place to search from, and where the first frame starts and stops.
+/// Characters, how many are heard, the place to search from, and where the first frame starts and stops.
 ///
-/// Of a character on a line the high byte is the fault bits. After the line faultless characters 00 are heard.
+/// The high byte of a character is its fault bits. After those of a row faultless characters 00 are heard.
 const HEARD: &[(&[u16], usize, usize, Option<(usize, usize)>)] = &[
     (&[], 0, 0, None),
     (&[0xFF], 1, 0, None),
@@ -87,10 +87,10 @@ const HEARD: &[(&[u16], usize, usize, Option<(usize, usize)>)] = &[
     ),
 ];
 
-/// The characters of a line and of what is heard after it.
-fn heard(line: &[u16]) -> Option<[Char; 300]> {
+/// The characters of a row and of what is heard after them.
+fn heard(row: &[u16]) -> Option<[Char; 300]> {
     let mut chars = [Char::new(0, 0)?; 300];
-    for (place, both) in chars.iter_mut().zip(line) {
+    for (place, both) in chars.iter_mut().zip(row) {
         *place = Char::new((both % 256) as u8, (both / 256) as u8)?;
     }
     Some(chars)
@@ -98,11 +98,11 @@ fn heard(line: &[u16]) -> Option<[Char; 300]> {
 
 #[test]
 fn the_first_frame_is_found(rt: HostRuntime) -> Result<(), Fail> {
-    for (line, count, from, want) in HEARD {
-        let chars = heard(line).ok_or("a line")?;
+    for (row, count, from, want) in HEARD {
+        let chars = heard(row).ok_or("characters")?;
         let chars = chars.get(..*count).ok_or("at most 300 characters")?;
         let places = first_frame(chars, *from).map(|found| (found.start, found.stop));
-        assert_eq!(rt; places, *want, "of {line:?} from {from}");
+        assert_eq!(rt; places, *want, "of {row:?} from {from}");
     }
     Ok(())
 }
@@ -118,14 +118,14 @@ const DELIVERIES: &[(&[u16], &str)] = &[
 
 #[test]
 fn a_lone_frame_is_given(rt: HostRuntime) -> Result<(), Fail> {
-    for (line, want) in DELIVERIES {
-        let chars = heard(line).ok_or("a line")?;
-        let text = match lone_frame(&chars[..line.len()]) {
+    for (row, want) in DELIVERIES {
+        let chars = heard(row).ok_or("characters")?;
+        let text = match lone_frame(&chars[..row.len()]) {
             LoneFrame::NoFrame => format!(in rt.alloc(); "none")?,
             LoneFrame::Several => format!(in rt.alloc(); "several")?,
             LoneFrame::Alone(found) => format!(in rt.alloc(); "{} to {}", found.start, found.stop)?,
         };
-        assert_eq!(rt; text.as_str(), *want, "of {line:?}");
+        assert_eq!(rt; text.as_str(), *want, "of {row:?}");
     }
     Ok(())
 }
