@@ -1,11 +1,12 @@
 //! A scanner against the first frames of the whole list.
 use super::*;
+use std::alloc::Global;
 
-/// Characters one after another, each so many times. Of a character the high byte is the fault bits.
-type Line = &'static [(&'static [u16], usize)];
+/// Characters one after another, each so many times. The high byte of a character is its fault bits.
+type Parts = &'static [(&'static [u16], usize)];
 
 /// A request and its reply.
-const WORKED: Line = &[
+const WORKED: Parts = &[
     (&[0xFF], 5),
     (
         &[
@@ -37,8 +38,8 @@ const ENDS_WITH_FF: &[u16] = &[0xFF, 0xFF, 0x02, 0x80, 0x7D, 0x00, 0xFF];
 /// A false start, with the first FF of the next.
 const FALSE: &[u16] = &[0xFF, 0xFF, 0x82, 0xB7, 0x42, 0x0A, 0x1B, 0x2C, 0x13, 0xFF];
 
-/// A line, and where its last frame stops.
-const LINES: &[(Line, usize)] = &[
+/// Characters, and where their last frame stops.
+const HEARD: &[(Parts, usize)] = &[
     (&[], 0),
     (WORKED, 36),
     (&[(INSIDE, 1), (&[0x00], 246)], 20),
@@ -74,31 +75,65 @@ const LINES: &[(Line, usize)] = &[
     (&[(INSIDE, 1), (&[0x40FF], 1), (ONE, 1)], 28),
 ];
 
-/// Runs are pushed with so many characters, and all at once.
-const RUNS: &[usize] = &[1, 2, 3, 7, 100, MOST_HEARD];
+/// Noise and false starts without end, and the one frame that is found after them, if any: its start, and what it is read as.
+const NOISE: &[(Parts, Option<(usize, Read)>)] = &[
+    (&[(&[0xFF], 100_000)], None),
+    (
+        &[(&[0xFF], 100_000), (&[0x02, 0x80, 0x00, 0x00, 0x82], 1)],
+        Some((100_000, (5, FrameKind::Stx, &[0x80], &[], &[]))),
+    ),
+    (
+        &[
+            (&[0xFF], 20),
+            (&[0xE2, 0x80, 0, 0, 0, 0, 1, 2, 3, 0, 255], 1),
+            (&[0x55], 255),
+            (&[0xC8], 1),
+        ],
+        Some((
+            20,
+            (
+                267,
+                FrameKind::Stx,
+                &[0x80, 0, 0, 0, 0],
+                &[1, 2, 3],
+                &[0x55; 255],
+            ),
+        )),
+    ),
+    (&[(FALSE, 2000)], None),
+];
 
-const MOST_HEARD: usize = 1000;
+/// Runs are pushed with so many characters at most.
+const RUNS: &[usize] = &[1, 2, 3, 7, 100, MOST_RUN];
 
-/// The characters of a line, and how many there are.
-fn heard(line: Line) -> Option<([Char; MOST_HEARD], usize)> {
-    let mut chars = [Char::new(0, 0)?; MOST_HEARD];
-    let mut count: usize = 0;
-    for (part, times) in line {
+const MOST_RUN: usize = 1000;
+
+const MOST_PUSHED: u64 = 200_000;
+
+/// The characters of some parts.
+fn heard(alloc: Global, parts: Parts) -> Result<Vec<Char>, Fail> {
+    let mut chars = Vec::new(alloc);
+    for (part, times) in parts {
         for _ in 0..*times {
-            for both in *part {
-                let place = chars.get_mut(count)?;
-                *place = Char::new((both % 256) as u8, (both / 256) as u8)?;
-                count = count.checked_add(1)?;
-            }
+            push_part(&mut chars, part)?;
         }
     }
-    Some((chars, count))
+    Ok(chars)
+}
+
+/// Adds the characters of a part.
+fn push_part(chars: &mut Vec<Char>, part: &[u16]) -> Result<(), Fail> {
+    for both in part {
+        let character = Char::new((both % 256) as u8, (both / 256) as u8).ok_or("a character")?;
+        chars.push(character)?;
+    }
+    Ok(())
 }
 
 /// Where the last frame stops that is taken, if all of them are the next ones of the whole list from a place on.
 fn taken(scanner: &mut Scanner, chars: &[Char], from: usize) -> Option<usize> {
     let mut stop = from;
-    for _ in 0..MOST_HEARD {
+    for _ in 0..=chars.len() {
         let Some(view) = scanner.take() else {
             return Some(stop);
         };
@@ -135,7 +170,7 @@ fn by_character(chars: &[Char]) -> Option<usize> {
 
 /// Pushes a character, if the scanner is drained.
 fn push(scanner: &mut Scanner, character: Char) -> Option<()> {
-    if !scanner.is_drained() || scanner.pushed() >= MOST_HEARD as u64 {
+    if !scanner.is_drained() || scanner.pushed() >= MOST_PUSHED {
         return None;
     }
     scanner.push(character);
@@ -168,7 +203,7 @@ fn by_runs(chars: &[Char], size: usize) -> Option<usize> {
 
 /// Pushes the first faultless characters, so many at most, if the scanner is drained, and gives how many it heard.
 fn push_run(scanner: &mut Scanner, chars: &[Char], size: usize) -> Option<usize> {
-    let mut bytes = [0; MOST_HEARD];
+    let mut bytes = [0; MOST_RUN];
     let mut count: usize = 0;
     for (place, character) in bytes.iter_mut().zip(chars.iter().take(size)) {
         if !character.is_faultless() {
@@ -177,7 +212,7 @@ fn push_run(scanner: &mut Scanner, chars: &[Char], size: usize) -> Option<usize>
         *place = character.byte();
         count = count.checked_add(1)?;
     }
-    if !scanner.is_drained() || scanner.pushed() >= MOST_HEARD as u64 {
+    if !scanner.is_drained() || scanner.pushed() >= MOST_PUSHED {
         return None;
     }
     Some(scanner.push_run(bytes.get(..count)?))
@@ -185,12 +220,15 @@ fn push_run(scanner: &mut Scanner, chars: &[Char], size: usize) -> Option<usize>
 
 #[test]
 fn a_scanner_gives_the_frames(rt: HostRuntime) -> Result<(), Fail> {
-    for (line, want) in LINES {
-        let (chars, count) = heard(line).ok_or("a line")?;
-        let chars = chars.get(..count).ok_or("at most 1,000 characters")?;
-        assert_eq!(rt; by_character(chars), Some(*want), "of {line:?}");
+    for (parts, want) in HEARD {
+        let chars = heard(rt.alloc(), parts)?;
+        assert_eq!(rt; by_character(&chars), Some(*want), "of {parts:?}");
         for size in RUNS {
-            assert_eq!(rt; by_runs(chars, *size), Some(*want), "of {line:?} by {size}");
+            assert_eq!(rt;
+                by_runs(&chars, *size),
+                Some(*want),
+                "of {parts:?} by {size}"
+            );
         }
     }
     Ok(())
@@ -214,10 +252,9 @@ fn first_view(chars: &[Char]) -> Option<(usize, u64, u64)> {
 
 #[test]
 fn a_view_waits_for_the_false_message_around_it(rt: HostRuntime) -> Result<(), Fail> {
-    let (chars, count) = heard(&[(INSIDE, 1), (&[0x00], 300)]).ok_or("a line")?;
-    let chars = chars.get(..count).ok_or("320 characters")?;
+    let chars = heard(rt.alloc(), &[(INSIDE, 1), (&[0x00], 300)])?;
     assert_eq!(rt;
-        first_view(chars),
+        first_view(&chars),
         Some((266, 15, 20)),
         "after the last character of the false one"
     );
@@ -229,22 +266,47 @@ fn a_view_waits_for_the_false_message_around_it(rt: HostRuntime) -> Result<(), F
     Ok(())
 }
 
-#[test]
-fn false_starts_without_end_are_passed(rt: HostRuntime) -> Result<(), Fail> {
-    let mut scanner = Scanner::new();
-    let mut by_run = Scanner::new();
-    let bytes = [0xFF, 0xFF, 0x82, 0xB7, 0x42, 0x0A, 0x1B, 0x2C, 0x13, 0xFF];
-    for _ in 0..2000 {
-        for byte in &bytes {
-            assert!(rt; scanner.is_drained() && scanner.pushed() < 20_000);
-            scanner.push(Char::new(*byte, 0).ok_or("a character")?);
-            assert!(rt; scanner.take().is_none());
+/// Where the first frame of the characters stops, or 0 if they have none, if it is the one that is wanted and ends them.
+fn noise_stop(chars: &[Char], want: &Option<(usize, Read)>) -> Option<usize> {
+    match (first_frame(chars, 0), want) {
+        (None, None) => Some(0),
+        (Some(found), Some((start, read))) => {
+            let same = found.start == *start
+                && found.stop == chars.len()
+                && is_read_as(&found.frame, read);
+            same.then_some(found.stop)
         }
-        assert!(rt; by_run.is_drained() && by_run.pushed() < 20_000);
-        assert_eq!(rt; by_run.push_run(&bytes), bytes.len());
+        _ => None,
     }
-    scanner.finish();
-    by_run.finish();
-    assert!(rt; scanner.take().is_none() && by_run.take().is_none());
+}
+
+/// The bytes of characters without faults.
+fn bytes_of(alloc: Global, chars: &[Char]) -> Result<Vec<u8>, Fail> {
+    let mut bytes = Vec::new(alloc);
+    for character in chars {
+        bytes.push(character.byte())?;
+    }
+    Ok(bytes)
+}
+
+#[test]
+fn noise_is_passed(rt: HostRuntime) -> Result<(), Fail> {
+    for (parts, want) in NOISE {
+        let chars = heard(rt.alloc(), parts)?;
+        let stop = noise_stop(&chars, want);
+        assert!(rt; stop.is_some(), "of {parts:?}");
+        assert_eq!(rt; by_character(&chars), stop, "of {parts:?}");
+        for size in RUNS {
+            assert_eq!(rt; by_runs(&chars, *size), stop, "of {parts:?} by {size}");
+        }
+        let bytes = bytes_of(rt.alloc(), &chars)?;
+        let mut scanner = Scanner::new();
+        assert_eq!(rt; scanner.push_run(&bytes), bytes.len(), "of {parts:?}");
+        assert_eq!(rt;
+            last_taken(&mut scanner, &chars, 0),
+            stop,
+            "of {parts:?} at once"
+        );
+    }
     Ok(())
 }
