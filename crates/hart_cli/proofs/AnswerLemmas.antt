@@ -1,5 +1,5 @@
 -- The answer to an input, of which there is one at most.
-use Rattle.std.proofs.Common.{◌≡◌, ℕ, List, Option, None, Some, Result, Ok, Err, refl, sym, ap, ◌∙◌, subst}
+use Rattle.std.proofs.Common.{◌≡◌, ℕ, inr, List, Option, None, Some, Result, Ok, Err, refl, sym, ap, ◌∙◌, subst}
 use Rattle.std.specs.Result.{IsErrAnd}
 use Rattle.hart_frame.specs.Character.{Character}
 use Rattle.hart_frame.specs.FrameParts.{FrameParts}
@@ -10,14 +10,16 @@ use Rattle.hart_device.specs.Delivery.{answer_to}
 use Rattle.hart_device.specs.Device.{DeviceState}
 use Rattle.hart_device.specs.declared.process.Process.{Process}
 use Rattle.hart_cli.specs.declared.fault.CliFault.{CliFault}
+use Rattle.hart_cli.specs.declared.fault.CliFault.TheVariants as faults
 use Rattle.hart_cli.specs.declared.input.InputEnd.TheVariants.{Ended}
 use Rattle.hart_cli.specs.Input.{Reads}
 use Rattle.hart_cli.specs.Items.{ReadsAs}
 use Rattle.hart_cli.specs.Stream.{Stream}
-use Rattle.hart_cli.specs.Hearing.{Hears}
-use Rattle.hart_cli.specs.Answer.{IsAnswer, IsAnswerFault, IsAnswerText, IsTextFor}
+use Rattle.hart_cli.specs.Input.{CameTo}
+use Rattle.hart_cli.specs.InputChars.{HasChars, IsWholeTextFault}
+use Rattle.hart_cli.specs.Answer.{IsAnswer, IsAnswerText, IsTextFor}
 use Rattle.hart_cli.specs.WholeInput.{WholeInput, WholeOutcome}
-use Rattle.hart_cli.proofs.DumpLemmas.{OneFrames, OneHearing}
+use Rattle.hart_cli.proofs.DumpLemmas.{OneFrames, OneInput}
 use Rattle.hart_cli.proofs.KnownBytesLemmas.{Keeps-same}
 use Rattle.hart_cli.proofs.MessageLineLemmas.{IsMessageLine-one, OneBody}
 
@@ -44,35 +46,40 @@ IsTextFor-heard delivery frames device process heard answer text same_process ar
     record { frames = frames; are_frames = are_frames; answered = subst P same has }
 
 -- an input has one answer
-pub IsAnswer-one : OneFrames → OneBody → OneHearing → (device : DeviceState) (input xs ys : List ℕ) → IsAnswer device input xs
+pub IsAnswer-one : OneFrames → OneBody → OneInput → (device : DeviceState) (input xs ys : List ℕ) → IsAnswer device input xs
     → IsAnswer device input ys → xs ≡ ys
-IsAnswer-one lists bodies hearings device input xs ys p q =
-    let same = (hearings input Ended p.delivery q.delivery None None (Hears.all p.delivery p.reads) (Hears.all q.delivery q.reads)).0 in
+IsAnswer-one lists bodies inputs device input xs ys p q =
+    let same =
+    (inputs input (CameTo Ended) p.delivery q.delivery None None (HasChars.all p.delivery p.reads) (HasChars.all q.delivery q.reads)).0 in
     let P : List Character → Type 0 = λ delivery. IsTextFor device delivery xs in
     IsTextFor-one lists bodies device q.delivery xs ys (subst P same p.text_for) q.text_for
 
--- an input that ended without a fault reads as its characters
-whole_reads : (text : List ℕ) (chars : List Character) → Hears text Ended chars None → ReadsAs text chars
-whole_reads text _ (Hears.all chars reads) = reads
-
--- the answer to such an input
+-- the answer to an input that reads as its characters
 pub answer_read : (device : DeviceState) (reader reader_after : Stream) (input : List ℕ) (chars : List Character) (text : List ℕ)
-    → Reads reader reader_after input Ended → Hears input Ended chars None → IsTextFor device chars text
+    → Reads reader reader_after input Ended → ReadsAs input chars → IsTextFor device chars text
     → WholeInput reader reader_after (λ input. IsAnswer device input text)
-answer_read device reader reader_after input chars text read hears text_for = record {
+answer_read device reader reader_after input chars text read reads text_for = record {
   input = input;
   whole = read;
-  holds = record { delivery = chars; reads = whole_reads input chars hears; text_for = text_for };
+  holds = record { delivery = chars; reads = reads; text_for = text_for };
 }
 
--- the bad hex of an input that ended
-pub AnswerOutcome-fault : (device : DeviceState) (reader reader_after writer : Stream) (input : List ℕ) (chars : List Character)
-    (fault : CliFault) → Reads reader reader_after input Ended → Hears input Ended chars (Some fault)
-    → WholeOutcome (IsAnswer device) IsAnswerFault reader reader_after writer writer (Err fault)
-AnswerOutcome-fault device reader reader_after writer input _ _ read (Hears.bad_hex chars place bad) =
-    (record { input = input; whole = read; holds = (chars, bad) }, (Keeps-same writer.bytes, refl))
+-- the fault of an input that ended
+pub AnswerOutcome-fault : (device : DeviceState) (reader reader_after writer : Stream) (input : List ℕ) (fault : CliFault)
+    → Reads reader reader_after input Ended → IsWholeTextFault input fault
+    → WholeOutcome (IsAnswer device) IsWholeTextFault reader reader_after writer writer (Err fault)
+AnswerOutcome-fault device reader reader_after writer input (faults.BadHex place) read is =
+    (record { input = input; whole = read; holds = is }, (Keeps-same writer.bytes, refl))
+AnswerOutcome-fault device reader reader_after writer input (faults.Memory none) read is =
+    (inr (record { input = input; whole = read; holds = is }), (Keeps-same writer.bytes, refl))
+AnswerOutcome-fault device reader reader_after writer input faults.Read read is = absurd is
+AnswerOutcome-fault device reader reader_after writer input faults.Write read is = absurd is
+AnswerOutcome-fault device reader reader_after writer input faults.TooLong read is = absurd is
+AnswerOutcome-fault device reader reader_after writer input (faults.Line fault) read is = absurd is
+AnswerOutcome-fault device reader reader_after writer input (faults.Image fault) read is = absurd is
+AnswerOutcome-fault device reader reader_after writer input (faults.BadWord number) read is = absurd is
 
--- a fault that is told of its cause alone
-pub told_as : {T : Type 0} (result : Result T CliFault) (cause : CliFault) → IsErrAnd result (λ fault. fault ≡ cause) → result ≡ Err cause
-told_as (Ok done) cause told = absurd told
-told_as (Err fault) cause told = ap Err told
+-- a fault that is made of its cause alone
+pub made_of : {T : Type 0} (result : Result T CliFault) (cause : CliFault) → IsErrAnd result (λ fault. fault ≡ cause) → result ≡ Err cause
+made_of (Ok done) cause made = absurd made
+made_of (Err fault) cause made = ap Err made

@@ -5,7 +5,7 @@ use Rattle.std.proofs.lemmas.List.{append-nil, append_assoc, drop-drop, length-a
 use Rattle.hart_frame.specs.Character.{Character}
 use Rattle.hart_cli.specs.Items.{BeginsAs, BeginsWith, IsSeparator, IsWholeBefore, Item, meaning, NoPieceBegins, nothing}
 use Rattle.hart_cli.specs.Items.{Piece, piece, ReadsUpTo, Separator, spelling}
-use Rattle.hart_line.specs.Script.Items.{Faulty, Plain}
+use Rattle.hart_line.specs.Script.Items.{Faulty, Plain, item_meaning}
 use Rattle.std.proofs.Math.Seq.{drop-append_seam}
 use Rattle.std.specs.Option.{option_to_list}
 use Rattle.hex.specs.Hex.{is_hex_digit}
@@ -26,7 +26,7 @@ not_whole : (tail more : List ℕ) (high low : ℕ) → IsWholeBefore tail (Item
 not_whole [] more high low w e = cc e
 not_whole (x ∷ xs) more high low w e = w.1 (cc e)
 
--- two pieces at the front of one text are one piece
+-- two pieces that begin one text are one piece
 pub same_piece : (text : List ℕ) (p q : Piece) (s t : List ℕ) → BeginsWith text p s → BeginsWith text q t → (p ≡ q) × (s ≡ t)
 same_piece text (Separator a) (Separator b) s t h k = let e = sym h.spelled ∙ k.spelled in (cc, cc)
 same_piece text (Separator a) (Item (Plain x y)) s t h k =
@@ -83,13 +83,39 @@ ReadsUpTo-piece text chars rest p tail r h =
     ReadsUpTo-on text chars rest (meaning p) tail r
     (subst (λ (zs : List Character). ReadsUpTo rest zs tail) (append-nil (meaning p)) (piece rest p tail [] tail h (nothing tail)))
 
--- a reading goes on behind a shorter one
+-- a text that reads as characters reads as the first of them
+pub ReadsUpTo-part : (text : List ℕ) (all xs ys : List Character) (rest : List ℕ) → ReadsUpTo text all rest → all ≡ xs ++ ys
+    → (middle : List ℕ) × ReadsUpTo text xs middle
+ReadsUpTo-part text all [] ys rest h e = (text, nothing text)
+ReadsUpTo-part _ _ (x ∷ xs) ys _ (nothing rest) e = cc e
+ReadsUpTo-part _ _ (x ∷ xs) ys _ (piece text (Separator byte) tail chars rest b r) e =
+    let part = ReadsUpTo-part tail chars (x ∷ xs) ys rest r e in
+    (part.0, piece text (Separator byte) tail (x ∷ xs) part.0 b part.1)
+ReadsUpTo-part _ _ (x ∷ xs) ys _ (piece text (Item item) tail chars rest b r) e =
+    let same : item_meaning item ≡ x = cc in
+    let after : chars ≡ xs ++ ys = cc in
+    let part = ReadsUpTo-part tail chars xs ys rest r after in
+    let Of : Character → Type 0 = λ c. ReadsUpTo text (c ∷ xs) part.0 in
+    (part.0, subst Of same (piece text (Item item) tail xs part.0 b part.1))
+
+-- a text is read on from a place
+pub read_on : (text : List ℕ) (chars more : List Character) (place len : ℕ) → ReadsUpTo text chars (drop place text)
+    → ReadsUpTo (take (length text - place) (drop place text)) more (drop len (take (length text - place) (drop place text)))
+    → ReadsUpTo text (chars ++ more) (drop (place + len) text)
+read_on text chars more place len r h =
+    let rest : take (length text - place) (drop place text) ≡ drop place text = take_rest text place in
+    let Of : List ℕ → Type 0 = λ xs. ReadsUpTo xs more (drop len xs) in
+    let To : List ℕ → Type 0 = λ xs. ReadsUpTo text (chars ++ more) xs in
+    subst To (drop-drop len place text)
+    (ReadsUpTo-on text chars (drop place text) more (drop len (drop place text)) r (subst Of rest h))
+
+-- a reading goes on after a shorter one
 record GoesOn (xs : List Character) (rest : List ℕ) (ys : List Character) (last : List ℕ) : Type 0 where
   between : List Character
   reads : ReadsUpTo rest between last
   chars : ys ≡ xs ++ between
 
--- a reading up to where no piece begins goes on behind each other one
+-- a reading up to where no piece begins goes on after each other one
 goes_on : (text : List ℕ) (xs : List Character) (rest : List ℕ) (ys : List Character) (last : List ℕ) → ReadsUpTo text xs rest
     → ReadsUpTo text ys last → NoPieceBegins last → GoesOn xs rest ys last
 goes_on _ _ _ ys last (nothing rest) k n = record { between = ys; reads = k; chars = refl }
@@ -105,7 +131,7 @@ goes_on _ _ _ _ _ (piece text p s cs rest h r) (piece _ q t ds last k l) n =
     }
 
 -- nothing is read where no piece begins
-stays : (rest : List ℕ) (chars : List Character) (last : List ℕ) → ReadsUpTo rest chars last → NoPieceBegins rest
+pub stays : (rest : List ℕ) (chars : List Character) (last : List ℕ) → ReadsUpTo rest chars last → NoPieceBegins rest
     → (chars ≡ []) × (rest ≡ last)
 stays _ _ _ (nothing last) n = (refl, refl)
 stays _ _ _ (piece rest p tail cs last h r) n = absurd (n p tail h)
@@ -119,7 +145,7 @@ one_reading text xs rest ys last h k n m =
     (sym (on.chars ∙ ap (λ (us : List Character). xs ++ us) still.0 ∙ append-nil xs), still.1)
 
 -- what is left is no longer than the text
-ReadsUpTo-length : (text : List ℕ) (chars : List Character) (rest : List ℕ) → ReadsUpTo text chars rest → length rest ≤ length text
+pub ReadsUpTo-length : (text : List ℕ) (chars : List Character) (rest : List ℕ) → ReadsUpTo text chars rest → length rest ≤ length text
 ReadsUpTo-length _ _ _ (nothing rest) = omega arith
 ReadsUpTo-length _ _ _ (piece text p tail cs rest h r) =
     let le = ReadsUpTo-length tail cs rest r in
@@ -131,16 +157,6 @@ spelling-length : (p : Piece) → 0 < length (spelling p)
 spelling-length (Separator a) = omega arith
 spelling-length (Item (Plain x y)) = omega arith
 spelling-length (Item (Faulty x y v w)) = omega arith
-
--- a reading that can go on does not stop there
-pub not_so_far : (text : List ℕ) (xs : List Character) (rest : List ℕ) (ys : List Character) (last : List ℕ) (p : Piece) (tail : List ℕ)
-    → ReadsUpTo text xs rest → BeginsWith rest p tail → ReadsUpTo text ys last → NoPieceBegins last → length last < length rest
-not_so_far text xs rest ys last p tail h b k n =
-    let on = goes_on text (xs ++ meaning p) tail ys last (ReadsUpTo-piece text xs rest p tail h b) k n in
-    let le = ReadsUpTo-length tail on.between last on.reads in
-    let long = ap (λ (us : List ℕ). length us) b.spelled ∙ length-append (spelling p) tail in
-    let some = spelling-length p in
-    omega arith
 
 -- no piece begins at the end
 pub NoPieceBegins-nil : NoPieceBegins []
@@ -165,18 +181,18 @@ few_read text char len b =
     let means = ap (λ (xs : List Character). length xs) b.means in
     omega (arith, few, means, b.long)
 
--- a byte stands behind an item
+-- a byte stands after an item
 item_inside : (text tail : List ℕ) (p : Piece) (x : Character) → BeginsWith text p tail → meaning p ≡ x ∷ []
     → length (spelling p) < length text
 item_inside text tail (Separator a) x h e = cc e
 item_inside text tail (Item (Plain high low)) x h e =
     let long = ap (λ (us : List ℕ). length us) h.spelled in
-    let behind = some_length tail h.whole.0 in
-    omega (arith, long, behind)
+    let after = some_length tail h.whole.0 in
+    omega (arith, long, after)
 item_inside text tail (Item (Faulty high low fault_high fault_low)) x h e =
     let long = ap (λ (us : List ℕ). length us) h.spelled in
-    let behind = some_length tail h.whole.0 in
-    omega (arith, long, behind)
+    let after = some_length tail h.whole.0 in
+    omega (arith, long, after)
 
 pub char_inside : (text : List ℕ) (char : Option Character) (x : Character) (len : ℕ) → BeginsAs text char len → char ≡ Some x
     → (2 ≤ len) × (len < length text)
@@ -206,3 +222,14 @@ piece_read text chars new place char len within r b e =
           (subst (λ (zs : List Character). ReadsUpTo text zs b.tail) (ap (λ (zs : List Character). chars ++ zs) b.means ∙ sym e)
           (ReadsUpTo-piece text chars (drop place text) b.piece b.tail r h)),
     )
+
+-- a text has no more characters than bytes before its rest
+pub ReadsUpTo-few : (text : List ℕ) (chars : List Character) (rest : List ℕ) → ReadsUpTo text chars rest
+    → length chars + length rest ≤ length text
+ReadsUpTo-few _ _ _ (nothing rest) = omega arith
+ReadsUpTo-few _ _ _ (piece text p tail chars rest h r) =
+    let few = ReadsUpTo-few tail chars rest r in
+    let one = few_meant p in
+    let long = ap (λ (us : List ℕ). length us) h.spelled ∙ length-append (spelling p) tail in
+    let all = length-append (meaning p) chars in
+    omega (arith, few, one, long, all)

@@ -47,3 +47,8 @@ Appends-nothing (Some bytes) = sym (append-nil bytes)
 pub Keeps-same : (known : Option (List ℕ)) → Keeps known known
 Keeps-same None = tt
 Keeps-same (Some bytes) = refl
+
+-- to read nothing leaves the bytes
+pub Consumes-nothing : (known : Option (List ℕ)) → Consumes known known []
+Consumes-nothing None = tt
+Consumes-nothing (Some bytes) = refl

@@ -1,5 +1,5 @@
 -- What `hart answer` writes for what it reads (own profile).
-use Rattle.std.specs.Prelude.{◌≡◌, ℕ, ◌/◌, List, [], length, Option, None, Some}
+use Rattle.std.specs.Prelude.{◌≡◌, ℕ, List, [], Option, None, Some}
 use Rattle.hart_frame.specs.Character.{Character}
 use Rattle.hart_frame.specs.FrameParts.{FrameParts}
 use Rattle.hart_frame.specs.Frames.{AreFrames}
@@ -7,10 +7,9 @@ use Rattle.hart_frame.specs.declared.found.Found.{Found}
 use Rattle.hart_device.specs.Bench.{bench_process}
 use Rattle.hart_device.specs.Delivery.{answer_to}
 use Rattle.hart_device.specs.Device.{DeviceState}
-use Rattle.hart_cli.specs.declared.fault.CliFault.{CliFault}
-use Rattle.hart_cli.specs.declared.fault.CliFault.TheVariants.{BadHex, Memory}
 use Rattle.hart_cli.specs.ImageWord.{OutcomeWith, Outcomes}
-use Rattle.hart_cli.specs.Items.{IsBadHexAt, ReadsAs}
+use Rattle.hart_cli.specs.InputChars.{IsWholeTextFault}
+use Rattle.hart_cli.specs.Items.{ReadsAs}
 use Rattle.hart_cli.specs.MessageLine.{IsMessageLine}
 use Rattle.hart_cli.specs.WholeInput.{WholeOutcome}
 
@@ -31,15 +30,8 @@ pub record IsAnswer (device : DeviceState) (input text : List ℕ) : Type 0 wher
   pub reads : ReadsAs input delivery
   pub text_for : IsTextFor device delivery text
 
--- The only fault of an input that was read to its end is bad hex, at its place, or refused memory for half as many characters as it
--- has bytes.
-abbrev pub IsAnswerFault : List ℕ → CliFault → Type 0
-IsAnswerFault input (BadHex place) = (chars : List Character) × IsBadHexAt input chars place
-IsAnswerFault input (Memory none) = none.items ≡ length input / 2
-IsAnswerFault input _ = ⊥
-
--- A call of `answer` told the fault of its image, if it has one. Otherwise it wrote what its device answers to its whole input at `Ok`,
--- a prefix of it if a write failed, and nothing if it told the input's fault or if memory for the input or its characters
+-- A call of `answer` gave the fault of its image, if it has one. Otherwise it wrote what its device answers to its whole input at `Ok`,
+-- a prefix of it if a write failed, and nothing if it gave the input's fault or if memory for the input or its characters
 -- was refused.
 abbrev pub AnswerOutcome : Option (List ℕ) → Outcomes
-AnswerOutcome = OutcomeWith (λ device. WholeOutcome (IsAnswer device) IsAnswerFault)
+AnswerOutcome = OutcomeWith (λ device. WholeOutcome (IsAnswer device) IsWholeTextFault)

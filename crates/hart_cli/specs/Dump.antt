@@ -1,16 +1,17 @@
 -- What `hart dump` writes for what it reads (own profile).
-use Rattle.std.specs.Prelude.{◌≡◌, ◌⊎◌, ℕ, ◌/◌, List, length, Option, Some, None, Result, Ok, Err}
+use Rattle.std.specs.Prelude.{◌≡◌, ◌≤◌, ℕ, ◌+◌, List, ◌++◌, length, Option, Some, None, Result, Ok, Err, ⊤}
+use Rattle.std.specs.Io.KnownBytes.{Appends}
 use Rattle.hart_frame.specs.Character.{Character}
-use Rattle.hart_frame.specs.Frames.{AreFrames}
+use Rattle.hart_frame.specs.Frames.{AreFrames, IsUndecided}
 use Rattle.hart_frame.specs.declared.found.Found.{Found}
-use Rattle.hart_line.specs.declared.memory.NoRoom.{NoRoom}
 use Rattle.hart_cli.specs.declared.fault.CliFault.{CliFault}
-use Rattle.hart_cli.specs.declared.fault.CliFault.TheVariants.{BadHex, Memory, Read, TooLong, Write}
-use Rattle.hart_cli.specs.declared.input.InputEnd.{InputEnd}
+use Rattle.hart_cli.specs.declared.fault.CliFault.TheVariants.{BadHex, Read, TooLong, Write}
+use Rattle.hart_cli.specs.declared.input.InputEnd.TheVariants.{Ended}
 use Rattle.hart_cli.specs.DumpText.{dump_text}
-use Rattle.hart_cli.specs.Hearing.{Hears}
-use Rattle.hart_cli.specs.Input.{LacksInputRoom, Reads}
-use Rattle.hart_cli.specs.Stream.{FailsToWrite, Stream, WritesAll, WritesNothing}
+use Rattle.hart_cli.specs.Input.{CameTo, Ending, ReadsTo, most_at_once}
+use Rattle.hart_cli.specs.InputChars.{HasChars}
+use Rattle.hart_cli.specs.Items.{ReadsSoFarAs, ReadsUpTo, closed}
+use Rattle.hart_cli.specs.Stream.{FailsToWrite, Stream, WritesAll}
 
 -- The lines of some characters are those of the frames in them.
 pub record AreLines (chars : List Character) (lines : List ℕ) : Type 0 where
@@ -18,44 +19,90 @@ pub record AreLines (chars : List Character) (lines : List ℕ) : Type 0 where
   pub are_frames : AreFrames chars 0 frames
   pub text : lines ≡ dump_text frames
 
--- An input that came to its end in this way has this fault, if any, and these lines: those of its characters before the
--- fault.
-pub record IsDump (input : List ℕ) (end : InputEnd) (fault : Option CliFault) (lines : List ℕ) : Type 0 where
+-- An input that was read so far has this fault, if any, and these lines: those of its characters before the fault.
+pub record IsDump (input : List ℕ) (ending : Ending) (fault : Option CliFault) (lines : List ℕ) : Type 0 where
   pub chars : List Character
-  pub hears : Hears input end chars fault
+  pub has_chars : HasChars input ending chars fault
   pub are_lines : AreLines chars lines
 
--- One input was read and came to its end in some way, and it has this fault, if any, and these lines.
+-- At most so many bytes are read and not yet scanned: the beginning of an item, which is five bytes, what one read gives, and the
+-- space that an end stands for.
+abbrev pub most_ahead : ℕ
+most_ahead = 6 + most_at_once
+
+-- Bad hex is answered soon: from its place on, no more of the input was read than is ever read ahead.
+abbrev pub IsAnsweredSoon : List ℕ → Option CliFault → Type 0
+IsAnsweredSoon input (Some (BadHex place)) = length input ≤ place + most_ahead
+IsAnsweredSoon input _ = ⊤
+
+-- One input was read as far as was needed, and it has this fault, if any, and these lines.
 pub record HasDump (reader reader_after : Stream) (fault : Option CliFault) (lines : List ℕ) : Type 0 where
   pub input : List ℕ
-  pub end : InputEnd
-  pub reads : Reads reader reader_after input end
-  pub is_dump : IsDump input end fault lines
+  pub ending : Ending
+  pub reads : ReadsTo reader reader_after input ending
+  pub is_dump : IsDump input ending fault lines
+  pub soon : IsAnsweredSoon input fault
 
 -- The input has this fault, and all lines of its characters before that were written.
 abbrev pub DumpsUpTo : CliFault → Stream → Stream → Stream → Stream → Type 0
 DumpsUpTo fault reader reader_after writer writer_after =
     (lines : List ℕ) × HasDump reader reader_after (Some fault) lines × WritesAll writer writer_after lines
 
--- Room was refused: for an input, of which nothing was read then, or for half as many characters as an input has bytes, once it
--- was read.
-abbrev pub LacksRoomForInput : Stream → Stream → NoRoom → Type 0
-LacksRoomForInput reader reader_after none =
-    LacksInputRoom reader reader_after none
-    ⊎ ((input : List ℕ) × (end : InputEnd) × Reads reader reader_after input end × (none.items ≡ length input / 2))
+-- The text of an input that came to its end has a space after it, which makes its last item whole.
+abbrev pub ended_text : List ℕ → Ending → List ℕ
+ended_text input (CameTo Ended) = closed input
+ended_text input _ = input
 
--- A call of `dump` wrote all lines of its input at `Ok` and if it told the input's fault, a prefix of them if a write
--- failed, and nothing if memory for the input or its characters was refused.
+-- An input reads as these characters up to a rest that is no longer than what is ever read ahead.
+pub record AreScanned (input : List ℕ) (ending : Ending) (chars : List Character) : Type 0 where
+  pub rest : List ℕ
+  pub reads : ReadsUpTo (ended_text input ending) chars rest
+  pub few : length rest ≤ most_ahead
+
+-- The frames of some characters that are decided come first whatever is heard next, and nothing is decided in the characters after
+-- them.
+pub record AreDecided (chars : List Character) (frames : List Found) : Type 0 where
+  pub passed : List Character
+  pub rest : List Character
+  pub split : chars ≡ passed ++ rest
+  pub first : (more : List Character) (later : List Found) → AreFrames (chars ++ more) (length passed) later
+      → AreFrames (chars ++ more) 0 (frames ++ later)
+  pub undecided : IsUndecided rest
+
+-- Before the last read of an input the lines of all frames were written that were decided by then.
+pub record WroteBeforeLastRead (input : List ℕ) (writer writer_after : Stream) : Type 0 where
+  pub before : List ℕ
+  pub last : List ℕ
+  pub split : input ≡ before ++ last
+  pub few : length last ≤ most_at_once
+  pub chars : List Character
+  pub reads : ReadsSoFarAs before chars
+  pub frames : List Found
+  pub decided : AreDecided chars frames
+  pub more : List ℕ
+  pub written : Appends writer.bytes writer_after.bytes (dump_text frames ++ more)
+
+-- A write failed after a prefix of the lines of the characters that were scanned by then, short of their end. What was
+-- due before the last read had been written.
+pub record StopsWriting (reader reader_after writer writer_after : Stream) : Type 0 where
+  pub input : List ℕ
+  pub ending : Ending
+  pub reads : ReadsTo reader reader_after input ending
+  pub chars : List Character
+  pub scanned : AreScanned input ending chars
+  pub lines : List ℕ
+  pub are_lines : AreLines chars lines
+  pub fails : FailsToWrite writer writer_after lines
+  pub in_time : WroteBeforeLastRead input writer writer_after
+
+-- At `Ok` all lines of an input were written, at a fault of the input those of its characters before the fault, and after a failed
+-- write a prefix of the lines of what was scanned by then. There is no other fault, and so memory is never refused.
 abbrev pub DumpOutcome : Stream → Stream → Stream → Stream → Result (Unit {0}) CliFault → Type 0
 DumpOutcome reader reader_after writer writer_after (Ok done) =
     (lines : List ℕ) × HasDump reader reader_after None lines × WritesAll writer writer_after lines
-DumpOutcome reader reader_after writer writer_after (Err Write) =
-    (fault : Option CliFault) × (lines : List ℕ) × HasDump reader reader_after fault lines
-    × FailsToWrite writer writer_after lines
+DumpOutcome reader reader_after writer writer_after (Err Write) = StopsWriting reader reader_after writer writer_after
 DumpOutcome reader reader_after writer writer_after (Err Read) = DumpsUpTo Read reader reader_after writer writer_after
 DumpOutcome reader reader_after writer writer_after (Err TooLong) = DumpsUpTo TooLong reader reader_after writer writer_after
 DumpOutcome reader reader_after writer writer_after (Err (BadHex place)) =
     DumpsUpTo (BadHex place) reader reader_after writer writer_after
-DumpOutcome reader reader_after writer writer_after (Err (Memory none)) =
-    LacksRoomForInput reader reader_after none × WritesNothing writer writer_after
 DumpOutcome reader reader_after writer writer_after (Err _) = ⊥

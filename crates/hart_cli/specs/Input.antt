@@ -1,5 +1,5 @@
--- How an input was read, and how it came to its end (own profile).
-use Rattle.std.specs.Prelude.{◌≡◌, ◌≢◌, ℕ, ◌+◌, ◌≤◌, List, [], ◌++◌, length}
+-- What is read of an input, and how it comes to its end (own profile).
+use Rattle.std.specs.Prelude.{◌≡◌, ◌≢◌, ◌⊎◌, ℕ, ◌+◌, ◌≤◌, List, [], ◌++◌, length, Option, None, Some}
 use Rattle.std.specs.Io.KnownBytes.{Consumes, IsAtEnd}
 use Rattle.hart_line.specs.declared.memory.NoRoom.{NoRoom}
 use Rattle.hart_cli.specs.Stream.{Stream, count_after_failure}
@@ -12,28 +12,45 @@ use Rattle.hart_cli.specs.declared.input.InputEnd.TheVariants.{Ended, Failed, To
 abbrev pub input_limit : ℕ
 input_limit = 1048576
 
+-- One read gives at most so many bytes.
+abbrev pub most_at_once : ℕ
+most_at_once = 16384
+
 -- The bytes were taken from the reader, no others were lost, and no read failed.
 abbrev pub ReadsWell : Stream → Stream → List ℕ → Type 0
 ReadsWell old new bytes = Consumes old.bytes new.bytes bytes × (new.failures ≡ old.failures)
 
--- Little more than the limit is ever read: at most so many bytes beyond it.
-abbrev pub most_beyond : ℕ
-most_beyond = 4096
+-- A read failed after these bytes were taken from the reader.
+abbrev pub ReadFails : Stream → Stream → List ℕ → Type 0
+ReadFails old new bytes = Consumes old.bytes new.bytes bytes × (new.failures ≡ count_after_failure old.failures)
+
+-- More bytes than these were taken from the reader: at least one, and no more than one read gives.
+pub record ReadsBeyond (old new : Stream) (bytes : List ℕ) : Type 0 where
+  pub beyond : List ℕ
+  pub read : ReadsWell old new (bytes ++ beyond)
+  pub more : beyond ≢ []
+  pub soon : length beyond ≤ most_at_once
 
 -- More bytes than the limit were taken: the text is those within it, and a few others were taken with them.
-pub record ReadsPastLimit (old new : Stream) (text : List ℕ) : Type 0 where
-  pub beyond : List ℕ
-  pub read : ReadsWell old new (text ++ beyond)
-  pub full : length text ≡ input_limit
-  pub more : beyond ≢ []
-  pub soon : length beyond ≤ most_beyond
+abbrev pub ReadsPastLimit : Stream → Stream → List ℕ → Type 0
+ReadsPastLimit old new text = ReadsBeyond old new text × (length text ≡ input_limit)
 
 -- An input gave this text before it ended, before a read failed, or before it went past the limit.
 abbrev pub Reads : Stream → Stream → List ℕ → InputEnd → Type 0
 Reads old new text Ended = ReadsWell old new text × IsAtEnd new.bytes × (length text ≤ input_limit)
-Reads old new text Failed =
-    Consumes old.bytes new.bytes text × (length text ≤ input_limit) × (new.failures ≡ count_after_failure old.failures)
+Reads old new text Failed = ReadFails old new text × (length text ≤ input_limit)
 Reads old new text TooLong = ReadsPastLimit old new text
+
+-- A call reads an input to its end, or leaves it before.
+pub data Ending : Type 0 where
+  Left : Ending
+  CameTo : (end : InputEnd) → Ending
+
+-- An input gave this text before it came to its end. One that the call left may have had more to read, and bytes past the limit
+-- may have been read with the last of the text.
+abbrev pub ReadsTo : Stream → Stream → List ℕ → Ending → Type 0
+ReadsTo old new text Left = (ReadsWell old new text × (length text ≤ input_limit)) ⊎ ReadsPastLimit old new text
+ReadsTo old new text (CameTo end) = Reads old new text end
 
 -- An input has room for as many bytes as it may have, and for one that makes its last item whole.
 abbrev pub input_room : ℕ
@@ -49,3 +66,17 @@ IsReadingFault old new faults.Read = (text : List ℕ) × Reads old new text Fai
 IsReadingFault old new faults.TooLong = (text : List ℕ) × Reads old new text TooLong
 IsReadingFault old new (faults.Memory none) = LacksInputRoom old new none
 IsReadingFault old new _ = ⊥
+
+-- For private calls alone: what one read gives of an input.
+
+-- The input came to this end, or was left.
+abbrev pub ending_of : Option InputEnd → Ending
+ending_of None = Left
+ending_of (Some end) = CameTo end
+
+-- With so much room left within the limit, one read gave these bytes of it, and the input came to its end with them, or may go on.
+abbrev pub ReadsPortion : Stream → Stream → List ℕ → ℕ → Option InputEnd → Type 0
+ReadsPortion old new bytes room None = ReadsWell old new bytes × (bytes ≢ []) × (length bytes ≤ room)
+ReadsPortion old new bytes room (Some Ended) = ReadsWell old new bytes × IsAtEnd new.bytes × (bytes ≡ [])
+ReadsPortion old new bytes room (Some Failed) = ReadFails old new bytes × (bytes ≡ [])
+ReadsPortion old new bytes room (Some TooLong) = ReadsBeyond old new bytes × (length bytes ≡ room)

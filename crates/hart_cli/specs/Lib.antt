@@ -3,7 +3,7 @@ pub mod Plain
 pub mod Input
 pub mod WholeInput
 pub mod Items
-pub mod Hearing
+pub mod InputChars
 pub mod HexText
 pub mod MessageLine
 pub mod MessageWords
@@ -12,6 +12,7 @@ pub mod Answer
 pub mod Line
 pub mod DumpText
 pub mod Dump
+pub mod FrameLines
 pub mod Encode
 pub mod SimText
 pub mod Sim

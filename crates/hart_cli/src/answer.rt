@@ -2,14 +2,15 @@
 ghost use Rattle.std.specs.Prelude.{◌≡◌, ℕ, List, [], MatchOption};
 ghost use Rattle.std.specs.Option.{option_map};
 ghost use Rattle.hart_device.specs.Device.{DeviceState};
-ghost use Rattle.hart_cli.specs.Answer.{AnswerOutcome, IsAnswer, IsAnswerFault, IsTextFor};
+ghost use Rattle.hart_cli.specs.Answer.{AnswerOutcome, IsAnswer, IsTextFor};
+ghost use Rattle.hart_cli.specs.InputChars.{IsWholeTextFault};
 ghost use Rattle.hart_cli.specs.WholeInput.{WholeOutcome};
 
 use crate::fault::CliFault;
 use crate::hex_text::HexLine;
 use crate::image_word::device_of;
 use crate::input::read_whole;
-use crate::items::{hear, one_hearing};
+use crate::items::{inputs_are_unambiguous, read_chars};
 use crate::output::{message_line, write_all};
 use crate::stream::{Sink, Source};
 use hart_device::{Device, ImageRegisters, bench};
@@ -48,7 +49,7 @@ pub fn one_answer()
     // No-ops: their contracts are used below.
     bodies_are_unambiguous();
     frames_are_unambiguous();
-    one_hearing();
+    inputs_are_unambiguous();
 }
 
 /// Reads a delivery, and writes what a device answers to it.
@@ -58,17 +59,14 @@ fn answer_of<R: Source, W: Sink>(
     reader: &mut R,
     writer: &mut W,
 ) -> Result<(), CliFault>
-    ensures { WholeOutcome (IsAnswer device) IsAnswerFault
+    ensures { WholeOutcome (IsAnswer device) IsWholeTextFault
         (R.stream reader.old) (R.stream reader.new)
         (W.stream writer.old) (W.stream writer.new)
         result }
 {
     let input = read_whole(alloc, reader)?;
-    let delivery = hear(alloc, input)?;
-    if let Some(fault) = delivery.fault {
-        return Err(fault);
-    }
-    let Some(line) = answer_line(&mut device, &delivery.chars) else {
+    let delivery = read_chars(alloc, input)?;
+    let Some(line) = answer_line(&mut device, delivery.as_slice()) else {
         return Ok(());
     };
     write_all(writer, line.as_slice())?;

@@ -1,29 +1,44 @@
 //! `hart dump`: the frames of what was heard, a line each.
-ghost use Rattle.std.specs.Prelude.{◌≡◌, ℕ, List, Option};
-ghost use Rattle.hart_cli.specs.Dump.{AreLines, DumpOutcome, IsDump};
-ghost use Rattle.hart_cli.specs.Stream.{Writes};
+ghost use Rattle.std.specs.Prelude.{◌≡◌, ◌<◌, ◌≤◌, [], ℕ, List, Option, length};
+ghost use Rattle.hart_frame.specs.Scanner.{new_scan};
+ghost use Rattle.hart_cli.specs.Dump.{DumpOutcome, IsDump};
+ghost use Rattle.hart_cli.specs.FrameLines.{IsNextStep, ReadsAhead, ScansInput};
+ghost use Rattle.hart_cli.specs.Items.{NoPieceBegins};
+ghost use Rattle.hart_cli.specs.declared.dump.NextStep.TheVariants.{ReadOn};
+ghost use Rattle.hart_cli.specs.Input.{Ending, most_at_once};
 ghost use Rattle.hart_cli.specs.declared.fault.CliFault.{CliFault};
-ghost use Rattle.hart_cli.specs.declared.input.InputEnd.{InputEnd};
 
-use crate::dump_text::frame_line;
 use crate::fault::CliFault;
-use crate::input::read_input;
-use crate::items::{hear, one_hearing};
-use crate::output::write_all;
+use crate::frame_lines::FrameLines;
+use crate::input::{INPUT_LIMIT, InputEnd, PORTION_LEN, read_portion};
+use crate::items::{inputs_are_unambiguous, may_begin};
 use crate::stream::{Failed, Sink, Source};
-use hart_frame::{Char, every_list_has_frames, first_frame, frames_are_unambiguous};
+use hart_frame::{every_list_has_frames, frames_are_streamed, frames_are_unambiguous};
+use hart_values::ByteList;
 use std::alloc::Global;
 
-/// Reads what was heard on a line as hex items, and writes a line for each frame in it.
+/// The beginning of an item, after which no piece begins yet: at most five bytes.
+type Open = ByteList<OPEN_LEN>;
+
+const OPEN_LEN: usize = 5;
+
+/// What is read and not yet scanned: the beginning of an item, what one read gives, and the space that an end stands for.
+type Ahead = ByteList<AHEAD_LEN>;
+
+const AHEAD_LEN: usize = OPEN_LEN + PORTION_LEN + 1;
+
+/// Reads what was heard on a line as hex items, and writes a line for each frame in it, as soon as it is decided.
+///
+/// It reads a portion at a time, and before each read all lines are written of the frames that are decided by then, so that a
+/// line which never ends is dumped too. It takes no memory.
 ///
 /// # Errors
 ///
 /// The first fault of the input, in the order of its bytes: [`CliFault::Read`], [`CliFault::TooLong`] or
-/// [`CliFault::BadHex`]. The lines of the frames before it are written first, and if that fails the fault is
-/// [`CliFault::Write`], with a prefix of these lines written. [`CliFault::Memory`] if memory for the input or its characters
-/// is refused; nothing is written then.
+/// [`CliFault::BadHex`]. The lines of the frames before it are written first, and nothing is read after it. At the first write that
+/// fails the fault is [`CliFault::Write`], with a prefix of the lines of what was scanned by then written.
 pub fn dump<R: Source, W: Sink>(
-    alloc: Global,
+    _alloc: Global,
     reader: &mut R,
     writer: &mut W,
 ) -> Result<(), CliFault>
@@ -32,43 +47,118 @@ pub fn dump<R: Source, W: Sink>(
         (W.stream writer.old) (W.stream writer.new)
         result }
 {
-    let input = read_input(alloc, reader)?;
-    let heard = hear(alloc, input)?;
-    write_frames(&heard.chars, writer)?;
-    match heard.fault {
+    // No-ops: by these laws what the scanner gives are the frames of the characters.
+    every_list_has_frames();
+    frames_are_streamed();
+    let mut frames = FrameLines::new();
+    let fault = scan_input(reader, writer, &mut frames)?;
+    frames.finish(writer)?;
+    match fault {
         Some(fault) => Err(fault),
         None => Ok(()),
     }
 }
 
-/// An input that comes to its end in one way has one fault, or none, and one list of lines: what `dump` writes is determined
-/// by what it reads.
+/// An input that was read so far has one fault, or none, and one list of lines: what `dump` writes is determined by what it reads.
 pub fn one_dump()
-    ensures { (input : List ℕ) (end : InputEnd) (f g : Option CliFault) (xs ys : List ℕ)
-        → IsDump input end f xs → IsDump input end g ys → (f ≡ g) × (xs ≡ ys) }
+    ensures { (input : List ℕ) (ending : Ending) (f g : Option CliFault) (xs ys : List ℕ)
+        → IsDump input ending f xs → IsDump input ending g ys → (f ≡ g) × (xs ≡ ys) }
 {
     // No-ops: their contracts are used below.
     frames_are_unambiguous();
-    one_hearing();
+    inputs_are_unambiguous();
 }
 
-/// Writes a line for each frame of the characters.
+/// Reads an input up to its first fault, and scans its characters.
 ///
 /// # Errors
 ///
-/// `Failed` at the first write that fails. A prefix of the lines is written then.
-fn write_frames<W: Sink>(chars: &[Char], writer: &mut W) -> Result<(), Failed>
-    ensures { (lines : List ℕ) × AreLines chars.now lines
-        × Writes (W.stream writer.old) (W.stream writer.new) lines result }
+/// `Failed` at the first write that fails.
+fn scan_input<R: Source, W: Sink>(
+    reader: &mut R,
+    writer: &mut W,
+    frames: &mut FrameLines,
+) -> Result<Option<CliFault>, Failed>
+    requires scanner { frames.old.scanner ≡ new_scan }
+    requires lines { frames.old.lines ≡ [] }
+    ensures { ScansInput
+        (R.stream reader.old) (R.stream reader.new)
+        (W.stream writer.old) (W.stream writer.new)
+        frames.new result }
 {
-    // No-op: its contract says that there are lines of all frames, of which a prefix was written.
-    every_list_has_frames();
+    // No-op: its contract says how many characters the scanner was given.
+    frames_are_streamed();
+    let mut buffer = [0; PORTION_LEN];
+    let mut ahead = Ahead::new();
     let mut place = 0;
-    while let Some(found) = first_frame(chars, place) {
-        write_all(writer, frame_line(&found).as_slice())?;
-        place = found.stop;
+    loop {
+        frames.write(writer)?;
+        let room = INPUT_LIMIT - place - ahead.len();
+        let end = read_ahead(reader, &mut buffer, &mut ahead, room);
+        let scanned = frames.scan_text(ahead.as_slice(), writer)?;
+        place += scanned;
+        let rest = &ahead.as_slice()[scanned..];
+        match next_step(end, rest, place) {
+            NextStep::Stop(fault) => return Ok(fault),
+            NextStep::ReadOn => {
+                let open = Open::from_slice(rest).unwrap();
+                ahead.clear();
+                ahead.extend_from_slice(open.as_slice());
+            }
+        }
     }
-    Ok(())
+}
+
+/// What is done after what was read is scanned.
+#[derive(Clone, Copy)]
+enum NextStep {
+    /// More is read.
+    ReadOn,
+    /// No more is read, because the input came to its end, or to this fault.
+    Stop(Option<CliFault>),
+}
+
+/// The step after the characters before a place were scanned, with this rest read, and with the input at this end, if it came to
+/// one.
+fn next_step(end: Option<InputEnd>, rest: &[u8], place: usize) -> NextStep
+    requires { NoPieceBegins rest.now }
+    ensures step { IsNextStep end rest.now place result }
+    ensures short { result ≡ ReadOn → length rest.now ≤ 5 }
+{
+    let bad_hex = NextStep::Stop(Some(CliFault::BadHex { place }));
+    match end {
+        Some(InputEnd::Ended) if rest.is_empty() => NextStep::Stop(None),
+        Some(InputEnd::Ended) => bad_hex,
+        _ if !may_begin(rest) => bad_hex,
+        None => NextStep::ReadOn,
+        Some(InputEnd::Failed) => NextStep::Stop(Some(CliFault::Read)),
+        Some(InputEnd::TooLong) => NextStep::Stop(Some(CliFault::TooLong)),
+    }
+}
+
+/// Reads once, and adds to what is read ahead what is within the room that is left of the input's limit. Gives how the input came to
+/// its end with it, if it did.
+fn read_ahead<R: Source>(
+    reader: &mut R,
+    buffer: &mut [u8],
+    ahead: &mut Ahead,
+    room: usize,
+) -> Option<InputEnd>
+    requires short { length ahead.old ≤ 5 }
+    requires some { 0 < length buffer.old }
+    requires fits { length buffer.old ≤ most_at_once }
+    ensures reads { ReadsAhead
+        (R.stream reader.old) (R.stream reader.new)
+        ahead.old ahead.new room result }
+    ensures kept { length buffer.new ≡ length buffer.old }
+{
+    let portion = read_portion(reader, buffer, room);
+    ahead.extend_from_slice(&buffer[..portion.len]);
+    if portion.end == Some(InputEnd::Ended) {
+        // Its end makes the last item whole, as a space does.
+        ahead.push(b' ');
+    }
+    portion.end
 }
 
 #[cfg(test)]

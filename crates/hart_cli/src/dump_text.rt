@@ -1,31 +1,31 @@
 //! The line that `hart dump` writes for a frame.
 ghost use Rattle.std.specs.Prelude.{◌≡◌, ◌∷◌, [], ◌++◌, ◌+◌, ◌≤◌, length};
+ghost use Rattle.hart_frame.specs.View.{found_of};
 ghost use Rattle.hart_cli.specs.DumpText.{address_word, burst_word, device_digits, dump_line, kind_word, master_word};
 
 use crate::hex_text::push_hex;
-use crate::line::{Line, push_bytes, push_word};
-use hart_frame::{Found, FrameKind};
-use hart_values::{Address, MasterId, UniqueAddress};
+use crate::line::{push_bytes, push_word};
+use hart_frame::{FoundView, FrameKind};
+use hart_values::{Address, ByteList, MasterId, UniqueAddress};
 use itoa::Buffer;
 
-/// The line of a frame: its two places, then its parts, one space between two of them, and a line feed.
-pub fn frame_line(found: &Found) -> Line
-    ensures { result ≡ dump_line found.now }
+/// Adds the line of a frame: its two places, then its parts, one space between two of them, and a line feed.
+pub fn push_frame_line<const N: usize>(lines: &mut ByteList<N>, found: &FoundView<'_>)
+    requires { length lines.old + 583 ≤ N }
+    ensures { lines.new ≡ lines.old ++ dump_line (found_of found.now) }
 {
     let frame = &found.frame;
-    let mut line = Line::new();
-    push_word(&mut line, Buffer::new().format(found.start));
-    push_word(&mut line, Buffer::new().format(found.stop));
-    push_word(&mut line, kind_word(frame.kind()));
-    push_word(&mut line, master_word(frame.master()));
-    push_word(&mut line, burst_word(frame.burst()));
-    push_address(&mut line, frame.address());
-    push_bytes(&mut line, frame.expansion());
-    line.push(b' ');
-    push_word(&mut line, Buffer::new().format(frame.command()));
-    push_bytes(&mut line, frame.payload());
-    line.push(b'\n');
-    line
+    push_word(lines, Buffer::new().format(found.start));
+    push_word(lines, Buffer::new().format(found.stop));
+    push_word(lines, kind_word(frame.kind()));
+    push_word(lines, master_word(frame.master()));
+    push_word(lines, burst_word(frame.burst()));
+    push_address(lines, frame.address());
+    push_bytes(lines, frame.expansion());
+    lines.push(b' ');
+    push_word(lines, Buffer::new().format(frame.command()));
+    push_bytes(lines, frame.payload());
+    lines.push(b'\n');
 }
 
 /// The word of a frame's kind.
@@ -59,8 +59,8 @@ fn burst_word(burst: bool) -> &'static str
 }
 
 /// Adds the word of an address and the space after it.
-fn push_address(line: &mut Line, address: Address)
-    requires { length line.old + 11 ≤ 583 }
+fn push_address<const N: usize>(line: &mut ByteList<N>, address: Address)
+    requires { length line.old + 11 ≤ N }
     ensures word { line.new ≡ line.old ++ address_word address ++ 32 ∷ [] }
     ensures len { length line.new ≤ length line.old + 11 }
 {
@@ -80,8 +80,8 @@ fn push_address(line: &mut Line, address: Address)
 }
 
 /// Adds the ten digits of a device and the space after them.
-fn push_device(line: &mut Line, device: UniqueAddress)
-    requires { length line.old + 11 ≤ 583 }
+fn push_device<const N: usize>(line: &mut ByteList<N>, device: UniqueAddress)
+    requires { length line.old + 11 ≤ N }
     ensures word { line.new ≡ line.old ++ device_digits device ++ 32 ∷ [] }
     ensures len { length line.new ≤ length line.old + 11 }
 {

@@ -1,11 +1,11 @@
-//! Reading a whole input.
-ghost use Rattle.std.specs.Prelude.{◌≡◌, ◌<◌, [], IfErr, IfOk, OnErr, length};
-ghost use Rattle.hart_cli.specs.Input.{IsReadingFault, Reads, input_room};
+//! Reading an input, portion by portion or whole.
+ghost use Rattle.std.specs.Prelude.{◌≡◌, ◌<◌, ◌≤◌, [], IfErr, IfOk, length, take};
+ghost use Rattle.hart_cli.specs.Input.{IsReadingFault, Reads, ReadsPortion, input_room, most_at_once};
 ghost use Rattle.hart_cli.specs.declared.input.InputEnd.TheVariants.{Ended};
 
 use crate::fault::CliFault;
 use crate::stream::Source;
-use hart_line::{Filling, NoRoom};
+use hart_line::Filling;
 use std::alloc::Global;
 
 /// The most bytes that an input may have.
@@ -15,7 +15,7 @@ pub const INPUT_LIMIT: usize = 1_048_576;
 const INPUT_ROOM: usize = INPUT_LIMIT + 1;
 
 /// The most bytes that one read may give.
-const BUFFER_LEN: usize = 4096;
+pub const PORTION_LEN: usize = 16_384;
 
 /// How an input came to its end.
 #[derive(Clone, Copy, Debug, PartialEq, Eq)]
@@ -28,13 +28,13 @@ pub enum InputEnd {
     TooLong,
 }
 
-/// What was read of an input, and how it came to its end.
-#[derive(Debug, Drop)]
-pub struct Input {
-    /// The bytes within [`INPUT_LIMIT`].
-    pub text: Filling<u8>,
-    /// Why there are no more of them.
-    pub end: InputEnd,
+/// What one read gave: bytes at the beginning of its buffer, and how the input came to its end with them, if it did.
+#[derive(Clone, Copy, Debug, PartialEq, Eq)]
+pub struct Portion {
+    /// The number of bytes that are still within [`INPUT_LIMIT`].
+    pub len: usize,
+    /// Why there are no more of them, or `None` if there may be.
+    pub end: Option<InputEnd>,
 }
 
 /// Reads a whole input.
@@ -43,41 +43,19 @@ pub struct Input {
 ///
 /// [`CliFault::Read`] or [`CliFault::TooLong`], if that kept it from the end of the input; [`CliFault::Memory`] if the room for
 /// an input was refused, and nothing is read then.
-pub fn read_whole<R: Source>(alloc: Global, reader: &mut R) -> Result<Input, CliFault>
-    ensures ended { IfOk result (λ input. input.end ≡ Ended) }
-    ensures reads { IfOk result (λ input. Reads
+pub fn read_whole<R: Source>(alloc: Global, reader: &mut R) -> Result<Filling<u8>, CliFault>
+    ensures reads { IfOk result (λ text. Reads
         (R.stream reader.old) (R.stream reader.new)
-        input.text.items Ended) }
-    ensures spare { IfOk result (λ input. length input.text.items < input.text.room) }
+        text.items Ended) }
+    ensures spare { IfOk result (λ text. length text.items < text.room) }
     ensures fault { IfErr result (IsReadingFault (R.stream reader.old) (R.stream reader.new)) }
 {
-    let input = read_input(alloc, reader)?;
-    match input.end {
-        InputEnd::Ended => Ok(input),
+    let mut text = Filling::with_room(alloc, INPUT_ROOM)?;
+    match read_into(reader, &mut text) {
+        InputEnd::Ended => Ok(text),
         InputEnd::Failed => Err(CliFault::Read),
         InputEnd::TooLong => Err(CliFault::TooLong),
     }
-}
-
-/// Reads to the end, to the first read that fails, or to the limit, into room that is reserved before the first read.
-///
-/// A reader that never ends is left once it has given more than [`INPUT_LIMIT`] bytes. There is room for one byte after those
-/// that were read.
-///
-/// # Errors
-///
-/// [`NoRoom`] for an input. Nothing is read then.
-pub fn read_input<R: Source>(alloc: Global, reader: &mut R) -> Result<Input, NoRoom>
-    ensures reads { IfOk result (λ input. Reads
-        (R.stream reader.old) (R.stream reader.new)
-        input.text.items input.end) }
-    ensures spare { IfOk result (λ input. length input.text.items < input.text.room) }
-    ensures refused { IfErr result (λ none. none.items ≡ input_room) }
-    ensures unread { OnErr result (reader.new ≡ reader.old) }
-{
-    let mut text = Filling::with_room(alloc, INPUT_ROOM)?;
-    let end = read_into(reader, &mut text);
-    Ok(Input { text, end })
 }
 
 /// Reads an input into room for it.
@@ -88,19 +66,42 @@ fn read_into<R: Source>(reader: &mut R, text: &mut Filling<u8>) -> InputEnd
         text.new.items result }
     ensures room { text.new.room ≡ input_room }
 {
-    let mut buffer = [0; BUFFER_LEN];
+    let mut buffer = [0; PORTION_LEN];
     loop {
-        let Ok(given) = reader.read(&mut buffer) else {
-            return InputEnd::Failed;
-        };
-        if given == 0 {
-            return InputEnd::Ended;
+        let portion = read_portion(reader, &mut buffer, INPUT_LIMIT - text.len());
+        text.extend(&buffer[..portion.len]);
+        if let Some(end) = portion.end {
+            return end;
         }
-        let room = INPUT_LIMIT - text.len();
-        if given > room {
-            text.extend(&buffer[..room]);
-            return InputEnd::TooLong;
-        }
-        text.extend(&buffer[..given]);
+    }
+}
+
+/// Reads once, and says how much of that is within the room that is left of an input's limit.
+pub fn read_portion<R: Source>(reader: &mut R, buffer: &mut [u8], room: usize) -> Portion
+    requires some { 0 < length buffer.old }
+    requires fits { length buffer.old ≤ most_at_once }
+    ensures within { result.len ≤ length buffer.new }
+    ensures reads { ReadsPortion
+        (R.stream reader.old) (R.stream reader.new)
+        (take result.len buffer.new) room result.end }
+    ensures kept { length buffer.new ≡ length buffer.old }
+{
+    match reader.read(buffer) {
+        Err(_) => Portion {
+            len: 0,
+            end: Some(InputEnd::Failed),
+        },
+        Ok(0) => Portion {
+            len: 0,
+            end: Some(InputEnd::Ended),
+        },
+        Ok(given) if given > room => Portion {
+            len: room,
+            end: Some(InputEnd::TooLong),
+        },
+        Ok(given) => Portion {
+            len: given,
+            end: None,
+        },
     }
 }

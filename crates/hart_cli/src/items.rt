@@ -1,68 +1,50 @@
 //! The text of an input: hex items, and separators if there are any.
 ghost use Rattle.std.specs.Prelude.{◌≡◌, ◌↔◌, ◌<◌, ◌≤◌, ◌+◌, ◌*◌, ◌/◌, [], ℕ, List, drop, length, Option, IfErr, IfOk, IsTrue};
 ghost use Rattle.std.specs.Prelude.{MatchOption};
-ghost use Rattle.hart_frame.specs.Character.{Character};
-ghost use Rattle.hart_cli.specs.Hearing.{Hears};
-ghost use Rattle.hart_cli.specs.Items.{BeginsAs, IsSeparator, MayBegin, NoPieceBegins, ReadsUpTo};
+ghost use Rattle.hart_frame.specs.Character.{Character, faultless};
+ghost use Rattle.hart_cli.specs.Input.{Ending};
+ghost use Rattle.hart_cli.specs.InputChars.{HasChars, IsWholeTextFault};
+ghost use Rattle.hart_cli.specs.Items.{BeginsAs, IsSeparator, MayBegin, NoPieceBegins, ReadsAs, ReadsUpTo};
 ghost use Rattle.hart_cli.specs.declared.fault.CliFault.{CliFault};
-ghost use Rattle.hart_cli.specs.declared.input.InputEnd.{InputEnd};
 
 use crate::fault::CliFault;
-use crate::input::{Input, InputEnd};
 use hart_frame::Char;
-use hart_line::{Filling, NoRoom, leading_item};
+use hart_line::{Filling, leading_item};
+use hart_values::ByteList;
 use std::alloc::Global;
 
-/// What an input was heard as.
-#[derive(Debug, Drop)]
-pub struct Hearing {
-    /// The characters before the first fault of the input.
-    pub chars: Vec<Char>,
-    /// The first fault of the input, in the order of its bytes.
-    pub fault: Option<CliFault>,
-}
+/// The most faultless characters that are scanned at once.
+const RUN_LEN: usize = 8192;
 
-/// An input that came to its end in one way is heard as one list of characters, with one fault or none.
-pub fn one_hearing()
-    ensures { (text : List ℕ) (end : InputEnd) (xs ys : List Character) (f g : Option CliFault)
-        → Hears text end xs f → Hears text end ys g → (xs ≡ ys) × (f ≡ g) }
+/// The bytes of faultless characters.
+pub type Run = ByteList<RUN_LEN>;
+
+/// An input that was read so far has one list of characters before its fault, and one fault or none.
+pub fn inputs_are_unambiguous()
+    ensures { (text : List ℕ) (ending : Ending) (xs ys : List Character) (f g : Option CliFault)
+        → HasChars text ending xs f → HasChars text ending ys g → (xs ≡ ys) × (f ≡ g) }
 {}
 
-/// Hears an input: its characters up to the first fault, and that fault.
-///
-/// The fault is bad hex, with the place where the first thing begins that is neither a separator nor an item, or that of an
-/// input which was cut short, `Read` or `TooLong`, unless bad hex is decided before. Fault bits of a character are none.
+/// The characters of an input that was read to its end.
 ///
 /// # Errors
 ///
-/// [`NoRoom`] for half as many characters as it has bytes.
-pub fn hear(alloc: Global, input: Input) -> Result<Hearing, NoRoom>
-    requires spare { length input.text.items < input.text.room }
-    ensures heard { IfOk result (λ hearing.
-        Hears input.text.items input.end hearing.chars.items hearing.fault) }
-    ensures refused { IfErr result (λ none. none.items ≡ length input.text.items / 2) }
+/// [`CliFault::BadHex`] at the place of the first thing that is neither a separator nor an item; fault bits of a character are
+/// none. [`CliFault::Memory`] if room for half as many characters as it has bytes was refused.
+pub fn read_chars(alloc: Global, mut text: Filling<u8>) -> Result<Vec<Char>, CliFault>
+    requires spare { length text.items < text.room }
+    ensures chars { IfOk result (λ chars. ReadsAs text.items chars.items) }
+    ensures fault { IfErr result (IsWholeTextFault text.items) }
 {
-    let Input { mut text, end } = input;
     // An item has two bytes at least.
     let mut chars = Filling::with_room(alloc, text.len() / 2)?;
-    if end == InputEnd::Ended {
-        // Its end makes the last item whole, as a space does.
-        text.push(b' ');
+    // The end of an input makes its last item whole, as a space does.
+    text.push(b' ');
+    let place = read_pieces(text.as_slice(), &mut chars);
+    if place < text.len() {
+        return Err(CliFault::BadHex { place });
     }
-    let bytes = text.as_slice();
-    let place = read_pieces(bytes, &mut chars);
-    let rest = &bytes[place..];
-    let is_open = may_begin(rest);
-    let fault = match end {
-        InputEnd::Ended if rest.is_empty() => None,
-        InputEnd::Failed if is_open => Some(CliFault::Read),
-        InputEnd::TooLong if is_open => Some(CliFault::TooLong),
-        _ => Some(CliFault::BadHex { place }),
-    };
-    Ok(Hearing {
-        chars: chars.finish(),
-        fault,
-    })
+    Ok(chars.finish())
 }
 
 /// Reads a text up to the place where no piece begins, and gives that place. The last byte is no item's, so that there is room
@@ -84,15 +66,37 @@ fn read_pieces(text: &[u8], chars: &mut Filling<Char>) -> usize
     place
 }
 
+/// Reads pieces without fault bits that a text begins with into an empty run, and gives the place after them.
+pub fn read_run(text: &[u8], run: &mut Run) -> usize
+    requires { run.old ≡ [] }
+    ensures within { result ≤ length text.now }
+    ensures reads { ReadsUpTo text.now (faultless run.new) (drop result text.now) }
+    ensures few { length run.new ≤ result }
+{
+    let mut place = 0;
+    while let Some(lead) = leading_piece(&text[place..]) {
+        if let Some(char) = lead.char {
+            if !char.is_faultless() || run.len() == RUN_LEN {
+                return place;
+            }
+            run.push(char.byte());
+        }
+        place += lead.len;
+    }
+    place
+}
+
 /// What a piece means, and its length.
 #[derive(Drop)]
-struct Lead {
-    char: Option<Char>,
-    len: usize,
+pub struct Lead {
+    /// The character of an item; a separator has none.
+    pub char: Option<Char>,
+    /// The number of its bytes.
+    pub len: usize,
 }
 
 /// The piece that begins a text, or `None` if none does.
-fn leading_piece(text: &[u8]) -> Option<Lead>
+pub fn leading_piece(text: &[u8]) -> Option<Lead>
     ensures { MatchOption result (NoPieceBegins text.now) (λ lead. BeginsAs text.now lead.char lead.len) }
 {
     let first = text.first()?;
@@ -117,10 +121,11 @@ fn is_separator(byte: u8) -> bool
     matches!(byte, b' ' | b'\t' | b'\r' | b'\n')
 }
 
-/// Whether a piece begins a text once the right bytes follow it, if none does as it stands.
-fn may_begin(text: &[u8]) -> bool
+/// Whether a piece begins a text once the right bytes follow it, if none does as it stands. Such a text is short.
+pub fn may_begin(text: &[u8]) -> bool
     requires { NoPieceBegins text.now }
-    ensures { IsTrue result ↔ MayBegin text.now }
+    ensures may { IsTrue result ↔ MayBegin text.now }
+    ensures short { IsTrue result → length text.now ≤ 5 }
 {
     // Each beginning of an item becomes one if it is filled up from these bytes.
     let mut item = *b"00!02 ";

@@ -9,6 +9,7 @@ mod dump;
 mod dump_text;
 mod encode;
 mod fault;
+mod frame_lines;
 mod hex_text;
 mod image_word;
 mod input;

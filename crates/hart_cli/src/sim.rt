@@ -53,7 +53,7 @@ pub fn simulate<R: Source, W: Sink>(
 }
 
 /// With a device an input has one text at most and one fault at most, and never both, so that the text that `simulate` writes, or
-/// the fault of the script that it tells, is determined by its image and by what it reads.
+/// the fault of the script that it gives, is determined by its image and by what it reads.
 pub fn one_simulation()
     ensures one_text { (device : DeviceState) (input xs ys : List ℕ)
         → IsSimulation device input xs → IsSimulation device input ys → xs ≡ ys }
@@ -81,7 +81,7 @@ fn simulate_with<R: Source, W: Sink>(
         result }
 {
     let input = read_whole(alloc, reader)?;
-    let text = simulation(alloc, device, input.text.as_slice())?;
+    let text = simulation(alloc, device, input.as_slice())?;
     write_all(writer, text.as_slice())?;
     Ok(())
 }

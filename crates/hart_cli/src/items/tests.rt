@@ -69,35 +69,37 @@ const BROKEN_OFF: &[Case] = &[
     ("FF!40!40", &[(0xFF, 0x40)], Some(5)),
 ];
 
-/// What is heard of a text, and the fault.
-fn heard(alloc: Global, text: &str, end: InputEnd) -> Result<(Vec<Pair>, Option<CliFault>), Fail> {
+/// The characters of a text, the place at which no piece begins, and whether one begins there once the right bytes follow.
+fn read(alloc: Global, text: &str) -> Result<(Vec<Pair>, usize, bool), Fail> {
     let bytes = text.as_bytes();
-    let mut text = Filling::with_room(alloc, bytes.len() + 1).map_err(|_| "no room")?;
-    text.extend(bytes);
-    let hearing = hear(alloc, Input { text, end }).map_err(|_| "no room")?;
+    let mut chars = Filling::with_room(alloc, bytes.len()).map_err(|_| "no room")?;
+    let place = read_pieces(bytes, &mut chars);
+    let is_open = may_begin(&bytes[place..]);
     let mut pairs = Vec::new(alloc);
-    for char in hearing.chars.as_slice() {
+    for char in chars.finish().as_slice() {
         pairs.push((char.byte(), char.faults()))?;
     }
-    Ok((pairs, hearing.fault))
+    Ok((pairs, place, is_open))
 }
 
-/// How an input comes to its end, the fault that this is, and such inputs.
-const INPUTS: &[(InputEnd, Option<CliFault>, &[Case])] = &[
-    (InputEnd::Ended, None, ENDED),
-    (InputEnd::Failed, Some(CliFault::Read), BROKEN_OFF),
-    (InputEnd::TooLong, Some(CliFault::TooLong), BROKEN_OFF),
-];
+#[test]
+fn an_input_that_ended_is_read_up_to_bad_hex(rt: HostRuntime) -> Result<(), Fail> {
+    for (text, pairs, bad_hex) in ENDED {
+        let closed = format!(in rt.alloc(); "{text} ")?;
+        let (chars, place, _) = read(rt.alloc(), &closed)?;
+        assert_eq!(rt; chars.as_slice(), *pairs, "at {text}");
+        assert_eq!(rt; place, bad_hex.unwrap_or(closed.len()), "at {text}");
+    }
+    Ok(())
+}
 
 #[test]
-fn an_input_is_heard_up_to_its_first_fault(rt: HostRuntime) -> Result<(), Fail> {
-    for (end, end_fault, cases) in INPUTS {
-        for (text, pairs, place) in *cases {
-            let (chars, fault) = heard(rt.alloc(), text, *end)?;
-            assert_eq!(rt; chars.as_slice(), *pairs, "at {text}");
-            let bad_hex = place.map(|place| CliFault::BadHex { place });
-            assert_eq!(rt; fault, bad_hex.or(*end_fault), "at {text}");
-        }
+fn an_input_that_goes_on_is_read_up_to_what_is_open_or_bad(rt: HostRuntime) -> Result<(), Fail> {
+    for (text, pairs, bad_hex) in BROKEN_OFF {
+        let (chars, place, is_open) = read(rt.alloc(), text)?;
+        assert_eq!(rt; chars.as_slice(), *pairs, "at {text}");
+        assert_eq!(rt; is_open, bad_hex.is_none(), "at {text}");
+        assert_eq!(rt; bad_hex.unwrap_or(place), place, "at {text}");
     }
     Ok(())
 }

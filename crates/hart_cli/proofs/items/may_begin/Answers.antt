@@ -1,4 +1,4 @@
-use Rattle.std.proofs.Common.{◌≡◌, ◌≢◌, inl, inr, ℕ, zero, suc, ◌+◌, ◌*◌, ◌<◌, List, [], ◌∷◌, ◌++◌, length, drop, Option, Some, None}
+use Rattle.std.proofs.Common.{◌≡◌, ◌≢◌, inl, inr, ℕ, zero, suc, ◌+◌, ◌*◌, ◌<◌, ◌≤◌, List, [], ◌∷◌, ◌++◌, length, drop, Option, Some, None}
 use Rattle.std.proofs.Common.{Bool, true, false, is_some, IsTrue, MatchOption, refl, sym, ap, ◌∙◌, subst, arith}
 use Rattle.std.specs.Int.{bit_at}
 use Rattle.hart_frame.specs.Character.{AreFaultBits, IsFaultBit}
@@ -45,7 +45,7 @@ two_fits high low are =
     let small = high_is_small high low are in
     record { byte = omega arith; only = λ bit below set. sets_fault_bits high bit small below set }
 
--- a piece with a byte behind it stands at the front of a text already
+-- a piece with a byte after it begins a text already
 stands_already : (text more tail : List ℕ) (p : Piece) → BeginsWith (text ++ more) p tail → length (spelling p) < length text
     → NoPieceBegins text → ⊥
 stands_already [] more tail p h short n = absurd (omega arith)
@@ -69,7 +69,7 @@ stands_already (a ∷ b ∷ c ∷ d ∷ f ∷ z ∷ text) more tail (Item (Fault
     let e = h.spelled in
     n (Item (Faulty x y v w)) (z ∷ text) (record { valid = h.valid; spelled = cc; whole = (λ k. cc k, tt) })
 
--- a separator stands at the front of a text already
+-- a separator stands at the text' of a text already
 separator_stands : (a : ℕ) (text more tail : List ℕ) (x : ℕ) → BeginsWith ((a ∷ text) ++ more) (Separator x) tail
     → NoPieceBegins (a ∷ text) → ⊥
 separator_stands a text more tail x h n =
@@ -129,21 +129,27 @@ filled (a ∷ b ∷ c ∷ d ∷ f ∷ []) more tail (Item (Faulty x y v w)) n h 
 filled (a ∷ b ∷ c ∷ d ∷ f ∷ u ∷ text) more tail (Item (Faulty x y v w)) n h m =
     stands_already (a ∷ b ∷ c ∷ d ∷ f ∷ u ∷ text) more tail (Item (Faulty x y v w)) h (omega arith) n
 
--- a text longer than each piece and the byte behind it
-too_long : (text more tail : List ℕ) (p : Piece) → 6 < length text → BeginsWith (text ++ more) p tail → NoPieceBegins text → ⊥
-too_long text more tail (Separator x) long h n = stands_already text more tail (Separator x) h (omega arith) n
-too_long text more tail (Item (Plain x y)) long h n = stands_already text more tail (Item (Plain x y)) h (omega arith) n
-too_long text more tail (Item (Faulty x y v w)) long h n = stands_already text more tail (Item (Faulty x y v w)) h (omega arith) n
+-- a text with a byte behind each piece that could stand in it
+longer : (text more tail : List ℕ) (p : Piece) → 5 < length text → BeginsWith (text ++ more) p tail → NoPieceBegins text → ⊥
+longer text more tail (Separator x) long h n = stands_already text more tail (Separator x) h (omega arith) n
+longer text more tail (Item (Plain x y)) long h n = stands_already text more tail (Item (Plain x y)) h (omega arith) n
+longer text more tail (Item (Faulty x y v w)) long h n = stands_already text more tail (Item (Faulty x y v w)) h (omega arith) n
 
--- whether a piece was found tells whether one may begin
-tells : (text front : List ℕ) (found : Option Lead) (result : Bool) → result ≡ is_some found → front ≡ text → NoPieceBegins text
-    → MatchOption found (NoPieceBegins (front ++ filling text)) (λ lead. BeginsAs (front ++ filling text) lead.char lead.len)
+-- what may begin is short
+short : (text : List ℕ) → NoPieceBegins text → MayBegin text → length text ≤ 5
+short text n may =
+    let not_longer : 5 < length text → ⊥ = λ long. longer text may.more may.tail may.piece long may.begins n in
+    omega arith
+
+-- a piece was found if and only if one may begin
+found_if : (text text' : List ℕ) (found : Option Lead) (result : Bool) → result ≡ is_some found → text' ≡ text → NoPieceBegins text
+    → MatchOption found (NoPieceBegins (text' ++ filling text)) (λ lead. BeginsAs (text' ++ filling text) lead.char lead.len)
     → (IsTrue result → MayBegin text) × (MayBegin text → IsTrue result)
-tells text front None result e f n h = (
+found_if text text' None result e f n h = (
   λ t. let k : false ≡ true = sym e ∙ t in cc k,
   λ b. absurd (filled text b.more b.tail b.piece n b.begins (subst (λ (xs : List ℕ). NoPieceBegins (xs ++ filling text)) f h)),
 )
-tells text front (Some lead) result e f n h = (
+found_if text text' (Some lead) result e f n h = (
   λ t. record {
     more = filling text;
     piece = h.piece;
@@ -153,11 +159,15 @@ tells text front (Some lead) result e f n h = (
   λ b. e,
 )
 
-pub returns-then-text-gt6 : goal.returns-then-text-gt6
-returns-then-text-gt6 c = (
+pub returns-then-text-gt6-clause-may : goal.returns-then-text-gt6-clause-may
+returns-then-text-gt6-clause-may c = (
   λ t. cc t,
-  λ b. absurd (too_long _ b.more b.tail b.piece c.if-text-gt6.true b.begins c.requires),
+  λ b. absurd (longer _ b.more b.tail b.piece (omega (arith, c.if-text-gt6.true)) b.begins c.requires),
 )
 
-pub returns : goal.returns
-returns c = tells _ _ _ _ c.is_some.ensures c.copy_from_slice.ensures.after c.requires c.leading_piece.ensures
+pub returns-clause-may : goal.returns-clause-may
+returns-clause-may c = found_if _ _ _ _ c.is_some.ensures c.copy_from_slice.ensures.after c.requires c.leading_piece.ensures
+
+pub returns-clause-short : goal.returns-clause-short
+returns-clause-short c = λ is.
+    short _ c.requires ((found_if _ _ _ _ c.is_some.ensures c.copy_from_slice.ensures.after c.requires c.leading_piece.ensures).0 is)

@@ -1,0 +1,14 @@
+use Rattle.std.proofs.Common.{◌∙◌, arith}
+use Rattle.std.proofs.lemmas.List.{length-take-le}
+use Rattle.hart_cli.proofs.InputLemmas.{not_ended}
+use Rattle.hart_cli.proofs.dump.read_ahead.Goals as goal
+
+pub returns-else-eq-clause-reads : goal.returns-else-eq-clause-reads
+returns-else-eq-clause-reads g c = record {
+  bytes = _;
+  reads = c.read_portion-portion.ensures.reads;
+  few =
+      let portion = c.read_portion-portion.ensures in
+      omega (arith, length-take-le _ _ portion.within, portion.within, portion.kept, c.requires.fits);
+  added = c.extend_from_slice.ensures ∙ not_ended _ _ c.if-eq.ensures;
+}
