@@ -1,5 +1,6 @@
 -- Upper case hex, and one more byte in a line of it.
-use Rattle.std.proofs.Common.{◌≡◌, ℕ, zero, suc, ◌<◌, ◌≤◌, ◌+◌, ◌*◌, ◌/◌, ◌%◌, List, [], ◌∷◌, ◌++◌, length, take, map, get_or, refl, sym, ap}
+use Rattle.std.proofs.Common.{◌≡◌, ℕ, zero, suc, ◌<◌, ◌≤◌, ◌+◌, ◌*◌, ◌/◌, ◌%◌, List, [], ◌∷◌, ◌++◌, length, take, map, get_or, refl, sym}
+use Rattle.std.proofs.Common.{ap}
 use Rattle.std.proofs.Common.{ap₂, ◌∙◌, append_assoc, arith, length-append, slice_index}
 use Rattle.std.proofs.Math.ListN.{get_or-map}
 use Rattle.std.specs.Char.{to_ascii_uppercase}
@@ -35,7 +36,7 @@ hex_items-first [] line digits i d z h e f = absurd (omega arith)
 hex_items-first (x ∷ xs) line digits zero d z h e f = rw (e, f) refl
 hex_items-first (x ∷ xs) line digits (suc i) d z h e f = absurd (omega arith)
 
--- a further byte, behind a space
+-- a further byte, after a space
 pub hex_items-more : (bytes line digits : List ℕ) (i d : ℕ) → 0 < i → i < length bytes → line ≡ hex_items (take i bytes) ++ 32 ∷ []
     → digits ≡ encode_upper (get_or bytes i d ∷ []) → line ++ digits ≡ hex_items (take (i + 1) bytes)
 hex_items-more [] line digits i d z h e f = absurd (omega arith)
@@ -65,9 +66,9 @@ pub encode_upper-chunk : (whole line line' digits back rest chunk rest' : List �
     → rest ≡ chunk ++ rest' → digits ≡ encode_upper chunk → line' ≡ line ++ take (2 * length chunk) (digits ++ back)
     → line' ++ encode_upper rest' ≡ whole
 encode_upper-chunk whole line line' digits back rest chunk rest' so_far parts is_digits is_line =
-    let front : take (2 * length chunk) (digits ++ back) ≡ encode_upper chunk =
+    let first : take (2 * length chunk) (digits ++ back) ≡ encode_upper chunk =
     rw is_digits (take_at (encode_upper chunk) back _ (length-encode_with upper_digits chunk)) in
-    ap (λ (xs : List ℕ). xs ++ encode_upper rest') (is_line ∙ ap (λ (xs : List ℕ). line ++ xs) front)
+    ap (λ (xs : List ℕ). xs ++ encode_upper rest') (is_line ∙ ap (λ (xs : List ℕ). line ++ xs) first)
     ∙ append_assoc line (encode_upper chunk) (encode_upper rest')
     ∙ ap (λ (xs : List ℕ). line ++ xs) (sym (encode_upper-append chunk rest') ∙ ap (λ (xs : List ℕ). encode_upper xs) (sym parts))
     ∙ so_far

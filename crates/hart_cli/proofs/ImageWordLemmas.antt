@@ -75,19 +75,19 @@ half_sized word =
       | inr even ↦ decode_sized-twice word (length word / 2) (omega (arith, even))
     ]
 
--- the place that an error tells
+-- the place that an error gives
 abbrev pub place_of : List ℕ → FromHexError → ℕ
 place_of word (InvalidHexCharacter c index) = index
 place_of word _ = length word
 
--- a word whose decoding tells its first byte that is no digit is bad hex there
+-- a word whose decoding gives its first byte that is no digit is bad hex there
 bad_at : (word : List ℕ) (e : FromHexError) (k : ℕ) → e ≡ InvalidHexCharacter (slice_index word k) (0 + k) → length word % 2 ≡ 0
     → k < length word → is_hex_digit (slice_index word k) ≡ false → AllPass is_hex_digit (take k word)
     → IsBadHexWord word (place_of word e)
-bad_at word e k told even below none digits =
+bad_at word e k given even below none digits =
     let same : 0 + k ≡ k = omega arith in
     let at = subst (λ n. IsBadHexWord word n) (sym same) (IsBadHexWord.no_digit k even below none digits) in
-    subst (λ (f : FromHexError). IsBadHexWord word (place_of word f)) (sym told) at
+    subst (λ (f : FromHexError). IsBadHexWord word (place_of word f)) (sym given) at
 
 -- a word that does not decode is bad hex
 bad_hex : (word : List ℕ) (e : FromHexError) → decode_of word ≡ Err e → IsBadHexWord word (place_of word e)
@@ -106,26 +106,26 @@ bad_hex word e refused =
 -- what decoding into that room answers
 refused_is : (decoded : Result (List ℕ) FromHexError) (r : Result Unit FromHexError) (out : List ℕ) (e : FromHexError)
     → MatchResult decoded (λ bytes. (r ≡ Ok tt) × (out ≡ bytes)) (λ f. r ≡ Err f) → r ≡ Err e → decoded ≡ Err e
-refused_is (Ok bytes) r out e told is = cc (told.0, is)
-refused_is (Err f) r out e told is =
-    let same : f ≡ e = cc (told, is) in
+refused_is (Ok bytes) r out e given is = cc (given.0, is)
+refused_is (Err f) r out e given is =
+    let same : f ≡ e = cc (given, is) in
     ap (λ (g : FromHexError). Err g) same
 
 -- so is a word whose decoding into that room fails
-pub bad_hex_told : (word : List ℕ) (room : ℕ) (r : Result Unit FromHexError) (out : List ℕ) (e : FromHexError) → room ≡ length word / 2
+pub bad_hex_given : (word : List ℕ) (room : ℕ) (r : Result Unit FromHexError) (out : List ℕ) (e : FromHexError) → room ≡ length word / 2
     → MatchResult (decode_sized word room) (λ bytes. (r ≡ Ok tt) × (out ≡ bytes)) (λ f. r ≡ Err f) → r ≡ Err e
     → IsBadHexWord word (place_of word e)
-bad_hex_told word room r out e half told is =
+bad_hex_given word room r out e half given is =
     let sized : decode_sized word room ≡ decode_of word = rw half (half_sized word) in
-    bad_hex word e (sym sized ∙ refused_is (decode_sized word room) r out e told is)
+    bad_hex word e (sym sized ∙ refused_is (decode_sized word room) r out e given is)
 
 -- and decoding into that room fails in these two ways alone
 pub fails_no_other_way : (word : List ℕ) (room : ℕ) (r : Result Unit FromHexError) (out : List ℕ) (e : FromHexError)
     → room ≡ length word / 2 → MatchResult (decode_sized word room) (λ bytes. (r ≡ Ok tt) × (out ≡ bytes)) (λ f. r ≡ Err f) → r ≡ Err e
     → e ≢ OddLength → ((c index : ℕ) → e ≢ InvalidHexCharacter c index) → ⊥
-fails_no_other_way word room r out e half told is even digits =
+fails_no_other_way word room r out e half given is even digits =
     let sized : decode_sized word room ≡ decode_of word = rw half (half_sized word) in
-    elim (decode_of-err word e (sym sized ∙ refused_is (decode_sized word room) r out e told is)) [
+    elim (decode_of-err word e (sym sized ∙ refused_is (decode_sized word room) r out e given is)) [
       | inl err ↦ even err.1
       | inr err ↦ digits _ _ err.1
     ]

@@ -1,5 +1,6 @@
 -- The text of `hart sim`: how it grows, and that an input has one at most.
-use Rattle.std.proofs.Common.{◌≡◌, ℕ, ◌+◌, ◌<◌, List, [], ◌∷◌, ◌++◌, length, take, drop, get_or, min, inl, inr, refl, sym, ap, ap₂, ◌∙◌, subst, arith}
+use Rattle.std.proofs.Common.{◌≡◌, ℕ, ◌+◌, ◌<◌, List, [], ◌∷◌, ◌++◌, length, take, drop, get_or, min, inl, inr, refl, sym, ap, ap₂, ◌∙◌}
+use Rattle.std.proofs.Common.{subst, arith}
 use Rattle.std.proofs.Common.{Err, ◌≤◌, add-zero, length-append, length-take}
 use Rattle.std.proofs.lemmas.Grind.{flat_map-append}
 use Rattle.std.proofs.lemmas.List.{flat_map_more, take-append-drop, take_more}
@@ -97,14 +98,14 @@ IsSimulation-run first input text start read events device outcomes spoken same 
     let world = last.0 in
     let Leads : List LineEvent → Type 0 = λ es. IsLast start es world in
     let Begins : Start → Type 0 = λ s. IsLast s read world in
-    let told = ap₂ (λ (os : List Outcome) (d : DeviceState). sim_text spoken os d) (results world last.1)
+    let given = ap₂ (λ (os : List Outcome) (d : DeviceState). sim_text spoken os d) (results world last.1)
     (devices world last.1 ∙ ap (λ (s : Start). state_of s.device world) same) in
     record {
       events = read;
       script = script;
       world = world;
       last = subst Begins same (subst Leads same_events last.1);
-      world_text = record { spoken = spoken; are_spoken = messages world last.1; tells = text_is ∙ told };
+      world_text = record { spoken = spoken; are_spoken = messages world last.1; gives = text_is ∙ given };
     }
 
 -- the fault of a script that was not carried out
@@ -161,7 +162,7 @@ IsWorldText-one : OneBody → (start : Start) (world : World) (xs ys : List ℕ)
     → xs ≡ ys
 IsWorldText-one bodies start world xs ys p q =
     let spoken = AreSpoken-one bodies world.spoken p.spoken q.spoken p.are_spoken q.are_spoken in
-    p.tells ∙ ap (λ (messages : List Spoken). sim_text messages world.outcomes (state_of start.device world)) spoken ∙ sym q.tells
+    p.gives ∙ ap (λ (messages : List Spoken). sim_text messages world.outcomes (state_of start.device world)) spoken ∙ sym q.gives
 
 -- an input has one text
 pub IsSimulation-one : OneScript → OneLastWorld → OneBody → (device : DeviceState) (input xs ys : List ℕ)

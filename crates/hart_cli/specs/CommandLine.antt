@@ -12,7 +12,7 @@ use Rattle.hart_cli.specs.declared.program.command_line.Call.TheVariants.{Answer
 abbrev pub required_rule : Text → Rule
 required_rule id = record (new_rule id) { required = true }
 
--- The number of preamble bytes is told by `--preambles`, lies between 5 and 20, and is 5 if it is not told.
+-- The number of preamble bytes is given by `--preambles`, lies between 5 and 20, and is 5 if it is not given.
 abbrev pub preambles_rule : Rule
 preambles_rule = record (new_rule (codes "preambles")) {
   long = Some (codes "preambles");
@@ -21,7 +21,7 @@ preambles_rule = record (new_rule (codes "preambles")) {
   parser = Some (Signed (pos 5) (pos 20));
 }
 
--- The image is told by `--image`.
+-- The image is given by `--image`.
 abbrev pub image_rule : Rule
 image_rule = record (new_rule (codes "image")) { long = Some (codes "image"); value_names = 1 }
 

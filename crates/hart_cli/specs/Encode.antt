@@ -37,7 +37,7 @@ pub data IsFirstBad (words : MessageWords) : ℕ → Type 0 where
       → IsAddressWord words.address address → IsCommandWord words.command command → HasNoValue (IsDataWord words.payload)
       → IsFirstBad words 4
 
--- A call of `encode_text` wrote the text of its words at `Ok`, a prefix of it if a write failed, and nothing if it told
+-- A call of `encode_text` wrote the text of its words at `Ok`, a prefix of it if a write failed, and nothing if it gave
 -- the first bad word.
 abbrev pub EncodeOutcome : MessageWords → Stream → Stream → Result (Unit {0}) CliFault → Type 0
 EncodeOutcome words writer writer_after (Ok done) =
@@ -50,7 +50,7 @@ EncodeOutcome words writer writer_after (Err _) = ⊥
 
 -- For private calls alone: what reading the words answers.
 
--- Reading the words gives the frame that they ask for, or tells the first bad one.
+-- Reading the words gives the frame that they ask for, or says which is the first bad one.
 abbrev pub RequestOutcome : MessageWords → Result FrameParts CliFault → Type 0
 RequestOutcome words (Ok frame) = IsRequestOf words frame
 RequestOutcome words (Err (BadWord number)) = IsFirstBad words number

@@ -46,7 +46,7 @@ abbrev pub fault_line : CliFault → List ℕ
 fault_line fault = fault_text fault ++ 10 ∷ []
 
 -- A script's fault becomes the fault of the call: refused memory stays refused memory, and undetected damage and a bad line are
--- told as they are.
+-- reported as they are.
 abbrev pub call_fault : LineFault → CliFault
 call_fault (line_faults.Memory none) = Memory none
 call_fault (line_faults.Undetected event leg) = Line (line_faults.Undetected event leg)

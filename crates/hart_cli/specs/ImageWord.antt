@@ -49,12 +49,12 @@ HasNoDevice image fault = HasImageFault image fault ⊎ LacksImageRoom image fau
 abbrev pub Outcomes : Type 1
 Outcomes = Stream → Stream → Stream → Stream → Result (Unit {0}) CliFault → Type 0
 
--- A call told why it has no device, and left the reader and the writer as they were.
+-- A call gave the reason why it has no device, and left the reader and the writer as they were.
 pub record ToldOfImage (image : Option (List ℕ)) (reader reader_after writer writer_after : Stream)
     (result : Result (Unit {0}) CliFault) : Type 0 where
   pub fault : CliFault
   pub no_device : HasNoDevice image fault
-  pub told : result ≡ Err fault
+  pub given : result ≡ Err fault
   pub unread : reader_after ≡ reader
   pub unwritten : writer_after ≡ writer
 
@@ -64,7 +64,7 @@ pub record WentOn (image : Option (List ℕ)) (Did : DeviceState → Type 0) : T
   pub is_device : IsDeviceOf image device
   pub did : Did device
 
--- A call told the fault of its image and touched neither the reader nor the writer; otherwise it had an outcome that is one of its
+-- A call gave the fault of its image and touched neither the reader nor the writer; otherwise it had an outcome that is one of its
 -- device.
 abbrev pub OutcomeWith : (DeviceState → Outcomes) → Option (List ℕ) → Outcomes
 OutcomeWith Outcome image reader reader_after writer writer_after result =

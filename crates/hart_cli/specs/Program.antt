@@ -28,11 +28,11 @@ abbrev pub status_of : Result (Unit {0}) CliFault → ℕ
 status_of (Ok done) = 0
 status_of (Err fault) = 1
 
--- The program made the call that the words make, ended with the status of its result, and told its fault, if any.
+-- The program made the call that the words make, ended with the status of its result, and reported its fault, if any.
 pub record Ran (words : List Text) (reader reader_after writer writer_after errors errors_after : Stream) (status : ℕ) : Type 0 where
   pub call : Call
   pub calls : Calls call words
   pub result : Result (Unit {0}) CliFault
   pub outcome : CallOutcome call reader reader_after writer writer_after result
   pub ends : status ≡ status_of result
-  pub tells : IfErr result (λ fault. WritesUnlessFailed errors errors_after (fault_line fault))
+  pub reports : IfErr result (λ fault. WritesUnlessFailed errors errors_after (fault_line fault))

@@ -27,12 +27,12 @@ start_with device = record {
   retries = record { primary = 3; secondary = 3 };
 }
 
--- The text of a world tells the messages that were spoken, what became of each submission, and the counter and the image of the
+-- The text of a world gives the messages that were spoken, what became of each submission, and the counter and the image of the
 -- device as it is then.
 pub record IsWorldText (start : Start) (world : World) (text : List ℕ) : Type 0 where
   pub spoken : List Spoken
   pub are_spoken : AreSpoken world.spoken spoken
-  pub tells : text ≡ sim_text spoken world.outcomes (state_of start.device world)
+  pub gives : text ≡ sim_text spoken world.outcomes (state_of start.device world)
 
 -- The text for an input is the text of the last world of its script.
 pub record IsSimulation (device : DeviceState) (input text : List ℕ) : Type 0 where
@@ -73,8 +73,8 @@ IsSimulationFault device input (Line fault) = HasLineFault device input fault
 IsSimulationFault device input (Memory none) = IsNeededForSimulation device input none.items
 IsSimulationFault device input _ = ⊥
 
--- A call of `simulate` told the fault of its image, if it has one. Otherwise it wrote the text for its whole input at `Ok`, a prefix of
+-- A call of `simulate` gave the fault of its image, if it has one. Otherwise it wrote the text for its whole input at `Ok`, a prefix of
 -- it if a write failed, and nothing if a read failed, if the input was too long or had a fault of its lines or events, or
--- if memory was refused; it tells no other fault.
+-- if memory was refused; it gives no other fault.
 abbrev pub SimOutcome : Option (List ℕ) → Outcomes
 SimOutcome = OutcomeWith (λ device. WholeOutcome (IsSimulation device) (IsSimulationFault device))

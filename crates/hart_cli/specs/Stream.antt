@@ -7,7 +7,7 @@ use Rattle.hart_cli.specs.declared.stream.Failed.{Failed}
 abbrev pub count_after_failure : ℕ → ℕ
 count_after_failure count = min (count + 1) (2 ^ 64 - 1)
 
--- A reader or a writer is, to contracts, the bytes left to read or written so far, if they are told, and how often it
+-- A reader or a writer is, to contracts, the bytes left to read or written so far, if they are known, and how often it
 -- has failed.
 pub record Stream : Type 0 where
   pub bytes : Option (List ℕ)
@@ -19,12 +19,12 @@ CountsFailure old new result =
     MatchResult result (λ _. new.failures ≡ old.failures) (λ _. new.failures ≡ count_after_failure old.failures)
 
 -- A prefix of the text, short of its end, was written, and nothing else.
-pub record WritesFront (old new : Option (List ℕ)) (text : List ℕ) : Type 0 where
-  pub front : List ℕ
-  pub back : List ℕ
-  pub split : text ≡ front ++ back
-  pub short : back ≢ []
-  pub written : Appends old new front
+pub record WritesPrefix (old new : Option (List ℕ)) (text : List ℕ) : Type 0 where
+  pub prefix : List ℕ
+  pub rest : List ℕ
+  pub split : text ≡ prefix ++ rest
+  pub short : rest ≢ []
+  pub written : Appends old new prefix
 
 -- The whole text was written, and no write failed.
 abbrev pub WritesAll : Stream → Stream → List ℕ → Type 0
@@ -32,7 +32,7 @@ WritesAll old new text = Appends old.bytes new.bytes text × (new.failures ≡ o
 
 -- A write failed, and a prefix of the text, short of its end, was written before.
 abbrev pub FailsToWrite : Stream → Stream → List ℕ → Type 0
-FailsToWrite old new text = WritesFront old.bytes new.bytes text × (new.failures ≡ count_after_failure old.failures)
+FailsToWrite old new text = WritesPrefix old.bytes new.bytes text × (new.failures ≡ count_after_failure old.failures)
 
 -- At `Ok` the whole text was written, and otherwise a write failed after a prefix of it.
 abbrev pub Writes : {T E : Type 0} → Stream → Stream → List ℕ → Result T E → Type 0

@@ -13,7 +13,7 @@ pub record WholeInput (reader reader_after : Stream) (Holds : List ℕ → Type 
   pub holds : Holds input
 
 -- A call wrote the text for its whole input at `Ok`, a prefix of it if a write failed, and nothing if a read failed, if
--- the input was too long or has the fault that is told, or if room for the input was refused.
+-- the input was too long or has the fault that is given, or if room for the input was refused.
 abbrev pub WholeOutcome : (List ℕ → List ℕ → Type 0) → (List ℕ → CliFault → Type 0) → Stream → Stream → Stream → Stream
     → Result (Unit {0}) CliFault → Type 0
 WholeOutcome IsText HasFault reader reader_after writer writer_after (Ok done) =

@@ -41,13 +41,13 @@ pub enum CliFault {
     BadWord { number: u8 },
 }
 
-/// The longest line tells of noise at the last event: 27 characters, 20 digits, 7 characters and a line feed.
+/// The longest line is of noise at the last event: 27 characters, 20 digits, 7 characters and a line feed.
 const LONGEST_LINE: usize = 55;
 
 impl CliFault {
     ghost use Rattle.hart_cli.specs.FaultText.{fault_line};
 
-    /// The text of the fault and a line feed, made without memory, so that a want of it can be told.
+    /// The text of the fault and a line feed, made without memory, so that refused memory can be reported.
     pub fn line(self) -> ArrayString<LONGEST_LINE>
         ensures { result.bytes ≡ fault_line self }
     {
@@ -151,7 +151,7 @@ impl From<LineFault> for CliFault {
 
     ghost from_gives = { λ fault e. e ≡ call_fault fault };
 
-    /// Want of memory is told as such, whatever it was refused to.
+    /// Refused memory is reported as such, whatever it was refused to.
     fn from(fault: LineFault) -> CliFault {
         match fault {
             LineFault::Memory(none) => CliFault::Memory(none),

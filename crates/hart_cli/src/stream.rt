@@ -11,10 +11,10 @@ pub struct Failed;
 
 /// Bytes come from here.
 pub trait Source {
-    // The bytes that are left, if they are told, and how often a read has failed.
+    // The bytes that are left, if they are known, and how often a read has failed.
     ghost stream: { Self → Stream };
 
-    /// Puts the next bytes at the front of the buffer, and gives their number; none at a buffer
+    /// Puts the next bytes at the beginning of the buffer, and gives their number; none at a buffer
     /// with room is the end.
     ///
     /// # Errors
@@ -29,7 +29,7 @@ pub trait Source {
 
 /// Bytes go to here.
 pub trait Sink {
-    // The bytes that were written, if they are told, and how often a write has failed.
+    // The bytes that were written, if they are known, and how often a write has failed.
     ghost stream: { Self → Stream };
 
     /// Writes a prefix of the bytes, and gives its length: at least one byte, if there is one.

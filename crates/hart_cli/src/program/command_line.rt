@@ -56,7 +56,7 @@ pub enum Call<'a> {
 ///
 /// # Errors
 ///
-/// What clap tells if it finds no matches for them, help among it, or if memory is refused.
+/// What clap gives if it finds no matches for them, help among it, or if memory is refused.
 pub fn requested_call<'a>(alloc: Global, words: &'a [String]) -> Result<Call<'a>, clap::Error>
     ensures call { IfOk result (λ call. Calls call (map string_bytes words.entry.now)) }
     ensures refused { IfErr result (HasKind (fault_of hart_app (map string_bytes words.entry.now))) }

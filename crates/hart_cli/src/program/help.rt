@@ -183,7 +183,7 @@ command, and the data of the command. Standard input is not read.
 
 Output (stdout): the message in upper case hex, with its preamble bytes FF and
 its check byte. If a word cannot be read nothing is written, and standard error
-tells its number, as in bad word 2: 1 is WHO, 2 ADDRESS, 3 COMMAND, 4 DATA.";
+gives its number, as in bad word 2: 1 is WHO, 2 ADDRESS, 3 COMMAND, 4 DATA.";
 
 pub(super) const ENCODE_EXAMPLE: &str = "\
 Examples:

@@ -10,8 +10,8 @@ returns-in_err-report-clause-fault c =
     let secondary = rw c.unwrap-secondary.ensures at c.new-2.ensures.kept in
     let start = same_start _ _ c.unwrap-primary.result c.unwrap-secondary.result c.process.ensures
     (ap (λ (master : MasterState). master.retries) primary) (ap (λ (master : MasterState). master.retries) secondary) in
-    let told = err_from_is_err_and c.from_residual-in_err-report.result c.from_residual-in_err-report.ensures.1 in
-    rw (told.1, told.2)
+    let given = err_from_is_err_and c.from_residual-in_err-report.result c.from_residual-in_err-report.ensures.1 in
+    rw (given.1, given.2)
     (IsSimulationFault-run _ _ _ _ _ c.in_err-report.field-0.0 start c.in_ok-events.ensures.events c.as_slice.ensures.value
     c.in_err-report.ensures.fault)
 

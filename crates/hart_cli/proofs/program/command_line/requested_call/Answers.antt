@@ -6,8 +6,8 @@ use Rattle.hart_cli.proofs.program.command_line.requested_call.Goals as goal
 
 pub returns-in_err-matches-clause-refused : goal.returns-in_err-matches-clause-refused
 returns-in_err-matches-clause-refused c =
-    let told = err_from_is_err_and c.from_residual-in_err-matches.result c.from_residual-in_err-matches.ensures.1 in
-    rw (told.1, told.2)
+    let given = err_from_is_err_and c.from_residual-in_err-matches.result c.from_residual-in_err-matches.ensures.1 in
+    rw (given.1, given.2)
     (tells_fault _ (map string_bytes c.args.words.now) c.in_err-matches.field-0.0 c.in_ok-hart_command.ensures
     c.in_err-matches.ensures.kinds)
 
