@@ -10,7 +10,7 @@ use Rattle.hart_frame.specs.Scanner.{Hears, MovesPast, Scan, hearing}
 use Rattle.hart_frame.specs.Streamed.{IsHistory, begin, finish, give, push, push_run, wait}
 use Rattle.hart_frame.specs.declared.found.Found.{Found}
 use Rattle.hart_cli.specs.declared.frame_lines.FrameLines.{FrameLines}
-use Rattle.hart_cli.specs.Dump.{AreDecided, WroteBeforeLastRead}
+use Rattle.hart_cli.specs.Dump.{AreDecided, WroteInTime}
 use Rattle.hart_cli.specs.DumpText.{dump_text}
 use Rattle.hart_cli.specs.FrameLines.{WritesSoFar}
 use Rattle.hart_cli.specs.Input.{most_at_once}
@@ -113,7 +113,7 @@ HasNoFrame-nil found stands =
     omega (arith, all, whole, first)
 
 -- before the first read no line was due
-pub in_time_at_first : (w : Stream) → WroteBeforeLastRead [] w w
+pub in_time_at_first : (w : Stream) → WroteInTime [] w w
 in_time_at_first w = record {
   before = [];
   last = [];
@@ -130,7 +130,7 @@ in_time_at_first w = record {
 -- if no line is kept when more is read, all lines were written that were due
 pub in_time_at_read : (w now : Stream) (frames : FrameLines) (input bytes : List ℕ) (chars : List Character)
     → WritesSoFar w [] now frames chars → frames.lines ≡ [] → frames.scanner.finished ≡ false → IsUndecided frames.scanner.held
-    → ReadsSoFarAs input chars → length bytes ≤ most_at_once → WroteBeforeLastRead (input ++ bytes) w now
+    → ReadsSoFarAs input chars → length bytes ≤ most_at_once → WroteInTime (input ++ bytes) w now
 in_time_at_read w now frames input bytes chars so_far none going undecided reads few =
     let same : so_far.written ≡ dump_text so_far.given ++ [] =
     sym (append-nil so_far.written) ∙ ap (λ (xs : List ℕ). so_far.written ++ xs) (sym none) ∙ sym so_far.split
@@ -150,8 +150,8 @@ in_time_at_read w now frames input bytes chars so_far none going undecided reads
     }
 
 -- what is written later takes nothing back
-pub in_time_on : (input : List ℕ) (w now later : Stream) (text : List ℕ) → WroteBeforeLastRead input w now
-    → Appends now.bytes later.bytes text → WroteBeforeLastRead input w later
+pub in_time_on : (input : List ℕ) (w now later : Stream) (text : List ℕ) → WroteInTime input w now
+    → Appends now.bytes later.bytes text → WroteInTime input w later
 in_time_on input w now later text before on =
     let Of : List ℕ → Type 0 = λ xs. Appends w.bytes later.bytes xs in
     record {

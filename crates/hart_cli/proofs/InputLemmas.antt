@@ -46,10 +46,8 @@ portion_last a b c text bytes room TooLong h full k =
     let all = k.1 in (
       record {
         beyond = k.0.beyond;
-        read = subst (λ (xs : List ℕ). ReadsWell a c xs) (sym (append_assoc text bytes k.0.beyond))
-            (ReadsWell-on a b c text (bytes ++ k.0.beyond) h k.0.read);
-        more = k.0.more;
-        soon = k.0.soon;
+        read = subst (λ (xs : List ℕ). ReadsWell a c xs) (sym (append_assoc text bytes (k.0.beyond ∷ [])))
+            (ReadsWell-on a b c text (bytes ++ k.0.beyond ∷ []) h k.0.read);
       },
       omega (arith, long, all, full),
     )

@@ -13,7 +13,7 @@ use Rattle.hart_cli.specs.declared.frame_lines.FrameLines.{FrameLines}
 use Rattle.hart_cli.specs.declared.input.InputEnd.{InputEnd}
 use Rattle.hart_cli.specs.declared.input.InputEnd.TheVariants.{Ended, Failed, TooLong}
 use Rattle.hart_cli.specs.declared.stream.Failed as stream
-use Rattle.hart_cli.specs.Dump.{IsAnsweredSoon, WroteBeforeLastRead, ended_text, most_ahead}
+use Rattle.hart_cli.specs.Dump.{StopsSoon, WroteInTime, ended_text, most_ahead}
 use Rattle.hart_cli.specs.FrameLines.{BreaksOff, IsNextStep, ReadsAhead, ScansAll, ScansInput, ScansPart, ScansText, WritesSoFar}
 use Rattle.hart_cli.specs.Input.{CameTo, Ending, Left, ReadsPortion, ReadsTo, ReadsWell, ending_of, input_limit}
 use Rattle.hart_cli.specs.InputChars.{HasChars}
@@ -66,7 +66,7 @@ pub record ScannedUpTo (reader reader_after writer writer_after : Stream) (frame
   pub well : end ≡ None → ReadsWell reader reader_after input × (length input ≤ input_limit)
   pub still_open : end ≡ Some Failed → MayBegin rest
   pub so_far : WritesSoFar writer [] writer_after frames chars
-  pub in_time : WroteBeforeLastRead input writer writer_after
+  pub in_time : WroteInTime input writer writer_after
 
 -- after a failed read what was open is still open
 open_after_failure : (a b : Stream) (ahead bytes after : List ℕ) (more : List Character) (n room : ℕ) (end : Option InputEnd)
@@ -94,7 +94,7 @@ pub record IsDue (r r1 w w1 : Stream) (frames : FrameLines) (input ahead : List 
 -- all lines that were due are written when more was read
 due_in_time : (r r1 r2 w w1 : Stream) (frames : FrameLines) (input ahead after : List ℕ) (chars : List Character) (room : ℕ)
     (end : Option InputEnd) → IsDue r r1 w w1 frames input ahead chars → (more : ReadsAhead r1 r2 ahead after room end)
-    → WroteBeforeLastRead (input ++ more.bytes) w w1
+    → WroteInTime (input ++ more.bytes) w w1
 due_in_time r r1 r2 w w1 frames input ahead after chars room end due more =
     in_time_at_read w w1 frames input more.bytes chars due.so_far due.none_kept due.going due.undecided
     (record { rest = ahead; reads = due.reads; no_piece = due.no_piece; open_end = due.may_begin }) more.few
@@ -135,7 +135,7 @@ scanned_step r r1 r2 w w1 w2 old new end input ahead after chars place n room du
 all_scanned : (r r2 w w2 : Stream) (frames : FrameLines) (end : Option InputEnd) (place : ℕ) (rest : List ℕ) (ending : Ending)
     (fault : Option CliFault) (scanned : ScannedUpTo r r2 w w2 frames end place rest) → ReadsTo r r2 scanned.input ending
     → ended_text scanned.input (ending_of end) ≡ ended_text scanned.input ending → HasChars scanned.input ending scanned.chars fault
-    → IsAnsweredSoon scanned.input fault → ScansAll r r2 w w2 frames fault
+    → StopsSoon scanned.input fault → ScansAll r r2 w w2 frames fault
 all_scanned r r2 w w2 frames end place rest ending fault scanned read same has soon = record {
   input = scanned.input;
   ending = ending;
@@ -222,7 +222,7 @@ input_stops r r2 w w2 frames (Err failed) P err part = part
 -- a write failed before a read
 pub stopped_before : (r r1 w w1 w2 : Stream) (frames : FrameLines) (input ahead : List ℕ) (chars : List Character)
     → ReadsWell r r1 input → length input ≤ input_limit → length ahead ≤ 5 → ReadsUpTo input chars ahead
-    → WritesSoFar w [] w1 frames chars → WroteBeforeLastRead input w w1
+    → WritesSoFar w [] w1 frames chars → WroteInTime input w w1
     → ((start : Stream) (earlier : List ℕ) → WritesSoFar start earlier w1 frames chars → BreaksOff start earlier w2 chars)
     → ScansPart r r1 w w2
 stopped_before r r1 w w1 w2 frames input ahead chars read within short reads so_far in_time breaks = record {

@@ -25,23 +25,22 @@ pub record IsDump (input : List ℕ) (ending : Ending) (fault : Option CliFault)
   pub has_chars : HasChars input ending chars fault
   pub are_lines : AreLines chars lines
 
--- At most so many bytes are read and not yet scanned: the beginning of an item, which is five bytes, what one read gives, and the
--- space that an end stands for.
+-- At most so many bytes are read and not yet scanned: the beginning of an item, which is five bytes at most, and what one read gives.
 abbrev pub most_ahead : ℕ
-most_ahead = 6 + most_at_once
+most_ahead = 5 + most_at_once
 
--- Bad hex is answered soon: from its place on, no more of the input was read than is ever read ahead.
-abbrev pub IsAnsweredSoon : List ℕ → Option CliFault → Type 0
-IsAnsweredSoon input (Some (BadHex place)) = length input ≤ place + most_ahead
-IsAnsweredSoon input _ = ⊤
+-- At bad hex no more of the input was read, from its place on, than may be read ahead.
+abbrev pub StopsSoon : List ℕ → Option CliFault → Type 0
+StopsSoon input (Some (BadHex place)) = length input ≤ place + most_ahead
+StopsSoon input _ = ⊤
 
--- One input was read as far as was needed, and it has this fault, if any, and these lines.
+-- An input was read to its end or up to its first fault, and it has this fault, if any, and these lines.
 pub record HasDump (reader reader_after : Stream) (fault : Option CliFault) (lines : List ℕ) : Type 0 where
   pub input : List ℕ
   pub ending : Ending
   pub reads : ReadsTo reader reader_after input ending
   pub is_dump : IsDump input ending fault lines
-  pub soon : IsAnsweredSoon input fault
+  pub soon : StopsSoon input fault
 
 -- The input has this fault, and all lines of its characters before that were written.
 abbrev pub DumpsUpTo : CliFault → Stream → Stream → Stream → Stream → Type 0
@@ -53,14 +52,14 @@ abbrev pub ended_text : List ℕ → Ending → List ℕ
 ended_text input (CameTo Ended) = closed input
 ended_text input _ = input
 
--- An input reads as these characters up to a rest that is no longer than what is ever read ahead.
+-- Characters can be those scanned of an input if it reads as them up to a rest that is no longer than what may be read ahead.
 pub record AreScanned (input : List ℕ) (ending : Ending) (chars : List Character) : Type 0 where
   pub rest : List ℕ
   pub reads : ReadsUpTo (ended_text input ending) chars rest
   pub few : length rest ≤ most_ahead
 
--- The frames of some characters that are decided come first whatever is heard next, and nothing is decided in the characters after
--- them.
+-- These frames of some characters are decided: whatever is heard next, they come first, and in the characters after them nothing is
+-- decided.
 pub record AreDecided (chars : List Character) (frames : List Found) : Type 0 where
   pub passed : List Character
   pub rest : List Character
@@ -69,8 +68,9 @@ pub record AreDecided (chars : List Character) (frames : List Found) : Type 0 wh
       → AreFrames (chars ++ more) 0 (frames ++ later)
   pub undecided : IsUndecided rest
 
--- Before the last read of an input the lines of all frames were written that were decided by then.
-pub record WroteBeforeLastRead (input : List ℕ) (writer writer_after : Stream) : Type 0 where
+-- The lines of all frames were written that were decided before the last bytes of an input, of which there are no more than one read
+-- gives.
+pub record WroteInTime (input : List ℕ) (writer writer_after : Stream) : Type 0 where
   pub before : List ℕ
   pub last : List ℕ
   pub split : input ≡ before ++ last
@@ -82,8 +82,8 @@ pub record WroteBeforeLastRead (input : List ℕ) (writer writer_after : Stream)
   pub more : List ℕ
   pub written : Appends writer.bytes writer_after.bytes (dump_text frames ++ more)
 
--- A write failed after a prefix of the lines of the characters that were scanned by then, short of their end. What was
--- due before the last read had been written.
+-- A write failed after a prefix of the lines of the characters that were scanned by then, short of their end. No line
+-- was late: those that were due before the last bytes had been written.
 pub record StopsWriting (reader reader_after writer writer_after : Stream) : Type 0 where
   pub input : List ℕ
   pub ending : Ending
@@ -93,10 +93,10 @@ pub record StopsWriting (reader reader_after writer writer_after : Stream) : Typ
   pub lines : List ℕ
   pub are_lines : AreLines chars lines
   pub fails : FailsToWrite writer writer_after lines
-  pub in_time : WroteBeforeLastRead input writer writer_after
+  pub in_time : WroteInTime input writer writer_after
 
--- At `Ok` all lines of an input were written, at a fault of the input those of its characters before the fault, and after a failed
--- write a prefix of the lines of what was scanned by then. There is no other fault, and so memory is never refused.
+-- At `Ok` all lines of the whole input were written, at a fault of the input those of its characters before the fault, and after a
+-- failed write a prefix of the lines of what was scanned by then. There is no other fault: refused memory is none.
 abbrev pub DumpOutcome : Stream → Stream → Stream → Stream → Result (Unit {0}) CliFault → Type 0
 DumpOutcome reader reader_after writer writer_after (Ok done) =
     (lines : List ℕ) × HasDump reader reader_after None lines × WritesAll writer writer_after lines

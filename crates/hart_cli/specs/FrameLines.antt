@@ -7,7 +7,7 @@ use Rattle.hart_frame.specs.declared.found.Found.{Found}
 use Rattle.hart_cli.specs.declared.frame_lines.FrameLines.{FrameLines}
 use Rattle.hart_cli.specs.declared.stream.Failed.{Failed}
 use Rattle.hart_cli.specs.DumpText.{dump_text}
-use Rattle.hart_cli.specs.Dump.{AreScanned, IsAnsweredSoon, WroteBeforeLastRead, ended_text}
+use Rattle.hart_cli.specs.Dump.{AreScanned, StopsSoon, WroteInTime, ended_text}
 use Rattle.hart_cli.specs.Input.{Ending, ReadsPortion, ReadsTo, ending_of, most_at_once}
 use Rattle.hart_cli.specs.InputChars.{HasChars}
 use Rattle.hart_cli.specs.Items.{MayBegin, ReadsUpTo}
@@ -120,9 +120,9 @@ pub record ScansAll (reader reader_after writer writer_after : Stream) (frames :
   pub chars : List Character
   pub has_chars : HasChars input ending chars fault
   pub scanned : AreScanned input ending chars
-  pub soon : IsAnsweredSoon input fault
+  pub soon : StopsSoon input fault
   pub so_far : WritesSoFar writer [] writer_after frames chars
-  pub in_time : WroteBeforeLastRead input writer writer_after
+  pub in_time : WroteInTime input writer writer_after
 
 -- A write failed while an input was read and scanned.
 pub record ScansPart (reader reader_after writer writer_after : Stream) : Type 0 where
@@ -132,7 +132,7 @@ pub record ScansPart (reader reader_after writer writer_after : Stream) : Type 0
   pub chars : List Character
   pub scanned : AreScanned input ending chars
   pub breaks_off : BreaksOff writer [] writer_after chars
-  pub in_time : WroteBeforeLastRead input writer writer_after
+  pub in_time : WroteInTime input writer writer_after
 
 -- An input was scanned up to its first fault or its end, or until a write failed.
 abbrev pub ScansInput : Stream → Stream → Stream → Stream → FrameLines → Result (Option CliFault) Failed → Type 0

@@ -1,5 +1,5 @@
 -- What is read of an input, and how it comes to its end (own profile).
-use Rattle.std.specs.Prelude.{◌≡◌, ◌≢◌, ◌⊎◌, ℕ, ◌+◌, ◌≤◌, List, [], ◌++◌, length, Option, None, Some}
+use Rattle.std.specs.Prelude.{◌≡◌, ◌≢◌, ◌⊎◌, ℕ, ◌+◌, ◌≤◌, List, [], ◌∷◌, ◌++◌, length, Option, None, Some}
 use Rattle.std.specs.Io.KnownBytes.{Consumes, IsAtEnd}
 use Rattle.hart_line.specs.declared.memory.NoRoom.{NoRoom}
 use Rattle.hart_cli.specs.Stream.{Stream, count_after_failure}
@@ -24,14 +24,12 @@ ReadsWell old new bytes = Consumes old.bytes new.bytes bytes × (new.failures �
 abbrev pub ReadFails : Stream → Stream → List ℕ → Type 0
 ReadFails old new bytes = Consumes old.bytes new.bytes bytes × (new.failures ≡ count_after_failure old.failures)
 
--- More bytes than these were taken from the reader: at least one, and no more than one read gives.
+-- One byte more than these was taken from the reader.
 pub record ReadsBeyond (old new : Stream) (bytes : List ℕ) : Type 0 where
-  pub beyond : List ℕ
-  pub read : ReadsWell old new (bytes ++ beyond)
-  pub more : beyond ≢ []
-  pub soon : length beyond ≤ most_at_once
+  pub beyond : ℕ
+  pub read : ReadsWell old new (bytes ++ beyond ∷ [])
 
--- More bytes than the limit were taken: the text is those within it, and a few others were taken with them.
+-- One byte more than the limit was taken: the text is those within it.
 abbrev pub ReadsPastLimit : Stream → Stream → List ℕ → Type 0
 ReadsPastLimit old new text = ReadsBeyond old new text × (length text ≡ input_limit)
 
@@ -46,8 +44,8 @@ pub data Ending : Type 0 where
   Left : Ending
   CameTo : (end : InputEnd) → Ending
 
--- An input gave this text before it came to its end. One that the call left may have had more to read, and bytes past the limit
--- may have been read with the last of the text.
+-- An input gave this text before it came to its end or was left. If it was left it may have had more to read, and perhaps one byte
+-- past the limit was read with the last of the text.
 abbrev pub ReadsTo : Stream → Stream → List ℕ → Ending → Type 0
 ReadsTo old new text Left = (ReadsWell old new text × (length text ≤ input_limit)) ⊎ ReadsPastLimit old new text
 ReadsTo old new text (CameTo end) = Reads old new text end

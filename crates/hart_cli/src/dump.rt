@@ -22,15 +22,15 @@ type Open = ByteList<OPEN_LEN>;
 
 const OPEN_LEN: usize = 5;
 
-/// What is read and not yet scanned: the beginning of an item, what one read gives, and the space that an end stands for.
+/// What is read and not yet scanned: the beginning of an item, and then what one read gives, or the space that an end stands for.
 type Ahead = ByteList<AHEAD_LEN>;
 
-const AHEAD_LEN: usize = OPEN_LEN + PORTION_LEN + 1;
+const AHEAD_LEN: usize = OPEN_LEN + PORTION_LEN;
 
 /// Reads what was heard on a line as hex items, and writes a line for each frame in it, as soon as it is decided.
 ///
 /// It reads a portion at a time, and before each read all lines are written of the frames that are decided by then, so that a
-/// line which never ends is dumped too. It takes no memory.
+/// live line is dumped while it is heard, as far as an input may go. It takes no memory.
 ///
 /// # Errors
 ///
@@ -59,7 +59,8 @@ pub fn dump<R: Source, W: Sink>(
     }
 }
 
-/// An input that was read so far has one fault, or none, and one list of lines: what `dump` writes is determined by what it reads.
+/// An input that was read so far has no two faults and no two lists of lines: unless a write fails, what `dump` writes is determined
+/// by what it reads.
 pub fn one_dump()
     ensures { (input : List ℕ) (ending : Ending) (f g : Option CliFault) (xs ys : List ℕ)
         → IsDump input ending f xs → IsDump input ending g ys → (f ≡ g) × (xs ≡ ys) }
@@ -153,10 +154,11 @@ fn read_ahead<R: Source>(
     ensures kept { length buffer.new ≡ length buffer.old }
 {
     let portion = read_portion(reader, buffer, room);
-    ahead.extend_from_slice(&buffer[..portion.len]);
     if portion.end == Some(InputEnd::Ended) {
-        // Its end makes the last item whole, as a space does.
+        // An end gives no bytes, and makes the last item whole, as a space does.
         ahead.push(b' ');
+    } else {
+        ahead.extend_from_slice(&buffer[..portion.len]);
     }
     portion.end
 }

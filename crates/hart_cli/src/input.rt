@@ -76,7 +76,7 @@ fn read_into<R: Source>(reader: &mut R, text: &mut Filling<u8>) -> InputEnd
     }
 }
 
-/// Reads once, and says how much of that is within the room that is left of an input's limit.
+/// Reads once, at most one byte more than the room that is left of an input's limit, and says how much of that is within it.
 pub fn read_portion<R: Source>(reader: &mut R, buffer: &mut [u8], room: usize) -> Portion
     requires some { 0 < length buffer.old }
     requires fits { length buffer.old ≤ most_at_once }
@@ -86,7 +86,8 @@ pub fn read_portion<R: Source>(reader: &mut R, buffer: &mut [u8], room: usize) -
         (take result.len buffer.new) room result.end }
     ensures kept { length buffer.new ≡ length buffer.old }
 {
-    match reader.read(buffer) {
+    let most = buffer.len().min(room.saturating_add(1));
+    match reader.read(&mut buffer[..most]) {
         Err(_) => Portion {
             len: 0,
             end: Some(InputEnd::Failed),

@@ -19,7 +19,7 @@ const RUN_LEN: usize = 8192;
 /// The bytes of faultless characters.
 pub type Run = ByteList<RUN_LEN>;
 
-/// An input that was read so far has one list of characters before its fault, and one fault or none.
+/// An input that was read so far has no two lists of characters before its fault, and no two faults.
 pub fn inputs_are_unambiguous()
     ensures { (text : List ℕ) (ending : Ending) (xs ys : List Character) (f g : Option CliFault)
         → HasChars text ending xs f → HasChars text ending ys g → (xs ≡ ys) × (f ≡ g) }

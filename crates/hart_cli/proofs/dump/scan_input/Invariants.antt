@@ -1,6 +1,6 @@
 use Rattle.std.proofs.Common.{◌≡◌, ◌≤◌, ◌+◌, ◌-◌, List, [], ℕ, false, IsTrue, length}
 use Rattle.hart_frame.specs.Character.{Character}
-use Rattle.hart_cli.specs.Dump.{WroteBeforeLastRead}
+use Rattle.hart_cli.specs.Dump.{WroteInTime}
 use Rattle.hart_cli.specs.FrameLines.{WritesSoFar}
 use Rattle.hart_cli.specs.Input.{ReadsWell, input_limit}
 use Rattle.hart_cli.specs.Items.{MayBegin, NoPieceBegins, ReadsUpTo}
@@ -22,7 +22,7 @@ invariant-loop-ahead g l = record {
   no_piece : NoPieceBegins l.ahead;
   may_begin : MayBegin l.ahead;
   so_far : WritesSoFar (g.W.Sink.stream l.initial.writer) [] (g.W.Sink.stream l.writer) l.frames chars;
-  in_time : WroteBeforeLastRead input (g.W.Sink.stream l.initial.writer) (g.W.Sink.stream l.writer);
+  in_time : WroteInTime input (g.W.Sink.stream l.initial.writer) (g.W.Sink.stream l.writer);
 }
 
 abbrev pub decreases-loop-ahead : goal.decreases-loop-ahead
