@@ -1,57 +1,146 @@
 use super::*;
-use crate::plain::Plain;
-use crate::stream::fakes::{Tape, Trickle};
+use crate::stream::fakes::{ALL, After, Tape, Trickle};
 use std::test::Fail;
 
-const TWO_FRAMES: &str = "FF FF 02 80 00 00 82 FF FF 02 00 00 00 02 ";
+/// What follows its last digits makes a frame's last item whole, and here nothing does yet.
+const OPEN_FRAME: &str = "FF FF 02 80 00 00 82";
 
-const FIRST_LINE: &str = "2 7 STX P 0 @0 - 0 -\n";
+const ONE_FRAME: &str = "FF FF 02 80 00 00 82 ";
 
-const BOTH_LINES: &str = "2 7 STX P 0 @0 - 0 -\n9 14 STX S 0 @0 - 0 -\n";
+const ONE_LINE: &str = "2 7 STX P 0 @0 - 0 -\n";
 
-/// An input, the number of the read that fails, the fault that is told, and the lines before it. The first frame ends with
-/// the digits at 18 and 19, which the byte at 20 makes whole.
-const FAILED_READS: &[(&str, usize, CliFault, &str)] = &[
-    (TWO_FRAMES, 0, CliFault::Read, ""),
-    (TWO_FRAMES, 20, CliFault::Read, ""),
-    (TWO_FRAMES, 21, CliFault::Read, FIRST_LINE),
-    (TWO_FRAMES, 41, CliFault::Read, FIRST_LINE),
-    (TWO_FRAMES, 42, CliFault::Read, BOTH_LINES),
-    (
-        "FF FF 02 80 00 00 82 8G ",
-        24,
-        CliFault::BadHex { place: 21 },
-        FIRST_LINE,
-    ),
+const FRAMES: &str = "FF FF 02 80 00 00 82 FF FF 02 00 00 00 02 FF FF 02 80 7D 00 FF ";
+
+const TWO_LINES: &str = "2 7 STX P 0 @0 - 0 -\n9 14 STX S 0 @0 - 0 -\n";
+
+const LINES: &str = "2 7 STX P 0 @0 - 0 -\n9 14 STX S 0 @0 - 0 -\n16 21 STX P 0 @0 - 125 -\n";
+
+/// A message that begins holds back the whole one within it, until the last but one item turns out to be no check byte of it.
+const HELD_BACK: &str = "FF FF 02 80 00 08 FF FF 02 80 00 00 82 00 00 00 ";
+
+const HELD_LINE: &str = "8 13 STX P 0 @0 - 0 -\n";
+
+/// It ends before that item.
+const STILL_HELD_BACK: &str = "FF FF 02 80 00 08 FF FF 02 80 00 00 82 00 ";
+
+const BAD_HEX: &str = "FF FF 02 80 00 00 82 8G FF FF 02 00 00 00 02 ";
+
+/// An input, the most bytes of a read and of a write, and the number of the write that fails; then the number of reads, all of which
+/// came before that write, and what was written before it.
+const FAILED_WRITES: &[(&str, usize, usize, usize, usize, &str)] = &[
+    (FRAMES, 1, ALL, 0, 21, ""),
+    (FRAMES, 1, ALL, 1, 42, ONE_LINE),
+    (FRAMES, 1, ALL, 2, 63, TWO_LINES),
+    (FRAMES, 1, 1, 20, 21, "2 7 STX P 0 @0 - 0 -"),
+    (FRAMES, 1, 1, 21, 42, ONE_LINE),
+    (FRAMES, 2, ALL, 0, 11, ""),
+    (FRAMES, 3, ALL, 1, 14, ONE_LINE),
+    (FRAMES, ALL, ALL, 0, 1, ""),
+    (FRAMES, ALL, 1, 21, 1, ONE_LINE),
+    (HELD_BACK, 1, ALL, 0, 45, ""),
+    (BAD_HEX, ALL, ALL, 0, 1, ""),
 ];
 
 #[test]
-fn a_failed_read_comes_after_what_was_decided_before_it(rt: HostRuntime) {
-    for (input, read, fault, lines) in FAILED_READS {
-        let mut reader = Tape::new(input.as_bytes(), Some(*read));
-        let mut writer = Trickle::new(rt.alloc(), u64::MAX);
+fn lines_are_written_before_more_is_read(rt: HostRuntime) {
+    for (input, most_read, most_written, write, reads, text) in FAILED_WRITES {
+        let mut reader = Tape::new(input.as_bytes(), After::End, *most_read);
+        let mut writer = Trickle::new(rt.alloc(), Some(*write), *most_written);
         let result = dump(rt.alloc(), &mut reader, &mut writer);
-        assert_eq!(rt; result, Err(*fault), "at read {read}");
-        assert_eq!(rt; writer.taken(), lines.as_bytes(), "at read {read}");
+        assert_eq!(rt; result, Err(CliFault::Write), "at write {write} on {input}");
+        assert_eq!(rt; reader.reads(), *reads, "at write {write} on {input}");
+        assert_eq!(rt; writer.writes().checked_sub(1), Some(*write), "on {input}");
+        assert_eq!(rt;
+            writer.taken(),
+            text.as_bytes(),
+            "at write {write} on {input}"
+        );
     }
 }
 
+const READ: Option<CliFault> = Some(CliFault::Read);
+
+const BAD_HEX_AT_3: Option<CliFault> = Some(CliFault::BadHex { place: 3 });
+
+const BAD_HEX_AT_21: Option<CliFault> = Some(CliFault::BadHex { place: 21 });
+
+/// An input, what comes after it, and the most bytes of a read; then the fault, the numbers of reads and writes, and what is written.
+const READS: &[(&str, After, usize, Option<CliFault>, usize, usize, &str)] = &[
+    (FRAMES, After::End, 1, None, 64, 3, LINES),
+    (FRAMES, After::End, ALL, None, 2, 1, LINES),
+    (HELD_BACK, After::End, 1, None, 49, 1, HELD_LINE),
+    // The end makes an item whole, and a failed read does not.
+    (OPEN_FRAME, After::End, 1, None, 21, 1, ONE_LINE),
+    (OPEN_FRAME, After::Failure, 1, READ, 21, 0, ""),
+    (OPEN_FRAME, After::Failure, ALL, READ, 2, 0, ""),
+    (ONE_FRAME, After::Failure, 1, READ, 22, 1, ONE_LINE),
+    (ONE_FRAME, After::Failure, ALL, READ, 2, 1, ONE_LINE),
+    (STILL_HELD_BACK, After::Failure, 1, READ, 43, 1, HELD_LINE),
+    // Bad hex is decided at its first byte after which nothing makes an item of it.
+    (BAD_HEX, After::End, 1, BAD_HEX_AT_21, 23, 1, ONE_LINE),
+    (BAD_HEX, After::End, ALL, BAD_HEX_AT_21, 1, 1, ONE_LINE),
+    ("FF 82!80 FF", After::End, 1, BAD_HEX_AT_3, 7, 0, ""),
+    ("FF 82!08 FF", After::End, 1, BAD_HEX_AT_3, 8, 0, ""),
+];
+
 #[test]
-fn the_longest_input_is_dumped(rt: HostRuntime) -> Result<(), Fail> {
+fn nothing_is_read_after_the_end(rt: HostRuntime) {
+    for (input, after, most_read, fault, reads, writes, text) in READS {
+        let mut reader = Tape::new(input.as_bytes(), *after, *most_read);
+        let mut writer = Trickle::new(rt.alloc(), None, ALL);
+        let result = dump(rt.alloc(), &mut reader, &mut writer);
+        assert_eq!(rt; result.err(), *fault, "on {input}, {most_read} a read");
+        assert_eq!(rt; reader.reads(), *reads, "on {input}, {most_read} a read");
+        assert_eq!(rt; writer.writes(), *writes, "on {input}, {most_read} a read");
+        assert_eq!(rt;
+            writer.taken(),
+            text.as_bytes(),
+            "on {input}, {most_read} a read"
+        );
+    }
+}
+
+const TOO_LONG: Option<CliFault> = Some(CliFault::TooLong);
+
+/// The end of an input that is as long as may be, what comes after it, the fault, and what is written.
+const LONGEST: &[(&str, After, Option<CliFault>, &str)] = &[
+    (OPEN_FRAME, After::End, None, ONE_LINE),
+    (OPEN_FRAME, After::Spaces, TOO_LONG, ""),
+    (ONE_FRAME, After::Spaces, TOO_LONG, ONE_LINE),
+];
+
+#[test]
+fn inputs_are_read_up_to_the_limit(rt: HostRuntime) -> Result<(), Fail> {
+    for (items, after, fault, text) in LONGEST {
+        let spaces = " ".repeat(rt.alloc(), INPUT_LIMIT.saturating_sub(items.len()))?;
+        let input = format!(in rt.alloc(); "{spaces}{items}")?;
+        let mut reader = Tape::new(input.as_bytes(), *after, ALL);
+        let mut writer = Trickle::new(rt.alloc(), None, ALL);
+        let result = dump(rt.alloc(), &mut reader, &mut writer);
+        assert_eq!(rt; result.err(), *fault, "on {items}");
+        assert_eq!(rt; writer.taken(), text.as_bytes(), "on {items}");
+    }
+    Ok(())
+}
+
+#[test]
+fn lines_go_out_together(rt: HostRuntime) -> Result<(), Fail> {
     let alloc = rt.alloc();
-    let spaces = " ".repeat(alloc, 1_048_576 - TWO_FRAMES.len())?;
-    let input = format!(in alloc; "{spaces}{TWO_FRAMES}")?;
-    let mut reader = Plain::new(input.as_bytes());
-    let mut writer = Plain::new(Vec::new(alloc));
+    let mut input = "FFFF0280000082".repeat(alloc, 1170)?;
+    input.push_str(" ")?;
+    let mut text = String::new(alloc);
+    let mut start: u64 = 2;
+    for _ in 0..1170 {
+        let end = start.saturating_add(5);
+        text.push_str(format!(in alloc; "{start} {end} STX P 0 @0 - 0 -\n")?.as_str())?;
+        start = start.saturating_add(7);
+    }
+    let mut reader = Tape::new(input.as_bytes(), After::End, ALL);
+    let mut writer = Trickle::new(alloc, None, ALL);
     assert_eq!(rt; dump(alloc, &mut reader, &mut writer), Ok(()));
-    assert_eq!(rt; writer.into_inner().as_slice(), BOTH_LINES.as_bytes());
-    let longer = format!(in alloc; "{input} ")?;
-    let mut reader = Plain::new(longer.as_bytes());
-    let mut writer = Plain::new(Vec::new(alloc));
-    assert_eq!(rt;
-        dump(alloc, &mut reader, &mut writer),
-        Err(CliFault::TooLong)
-    );
-    assert_eq!(rt; writer.into_inner().as_slice(), BOTH_LINES.as_bytes());
+    assert_eq!(rt; writer.taken(), text.as_bytes());
+    // As many lines as there is room for are kept until they are written.
+    assert_eq!(rt; text.len(), 31_274);
+    assert_eq!(rt; writer.writes(), 2);
     Ok(())
 }

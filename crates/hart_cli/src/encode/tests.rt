@@ -84,7 +84,7 @@ fn encoded(alloc: Global, words: [&str; 4], preambles: u8) -> (Result<(), CliFau
     requires { IsPreambleCount preambles }
 {
     let [who, address, command, payload] = words;
-    let mut writer = Trickle::new(alloc, u64::MAX);
+    let mut writer = Trickle::new(alloc, None, 1);
     let result = encode_text(
         alloc,
         who,

@@ -48,34 +48,22 @@ fn counting(fails: bool) -> Plain<Counted> {
     Plain::new(Counted { calls: 0, fails })
 }
 
+// An error is not tried again.
 #[test]
 fn each_call_is_one_call_of_what_is_inside(rt: HostRuntime) -> Result<(), Fail> {
     for size in SIZES {
         let mut bytes = vec![in rt.alloc(); 0; *size]?;
-        let mut reader = counting(false);
-        assert_eq!(rt; reader.read(bytes.as_mut_slice()), Ok(*size));
-        assert_eq!(rt; reader.failures, 0);
-        assert_eq!(rt; reader.into_inner().calls, 1);
-        let mut writer = counting(false);
-        assert_eq!(rt; writer.write(bytes.as_slice()), Ok(*size));
-        assert_eq!(rt; writer.failures, 0);
-        assert_eq!(rt; writer.into_inner().calls, 1);
-    }
-    Ok(())
-}
-
-#[test]
-fn each_error_is_a_failure_and_not_tried_again(rt: HostRuntime) -> Result<(), Fail> {
-    for size in SIZES {
-        let mut bytes = vec![in rt.alloc(); 0; *size]?;
-        let mut reader = counting(true);
-        assert_eq!(rt; reader.read(bytes.as_mut_slice()), Err(Failed));
-        assert_eq!(rt; reader.failures, 1);
-        assert_eq!(rt; reader.into_inner().calls, 1);
-        let mut writer = counting(true);
-        assert_eq!(rt; writer.write(bytes.as_slice()), Err(Failed));
-        assert_eq!(rt; writer.failures, 1);
-        assert_eq!(rt; writer.into_inner().calls, 1);
+        for fails in [false, true] {
+            let want = if fails { Err(Failed) } else { Ok(*size) };
+            let mut reader = counting(fails);
+            assert_eq!(rt; reader.read(bytes.as_mut_slice()), want);
+            assert_eq!(rt; reader.failures, u64::from(fails));
+            assert_eq!(rt; reader.into_inner().calls, 1);
+            let mut writer = counting(fails);
+            assert_eq!(rt; writer.write(bytes.as_slice()), want);
+            assert_eq!(rt; writer.failures, u64::from(fails));
+            assert_eq!(rt; writer.into_inner().calls, 1);
+        }
     }
     Ok(())
 }

@@ -2,7 +2,7 @@
 
 use super::{DONE, FAULT, NO_CALL, program};
 use crate::plain::Plain;
-use crate::stream::fakes::{Drip, Tape, Trickle};
+use crate::stream::fakes::{After, Tape, Trickle};
 use crate::stream::{Sink, Source};
 use std::alloc::{AllocError, Global};
 use std::process::Abort;
@@ -23,7 +23,7 @@ const CALLS: &[(&[&str], &str, &str)] = &[
 ];
 
 /// A request for the identity, as it is heard.
-const IDENTIFY: &str = "FFFF0280000082";
+const IDENTIFY: &str = "FF FF 02 80 00 00 82";
 
 /// What a run of `program` leaves.
 #[derive(Drop)]
@@ -49,16 +49,17 @@ fn status_of<R: Source, W: Sink, E: Sink>(
     Ok(program(alloc, arguments.as_slice(), reader, output, errors))
 }
 
-/// Runs `program` on these words and this reader; the two writers take so many bytes.
+/// Runs `program` on these words and this reader. The two writers take a byte a write, and fail once they have taken so many, if
+/// they fail at all.
 fn run_program(
     alloc: Global,
     words: &[&str],
     mut reader: Tape<'_>,
-    output_room: u64,
-    error_room: u64,
+    output_room: Option<usize>,
+    error_room: Option<usize>,
 ) -> Result<Run, AllocError> {
-    let mut output = Trickle::new(alloc, output_room);
-    let mut errors = Trickle::new(alloc, error_room);
+    let mut output = Trickle::new(alloc, output_room, 1);
+    let mut errors = Trickle::new(alloc, error_room, 1);
     let status = status_of(alloc, words, &mut reader, &mut output, &mut errors)?;
     Ok(Run {
         status,
@@ -68,23 +69,43 @@ fn run_program(
     })
 }
 
-/// Runs `program` on these words and this input, with room for all that is written.
+/// Runs `program` on these words and this input, which is read a byte at a time.
 fn run_on(alloc: Global, words: &[&str], input: &str) -> Result<Run, AllocError> {
-    let reader = Tape::new(input.as_bytes(), None);
-    run_program(alloc, words, reader, u64::MAX, u64::MAX)
+    let reader = Tape::new(input.as_bytes(), After::End, 1);
+    run_program(alloc, words, reader, None, None)
 }
 
 /// An input, what is written for it, and the line of its fault, if it has one.
 type Row<'a> = (&'a str, &'a str, &'a str);
 
-/// Runs a subcommand without words of its own on the input of each row.
+/// The most bytes that a read gives. Those from 4 to 8 cut the second item of `FF FF!40` after each of its bytes.
+const PORTIONS: &[usize] = &[1, 2, 3, 4, 5, 6, 7, 8, 100];
+
+/// Runs a subcommand without words of its own on the input of each row, read in portions of each size. At no fault the last read
+/// is the one that finds the end.
 fn check_rows(rt: &impl Abort, alloc: Global, word: &str, rows: &[Row]) -> Result<(), Fail> {
     for (input, want, fault) in rows {
-        let run = run_on(alloc, &[word], input)?;
-        let status = if fault.is_empty() { DONE } else { FAULT };
-        assert_eq!(rt; run.status, status, "on {input}");
-        assert_eq!(rt; run.output.taken(), want.as_bytes(), "on {input}");
-        assert_eq!(rt; run.errors.taken(), fault.as_bytes(), "on {input}");
+        for portion in PORTIONS {
+            let reader = Tape::new(input.as_bytes(), After::End, *portion);
+            let run = run_program(alloc, &[word], reader, None, None)?;
+            let status = if fault.is_empty() { DONE } else { FAULT };
+            assert_eq!(rt; run.status, status, "on {input}, {portion} a read");
+            assert_eq!(rt;
+                run.output.taken(),
+                want.as_bytes(),
+                "on {input}, {portion} a read"
+            );
+            assert_eq!(rt;
+                run.errors.taken(),
+                fault.as_bytes(),
+                "on {input}, {portion} a read"
+            );
+            let reads = input.len().div_ceil((*portion).max(1)).saturating_add(1);
+            assert!(rt;
+                run.reads == reads || !fault.is_empty(),
+                "on {input}, {portion} a read"
+            );
+        }
     }
     Ok(())
 }
@@ -93,10 +114,10 @@ fn check_rows(rt: &impl Abort, alloc: Global, word: &str, rows: &[Row]) -> Resul
 fn each_failed_read_is_told(rt: HostRuntime) -> Result<(), Fail> {
     for word in ["answer", "dump", "sim"] {
         for read in 0..IDENTIFY.len() + 1 {
-            let reader = Tape::new(IDENTIFY.as_bytes(), Some(read));
-            let run = run_program(rt.alloc(), &[word], reader, u64::MAX, u64::MAX)?;
+            let reader = Tape::new(&IDENTIFY.as_bytes()[..read], After::Failure, 1);
+            let run = run_program(rt.alloc(), &[word], reader, None, None)?;
             assert_eq!(rt; run.status, FAULT, "{word} at read {read}");
-            assert_eq!(rt; run.reads, read);
+            assert_eq!(rt; run.reads, read + 1);
             assert_eq!(rt; run.errors.taken(), b"read fault\n".as_slice());
             assert!(rt; run.output.taken().is_empty(), "{word} at read {read}");
         }
@@ -105,26 +126,15 @@ fn each_failed_read_is_told(rt: HostRuntime) -> Result<(), Fail> {
 }
 
 #[test]
-fn nothing_is_read_after_the_end(rt: HostRuntime) -> Result<(), Fail> {
-    for (words, input, want) in CALLS {
-        // The read after the one that finds the end would fail.
-        let reader = Tape::new(input.as_bytes(), Some(input.len() + 1));
-        let run = run_program(rt.alloc(), words, reader, u64::MAX, u64::MAX)?;
-        assert_eq!(rt; run.status, DONE, "for {want}");
-        assert_eq!(rt; run.output.taken(), want.as_bytes());
-    }
-    Ok(())
-}
-
-#[test]
 fn each_failed_write_is_told(rt: HostRuntime) -> Result<(), Fail> {
     for (words, input, want) in CALLS {
         for room in 0..want.len() {
-            let reader = Tape::new(input.as_bytes(), None);
-            let run = run_program(rt.alloc(), words, reader, room as u64, u64::MAX)?;
+            let reader = Tape::new(input.as_bytes(), After::End, 1);
+            let run = run_program(rt.alloc(), words, reader, Some(room), None)?;
             assert_eq!(rt; run.status, FAULT, "for {want}");
             assert_eq!(rt; run.errors.taken(), b"write fault\n".as_slice());
             assert_eq!(rt; run.output.taken(), &want.as_bytes()[..room]);
+            assert_eq!(rt; run.output.writes(), room + 1);
         }
     }
     Ok(())
@@ -181,17 +191,26 @@ fn inputs_up_to_the_largest_are_taken(rt: HostRuntime) -> Result<(), Fail> {
     Ok(())
 }
 
+/// A subcommand, what is read before spaces without end, and what is written.
+const WITHOUT_END: &[(&str, &str, &str)] = &[
+    ("answer", "", ""),
+    ("answer", "FF FF 02 80 00 00 82 ", ""),
+    ("dump", "", ""),
+    ("dump", "FF FF 02 80 00 00 82 ", dump::FIRST_LINE),
+    ("sim", "", ""),
+    ("sim", "turn P ok ok\n", ""),
+];
+
 #[test]
 fn an_input_without_end_is_too_long(rt: HostRuntime) -> Result<(), Fail> {
-    for word in ["answer", "dump", "sim"] {
-        let mut reader = Drip::new();
-        let mut output = Trickle::new(rt.alloc(), u64::MAX);
-        let mut errors = Trickle::new(rt.alloc(), u64::MAX);
-        let status = status_of(rt.alloc(), &[word], &mut reader, &mut output, &mut errors)?;
-        assert_eq!(rt; status, FAULT);
-        assert_eq!(rt; reader.given(), 1_048_577);
-        assert_eq!(rt; errors.taken(), b"input too long\n".as_slice());
-        assert!(rt; output.taken().is_empty());
+    for (word, input, want) in WITHOUT_END {
+        let reader = Tape::new(input.as_bytes(), After::Spaces, 64);
+        let run = run_program(rt.alloc(), &[*word], reader, None, None)?;
+        assert_eq!(rt; run.status, FAULT, "{word} on {input}");
+        // The last read gives the first byte after the longest input.
+        assert_eq!(rt; run.reads, 16_385, "{word} on {input}");
+        assert_eq!(rt; run.errors.taken(), b"input too long\n".as_slice());
+        assert_eq!(rt; run.output.taken(), want.as_bytes(), "{word} on {input}");
     }
     Ok(())
 }
@@ -206,6 +225,15 @@ fn readers_and_writers_of_the_standard_library_serve(rt: HostRuntime) -> Result<
         assert_eq!(rt; status, DONE);
         assert_eq!(rt; output.into_inner().as_slice(), want.as_bytes());
         assert!(rt; errors.into_inner().is_empty());
+        // A slice takes as many bytes as it has room for, and then none.
+        let mut room = [0; 25];
+        let mut reader = Plain::new(input.as_bytes());
+        let mut output = Plain::new(&mut room[..]);
+        let mut errors = Plain::new(Vec::new(rt.alloc()));
+        let status = status_of(rt.alloc(), words, &mut reader, &mut output, &mut errors)?;
+        assert_eq!(rt; status, FAULT);
+        assert_eq!(rt; errors.into_inner().as_slice(), b"write fault\n".as_slice());
+        assert!(rt; want.as_bytes().starts_with(room.as_slice()), "for {want}");
     }
     Ok(())
 }
@@ -322,10 +350,11 @@ fn a_failed_write_of_errors_leaves_the_status(rt: HostRuntime) -> Result<(), Fai
         let text = whole.errors.taken();
         assert!(rt; !text.is_empty());
         for room in 0..text.len() {
-            let reader = Tape::new(b"!", None);
-            let run = run_program(rt.alloc(), &[*word], reader, u64::MAX, room as u64)?;
+            let reader = Tape::new(b"!", After::End, 1);
+            let run = run_program(rt.alloc(), &[*word], reader, None, Some(room))?;
             assert_eq!(rt; run.status, *want, "{word} with room for {room}");
             assert_eq!(rt; Some(run.errors.taken()), text.get(..room));
+            assert_eq!(rt; run.errors.writes(), room + 1);
         }
     }
     Ok(())

@@ -5,55 +5,43 @@ ghost use Rattle.std.specs.Prelude.{Some, None};
 use super::{Failed, Sink, Source};
 use std::alloc::Global;
 
-/// Gives one space a read, and never ends.
-#[derive(Drop)]
-pub struct Drip {
-    given: u64,
+/// As many bytes in one call as there are.
+pub const ALL: usize = usize::MAX;
+
+/// What comes after the bytes of a [`Tape`].
+#[derive(Clone, Copy, Debug, PartialEq, Eq)]
+pub enum After {
+    /// The end.
+    End,
+    /// A read that fails.
+    Failure,
+    /// Spaces without end.
+    Spaces,
 }
 
-impl Drip {
-    pub fn new() -> Drip {
-        Drip { given: 0 }
-    }
-
-    pub fn given(&self) -> u64 {
-        self.given
-    }
-}
-
-impl Source for Drip {
-    ghost stream = { λ _. record { bytes = None; failures = 0 } };
-
-    fn read(&mut self, buffer: &mut [u8]) -> Result<usize, Failed> {
-        let Some(first) = buffer.first_mut() else {
-            return Ok(0);
-        };
-        *first = b' ';
-        self.given = self.given.saturating_add(1);
-        Ok(1)
-    }
-}
-
-/// Gives its bytes one a read and then ends, but fails at one of its reads.
+/// Gives its bytes, and then what comes after them.
 #[derive(Drop)]
 pub struct Tape<'a> {
     bytes: &'a [u8],
+    after: After,
+    most: usize,
     reads: usize,
-    fails_at: Option<usize>,
     failures: u64,
 }
 
 impl<'a> Tape<'a> {
-    /// `fails_at` is the number of the read that fails, from 0; `None` for a reader that never fails.
-    pub fn new(bytes: &'a [u8], fails_at: Option<usize>) -> Tape<'a> {
+    /// Each read gives `most` bytes, if there are as many.
+    pub fn new(bytes: &'a [u8], after: After, most: usize) -> Tape<'a> {
         Tape {
             bytes,
+            after,
+            most,
             reads: 0,
-            fails_at,
             failures: 0,
         }
     }
 
+    /// The number of reads so far, the failed ones among them.
     pub fn reads(&self) -> usize {
         self.reads
     }
@@ -63,42 +51,58 @@ impl Source for Tape<'_> {
     ghost stream = { λ tape. record { bytes = None; failures = tape.failures } };
 
     fn read(&mut self, buffer: &mut [u8]) -> Result<usize, Failed> {
-        if self.fails_at == Some(self.reads) {
-            self.failures = self.failures.saturating_add(1);
-            return Err(Failed);
-        }
         self.reads = self.reads.saturating_add(1);
-        let Some((next, rest)) = self.bytes.split_first() else {
-            return Ok(0);
-        };
-        let Some(first) = buffer.first_mut() else {
-            return Ok(0);
-        };
-        *first = *next;
-        self.bytes = rest;
-        Ok(1)
+        let room = buffer.len().min(self.most);
+        if !self.bytes.is_empty() {
+            let (next, rest) = self.bytes.split_at(room.min(self.bytes.len()));
+            buffer[..next.len()].copy_from_slice(next);
+            self.bytes = rest;
+            return Ok(next.len());
+        }
+        match self.after {
+            After::End => Ok(0),
+            After::Failure => {
+                self.failures = self.failures.saturating_add(1);
+                Err(Failed)
+            }
+            After::Spaces => {
+                buffer[..room].fill(b' ');
+                Ok(room)
+            }
+        }
     }
 }
 
-/// Takes one byte a write, and fails once it has taken so many.
+/// Keeps what it takes, and fails at one of its writes.
 #[derive(Drop)]
 pub struct Trickle {
     taken: Vec<u8>,
-    room: u64,
+    fails_at: Option<usize>,
+    most: usize,
+    writes: usize,
     failures: u64,
 }
 
 impl Trickle {
-    pub fn new(alloc: Global, room: u64) -> Trickle {
+    /// Each write takes `most` bytes, if there are as many. `fails_at` is the number of the write that fails, from 0; `None` for
+    /// a writer that never fails.
+    pub fn new(alloc: Global, fails_at: Option<usize>, most: usize) -> Trickle {
         Trickle {
             taken: Vec::new(alloc),
-            room,
+            fails_at,
+            most,
+            writes: 0,
             failures: 0,
         }
     }
 
     pub fn taken(&self) -> &[u8] {
         self.taken.as_slice()
+    }
+
+    /// The number of writes so far, the failed ones among them.
+    pub fn writes(&self) -> usize {
+        self.writes
     }
 
     pub fn failures(&self) -> u64 {
@@ -110,14 +114,13 @@ impl Sink for Trickle {
     ghost stream = { λ trickle. record { bytes = Some trickle.taken.items; failures = trickle.failures } };
 
     fn write(&mut self, bytes: &[u8]) -> Result<usize, Failed> {
-        let Some(first) = bytes.first() else {
-            return Ok(0);
-        };
-        if self.room == 0 || self.taken.push(*first).is_err() {
+        let fails = self.fails_at == Some(self.writes);
+        self.writes = self.writes.saturating_add(1);
+        let next = &bytes[..bytes.len().min(self.most.max(1))];
+        if fails || self.taken.extend_from_slice(next).is_err() {
             self.failures = self.failures.saturating_add(1);
             return Err(Failed);
         }
-        self.room -= 1;
-        Ok(1)
+        Ok(next.len())
     }
 }

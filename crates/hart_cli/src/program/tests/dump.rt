@@ -1,12 +1,12 @@
 //! `hart dump`.
 
-use super::{DONE, Row, check_rows, run_on};
+use super::{Row, check_rows};
 use std::test::Fail;
 
 /// A message that begins and goes on far beyond the whole one within it.
 const FALSE_START: &str = "FF FF 82 B7 42 0A 1B 2C 13 FF FF FF FF FF FF 02 80 00 00 82";
 
-const FIRST_LINE: &str = "2 7 STX P 0 @0 - 0 -\n";
+pub const FIRST_LINE: &str = "2 7 STX P 0 @0 - 0 -\n";
 
 /// A message of each master, and their lines.
 pub const TWO_MESSAGES: &str = "FF FF 02 80 00 00 82 FF FF 02 00 00 00 02";
@@ -70,13 +70,8 @@ fn long_messages_are_found_or_passed_over(rt: HostRuntime) -> Result<(), Fail> {
     let zeros = " 00".repeat(alloc, 246)?;
     let failing = format!(in alloc; "{FALSE_START}{zeros}")?;
     let rows = [
-        (longest.as_str(), line.as_str()),
-        (failing.as_str(), "15 20 STX P 0 @0 - 0 -\n"),
+        (longest.as_str(), line.as_str(), ""),
+        (failing.as_str(), "15 20 STX P 0 @0 - 0 -\n", ""),
     ];
-    for (input, want) in rows {
-        let run = run_on(alloc, &["dump"], input)?;
-        assert_eq!(rt; run.status, DONE, "on {input}");
-        assert_eq!(rt; run.output.taken(), want.as_bytes(), "on {input}");
-    }
-    Ok(())
+    check_rows(&rt, alloc, "dump", &rows)
 }
