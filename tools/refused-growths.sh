@@ -1,9 +1,9 @@
 #!/bin/sh
 # Runs each call of the built program again and again, and refuses one allocation each time: the first, the second, and so
-# on. A run may do without and write what it would have, or end with `out of memory` and a prefix of whole lines written: with
-# status 2 if the growth was for the words, of which clap has most, and with 1 if it was one of the call. Of its own a call
-# has as many as its reservations, whatever the length of its input. That it succeeds with ample memory is the last run, in
-# which none is left to refuse.
+# on. A run ends with `out of memory` and a prefix of whole lines written: with status 2 if the growth was for the words, of which
+# clap has most, and with 1 if it was one of the call. Of its own a call has as many as its reservations, whatever the length of
+# its input, and `hart dump` and `hart encode` have none. Only before clap has the words a run may do without a growth. That it
+# succeeds with ample memory is the last run, in which none is left to refuse.
 #
 # Usage: tools/refused-growths.sh [PROGRAM]; PROGRAM is the ./hart of the repository if absent. It needs cc.
 set -eu
@@ -54,6 +54,9 @@ refuse_each() {
             of_main=$((of_main + 1))
         elif [ "$status" -eq 2 ]; then
             of_clap=$((of_clap + 1))
+        elif [ "$of_clap" -gt 0 ]; then
+            echo "hart $*: it did without growth $number, so it has more of its own than it says" >&2
+            exit 1
         fi
         number=$((number + 1))
     done
@@ -88,7 +91,15 @@ refuse_each 3 answer --image "$image"
 
 echo 'FF FF 02 80 00 00 82 FF!40 FF FF 82 B7 42 0A 1B 2C 13 03 01 23 45 3D' >"$work/input"
 printf '%s\n' '2 7 STX P 0 @0 - 0 -' '10 22 STX P 0 37420A1B2C - 19 012345' >"$work/wanted"
-refuse_each 2 dump
+refuse_each 0 dump
+
+# So many messages that they are read in 52 portions, and their lines written in more.
+messages=40000
+awk -v messages="$messages" 'BEGIN { while (messages--) print "FF FF 02 80 00 00 82" }' >"$work/input"
+awk -v messages="$messages" 'BEGIN {
+    for (place = 0; place < 7 * messages; place += 7) print place + 2, place + 7, "STX P 0 @0 - 0 -"
+}' >"$work/wanted"
+refuse_each 0 dump
 
 cat >"$work/input" <<'SCRIPT'
 # The reply is lost, and the request is sent again.
