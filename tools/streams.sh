@@ -1,8 +1,9 @@
 #!/bin/sh
 # Runs the built program on what no contract speaks of. On streams and words of the system that fail it has to say so: a
 # device that is full, an input that cannot be read, a word that is not UTF-8. With a buffered standard output, for one,
-# `hart dump >/dev/full` would end with 0, every proof done and every test passed. All words have to reach the call, the
-# seventh and an empty one too, and the texts of clap have to be those in tools/texts, each in its place.
+# `hart dump >/dev/full` would end with 0, every proof done and every test passed. On a pipe that stays open `hart dump` has to
+# write each line before it reads on, and to end at bad hex. All words have to reach the call, the seventh and an empty one too,
+# and the texts of clap have to be those in tools/texts, each in its place.
 #
 # Usage: tools/streams.sh [PROGRAM]; PROGRAM is the ./hart of the repository if absent.
 set -eu
@@ -65,6 +66,37 @@ shows() {
     fi
     echo "hart $*: showed $wanted"
 }
+
+# Gives a text to the `hart dump` that runs on a pipe: it has to write this line, though it could read on.
+dumps_at_once() {
+    printf '%s' "$1" >&3
+    line=$(timeout 60 head -n 1 <&4) || true
+    if [ "$line" != "$2" ]; then
+        echo "hart dump: '$line' at '$1' on an open pipe, but '$2' is wanted" >&2
+        exit 1
+    fi
+    echo "hart dump: wrote '$line' on an open pipe"
+}
+
+mkfifo "$work/heard" "$work/lines"
+timeout 60 "$program" dump <"$work/heard" >"$work/lines" 2>"$work/errors" &
+dump=$!
+exec 3>"$work/heard" 4<"$work/lines"
+dumps_at_once 'FF FF 02 80 00 00 82 ' '2 7 STX P 0 @0 - 0 -'
+printf 'FFFF020000000' >&3
+dumps_at_once '2 ' '9 14 STX S 0 @0 - 0 -'
+# The message that begins first says that 255 payload bytes follow. A character with a fault shows that they do not.
+printf 'FFFF82B7420A1B2C13FFFFFFFFFFFF0280000082' >&3
+dumps_at_once '00!40 ' '29 34 STX P 0 @0 - 0 -'
+printf 'FG' >&3
+status=0
+wait "$dump" || status=$?
+exec 3>&- 4<&-
+if [ "$status" -ne 1 ] || [ "$(cat "$work/errors")" != 'bad hex at 82' ]; then
+    echo "hart dump: status $status and '$(cat "$work/errors")' on an open pipe, but 'bad hex at 82' is wanted" >&2
+    exit 1
+fi
+echo "hart dump: ended with $status on an open pipe, and gave '$(cat "$work/errors")'"
 
 ends_with 1 'write fault' /dev/full dump <"$request"
 ends_with 1 'write fault' /dev/full answer <"$request"
