@@ -113,14 +113,14 @@ turn_is_not_help s names enabled w word faultless before = from w.stopped faultl
     from None none other = step_is_not_help s.rules word w met.0 met.1 before
         (word_is_not_help s names w.is_trailing w.waiting w.position word w.held enabled (first_empty (faults_at s names w word) _ none))
 
--- the last checks fail where a subcommand is wanted
+-- the last checks fail if a subcommand is wanted
 wanted_is_fault : (wants_help wants_subcommand wants_argument : Bool) → wants_subcommand ≡ true
     → check_kinds wants_help wants_subcommand wants_argument ≢ []
 wanted_is_fault true wants_subcommand wants_argument wanted none = cc
 wanted_is_fault false true wants_argument wanted none = cc
 wanted_is_fault false false wants_argument wanted none = cc
 
--- where a subcommand is wanted, one is entered
+-- if a subcommand is wanted, one is entered
 subcommand_entered : (s : Shape) (rows : List Row) (entered_one : Bool) → s.subcommand_required ≡ true
     → check_fault s rows entered_one ≡ [] → entered_one ≡ true
 subcommand_entered s rows true wanted faultless = refl
@@ -215,10 +215,10 @@ meets_call command words m is_hart faultless matches =
     }
 
 -- what the error of the command `hart` is
-pub tells_fault : (command : Command) (words : List Text) (error : Error) → app_of command ≡ hart_app
+pub gives_fault : (command : Command) (words : List Text) (error : Error) → app_of command ≡ hart_app
     → (is_simple_and_free (app_of command) ≡ true → HasKind (fault_of (app_of command) words) error)
     → HasKind (fault_of hart_app words) error
-tells_fault command words error is_hart kinds =
+gives_fault command words error is_hart kinds =
     subst (λ (a : App). HasKind (fault_of a words) error) is_hart (kinds (ap is_simple_and_free is_hart))
 
 -- the name and the rows of a subcommand, from each alone
@@ -242,7 +242,7 @@ pub call_named : (words : List Text) (m : ArgMatches) (call : Call) (name : Text
 call_named words m call name rows meets is named values =
     record { no_fault = meets.no_fault; rows = rows; named = is ∙ ap (λ n. Some (n, rows)) named; values = values }
 
--- and where it gives nothing, they name nothing
+-- and if it gives nothing, they name nothing
 pub met_nothing : (words : List Text) (m : ArgMatches) → MeetsCall words m → None ≡ subcommand_name_of m → ⊥
 met_nothing words m meets none =
     nothing (subcommand_of hart_app words) meets.enters (ap (option_map (λ p. p.0)) (sym meets.same) ∙ subcommand_name-rows m ∙ sym none)

@@ -1,4 +1,4 @@
--- What the rows of `hart encode` hold where clap finds no fault in its words.
+-- What the rows of `hart encode` hold if clap finds no fault in its words.
 use Rattle.std.proofs.Common.{◌≡◌, ◌∙◌, ◌≤◌, ap₂, arith, length, option_map, unwrap_or, ◌++◌, ◌∷◌, [], Bool, IfSome, List, None, Option}
 use Rattle.std.proofs.Common.{Some, ap, codes, cond, false, find, fold, is_some, not, refl, slice_get, subst, sym, true, ℕ, ◌||◌, pos}
 use Rattle.std.proofs.lemmas.Int.{ints}
@@ -37,7 +37,7 @@ first_stays : (xs ys : List Text) (t : Text) → slice_get xs 0 ≡ Some t → s
 first_stays [] ys t is = cc
 first_stays (x ∷ xs) ys t is = is
 
--- more values behind those of a row
+-- more values after those of a row
 more_passed : (s : ValueSource) (values : List Text) (r : Row) → Passed r → Each Passed (more_values s values r)
 more_passed s values r passed = (
   record {
@@ -262,7 +262,7 @@ kept_minus : (text : Text) → starts_with_minus text ≡ false → without_minu
 kept_minus [] other = refl
 kept_minus (x ∷ xs) other = ap (λ b. unwrap_or (cond b (Some xs) None) (x ∷ xs)) other
 
--- the matches of `encode` have its words where clap finds no fault in them
+-- the matches of `encode` have its words if clap finds no fault in them
 pub encode_has_words : (words : List Text) → level_fault encode_shape [] nothing_held words false [] ≡ []
     → HasWords (rows_after encode_shape.rules [] words)
 encode_has_words words faultless =

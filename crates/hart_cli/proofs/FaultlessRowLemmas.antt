@@ -45,7 +45,7 @@ each_found P test (x ∷ xs) all = here (test x) (each_found P test xs all.1)
     here true later = all.0
     here false later = later
 
--- P holds of each row where one was changed or added, if it does of these
+-- P holds of each row after one was changed or added, if it does of these
 pub each_at_row : (P : Row → Type 0) (id : Text) (change : Row → List Row) (missing rows : List Row)
     → ((r : Row) → P r → bytes_eq r.id id ≡ true → Each P (change r))
     → Each P missing → Each P rows → Each P (at_row id change missing rows)

@@ -94,7 +94,7 @@ same_pushed old new given moves =
     let gone = replicate old.first none in
     let chars = gone ++ (old.held ++ []) in
     let heard = moves.heard [] chars (record {
-      front = gone;
+      prefix = gone;
       split = refl;
       place = length-replicate old.first none;
       ended = λ _. refl;
@@ -102,7 +102,7 @@ same_pushed old new given moves =
     let all = ap (λ (xs : List Character). length xs) heard.split in
     let before = length-append gone (old.held ++ []) in
     let held = length-append old.held [] in
-    let after = length-append heard.front (new.held ++ []) in
+    let after = length-append heard.prefix (new.held ++ []) in
     let holds = length-append new.held [] in
     omega (arith, all, before, held, after, holds, heard.place, length-replicate old.first none)
 

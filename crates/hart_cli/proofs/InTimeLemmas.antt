@@ -46,18 +46,18 @@ passed_on : (chars : List Character) (old new : Scan) (given next : List Found) 
     → MovesPast old new next → IsPassed chars new (given ++ next)
 passed_on chars old new given next going p moves =
     let heard = moves.heard [] chars (record {
-      front = p.passed;
+      prefix = p.passed;
       split = p.split ∙ ap (λ (xs : List Character). p.passed ++ xs) (sym (append-nil old.held));
       place = p.place;
       ended = λ _. refl;
     }) in
     record {
-      passed = heard.front;
-      split = heard.split ∙ ap (λ (xs : List Character). heard.front ++ xs) (append-nil new.held);
+      passed = heard.prefix;
+      split = heard.split ∙ ap (λ (xs : List Character). heard.prefix ++ xs) (append-nil new.held);
       place = heard.place;
       first = λ more later are.
           let all : Hears old more (chars ++ more) = record {
-            front = p.passed;
+            prefix = p.passed;
             split = ap (λ (xs : List Character). xs ++ more) p.split ∙ append_assoc p.passed old.held more;
             place = p.place;
             ended = λ finished. absurd (false≢true (sym going ∙ finished));
@@ -108,8 +108,8 @@ decided_of chars scan given history going undecided =
 HasNoFrame-nil : HasNoFrame [] 0
 HasNoFrame-nil found stands =
     let all = ap length stands.split in
-    let whole = length-append (stands.front ++ faultless (255 ∷ 255 ∷ stands.body)) stands.rest in
-    let first = length-append stands.front (faultless (255 ∷ 255 ∷ stands.body)) in
+    let whole = length-append (stands.prefix ++ faultless (255 ∷ 255 ∷ stands.body)) stands.rest in
+    let first = length-append stands.prefix (faultless (255 ∷ 255 ∷ stands.body)) in
     omega (arith, all, whole, first)
 
 -- before the first read no line was due

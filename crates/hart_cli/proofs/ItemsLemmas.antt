@@ -130,7 +130,7 @@ goes_on _ _ _ _ _ (piece text p s cs rest h r) (piece _ q t ds last k l) n =
           ∙ sym (append_assoc (meaning p) cs on.between);
     }
 
--- nothing is read where no piece begins
+-- nothing is read if no piece begins
 pub stays : (rest : List ℕ) (chars : List Character) (last : List ℕ) → ReadsUpTo rest chars last → NoPieceBegins rest
     → (chars ≡ []) × (rest ≡ last)
 stays _ _ _ (nothing last) n = (refl, refl)

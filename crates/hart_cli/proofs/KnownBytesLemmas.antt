@@ -21,9 +21,9 @@ Appends-append (Some us) (Some vs) (Some ws) xs ys h k =
 
 -- the text was appended up to the rest
 pub record AppendsUpTo (old new : Option (List ℕ)) (text rest : List ℕ) : Type 0 where
-  pub front : List ℕ
-  pub split : text ≡ front ++ rest
-  pub appended : Appends old new front
+  pub prefix : List ℕ
+  pub split : text ≡ prefix ++ rest
+  pub appended : Appends old new prefix
 
 -- one write more
 pub AppendsUpTo-more : (a b c : Option (List ℕ)) (text rest : List ℕ) (n m : ℕ) → m ≡ length rest - n → AppendsUpTo a b text rest
@@ -31,11 +31,11 @@ pub AppendsUpTo-more : (a b c : Option (List ℕ)) (text rest : List ℕ) (n m :
 AppendsUpTo-more a b c text rest n m e h k =
     let left : take m (drop n rest) ≡ drop n rest = ap (λ (i : ℕ). take i (drop n rest)) e ∙ take_rest rest n in
     record {
-      front = h.front ++ take n rest;
-      split = h.split ∙ ap (λ (xs : List ℕ). h.front ++ xs) (sym (take-append-drop n rest))
-          ∙ sym (append_assoc h.front (take n rest) (drop n rest))
-          ∙ ap (λ (xs : List ℕ). (h.front ++ take n rest) ++ xs) (sym left);
-      appended = Appends-append a b c h.front (take n rest) h.appended k;
+      prefix = h.prefix ++ take n rest;
+      split = h.split ∙ ap (λ (xs : List ℕ). h.prefix ++ xs) (sym (take-append-drop n rest))
+          ∙ sym (append_assoc h.prefix (take n rest) (drop n rest))
+          ∙ ap (λ (xs : List ℕ). (h.prefix ++ take n rest) ++ xs) (sym left);
+      appended = Appends-append a b c h.prefix (take n rest) h.appended k;
     }
 
 -- to write nothing leaves the bytes

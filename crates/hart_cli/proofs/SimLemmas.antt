@@ -122,14 +122,14 @@ IsSimulationFault-run device input start read events (line_faults.Memory none) s
     inr (inl (read, script, subst Needs same_events is_fault))
 
 -- the fault of an input that ended
-pub told_of_input : (device : DeviceState) (reader reader_after writer : Stream) (input : List ℕ) (fault : CliFault)
+pub given_of_input : (device : DeviceState) (reader reader_after writer : Stream) (input : List ℕ) (fault : CliFault)
     → Reads reader reader_after input Ended → IsSimulationFault device input fault
     → WholeOutcome (IsSimulation device) (IsSimulationFault device) reader reader_after writer writer (Err fault)
-told_of_input device reader reader_after writer input (faults.Line fault) read is =
+given_of_input device reader reader_after writer input (faults.Line fault) read is =
     (record { input = input; whole = read; holds = is }, (Keeps-same writer.bytes, refl))
-told_of_input device reader reader_after writer input (faults.Memory none) read is =
+given_of_input device reader reader_after writer input (faults.Memory none) read is =
     (inr (record { input = input; whole = read; holds = is }), (Keeps-same writer.bytes, refl))
-told_of_input device reader reader_after writer input _ read is = absurd is
+given_of_input device reader reader_after writer input _ read is = absurd is
 
 -- the law of scripts: a text is one at most
 abbrev pub OneScript : Type 0
@@ -145,7 +145,7 @@ same_spoken x y party preambles bytes =
     ap₂ (λ (p : Party × ℕ) (b : List ℕ). record { party = p.0; preambles = p.1; bytes = b })
     (ap₂ (λ (p : Party) (n : ℕ). (p, n)) party preambles) bytes
 
--- messages are told in one way
+-- frames are spoken in one way
 AreSpoken-one : OneBody → (messages : List SpokenFrame) (xs ys : List Spoken) → AreSpoken messages xs → AreSpoken messages ys → xs ≡ ys
 AreSpoken-one bodies [] [] [] p q = refl
 AreSpoken-one bodies [] [] (y ∷ ys) p q = absurd q

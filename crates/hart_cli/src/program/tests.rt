@@ -14,7 +14,7 @@ mod encode;
 mod image;
 mod sim;
 
-/// The words of each call, an input, and what it writes where it reads that.
+/// The words of each call, an input, and what it writes if it reads that.
 const CALLS: &[(&[&str], &str, &str)] = &[
     (&["answer"], IDENTIFY, answer::REPLY_TO_PRIMARY),
     (&["dump"], dump::TWO_MESSAGES, dump::TWO_LINES),
@@ -375,7 +375,7 @@ fn words_of_any_length_are_read(rt: HostRuntime) -> Result<(), Fail> {
     ];
     for (words, status, start) in rows {
         let run = run_on(rt.alloc(), words, IDENTIFY)?;
-        assert_eq!(rt; run.status, *status, "where {start} is wanted");
+        assert_eq!(rt; run.status, *status, "but {start} is wanted");
         assert_eq!(rt; run.reads, 0);
         assert!(rt; run.errors.taken().starts_with(start.as_bytes()));
         assert!(rt; run.output.taken().is_empty());

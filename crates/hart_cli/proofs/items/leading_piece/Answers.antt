@@ -36,7 +36,7 @@ begins_as_piece text char len b short =
       means = ap (λ (u : Character). u ∷ []) b.means;
     }
 
--- no piece begins where neither a separator stands nor an item short of the end
+-- no piece begins if neither a separator stands nor an item short of the end
 no_piece_begins : (text : List ℕ) → (IsSeparator (get_or text 0 0) → ⊥)
     → ((item : items.Item) (tail : List ℕ) → BeginsWithItem text item tail → tail ≢ [] → ⊥) → NoPieceBegins text
 no_piece_begins text s n (Separator a) tail h =
@@ -44,7 +44,7 @@ no_piece_begins text s n (Separator a) tail h =
 no_piece_begins text s n (Item item) tail h =
     n item tail (record { valid = h.valid; spelled = h.spelled; ends = h.whole.1 }) h.whole.0
 
--- where one item is a whole text, no other one is short of its end
+-- if one item is a whole text, no other one is short of its end
 one_whole_item : (p q : items.Item) (tail : List ℕ) → item_spelling p ≡ item_spelling q ++ tail → EndsBefore tail q → tail ≢ [] → ⊥
 one_whole_item (Plain a b) (Plain x y) tail e d some = some (cc e)
 one_whole_item (Plain a b) (Faulty x y v w) tail e d some = cc e
@@ -52,7 +52,7 @@ one_whole_item (Faulty a b c z) (Plain x y) tail e d some =
     let mark : tail ≡ 33 ∷ c ∷ z ∷ [] = cc e in (subst (λ (xs : List ℕ). EndsBefore xs (Plain x y)) mark d) refl
 one_whole_item (Faulty a b c z) (Faulty x y v w) tail e d some = some (cc e)
 
--- the text is the item where they are as long
+-- the text is the item if they are as long
 is_spelling : (text spelled tail : List ℕ) → text ≡ spelled ++ tail → length spelled ≡ length text → text ≡ spelled
 is_spelling text [] [] e long = e
 is_spelling text [] (x ∷ tail) e long = let all = ap (λ (xs : List ℕ). length xs) e in absurd (omega arith)

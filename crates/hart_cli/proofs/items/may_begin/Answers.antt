@@ -77,7 +77,7 @@ separator_stands a text more tail x h n =
     let same : a ≡ x = cc in
     n (Separator x) text (record { valid = h.valid; spelled = ap (λ (y : ℕ). y ∷ text) same; whole = tt })
 
--- an item with fault bits 02 begins where its digits are digits
+-- an item with fault bits 02 begins if its digits are digits
 begins_filled : (text : List ℕ) (x y : ℕ) → AreDigits x y → text ≡ x ∷ y ∷ 33 ∷ 48 ∷ 50 ∷ 32 ∷ [] → NoPieceBegins text → ⊥
 begins_filled text x y d e n =
     n (Item (Faulty x y 48 50)) (32 ∷ []) (record {
@@ -95,7 +95,7 @@ begins_filled text x y d e n =
 is_digit : (a x : ℕ) → a ≡ x → IsTrue (is_hex_digit x) → IsTrue (is_hex_digit a)
 is_digit a x e d = subst (λ (y : ℕ). IsTrue (is_hex_digit y)) (sym e) d
 
--- an item with fault bits begins, where they are some
+-- an item with fault bits begins, if they are some
 begins_faulty : (text : List ℕ) (x y v w : ℕ) → AreDigits x y → AreDigits v w → byte_of v w ≢ 0 → AreFaultBits (byte_of v w)
     → text ≡ x ∷ y ∷ 33 ∷ v ∷ w ∷ 32 ∷ [] → NoPieceBegins text → ⊥
 begins_faulty text x y v w d f z a e n =
@@ -129,7 +129,7 @@ filled (a ∷ b ∷ c ∷ d ∷ f ∷ []) more tail (Item (Faulty x y v w)) n h 
 filled (a ∷ b ∷ c ∷ d ∷ f ∷ u ∷ text) more tail (Item (Faulty x y v w)) n h m =
     stands_already (a ∷ b ∷ c ∷ d ∷ f ∷ u ∷ text) more tail (Item (Faulty x y v w)) h (omega arith) n
 
--- a text with a byte behind each piece that could stand in it
+-- a text with a byte after each piece that could stand in it
 longer : (text more tail : List ℕ) (p : Piece) → 5 < length text → BeginsWith (text ++ more) p tail → NoPieceBegins text → ⊥
 longer text more tail (Separator x) long h n = stands_already text more tail (Separator x) h (omega arith) n
 longer text more tail (Item (Plain x y)) long h n = stands_already text more tail (Item (Plain x y)) h (omega arith) n

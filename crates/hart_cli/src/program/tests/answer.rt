@@ -107,10 +107,10 @@ const REPLY: &str = "FF FF FF FF FF 86 B7 42 0A 1B 2C ";
 #[test]
 fn every_command_is_answered_where_it_comes_alone(rt: HostRuntime) -> Result<(), Fail> {
     let mut all = String::new(rt.alloc());
-    for (asked, told) in OWN_ROWS {
+    for (asked, replied) in OWN_ROWS {
         let input = format!(in rt.alloc(); "{REQUEST}{asked}\n")?;
         all.push_str(input.as_str())?;
-        let want = format!(in rt.alloc(); "{REPLY}{told}\n")?;
+        let want = format!(in rt.alloc(); "{REPLY}{replied}\n")?;
         let run = run_on(rt.alloc(), &["answer"], input.as_str())?;
         assert_eq!(rt; run.status, DONE, "on {asked}");
         assert_eq!(rt; run.output.taken(), want.as_bytes(), "on {asked}");

@@ -1,14 +1,14 @@
 use Rattle.std.proofs.Common.{map, string_bytes}
 use Rattle.std.proofs.lemmas.Result.{err_from_is_err_and}
 use Rattle.hart_cli.specs.declared.program.command_line.Call.TheVariants.{Answer, Dump, Encode, Sim}
-use Rattle.hart_cli.proofs.CommandLineLemmas.{call_named, encode_entered, meets_call, met_by_words, no_other_entered, tells_fault}
+use Rattle.hart_cli.proofs.CommandLineLemmas.{call_named, encode_entered, meets_call, met_by_words, no_other_entered, gives_fault}
 use Rattle.hart_cli.proofs.program.command_line.requested_call.Goals as goal
 
 pub returns-in_err-matches-clause-refused : goal.returns-in_err-matches-clause-refused
 returns-in_err-matches-clause-refused c =
     let given = err_from_is_err_and c.from_residual-in_err-matches.result c.from_residual-in_err-matches.ensures.1 in
     rw (given.1, given.2)
-    (tells_fault _ (map string_bytes c.args.words.now) c.in_err-matches.field-0.0 c.in_ok-hart_command.ensures
+    (gives_fault _ (map string_bytes c.args.words.now) c.in_err-matches.field-0.0 c.in_ok-hart_command.ensures
     c.in_err-matches.ensures.kinds)
 
 pub returns-in-answer-clause-call : goal.returns-in-answer-clause-call
