@@ -1,20 +1,27 @@
 #!/usr/bin/env python3
 """Measures `hart dump` on inputs of the largest size, in one run on one machine. It asserts no time.
 
-Prints characters a second for each input, the ratio of its time a character to that of the clean input, and the ratio of
-the clean input's time to that of `xxd -r -p` over the same text. Each time is the best of several runs of the whole
+Prints for each input characters a second, the ratio of its time to that of `xxd -r -p` over the same text, and the ratio of its
+time a character to that of the clean frames; then the same for texts of one kind that are spelled otherwise, the time of an empty
+input, and the greatest memory of the process for a short input and a long one. Each time is the best of several runs of the whole
 program, from its start to its end, with its output thrown away.
 
-Usage: bench/dump.py [PROGRAM [RUNS]]; PROGRAM is ./hart, RUNS 15. It needs `xxd`.
+Usage: bench/dump.py [PROGRAM [RUNS]]; PROGRAM is ./hart, RUNS 31. It needs `xxd`.
 """
 
+import pathlib
 import random
 import subprocess
 import sys
+import tempfile
 import time
 
 INPUT_LIMIT = 1_048_576
 DIGITS_A_LINE = 60
+# Two digits and a space.
+SPACED = INPUT_LIMIT // 3
+# A line of 60 digits has 30 characters and its line feed.
+DENSE = INPUT_LIMIT // (DIGITS_A_LINE + 1) * (DIGITS_A_LINE // 2)
 
 
 def with_check_byte(body):
@@ -36,44 +43,79 @@ def inputs(length):
     false_starts = bytes.fromhex("FFFF82B7420A1B2C13FF")
     long_starts = bytes.fromhex("FFFF028000FF")
     return {
-        "clean frames end to end": repeated(message, length),
-        "random noise": noise,
-        "false starts end to end": repeated(false_starts, length),
-        "a delimiter with byte count 255 after every two FF": repeated(long_starts, length),
+        "clean frames": repeated(message, length),
+        "noise": noise,
+        "false starts": repeated(false_starts, length),
+        "count 255 after every two FF": repeated(long_starts, length),
     }
 
 
-def as_text(characters):
+def spaced(characters):
+    """Items with a space after each."""
+    return "".join(f"{byte:02X} " for byte in characters).encode()
+
+
+def dense(characters):
     """Plain hex, broken into lines as `xxd -p` does."""
     digits = characters.hex()
     lines = [digits[i:i + DIGITS_A_LINE] for i in range(0, len(digits), DIGITS_A_LINE)]
     return ("\n".join(lines) + "\n").encode()
 
 
+def other_texts():
+    """Texts by their names, each with the number of its characters."""
+    alone = b"FF\n" * SPACED
+    piece = b"FF " * 7 + b"FF!10 "
+    faulty = piece * (INPUT_LIMIT // len(piece))
+    return {
+        "FF alone, one item a line": (alone, SPACED),
+        "a fault at every eighth item": (faulty, faulty.count(b" ")),
+    }
+
+
 def best_time(command, text, runs):
     best = float("inf")
-    for _ in range(runs):
-        start = time.perf_counter()
-        subprocess.run(command, input=text, stdout=subprocess.DEVNULL, check=True)
-        best = min(best, time.perf_counter() - start)
+    with tempfile.TemporaryFile() as file:
+        file.write(text)
+        for _ in range(runs):
+            file.seek(0)
+            start = time.perf_counter()
+            subprocess.run(command, stdin=file, stdout=subprocess.DEVNULL, check=True)
+            best = min(best, time.perf_counter() - start)
     return best
+
+
+def greatest_memory(program, text):
+    """The most memory that a run of the program has held once it waits for more than this text, in KiB."""
+    with subprocess.Popen([program, "dump"], stdin=subprocess.PIPE, stdout=subprocess.DEVNULL) as child:
+        child.stdin.write(text)
+        child.stdin.flush()
+        time.sleep(0.5)
+        status = pathlib.Path(f"/proc/{child.pid}/status").read_text()
+        child.stdin.close()
+    return next(line.split()[1] for line in status.splitlines() if line.startswith("VmHWM"))
 
 
 def main():
     program = sys.argv[1] if len(sys.argv) > 1 else "./hart"
-    runs = int(sys.argv[2]) if len(sys.argv) > 2 else 15
-    # A line of 60 digits has 30 characters and its line feed.
-    length = INPUT_LIMIT // (DIGITS_A_LINE + 1) * (DIGITS_A_LINE // 2)
-    clean = None
-    for name, characters in inputs(length).items():
-        text = as_text(characters)
-        assert len(text) <= INPUT_LIMIT
+    runs = int(sys.argv[2]) if len(sys.argv) > 2 else 31
+    for spelling, spell, length in (("spaced", spaced, SPACED), ("dense", dense, DENSE)):
+        clean = None
+        for name, characters in inputs(length).items():
+            text = spell(characters)
+            assert len(text) <= INPUT_LIMIT
+            seconds = best_time([program, "dump"], text, runs)
+            other = best_time(["xxd", "-r", "-p"], text, runs)
+            clean = clean or seconds
+            print(f"{spelling} {name}: {length / seconds / 1e6:.1f} million characters a second, "
+                  f"{seconds / other:.2f} of xxd's time, {seconds / clean:.2f} of the clean input's time")
+    for name, (text, count) in other_texts().items():
         seconds = best_time([program, "dump"], text, runs)
-        if clean is None:
-            clean = seconds
-            xxd = best_time(["xxd", "-r", "-p"], text, runs)
-        print(f"{name}: {length / seconds / 1e6:.1f} million characters a second, {seconds / clean:.2f} of the clean input's time")
-    print(f"clean frames against xxd -r -p over the same text: {clean / xxd:.2f} of its time")
+        print(f"{name}: {count / seconds / 1e6:.1f} million characters a second")
+    print(f"an empty input: {best_time([program, 'dump'], b'', runs) * 1e3:.2f} ms")
+    message = spaced(inputs(SPACED)["clean frames"])
+    print(f"greatest memory: {greatest_memory(program, message[:1023])} KiB for 1 KiB, "
+          f"{greatest_memory(program, message)} KiB for {len(message)} bytes")
 
 
 if __name__ == "__main__":
