@@ -80,7 +80,7 @@ lines_broken_off has first start now chars broken =
       record { frames = all.0; are_frames = all.1; text = refl },
       FailsToWrite-longer start now broken.lines (dump_text later.0) (dump_text all.0)
           (ap dump_text later.1 ∙ dump_text-append broken.given later.0
-      ∙ ap (λ (text : List ℕ). text ++ dump_text later.0) broken.split) broken.fails,
+          ∙ ap (λ (text : List ℕ). text ++ dump_text later.0) broken.split) broken.fails,
     )
 
 -- a write failed while an input was scanned

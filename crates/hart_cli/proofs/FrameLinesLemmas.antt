@@ -46,9 +46,9 @@ kept_written start earlier old new frames after chars so_far wrote same none = r
   history = subst (λ (scan : Scan). IsHistory chars scan so_far.given) (sym same) so_far.history;
   written = so_far.written ++ frames.lines;
   split = so_far.split ∙ ap (λ (xs : List ℕ). earlier ++ xs) (
-  sym (append-nil (so_far.written ++ frames.lines))
-  ∙ ap (λ (xs : List ℕ). (so_far.written ++ frames.lines) ++ xs) (sym none)
-  );
+      sym (append-nil (so_far.written ++ frames.lines))
+      ∙ ap (λ (xs : List ℕ). (so_far.written ++ frames.lines) ++ xs) (sym none)
+      );
   wrote = WritesAll-on start old new so_far.written frames.lines so_far.wrote wrote;
 }
 

@@ -15,5 +15,6 @@ mod ItemsLemmas
 mod KnownBytesLemmas
 mod LineLemmas
 mod MessageLineLemmas
+mod RunLemmas
 mod ScanInputLemmas
 mod SimLemmas

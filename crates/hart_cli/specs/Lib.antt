@@ -19,3 +19,4 @@ pub mod Sim
 pub mod FaultText
 pub mod CommandLine
 pub mod Program
+pub mod Run

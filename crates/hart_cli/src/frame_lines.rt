@@ -10,9 +10,10 @@ ghost use Rattle.hart_cli.specs.Items.{NoPieceBegins};
 ghost use Rattle.hart_cli.specs.Stream.{FailsToWrite, Stream};
 
 use crate::dump_text::push_frame_line;
-use crate::items::{Run, leading_piece, read_run};
+use crate::items::leading_piece;
 use crate::line::LINE_LEN;
 use crate::output::write_all;
+use crate::run::{Run, read_run};
 use crate::stream::{Failed, Sink};
 use hart_frame::{Char, FoundView, Scanner, held_frames_are_given};
 use hart_values::ByteList;

@@ -10,14 +10,7 @@ ghost use Rattle.hart_cli.specs.declared.fault.CliFault.{CliFault};
 use crate::fault::CliFault;
 use hart_frame::Char;
 use hart_line::{Filling, leading_item};
-use hart_values::ByteList;
 use std::alloc::Global;
-
-/// The most faultless characters that are scanned at once.
-const RUN_LEN: usize = 8192;
-
-/// The bytes of faultless characters.
-pub type Run = ByteList<RUN_LEN>;
 
 /// An input that was read so far has no two lists of characters before its fault, and no two faults.
 pub fn inputs_are_unambiguous()
@@ -66,26 +59,6 @@ fn read_pieces(text: &[u8], chars: &mut Filling<Char>) -> usize
     place
 }
 
-/// Reads pieces without fault bits that a text begins with into an empty run, and gives the place after them.
-pub fn read_run(text: &[u8], run: &mut Run) -> usize
-    requires { run.old ≡ [] }
-    ensures within { result ≤ length text.now }
-    ensures reads { ReadsUpTo text.now (faultless run.new) (drop result text.now) }
-    ensures few { length run.new ≤ result }
-{
-    let mut place = 0;
-    while let Some(lead) = leading_piece(&text[place..]) {
-        if let Some(char) = lead.char {
-            if !char.is_faultless() || run.len() == RUN_LEN {
-                return place;
-            }
-            run.push(char.byte());
-        }
-        place += lead.len;
-    }
-    place
-}
-
 /// What a piece means, and its length.
 #[derive(Drop)]
 pub struct Lead {
@@ -115,7 +88,7 @@ pub fn leading_piece(text: &[u8]) -> Option<Lead>
 }
 
 /// Whether a byte is a space, a tab, a carriage return or a line feed.
-fn is_separator(byte: u8) -> bool
+pub fn is_separator(byte: u8) -> bool
     ensures { IsTrue result ↔ IsSeparator byte }
 {
     matches!(byte, b' ' | b'\t' | b'\r' | b'\n')

@@ -18,6 +18,7 @@ mod line;
 mod output;
 mod plain;
 mod program;
+mod run;
 mod sim;
 mod sim_text;
 mod stream;

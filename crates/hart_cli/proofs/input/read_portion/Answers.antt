@@ -1,4 +1,4 @@
-use Rattle.std.proofs.Common.{◌≡◌, ◌≤◌, ◌<◌, ◌+◌, ℕ, suc, List, [], ◌∷◌, ◌++◌, length, take, drop, get_or, sym, ap, ◌∙◌, subst, arith, take-suc}
+use Rattle.std.proofs.Common.{◌≡◌, ◌≤◌, ◌+◌, ℕ, suc, List, [], ◌∷◌, ◌++◌, length, take, drop, get_or, sym, ap, ◌∙◌, subst, arith, take-suc}
 use Rattle.std.proofs.lemmas.List.{length-append, length-take-le, take-append-le}
 use Rattle.hart_cli.specs.Input.{ReadsBeyond, ReadsWell}
 use Rattle.hart_cli.specs.Stream.{Stream}

@@ -1,4 +1,4 @@
-use Rattle.std.proofs.Common.{◌≡◌, ◌+◌, ◌-◌, ◌≤◌, List, false, IsTrue, length, take}
+use Rattle.std.proofs.Common.{◌≡◌, ◌+◌, ◌-◌, ◌≤◌, false, IsTrue, length, take}
 use Rattle.hart_frame.specs.Character.{faultless}
 use Rattle.hart_cli.specs.FrameLines.{ScansOn}
 use Rattle.hart_cli.proofs.frame_lines.FrameLines.scan_run.Given as goal

@@ -94,12 +94,12 @@ loop-lead-preserved g c =
             (w.in-Some-char.char ∷ []) so_far w.in_ok-scan_char.ensures.scans);
       })
       | in_default-char w ↦ rw
-      (w.self-is, w.writer-is, no_char c.in-Some.lead.char w.in_default-char.not-Some, append-nil (loop.chars ++ run)) (record {
-        drained = scanned.drained;
-        going = scanned.going;
-        pushed = omega (arith, scanned.pushed, loop.pushed, size, few);
-        so_far = so_far;
-      })
+          (w.self-is, w.writer-is, no_char c.in-Some.lead.char w.in_default-char.not-Some, append-nil (loop.chars ++ run)) (record {
+            drained = scanned.drained;
+            going = scanned.going;
+            pushed = omega (arith, scanned.pushed, loop.pushed, size, few);
+            so_far = so_far;
+          })
     ] in
     record {
       within = piece.1;
