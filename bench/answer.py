@@ -11,7 +11,7 @@ import random
 import subprocess
 import sys
 
-from dump import DIGITS_A_LINE, INPUT_LIMIT, as_text, best_time, with_check_byte
+from dump import DIGITS_A_LINE, INPUT_LIMIT, dense, best_time, with_check_byte
 
 REPLY = b"FF FF FF FF FF 86 B7 42 0A 1B 2C 13 05 00 40 01 23 45 7F\n"
 
@@ -24,7 +24,7 @@ def main():
     # This noise has starts, but no frame: the answer shows that the request is the one frame.
     noise = random.Random(1).randbytes(length - len(request))
     middle = len(noise) // 2
-    text = as_text(noise[:middle] + request + noise[middle:])
+    text = dense(noise[:middle] + request + noise[middle:])
     assert subprocess.run([program, "answer"], input=text, capture_output=True, check=True).stdout == REPLY
     seconds = best_time([program, "answer"], text, runs)
     dumped = best_time([program, "dump"], text, runs)

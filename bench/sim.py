@@ -11,7 +11,7 @@ Usage: bench/sim.py [PROGRAM [RUNS]]; PROGRAM is ./hart, RUNS 15.
 import random
 import sys
 
-from dump import DIGITS_A_LINE, INPUT_LIMIT, as_text, best_time, inputs
+from dump import DIGITS_A_LINE, INPUT_LIMIT, dense, best_time, inputs
 
 SUBMISSION = b"submit P 37420A1B2C 19 012345\n"
 CLEAN_TURN = b"turn P ok ok\n"
@@ -42,7 +42,7 @@ def main():
     program = sys.argv[1] if len(sys.argv) > 1 else "./hart"
     runs = int(sys.argv[2]) if len(sys.argv) > 2 else 15
     length = INPUT_LIMIT // (DIGITS_A_LINE + 1) * (DIGITS_A_LINE // 2)
-    frames = as_text(inputs(length)["clean frames end to end"])
+    frames = dense(inputs(length)["clean frames"])
     dumped = best_time([program, "dump"], frames, runs)
     halves = scripts(INPUT_LIMIT // 2)
     for name, script in scripts(INPUT_LIMIT).items():
