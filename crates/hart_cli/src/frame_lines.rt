@@ -61,8 +61,9 @@ impl FrameLines {
         ensures going { IfOk result (λ _. self.new.scanner.finished ≡ false) }
     {
         let mut place = 0;
+        let mut run = Run::new();
         loop {
-            let mut run = Run::new();
+            run.clear();
             place += read_run(&text[place..], &mut run);
             self.scan_run(run.as_slice(), writer)?;
             let Some(lead) = leading_piece(&text[place..]) else {
