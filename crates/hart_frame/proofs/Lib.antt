@@ -24,3 +24,4 @@ pub mod UndecidedLemmas
 pub mod StreamLemmas
 pub mod RunLemmas
 pub mod FillLemmas
+pub mod StartLemmas

@@ -11,6 +11,7 @@ pub mod Character
 pub mod Heard
 pub mod Place
 pub mod Frames
+pub mod Start
 pub mod Found
 pub mod Delivery
 pub mod Damage

@@ -34,6 +34,7 @@ mod plain;
 mod run;
 mod scanner;
 mod settle;
+mod start;
 mod streamed;
 mod view;
 
@@ -55,6 +56,7 @@ pub use laws::{
 pub use message::{LEAST_PREAMBLES, MOST_PREAMBLES, Message, encode};
 pub use parity::check_byte;
 pub use scanner::Scanner;
+pub use start::{first_start, first_starts_are_decided};
 pub use streamed::{
     any_chunking_gives_the_same_frames, frames_are_streamed, held_frames_are_given,
 };
