@@ -6,6 +6,7 @@ pub mod Status
 pub mod Variables
 pub mod Content
 pub mod Answer
+pub mod Garbled
 pub mod Delivery
 pub mod Ranges
 pub mod Image

@@ -1,16 +1,18 @@
-ghost use Rattle.std.specs.Prelude.{◌≡◌, ◌≤◌, List, length, IsSome, IsTrue, IfSome, None, Ok, ◌↔◌};
+ghost use Rattle.std.specs.Prelude.{◌≡◌, ◌≤◌, length, IsSome, IsTrue, IfSome, MatchOption, None, Ok, ◌↔◌};
 ghost use Rattle.hart_values.specs.EachMaster.{of_master};
-ghost use Rattle.hart_frame.specs.Frames.{AreFrames};
 ghost use Rattle.hart_frame.specs.Message.{IsPreambleCount};
-ghost use Rattle.hart_frame.specs.declared.found.Found.{Found};
 ghost use Rattle.hart_commands.specs.Registers.{AreValid};
 ghost use Rattle.hart_commands.specs.ReplyData.{reply_payload};
 ghost use Rattle.hart_device.specs.Answer.{answer_of, asked_effect, is_addressed, is_answered, is_answered_with, is_paired};
 ghost use Rattle.hart_device.specs.Answer.{names_another, reply_of, reply_with, state_after};
-ghost use Rattle.hart_device.specs.Delivery.{answer_to, state_after_frames};
+ghost use Rattle.hart_device.specs.Delivery.{Brings, Brought, answer_to, state_after_delivery};
 ghost use Rattle.hart_device.specs.Device.{after, new_device};
+ghost use Rattle.hart_device.specs.Garbled.{HasGarbled, garbled_reply};
 ghost use Rattle.hart_device.specs.Values.{values_of};
+ghost use Rattle.hart_device.specs.declared.garbled.GarbledRequest.{GarbledRequest};
 
+use crate::garbled::garbled_in;
+use crate::laws::garbled_requests_are_decided;
 use crate::values::values_are_valid;
 use crate::{Identity, Process, RegisterStore, RegisterValues};
 use hart_commands::{
@@ -143,17 +145,32 @@ impl<S: RegisterStore> Device<S> {
     }
 
     /// What the device answers to a delivery, which is what it heard at once: what it answers to the frame of a delivery with
-    /// exactly one. To any other delivery it is silent, `None`, and stays as it is.
+    /// exactly one, and to a garbled request in a delivery without a frame a communication-fault reply, which changes nothing.
+    /// To any other delivery it is silent, `None`, and stays as it is.
     pub fn hear(&mut self, delivery: &[Char], process: &Process) -> Option<Frame>
-        ensures answer { (frames : List Found) → AreFrames delivery.now 0 frames
-            → result ≡ answer_to self.old process.now frames }
-        ensures state { (frames : List Found) → AreFrames delivery.now 0 frames
-            → self.new ≡ state_after_frames self.old frames }
+        ensures answer { (brought : Brought) → Brings self.old.identity delivery.now brought
+            → result ≡ answer_to self.old process.now brought }
+        ensures state { (brought : Brought) → Brings self.old.identity delivery.now brought
+            → self.new ≡ state_after_delivery self.old brought }
     {
+        // No-op: by its contract what a delivery brings is known.
+        garbled_requests_are_decided();
         match lone_frame(delivery) {
             LoneFrame::Alone(found) => self.receive(&found.frame, process),
-            LoneFrame::NoFrame | LoneFrame::Several => None,
+            // Nothing is carried out of a garbled request.
+            LoneFrame::NoFrame => self.reply_to_garbled(delivery),
+            LoneFrame::Several => None,
         }
+    }
+
+    /// The communication-fault reply to the garbled request that a delivery without a frame has, or `None` if it has none.
+    pub fn reply_to_garbled(&self, delivery: &[Char]) -> Option<Frame>
+        ensures reply { MatchOption result ((request : GarbledRequest) → HasGarbled self.now.identity delivery.now request → ⊥)
+            (λ reply. (request : GarbledRequest) × HasGarbled self.now.identity delivery.now request
+            × (reply ≡ garbled_reply self.now.identity request)) }
+    {
+        let request = garbled_in(&self.identity, delivery)?;
+        Some(request.reply(&self.identity))
     }
 
     /// What the device answers to a frame, or silence, `None`, which changes nothing.

@@ -1,18 +1,25 @@
 //! Laws over the definitions alone, for the crates above.
-ghost use Rattle.std.specs.Prelude.{◌≡◌, ◌≢◌, ℕ, false, true, Ok, Option, None, Some, IfSome, unwrap_or};
+ghost use Rattle.std.specs.Prelude.{◌≡◌, ◌≢◌, ◌⊎◌, ℕ, false, true, Ok, Option, None, Some, IfSome, unwrap_or};
 ghost use Rattle.std.specs.Prelude.{List, [], ◌∷◌, ◌++◌, Contains, slice_get};
+ghost use Rattle.hart_frame.specs.Character.{Character};
 ghost use Rattle.hart_frame.specs.FrameParts.{FrameParts, reply_parts};
 ghost use Rattle.hart_commands.specs.Registers.{Contents, Overwrite, bytes_in, last_named, overwrite_of, overwritten, registers_of};
 ghost use Rattle.hart_commands.specs.declared.register.Register.{Register};
 ghost use Rattle.hart_commands.specs.declared.request.Request.{Request};
 ghost use Rattle.hart_commands.specs.declared.request.Request.TheVariants.{ResetChanged};
 ghost use Rattle.hart_device.specs.Answer.{answer_of, code_of, effect_of, is_answered, reading_of, state_after};
+ghost use Rattle.hart_device.specs.Delivery.{Brings, Brought};
+ghost use Rattle.hart_device.specs.Garbled.{HasGarbled};
 ghost use Rattle.hart_device.specs.declared.fault.DeviceFault.{DeviceFault};
+ghost use Rattle.hart_device.specs.declared.garbled.GarbledRequest.{GarbledRequest};
+ghost use Rattle.hart_device.specs.declared.identity_parts.IdentityParts.{IdentityParts};
 ghost use Rattle.hart_device.specs.declared.process.Process.{Process};
 ghost use Rattle.hart_device.specs.Device.{DeviceState, Nothing, Executes, Resets};
 ghost use Rattle.hart_device.specs.Image.{IsImageOf, IsImageFault};
 
 use hart_commands::all_registers_are_listed_once;
+use hart_frame::{every_list_has_frames, first_starts_are_decided, frames_are_unambiguous};
+use hart_values::address_bytes_are_unambiguous;
 
 /// A command that is refused, or not answered, has no effect, and leaves the device as it is.
 pub fn refused_commands_change_nothing()
@@ -32,6 +39,31 @@ pub fn answers_give_their_code()
     ensures silent { (state : DeviceState) (process : Process) (frame : FrameParts)
         → answer_of state process frame ≡ None → is_answered state frame ≡ false }
 {}
+
+/// A list of characters has one garbled request for a device at most, and it has one or none.
+pub fn garbled_requests_are_decided()
+    ensures one { (identity : IdentityParts) (chars : List Character) (request other : GarbledRequest)
+        → HasGarbled identity chars request → HasGarbled identity chars other → request ≡ other }
+    ensures decided { (identity : IdentityParts) (chars : List Character) → ((request : GarbledRequest) × HasGarbled identity chars request)
+        ⊎ ((request : GarbledRequest) → HasGarbled identity chars request → ⊥) }
+{
+    // No-ops: their contracts are used here.
+    address_bytes_are_unambiguous();
+    first_starts_are_decided();
+}
+
+/// Every delivery brings a device one thing: a frame, a garbled request, or no message.
+pub fn deliveries_bring_one()
+    ensures brings { (identity : IdentityParts) (delivery : List Character)
+        → (brought : Brought) × Brings identity delivery brought }
+    ensures one { (identity : IdentityParts) (delivery : List Character) (brought other : Brought)
+        → Brings identity delivery brought → Brings identity delivery other → brought ≡ other }
+{
+    // No-ops: their contracts are used here.
+    every_list_has_frames();
+    frames_are_unambiguous();
+    garbled_requests_are_decided();
+}
 
 /// No frame changes who the device is, or whether it is protected.
 pub fn frames_leave_identity_and_protection()

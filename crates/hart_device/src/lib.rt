@@ -23,6 +23,7 @@ mod device;
 mod fault;
 mod field_registers;
 mod flags;
+mod garbled;
 mod identity;
 mod identity_parts;
 mod image;
@@ -39,15 +40,16 @@ mod variables;
 pub use device::Device;
 pub use fault::DeviceFault;
 pub use field_registers::FieldRegisters;
+pub use garbled::GarbledRequest;
 pub use identity::Identity;
 pub use identity_parts::IdentityParts;
 pub use image::Image;
 pub use image_registers::ImageRegisters;
 pub use laws::{
-    answers_give_their_code, bytes_have_one_image_fault, frames_leave_identity_and_protection,
-    images_have_no_fault, images_have_one_state, overwrites_absorb,
-    refused_commands_change_nothing, registers_of_lists, resets_name_this_counter,
-    writes_execute_their_overwrite,
+    answers_give_their_code, bytes_have_one_image_fault, deliveries_bring_one,
+    frames_leave_identity_and_protection, garbled_requests_are_decided, images_have_no_fault,
+    images_have_one_state, overwrites_absorb, refused_commands_change_nothing, registers_of_lists,
+    resets_name_this_counter, writes_execute_their_overwrite,
 };
 pub use process::{OutputValues, Process, ProcessVariable};
 pub use registers::RegisterStore;

@@ -1,4 +1,4 @@
-//! What a new bench device answers to a message that is cut or changed, and to noise.
+//! What a new bench device answers to a message that is cut, changed or damaged, and to noise.
 use super::images::image_with;
 use super::*;
 use hart_frame::{Message, encode};
@@ -76,18 +76,45 @@ fn leads_to(delivery: &[Char], reply: &[u8], ending: [u8; 6]) -> Result<bool, Fa
     Ok(message.as_slice() == reply && device.image().as_slice() == image.as_slice())
 }
 
-/// Whether a request with another character at a place is replied to as without it at the spare preamble bytes, and is met
-/// with silence at every later place.
+/// The message of a communication-fault reply of the bench device: with this first byte of its address, this command and this
+/// first status byte. FB is the exclusive or of the other bytes.
+fn faulty_reply(address: u8, command: u8, status: u8) -> [u8; 16] {
+    let check = 0xFB ^ address ^ command ^ status;
+    [
+        0xFF, 0xFF, 0xFF, 0xFF, 0xFF, 0x86, address, 0x42, 0x0A, 0x1B, 0x2C, command, 0x02, status,
+        0x00, check,
+    ]
+}
+
+/// The communication-fault reply to the writing with another character at a place after the spare preamble bytes, if there is one.
+fn reply_to_change(place: usize, byte: u8, faults: u8) -> Option<[u8; 16]> {
+    match (place, byte) {
+        (11..=16, _) if faults != 0 => Some(faulty_reply(0xB7, 0x13, 0x80 | faults)),
+        (11, _) => Some(faulty_reply(0xB7, byte, 0x88)),
+        (12, 0..=2) | (13..=16, _) => Some(faulty_reply(0xB7, 0x13, 0x88)),
+        (6, 0x37 | 0x77) => Some(faulty_reply(0x37, 0x13, 0x88)),
+        (6, 0xF7) => Some(faulty_reply(0xB7, 0x13, 0x88)),
+        _ => None,
+    }
+}
+
+/// Whether a request with another character at a place is replied to as without it at the spare preamble bytes. At every later
+/// place the reading, which is for a polling address, is met with silence, and the writing with its communication faults or with
+/// silence.
 fn is_met_at(exchange: &Exchange, place: usize, byte: u8, faults: u8) -> Result<bool, Fail> {
     let mut chars = chars_of(exchange.request)?;
     let character = chars.get_mut(place).ok_or("a place")?;
     *character = Char::new(byte, faults).ok_or("faults")?;
     let delivery = chars.get(..exchange.request.len()).ok_or("too long")?;
     if place < SPARE {
-        leads_to(delivery, exchange.reply, exchange.ending)
-    } else {
-        leads_to(delivery, &[], UNCHANGED)
+        return leads_to(delivery, exchange.reply, exchange.ending);
     }
+    if exchange.request.len() == MOST
+        && let Some(reply) = reply_to_change(place, byte, faults)
+    {
+        return leads_to(delivery, &reply, UNCHANGED);
+    }
+    leads_to(delivery, &[], UNCHANGED)
 }
 
 #[test]
@@ -141,13 +168,87 @@ fn fault_bits_are_borne_in_the_spare_preamble_alone(rt: HostRuntime) -> Result<(
     Ok(())
 }
 
+/// A message, the place of a character of it with fault bits, these, and the message of the reply to it, if any.
+type Damaged<'a> = (&'a [u8], usize, u8, &'a [u8]);
+
+/// The writing with another check byte.
+const BAD_CHECK: &[u8] = &[
+    0xFF, 0xFF, 0xFF, 0xFF, 0xFF, 0x82, 0xB7, 0x42, 0x0A, 0x1B, 0x2C, 0x13, 0x03, 0x01, 0x23, 0x45,
+    0x3C,
+];
+
+/// The message of the reply to that.
+const FAULTY: &[u8] = &[
+    0xFF, 0xFF, 0xFF, 0xFF, 0xFF, 0x86, 0xB7, 0x42, 0x0A, 0x1B, 0x2C, 0x13, 0x02, 0x88, 0x00, 0xD7,
+];
+
+/// What is replied to damaged messages.
+const DAMAGED: &[Damaged] = &[
+    (BAD_CHECK, 0, 0x00, FAULTY),
+    (
+        &[
+            0xFF, 0xFF, 0xFF, 0xFF, 0xFF, 0x82, 0xB7, 0x42, 0x0A, 0x1B, 0x2C, 0x13, 0x03, 0x01,
+            0x23, 0x45, 0x3D,
+        ],
+        14,
+        0x40,
+        &[
+            0xFF, 0xFF, 0xFF, 0xFF, 0xFF, 0x86, 0xB7, 0x42, 0x0A, 0x1B, 0x2C, 0x13, 0x02, 0xC0,
+            0x00, 0x9F,
+        ],
+    ),
+    (
+        BAD_CHECK,
+        12,
+        0x20,
+        &[
+            0xFF, 0xFF, 0xFF, 0xFF, 0xFF, 0x86, 0xB7, 0x42, 0x0A, 0x1B, 0x2C, 0x13, 0x02, 0xA8,
+            0x00, 0xF7,
+        ],
+    ),
+    (
+        &[
+            0xFF, 0xFF, 0x82, 0x37, 0x42, 0x0A, 0x1B, 0x2C, 0x13, 0x03, 0x0A, 0x0B, 0x0C, 0xD6,
+        ],
+        0,
+        0x00,
+        &[
+            0xFF, 0xFF, 0xFF, 0xFF, 0xFF, 0x86, 0x37, 0x42, 0x0A, 0x1B, 0x2C, 0x13, 0x02, 0x88,
+            0x00, 0x57,
+        ],
+    ),
+    (
+        &[
+            0xFF, 0xFF, 0x82, 0xB7, 0x42, 0x0A, 0x1B, 0x2C, 0x13, 0x03, 0x01, 0x23, 0x45, 0x3D,
+        ],
+        4,
+        0x10,
+        &[],
+    ),
+];
+
+#[test]
+fn a_damaged_request_is_replied_to(rt: HostRuntime) -> Result<(), Fail> {
+    for (message, place, faults, reply) in DAMAGED {
+        let mut chars = chars_of(message)?;
+        let character = chars.get_mut(*place).ok_or("a place")?;
+        *character = Char::new(character.byte(), *faults).ok_or("faults")?;
+        let delivery = chars.get(..message.len()).ok_or("too long")?;
+        assert!(rt;
+            leads_to(delivery, reply, UNCHANGED)?,
+            "of {faults} at {place} of {message:?}"
+        );
+    }
+    Ok(())
+}
+
 /// Bytes one after another, each so many times.
 type Noise<'a> = &'a [(&'a [u8], usize)];
 
 /// The body of a request for the identity at polling address 0.
 const IDENTIFY: &[u8] = &[0x02, 0x80, 0x00, 0x00, 0x82];
 
-/// A false start, with the first preamble byte of the next.
+/// A false start, with the first preamble byte of the next, which is the byte count of a payload of 255 bytes.
 const FALSE_START: &[u8] = &[0xFF, 0xFF, 0x82, 0xB7, 0x42, 0x0A, 0x1B, 0x2C, 0x13, 0xFF];
 
 /// What the longest body, with expansion bytes and at the broadcast address, has before its payload of 255 bytes.
@@ -163,11 +264,20 @@ const NOISES: &[(Noise, &[u8])] = &[
         &[(&[0xFF], 20), (LONGEST, 1), (&[0x00], 255), (&[0x9D], 1)],
         &[],
     ),
-    (&[(FALSE_START, 2000)], &[]),
+    (&[(FALSE_START, 2000)], FAULTY),
     (
         &[(FALSE_START, 2000), (&[0xFF, 0xFF], 1), (IDENTIFY, 1)],
         FOUND,
     ),
+    // A garbled request after noise, and before it; after another start; and beside a whole frame.
+    (&[(&[0x55, 0xFF, 0x00], 1), (BAD_CHECK, 1)], FAULTY),
+    (&[(BAD_CHECK, 1), (&[0x55], 100)], FAULTY),
+    (&[(&[0xFF, 0xFF, 0x00], 1), (BAD_CHECK, 1)], &[]),
+    (&[(BAD_CHECK, 1), (&[0xFF, 0xFF], 1), (IDENTIFY, 1)], FOUND),
+    (&[(&[0xFF, 0xFF], 1), (IDENTIFY, 1), (BAD_CHECK, 1)], FOUND),
+    // The longest garbled request, and one character less.
+    (&[(FALSE_START, 1), (&[0x00], 255), (&[0x01], 1)], FAULTY),
+    (&[(FALSE_START, 1), (&[0x00], 255)], &[]),
 ];
 
 /// The characters of noise, all faultless.
