@@ -1,5 +1,5 @@
 //! Laws over the definitions alone, for the crates above.
-ghost use Rattle.std.specs.Prelude.{◌≡◌, ◌⊎◌, ◌∷◌, [], List};
+ghost use Rattle.std.specs.Prelude.{◌≡◌, ◌≤◌, ◌⊎◌, ◌∷◌, [], List, slice_index};
 ghost use Rattle.hart_values.specs.declared.master_id.MasterId.{MasterId};
 ghost use Rattle.hart_values.specs.declared.address.Address.{Address};
 ghost use Rattle.hart_frame.specs.Character.{Character};
@@ -38,4 +38,17 @@ pub fn acceptance_is_decided()
     every_list_has_frames();
     frames_are_unambiguous();
     replies_are_decided();
+}
+
+/// Communication faults are no reply: a frame whose first status byte has bit 7 set is a reply to no request, so that a delivery
+/// which has it alone is never accepted.
+pub fn communication_faults_are_no_reply()
+    ensures frame { (id : MasterId) (address : Address) (request : Request) (frame : FrameParts) (reply : Reply)
+        → 128 ≤ slice_index frame.payload 0 → IsReplyTo id address request frame reply → ⊥ }
+    ensures delivery { (id : MasterId) (address : Address) (request : Request) (delivery : List Character) (found : Found)
+        (reply : Reply) → AreFrames delivery 0 (found ∷ []) → 128 ≤ slice_index found.frame.payload 0
+        → IsAccepted id address request delivery reply → ⊥ }
+{
+    // No-op: its contract is used below.
+    acceptance_is_decided();
 }

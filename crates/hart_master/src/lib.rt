@@ -28,7 +28,7 @@ mod unique;
 
 pub use event::MasterEvent;
 pub use fault::{MasterFault, Rejected};
-pub use laws::{acceptance_is_decided, replies_are_decided};
+pub use laws::{acceptance_is_decided, communication_faults_are_no_reply, replies_are_decided};
 pub use master::Master;
 pub use unique::unique_of;
 
