@@ -28,14 +28,14 @@ use hart_commands::{
     requests_have_their_command, writes_have_overwrites, written_data_are_their_request,
 };
 use hart_device::{
-    answers_give_their_code, refused_commands_change_nothing, registers_of_lists,
-    resets_name_this_counter, writes_execute_their_overwrite,
+    answers_give_their_code, deliveries_bring_one, refused_commands_change_nothing,
+    registers_of_lists, resets_name_this_counter, writes_execute_their_overwrite,
 };
 use hart_frame::{
     bodies_are_unambiguous, damaged_messages_have_no_other_frame, frames_are_unambiguous,
     messages_have_their_frame_alone,
 };
-use hart_master::replies_are_decided;
+use hart_master::{communication_faults_are_no_reply, replies_are_decided};
 
 /// A word is that of one master, of one address, of one command and of one list of data at most.
 pub fn words_have_one_value()
@@ -70,6 +70,7 @@ pub fn scripts_have_one_last_world()
     // No-ops: their contracts are used below.
     bodies_are_unambiguous();
     frames_are_unambiguous();
+    deliveries_bring_one();
     replies_are_decided();
 }
 
@@ -140,7 +141,9 @@ pub fn scripts_keep_their_promises()
     scripts_have_one_last_world();
     bodies_are_unambiguous();
     frames_are_unambiguous();
+    deliveries_bring_one();
     replies_are_decided();
+    communication_faults_are_no_reply();
     messages_have_their_frame_alone();
     damaged_messages_have_no_other_frame();
 }

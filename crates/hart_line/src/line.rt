@@ -1,19 +1,19 @@
 //! The HART line: a device and its two masters, and what an event does to them.
-ghost use Rattle.std.specs.Prelude.{◌≡◌, [], ◌∷◌, IfErr, None, OnOk};
+ghost use Rattle.std.specs.Prelude.{◌≡◌, [], ◌∷◌, IfErr, OnOk};
 ghost use Rattle.std.specs.Option.{option_copied};
 ghost use Rattle.hart_values.specs.declared.master_id.MasterId.{MasterId};
 ghost use Rattle.hart_values.specs.EachMaster.{of_master};
 ghost use Rattle.hart_commands.specs.RequestData.{IsRequest};
 ghost use Rattle.hart_line.specs.Line.LineRoom.{HasRoomFor, LeavesRoom};
-ghost use Rattle.hart_line.specs.Line.LineState.{MarksWithin, Stands, Stepped, state_heard};
+ghost use Rattle.hart_line.specs.Line.LineState.{MarksWithin, Stands, Stepped};
 ghost use Rattle.hart_line.specs.Line.Faults.{HasUndetected};
 ghost use Rattle.hart_line.specs.Line.Promises.{AreWellMade};
 ghost use Rattle.hart_line.specs.Line.Spoken.{frame_if, party_of};
-ghost use Rattle.hart_line.specs.Line.Step.{Step, frame_answered, submission_fault, submitted};
+ghost use Rattle.hart_line.specs.Line.Step.{submission_fault, submitted};
 ghost use Rattle.hart_line.specs.Line.World.{Start, World};
 ghost use Rattle.hart_line.specs.declared.event.LineEvent.TheVariants.{Noise, Submit, Turn};
 
-use crate::line::leg::{arrived_among, arrived_in};
+use crate::line::leg::{answer_among, answer_in, arrived_in};
 use crate::line::masters::{Masters, Submitter};
 use crate::line::room::ScriptRoom;
 use crate::line::undetected::Undetected;
@@ -171,46 +171,39 @@ impl<S: RegisterStore> Line<S> {
         // No-op: its contract says what overwrites leave.
         registers_of_lists();
         let is_sent = self.masters.send(who, &mut self.request);
-        let Some(request) = frame_if(is_sent, &self.request) else {
-            return pass_silence(up, down);
-        };
-        self.spoken
-            .speak(party_of(who), MASTER_PREAMBLES, Some(request));
-        let arrived = arrived_in(Leg::Up, up, Some(request))?;
+        let request = frame_if(is_sent, &self.request);
+        self.spoken.speak(party_of(who), MASTER_PREAMBLES, request);
         let preambles = self.device.response_preambles();
-        let is_answered = answer(&mut self.device, arrived, process, &mut self.reply);
+        let is_answered = answer_in(&mut self.device, up, request, process, &mut self.reply)?;
         let answer = frame_if(is_answered, &self.reply);
         self.spoken.speak(Party::Device, preambles, answer);
         let returned = arrived_in(Leg::Down, down, answer)?;
+        if !is_sent {
+            self.masters.overhear(returned);
+            return Ok(());
+        }
         self.masters.conclude(who, returned, &mut self.outcomes);
         Ok(())
     }
 
-    /// Noise, which the device and both masters hear.
+    /// Noise, which the device and both masters hear; they hear the device's answer to it without damage.
     fn hear_noise(&mut self, chars: &[Char], process: &Process) -> Result<(), Undetected>
-        ensures stepped { OnOk result ((start : Start) (world : World) → Stands start world self.old
-            → Stepped start world (Noise chars.now) self.new) }
+        requires room { HasRoomFor (Noise chars.now ∷ []) self.old }
+        ensures stepped { OnOk result ((start : Start) (world : World) → start.process ≡ process.now
+            → Stands start world self.old → Stepped start world (Noise chars.now) self.new) }
         ensures stopped { IfErr result (λ damage. (start : Start) (world : World) → start.process ≡ process.now
             → Stands start world self.old → HasUndetected start world (Noise chars.now) damage.leg) }
         ensures room { OnOk result (LeavesRoom (Noise chars.now) self.old self.new) }
     {
-        let _nothing = arrived_among(Leg::Noise, chars, None)?;
-        let _answer = self.device.hear(chars, process);
+        let preambles = self.device.response_preambles();
+        let reply = &mut self.reply;
+        let is_answered = answer_among(&mut self.device, Leg::Noise, chars, None, process, reply)?;
+        let answer = frame_if(is_answered, &self.reply);
+        self.spoken.speak(Party::Device, preambles, answer);
         self.masters.hear_noise(chars);
+        self.masters.overhear(answer);
         Ok(())
     }
-}
-
-/// A turn of a master with nothing in hand: nothing may arrive in either leg, and nothing changes.
-fn pass_silence(up: &Heard, down: &Heard) -> Result<(), Undetected>
-    ensures stepped { OnOk result ((start : Start) (world : World) (who : MasterId) → of_master who world.hands ≡ None
-        → Step start world (Turn who up.now down.now) world) }
-    ensures stopped { IfErr result (λ damage. (start : Start) (world : World) (who : MasterId) → of_master who world.hands ≡ None
-        → HasUndetected start world (Turn who up.now down.now) damage.leg) }
-{
-    let _nothing = arrived_in(Leg::Up, up, None)?;
-    let _nothing = arrived_in(Leg::Down, down, None)?;
-    Ok(())
 }
 
 /// The party that a master is.
@@ -220,22 +213,6 @@ fn party_of(id: MasterId) -> Party
     match id {
         MasterId::Primary => Party::Primary,
         MasterId::Secondary => Party::Secondary,
-    }
-}
-
-/// Whether a device answers what arrives; the answer is then in `reply`.
-fn answer<S: RegisterStore>(
-    device: &mut Device<S>,
-    arrived: Option<&Frame>,
-    process: &Process,
-    reply: &mut Frame,
-) -> bool
-    ensures answer { frame_if result reply.new ≡ frame_answered device.old process.now (option_copied arrived.entry) }
-    ensures state { device.new ≡ state_heard device.old (option_copied arrived.entry) }
-{
-    match arrived {
-        Some(frame) => device.receive_into(frame, process, reply),
-        None => false,
     }
 }
 

@@ -1,5 +1,5 @@
 -- Each accepted reply was accepted in the turn of the last sending.
-use Rattle.std.proofs.Common.{◌≡◌, ℕ, ◌+◌, nat_le, zero, suc, ap, ◌∙◌, sym, refl, Option, None, Some, Bool, true, false, List, [], ◌∷◌, ◌++◌, slice_set, ◌⊎◌, inl, inr, if◌then◌else◌}
+use Rattle.std.proofs.Common.{◌≡◌, ℕ, ◌+◌, nat_le, zero, suc, ap, ◌∙◌, sym, refl, subst, arith, ◌≤◌, slice_index, Option, None, Some, Bool, true, false, List, [], ◌∷◌, ◌++◌, slice_set, ◌⊎◌, inl, inr, if◌then◌else◌}
 use Rattle.std.specs.List.{slice_get}
 use Rattle.hart_values.specs.declared.master_id.MasterId.{MasterId}
 use Rattle.hart_values.specs.declared.address.Address.{Address}
@@ -8,21 +8,22 @@ use Rattle.hart_values.specs.EachMaster.{of_master}
 use Rattle.hart_commands.specs.declared.reply.Reply.{Reply}
 use Rattle.hart_commands.specs.declared.request.Request.{Request}
 use Rattle.hart_device.specs.Answer.{answer_of, effect_of}
+use Rattle.hart_device.specs.Delivery.{Brought, Garbled, NoMessage, OneFrame, answer_to}
 use Rattle.hart_device.specs.Device.{DeviceState}
 use Rattle.hart_device.specs.declared.process.Process.{Process}
 use Rattle.hart_master.specs.Acceptance.{IsReplyTo}
 use Rattle.hart_master.specs.declared.fault.MasterFault.{MasterFault}
-use Rattle.hart_line.specs.Line.Damage.{Arrives}
+use Rattle.hart_line.specs.Line.Damage.{Arrives, Reaches}
 use Rattle.hart_line.specs.Line.Promises.{AnswersLastSending, AnswersLastSendingFrom}
 use Rattle.hart_line.specs.Line.Spoken.{frame_of, spoken_by}
-use Rattle.hart_line.specs.Line.Step.{Accepts, IsLast, IsTurn, Run, Step, sent_back, effect_on, executions_after, frame_answered, hand_left, spoken_request, outcome_of, sent_by, submission_fault, submitted, turned}
+use Rattle.hart_line.specs.Line.Step.{Accepts, IsLast, IsTurn, Run, Step, sent_back, effect_on, executions_after, hand_left, spoken_request, outcome_of, sent_by, submission_fault, submitted, turned}
 use Rattle.hart_line.specs.Line.World.{InHand, Start, World, first_world, state_of}
 use Rattle.hart_line.specs.declared.event.Heard.{Heard}
 use Rattle.hart_line.specs.declared.event.LineEvent.{LineEvent}
 use Rattle.hart_line.specs.declared.event.LineEvent.TheVariants.{Submit, Turn, Protect, Noise}
 use Rattle.hart_line.specs.declared.line.report.Outcome.TheVariants.{Answered, NoReply, Unfinished, Refused}
 use Rattle.hart_line.specs.declared.line.report.Party.{Party}
-use Rattle.hart_line.proofs.OfLine.ArrivalLemmas.{arrives_cases}
+use Rattle.hart_line.proofs.OfLine.ArrivalLemmas.{arrives_cases, frame_in, reaches_cases}
 use Rattle.hart_line.proofs.OfLine.TurnLemmas.{of_master-same}
 
 some_one : {A : Type 0} {x y : A} → Some x ≡ Some y → x ≡ y
@@ -72,53 +73,65 @@ frame_of-by : (party : Party) (preambles : ℕ) (frame : Option FrameParts) → 
 frame_of-by party preambles None = refl
 frame_of-by party preambles (Some frame) = refl
 
-pub record AnswersSent (state : DeviceState) (process : Process) (sent : FrameParts) (arrived : Option FrameParts) (frame : FrameParts)
+pub record AnswersSent (state : DeviceState) (process : Process) (sent : FrameParts) (arrived : Brought) (frame : FrameParts)
     : Type 0 where
-  pub arrived_is : arrived ≡ Some sent
+  pub arrived_is : arrived ≡ OneFrame sent
   pub answered : answer_of state process sent ≡ Some frame
 
-answers_sent : (state : DeviceState) (process : Process) (sent : FrameParts) (arrived : Option FrameParts) (frame : FrameParts)
-    → (arrived ≡ None) ⊎ (arrived ≡ Some sent) → frame_answered state process arrived ≡ Some frame
+-- A frame that says communication faults is no reply.
+abbrev pub FaultsLaw : Type 0
+FaultsLaw = (id : MasterId) (address : Address) (request : Request) (frame : FrameParts) (reply : Reply)
+    → 128 ≤ slice_index frame.payload 0 → IsReplyTo id address request frame reply → ⊥
+
+answers_sent : FaultsLaw → (state : DeviceState) (process : Process) (sent : FrameParts) (arrived : Brought) (frame : FrameParts)
+    → (frame_in arrived ≡ None) ⊎ (frame_in arrived ≡ Some sent) → answer_to state process arrived ≡ Some frame
+    → (who : MasterId) (held : InHand) (reply : Reply) → IsReplyTo who held.address held.request frame reply
     → AnswersSent state process sent arrived frame
-answers_sent state process sent None frame known answered = cc
-answers_sent state process sent (Some f) frame (inl is) answered = cc
-answers_sent state process sent (Some f) frame (inr is) answered = record {
-  arrived_is = is;
+answers_sent law state process sent NoMessage frame known answered who held reply is_reply = cc
+answers_sent law state process sent (Garbled request) frame known answered who held reply is_reply =
+    let Faulty : FrameParts → Type 0 = λ f. 128 ≤ slice_index f.payload 0 in
+    absurd (law who held.address held.request frame reply (subst Faulty (some_one answered) (omega arith)) is_reply)
+answers_sent law state process sent (OneFrame f) frame (inl is) answered who held reply is_reply = cc
+answers_sent law state process sent (OneFrame f) frame (inr is) answered who held reply is_reply = record {
+  arrived_is = ap OneFrame (some_one is);
   answered = rw (some_one is) at answered;
 }
 
-returned_answers : (start : Start) (world : World) (down : Heard) (sent : FrameParts) (arrived returned : Option FrameParts)
-    (frame : FrameParts)
-    → (arrived ≡ None) ⊎ (arrived ≡ Some sent) → Arrives down (sent_back start world arrived) returned → returned ≡ Some frame
+returned_answers : FaultsLaw → (start : Start) (world : World) (down : Heard) (sent : FrameParts) (arrived : Brought)
+    (returned : Option FrameParts) (frame : FrameParts)
+    → (frame_in arrived ≡ None) ⊎ (frame_in arrived ≡ Some sent) → Arrives down (sent_back start world arrived) returned
+    → returned ≡ Some frame
+    → (who : MasterId) (held : InHand) (reply : Reply) → IsReplyTo who held.address held.request frame reply
     → AnswersSent (state_of start.device world) start.process sent arrived frame
-returned_answers start world down sent arrived returned frame known back came =
+returned_answers law start world down sent arrived returned frame known back came who held reply is_reply =
     elim (arrives_cases down (sent_back start world arrived) returned back) [
       | inl none ↦ absurd (apart (sym none ∙ came))
-      | inr is ↦ answers_sent (state_of start.device world) start.process sent arrived frame known
-          (sym (is ∙ frame_of-by _ _ (frame_answered (state_of start.device world) start.process arrived)) ∙ came)
+      | inr is ↦ answers_sent law (state_of start.device world) start.process sent arrived frame known
+          (sym (is ∙ frame_of-by _ _ (answer_to (state_of start.device world) start.process arrived)) ∙ came) who held reply is_reply
     ]
   where
     apart : {A : Type 0} {x : A} → None ≡ Some x → ⊥
     apart is = cc
 
-turn_answered : (start : Start) (world : World) (who : MasterId) (up down : Heard) (next : World) (hand : Option InHand)
+turn_answered : FaultsLaw → (start : Start) (world : World) (who : MasterId) (up down : Heard) (next : World) (hand : Option InHand)
     → of_master who world.hands ≡ hand → (t : IsTurn start world who up down next)
-    → Arrives up (sent_by who hand) t.arrived → Accepts who hand t.returned t.accepted
+    → Reaches start.device.identity up (sent_by who hand) t.arrived → Accepts who hand t.returned t.accepted
     → next ≡ turned start world who hand t.arrived t.accepted
     → (number : ℕ) (reply : Reply) (sendings : ℕ)
     → slice_get (turned start world who hand t.arrived t.accepted).outcomes number ≡ Some (Answered reply sendings)
     → (events : List LineEvent) → (slice_get world.outcomes number ≡ Some (Answered reply sendings))
     ⊎ AnswersLastSendingFrom start world (Turn who up down ∷ events) number reply sendings
-turn_answered start world who up down next None in_hand t arrives accepts next_is number reply sendings is events = inl is
-turn_answered start world who up down next (Some held) in_hand t arrives accepts next_is number reply sendings is events =
+turn_answered law start world who up down next None in_hand t arrives accepts next_is number reply sendings is events = inl is
+turn_answered law start world who up down next (Some held) in_hand t arrives accepts next_is number reply sendings is events =
     elim (slice_set-cases world.outcomes held.submission _ number _ is) [
       | inl old ↦ inl old
       | inr new ↦ (
           let outcome = outcome_answered _ (held.sendings + 1) t.accepted reply sendings new.1 in
           let state = state_of start.device world in
           let back = came_back who held t.returned reply (rw outcome.0 at accepts) in
-          let sent = returned_answers start world down (spoken_request who held).frame t.arrived t.returned back.frame
-          (arrives_cases up (Some (spoken_request who held)) t.arrived arrives) t.returns back.came in
+          let sent = returned_answers law start world down (spoken_request who held).frame t.arrived t.returned back.frame
+          (reaches_cases start.device.identity up (Some (spoken_request who held)) t.arrived arrives) t.returns back.came
+          who held reply back.is_reply in
           inr (record {
             before = world;
             next = next;
@@ -152,19 +165,19 @@ submit_answered world who address request None number reply sendings is =
 submit_answered world who address request (Some fault) number reply sendings is =
     elim (slice_get-cases world.outcomes (Refused fault) number _ is) [ inl old ↦ old | inr new ↦ cc ]
 
-step_answered : (start : Start) (world : World) (event : LineEvent) (next : World) → Step start world event next
+step_answered : FaultsLaw → (start : Start) (world : World) (event : LineEvent) (next : World) → Step start world event next
     → (events : List LineEvent) (number : ℕ) (reply : Reply) (sendings : ℕ)
     → slice_get next.outcomes number ≡ Some (Answered reply sendings)
     → (slice_get world.outcomes number ≡ Some (Answered reply sendings))
     ⊎ AnswersLastSendingFrom start world (event ∷ events) number reply sendings
-step_answered start world (Submit who address request) next step events number reply sendings is =
+step_answered law start world (Submit who address request) next step events number reply sendings is =
     inl (submit_answered world who address request (submission_fault (of_master who world.hands) address request) number reply sendings
     (rw step at is))
-step_answered start world (Turn who up down) next step events number reply sendings is =
-    turn_answered start world who up down next (of_master who world.hands) refl step step.arrives step.accepts step.next_is
+step_answered law start world (Turn who up down) next step events number reply sendings is =
+    turn_answered law start world who up down next (of_master who world.hands) refl step step.arrives step.accepts step.next_is
     number reply sendings (rw step.next_is at is) events
-step_answered start world (Protect on) next step events number reply sendings is = inl (rw step at is)
-step_answered start world (Noise chars) next step events number reply sendings is = inl (rw step.1 at is)
+step_answered law start world (Protect on) next step events number reply sendings is = inl (rw step at is)
+step_answered law start world (Noise chars) next step events number reply sendings is = inl (rw step.next_is at is)
 
 later_answered : (start : Start) (world next : World) (event : LineEvent) (events : List LineEvent) (number : ℕ) (reply : Reply)
     (sendings : ℕ)
@@ -197,18 +210,18 @@ later_answered start world next event events number reply sendings step a = reco
   left = a.left;
 }
 
-run_answered : (start : Start) (events : List LineEvent) (world last : World) → Run start world events last
+run_answered : FaultsLaw → (start : Start) (events : List LineEvent) (world last : World) → Run start world events last
     → (number : ℕ) (reply : Reply) (sendings : ℕ) → slice_get last.outcomes number ≡ Some (Answered reply sendings)
     → (slice_get world.outcomes number ≡ Some (Answered reply sendings)) ⊎ AnswersLastSendingFrom start world events number reply sendings
-run_answered start [] world last run number reply sendings is = inl (rw run at is)
-run_answered start (event ∷ events) world last run number reply sendings is =
-    elim (run_answered start events run.0 last run.2 number reply sendings is) [
-      | inl here ↦ step_answered start world event run.0 run.1 events number reply sendings here
+run_answered law start [] world last run number reply sendings is = inl (rw run at is)
+run_answered law start (event ∷ events) world last run number reply sendings is =
+    elim (run_answered law start events run.0 last run.2 number reply sendings is) [
+      | inl here ↦ step_answered law start world event run.0 run.1 events number reply sendings here
       | inr later ↦ inr (later_answered start world run.0 event events number reply sendings run.1 later)
     ]
 
-pub answered_last : (start : Start) (events : List LineEvent) (last : World) → IsLast start events last
+pub answered_last : FaultsLaw → (start : Start) (events : List LineEvent) (last : World) → IsLast start events last
     → (number : ℕ) (reply : Reply) (sendings : ℕ) → slice_get last.outcomes number ≡ Some (Answered reply sendings)
     → AnswersLastSending start events number reply sendings
-answered_last start events last run number reply sendings is =
-    elim (run_answered start events (first_world start) last run number reply sendings is) [ inl before ↦ cc | inr answered ↦ answered ]
+answered_last law start events last run number reply sendings is =
+    elim (run_answered law start events (first_world start) last run number reply sendings is) [ inl before ↦ cc | inr answered ↦ answered ]

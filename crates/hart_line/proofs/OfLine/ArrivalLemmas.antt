@@ -1,9 +1,14 @@
 -- What arrives, what is accepted, and what is spoken.
-use Rattle.std.proofs.Common.{◌≡◌, subst, Option, None, Some, List, [], ◌∷◌, ◌++◌, ◌⊎◌, inl, inr, append-nil}
+use Rattle.std.proofs.Common.{◌≡◌, ◌∙◌, ap, refl, sym, Option, None, Some, List, [], ◌∷◌, ◌++◌, ◌⊎◌, inl, inr, append-nil}
 use Rattle.std.specs.Option.{option_to_list}
 use Rattle.hart_frame.specs.FrameParts.{FrameParts}
 use Rattle.hart_frame.specs.declared.found.Found.{Found}
-use Rattle.hart_line.specs.Line.Damage.{Arrives, IsDetected}
+use Rattle.hart_device.specs.Delivery.{Brought, BringsBy, Garbled, NoMessage, OneFrame, state_after_delivery}
+use Rattle.hart_device.specs.Device.{DeviceState, Nothing}
+use Rattle.hart_device.specs.declared.identity_parts.IdentityParts.{IdentityParts}
+use Rattle.hart_frame.specs.Character.{Character}
+use Rattle.hart_line.specs.Line.Damage.{Arrives, IsDetected, Reaches}
+use Rattle.hart_line.specs.Line.Step.{effect_on}
 use Rattle.hart_line.specs.Line.Spoken.{AreSpoken, IsSpoken, SpokenFrame, Speaks, frame_of}
 use Rattle.hart_line.specs.declared.event.Heard.{Heard}
 use Rattle.hart_line.specs.declared.line.report.Spoken.{Spoken}
@@ -19,12 +24,41 @@ pub arrives_cases : (heard : Heard) (sent : Option SpokenFrame) (arrived : Optio
     → (arrived ≡ None) ⊎ (arrived ≡ frame_of sent)
 arrives_cases heard sent arrived a = IsDetected-cases (frame_of sent) a.frames arrived a.detected
 
--- If nothing was sent nothing arrives.
-pub none_arrives : (heard : Heard) (arrived : Option FrameParts) → Arrives heard None arrived → arrived ≡ None
-none_arrives heard arrived a = elim (arrives_cases heard None arrived a) [ inl is ↦ is | inr is ↦ is ]
+-- A frame that is brought to the device is the one that was sent.
+abbrev pub frame_in : Brought → Option FrameParts
+frame_in (OneFrame frame) = Some frame
+frame_in (Garbled request) = None
+frame_in NoMessage = None
 
-pub nothing_arrives : (heard : Heard) (arrived : Option FrameParts) → Arrives heard None arrived → Arrives heard None None
-nothing_arrives heard arrived a = subst (Arrives heard None) (none_arrives heard arrived a) a
+BringsBy-cases : (identity : IdentityParts) (chars : List Character) (sent : Option FrameParts) (frames : List Found)
+    (arrived : Option FrameParts) (brought : Brought) → IsDetected sent frames arrived → BringsBy identity chars frames brought
+    → (frame_in brought ≡ None) ⊎ (frame_in brought ≡ sent)
+BringsBy-cases identity chars sent [] arrived (OneFrame frame) detected brings = absurd brings
+BringsBy-cases identity chars sent [] arrived (Garbled request) detected brings = inl refl
+BringsBy-cases identity chars sent [] arrived NoMessage detected brings = inl refl
+BringsBy-cases identity chars sent (found ∷ []) arrived brought detected brings = inr (ap frame_in brings ∙ sym detected.0)
+BringsBy-cases identity chars sent (found ∷ other ∷ more) arrived brought detected brings = absurd detected
+
+pub reaches_cases : (identity : IdentityParts) (heard : Heard) (sent : Option SpokenFrame) (brought : Brought)
+    → Reaches identity heard sent brought → (frame_in brought ≡ None) ⊎ (frame_in brought ≡ frame_of sent)
+reaches_cases identity heard sent brought r =
+    BringsBy-cases identity r.arrives.chars (frame_of sent) r.arrives.frames r.frame brought r.arrives.detected r.brings
+
+-- So none is if nothing was sent.
+pub none_reaches : (identity : IdentityParts) (heard : Heard) (brought : Brought) → Reaches identity heard None brought
+    → frame_in brought ≡ None
+none_reaches identity heard brought r = elim (reaches_cases identity heard None brought r) [ inl is ↦ is | inr is ↦ is ]
+
+-- What is no frame has no effect, and leaves the device as it was.
+pub no_effect : (state : DeviceState) (brought : Brought) → frame_in brought ≡ None → effect_on state brought ≡ Nothing
+no_effect state (OneFrame frame) none = cc
+no_effect state (Garbled request) none = refl
+no_effect state NoMessage none = refl
+
+pub left_alone : (state : DeviceState) (brought : Brought) → frame_in brought ≡ None → state_after_delivery state brought ≡ state
+left_alone state (OneFrame frame) none = cc
+left_alone state (Garbled request) none = refl
+left_alone state NoMessage none = refl
 
 -- Messages are spoken one after another.
 AreSpoken-push : (frames : List SpokenFrame) (said : SpokenFrame) (list : List Spoken) (spoken : Spoken)

@@ -7,11 +7,11 @@ use Rattle.std.proofs.lemmas.Grind.{common_steps}
 use Rattle.hart_values.specs.declared.address.Address.{Address}
 use Rattle.hart_values.specs.declared.master_id.MasterId.{MasterId}
 use Rattle.hart_values.specs.declared.master_id.MasterId.TheVariants.{Primary, Secondary}
-use Rattle.hart_frame.specs.FrameParts.{FrameParts}
 use Rattle.hart_values.specs.EachMaster.{of_master, with_master}
 use Rattle.hart_values.specs.declared.each_master.EachMaster.{EachMaster}
 use Rattle.hart_commands.specs.declared.reply.Reply.{Reply}
 use Rattle.hart_commands.specs.declared.request.Request.{Request}
+use Rattle.hart_device.specs.Delivery.{Brought}
 use Rattle.hart_device.specs.Device.{Effect, Nothing, Executes, Resets}
 use Rattle.hart_master.specs.declared.fault.MasterFault.{MasterFault}
 use Rattle.hart_line.specs.Line.Executions.{times_executed}
@@ -145,10 +145,11 @@ counts_by false hand outcomes outcome number before after differs there sent old
     ap sendings_in (slice_get-set_other outcomes hand.submission number outcome (λ same. eqb-false hand.submission number differs
     (sym same))) in omega arith
 
-turned_counted : (start : Start) (world : World) (master : MasterId) (hand : Option InHand) (arrived : Option FrameParts)
+turned_counted : (start : Start) (world : World) (master : MasterId) (hand : Option InHand) (arrived : Brought)
     (accepted : Option Reply)
     → of_master master world.hands ≡ hand → IsCounted world → IsCounted (turned start world master hand arrived accepted)
-turned_counted start world master None arrived accepted in_hand c = c
+turned_counted start world master None arrived accepted in_hand c =
+    record { in_hand = c.in_hand; apart = c.apart; counts = c.counts }
 turned_counted start world master (Some hand) arrived accepted in_hand c =
     let outcome = outcome_of (of_master master start.retries) (hand.sendings + 1) accepted in
     let effect = effect_on (state_of start.device world) arrived in
@@ -179,6 +180,7 @@ counted_kept start = record {
   submissions = submitted_counted;
   turns = turned_counted start;
   switches = λ world on c. record { in_hand = c.in_hand; apart = c.apart; counts = c.counts };
+  replies = λ world arrived c. record { in_hand = c.in_hand; apart = c.apart; counts = c.counts };
 }
 
 first_counted : (start : Start) → IsCounted (first_world start)

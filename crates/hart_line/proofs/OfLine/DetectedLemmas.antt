@@ -10,11 +10,12 @@ use Rattle.hart_frame.specs.declared.found.Found.{Found}
 use Rattle.hart_values.specs.EachMaster.{of_master}
 use Rattle.hart_commands.specs.declared.reply.Reply.{Reply}
 use Rattle.hart_commands.specs.declared.request.Request.{Request}
+use Rattle.hart_device.specs.Delivery.{answer_to}
 use Rattle.hart_master.specs.Acceptance.{IsReplyTo}
 use Rattle.hart_line.specs.Line.Damage.{IsDetectable, IsDetected, IsUndetected}
 use Rattle.hart_line.specs.Line.Faults.{AreAllDetected, HasDetectable, HasUndetected, IsFault, IsNotDetectable, LegsAreDetected}
 use Rattle.hart_line.specs.Line.Spoken.{SpokenFrame, frame_of, spoken_by}
-use Rattle.hart_line.specs.Line.Step.{Accepts, Run, Step, frame_answered, sent_back, sent_by, submission_fault, submitted, turned}
+use Rattle.hart_line.specs.Line.Step.{Accepts, Run, Step, replied, sent_back, sent_by, submission_fault, submitted, turned}
 use Rattle.hart_line.specs.Line.World.{InHand, Start, World, first_world, state_of}
 use Rattle.hart_line.specs.declared.event.Heard.{Heard}
 use Rattle.hart_line.specs.declared.event.Heard.TheVariants.{Clean, Lost, Chars}
@@ -26,7 +27,7 @@ use Rattle.hart_line.specs.declared.fault.LineFault.{LineFault}
 use Rattle.hart_line.specs.declared.fault.LineFault.TheVariants.{BadLine, Memory, Undetected}
 use Rattle.hart_line.specs.declared.line.report.Party.{Party}
 use Rattle.hart_line.proofs.OfLine.LegLemmas.{MessageLaw}
-use Rattle.hart_line.proofs.OfLine.RunLemmas.{Arrives-one, Laws, run_one, some_one}
+use Rattle.hart_line.proofs.OfLine.RunLemmas.{Laws, Reaches-one, run_one, some_one}
 
 -- DETECTABLE DAMAGE
 pub record DetectedLaws : Type 0 where
@@ -90,9 +91,9 @@ leg_detected laws damage start world (Submit who address request) leg enough d u
 leg_detected laws damage start world (Turn who up down) legs.Up enough d u =
     heard_detected damage up _ (sent_long who (of_master who world.hands)) d u
 leg_detected laws damage start world (Turn who up down) legs.Down enough d u =
-    let same = Arrives-one laws up (sent_by who (of_master who world.hands)) d.0 u.0 d.1 u.1 in
+    let same = Reaches-one laws start.device.identity up (sent_by who (of_master who world.hands)) d.0 u.0 d.1 u.1 in
     heard_detected damage down (sent_back start world u.0)
-    (frame_long _ _ (frame_answered (state_of start.device world) start.process u.0) enough)
+    (frame_long _ _ (answer_to (state_of start.device world) start.process u.0) enough)
     (subst (λ arrived. IsDetectable down (sent_back start world arrived)) same d.2) u.2
 leg_detected laws damage start world (Turn who up down) legs.Noise enough d u = d
 leg_detected laws damage start world (Protect on) leg enough d u = d
@@ -144,7 +145,8 @@ step_exists decided start world (Turn who up down) detected =
       },
     )
 step_exists decided start world (Protect on) detected = (record world { protected = on }, refl)
-step_exists decided start world (Noise chars) detected = (world, (detected, refl))
+step_exists decided start world (Noise chars) detected =
+    (replied start world detected.0, record { arrived = detected.0; arrives = detected.1; next_is = refl })
 
 pub run_exists : Decided → (start : Start) (world : World) (events : List LineEvent) → AreAllDetected start world events
     → (last : World) × Run start world events last

@@ -11,6 +11,7 @@ use Rattle.hart_commands.specs.RequestData.{IsRequest, Reading, command_of, requ
 use Rattle.hart_commands.specs.declared.reply.Reply.{Reply}
 use Rattle.hart_commands.specs.declared.request.Request.{Request}
 use Rattle.hart_device.specs.Answer.{effect_of, reading_of}
+use Rattle.hart_device.specs.Delivery.{Brought, Garbled, NoMessage, OneFrame}
 use Rattle.hart_device.specs.Device.{DeviceState, Effect, Nothing, Executes, Resets}
 use Rattle.hart_master.specs.declared.fault.MasterFault.{MasterFault}
 use Rattle.hart_line.specs.Line.Spoken.{frame_of}
@@ -20,7 +21,7 @@ use Rattle.hart_line.specs.Line.Step.{IsLast, Run, Step, effect_on, executions_a
 use Rattle.hart_line.specs.Line.World.{Execution, InHand, Start, World, first_world, overwrites_of, state_of}
 use Rattle.hart_line.specs.declared.event.LineEvent.{LineEvent}
 use Rattle.hart_line.specs.declared.event.LineEvent.TheVariants.{Submit, Turn, Protect, Noise}
-use Rattle.hart_line.proofs.OfLine.ArrivalLemmas.{arrives_cases}
+use Rattle.hart_line.proofs.OfLine.ArrivalLemmas.{frame_in, reaches_cases}
 use Rattle.hart_line.proofs.OfLine.SubmittedLemmas.{IsAlong, first_along, made_of, step_along}
 
 -- LAWS
@@ -51,13 +52,15 @@ same_overwrite requests a b same x y =
     some_one (sym x.overwrites ∙ ap overwrite_of request ∙ y.overwrites)
 
 arrived_executes : ExecutesLaw → (state : DeviceState) (who : MasterId) (held : InHand) (requests : List Request)
-    (arrived : Option FrameParts) (overwrite : Overwrite)
+    (arrived : Brought) (overwrite : Overwrite)
     → slice_get requests held.submission ≡ Some held.request → reading_of (spoken_request who held).frame ≡ Ok held.request
-    → (arrived ≡ None) ⊎ (arrived ≡ Some (spoken_request who held).frame) → effect_on state arrived ≡ Executes overwrite
+    → (frame_in arrived ≡ None) ⊎ (frame_in arrived ≡ Some (spoken_request who held).frame)
+    → effect_on state arrived ≡ Executes overwrite
     → IsWriteOf requests (record { submission = held.submission; overwrite = overwrite })
-arrived_executes law state who held requests None overwrite there reading known is = cc
-arrived_executes law state who held requests (Some frame) overwrite there reading (inl none) is = cc
-arrived_executes law state who held requests (Some frame) overwrite there reading (inr sent) is =
+arrived_executes law state who held requests NoMessage overwrite there reading known is = cc
+arrived_executes law state who held requests (Garbled request) overwrite there reading known is = cc
+arrived_executes law state who held requests (OneFrame frame) overwrite there reading (inl none) is = cc
+arrived_executes law state who held requests (OneFrame frame) overwrite there reading (inr sent) is =
     let same : frame ≡ (spoken_request who held).frame = some_one sent in
     let asked = law state (spoken_request who held).frame overwrite (rw same at is) in
     record {
@@ -92,8 +95,8 @@ effect_writes (Executes overwrite) number requests executions writes all =
 effect_writes Resets number requests executions writes all = all
 
 turned_writes : ExecutesLaw → ReadsLaw → (events : List LineEvent) → AreWellMade events → (start : Start) (world : World) (who : MasterId)
-    (hand : Option InHand) (arrived : Option FrameParts) (accepted : Option Reply) (later : List LineEvent)
-    → of_master who world.hands ≡ hand → (arrived ≡ None) ⊎ (arrived ≡ frame_of (sent_by who hand))
+    (hand : Option InHand) (arrived : Brought) (accepted : Option Reply) (later : List LineEvent)
+    → of_master who world.hands ≡ hand → (frame_in arrived ≡ None) ⊎ (frame_in arrived ≡ frame_of (sent_by who hand))
     → IsAlong (requests_of events) world later → AreWrites (requests_of events) world
     → AreWrites (requests_of events) (turned start world who hand arrived accepted)
 turned_writes law reads events made start world who None arrived accepted later in_hand known a all = all
@@ -112,9 +115,10 @@ step_writes law reads events made start world (Submit who address request) later
 step_writes law reads events made start world (Turn who up down) later next is a all =
     subst (AreWrites (requests_of events)) (sym is.next_is)
     (turned_writes law reads events made start world who (of_master who world.hands) is.arrived is.accepted (Turn who up down ∷ later) refl
-    (arrives_cases up (sent_by who (of_master who world.hands)) is.arrived is.arrives) a all)
+    (reaches_cases start.device.identity up (sent_by who (of_master who world.hands)) is.arrived is.arrives) a all)
 step_writes law reads events made start world (Protect on) later next is a all = subst (AreWrites (requests_of events)) (sym is) all
-step_writes law reads events made start world (Noise chars) later next is a all = subst (AreWrites (requests_of events)) (sym is.1) all
+step_writes law reads events made start world (Noise chars) later next is a all =
+    subst (AreWrites (requests_of events)) (sym is.next_is) all
 
 run_writes : ExecutesLaw → ReadsLaw → (events : List LineEvent) → AreWellMade events → (start : Start) (later : List LineEvent)
     (world last : World) → Run start world later last

@@ -13,15 +13,16 @@ use Rattle.hart_commands.specs.declared.reply.Reply.{Reply}
 use Rattle.hart_commands.specs.declared.request.Request.{Request}
 use Rattle.hart_commands.specs.declared.request.Request.TheVariants.{ResetChanged}
 use Rattle.hart_device.specs.Answer.{code_of, effect_of, is_answered, reading_of}
+use Rattle.hart_device.specs.Delivery.{Brought}
 use Rattle.hart_device.specs.Device.{DeviceState, Effect, Nothing, Executes, Resets}
-use Rattle.hart_line.specs.Line.Damage.{Arrives}
+use Rattle.hart_line.specs.Line.Damage.{Reaches}
 use Rattle.hart_line.specs.Line.Promises.{HasNoReset, IsLastReset, IsRefusedByDevice}
 use Rattle.hart_line.specs.Line.Step.{IsLast, IsTurn, Run, Step, effect_on, executions_after, marks_after, sent_by, submission_fault, submitted, turned}
 use Rattle.hart_line.specs.Line.World.{Execution, InHand, Start, World, first_world, is_changed, overwrites_of, state_of}
 use Rattle.hart_line.specs.declared.event.Heard.{Heard}
 use Rattle.hart_line.specs.declared.event.LineEvent.{LineEvent}
 use Rattle.hart_line.specs.declared.event.LineEvent.TheVariants.{Submit, Turn, Protect, Noise}
-use Rattle.hart_line.proofs.OfLine.ArrivalLemmas.{none_arrives}
+use Rattle.hart_line.proofs.OfLine.ArrivalLemmas.{no_effect, none_reaches}
 use Rattle.hart_line.proofs.OfLine.RunLemmas.{Laws, step_one}
 
 -- EXECUTIONS GROW
@@ -53,7 +54,7 @@ step_grows start world (Turn who up down) next step =
     by_hand None = grows_same world.executions world.executions refl
     by_hand (Some held) = effect_grows (effect_on (state_of start.device world) step.arrived) held.submission world.executions
 step_grows start world (Protect on) next step = grows_same _ _ (ap (λ (w : World). w.executions) step)
-step_grows start world (Noise chars) next step = grows_same _ _ (ap (λ (w : World). w.executions) step.1)
+step_grows start world (Noise chars) next step = grows_same _ _ (ap (λ (w : World). w.executions) step.next_is)
 
 grows_on : (a b c : List Execution) → Grows a b → Grows b c → Grows a c
 grows_on a b c g h = record { more = g.more ++ h.more; is = h.is ∙ ap (λ xs. xs ++ h.more) g.is ∙ append_assoc a g.more h.more }
@@ -98,7 +99,7 @@ step_kept start world (Turn who up down) next id step quiet =
     by_hand (Some held) =
         marks_kept (effect_on (state_of start.device world) step.arrived) id who (length world.executions) world.marks quiet
 step_kept start world (Protect on) next id step quiet = ap (λ (w : World). of_master id w.marks) step
-step_kept start world (Noise chars) next id step quiet = ap (λ (w : World). of_master id w.marks) step.1
+step_kept start world (Noise chars) next id step quiet = ap (λ (w : World). of_master id w.marks) step.next_is
 
 first_quiet : (start : Start) (world : World) (event : LineEvent) (events : List LineEvent) (next : World) (id : MasterId)
     (step : Step start world event next) → HasNoReset start world (event ∷ events) id → IsNoReset start world event next id step
@@ -154,12 +155,12 @@ reset_marks start world who up down next step resets =
     marked Resets Primary count number marks executions is = (refl, refl)
     marked Resets Secondary count number marks executions is = (refl, refl)
 
-    by_hand : (hand : Option InHand) → Arrives up (sent_by who hand) step.arrived
+    by_hand : (hand : Option InHand) → Reaches start.device.identity up (sent_by who hand) step.arrived
         → (of_master who (turned start world who hand step.arrived step.accepted).marks ≡ Some (length world.executions))
         × ((turned start world who hand step.arrived step.accepted).executions ≡ world.executions)
     by_hand None arrives =
-        let nothing = none_arrives up step.arrived arrives in
-        let quiet : Nothing ≡ Resets = ap (effect_on (state_of start.device world)) (sym nothing) ∙ resets in cc
+        let none = none_reaches start.device.identity up step.arrived arrives in
+        let quiet : Nothing ≡ Resets = sym (no_effect (state_of start.device world) step.arrived none) ∙ resets in cc
     by_hand (Some held) arrives =
         marked (effect_on (state_of start.device world) step.arrived) who (length world.executions) held.submission world.marks
         world.executions resets
@@ -232,7 +233,7 @@ abbrev pub RefusedLaw : Type 0
 RefusedLaw = (state : DeviceState) (frame : FrameParts) → (code_of state frame ≢ 0) ⊎ (is_answered state frame ≡ false)
     → effect_of state frame ≡ Nothing
 
-unmoved : (start : Start) (world : World) (who : MasterId) (hand : Option InHand) (arrived : Option FrameParts) (accepted : Option Reply)
+unmoved : (start : Start) (world : World) (who : MasterId) (hand : Option InHand) (arrived : Brought) (accepted : Option Reply)
     → effect_on (state_of start.device world) arrived ≡ Nothing
     → state_of start.device (turned start world who hand arrived accepted) ≡ state_of start.device world
 unmoved start world who None arrived accepted nothing = refl

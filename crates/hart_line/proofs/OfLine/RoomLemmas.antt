@@ -4,7 +4,7 @@ use Rattle.std.proofs.lemmas.List.{drop_more}
 use Rattle.std.proofs.lemmas.List.Sums.{sum_by-cons}
 use Rattle.hart_line.specs.Line.LineRoom.{HasRoomFor, LeavesRoom}
 use Rattle.hart_line.specs.Line.LineState.{LineState}
-use Rattle.hart_line.specs.Line.Needs.{is_submission, is_turn}
+use Rattle.hart_line.specs.Line.Needs.{is_noise, is_submission, is_turn}
 use Rattle.hart_line.specs.declared.event.LineEvent.{LineEvent}
 
 -- If there is room for events there is room for the first of them.
@@ -13,7 +13,8 @@ pub room_for_first : (event : LineEvent) (more : List LineEvent) (line : LineSta
 room_for_first event more line r =
     let submissions = sum_by-cons (λ e. cond (is_submission e) 1 0) event more in
     let turns = sum_by-cons (λ e. cond (is_turn e) 1 0) event more in
-    record { outcomes = omega (arith, submissions, r.outcomes); spoken = omega (arith, turns, r.spoken) }
+    let noises = sum_by-cons (λ e. cond (is_noise e) 1 0) event more in
+    record { outcomes = omega (arith, submissions, r.outcomes); spoken = omega (arith, turns, noises, r.spoken) }
 
 -- So it is for the events that are left, and after the next of them for those that are left then.
 pub room_for_next : (events : List LineEvent) (n : ℕ) (unused : LineEvent) (line : LineState) → n < length events

@@ -11,11 +11,13 @@ use Rattle.hart_frame.specs.declared.found.Found.{Found}
 use Rattle.hart_values.specs.EachMaster.{of_master}
 use Rattle.hart_commands.specs.declared.reply.Reply.{Reply}
 use Rattle.hart_commands.specs.declared.request.Request.{Request}
+use Rattle.hart_device.specs.Delivery.{Brings, Brought}
+use Rattle.hart_device.specs.declared.identity_parts.IdentityParts.{IdentityParts}
 use Rattle.hart_master.specs.Acceptance.{IsReplyTo}
 use Rattle.hart_master.specs.declared.fault.MasterFault.{MasterFault}
-use Rattle.hart_line.specs.Line.Damage.{AreHeard, Arrives, IsDetected, IsUndetected}
+use Rattle.hart_line.specs.Line.Damage.{AreHeard, Arrives, IsDetected, IsUndetected, Reaches}
 use Rattle.hart_line.specs.Line.Spoken.{SpokenFrame, frame_of}
-use Rattle.hart_line.specs.Line.Step.{Accepts, IsLast, IsTurn, Run, Step, sent_back, sent_by, submission_fault, submitted, turned}
+use Rattle.hart_line.specs.Line.Step.{Accepts, IsLast, IsTurn, Run, Step, replied, sent_back, sent_by, submission_fault, submitted, turned}
 use Rattle.hart_line.specs.Line.World.{InHand, Start, World, first_world}
 use Rattle.hart_line.specs.declared.event.Heard.{Heard}
 use Rattle.hart_line.specs.declared.event.Heard.TheVariants.{Clean, Lost, Chars}
@@ -26,13 +28,14 @@ use Rattle.hart_line.specs.declared.fault.Leg.TheVariants as legs
 use Rattle.hart_line.specs.Line.Faults.{HasUndetected, IsFault}
 use Rattle.hart_line.specs.declared.fault.LineFault.TheVariants.{Undetected}
 
--- What a submission, a turn and the switch of protection keep stays at each event, and from a world to the last one.
+-- What a submission, a turn, the switch of protection and a reply keep stays at each event, and from a world to the last one.
 pub record Keeps (start : Start) (P : World → Type 0) : Type 0 where
   pub submissions : (world : World) (who : MasterId) (address : Address) (request : Request) (fault : Option MasterFault)
       → P world → P (submitted world who address request fault)
-  pub turns : (world : World) (who : MasterId) (hand : Option InHand) (arrived : Option FrameParts) (accepted : Option Reply)
+  pub turns : (world : World) (who : MasterId) (hand : Option InHand) (arrived : Brought) (accepted : Option Reply)
       → of_master who world.hands ≡ hand → P world → P (turned start world who hand arrived accepted)
   pub switches : (world : World) (on : Bool) → P world → P (record world { protected = on })
+  pub replies : (world : World) (arrived : Brought) → P world → P (replied start world arrived)
 
 pub step_keeps : (start : Start) (P : World → Type 0) → Keeps start P → (world : World) (event : LineEvent) (next : World)
     → Step start world event next → P world → P next
@@ -41,7 +44,7 @@ step_keeps start P keeps world (Submit who address request) next is p = subst P 
 step_keeps start P keeps world (Turn who up down) next is p = subst P (sym is.next_is)
     (keeps.turns world who (of_master who world.hands) is.arrived is.accepted refl p)
 step_keeps start P keeps world (Protect on) next is p = subst P (sym is) (keeps.switches world on p)
-step_keeps start P keeps world (Noise chars) next is p = subst P (sym is.1) p
+step_keeps start P keeps world (Noise chars) next is p = subst P (sym is.next_is) (keeps.replies world is.arrived p)
 
 pub run_keeps : (start : Start) (P : World → Type 0) → Keeps start P → (events : List LineEvent) (world last : World)
     → Run start world events last → P world → P last
@@ -58,6 +61,8 @@ run_more start (e ∷ events) event world mid next run step = (run.0, run.1, run
 pub record Laws : Type 0 where
   pub one_body : (f : FrameParts) (bytes others : List ℕ) → IsBody f bytes → IsBody f others → bytes ≡ others
   pub one_list : (chars : List Character) (from : ℕ) (xs ys : List Found) → AreFrames chars from xs → AreFrames chars from ys → xs ≡ ys
+  pub one_brought : (identity : IdentityParts) (delivery : List Character) (brought other : Brought)
+      → Brings identity delivery brought → Brings identity delivery other → brought ≡ other
   pub one_reply : (id : MasterId) (address : Address) (request : Request) (frame : FrameParts) (r s : Reply)
       → IsReplyTo id address request frame r → IsReplyTo id address request frame s → r ≡ s
 
@@ -89,6 +94,16 @@ Arrives-one laws heard sent a b s t =
     let frames = frames_one laws heard sent s.chars t.chars s.frames t.frames s.are_heard t.are_heard s.are_frames t.are_frames in
     IsDetected-one (frame_of sent) t.frames a b (rw frames at s.detected) t.detected
 
+-- A leg brings the device one thing.
+pub Reaches-one : Laws → (identity : IdentityParts) (heard : Heard) (sent : Option SpokenFrame) (a b : Brought)
+    → Reaches identity heard sent a → Reaches identity heard sent b → a ≡ b
+Reaches-one laws identity heard sent a b s t =
+    let same = AreHeard-one laws heard sent s.arrives.chars t.arrives.chars s.arrives.are_heard t.arrives.are_heard in
+    let brings : Brings identity s.arrives.chars a =
+    record { frames = s.arrives.frames; are_frames = s.arrives.are_frames; by_frames = s.brings } in
+    laws.one_brought identity t.arrives.chars a b (subst (λ chars. Brings identity chars a) same brings)
+    (record { frames = t.arrives.frames; are_frames = t.arrives.are_frames; by_frames = t.brings })
+
 -- Damage that is detected is not undetected.
 pub arrives_detected : Laws → (heard : Heard) (sent : Option SpokenFrame) (arrived : Option FrameParts)
     → Arrives heard sent arrived → IsUndetected heard sent → ⊥
@@ -110,7 +125,7 @@ IsTurn-one : Laws → (start : Start) (world : World) (who : MasterId) (up down 
     → IsTurn start world who up down a → IsTurn start world who up down b → a ≡ b
 IsTurn-one laws start world who up down a b s t =
     let hand = of_master who world.hands in
-    let arrived = Arrives-one laws up (sent_by who hand) s.arrived t.arrived s.arrives t.arrives in
+    let arrived = Reaches-one laws start.device.identity up (sent_by who hand) s.arrived t.arrived s.arrives t.arrives in
     let returned = Arrives-one laws down (sent_back start world t.arrived) s.returned t.returned (rw arrived at s.returns) t.returns in
     let accepted = Accepts-one laws who hand t.returned s.accepted t.accepted (rw returned at s.accepts) t.accepts in
     s.next_is ∙ ap (λ f. turned start world who hand f s.accepted) arrived
@@ -121,7 +136,9 @@ pub step_one : Laws → (start : Start) (world : World) (event : LineEvent) (a b
 step_one laws start world (Submit who address request) a b s t = s ∙ sym t
 step_one laws start world (Turn who up down) a b s t = IsTurn-one laws start world who up down a b s t
 step_one laws start world (Protect on) a b s t = s ∙ sym t
-step_one laws start world (Noise chars) a b s t = s.1 ∙ sym t.1
+step_one laws start world (Noise chars) a b s t =
+    s.next_is ∙ ap (replied start world)
+    (Reaches-one laws start.device.identity (Chars chars) None s.arrived t.arrived s.arrives t.arrives) ∙ sym t.next_is
 
 -- A script leads to one world.
 pub run_one : Laws → (start : Start) (events : List LineEvent) (world a b : World) → Run start world events a → Run start world events b
@@ -140,24 +157,24 @@ step_detected : Laws → (start : Start) (world : World) (event : LineEvent) (ne
     → Step start world event next → HasUndetected start world event leg → ⊥
 step_detected laws start world (Submit who address request) next leg step undetected = undetected
 step_detected laws start world (Turn who up down) next legs.Up step undetected =
-    arrives_detected laws up _ step.arrived step.arrives undetected
+    arrives_detected laws up _ step.arrives.frame step.arrives.arrives undetected
 step_detected laws start world (Turn who up down) next legs.Down step undetected =
-    let arrived = Arrives-one laws up _ step.arrived undetected.0 step.arrives undetected.1 in
+    let arrived = Reaches-one laws start.device.identity up _ step.arrived undetected.0 step.arrives undetected.1 in
     arrives_detected laws down _ step.returned (rw arrived at step.returns) undetected.2
 step_detected laws start world (Turn who up down) next legs.Noise step undetected = undetected
 step_detected laws start world (Protect on) next leg step undetected = undetected
 step_detected laws start world (Noise chars) next legs.Up step undetected = undetected
 step_detected laws start world (Noise chars) next legs.Down step undetected = undetected
 step_detected laws start world (Noise chars) next legs.Noise step undetected =
-    arrives_detected laws (Chars chars) None None step.0 undetected
+    arrives_detected laws (Chars chars) None step.arrives.frame step.arrives.arrives undetected
 
 undetected_one : Laws → (start : Start) (world : World) (event : LineEvent) (leg another : Leg)
     → HasUndetected start world event leg → HasUndetected start world event another → leg ≡ another
 undetected_one laws start world (Submit who address request) leg another u v = absurd u
 undetected_one laws start world (Turn who up down) legs.Up legs.Up u v = refl
-undetected_one laws start world (Turn who up down) legs.Up legs.Down u v = absurd (arrives_detected laws up _ v.0 v.1 u)
+undetected_one laws start world (Turn who up down) legs.Up legs.Down u v = absurd (arrives_detected laws up _ v.1.frame v.1.arrives u)
 undetected_one laws start world (Turn who up down) legs.Up legs.Noise u v = absurd v
-undetected_one laws start world (Turn who up down) legs.Down legs.Up u v = absurd (arrives_detected laws up _ u.0 u.1 v)
+undetected_one laws start world (Turn who up down) legs.Down legs.Up u v = absurd (arrives_detected laws up _ u.1.frame u.1.arrives v)
 undetected_one laws start world (Turn who up down) legs.Down legs.Down u v = refl
 undetected_one laws start world (Turn who up down) legs.Down legs.Noise u v = absurd v
 undetected_one laws start world (Turn who up down) legs.Noise another u v = absurd u

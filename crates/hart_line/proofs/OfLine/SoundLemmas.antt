@@ -5,11 +5,11 @@ use Rattle.std.proofs.lemmas.List.{length-set, length-append}
 use Rattle.hart_values.specs.declared.address.Address.{Address}
 use Rattle.hart_values.specs.declared.master_id.MasterId.{MasterId}
 use Rattle.hart_values.specs.declared.master_id.MasterId.TheVariants.{Primary, Secondary}
-use Rattle.hart_frame.specs.FrameParts.{FrameParts}
 use Rattle.hart_values.specs.EachMaster.{of_master, with_master}
 use Rattle.hart_values.specs.declared.each_master.EachMaster.{EachMaster}
 use Rattle.hart_commands.specs.declared.reply.Reply.{Reply}
 use Rattle.hart_commands.specs.declared.request.Request.{Request}
+use Rattle.hart_device.specs.Delivery.{Brought}
 use Rattle.hart_device.specs.Device.{Effect, Nothing, Executes, Resets}
 use Rattle.hart_master.specs.declared.fault.MasterFault.{MasterFault}
 use Rattle.hart_line.specs.Line.Step.{Run, Step, effect_on, executions_after, hand_left, marks_after, outcome_of, submitted, turned}
@@ -83,10 +83,10 @@ hand_left-number held left (Answered reply n) is = cc
 hand_left-number held left (NoReply n) is = cc
 hand_left-number held left (Refused fault) is = cc
 
-turned_sound : (start : Start) (world : World) (who : MasterId) (hand : Option InHand) (arrived : Option FrameParts)
+turned_sound : (start : Start) (world : World) (who : MasterId) (hand : Option InHand) (arrived : Brought)
     (accepted : Option Reply)
     → of_master who world.hands ≡ hand → IsSound world → IsSound (turned start world who hand arrived accepted)
-turned_sound start world who None arrived accepted in_hand s = s
+turned_sound start world who None arrived accepted in_hand s = record { marks = s.marks; within = s.within }
 turned_sound start world who (Some held) arrived accepted in_hand s =
     let effect = effect_on (state_of start.device world) arrived in
     let outcome = outcome_of (of_master who start.retries) (held.sendings + 1) accepted in
@@ -104,6 +104,7 @@ sound_kept start = record {
   submissions = submitted_sound;
   turns = turned_sound start;
   switches = λ world on s. record { marks = s.marks; within = s.within };
+  replies = λ world arrived s. record { marks = s.marks; within = s.within };
 }
 
 pub step_sound : (start : Start) (world : World) (event : LineEvent) (next : World) → Step start world event next → IsSound world

@@ -6,7 +6,7 @@ use Rattle.std.proofs.lemmas.List.Elements.{All-append, All-get_or}
 use Rattle.std.proofs.lemmas.Option.{get_or_from_slice_get, slice_get_within}
 use Rattle.hart_values.specs.declared.address.Address.{Address}
 use Rattle.hart_values.specs.declared.master_id.MasterId.{MasterId}
-use Rattle.hart_frame.specs.FrameParts.{FrameParts}
+use Rattle.hart_device.specs.Delivery.{Brought}
 use Rattle.hart_values.specs.EachMaster.{of_master}
 use Rattle.hart_commands.specs.RequestData.{IsRequest}
 use Rattle.hart_commands.specs.declared.reply.Reply.{Reply}
@@ -76,7 +76,7 @@ hand_left-request held left (NoReply n) is = cc
 hand_left-request held left (Refused fault) is = cc
 
 turned_along : (requests : List Request) (start : Start) (world : World) (who : MasterId) (hand : Option InHand)
-    (arrived : Option FrameParts) (accepted : Option Reply) (events later : List LineEvent) → of_master who world.hands ≡ hand
+    (arrived : Brought) (accepted : Option Reply) (events later : List LineEvent) → of_master who world.hands ≡ hand
     → requests_of events ≡ requests_of later → IsAlong requests world events
     → IsAlong requests (turned start world who hand arrived accepted) later
 turned_along requests start world who None arrived accepted events later in_hand same a =
@@ -98,7 +98,7 @@ step_along requests start world (Turn who up down) later next step a =
     rw step.next_is (turned_along requests start world who (of_master who world.hands) step.arrived step.accepted
     (Turn who up down ∷ later) later refl refl a)
 step_along requests start world (Protect on) later next step a = rw step (record { to_come = a.to_come; hands = a.hands })
-step_along requests start world (Noise chars) later next step a = rw step.1 (record { to_come = a.to_come; hands = a.hands })
+step_along requests start world (Noise chars) later next step a = rw step.next_is (record { to_come = a.to_come; hands = a.hands })
 
 run_along : (requests : List Request) (start : Start) (prefix later : List LineEvent) (from before : World) → Run start from prefix before
     → IsAlong requests from (prefix ++ later) → IsAlong requests before later

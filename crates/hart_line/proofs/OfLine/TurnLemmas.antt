@@ -7,43 +7,67 @@ use Rattle.hart_frame.specs.FrameParts.{FrameParts}
 use Rattle.hart_values.specs.declared.each_master.EachMaster.{EachMaster}
 use Rattle.hart_values.specs.EachMaster.{of_master, with_master}
 use Rattle.hart_device.specs.Device.{DeviceState, after}
-use Rattle.hart_line.specs.Line.Damage.{Arrives}
-use Rattle.hart_line.specs.Line.LineState.{MarksWithin, Stepped, state_heard}
+use Rattle.hart_device.specs.Delivery.{Brought, Garbled, NoMessage, OneFrame, state_after_delivery}
+use Rattle.hart_line.specs.Line.Damage.{Arrives, Reaches}
+use Rattle.hart_line.specs.Line.LineState.{MarksWithin, Stands, Stepped}
 use Rattle.hart_line.specs.Line.Masters.{AreHeld, Concludes}
 use Rattle.hart_line.specs.Line.Spoken.{AreSpoken, Speaks}
-use Rattle.hart_line.specs.Line.Step.{Step, effect_on, spoken_request, sent_back, turned}
+use Rattle.hart_line.specs.Line.Step.{Step, effect_on, replied, spoken_request, sent_back, turned}
 use Rattle.hart_line.specs.Line.World.{InHand, Start, World, state_of}
 use Rattle.hart_line.specs.declared.event.Heard.{Heard}
 use Rattle.hart_line.specs.declared.event.LineEvent.TheVariants.{Turn}
 use Rattle.hart_line.specs.declared.line.masters.Masters.{Masters}
 use Rattle.hart_line.specs.declared.line.report.Outcome.{Outcome}
 use Rattle.hart_line.specs.declared.line.report.Spoken.{Spoken}
-use Rattle.hart_line.proofs.OfLine.ArrivalLemmas.{AreSpoken-more, arrives_cases}
+use Rattle.hart_line.proofs.OfLine.ArrivalLemmas.{AreSpoken-more, frame_in, left_alone, none_reaches, reaches_cases}
 use Rattle.hart_line.proofs.OfLine.StateLemmas.{LastLaw, state-after}
 
 pub of_master-same : {A : Type 0} (id : MasterId) (a : A) (each : EachMaster A) → of_master id (with_master id a each) ≡ a
 of_master-same Primary a each = refl
 of_master-same Secondary a each = refl
 
--- With nothing in hand nothing changes.
-pub silent_step : (start : Start) (world : World) (who : MasterId) (up down : Heard) → of_master who world.hands ≡ None
-    → Arrives up None None → Arrives down None None → Step start world (Turn who up down) world
-silent_step start world who up down in_hand arrives returns = record {
-  arrived = None;
-  arrives = rw in_hand arrives;
-  returned = None;
+-- With nothing in hand, as in noise, the line stands for the world in which the device has replied to what it was brought.
+pub replied_stands : (start : Start) (world : World) (heard : Heard) (arrived : Brought) (device : DeviceState) (masters : Masters)
+    (outcomes : List Outcome) (spoken spoken' : List Spoken) (outcomes_room spoken_room : ℕ)
+    → device ≡ state_after_delivery (state_of start.device world) arrived → Reaches start.device.identity heard None arrived → AreHeld start.retries world.hands masters → outcomes ≡ world.outcomes
+    → AreSpoken world.spoken spoken → Speaks (sent_back start world arrived) spoken spoken'
+    → Stands start (replied start world arrived) (record {
+      device = device;
+      masters = masters;
+      outcomes = outcomes;
+      spoken = spoken';
+      outcomes_room = outcomes_room;
+      spoken_room = spoken_room;
+    })
+replied_stands start world heard arrived device masters outcomes spoken spoken' outcomes_room spoken_room is reaches held same are
+    speaks = record {
+      device_is = is ∙ left_alone (state_of start.device world) arrived (none_reaches start.device.identity heard arrived reaches);
+      masters_are = held;
+      outcomes_are = same;
+      spoken_are = AreSpoken-more world.spoken (sent_back start world arrived) spoken spoken' are speaks;
+    }
+
+-- With nothing in hand a turn is such a reply.
+pub silent_step : (start : Start) (world : World) (who : MasterId) (up down : Heard) (arrived : Brought) (returned : Option FrameParts)
+    → of_master who world.hands ≡ None → Reaches start.device.identity up None arrived
+    → Arrives down (sent_back start world arrived) returned → Step start world (Turn who up down) (replied start world arrived)
+silent_step start world who up down arrived returned in_hand reaches returns = record {
+  arrived = arrived;
+  arrives = rw in_hand reaches;
+  returned = returned;
   returns = returns;
   accepted = None;
   accepts = rw in_hand refl;
   next_is = rw in_hand refl;
 }
 
-state_heard-effect : (state : DeviceState) (id : MasterId) (held : InHand) (arrived : Option FrameParts)
-    → (arrived ≡ None) ⊎ (arrived ≡ Some (spoken_request id held).frame)
-    → state_heard state arrived ≡ after id (effect_on state arrived) state
-state_heard-effect state id held None known = refl
-state_heard-effect state id held (Some frame) (inl is) = cc
-state_heard-effect state id held (Some frame) (inr is) =
+state_after-effect : (state : DeviceState) (id : MasterId) (held : InHand) (arrived : Brought)
+    → (frame_in arrived ≡ None) ⊎ (frame_in arrived ≡ Some (spoken_request id held).frame)
+    → state_after_delivery state arrived ≡ after id (effect_on state arrived) state
+state_after-effect state id held (Garbled request) known = refl
+state_after-effect state id held NoMessage known = refl
+state_after-effect state id held (OneFrame frame) (inl is) = cc
+state_after-effect state id held (OneFrame frame) (inr is) =
     let master : frame.master ≡ id = ap (λ (f : FrameParts). f.master) (some_one is) in rw master
   where
     some_one : {A : Type 0} {x y : A} → Some x ≡ Some y → x ≡ y
@@ -51,16 +75,16 @@ state_heard-effect state id held (Some frame) (inr is) =
 
 -- With a request in hand that is sent, the line stands for the world that the turn leads to.
 pub turned_stands : LastLaw → (start : Start) (world : World) (who : MasterId) (up down : Heard) (held : InHand)
-    (arrived returned : Option FrameParts) (masters : Masters) (outcomes : List Outcome) (spoken mid spoken' : List Spoken)
+    (arrived : Brought) (returned : Option FrameParts) (masters : Masters) (outcomes : List Outcome) (spoken mid spoken' : List Spoken)
     (outcomes_room spoken_room : ℕ)
     → MarksWithin world → of_master who world.hands ≡ Some held
-    → Arrives up (Some (spoken_request who held)) arrived → Arrives down (sent_back start world arrived) returned
+    → Reaches start.device.identity up (Some (spoken_request who held)) arrived → Arrives down (sent_back start world arrived) returned
     → AreSpoken world.spoken spoken → Speaks (Some (spoken_request who held)) spoken mid
     → Speaks (sent_back start world arrived) mid spoken'
     → Concludes who (of_master who start.retries) held returned world.outcomes outcomes
     (λ left. AreHeld start.retries (with_master who left world.hands) masters)
     → Stepped start world (Turn who up down) (record {
-      device = state_heard (state_of start.device world) arrived;
+      device = state_after_delivery (state_of start.device world) arrived;
       masters = masters;
       outcomes = outcomes;
       spoken = spoken';
@@ -81,8 +105,8 @@ turned_stands last start world who up down held arrived returned masters outcome
         next_is = rw in_hand refl;
       };
       stands = record {
-        device_is = state_heard-effect (state_of start.device world) who held arrived (arrives_cases up (Some
-            (spoken_request who held)) arrived arrives)
+        device_is = state_after-effect (state_of start.device world) who held arrived
+            (reaches_cases start.device.identity up (Some (spoken_request who held)) arrived arrives)
             ∙ state-after last start.device world next who held.submission (effect_on (state_of start.device world) arrived)
             within refl refl refl;
         masters_are = concludes.left;

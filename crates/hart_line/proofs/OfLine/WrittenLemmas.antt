@@ -14,16 +14,17 @@ use Rattle.hart_commands.specs.declared.content.ReplyContent.TheVariants.{Refuse
 use Rattle.hart_commands.specs.declared.reply.Reply.{Reply}
 use Rattle.hart_commands.specs.declared.request.Request.{Request}
 use Rattle.hart_device.specs.Answer.{answer_of, code_of, effect_of, is_answered, reading_of}
+use Rattle.hart_device.specs.Delivery.{Brought, Garbled, NoMessage, OneFrame}
 use Rattle.hart_device.specs.Device.{DeviceState, Effect, Nothing, Executes, Resets}
 use Rattle.hart_device.specs.declared.process.Process.{Process}
-use Rattle.hart_line.specs.Line.Damage.{Arrives}
+use Rattle.hart_line.specs.Line.Damage.{Reaches}
 use Rattle.hart_line.specs.Line.Promises.{AnswersLastSending, AreWellMade, IsExecutedFromHand, IsExecutedInItsTurn, IsStepOf, IsUnrefusedWrite, arrived_in_step, requests_of}
 use Rattle.hart_line.specs.Line.Step.{IsTurn, Step, effect_on, executions_after, spoken_request, sent_by, submission_fault, submitted, turned}
 use Rattle.hart_line.specs.Line.World.{Execution, InHand, Start, World, first_world, state_of}
 use Rattle.hart_line.specs.declared.event.Heard.{Heard}
 use Rattle.hart_line.specs.declared.event.LineEvent.{LineEvent}
 use Rattle.hart_line.specs.declared.event.LineEvent.TheVariants.{Submit, Turn, Protect, Noise}
-use Rattle.hart_line.proofs.OfLine.ArrivalLemmas.{arrives_cases, none_arrives}
+use Rattle.hart_line.proofs.OfLine.ArrivalLemmas.{frame_in, none_reaches, reaches_cases}
 use Rattle.hart_line.proofs.OfLine.LastLemmas.{ReadsLaw}
 use Rattle.hart_line.proofs.OfLine.SubmittedLemmas.{made_of, submitted_as}
 
@@ -84,15 +85,18 @@ named_by request None is none = cc
 named_by request (Some overwrite) is there = record { overwrite = overwrite; is = is }
 
 -- A write that is not refused and arrives in a turn is the frame that was sent.
-record IsSentWrite (state : DeviceState) (sent : FrameParts) (arrived : Option FrameParts) : Type 0 where
-  pub arrived_is : arrived ≡ Some sent
-  pub write : IsUnrefusedWrite state (Some sent)
+record IsSentWrite (state : DeviceState) (sent : FrameParts) (arrived : Brought) : Type 0 where
+  pub arrived_is : arrived ≡ OneFrame sent
+  pub write : IsUnrefusedWrite state (OneFrame sent)
 
-sent_write : (state : DeviceState) (sent : FrameParts) (arrived : Option FrameParts) → (arrived ≡ None) ⊎ (arrived ≡ Some sent)
+sent_write : (state : DeviceState) (sent : FrameParts) (arrived : Brought) → (frame_in arrived ≡ None) ⊎ (frame_in arrived ≡ Some sent)
     → IsUnrefusedWrite state arrived → IsSentWrite state sent arrived
-sent_write state sent None known write = absurd write
-sent_write state sent (Some frame) (inl none) write = cc
-sent_write state sent (Some frame) (inr is) write = record { arrived_is = is; write = subst (IsUnrefusedWrite state) is write }
+sent_write state sent NoMessage known write = absurd write
+sent_write state sent (Garbled request) known write = absurd write
+sent_write state sent (OneFrame frame) (inl none) write = cc
+sent_write state sent (OneFrame frame) (inr is) write =
+    let same : OneFrame frame ≡ OneFrame sent = ap OneFrame (some_one is) in
+    record { arrived_is = same; write = subst (IsUnrefusedWrite state) same write }
 
 -- A submission was executed in a step, with the overwrite of this request.
 pub record IsExecuted (number : ℕ) (request : Request) (before next : World) : Type 0 where
@@ -100,8 +104,9 @@ pub record IsExecuted (number : ℕ) (request : Request) (before next : World) :
   pub overwrites : overwrite_of request ≡ Some overwrite
   pub executed : next.executions ≡ before.executions ++ record { submission = number; overwrite = overwrite } ∷ []
 
-turned_executes : WriteLaws → (start : Start) (before : World) (who : MasterId) (held : InHand) (arrived : Option FrameParts)
-    (accepted : Option Reply) → IsRequest held.request → (arrived ≡ None) ⊎ (arrived ≡ Some (spoken_request who held).frame)
+turned_executes : WriteLaws → (start : Start) (before : World) (who : MasterId) (held : InHand) (arrived : Brought)
+    (accepted : Option Reply) → IsRequest held.request
+    → (frame_in arrived ≡ None) ⊎ (frame_in arrived ≡ Some (spoken_request who held).frame)
     → IsUnrefusedWrite (state_of start.device before) arrived
     → IsExecuted held.submission held.request before (turned start before who (Some held) arrived accepted)
 turned_executes laws start before who held arrived accepted made known write =
@@ -122,7 +127,7 @@ turn_executes : WriteLaws → (start : Start) (before : World) (who : MasterId) 
     → IsUnrefusedWrite (state_of start.device before) t.arrived → IsExecuted held.submission held.request before next
 turn_executes laws start before who up down next t held in_hand made write =
     rw (t.next_is, in_hand) (turned_executes laws start before who held t.arrived t.accepted made
-    (arrives_cases up (Some (spoken_request who held)) t.arrived (rw in_hand at t.arrives)) write)
+    (reaches_cases start.device.identity up (Some (spoken_request who held)) t.arrived (rw in_hand at t.arrives)) write)
 
 pub turn_executed : WriteLaws → (start : Start) (events : List LineEvent) → AreWellMade events → (who : MasterId) (up down : Heard)
     (before next : World) (t : IsStepOf start (first_world start) events before (Turn who up down) next)
@@ -130,10 +135,16 @@ pub turn_executed : WriteLaws → (start : Start) (events : List LineEvent) → 
 turn_executed laws start events made who up down before next t write =
     by_hand (of_master who before.hands) refl t.step.arrives
   where
-    by_hand : (hand : Option InHand) → of_master who before.hands ≡ hand → Arrives up (sent_by who hand) t.step.arrived
+    unsent : (arrived : Brought) → frame_in arrived ≡ None → IsUnrefusedWrite (state_of start.device before) arrived → ⊥
+    unsent (OneFrame frame) none write = cc
+    unsent (Garbled request) none write = write
+    unsent NoMessage none write = write
+
+    by_hand : (hand : Option InHand) → of_master who before.hands ≡ hand
+        → Reaches start.device.identity up (sent_by who hand) t.step.arrived
         → IsExecutedFromHand start events who before next
     by_hand None in_hand arrives =
-        absurd (subst (IsUnrefusedWrite (state_of start.device before)) (none_arrives up t.step.arrived arrives) write)
+        absurd (unsent t.step.arrived (none_reaches start.device.identity up t.step.arrived arrives) write)
     by_hand (Some held) in_hand arrives =
         let there = submitted_as start events t.prefix _ t.suffix before t.split t.led who held in_hand in
         let e = turn_executes laws start before who up down next t.step held in_hand
@@ -159,7 +170,7 @@ answered_executed laws start events made number request reply sendings a submitt
     let code : code_of state frame ≡ 0 = sym (reading_code a.answer.command a.answer.payload reply _ a.is_reply.read coded.2) ∙ success in
     let there = submitted_as start events a.turn.prefix _ a.turn.suffix a.before a.turn.split a.turn.led a.who a.held a.in_hand in
     let same : a.held.request ≡ request = some_one (sym there ∙ ap (slice_get (requests_of events)) a.of_submission ∙ submitted) in
-    let unrefused : IsUnrefusedWrite state (Some frame) = (rw (← same) at write, coded.0, code) in
+    let unrefused : IsUnrefusedWrite state (OneFrame frame) = (rw (← same) at write, coded.0, code) in
     let e = turn_executes laws start a.before a.who a.up a.down a.next a.turn.step a.held a.in_hand
     (made_of events a.held.submission a.held.request made there) (subst (IsUnrefusedWrite state) (sym a.arrived) unrefused) in record {
       answered = a;
@@ -170,7 +181,7 @@ answered_executed laws start events made number request reply sendings a submitt
 
 -- NOTHING ELSE
 frame_stays : WriteLaws → (state : DeviceState) (frame : FrameParts) (number : ℕ) (executions : List Execution) (effect : Effect)
-    → effect_of state frame ≡ effect → (IsUnrefusedWrite state (Some frame) → ⊥) → executions_after effect number executions ≡ executions
+    → effect_of state frame ≡ effect → (IsUnrefusedWrite state (OneFrame frame) → ⊥) → executions_after effect number executions ≡ executions
 frame_stays laws state frame number executions Nothing is other = refl
 frame_stays laws state frame number executions Resets is other = refl
 frame_stays laws state frame number executions (Executes overwrite) is other =
@@ -179,10 +190,11 @@ frame_stays laws state frame number executions (Executes overwrite) is other =
     let command = (laws.command frame.command frame.payload asked.2 asked.3).0 in
     absurd (other (rw command at ((laws.overwritten asked.2).1 named), asked.0, asked.1))
 
-arrived_stays : WriteLaws → (state : DeviceState) (arrived : Option FrameParts) (number : ℕ) (executions : List Execution)
+arrived_stays : WriteLaws → (state : DeviceState) (arrived : Brought) (number : ℕ) (executions : List Execution)
     → (IsUnrefusedWrite state arrived → ⊥) → executions_after (effect_on state arrived) number executions ≡ executions
-arrived_stays laws state None number executions other = refl
-arrived_stays laws state (Some frame) number executions other = frame_stays laws state frame number executions _ refl other
+arrived_stays laws state NoMessage number executions other = refl
+arrived_stays laws state (Garbled request) number executions other = refl
+arrived_stays laws state (OneFrame frame) number executions other = frame_stays laws state frame number executions _ refl other
 
 pub step_stays : WriteLaws → (start : Start) (before : World) (event : LineEvent) (next : World) (step : Step start before event next)
     → (IsUnrefusedWrite (state_of start.device before) (arrived_in_step start before event next step) → ⊥)
@@ -200,4 +212,4 @@ step_stays laws start before (Turn who up down) next step other =
     by_hand None = refl
     by_hand (Some held) = arrived_stays laws (state_of start.device before) step.arrived held.submission before.executions other
 step_stays laws start before (Protect on) next step other = ap (λ (w : World). w.executions) step
-step_stays laws start before (Noise chars) next step other = ap (λ (w : World). w.executions) step.1
+step_stays laws start before (Noise chars) next step other = ap (λ (w : World). w.executions) step.next_is

@@ -6,6 +6,8 @@ use Rattle.hart_frame.specs.FrameParts.{FrameParts}
 use Rattle.hart_frame.specs.Frames.{AreFrames}
 use Rattle.hart_frame.specs.Message.{IsMessage}
 use Rattle.hart_frame.specs.declared.found.Found.{Found}
+use Rattle.hart_device.specs.Delivery.{BringsBy, Brought}
+use Rattle.hart_device.specs.declared.identity_parts.IdentityParts.{IdentityParts}
 use Rattle.hart_line.specs.declared.event.Heard.{Heard}
 use Rattle.hart_line.specs.declared.event.Heard.TheVariants.{Clean, Lost, Chars}
 use Rattle.hart_line.specs.Line.Spoken.{SpokenFrame, frame_of}
@@ -33,6 +35,13 @@ pub record Arrives (heard : Heard) (sent : Option SpokenFrame) (arrived : Option
   pub frames : List Found
   pub are_frames : AreFrames chars 0 frames
   pub detected : IsDetected (frame_of sent) frames arrived
+
+-- What a leg whose damage is detected brings the device: what the characters that are heard bring it, so that a frame is the one that
+-- was sent.
+pub record Reaches (identity : IdentityParts) (heard : Heard) (sent : Option SpokenFrame) (brought : Brought) : Type 0 where
+  pub frame : Option FrameParts
+  pub arrives : Arrives heard sent frame
+  pub brings : BringsBy identity arrives.chars arrives.frames brought
 
 -- The damage of a leg is undetected if it is not detected: some frame was heard that is not the one sent, or more than one frame
 -- was heard.

@@ -2,7 +2,8 @@
 use Rattle.std.specs.Prelude.{◌≡◌, List, [], ◌∷◌, take, slice_get, Option, None, Some}
 use Rattle.hart_frame.specs.FrameParts.{FrameParts}
 use Rattle.hart_values.specs.EachMaster.{of_master}
-use Rattle.hart_line.specs.Line.Damage.{Arrives, IsDetectable, IsUndetected}
+use Rattle.hart_device.specs.Delivery.{Brought}
+use Rattle.hart_line.specs.Line.Damage.{Arrives, IsDetectable, IsUndetected, Reaches}
 use Rattle.hart_line.specs.Line.Needs.{IsNeededBy}
 use Rattle.hart_line.specs.Line.Step.{IsLast, Step, sent_back, sent_by}
 use Rattle.hart_line.specs.Line.World.{Start, World}
@@ -18,8 +19,8 @@ use Rattle.hart_line.specs.declared.fault.LineFault.TheVariants.{BadLine, Memory
 -- nothing else has any.
 abbrev pub HasUndetected : Start → World → LineEvent → Leg → Type 0
 HasUndetected start world (Turn who up down) legs.Up = IsUndetected up (sent_by who (of_master who world.hands))
-HasUndetected start world (Turn who up down) legs.Down = (arrived : Option FrameParts)
-    × Arrives up (sent_by who (of_master who world.hands)) arrived × IsUndetected down (sent_back start world arrived)
+HasUndetected start world (Turn who up down) legs.Down = (arrived : Brought)
+    × Reaches start.device.identity up (sent_by who (of_master who world.hands)) arrived × IsUndetected down (sent_back start world arrived)
 HasUndetected start world (Noise chars) legs.Noise = IsUndetected (Chars chars) None
 HasUndetected start world _ _ = ⊥
 
@@ -34,8 +35,8 @@ IsFault start events (BadLine line) = ⊥
 -- What is heard in a leg of a turn is detectable, by what is sent in that leg. Of noise nothing is said, since nobody sends it.
 abbrev pub HasDetectable : Start → World → LineEvent → Leg → Type 0
 HasDetectable start world (Turn who up down) legs.Up = IsDetectable up (sent_by who (of_master who world.hands))
-HasDetectable start world (Turn who up down) legs.Down = (arrived : Option FrameParts)
-    × Arrives up (sent_by who (of_master who world.hands)) arrived × IsDetectable down (sent_back start world arrived)
+HasDetectable start world (Turn who up down) legs.Down = (arrived : Brought)
+    × Reaches start.device.identity up (sent_by who (of_master who world.hands)) arrived × IsDetectable down (sent_back start world arrived)
 HasDetectable start world _ _ = ⊥
 
 -- Undetected damage is in no leg in which what is heard is detectable.
@@ -47,10 +48,11 @@ IsNotDetectable start events (BadLine line) = Unit {0}
 
 -- The damage of each leg of an event is detected.
 abbrev pub LegsAreDetected : Start → World → LineEvent → Type 0
-LegsAreDetected start world (Turn who up down) = (arrived : Option FrameParts)
-    × Arrives up (sent_by who (of_master who world.hands)) arrived
+LegsAreDetected start world (Turn who up down) = (arrived : Brought)
+    × Reaches start.device.identity up (sent_by who (of_master who world.hands)) arrived
     × (returned : Option FrameParts) × Arrives down (sent_back start world arrived) returned
-LegsAreDetected start world (Noise chars) = Arrives (Chars chars) None None
+LegsAreDetected start world (Noise chars) =
+    (arrived : Brought) × Reaches start.device.identity (Chars chars) None arrived
 LegsAreDetected start world _ = Unit {0}
 
 -- The damage of each leg of these events is detected, one event after another.

@@ -5,14 +5,45 @@ use Rattle.hart_frame.specs.Character.{Character}
 use Rattle.hart_frame.specs.FrameParts.{FrameParts}
 use Rattle.hart_frame.specs.Frames.{AreFrames}
 use Rattle.hart_frame.specs.declared.found.Found.{Found}
-use Rattle.hart_line.specs.Line.Damage.{IsDetected}
+use Rattle.hart_device.specs.Delivery.{Brought, BringsBy, answer_to, state_after_delivery}
+use Rattle.hart_device.specs.Device.{DeviceState}
+use Rattle.hart_device.specs.declared.identity_parts.IdentityParts.{IdentityParts}
+use Rattle.hart_device.specs.declared.process.Process.{Process}
+use Rattle.hart_line.specs.Line.Damage.{IsDetected, Reaches}
 use Rattle.hart_line.specs.Line.Spoken.{SpokenFrame}
+use Rattle.hart_line.specs.declared.event.Heard.{Heard}
 
 -- If this was sent, the damage of these characters is detected, and this arrives.
 pub record ArrivesAmong (chars : List Character) (sent arrived : Option FrameParts) : Type 0 where
   pub frames : List Found
   pub are_frames : AreFrames chars 0 frames
   pub detected : IsDetected sent frames arrived
+
+-- If this was sent, the damage of these characters is detected, and they bring the device this.
+pub record ReachesAmong (identity : IdentityParts) (chars : List Character) (sent : Option FrameParts) (brought : Brought) : Type 0 where
+  pub frame : Option FrameParts
+  pub arrives : ArrivesAmong chars sent frame
+  pub brings : BringsBy identity chars arrives.frames brought
+
+-- The device gave this answer, and is in this state, after what was brought.
+pub record AnswersTo (device : DeviceState) (process : Process) (brought : Brought) (answer : Option FrameParts) (after : DeviceState)
+    : Type 0 where
+  pub answer_is : answer ≡ answer_to device process brought
+  pub after_is : after ≡ state_after_delivery device brought
+
+-- It answered so what these characters brought it.
+pub record AnswersAmong (chars : List Character) (sent : Option FrameParts) (device : DeviceState) (process : Process)
+    (answer : Option FrameParts) (after : DeviceState) : Type 0 where
+  pub brought : Brought
+  pub reaches : ReachesAmong device.identity chars sent brought
+  pub answers : AnswersTo device process brought answer after
+
+-- It answered so what this leg brought it.
+pub record AnswersIn (heard : Heard) (sent : Option SpokenFrame) (device : DeviceState) (process : Process) (answer : Option FrameParts)
+    (after : DeviceState) : Type 0 where
+  pub brought : Brought
+  pub reaches : Reaches device.identity heard sent brought
+  pub answers : AnswersTo device process brought answer after
 
 -- If this was sent, the damage of these characters is undetected.
 pub record IsUndetectedAmong (chars : List Character) (sent : Option FrameParts) : Type 0 where

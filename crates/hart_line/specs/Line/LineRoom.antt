@@ -1,7 +1,7 @@
 -- The room on the line, for private calls alone.
-use Rattle.std.specs.Prelude.{◌≡◌, ◌≤◌, ◌+◌, ◌*◌, List, [], ◌∷◌, count_by, length}
+use Rattle.std.specs.Prelude.{◌≡◌, ◌≤◌, ◌+◌, List, [], ◌∷◌, count_by, length}
 use Rattle.hart_line.specs.Line.LineState.{LineState}
-use Rattle.hart_line.specs.Line.Needs.{is_submission, is_turn}
+use Rattle.hart_line.specs.Line.Needs.{is_submission, most_spoken}
 use Rattle.hart_line.specs.declared.event.LineEvent.{LineEvent}
 use Rattle.hart_line.specs.declared.line.room.ScriptRoom.{ScriptRoom}
 
@@ -10,12 +10,12 @@ pub record IsRoomFor (events : List LineEvent) (room : ScriptRoom) : Type 0 wher
   pub no_outcomes : room.outcomes.items ≡ []
   pub nothing_spoken : room.spoken.items ≡ []
   pub outcomes : count_by is_submission events ≤ room.outcomes.room
-  pub spoken : 2 * count_by is_turn events ≤ room.spoken.room
+  pub spoken : most_spoken events ≤ room.spoken.room
 
 -- A line has room for what these events add to its outcomes and to what was spoken.
 pub record HasRoomFor (events : List LineEvent) (line : LineState) : Type 0 where
   pub outcomes : length line.outcomes + count_by is_submission events ≤ line.outcomes_room
-  pub spoken : length line.spoken + 2 * count_by is_turn events ≤ line.spoken_room
+  pub spoken : length line.spoken + most_spoken events ≤ line.spoken_room
 
 -- An event takes no more room than is meant for it: what there was for the events after it is there still.
 abbrev pub LeavesRoom : LineEvent → LineState → LineState → Type 0

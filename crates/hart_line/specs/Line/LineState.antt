@@ -1,9 +1,7 @@
 -- The line as one value, as the world of a script has it, for private calls alone.
-use Rattle.std.specs.Prelude.{◌≡◌, ℕ, ◌≤◌, List, length, Option, None, Some}
+use Rattle.std.specs.Prelude.{◌≡◌, ℕ, ◌≤◌, List, length, Some}
 use Rattle.hart_values.specs.declared.master_id.MasterId.{MasterId}
-use Rattle.hart_frame.specs.FrameParts.{FrameParts}
 use Rattle.hart_values.specs.EachMaster.{of_master}
-use Rattle.hart_device.specs.Answer.{state_after}
 use Rattle.hart_device.specs.Device.{DeviceState}
 use Rattle.hart_line.specs.Line.Masters.{AreHeld}
 use Rattle.hart_line.specs.Line.Spoken.{AreSpoken}
@@ -30,11 +28,6 @@ pub record Stands (start : Start) (world : World) (line : LineState) : Type 0 wh
   pub masters_are : AreHeld start.retries world.hands line.masters
   pub outcomes_are : line.outcomes ≡ world.outcomes
   pub spoken_are : AreSpoken world.spoken line.spoken
-
--- The device after what arrived.
-abbrev pub state_heard : DeviceState → Option FrameParts → DeviceState
-state_heard device None = device
-state_heard device (Some frame) = state_after device frame
 
 -- No mark is greater than the number of executions.
 abbrev pub MarksWithin : World → Type 0

@@ -1,7 +1,8 @@
--- The room that a script needs: for an outcome of each submission, and for two spoken frames of each turn (own profile).
-use Rattle.std.specs.Prelude.{◌≡◌, ◌⊎◌, ℕ, ◌*◌, Bool, true, false, List, count_by}
+-- The room that a script needs: for an outcome of each submission, and for two spoken frames of each turn and one of each noise (own
+-- profile).
+use Rattle.std.specs.Prelude.{◌≡◌, ◌⊎◌, ℕ, ◌+◌, ◌*◌, Bool, true, false, List, count_by}
 use Rattle.hart_line.specs.declared.event.LineEvent.{LineEvent}
-use Rattle.hart_line.specs.declared.event.LineEvent.TheVariants.{Submit, Turn}
+use Rattle.hart_line.specs.declared.event.LineEvent.TheVariants.{Submit, Turn, Noise}
 
 -- Whether an event is a submission.
 abbrev pub is_submission : LineEvent → Bool
@@ -13,6 +14,15 @@ abbrev pub is_turn : LineEvent → Bool
 is_turn (Turn who up down) = true
 is_turn event = false
 
--- Events need room for as many outcomes as there are submissions, and for twice as many spoken frames as there are turns.
+-- Whether an event is noise.
+abbrev pub is_noise : LineEvent → Bool
+is_noise (Noise chars) = true
+is_noise event = false
+
+-- The most frames that are spoken in events: two in each turn, and one in each noise.
+abbrev pub most_spoken : List LineEvent → ℕ
+most_spoken events = 2 * count_by is_turn events + count_by is_noise events
+
+-- Events need room for as many outcomes as there are submissions, and for the most frames that are spoken in them.
 abbrev pub IsNeededBy : List LineEvent → ℕ → Type 0
-IsNeededBy events items = (items ≡ count_by is_submission events) ⊎ (items ≡ 2 * count_by is_turn events)
+IsNeededBy events items = (items ≡ count_by is_submission events) ⊎ (items ≡ most_spoken events)

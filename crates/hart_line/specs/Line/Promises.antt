@@ -10,6 +10,7 @@ use Rattle.hart_commands.specs.declared.reply.Reply.{Reply}
 use Rattle.hart_commands.specs.declared.request.Request.{Request}
 use Rattle.hart_commands.specs.declared.request.Request.TheVariants.{ResetChanged}
 use Rattle.hart_device.specs.Answer.{answer_of, code_of, effect_of, is_answered, reading_of}
+use Rattle.hart_device.specs.Delivery.{Brought, Garbled, NoMessage, OneFrame}
 use Rattle.hart_device.specs.Device.{DeviceState, Resets}
 use Rattle.hart_device.specs.declared.process.Process.{Process}
 use Rattle.hart_master.specs.Acceptance.{IsReplyTo}
@@ -53,7 +54,7 @@ pub record AnswersLastSendingFrom (start : Start) (from : World) (events : List 
   pub in_hand : of_master who before.hands ≡ Some held
   pub of_submission : held.submission ≡ number
   pub sent : sendings ≡ held.sendings + 1
-  pub arrived : turn.step.arrived ≡ Some (spoken_request who held).frame
+  pub arrived : turn.step.arrived ≡ OneFrame (spoken_request who held).frame
   pub answer : FrameParts
   pub answered : answer_of (state_of start.device before) start.process (spoken_request who held).frame ≡ Some answer
   pub returned : turn.step.returned ≡ Some answer
@@ -94,19 +95,20 @@ pub record IsExecutedInItsTurn (start : Start) (events : List LineEvent) (number
   pub executed : answered.next.executions
       ≡ answered.before.executions ++ record { submission = number; overwrite = overwrite } ∷ []
 
--- What arrived at the device in an event: in a turn the frame that did, if one did, and in every other event nothing.
+-- What arrived at the device in an event: in a turn and in noise what it was brought, and in every other event no message.
 abbrev pub arrived_in_step : (start : Start) (before : World) (event : LineEvent) (next : World) → Step start before event next
-    → Option FrameParts
-arrived_in_step start before (Submit who address request) next step = None
+    → Brought
+arrived_in_step start before (Submit who address request) next step = NoMessage
 arrived_in_step start before (Turn who up down) next step = step.arrived
-arrived_in_step start before (Protect on) next step = None
-arrived_in_step start before (Noise chars) next step = None
+arrived_in_step start before (Protect on) next step = NoMessage
+arrived_in_step start before (Noise chars) next step = step.arrived
 
 -- What arrived is a write that is not refused: a frame of a configuration write that the device answers with code 0.
-abbrev pub IsUnrefusedWrite : DeviceState → Option FrameParts → Type 0
-IsUnrefusedWrite state None = ⊥
-IsUnrefusedWrite state (Some frame) =
+abbrev pub IsUnrefusedWrite : DeviceState → Brought → Type 0
+IsUnrefusedWrite state (OneFrame frame) =
     IsTrue (is_write frame.command) × (is_answered state frame ≡ true) × (code_of state frame ≡ 0)
+IsUnrefusedWrite state (Garbled request) = ⊥
+IsUnrefusedWrite state NoMessage = ⊥
 
 -- In a turn of this master one execution is added: that of the submission whose request is in its hand, with the overwrite of this
 -- request, which is the one that was submitted under that number.
@@ -125,7 +127,7 @@ pub record IsRefusedByDevice (start : Start) (events : List LineEvent) (before n
   pub down : Heard
   pub turn : IsStepOf start (first_world start) events before (Turn who up down) next
   pub frame : FrameParts
-  pub arrived : turn.step.arrived ≡ Some frame
+  pub arrived : turn.step.arrived ≡ OneFrame frame
   pub refused : (code_of (state_of start.device before) frame ≢ 0) ⊎ (is_answered (state_of start.device before) frame ≡ false)
 
 -- No turn of a master in these events resets its configuration-changed bit.
@@ -142,7 +144,7 @@ pub record IsLastReset (start : Start) (events : List LineEvent) (who : MasterId
   pub down : Heard
   pub turn : IsStepOf start (first_world start) events before (Turn who up down) next
   pub frame : FrameParts
-  pub arrived : turn.step.arrived ≡ Some frame
+  pub arrived : turn.step.arrived ≡ OneFrame frame
   pub resets : effect_of (state_of start.device before) frame ≡ Resets
   pub reading : reading_of frame ≡ Ok (ResetChanged given)
   pub last : HasNoReset start next turn.suffix who

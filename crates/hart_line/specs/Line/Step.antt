@@ -3,20 +3,21 @@ use Rattle.std.specs.Prelude.{◌≡◌, ℕ, ◌+◌, nat_le, if◌then◌else�
 use Rattle.std.specs.Option.{option_to_list}
 use Rattle.hart_values.specs.declared.address.Address.{Address}
 use Rattle.hart_values.specs.declared.master_id.MasterId.{MasterId}
+use Rattle.hart_frame.specs.Character.{Character}
 use Rattle.hart_frame.specs.FrameParts.{FrameParts, request_parts}
 use Rattle.hart_values.specs.EachMaster.{of_master, with_master}
 use Rattle.hart_values.specs.declared.each_master.EachMaster.{EachMaster}
 use Rattle.hart_commands.specs.RequestData.{command_of, request_data}
 use Rattle.hart_commands.specs.declared.reply.Reply.{Reply}
 use Rattle.hart_commands.specs.declared.request.Request.{Request}
-use Rattle.hart_device.specs.Answer.{answer_of, effect_of}
+use Rattle.hart_device.specs.Answer.{effect_of}
+use Rattle.hart_device.specs.Delivery.{Brought, Garbled, NoMessage, OneFrame, answer_to}
 use Rattle.hart_device.specs.Device.{DeviceState, Effect, Nothing, Executes, Resets}
-use Rattle.hart_device.specs.declared.process.Process.{Process}
 use Rattle.hart_master.specs.Acceptance.{IsReplyTo}
 use Rattle.hart_master.specs.Pairing.{may_ask}
 use Rattle.hart_master.specs.declared.fault.MasterFault.{MasterFault}
 use Rattle.hart_master.specs.declared.fault.MasterFault.TheVariants.{Pending, WrongAddress}
-use Rattle.hart_line.specs.Line.Damage.{Arrives}
+use Rattle.hart_line.specs.Line.Damage.{Arrives, Reaches}
 use Rattle.hart_line.specs.Line.Spoken.{SpokenFrame, master_preambles, spoken_by, party_of}
 use Rattle.hart_line.specs.Line.World.{Execution, InHand, Start, World, first_world, state_of}
 use Rattle.hart_line.specs.declared.event.Heard.{Heard}
@@ -59,20 +60,16 @@ abbrev pub sent_by : MasterId → Option InHand → Option SpokenFrame
 sent_by who None = None
 sent_by who (Some held) = Some (spoken_request who held)
 
--- The device answers the frame that arrives, and says nothing if none arrives.
-abbrev pub frame_answered : DeviceState → Process → Option FrameParts → Option FrameParts
-frame_answered state process None = None
-frame_answered state process (Some frame) = answer_of state process frame
-
--- It sends its answer back after as many preamble bytes as its identity says.
-abbrev pub sent_back : Start → World → Option FrameParts → Option SpokenFrame
+-- The device sends its answer to what it is brought back after as many preamble bytes as its identity says.
+abbrev pub sent_back : Start → World → Brought → Option SpokenFrame
 sent_back start world arrived = spoken_by Device start.device.identity.response_preambles
-    (frame_answered (state_of start.device world) start.process arrived)
+    (answer_to (state_of start.device world) start.process arrived)
 
--- What arrives has its effect on the device, and there is no effect if no frame arrives.
-abbrev pub effect_on : DeviceState → Option FrameParts → Effect
-effect_on state None = Nothing
-effect_on state (Some frame) = effect_of state frame
+-- A frame that arrives has its effect on the device; a garbled request has none, as no message has none.
+abbrev pub effect_on : DeviceState → Brought → Effect
+effect_on state (OneFrame frame) = effect_of state frame
+effect_on state (Garbled request) = Nothing
+effect_on state NoMessage = Nothing
 
 -- An execution enters the executions, with the number of its submission.
 abbrev pub executions_after : Effect → ℕ → List Execution → List Execution
@@ -108,11 +105,15 @@ hand_left held (Answered reply sendings) = None
 hand_left held (NoReply sendings) = None
 hand_left held (Refused fault) = None
 
--- A turn of a master, in which this frame arrived and this reply was accepted: with nothing in hand nothing changes; otherwise
--- the request is spoken, then the device's answer to what arrived, if any; the effect enters the executions under the number of
+-- The device's answer to what arrived, if any, is spoken, and nothing else changes.
+abbrev pub replied : Start → World → Brought → World
+replied start world arrived = record world { spoken = world.spoken ++ option_to_list (sent_back start world arrived) }
+
+-- A turn of a master, in which this arrived and this reply was accepted: with nothing in hand the device's answer to what arrived
+-- is spoken alone, if any; otherwise the request is spoken, then that answer; the effect enters the executions under the number of
 -- the submission, or sets the master's mark; and the submission gets its outcome, by which the request stays in hand or leaves it.
-abbrev pub turned : Start → World → MasterId → Option InHand → Option FrameParts → Option Reply → World
-turned start world who None arrived accepted = world
+abbrev pub turned : Start → World → MasterId → Option InHand → Brought → Option Reply → World
+turned start world who None arrived accepted = replied start world arrived
 turned start world who (Some held) arrived accepted =
     let effect = effect_on (state_of start.device world) arrived in
     let outcome = outcome_of (of_master who start.retries) (held.sendings + 1) accepted in
@@ -125,26 +126,32 @@ turned start world who (Some held) arrived accepted =
       spoken = world.spoken ++ spoken_request who held ∷ option_to_list (sent_back start world arrived);
     }
 
--- A turn leads to the next world by what arrives of the request, what comes back of the answer to that, and the reply that is
+-- A turn leads to the next world by what it brings the device, what comes back of the answer to that, and the reply that is
 -- accepted then.
 pub record IsTurn (start : Start) (world : World) (who : MasterId) (up down : Heard) (next : World) : Type 0 where
-  pub arrived : Option FrameParts
-  pub arrives : Arrives up (sent_by who (of_master who world.hands)) arrived
+  pub arrived : Brought
+  pub arrives : Reaches start.device.identity up (sent_by who (of_master who world.hands)) arrived
   pub returned : Option FrameParts
   pub returns : Arrives down (sent_back start world arrived) returned
   pub accepted : Option Reply
   pub accepts : Accepts who (of_master who world.hands) returned accepted
   pub next_is : next ≡ turned start world who (of_master who world.hands) arrived accepted
 
+-- Noise, in which nothing was sent, leads to the next world by what it brings the device, whose answer is spoken, if any. Both
+-- masters hear that without damage; as neither awaits a reply, neither accepts it.
+pub record IsNoise (start : Start) (world : World) (chars : List Character) (next : World) : Type 0 where
+  pub arrived : Brought
+  pub arrives : Reaches start.device.identity (Chars chars) None arrived
+  pub next_is : next ≡ replied start world arrived
+
 -- An event leads from a world to the next: a submission by the fault that refuses it, if any; a turn; the switch of protection,
--- which changes nothing else; and noise of which no frame arrives, which changes nothing. If damage is not detected there is no
--- next world.
+-- which changes nothing else; and noise. If damage is not detected there is no next world.
 abbrev pub Step : Start → World → LineEvent → World → Type 0
 Step start world (Submit who address request) next =
     next ≡ submitted world who address request (submission_fault (of_master who world.hands) address request)
 Step start world (Turn who up down) next = IsTurn start world who up down next
 Step start world (Protect on) next = next ≡ record world { protected = on }
-Step start world (Noise chars) next = Arrives (Chars chars) None None × (next ≡ world)
+Step start world (Noise chars) next = IsNoise start world chars next
 
 -- The events of a script lead from a world to the last one, event by event.
 abbrev pub Run : Start → World → List LineEvent → World → Type 0

@@ -1,12 +1,15 @@
-//! What arrives in a leg of the line.
+//! What arrives in a leg of the line, and what the device answers.
 ghost use Rattle.std.specs.Prelude.{◌≡◌, ◌↔◌, IfErr, IfOk, IsTrue, Option, Some};
 ghost use Rattle.std.specs.Option.{option_copied};
 ghost use Rattle.hart_line.specs.Line.Damage.{Arrives, IsUndetected};
-ghost use Rattle.hart_line.specs.Line.Leg.{ArrivesAmong, IsSent, IsUndetectedAmong};
-ghost use Rattle.hart_line.specs.Line.Spoken.{SpokenFrame};
+ghost use Rattle.hart_device.specs.Answer.{answer_of, state_after};
+ghost use Rattle.hart_line.specs.Line.Leg.{AnswersAmong, AnswersIn, ArrivesAmong, IsSent, IsUndetectedAmong};
+ghost use Rattle.hart_line.specs.Line.Spoken.{SpokenFrame, frame_if};
+ghost use Rattle.hart_line.specs.declared.fault.Leg.TheVariants.{Up};
 
 use crate::line::undetected::Undetected;
 use crate::{Heard, Leg};
+use hart_device::{Device, Process, RegisterStore};
 use hart_frame::{Char, Frame, LoneFrame, lone_frame, messages_have_their_frame_alone};
 
 /// The frame that arrives in a leg, if any does: the one that was sent.
@@ -54,6 +57,78 @@ pub fn arrived_among<'a>(
         LoneFrame::Alone(found) if is_frame(sent, &found.frame) => Ok(sent),
         LoneFrame::Alone(_) | LoneFrame::Several => Err(Undetected { leg }),
     }
+}
+
+/// The device hears what goes up, and it is given whether it answers what that brings it; the answer is then in `reply`.
+///
+/// # Errors
+///
+/// The leg, if its damage is undetected.
+pub fn answer_in<S: RegisterStore>(
+    device: &mut Device<S>,
+    up: &Heard,
+    sent: Option<&Frame>,
+    process: &Process,
+    reply: &mut Frame,
+) -> Result<bool, Undetected>
+    ensures answers { IfOk result (λ is_answered. (said : Option SpokenFrame) → IsSent (option_copied sent.entry) said
+        → AnswersIn up.now said device.old process.now (frame_if is_answered reply.new) device.new) }
+    ensures undetected { IfErr result (λ damage. (said : Option SpokenFrame) → IsSent (option_copied sent.entry) said
+        → IsUndetected up.now said) }
+    ensures leg { IfErr result (λ damage. damage.leg ≡ Up) }
+{
+    messages_have_their_frame_alone();
+    match up {
+        Heard::Clean => match sent {
+            Some(frame) => Ok(answer(device, frame, process, reply)),
+            None => Ok(false),
+        },
+        Heard::Lost => Ok(false),
+        Heard::Chars(chars) => {
+            answer_among(device, Leg::Up, chars.as_slice(), sent, process, reply)
+        }
+    }
+}
+
+/// The device hears these characters, and it is given whether it answers what they bring it; the answer is then in `reply`.
+///
+/// # Errors
+///
+/// The leg, if its damage is undetected.
+pub fn answer_among<S: RegisterStore>(
+    device: &mut Device<S>,
+    leg: Leg,
+    chars: &[Char],
+    sent: Option<&Frame>,
+    process: &Process,
+    reply: &mut Frame,
+) -> Result<bool, Undetected>
+    ensures answers { IfOk result (λ is_answered. AnswersAmong chars.now (option_copied sent.entry) device.old process.now
+        (frame_if is_answered reply.new) device.new) }
+    ensures undetected { IfErr result (λ damage. IsUndetectedAmong chars.now (option_copied sent.entry)) }
+    ensures leg { IfErr result (λ damage. damage.leg ≡ leg) }
+{
+    if let Some(frame) = arrived_among(leg, chars, sent)? {
+        return Ok(answer(device, frame, process, reply));
+    }
+    let Some(answer) = device.reply_to_garbled(chars) else {
+        return Ok(false);
+    };
+    *reply = answer;
+    Ok(true)
+}
+
+/// Whether a device answers a frame; the answer is then in `reply`.
+fn answer<S: RegisterStore>(
+    device: &mut Device<S>,
+    frame: &Frame,
+    process: &Process,
+    reply: &mut Frame,
+) -> bool
+    ensures answer { frame_if result reply.new ≡ answer_of device.old process.now frame.now }
+    ensures state { device.new ≡ state_after device.old frame.now }
+{
+    device.receive_into(frame, process, reply)
 }
 
 /// Whether this frame was sent.

@@ -1,6 +1,6 @@
 //! The room that a script needs.
 ghost use Rattle.std.specs.Prelude.{◌≡◌, ◌≤◌, ◌*◌, [], IfErr, IfOk, count_by, length};
-ghost use Rattle.hart_line.specs.Line.Needs.{IsNeededBy, is_submission, is_turn};
+ghost use Rattle.hart_line.specs.Line.Needs.{IsNeededBy, is_noise, is_submission, is_turn, most_spoken};
 
 use crate::{Filling, LineEvent, NoRoom, Outcome, Spoken};
 use std::alloc::Global;
@@ -10,7 +10,7 @@ use std::alloc::Global;
 pub struct ScriptRoom {
     /// For an outcome of each submission.
     pub outcomes: Filling<Outcome>,
-    /// For two spoken frames of each turn.
+    /// For two spoken frames of each turn, and one of each noise.
     pub spoken: Filling<Spoken>,
 }
 
@@ -19,15 +19,15 @@ impl ScriptRoom {
     ///
     /// # Errors
     ///
-    /// [`NoRoom`] for as many outcomes as there are submissions, or for twice as many spoken frames as there are turns.
+    /// [`NoRoom`] for as many outcomes as there are submissions, or for the most frames that are spoken.
     pub fn reserve(alloc: Global, events: &[LineEvent]) -> Result<Self, NoRoom>
         ensures outcomes { IfOk result (λ room. room.outcomes ≡ record { items = []; room = count_by is_submission events.now }) }
-        ensures spoken { IfOk result (λ room. room.spoken ≡ record { items = []; room = 2 * count_by is_turn events.now }) }
+        ensures spoken { IfOk result (λ room. room.spoken ≡ record { items = []; room = most_spoken events.now }) }
         ensures refused { IfErr result (λ none. IsNeededBy events.now none.items) }
     {
         Ok(ScriptRoom {
             outcomes: Filling::with_room(alloc, submissions(events))?,
-            spoken: Filling::with_room(alloc, 2 * turns(events))?,
+            spoken: Filling::with_room(alloc, most_spoken(events))?,
         })
     }
 }
@@ -43,6 +43,13 @@ fn submissions(events: &[LineEvent]) -> usize
         .count()
 }
 
+/// The most frames that are spoken in these events: two in each turn, and one in each noise.
+fn most_spoken(events: &[LineEvent]) -> usize
+    ensures { result ≡ most_spoken events.now }
+{
+    2 * turns(events) + noises(events)
+}
+
 /// The number of turns among these events.
 fn turns(events: &[LineEvent]) -> usize
     ensures count { result ≡ count_by is_turn events.now }
@@ -51,5 +58,16 @@ fn turns(events: &[LineEvent]) -> usize
     events
         .iter()
         .filter(|event| matches!(event, LineEvent::Turn { .. }))
+        .count()
+}
+
+/// How often there is noise among these events.
+fn noises(events: &[LineEvent]) -> usize
+    ensures count { result ≡ count_by is_noise events.now }
+    ensures bound { result ≤ length events.now }
+{
+    events
+        .iter()
+        .filter(|event| matches!(event, LineEvent::Noise(_)))
         .count()
 }

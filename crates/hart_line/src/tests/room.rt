@@ -98,6 +98,14 @@ const GROWING: &[Growing] = &[
         spoken: 0,
     },
     Growing {
+        prefix: "",
+        part: "noise FFFF82B7420A1B2C13030123453C\n",
+        suffix: "",
+        times: TIMES,
+        outcomes: 0,
+        spoken: 1,
+    },
+    Growing {
         prefix: "turn P lost ",
         part: "FF!40",
         suffix: "\n",

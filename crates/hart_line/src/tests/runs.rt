@@ -86,7 +86,8 @@ const ADDRESS_REPLACED: &str =
 const ONE_PREAMBLE_BYTE: &str =
     "submit P 37420A1B2C 19 012345\nturn P FF82B7420A1B2C13030123453D ok";
 
-/// The check byte of a request is heard with a fault bit, and then, if it is sent again, a byte of the reply.
+/// The check byte of a request is heard with a fault bit, which the device replies; and then, if it is sent again, a byte of the
+/// reply.
 const BOTH_LEGS_DAMAGED: &str =
     "submit P 37420A1B2C 19 012345\nturn P FFFF82B7420A1B2C13030123453D!02 ok\n\
     turn P ok FFFF86B7420A1B2C130500400123!10457F";
@@ -94,6 +95,22 @@ const BOTH_LEGS_DAMAGED: &str =
 /// Of the preamble of a request three bytes are left, the first with a fault bit.
 const PREAMBLE_FAULTY: &str =
     "submit P 37420A1B2C 19 012345\nturn P FF!40FFFF82B7420A1B2C13030123453D ok";
+
+/// A request is heard with another check byte, which the device replies, and then as it is sent.
+const CHECK_REPLACED: &str = "submit P 37420A1B2C 19 012345\n\
+    turn P FFFF82B7420A1B2C13030123453C ok\nturn P ok ok";
+
+/// The reply to such a request is lost, and then damaged; and noise is heard as such a request of either master.
+const COMMUNICATION_FAULTS: &str = "submit P 37420A1B2C 19 012345\nsubmit S 37420A1B2C 19 012345\n\
+    turn P FFFF82B7420A1B2C13030123453C lost\n\
+    turn P FFFF82B7420A1B2C13030123453C FFFF86B7420A1B2C130288!4000D7\n\
+    noise FFFF82B7420A1B2C13030123453C\nnoise FFFF8237420A1B2C13030A0B0CD6";
+
+/// The device hears such a request though nothing was asked: in turns, and in noise.
+const NOTHING_ASKED: &str =
+    "turn P FFFF82B7420A1B2C13030123453C ok\nturn S FFFF82B7420A1B2C13030123453C lost";
+
+const GARBLED_NOISE: &str = "noise FFFF82B7420A1B2C13030123453C";
 
 /// Scripts, and what comes of them.
 const ROWS: &[Row] = &[
@@ -211,9 +228,33 @@ const ROWS: &[Row] = &[
     Row {
         script: BOTH_LEGS_DAMAGED,
         fates: &[Fate::Unfinished(2)],
-        spoken: 3,
+        spoken: 4,
         counter: 1,
         assembly: &[0x01, 0x23, 0x45],
+        ..NOTHING
+    },
+    Row {
+        script: CHECK_REPLACED,
+        fates: &[Fate::Answered(19, 2, &[0x00, 0x40, 0x01, 0x23, 0x45])],
+        spoken: 4,
+        counter: 1,
+        assembly: &[0x01, 0x23, 0x45],
+        ..NOTHING
+    },
+    Row {
+        script: COMMUNICATION_FAULTS,
+        fates: &[Fate::Unfinished(2), Fate::Unfinished(0)],
+        spoken: 6,
+        ..NOTHING
+    },
+    Row {
+        script: NOTHING_ASKED,
+        spoken: 2,
+        ..NOTHING
+    },
+    Row {
+        script: GARBLED_NOISE,
+        spoken: 1,
         ..NOTHING
     },
     Row {

@@ -8,6 +8,7 @@ returns-clause-one_world c = λ start events a b last other.
     let laws : Laws = record {
       one_body = c.bodies_are_unambiguous.ensures.one_body;
       one_list = c.frames_are_unambiguous.ensures.one_list;
+      one_brought = c.deliveries_bring_one.ensures.one;
       one_reply = c.replies_are_decided.ensures.one_reply;
     } in
     run_one laws start events (first_world start) a b last other
@@ -17,6 +18,7 @@ returns-clause-no_fault c = λ start events world number leg last fault.
     let laws : Laws = record {
       one_body = c.bodies_are_unambiguous.ensures.one_body;
       one_list = c.frames_are_unambiguous.ensures.one_list;
+      one_brought = c.deliveries_bring_one.ensures.one;
       one_reply = c.replies_are_decided.ensures.one_reply;
     } in
     no_fault laws start events world number leg last fault
@@ -26,6 +28,7 @@ returns-clause-one_fault c = λ start events number other leg another fault seco
     let laws : Laws = record {
       one_body = c.bodies_are_unambiguous.ensures.one_body;
       one_list = c.frames_are_unambiguous.ensures.one_list;
+      one_brought = c.deliveries_bring_one.ensures.one;
       one_reply = c.replies_are_decided.ensures.one_reply;
     } in
     fault_one laws start events number other leg another fault second

@@ -15,6 +15,7 @@ returns c =
     let laws : Laws = record {
       one_body = c.bodies_are_unambiguous.ensures.one_body;
       one_list = c.frames_are_unambiguous.ensures.one_list;
+      one_brought = c.deliveries_bring_one.ensures.one;
       one_reply = c.replies_are_decided.ensures.one_reply;
     } in
     let write_laws : WriteLaws = record {
@@ -28,7 +29,7 @@ returns c =
     record {
       first_world = state-first c.registers_of_lists.ensures.none;
       one_world = c.scripts_have_one_last_world.ensures.one_world;
-      accepted_reply_answers_last_sending = answered_last;
+      accepted_reply_answers_last_sending = answered_last c.communication_faults_are_no_reply.ensures.frame;
       registers_follow_last_executions = registers_last
           (λ state frame overwrite is. let asked = device.only state frame overwrite is in (asked.2, asked.3, asked.4))
           c.written_data_are_their_request.ensures c.registers_of_lists.ensures.first c.registers_of_lists.ensures.again;

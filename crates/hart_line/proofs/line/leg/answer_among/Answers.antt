@@ -1,0 +1,24 @@
+use Rattle.std.proofs.Common.{None, Some}
+use Rattle.std.specs.Option.{option_copied}
+use Rattle.hart_device.specs.Delivery.{OneFrame}
+use Rattle.hart_line.proofs.OfLine.LegLemmas.{among_frame, answered_among}
+use Rattle.hart_line.proofs.line.leg.answer_among.Goals as goal
+
+pub returns-in-Some-clause-answers : goal.returns-in-Some-clause-answers
+returns-in-Some-clause-answers g c = record {
+  brought = OneFrame c.in-Some.frame.now;
+  reaches = among_frame c.args.device.now.identity c.args.chars.now (option_copied c.args.sent) c.in-Some.frame.now
+      (rw c.in-Some.is at c.in_ok-frame.ensures.arrives);
+  answers = record { answer_is = c.answer.ensures.answer; after_is = c.answer.ensures.state };
+}
+
+pub returns-in_default-reply_to_garbled-clause-answers : goal.returns-in_default-reply_to_garbled-clause-answers
+returns-in_default-reply_to_garbled-clause-answers g c =
+    answered_among c.args.chars.now (option_copied c.args.sent) c.args.device.now c.args.process.now None
+    (rw c.in_default.is at c.in_ok-frame.ensures.arrives) c.in_default-reply_to_garbled.ensures.reply
+
+pub returns-clause-answers : goal.returns-clause-answers
+returns-clause-answers g c =
+    answered_among c.args.chars.now (option_copied c.args.sent) c.args.device.now c.args.process.now
+    (Some c.in-Some-reply_to_garbled.answer)
+    (rw c.in_default.is at c.in_ok-frame.ensures.arrives) c.in-Some-reply_to_garbled.ensures.reply
