@@ -3,11 +3,10 @@ use Rattle.std.proofs.Common.{◌≡◌, ℕ, inr, List, Option, None, Some, Res
 use Rattle.std.specs.Result.{IsErrAnd}
 use Rattle.hart_frame.specs.Character.{Character}
 use Rattle.hart_frame.specs.FrameParts.{FrameParts}
-use Rattle.hart_frame.specs.Frames.{AreFrames}
-use Rattle.hart_frame.specs.declared.found.Found.{Found}
 use Rattle.hart_device.specs.Bench.{bench_process}
-use Rattle.hart_device.specs.Delivery.{answer_to}
+use Rattle.hart_device.specs.Delivery.{Brings, Brought, answer_to}
 use Rattle.hart_device.specs.Device.{DeviceState}
+use Rattle.hart_device.specs.declared.identity_parts.IdentityParts.{IdentityParts}
 use Rattle.hart_device.specs.declared.process.Process.{Process}
 use Rattle.hart_cli.specs.declared.fault.CliFault.{CliFault}
 use Rattle.hart_cli.specs.declared.fault.CliFault.TheVariants as faults
@@ -19,7 +18,7 @@ use Rattle.hart_cli.specs.Input.{CameTo}
 use Rattle.hart_cli.specs.InputChars.{HasChars, IsWholeTextFault}
 use Rattle.hart_cli.specs.Answer.{IsAnswer, IsAnswerText, IsTextFor}
 use Rattle.hart_cli.specs.WholeInput.{WholeInput, WholeOutcome}
-use Rattle.hart_cli.proofs.DumpLemmas.{OneFrames, OneInput}
+use Rattle.hart_cli.proofs.DumpLemmas.{OneInput}
 use Rattle.hart_cli.proofs.KnownBytesLemmas.{Keeps-same}
 use Rattle.hart_cli.proofs.MessageLineLemmas.{IsMessageLine-one, OneBody}
 
@@ -29,30 +28,36 @@ IsAnswerText-one : OneBody → (device : DeviceState) (answer : Option FramePart
 IsAnswerText-one bodies device None xs ys p q = p ∙ sym q
 IsAnswerText-one bodies device (Some reply) xs ys p q = IsMessageLine-one bodies reply reply _ xs ys refl p q
 
+-- the law of deliveries: one brings a device one thing at most
+abbrev pub OneBrought : Type 0
+OneBrought = (identity : IdentityParts) (delivery : List Character) (brought other : Brought)
+    → Brings identity delivery brought → Brings identity delivery other → brought ≡ other
+
 -- a delivery has one text
-IsTextFor-one : OneFrames → OneBody → (device : DeviceState) (delivery : List Character) (xs ys : List ℕ)
+IsTextFor-one : OneBrought → OneBody → (device : DeviceState) (delivery : List Character) (xs ys : List ℕ)
     → IsTextFor device delivery xs → IsTextFor device delivery ys → xs ≡ ys
-IsTextFor-one lists bodies device delivery xs ys p q =
-    let P : List Found → Type 0 = λ frames. IsAnswerText device (answer_to device bench_process frames) xs in
-    IsAnswerText-one bodies device _ xs ys (subst P (lists delivery 0 p.frames q.frames p.are_frames q.are_frames) p.answered) q.answered
+IsTextFor-one deliveries bodies device delivery xs ys p q =
+    let P : Brought → Type 0 = λ brought. IsAnswerText device (answer_to device bench_process brought) xs in
+    let same = deliveries device.identity delivery p.brought q.brought p.brings q.brings in
+    IsAnswerText-one bodies device _ xs ys (subst P same p.answered) q.answered
 
 -- what a device answers has its text
-pub IsTextFor-heard : (delivery : List Character) (frames : List Found) (device : DeviceState) (process : Process)
-    (heard answer : Option FrameParts) (text : List ℕ) → process ≡ bench_process → AreFrames delivery 0 frames
-    → heard ≡ answer_to device process frames → heard ≡ answer → IsAnswerText device answer text → IsTextFor device delivery text
-IsTextFor-heard delivery frames device process heard answer text same_process are_frames answers is has =
-    let same : answer ≡ answer_to device bench_process frames = cc in
+pub IsTextFor-heard : (delivery : List Character) (brought : Brought) (device : DeviceState) (process : Process)
+    (heard answer : Option FrameParts) (text : List ℕ) → process ≡ bench_process → Brings device.identity delivery brought
+    → heard ≡ answer_to device process brought → heard ≡ answer → IsAnswerText device answer text → IsTextFor device delivery text
+IsTextFor-heard delivery brought device process heard answer text same_process brings answers is has =
+    let same : answer ≡ answer_to device bench_process brought = cc in
     let P : Option FrameParts → Type 0 = λ a. IsAnswerText device a text in
-    record { frames = frames; are_frames = are_frames; answered = subst P same has }
+    record { brought = brought; brings = brings; answered = subst P same has }
 
 -- an input has one answer
-pub IsAnswer-one : OneFrames → OneBody → OneInput → (device : DeviceState) (input xs ys : List ℕ) → IsAnswer device input xs
+pub IsAnswer-one : OneBrought → OneBody → OneInput → (device : DeviceState) (input xs ys : List ℕ) → IsAnswer device input xs
     → IsAnswer device input ys → xs ≡ ys
-IsAnswer-one lists bodies inputs device input xs ys p q =
+IsAnswer-one deliveries bodies inputs device input xs ys p q =
     let same =
     (inputs input (CameTo Ended) p.delivery q.delivery None None (HasChars.all p.delivery p.reads) (HasChars.all q.delivery q.reads)).0 in
     let P : List Character → Type 0 = λ delivery. IsTextFor device delivery xs in
-    IsTextFor-one lists bodies device q.delivery xs ys (subst P same p.text_for) q.text_for
+    IsTextFor-one deliveries bodies device q.delivery xs ys (subst P same p.text_for) q.text_for
 
 -- the answer to an input that reads as its characters
 pub answer_read : (device : DeviceState) (reader reader_after : Stream) (input : List ℕ) (chars : List Character) (text : List ℕ)

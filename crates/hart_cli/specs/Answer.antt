@@ -2,10 +2,8 @@
 use Rattle.std.specs.Prelude.{◌≡◌, ℕ, List, [], Option, None, Some}
 use Rattle.hart_frame.specs.Character.{Character}
 use Rattle.hart_frame.specs.FrameParts.{FrameParts}
-use Rattle.hart_frame.specs.Frames.{AreFrames}
-use Rattle.hart_frame.specs.declared.found.Found.{Found}
 use Rattle.hart_device.specs.Bench.{bench_process}
-use Rattle.hart_device.specs.Delivery.{answer_to}
+use Rattle.hart_device.specs.Delivery.{Brings, Brought, answer_to}
 use Rattle.hart_device.specs.Device.{DeviceState}
 use Rattle.hart_cli.specs.ImageWord.{OutcomeWith, Outcomes}
 use Rattle.hart_cli.specs.InputChars.{IsWholeTextFault}
@@ -18,11 +16,11 @@ abbrev pub IsAnswerText : DeviceState → Option FrameParts → List ℕ → Typ
 IsAnswerText device None text = text ≡ []
 IsAnswerText device (Some reply) text = IsMessageLine reply device.identity.response_preambles text
 
--- The text for a delivery is that of what the device answers, which hears all of its characters at once.
+-- The text for a delivery is that of what the device answers to what the delivery brings it; it hears all of its characters at once.
 pub record IsTextFor (device : DeviceState) (delivery : List Character) (text : List ℕ) : Type 0 where
-  pub frames : List Found
-  pub are_frames : AreFrames delivery 0 frames
-  pub answered : IsAnswerText device (answer_to device bench_process frames) text
+  pub brought : Brought
+  pub brings : Brings device.identity delivery brought
+  pub answered : IsAnswerText device (answer_to device bench_process brought) text
 
 -- The text for an input is the text for the delivery that it reads as.
 pub record IsAnswer (device : DeviceState) (input text : List ℕ) : Type 0 where

@@ -13,8 +13,8 @@ use crate::input::read_whole;
 use crate::items::{inputs_are_unambiguous, read_chars};
 use crate::output::{message_line, write_all};
 use crate::stream::{Sink, Source};
-use hart_device::{Device, ImageRegisters, bench};
-use hart_frame::{Char, bodies_are_unambiguous, every_list_has_frames, frames_are_unambiguous};
+use hart_device::{Device, ImageRegisters, bench, deliveries_bring_one};
+use hart_frame::{Char, bodies_are_unambiguous};
 use std::alloc::Global;
 
 /// Reads a delivery as hex items, and writes what the bench device answers to it as one line of hex, or nothing if it is
@@ -48,7 +48,7 @@ pub fn one_answer()
 {
     // No-ops: their contracts are used below.
     bodies_are_unambiguous();
-    frames_are_unambiguous();
+    deliveries_bring_one();
     inputs_are_unambiguous();
 }
 
@@ -77,8 +77,8 @@ fn answer_of<R: Source, W: Sink>(
 fn answer_line(device: &mut Device<ImageRegisters>, delivery: &[Char]) -> Option<HexLine>
     ensures { MatchOption result (IsTextFor device.old delivery.now []) (IsTextFor device.old delivery.now) }
 {
-    // No-op: its contract says that a delivery has frames, of which the device speaks.
-    every_list_has_frames();
+    // No-op: its contract says that a delivery brings something, of which the device speaks.
+    deliveries_bring_one();
     let preambles = device.response_preambles();
     let reply = device.hear(delivery, &bench::process())?;
     Some(message_line(&reply, preambles))
