@@ -9,6 +9,8 @@ FF FF FF FF FF 06 80 00 18 00 00 FE 37 42 05 07 01 02 18 00 0A 1B 2C 05 04 00 00
 const REPLY_TO_SECONDARY: &str = "\
 FF FF FF FF FF 06 00 00 18 00 00 FE 37 42 05 07 01 02 18 00 0A 1B 2C 05 04 00 00 00 00 37 00 37 01 B1\n";
 
+const FAULTS_TO_SECONDARY: &str = "FF FF FF FF FF 86 37 42 0A 1B 2C 13 02 88 00 57\n";
+
 /// A delivery, the reply to it, which is nothing if the device keeps silent, and the line of its fault.
 const ROWS: &[Row] = &[
     ("FF FF FF FF FF 02 80 00 00 82", REPLY_TO_PRIMARY, ""),
@@ -43,6 +45,25 @@ const ROWS: &[Row] = &[
     ("FF FF 82 B7 42 0A 1B 2D 00 00 4B", "", ""),
     ("FF FF 82 80 00 00 00 00 0B 06 41 53 50 B7 1C 31 D7", "", ""),
     ("FF FF 82 80 00 00 00 00 00 00 02", "", ""),
+    (
+        "FF FF 82 37 42 0A 1B 2C 13 03 0A 0B 0C D6",
+        FAULTS_TO_SECONDARY,
+        "",
+    ),
+    (
+        "00 FF FF 82 77 42 0A 1B 2C 13 03 0A 0B 0C 96!10 55",
+        "FF FF FF FF FF 86 37 42 0A 1B 2C 13 02 98 00 47\n",
+        "",
+    ),
+    ("FF FF 82 B7 42!10 0A 1B 2C 13 03 01 23 45 3D", "", ""),
+    ("FF FF 82 B7 42 0A 1B 2C 13 03 01 23 45", "", ""),
+    ("FF FF 82 B7 42 0A 1B 2D 13 03 01 23 45 3C", "", ""),
+    ("FF FF 00 FF FF 82 37 42 0A 1B 2C 13 03 0A 0B 0C D6", "", ""),
+    (
+        "FF FF 82 B7 42 0A 1B 2C 13 03 01 23 45 3C FF FF 02 80 00 00 82",
+        REPLY_TO_PRIMARY,
+        "",
+    ),
     ("FF FF 0G", "", "bad hex at 6\n"),
     ("FF FF 02 80 00 00 8", "", "bad hex at 18\n"),
     ("F F", "", "bad hex at 0\n"),
@@ -88,6 +109,9 @@ const OWN_ROWS: &[(&str, &str)] = &[
         "12 02 09 00 57",
     ),
     ("13 03 01 23 45 3D", "13 05 00 40 01 23 45 7F"),
+    ("13 03 01 23 45 3C", "13 02 88 00 D7"),
+    ("13 03 01 23!40 45 3D", "13 02 C0 00 9F"),
+    ("13 03!20 01 23 45 3C", "13 02 A8 00 F7"),
     ("13 02 01 23 79", "13 02 05 00 5A"),
     ("13 04 01 23 45 67 5D", "13 05 00 40 01 23 45 7F"),
     ("26 00 6C", "26 04 00 00 00 00 6C"),
