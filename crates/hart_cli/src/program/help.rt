@@ -23,10 +23,13 @@ bytes. The input has at most 1048576 bytes of text.
 
 Output (stdout): the reply of the device in upper case hex, or nothing if the
 device is silent. It answers command 0 at its polling address, any command at
-its own address 37420A1B2C, and command 11 with its tag, sent to all. It is
-silent if it hears no whole message, or more than one; if the message is a
-reply, is damaged or has expansion bytes; and if it was sent to another address
-or another tag.
+its own address 37420A1B2C, and command 11 with its tag, sent to all. If no
+message came whole, but one that was sent to its own address is damaged only
+after that address, the reply says how: its first status byte is 80, with the
+fault bits of the bytes, and with 08 if the check byte does not fit; the second
+is 00. In every other case the device is silent: if it hears no message, or
+more than one; if the message is a reply or has expansion bytes; and if it was
+sent to another address or another tag.
 
 Each run starts a new device, with polling address 0 and a tag of eight spaces,
 in command 11 the data 820820820820; or one that goes on from an image, as hart
