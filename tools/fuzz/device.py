@@ -1,9 +1,11 @@
 """The bench device: what it holds, and what it answers."""
 
 from dataclasses import dataclass
+from functools import reduce
+from operator import or_
 
 from . import commands
-from .frames import BROADCAST, Frame, Polling, Unique, frames_of
+from .frames import BROADCAST, Frame, Polling, Unique, first_start, frames_of, parity, read_address
 
 OWN_ADDRESS = Unique(0x3742, 0x0A1B2C)
 RESPONSE_PREAMBLES = 5
@@ -28,6 +30,11 @@ VARIABLES = {
     0: b"\x00" + VARIABLE_UNIT + VARIABLE_VALUE + VARIABLE_STATUS,
 }
 NO_VARIABLE = bytes.fromhex("00 FA 7FA00000 30")
+
+LONG_REQUEST = 0x82
+GARBLED_PREFIX = 6
+COMMUNICATION_FAULTS = 0x80
+LONGITUDINAL_PARITY = 0x08
 
 CONFIGURATION_CHANGED = 0x40
 LOOP_CURRENT_FIXED = 0x08
@@ -81,8 +88,10 @@ class Device:
         return prefix + registers + self.counter.to_bytes(2, "big") + bytes([flags])
 
     def hear(self, heard):
-        """The answer to a delivery: only one with exactly one frame is received. None is silence."""
+        """The answer to a delivery: to its frame if it has exactly one, or if it has none to a garbled request. None is silence."""
         found = frames_of(heard)
+        if not found:
+            return reply_to_garbled(heard)
         return self.receive(found[0].frame) if len(found) == 1 else None
 
     def receive(self, frame):
@@ -157,6 +166,34 @@ class Device:
             38: self.counter.to_bytes(2, "big"),
             48: ADDITIONAL_STATUS,
         }[command]
+
+
+def garbled_request(heard):
+    """The characters of the garbled request at the first start of what was heard; None if there is none."""
+    start = first_start(heard)
+    if start is None:
+        return None
+    begun = heard[start:]
+    if len(begun) < GARBLED_PREFIX + 2 or any(char.faults for char in begun[:GARBLED_PREFIX]):
+        return None
+    delimiter, *address = (char.byte for char in begun[:GARBLED_PREFIX])
+    length = GARBLED_PREFIX + 2 + begun[GARBLED_PREFIX + 1].byte + 1
+    if delimiter != LONG_REQUEST or read_address(bytes(address))[2] != OWN_ADDRESS or len(begun) < length:
+        return None
+    return begun[:length]
+
+
+def reply_to_garbled(heard):
+    """The communication-fault reply to the garbled request in characters without a frame; None if there is none."""
+    garbled = garbled_request(heard)
+    if garbled is None:
+        return None
+    faults = reduce(or_, (char.faults for char in garbled))
+    if parity(char.byte for char in garbled):
+        faults |= LONGITUDINAL_PARITY
+    master = read_address(bytes(char.byte for char in garbled[1:GARBLED_PREFIX]))[0]
+    payload = bytes([COMMUNICATION_FAULTS | faults, 0])
+    return Frame("ACK", master, 0, OWN_ADDRESS, b"", garbled[GARBLED_PREFIX].byte, payload)
 
 
 def new_device():

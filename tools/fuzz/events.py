@@ -6,7 +6,7 @@ from . import commands, heard, inputs
 from .device import OWN_ADDRESS, RESPONSE_PREAMBLES
 from .frames import Char, Frame, Polling, body_of, faultless, frames_of
 from .heard import weighted
-from .line import LOST, OK, Line, Noise, Protect, Submit, Turn, Undetected, arrives
+from .line import LOST, OK, Line, Noise, Protect, Submit, Turn, Undetected, answer_in
 from .master import MASTER_PREAMBLES
 
 BAD_LINES = (
@@ -47,7 +47,8 @@ def near_message(rng, sent):
 
 def without_frames(rng):
     """Characters in which no frame is heard, though messages may have been near: each has a character with a fault."""
-    characters = list(heard.random_heard(rng)) or [Char(0)]
+    make = heard.garbled_request if rng.random() < 0.3 else heard.random_heard
+    characters = list(make(rng)) or [Char(0)]
     while found := frames_of(characters):
         place = rng.randrange(found[0].start - 2, found[0].stop)
         characters[place] = Char(characters[place].byte, heard.fault_bits(rng))
@@ -105,7 +106,7 @@ class Play:
         sent = self.line.masters[who].request()
         up = random_leg(rng, sent, MASTER_PREAMBLES, self.loss * 0.7)
         try:
-            answer = self.trial_device().receive(sent) if arrives(sent, up, "up") else None
+            answer = answer_in(self.trial_device(), sent, up, "up")
         except Undetected:
             answer = None
         return Turn(who, up, random_leg(rng, answer, RESPONSE_PREAMBLES, self.loss))

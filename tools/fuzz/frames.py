@@ -124,6 +124,14 @@ def leading_frame(data):
     return Frame(kind, master, burst, address, expansion, command, data[payload:payload + count]), length
 
 
+def first_start(heard):
+    """The least place at which a body may start, whatever is heard of it; None if there is none."""
+    for place in range(2, len(heard)):
+        if heard[place - 2] == heard[place - 1] == PREAMBLE != heard[place]:
+            return place
+    return None
+
+
 def faultless_bytes(heard, place):
     """The bytes of the faultless characters from a place on, up to the first with a fault, and no more than a body has."""
     run = bytearray()

@@ -191,6 +191,19 @@ def mended(rng, heard):
     return tuple(heard)
 
 
+def garbled_request(rng):
+    """A request to the device that is damaged after its address, in noise or after a false start, and sometimes cut short."""
+    prefix = b"\x82" + address_bytes(OWN_ADDRESS, random_master(rng), int(rng.random() < 0.2))
+    count = weighted(rng, (6, 3), (3, 0), (2, 1), (1, 255), (2, rng.randrange(40)))
+    after = with_check_byte(prefix + bytes([random_command(rng), count]) + random_bytes(rng, count))[len(prefix):]
+    damage = rng.choice((marked, marked, changed, mended))
+    characters = faultless(b"\xFF" * rng.choice((2, 2, 3, 5)) + prefix) + damage(rng, faultless(after))
+    if rng.random() < 0.1:
+        characters = characters[:-1]
+    quiet = faultless(noise(rng)) if rng.random() < 0.2 else ()
+    return (faultless(false_start(rng)) if rng.random() < 0.1 else quiet) + characters + quiet
+
+
 def lost_part(rng, heard):
     """A run of characters missing."""
     place = rng.randrange(len(heard))

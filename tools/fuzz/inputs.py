@@ -68,8 +68,8 @@ def dump_input(rng):
 
 def answer_input(rng, device):
     """An input of `hart answer`: mostly one request to the device, in noise or alone."""
-    if rng.random() < 0.25:
-        return input_text(rng, heard.random_heard(rng))
+    if rng.random() < 0.3:
+        return input_text(rng, rng.choice((heard.random_heard, heard.garbled_request))(rng))
     command = heard.random_command(rng)
     address = heard.random_address(rng, device.polling)
     if rng.random() < 0.3:

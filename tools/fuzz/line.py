@@ -3,7 +3,7 @@
 from dataclasses import dataclass, field
 from typing import NamedTuple
 
-from .device import RESPONSE_PREAMBLES, Device
+from .device import RESPONSE_PREAMBLES, Device, reply_to_garbled
 from .frames import Frame, body_of, frames_of
 from .master import MASTER_PREAMBLES, MOST_SENDINGS, Master
 
@@ -72,6 +72,13 @@ def arrives(sent, heard, leg):
     return True
 
 
+def answer_in(device, sent, heard, leg):
+    """What a device answers in a leg: to what was sent if that arrives, and else to a garbled request. None is silence."""
+    if arrives(sent, heard, leg):
+        return device.receive(sent)
+    return None if heard in (OK, LOST) else reply_to_garbled(heard)
+
+
 @dataclass
 class Line:
     """The device, the masters, an outcome for each submission as its words, and what was spoken."""
@@ -90,7 +97,7 @@ class Line:
         elif isinstance(event, Protect):
             self.device.protected = event.on
         else:
-            arrives(None, event.heard, "noise")
+            self.speak_back(answer_in(self.device, None, event.heard, "noise"))
 
     def submit(self, event):
         """A submission, which has its outcome at once: refused, or not yet sent."""
@@ -101,16 +108,19 @@ class Line:
     def turn(self, event):
         """A turn of a master: its request goes up, the answer comes down, and its time passes."""
         master = self.masters[event.who]
-        request, answer = master.request(), None
+        request = master.request()
         if request is not None:
             master.pending.sendings += 1
             self.spoken.append(Spoken(event.who, MASTER_PREAMBLES, request))
-        if arrives(request, event.up, "up"):
-            answer = self.device.receive(request)
-        if answer is not None:
-            self.spoken.append(Spoken("D", RESPONSE_PREAMBLES, answer))
+        answer = answer_in(self.device, request, event.up, "up")
+        self.speak_back(answer)
         reply = master.accepted(answer) if arrives(answer, event.down, "down") else None
         self.end_turn(master, reply)
+
+    def speak_back(self, answer):
+        """Writes down what the device answers, if it does."""
+        if answer is not None:
+            self.spoken.append(Spoken("D", RESPONSE_PREAMBLES, answer))
 
     def end_turn(self, master, reply):
         """Writes down what has become of the request in hand, which leaves the hand with its reply or its last sending."""

@@ -4,6 +4,7 @@ REGISTERS = "010001" + "820820" * 14 + "000000"
 IMAGE_PREFIX = f"image {REGISTERS}"
 WRITE = "P 20 82B7420A1B2C13030123453D\n"
 WRITTEN = WRITE + "D 5 86B7420A1B2C130500400123457F\n"
+FAULTS_REPLY = "D 5 86B7420A1B2C13028800D7\n"
 IDENTITY = "180000FE37420507010218000A1B2C05040000000037003701"
 SUBMIT_WRITE = "submit P 37420A1B2C 19 012345\n"
 RESET = "P 20 82B7420A1B2C260200016F\n"
@@ -68,7 +69,20 @@ ANSWERED = (
     (REQUEST + "12 15 " + TAG_OF_PUMP + SPACES * 4 + "1D 02 64 EE", REPLY + "12 17 00 40 " + TAG_OF_PUMP + SPACES * 4 + "1D 02 64 A8"),
     (REQUEST + "12 15 " + TAG_OF_PUMP + SPACES * 4 + "1D 02 00 8A", REPLY + "12 02 09 00 57"),
     (REQUEST + "13 03 01 23 45 3D", REPLY + "13 05 00 40 01 23 45 7F"),
-    (REQUEST + "13 03 01 23 45 3C", ""),
+    (REQUEST + "13 03 01 23 45 3C", REPLY + "13 02 88 00 D7"),
+    (REQUEST + "13 03 01 23!40 45 3D", REPLY + "13 02 C0 00 9F"),
+    (REQUEST + "13 03!20 01 23 45 3C", REPLY + "13 02 A8 00 F7"),
+    (REQUEST + "13 03!20 01 23!40 45 3C", REPLY + "13 02 E8 00 B7"),
+    (REQUEST + "13 02 01 23 45 3D", REPLY + "13 02 88 00 D7"),
+    (REQUEST + "12 03 01 23 45 3D", REPLY + "12 02 88 00 D6"),
+    (REQUEST + "13 04 01 23 45 3D", ""),
+    ("FF FF 82 B7 42 0A 1B 2D 13 03 01 23 45 3C", ""),
+    ("FF FF 02 80 00 00 83", ""),
+    ("FF FF 82 37 42 0A 1B 2C 13 03 0A 0B 0C D6", "FF FF FF FF FF 86 37 42 0A 1B 2C 13 02 88 00 57"),
+    ("FF FF 82 B7 42!10 0A 1B 2C 13 03 01 23 45 3D", ""),
+    (REQUEST + "13 03 01 23 45", ""),
+    ("FF FF 00 " + REQUEST + "13 03 01 23 45 3C", ""),
+    (REQUEST + "13 03 01 23 45 3C FF FF 02 80 00 00 82", "FF" * 5 + "068000" + IDENTITY + "31"),
     (REQUEST + "13 02 01 23 79", REPLY + "13 02 05 00 5A"),
     (REQUEST + "13 04 01 23 45 67 5D", REPLY + "13 05 00 40 01 23 45 7F"),
     (REQUEST + "26 02 00 01 6F", REPLY + "26 02 09 00 63"),
@@ -117,6 +131,10 @@ PLAYED = (
      WRITTEN * 2 + f"1 answered 2 00 40 012345\ncounter 2\n{IMAGE_PREFIX}012345000203\n"),
     (SUBMIT_WRITE + "turn P FFFF82!40B7420A1B2C13030123453D ok\nturn P ok ok\n",
      WRITE + WRITTEN + f"1 answered 2 00 40 012345\ncounter 1\n{IMAGE_PREFIX}012345000103\n"),
+    (SUBMIT_WRITE + "turn P FFFF82B7420A1B2C13030123453C ok\nturn P ok ok\n",
+     WRITE + FAULTS_REPLY + WRITTEN + f"1 answered 2 00 40 012345\ncounter 1\n{IMAGE_PREFIX}012345000103\n"),
+    ("noise FFFF82B7420A1B2C13030123453C", FAULTS_REPLY + f"counter 0\n{IMAGE_PREFIX}000000000000\n"),
+    ("turn S FFFF82B7420A1B2C13030123453C ok", FAULTS_REPLY + f"counter 0\n{IMAGE_PREFIX}000000000000\n"),
     (SUBMIT_WRITE + "turn P lost ok\n" * 4, WRITE * 4 + f"1 noreply 4\ncounter 0\n{IMAGE_PREFIX}000000000000\n"),
     ("submit P all 0\nsubmit S 37420A1B2C 16\nsubmit S 37420A1B2C 16\n",
      f"1 refused 3\n2 unfinished 0\n3 refused 2\ncounter 0\n{IMAGE_PREFIX}000000000000\n"),
@@ -152,6 +170,7 @@ NOT_PLAYED = (
     (SUBMIT_WRITE + "turn P FFFF82B7420A1B2C13030123463E ok", "undetected damage at event 1, up"),
     ("turn P FFFF0280000082 ok", "undetected damage at event 0, up"),
     ("noise FFFF0280000082", "undetected damage at event 0, noise"),
+    ("turn P FFFF82B7420A1B2C13030123453C FFFF86B7420A1B2C13028900D6", "undetected damage at event 0, down"),
     (f"submit P 37420A1B2C 17 {FRAME_IN_DATA}\nturn P FFFF82!40B7420A1B2C1118{FRAME_IN_DATA}43 ok", "undetected damage at event 1, up"),
     ("protect on\nturn X ok ok\n", "bad line 2"),
     ("# a comment\n\nturn P ok ok ok", "bad line 3"),
