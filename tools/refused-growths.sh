@@ -102,18 +102,19 @@ awk -v messages="$messages" 'BEGIN {
 refuse_each 0 dump
 
 cat >"$work/input" <<'SCRIPT'
-# The reply is lost, and the request is sent again.
+# The reply is lost, the request is sent again, and noise is a garbled request, which the device replies to.
 submit P 37420A1B2C 19 012345
 submit S all 0
 turn P ok lost
 turn P FFFF!40 ok
-noise 00
+noise FFFF82B7420A1B2C13030123453C
 turn P ok ok
 SCRIPT
 cat >"$work/wanted" <<'TEXT'
 P 20 82B7420A1B2C13030123453D
 D 5 86B7420A1B2C130500400123457F
 P 20 82B7420A1B2C13030123453D
+D 5 86B7420A1B2C13028800D7
 P 20 82B7420A1B2C13030123453D
 D 5 86B7420A1B2C130500400123457F
 1 answered 3 00 40 012345
