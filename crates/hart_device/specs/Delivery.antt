@@ -17,7 +17,7 @@ pub data Brought : Type 0 where
   Garbled : (request : GarbledRequest) → Brought
   NoMessage : Brought
 
--- A delivery with exactly one frame brings this. One without a frame brings the garbled request that it has, and no message if it
+-- A delivery with exactly one frame brings that frame. One without a frame brings the garbled request that it has, and no message if it
 -- has none. One with more frames brings no message.
 abbrev pub BringsBy : IdentityParts → List Character → List Found → Brought → Type 0
 BringsBy identity delivery (found ∷ []) brought = brought ≡ OneFrame found.frame
@@ -39,7 +39,7 @@ answer_to state process (OneFrame frame) = answer_of state process frame
 answer_to state process (Garbled request) = Some (garbled_reply state.identity request)
 answer_to state process NoMessage = None
 
--- The state after a delivery is that after the frame that it brings; a garbled request changes nothing, as no message does.
+-- The state after a delivery is that after the frame that it brings. If it brings no frame the state stays.
 abbrev pub state_after_delivery : DeviceState → Brought → DeviceState
 state_after_delivery state (OneFrame frame) = state_after state frame
 state_after_delivery state (Garbled request) = state

@@ -23,11 +23,11 @@ has_fault bit chars = list_any (λ character. bit_at character.faults bit == 1) 
 abbrev pub is_odd : List Character → ℕ → Bool
 is_odd chars bit = count_by (λ character. bit_at character.byte bit == 1) chars % 2 == 1
 
--- Whether the exclusive or of the bytes is not zero: one of the eight bits stands in an odd number of them.
+-- Whether the exclusive or of the bytes is not zero: at least one of the eight bits is set in an odd number of them.
 abbrev pub has_odd_bit : List Character → Bool
 has_odd_bit chars = list_any (is_odd chars) (0 ∷ 1 ∷ 2 ∷ 3 ∷ 4 ∷ 5 ∷ 6 ∷ 7 ∷ [])
 
--- The communication faults of some characters are the fault bits that some of them have, which are hex 40 vertical parity, 20
+-- The communication faults of characters are the fault bits that at least one of them has, which are hex 40 vertical parity, 20
 -- overrun, 10 framing and 02 buffer overflow; and 08 longitudinal parity if the exclusive or of their bytes is not zero.
 abbrev pub communication_faults : List Character → ℕ
 communication_faults chars =
@@ -40,7 +40,8 @@ communication_faults chars =
 -- Characters are a garbled request for a device if they are, without faults, the delimiter hex 82 of a request at a unique
 -- address, and the device's own address with the bit of a master and any burst bit; and then, whatever their faults, a command, a
 -- byte count, as many characters of a payload as that says, and one for the check byte. The command is what was heard in its
--- place, and the communication faults are those of all these characters.
+-- place, and the communication faults are those of all these characters. A request without any fault has this form too; it is a frame,
+-- so that a delivery with it brings that.
 pub record IsGarbled (identity : IdentityParts) (chars : List Character) (request : GarbledRequest) : Type 0 where
   pub burst : Bool
   pub address : List ℕ
@@ -60,14 +61,14 @@ pub record BeginsWithGarbled (identity : IdentityParts) (chars : List Character)
   pub split : chars ≡ garbled ++ rest
   pub is_garbled : IsGarbled identity garbled request
 
--- A list of characters has a garbled request if it begins with one at its first start; no later start is looked at.
+-- A list of characters has a garbled request if the characters from its first start on begin with one; no later start is looked at.
 pub record HasGarbled (identity : IdentityParts) (chars : List Character) (request : GarbledRequest) : Type 0 where
   pub start : ℕ
   pub first_start : IsFirstStart start chars
   pub begins : BeginsWithGarbled identity (drop start chars) request
 
 -- The communication-fault reply to a garbled request is an ACK to its master, with the device's own address, the command that was
--- heard, and two bytes: hex 80 and the communication faults, then 00.
+-- heard, and two bytes: hex 80 joined with the communication faults, then 00.
 abbrev pub garbled_reply : IdentityParts → GarbledRequest → FrameParts
 garbled_reply identity request = record {
   kind = Ack;

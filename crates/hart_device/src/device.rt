@@ -153,7 +153,7 @@ impl<S: RegisterStore> Device<S> {
         ensures state { (brought : Brought) → Brings self.old.identity delivery.now brought
             → self.new ≡ state_after_delivery self.old brought }
     {
-        // No-op: by its contract what a delivery brings is known.
+        // No-op: by its contract the garbled request that is found is the only one.
         garbled_requests_are_decided();
         match lone_frame(delivery) {
             LoneFrame::Alone(found) => self.receive(&found.frame, process),
@@ -163,7 +163,8 @@ impl<S: RegisterStore> Device<S> {
         }
     }
 
-    /// The communication-fault reply to the garbled request that a delivery without a frame has, or `None` if it has none.
+    /// The communication-fault reply to the garbled request of a delivery, or `None` if it has none. It is for a delivery without a
+    /// frame: a whole request has the form of a garbled one.
     pub fn reply_to_garbled(&self, delivery: &[Char]) -> Option<Frame>
         ensures reply { MatchOption result ((request : GarbledRequest) → HasGarbled self.now.identity delivery.now request → ⊥)
             (λ reply. (request : GarbledRequest) × HasGarbled self.now.identity delivery.now request

@@ -26,7 +26,7 @@ const CHARACTER_FAULTS: u8 = CommFaults::VERTICAL_PARITY
 /// A request for a device that was heard with faults.
 #[derive(Clone, Copy, Debug, PartialEq, Eq)]
 pub struct GarbledRequest {
-    /// The master that sent it, by its address.
+    /// The master that its address names.
     pub master: MasterId,
     /// The command, as it was heard.
     pub command: u8,

@@ -2,8 +2,8 @@
 use Rattle.std.specs.Prelude.{◌≡◌, ◌≢◌, ◌≤◌, ◌+◌, ℕ, List, [], ◌∷◌, ◌++◌, length}
 use Rattle.hart_frame.specs.Character.{Character, faultless}
 
--- A body may start at a place of a list if two faultless preamble bytes FF stand right before it, and at it a character that is
--- not a third one.
+-- A body may start at a place of a list if two faultless preamble bytes FF stand right before it, and at it a character
+-- other than a faultless FF.
 pub record IsStart (place : ℕ) (chars : List Character) : Type 0 where
   pub prefix : List Character
   pub first : Character

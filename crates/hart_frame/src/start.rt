@@ -7,7 +7,7 @@ use crate::Char;
 use crate::message::PREAMBLE;
 
 /// The first place of what was heard at which a body may start, whatever is heard of it, or `None` if there is none: two
-/// faultless preamble bytes `FF` stand right before it, and at it a character that is not a third one.
+/// faultless preamble bytes `FF` stand right before it, and at it a character other than a faultless `FF`.
 pub fn first_start(chars: &[Char]) -> Option<usize>
     ensures { MatchOption result (HasNoStart chars.now) (λ place. IsFirstStart place chars.now) }
 {

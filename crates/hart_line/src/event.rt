@@ -30,6 +30,6 @@ pub enum LineEvent {
     },
     /// The write protection of the device is switched on or off.
     Protect(bool),
-    /// The device and both masters hear these characters.
+    /// The device and both masters hear these characters, and both masters hear without damage what the device answers to them.
     Noise(CharList),
 }

@@ -42,7 +42,7 @@ pub struct Line<S: RegisterStore> {
     masters: Masters,
     outcomes: Filling<Outcome>,
     spoken: Filling<Spoken>,
-    /// The frames of a turn are written here: each is some 300 bytes.
+    /// The frames of an event are written here: each is some 300 bytes.
     request: Frame,
     reply: Frame,
 }

@@ -36,8 +36,8 @@ pub record Arrives (heard : Heard) (sent : Option SpokenFrame) (arrived : Option
   pub are_frames : AreFrames chars 0 frames
   pub detected : IsDetected (frame_of sent) frames arrived
 
--- What a leg whose damage is detected brings the device: what the characters that are heard bring it, so that a frame is the one that
--- was sent.
+-- What a leg brings the device: its damage is detected, and the characters that are heard bring the device this. A frame that is
+-- brought is then the one that was sent.
 pub record Reaches (identity : IdentityParts) (heard : Heard) (sent : Option SpokenFrame) (brought : Brought) : Type 0 where
   pub frame : Option FrameParts
   pub arrives : Arrives heard sent frame

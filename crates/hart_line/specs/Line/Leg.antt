@@ -19,7 +19,7 @@ pub record ArrivesAmong (chars : List Character) (sent arrived : Option FramePar
   pub are_frames : AreFrames chars 0 frames
   pub detected : IsDetected sent frames arrived
 
--- If this was sent, the damage of these characters is detected, and they bring the device this.
+-- If this frame was sent, the damage of these characters is detected, and they bring the device what is brought here.
 pub record ReachesAmong (identity : IdentityParts) (chars : List Character) (sent : Option FrameParts) (brought : Brought) : Type 0 where
   pub frame : Option FrameParts
   pub arrives : ArrivesAmong chars sent frame
@@ -31,14 +31,14 @@ pub record AnswersTo (device : DeviceState) (process : Process) (brought : Broug
   pub answer_is : answer ≡ answer_to device process brought
   pub after_is : after ≡ state_after_delivery device brought
 
--- It answered so what these characters brought it.
+-- The device gave this answer, and is in this state, after what these characters brought it.
 pub record AnswersAmong (chars : List Character) (sent : Option FrameParts) (device : DeviceState) (process : Process)
     (answer : Option FrameParts) (after : DeviceState) : Type 0 where
   pub brought : Brought
   pub reaches : ReachesAmong device.identity chars sent brought
   pub answers : AnswersTo device process brought answer after
 
--- It answered so what this leg brought it.
+-- The device gave this answer, and is in this state, after what this leg brought it.
 pub record AnswersIn (heard : Heard) (sent : Option SpokenFrame) (device : DeviceState) (process : Process) (answer : Option FrameParts)
     (after : DeviceState) : Type 0 where
   pub brought : Brought

@@ -65,7 +65,7 @@ abbrev pub sent_back : Start → World → Brought → Option SpokenFrame
 sent_back start world arrived = spoken_by Device start.device.identity.response_preambles
     (answer_to (state_of start.device world) start.process arrived)
 
--- A frame that arrives has its effect on the device; a garbled request has none, as no message has none.
+-- A frame that arrives has its effect on the device. A garbled request has no effect, and without a message there is none.
 abbrev pub effect_on : DeviceState → Brought → Effect
 effect_on state (OneFrame frame) = effect_of state frame
 effect_on state (Garbled request) = Nothing

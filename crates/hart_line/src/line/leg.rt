@@ -59,7 +59,7 @@ pub fn arrived_among<'a>(
     }
 }
 
-/// The device hears what goes up, and it is given whether it answers what that brings it; the answer is then in `reply`.
+/// Whether the device, which hears what goes up, answers what that brings it; the answer is then in `reply`.
 ///
 /// # Errors
 ///
@@ -90,7 +90,7 @@ pub fn answer_in<S: RegisterStore>(
     }
 }
 
-/// The device hears these characters, and it is given whether it answers what they bring it; the answer is then in `reply`.
+/// Whether the device, which hears these characters, answers what they bring it; the answer is then in `reply`.
 ///
 /// # Errors
 ///

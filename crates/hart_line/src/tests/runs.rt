@@ -86,8 +86,8 @@ const ADDRESS_REPLACED: &str =
 const ONE_PREAMBLE_BYTE: &str =
     "submit P 37420A1B2C 19 012345\nturn P FF82B7420A1B2C13030123453D ok";
 
-/// The check byte of a request is heard with a fault bit, which the device replies; and then, if it is sent again, a byte of the
-/// reply.
+/// The check byte of a request is heard with a fault bit, and the device replies that it was; then, if it is sent again, a byte of
+/// the reply.
 const BOTH_LEGS_DAMAGED: &str =
     "submit P 37420A1B2C 19 012345\nturn P FFFF82B7420A1B2C13030123453D!02 ok\n\
     turn P ok FFFF86B7420A1B2C130500400123!10457F";
@@ -96,7 +96,7 @@ const BOTH_LEGS_DAMAGED: &str =
 const PREAMBLE_FAULTY: &str =
     "submit P 37420A1B2C 19 012345\nturn P FF!40FFFF82B7420A1B2C13030123453D ok";
 
-/// A request is heard with another check byte, which the device replies, and then as it is sent.
+/// A request is heard with another check byte, and the device replies that it was; then it is heard as it is sent.
 const CHECK_REPLACED: &str = "submit P 37420A1B2C 19 012345\n\
     turn P FFFF82B7420A1B2C13030123453C ok\nturn P ok ok";
 
