@@ -151,7 +151,8 @@ bit_tells : (n bit : ℕ) → bit_at n bit ≡ bit_if (bit_at n bit == 1) 1
 bit_tells n bit = let below = bit_at-lt n bit in grind (arith, nat_tests)
 
 pub AreFaults-more : (chars : List Character) (i faults : ℕ) (character : Character) → i < length chars
-    → character ≡ get_or chars i character → AreFaults (take i chars) faults → AreFaults (take (i + 1) chars) (bit_or faults character.faults)
+    → character ≡ get_or chars i character → AreFaults (take i chars) faults
+    → AreFaults (take (i + 1) chars) (bit_or faults character.faults)
 AreFaults-more chars i faults character within is are bit =
     let has : Character → Bool = λ x. bit_at x.faults bit == 1 in
     let more : has_fault bit (take (i + 1) chars) ≡ (has_fault bit (take i chars) || has character) =

@@ -111,7 +111,7 @@ own_by law identity chars master = elim (begins_by law identity chars master tru
     | inl own ↦ inl own.0
     | inr not_clear ↦ inr (λ own.
         let either : (own.burst ≡ true) ⊎ (own.burst ≡ false) = set_or_clear own.burst in
-        elim either [ | inl set ↦ not_set (own, set) | inr clear ↦ not_clear (own, clear) ])
+        elim either [ inl set ↦ not_set (own, set) | inr clear ↦ not_clear (own, clear) ])
   ]
 ]
 
@@ -148,14 +148,18 @@ begins_or_not law identity chars =
         | inl within ↦
             let request : GarbledRequest =
             record { master = own.0; command = (get_or chars 6 d).byte; faults = communication_faults (take count chars) } in
-            inl (request, from_reads identity chars request d
-            (record { own = own.1; within = within; command = refl; faults = refl }))
+            inl (
+              request,
+              from_reads identity chars request d
+                  (record { own = own.1; within = within; command = refl; faults = refl }),
+            )
       ]
     ]
 
 -- a list has a garbled request or none
 pub garbled_decided : OneAddressList → OneStart → StartDecided → (identity : IdentityParts) (chars : List Character)
-    → ((request : GarbledRequest) × HasGarbled identity chars request) ⊎ ((request : GarbledRequest) → HasGarbled identity chars request → ⊥)
+    → ((request : GarbledRequest) × HasGarbled identity chars request)
+    ⊎ ((request : GarbledRequest) → HasGarbled identity chars request → ⊥)
 garbled_decided law one_start start_decided identity chars = elim (start_decided chars) [
   | inr none ↦ inr (λ request has. none has.start has.first_start.start)
   | inl first ↦ elim (begins_or_not law identity (drop first.0 chars)) [

@@ -63,7 +63,8 @@ reads_of identity chars request d begins =
     let long = ap length is.parts ∙ length-append (head is.address) (is.command ∷ is.byte_count ∷ is.after) in
     let garbled_length : length begins.garbled ≡ (get_or chars 7 d).byte + 9 = omega (arith, count, long, six, is.count) in
     let taken : take ((get_or chars 7 d).byte + 9) chars ≡ begins.garbled =
-    ap (take ((get_or chars 7 d).byte + 9)) begins.split ∙ take_at begins.garbled begins.rest ((get_or chars 7 d).byte + 9) garbled_length in
+    ap (take ((get_or chars 7 d).byte + 9)) begins.split
+    ∙ take_at begins.garbled begins.rest ((get_or chars 7 d).byte + 9) garbled_length in
     record {
       own = record { burst = is.burst; address = is.address; own_address = is.own_address; rest = others; split = whole };
       within = omega (arith, garbled_length, all);

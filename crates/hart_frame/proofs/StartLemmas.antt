@@ -123,7 +123,8 @@ search chars (suc fuel) place after enough none =
       | inr past ↦ inr (no_start chars place none past)
       | inl within ↦ elim (start_decided chars place after within) [
         | inl here ↦ inl (place, record { start = here; least = none })
-        | inr not_here ↦ search chars fuel (place + 1) (omega (arith, after)) (omega (arith, enough)) (none_before_next chars place none not_here)
+        | inr not_here ↦ search chars fuel (place + 1) (omega (arith, after)) (omega (arith, enough))
+            (none_before_next chars place none not_here)
       ]
     ]
 

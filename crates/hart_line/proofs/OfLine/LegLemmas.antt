@@ -144,8 +144,8 @@ sent_frame (Some frame) None is = absurd is
 sent_frame (Some frame) (Some said) is = ap Some is.same
 
 -- What characters bring, the leg in which they are heard brings.
-pub reaches_in : (identity : IdentityParts) (chars : List Character) (sent : Option FrameParts) (said : Option SpokenFrame) (brought : Brought)
-    → IsSent sent said → ReachesAmong identity chars sent brought → Reaches identity (Chars chars) said brought
+pub reaches_in : (identity : IdentityParts) (chars : List Character) (sent : Option FrameParts) (said : Option SpokenFrame)
+    (brought : Brought) → IsSent sent said → ReachesAmong identity chars sent brought → Reaches identity (Chars chars) said brought
 reaches_in identity chars sent said brought is r =
     let Detected : Option FrameParts → Type 0 = λ f. IsDetected f r.arrives.frames r.frame in
     record {

@@ -29,7 +29,8 @@ of_master-same Secondary a each = refl
 -- With nothing in hand, as in noise, the line stands for the world in which the device has replied to what it was brought.
 pub replied_stands : (start : Start) (world : World) (heard : Heard) (arrived : Brought) (device : DeviceState) (masters : Masters)
     (outcomes : List Outcome) (spoken spoken' : List Spoken) (outcomes_room spoken_room : ℕ)
-    → device ≡ state_after_delivery (state_of start.device world) arrived → Reaches start.device.identity heard None arrived → AreHeld start.retries world.hands masters → outcomes ≡ world.outcomes
+    → device ≡ state_after_delivery (state_of start.device world) arrived → Reaches start.device.identity heard None arrived
+    → AreHeld start.retries world.hands masters → outcomes ≡ world.outcomes
     → AreSpoken world.spoken spoken → Speaks (sent_back start world arrived) spoken spoken'
     → Stands start (replied start world arrived) (record {
       device = device;

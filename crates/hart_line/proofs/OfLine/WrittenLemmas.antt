@@ -181,7 +181,8 @@ answered_executed laws start events made number request reply sendings a submitt
 
 -- NOTHING ELSE
 frame_stays : WriteLaws → (state : DeviceState) (frame : FrameParts) (number : ℕ) (executions : List Execution) (effect : Effect)
-    → effect_of state frame ≡ effect → (IsUnrefusedWrite state (OneFrame frame) → ⊥) → executions_after effect number executions ≡ executions
+    → effect_of state frame ≡ effect → (IsUnrefusedWrite state (OneFrame frame) → ⊥)
+    → executions_after effect number executions ≡ executions
 frame_stays laws state frame number executions Nothing is other = refl
 frame_stays laws state frame number executions Resets is other = refl
 frame_stays laws state frame number executions (Executes overwrite) is other =

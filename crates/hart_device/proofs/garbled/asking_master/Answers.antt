@@ -16,8 +16,8 @@ use Rattle.hart_device.proofs.garbled.asking_master.Goals.{then-head-via-then-he
 some_is : (xs ys : List ℕ) → Some xs ≡ Some ys → xs ≡ ys
 some_is xs ys same = cc
 
-own_read : (identity : IdentityParts) (chars : List Character) (master : MasterId) (own : BeginsWithOwn identity chars master) (head : List ℕ)
-    → head ≡ 0x82 ∷ own.address → IsAddressBytes master own.burst (Unique (own_numbers identity)) (take 5 (drop 1 head))
+own_read : (identity : IdentityParts) (chars : List Character) (master : MasterId) (own : BeginsWithOwn identity chars master)
+    (head : List ℕ) → head ≡ 0x82 ∷ own.address → IsAddressBytes master own.burst (Unique (own_numbers identity)) (take 5 (drop 1 head))
 own_read identity chars master own head same =
     let Is : List ℕ → Type 0 = λ bytes. IsAddressBytes master own.burst (Unique (own_numbers identity)) bytes in
     let five = ap length own.own_address.five in
@@ -30,7 +30,8 @@ six_after : (identity : IdentityParts) (chars : List Character) (master : Master
 six_after identity chars master own = let five = ap length own.own_address.five in omega (arith, five)
 
 -- the parts of equal readings
-same_reading : (m n : MasterId) (b c : Bool) (x y : Address) → ◌≡◌ {A = Option (MasterId × Bool × Address)} (Some (m, b, x)) (Some (n, c, y)) → (m ≡ n) × (x ≡ y)
+same_reading : (m n : MasterId) (b c : Bool) (x y : Address)
+    → ◌≡◌ {A = Option (MasterId × Bool × Address)} (Some (m, b, x)) (Some (n, c, y)) → (m ≡ n) × (x ≡ y)
 same_reading m n b c x y same =
     let one : MasterId × Bool × Address = (m, b, x) in
     let other : MasterId × Bool × Address = (n, c, y) in

@@ -25,7 +25,8 @@ loop-character-preserved c =
 pub unwrap-requires : goal.unwrap-requires
 unwrap-requires c =
     let seen = c.loop-character.invariant in
-    let cases : ((c.loop-character.check ≡ 0) × (c.if-check-eq0.parity ≡ 0)) ⊎ ((c.loop-character.check ≢ 0) × (c.if-check-eq0.parity ≡ 8)) =
+    let cases : ((c.loop-character.check ≡ 0) × (c.if-check-eq0.parity ≡ 0))
+    ⊎ ((c.loop-character.check ≢ 0) × (c.if-check-eq0.parity ≡ 8)) =
     elim c.if-check-eq0.branch [
       | then-check-eq0 w ↦ inl (w.if-check-eq0.true, w.parity-is)
       | else-check-eq0 w ↦ inr (w.if-check-eq0.false, w.parity-is)
@@ -41,7 +42,8 @@ of_ok (Err e) x y is known = cc
 pub returns : goal.returns
 returns c =
     let seen = c.loop-character.invariant in
-    let cases : ((c.loop-character.check ≡ 0) × (c.if-check-eq0.parity ≡ 0)) ⊎ ((c.loop-character.check ≢ 0) × (c.if-check-eq0.parity ≡ 8)) =
+    let cases : ((c.loop-character.check ≡ 0) × (c.if-check-eq0.parity ≡ 0))
+    ⊎ ((c.loop-character.check ≢ 0) × (c.if-check-eq0.parity ≡ 8)) =
     elim c.if-check-eq0.branch [
       | then-check-eq0 w ↦ inl (w.if-check-eq0.true, w.parity-is)
       | else-check-eq0 w ↦ inr (w.if-check-eq0.false, w.parity-is)

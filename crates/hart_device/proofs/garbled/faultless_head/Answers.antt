@@ -62,8 +62,8 @@ head_is c =
     c.index-head-4.result c.index-head-5.result (omega (arith, c.in_ok-head.ensures.lookup.0.3)) c.index-head-0.is c.index-head-1.is
     c.index-head-2.is c.index-head-3.is c.index-head-4.is c.index-head-5.is in
     let bytes = six_bytes _ _ _ _ _ _ c.index-head-0.result c.index-head-1.result c.index-head-2.result
-    c.index-head-3.result c.index-head-4.result c.index-head-5.result c.byte.ensures c.byte-2.ensures c.byte-3.ensures c.byte-4.ensures c.byte-5.ensures
-    c.byte-6.ensures in
+    c.index-head-3.result c.index-head-4.result c.index-head-5.result c.byte.ensures c.byte-2.ensures
+    c.byte-3.ensures c.byte-4.ensures c.byte-5.ensures c.byte-6.ensures in
     made_of_six head c.index-head-0.result c.index-head-1.result c.index-head-2.result c.index-head-3.result
     c.index-head-4.result c.index-head-5.result same (c.are_faultless.ensures.0 c.if-not-are_faultless.false)
     ∙ ap (λ (xs : List ℕ). faultless xs) (sym bytes)

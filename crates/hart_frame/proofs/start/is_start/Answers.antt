@@ -45,13 +45,15 @@ returns c =
     let third = c.index-chars-place-3.result in
     let is_preamble = of_some c.new.result c.unwrap-preamble.result preamble c.unwrap-preamble.ensures c.new.ensures.kept in
     let one = differ-no c.index-chars-place.result c.unwrap-preamble.result (sym c.ne.ensures ∙ c.if-ne.false) ∙ is_preamble in
-    let two = differ-no c.index-chars-place-2.result c.unwrap-preamble.result (sym c.ne-else-ne.ensures ∙ c.if-ne-2.false) ∙ is_preamble in (
+    let two = differ-no c.index-chars-place-2.result c.unwrap-preamble.result (sym c.ne-else-ne.ensures ∙ c.if-ne-2.false)
+    ∙ is_preamble in (
       (λ yes. start_from chars place third (record {
         after_two = c.requires.after_two;
         within = c.requires.within;
         one = get_or-other chars (place - 2) c.index-chars-place.result third (omega (arith, c.requires)) c.index-chars-place.is ∙ one;
         two = get_or-other chars (place - 1) c.index-chars-place-2.result third (omega (arith, c.requires)) c.index-chars-place-2.is ∙ two;
-        other = λ same. differ-yes third c.unwrap-preamble.result (sym c.ne-2.ensures ∙ yes) (c.index-chars-place-3.is ∙ same ∙ sym is_preamble);
+        other = λ same. differ-yes third c.unwrap-preamble.result (sym c.ne-2.ensures ∙ yes)
+            (c.index-chars-place-3.is ∙ same ∙ sym is_preamble);
       })),
       λ is.
           let at = starts_at chars place third is in

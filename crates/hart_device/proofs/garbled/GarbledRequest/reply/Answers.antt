@@ -15,7 +15,8 @@ two (x ∷ y ∷ z ∷ more) a b len p q = absurd (omega (arith, len))
 pub returns : goal.returns
 returns c =
     let held = c.bytes.ensures.held in
-    let bytes = two c.bytes.result (128 + c.args.self.faults) 0 held.0 held.2 (c.bytes.ensures.nothing_beside_faults c.args.self.faults refl) in
+    let bytes = two c.bytes.result (128 + c.args.self.faults) 0 held.0 held.2
+    (c.bytes.ensures.nothing_beside_faults c.args.self.faults refl) in
     let payload : c.extend_from_slice.new.self ≡ (128 + c.args.self.faults) ∷ 0 ∷ [] =
     c.extend_from_slice.ensures ∙ ap (λ (xs : List ℕ). xs ++ c.bytes.result) c.new-payload.ensures ∙ bytes in
     let to : Address → List ℕ → FrameParts = λ own bytes. request_parts c.args.self.master own c.args.self.command bytes in
