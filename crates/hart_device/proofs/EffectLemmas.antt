@@ -14,7 +14,7 @@ use Rattle.hart_commands.specs.Registers.{Overwrite, overwrite_of}
 use Rattle.hart_commands.specs.declared.request.Request.{Request}
 use Rattle.hart_commands.specs.declared.request.Request.TheVariants.{ResetChanged}
 use Rattle.hart_device.specs.Answer.{asked_effect, code_of, effect_of, executed, is_answered, reading_of}
-use Rattle.hart_device.specs.Device.{DeviceState, Effect, Nothing, Executes, Resets, after}
+use Rattle.hart_device.specs.Device.{DeviceState, Effect, Nothing, Executes, Resets, after, after_reply}
 
 pub refused : (answered : Bool) (code : ℕ) (effect : Effect) → code ≢ 0
     → (if answered && (code == 0) then effect else Nothing) ≡ Nothing
@@ -100,15 +100,25 @@ resets_only state frame is =
     (parts.0, zero, asked.0, asked.1, named_counter asked.0 state.counter named)
 
 -- No effect changes who the device is, or whether it is protected.
-pub after_identity : (master : MasterId) (effect : Effect) (state : DeviceState) → (after master effect state).identity ≡ state.identity
+after_identity : (master : MasterId) (effect : Effect) (state : DeviceState) → (after master effect state).identity ≡ state.identity
 after_identity master Nothing state = refl
 after_identity master (Executes overwrite) state = refl
 after_identity master Resets state = refl
 
-pub after_protected : (master : MasterId) (effect : Effect) (state : DeviceState) → (after master effect state).protected ≡ state.protected
+after_protected : (master : MasterId) (effect : Effect) (state : DeviceState) → (after master effect state).protected ≡ state.protected
 after_protected master Nothing state = refl
 after_protected master (Executes overwrite) state = refl
 after_protected master Resets state = refl
+
+pub identity_stays : (answered : Bool) (master : MasterId) (effect : Effect) (state : DeviceState)
+    → (if answered then after_reply master (after master effect state) else state).identity ≡ state.identity
+identity_stays true master effect state = after_identity master effect state
+identity_stays false master effect state = refl
+
+pub protection_stays : (answered : Bool) (master : MasterId) (effect : Effect) (state : DeviceState)
+    → (if answered then after_reply master (after master effect state) else state).protected ≡ state.protected
+protection_stays true master effect state = after_protected master effect state
+protection_stays false master effect state = refl
 
 -- What is answered if a test holds is the reply, and the test holds.
 pub some_if : {A : Type 0} (holds : Bool) (answer reply : A) → (if holds then Some answer else None) ≡ Some reply

@@ -175,19 +175,21 @@ flags_determine a b c x y z same = (
 
 -- A state is determined by its parts.
 same_state : (state other : DeviceState) → state.identity ≡ other.identity → state.contents ≡ other.contents
-    → state.counter ≡ other.counter → state.changed ≡ other.changed → state.protected ≡ other.protected → state ≡ other
-same_state state other identity contents counter changed protected = λ i. record {
+    → state.counter ≡ other.counter → state.changed ≡ other.changed → state.protected ≡ other.protected
+    → state.cold_start ≡ other.cold_start → state ≡ other
+same_state state other identity contents counter changed protected cold_start = λ i. record {
   identity = identity i;
   contents = contents i;
   counter = counter i;
   changed = changed i;
   protected = protected i;
+  cold_start = cold_start i;
 }
 
 -- An image is of one state.
 pub one_state : (state other : DeviceState) (image : List ℕ) → ((register : Register) → Contains registers register)
-    → IsImageOf state image → IsImageOf other image → state.identity ≡ other.identity → state ≡ other
-one_state state other image every is other_is identity =
+    → IsImageOf state image → IsImageOf other image → state.identity ≡ other.identity → state.cold_start ≡ other.cold_start → state ≡ other
+one_state state other image every is other_is identity cold_start =
     let same : flat_map (bytes_in state.contents) registers ++ ending_of state
     ≡ flat_map (bytes_in other.contents) registers ++ ending_of other =
     ap (drop 1) (sym (one_image state image is) ∙ one_image other image other_is) in
@@ -202,3 +204,4 @@ one_state state other image every is other_is identity =
     let bits = flags_determine state.changed.primary state.changed.secondary state.protected
     other.changed.primary other.changed.secondary other.protected (ap (λ xs. slice_index xs 2) ends) in
     same_state state other identity contents (omega (arith, high, low)) (λ i. record { primary = bits.0 i; secondary = bits.1 i }) bits.2
+    cold_start

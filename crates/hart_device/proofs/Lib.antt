@@ -3,6 +3,7 @@ pub mod WritingLemmas
 pub mod ImageLemmas
 pub mod RegistersLemmas
 pub mod EffectLemmas
+pub mod ColdStartLemmas
 pub mod GarbledLemmas
 pub mod GarbledFound
 pub mod DeliveryLemmas

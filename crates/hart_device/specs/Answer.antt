@@ -5,6 +5,7 @@ use Rattle.std.specs.Prelude.{Option, Some, None, Ok, Err}
 use Rattle.std.specs.Str.{bytes_eq}
 use Rattle.hart_values.specs.AddressBytes.{is_broadcast}
 use Rattle.hart_values.specs.DeviceNumbers.{DeviceNumbers}
+use Rattle.hart_values.specs.EachMaster.{with_master}
 use Rattle.hart_values.specs.declared.address.Address.{Address}
 use Rattle.hart_values.specs.declared.address.Address.TheVariants.{Polling, Unique}
 use Rattle.hart_frame.specs.FrameParts.{FrameParts, reply_parts}
@@ -20,7 +21,7 @@ use Rattle.hart_commands.specs.RequestCode.{request_code}
 use Rattle.hart_commands.specs.RequestData.{Reading, request_reading}
 use Rattle.hart_device.specs.declared.process.Process.{Process}
 use Rattle.hart_device.specs.Content.{reply_content}
-use Rattle.hart_device.specs.Device.{DeviceState, Effect, Nothing, Executes, Resets, after}
+use Rattle.hart_device.specs.Device.{DeviceState, Effect, Nothing, Executes, Resets, after, after_reply}
 use Rattle.hart_device.specs.Identity.{own_numbers}
 use Rattle.hart_device.specs.Status.{device_status}
 
@@ -86,9 +87,20 @@ abbrev pub effect_of : DeviceState → FrameParts → Effect
 effect_of state frame =
     if is_answered state frame && (code_of state frame == 0) then asked_effect (reading_of frame) else Nothing
 
--- The state of the device after a frame.
+-- The state of the device after the command of a frame; the reply is about this state.
+abbrev pub after_command : DeviceState → FrameParts → DeviceState
+after_command state frame = after frame.master (effect_of state frame) state
+
+-- After a frame that it answers the device is in the state after the command and then the reply; after any other its state stays.
 abbrev pub state_after : DeviceState → FrameParts → DeviceState
-state_after state frame = after frame.master (effect_of state frame) state
+state_after state frame = if is_answered state frame then after_reply frame.master (after_command state frame) else state
+
+-- What a frame that has no effect leaves of a device is all but the cold start bit of its master, which is clear if the frame was
+-- answered, since the reply has shown it.
+abbrev pub after_refusal : DeviceState → FrameParts → DeviceState
+after_refusal state frame = record state {
+  cold_start = if is_answered state frame then with_master frame.master false state.cold_start else state.cold_start;
+}
 
 -- With code 0 a reply says what was asked, and with another code nothing.
 abbrev pub content_with : DeviceState → Process → Reading → ℕ → ReplyContent
@@ -104,9 +116,10 @@ reply_with state process frame reading code = record {
   content = content_with state process reading code;
 }
 
--- What the device replies to a frame that it answers: the status and the data are those of the state after the command.
+-- What the device replies to a frame that it answers: the status and the data are those of the state after the command. So a reply shows
+-- the cold start bit that it clears.
 abbrev pub reply_of : DeviceState → Process → FrameParts → Reply
-reply_of state process frame = reply_with (state_after state frame) process frame (reading_of frame) (code_of state frame)
+reply_of state process frame = reply_with (after_command state frame) process frame (reading_of frame) (code_of state frame)
 
 -- The device's answer to a frame: silence, or an ACK with its reply.
 abbrev pub answer_of : DeviceState → Process → FrameParts → Option FrameParts

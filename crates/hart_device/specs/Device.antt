@@ -1,5 +1,5 @@
--- What a contract sees of a device, and how a command changes it (HCF_SPEC-127; that Command 38 is no write, and that a write
--- counts also if the value was there already, is of the own profile).
+-- What a contract sees of a device, and how a command, a reply and a restart change it (HCF_SPEC-099, HCF_SPEC-127; that Command 38 is no
+-- write, that a write counts also if the value was there already, and that each master has a cold start bit, is of the own profile).
 use Rattle.std.specs.Prelude.{ℕ, ◌+◌, ◌%◌, ◌^◌, Bool, true, false}
 use Rattle.hart_values.specs.declared.master_id.MasterId.{MasterId}
 use Rattle.hart_values.specs.EachMaster.{with_master}
@@ -10,23 +10,30 @@ use Rattle.hart_device.specs.declared.values.RegisterValues.{RegisterValues}
 use Rattle.hart_device.specs.Values.{values_of}
 
 -- A device is who it is, what its registers hold, its configuration change counter, for each master its configuration-changed
--- bit, which is set if the configuration has changed since this master last reset it, and whether it is write protected.
+-- bit, which is set if the configuration has changed since this master last reset it, whether it is write protected, and for each
+-- master its cold start bit. That is set from a restart on, until a reply with a response code has shown it to this master.
 pub record DeviceState : Type 0 where
   pub identity : IdentityParts
   pub contents : Contents
   pub counter : ℕ
   pub changed : EachMaster Bool
   pub protected : Bool
+  pub cold_start : EachMaster Bool
 
--- A new device holds the values that it is given; its counter is 0, no master's configuration-changed bit is set, and it is not
--- protected.
+-- A bit that is set for both masters, or for neither.
+abbrev pub for_both : Bool → EachMaster Bool
+for_both bit = record { primary = bit; secondary = bit }
+
+-- A new device holds the values that it is given; its counter is 0, it is not protected, and no master's configuration-changed bit or
+-- cold start bit is set.
 abbrev pub new_device : IdentityParts → RegisterValues → DeviceState
 new_device identity values = record {
   identity = identity;
   contents = values_of values;
   counter = 0;
-  changed = record { primary = false; secondary = false };
+  changed = for_both false;
   protected = false;
+  cold_start = for_both false;
 }
 
 -- A command has no effect, or executes the overwrite of a configuration write, or resets the configuration-changed bit of the
@@ -44,6 +51,14 @@ after master Nothing state = state
 after master (Executes overwrite) state = record state {
   contents = overwritten overwrite state.contents;
   counter = (state.counter + 1) % 2 ^ 16;
-  changed = record { primary = true; secondary = true };
+  changed = for_both true;
 }
 after master Resets state = record state { changed = with_master master false state.changed }
+
+-- A restart after the device was without power sets both masters' cold start bits; all else stays as it is.
+abbrev pub restarted : DeviceState → DeviceState
+restarted state = record state { cold_start = for_both true }
+
+-- A reply with a response code shows its master the cold start bit, and the bit is then clear; all else stays as it is.
+abbrev pub after_reply : MasterId → DeviceState → DeviceState
+after_reply master state = record state { cold_start = with_master master false state.cold_start }

@@ -35,7 +35,7 @@ abbrev pub image_bytes : ℕ → List Register → DeviceState → List ℕ
 image_bytes version listed state = version ∷ (flat_map (bytes_in state.contents) listed ++ ending_of state)
 
 -- Bytes are an image of a device's state, in which every register holds valid bytes and the counter is below 65536, if they are
--- those of a version that is known. Who the device is does not stand in them.
+-- those of a version that is known. Who the device is does not stand in them, and neither do its cold start bits.
 pub record IsImageOf (state : DeviceState) (image : List ℕ) : Type 0 where
   pub contents : AreValid state.contents
   pub counter : state.counter < 2 ^ 16

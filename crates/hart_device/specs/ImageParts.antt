@@ -1,10 +1,11 @@
 -- What is read of an image.
+use Rattle.std.specs.Prelude.{false}
 use Rattle.hart_device.specs.declared.identity_parts.IdentityParts.{IdentityParts}
 use Rattle.hart_device.specs.declared.image.ImageParts.{ImageParts}
-use Rattle.hart_device.specs.Device.{DeviceState}
+use Rattle.hart_device.specs.Device.{DeviceState, for_both}
 use Rattle.hart_device.specs.Values.{values_of}
 
--- The state of a device with this identity and these parts.
+-- The state of a device with this identity and these parts, whose cold start bits are clear.
 abbrev pub state_with : IdentityParts → ImageParts → DeviceState
 state_with identity parts = record {
   identity = identity;
@@ -12,4 +13,5 @@ state_with identity parts = record {
   counter = parts.counter;
   changed = parts.flags.changed;
   protected = parts.flags.protected;
+  cold_start = for_both false;
 }

@@ -19,11 +19,12 @@ bit_if holds bit = if holds then bit else 0
 abbrev pub is_loop_current_fixed : DeviceState → Bool
 is_loop_current_fixed state = slice_index state.contents.mode 0 == 0
 
--- Beside the bits of the process a device shows a master hex 40 if its configuration-changed bit is set,
--- 10 if more status is available, and 08 if the loop current is fixed.
+-- Beside the bits of the process a device shows a master hex 40 if its configuration-changed bit is set, 20 if its cold start bit is
+-- set, 10 if more status is available, and 08 if the loop current is fixed.
 abbrev pub device_status : DeviceState → Process → MasterId → ℕ
 device_status state process master =
-    bit_or (bit_or (bit_or (bit_and process.status process_bits)
+    bit_or (bit_or (bit_or (bit_or (bit_and process.status process_bits)
     (bit_if (of_master master state.changed) 0x40))
+    (bit_if (of_master master state.cold_start) 0x20))
     (bit_if (has_more_status process) 0x10))
     (bit_if (is_loop_current_fixed state) 0x08)

@@ -1,12 +1,12 @@
-ghost use Rattle.std.specs.Prelude.{◌≡◌, ◌≤◌, length, IsSome, IsTrue, IfSome, MatchOption, None, Ok, ◌↔◌};
+ghost use Rattle.std.specs.Prelude.{◌≡◌, ◌≤◌, false, length, IsSome, IsTrue, IfSome, MatchOption, None, Ok, ◌↔◌};
 ghost use Rattle.hart_values.specs.EachMaster.{of_master};
 ghost use Rattle.hart_frame.specs.Message.{IsPreambleCount};
 ghost use Rattle.hart_commands.specs.Registers.{AreValid};
 ghost use Rattle.hart_commands.specs.ReplyData.{reply_payload};
 ghost use Rattle.hart_device.specs.Answer.{answer_of, asked_effect, is_addressed, is_answered, is_answered_with, is_paired};
-ghost use Rattle.hart_device.specs.Answer.{names_another, reply_of, reply_with, state_after};
+ghost use Rattle.hart_device.specs.Answer.{after_command, names_another, reply_of, reply_with, state_after};
 ghost use Rattle.hart_device.specs.Delivery.{Brings, Brought, answer_to, state_after_delivery};
-ghost use Rattle.hart_device.specs.Device.{after, new_device};
+ghost use Rattle.hart_device.specs.Device.{after, for_both, new_device, restarted};
 ghost use Rattle.hart_device.specs.Garbled.{HasGarbled, garbled_reply};
 ghost use Rattle.hart_device.specs.Values.{values_of};
 ghost use Rattle.hart_device.specs.declared.garbled.GarbledRequest.{GarbledRequest};
@@ -33,7 +33,8 @@ const IDENTIFY_BY_TAG: u8 = 11;
 /// A HART field device (HCF_SPEC-081, HCF_SPEC-127), over any store of its registers.
 ///
 /// Contracts see who it is, the contents of its registers, the configuration change counter, the configuration-changed bit of
-/// each master, and whether it is write protected. Every register holds bytes that are valid in it.
+/// each master, whether it is write protected, and the cold start bit of each master. Every register holds bytes that are valid in
+/// it.
 #[derive(Debug, Drop)]
 pub struct Device<S: RegisterStore> {
     identity: Identity,
@@ -41,6 +42,7 @@ pub struct Device<S: RegisterStore> {
     counter: u16,
     changed: EachMaster<bool>,
     protected: bool,
+    cold_start: EachMaster<bool>,
 }
 
 impl<S: RegisterStore> Model for Device<S> {
@@ -55,6 +57,7 @@ impl<S: RegisterStore> Model for Device<S> {
       counter = device.counter;
       changed = device.changed;
       protected = device.protected;
+      cold_start = device.cold_start;
     } };
 
     ghost invariant = { λ device. AreValid (S.contents device.registers) };
@@ -62,7 +65,7 @@ impl<S: RegisterStore> Model for Device<S> {
 
 impl<S: RegisterStore> Device<S> {
     /// A device with this identity, whose registers hold these values. It has counted nothing, its configuration has not changed
-    /// for any master, and it is not protected.
+    /// for any master, it is not protected, and no cold start bit is set.
     pub fn new(identity: Identity, values: &RegisterValues) -> Self
         ensures { result ≡ new_device identity values.now }
     {
@@ -73,7 +76,7 @@ impl<S: RegisterStore> Device<S> {
         Device::restored(identity, values, 0, changed, false)
     }
 
-    /// A device in this state.
+    /// A device in this state, of which no cold start bit is set.
     pub(crate) fn restored(
         identity: Identity,
         values: &RegisterValues,
@@ -87,6 +90,7 @@ impl<S: RegisterStore> Device<S> {
           counter = counter;
           changed = changed;
           protected = protected;
+          cold_start = for_both false;
         } }
     {
         // No-op: its contract says that the registers hold valid bytes.
@@ -97,7 +101,22 @@ impl<S: RegisterStore> Device<S> {
             counter,
             changed,
             protected,
+            cold_start: EachMaster {
+                primary: false,
+                secondary: false,
+            },
         }
+    }
+
+    /// The device was without power: the next reply with a response code to each master shows it a cold start, once. All else
+    /// stays as it is.
+    pub fn restart(&mut self)
+        ensures { self.new ≡ restarted self.old }
+    {
+        self.cold_start = EachMaster {
+            primary: true,
+            secondary: true,
+        };
     }
 
     /// Sets whether it is write protected: configuration writes are then refused.
@@ -176,7 +195,8 @@ impl<S: RegisterStore> Device<S> {
 
     /// What the device answers to a frame, or silence, `None`, which changes nothing.
     ///
-    /// The reply is about the state after the command.
+    /// The reply is about the state after the command. It shows the master its cold start bit, and clears it, whatever its response
+    /// code; a command with another code than 0 changes nothing else.
     pub fn receive(&mut self, frame: &Frame, process: &Process) -> Option<Frame>
         ensures answer { result ≡ answer_of self.old process.now frame.now }
         ensures state { self.new ≡ state_after self.old frame.now }
@@ -223,6 +243,7 @@ impl<S: RegisterStore> Device<S> {
             self.execute(frame.master(), request);
         }
         self.write_payload(frame, process, &reading, code, payload);
+        self.cold_start.set(frame.master(), false);
         true
     }
 

@@ -1,10 +1,11 @@
 //! The image of a device: what it holds, in bytes that are kept while it is stopped (own profile).
-ghost use Rattle.std.specs.Prelude.{◌≡◌, ◌<◌, ◌^◌, ◌↔◌, ◌⊎◌, [], ◌∷◌, ◌++◌, IsOk, IfOk, IfErr, IfSome, IfNone, length, slice_index};
+ghost use Rattle.std.specs.Prelude.{◌≡◌, ◌<◌, ◌^◌, ◌↔◌, ◌⊎◌, [], ◌∷◌, ◌++◌, false, IsOk, IfOk, IfErr, IfSome, IfNone, length, slice_index};
 ghost use Rattle.hart_commands.specs.Registers.{AreValid, registers};
 ghost use Rattle.hart_device.specs.Identity.{two_bytes};
 ghost use Rattle.hart_device.specs.Ranges.{array_length, contents_in};
 ghost use Rattle.hart_device.specs.Values.{values_of};
 ghost use Rattle.hart_device.specs.Image.{HasBadRegister, IsImage, IsImageOf, IsImageFault, flags_of, image_of};
+ghost use Rattle.hart_device.specs.Device.{for_both};
 ghost use Rattle.hart_device.specs.ImageParts.{state_with};
 ghost use Rattle.hart_device.specs.declared.identity_parts.IdentityParts.{IdentityParts};
 
@@ -38,7 +39,8 @@ pub(crate) struct ImageParts {
 }
 
 impl<S: RegisterStore> Device<S> {
-    /// What the device holds, but for its identity: its image, of version 1. [`Device::from_image`] reads it again.
+    /// What the device holds, but for its identity and its cold start bits: its image, of version 1. [`Device::from_image`] reads it
+    /// again.
     pub fn image(&self) -> Image
         ensures written { result ≡ image_of self.now }
         ensures image { IsImageOf self.now result }
@@ -63,7 +65,7 @@ impl<S: RegisterStore> Device<S> {
         image
     }
 
-    /// A device with this identity that goes on from an image.
+    /// A device with this identity that goes on from an image, with no cold start bit set.
     ///
     /// # Errors
     ///
@@ -73,6 +75,7 @@ impl<S: RegisterStore> Device<S> {
     pub fn from_image(identity: Identity, image: &[u8]) -> Result<Self, DeviceFault>
         ensures accepted { IsOk result ↔ IsImage image.now }
         ensures kept { IfOk result (λ device. (device.identity ≡ identity) × IsImageOf device image.now) }
+        ensures no_cold_start { IfOk result (λ device. device.cold_start ≡ for_both false) }
         ensures refused { IfErr result (IsImageFault image.now) }
     {
         // No-op: its contract says that bytes with a fault are no image.

@@ -1,32 +1,39 @@
 //! Laws over the definitions alone, for the crates above.
-ghost use Rattle.std.specs.Prelude.{◌≡◌, ◌≢◌, ◌⊎◌, ℕ, false, true, Ok, Option, None, Some, IfSome, unwrap_or};
-ghost use Rattle.std.specs.Prelude.{List, [], ◌∷◌, ◌++◌, Contains, slice_get};
+ghost use Rattle.std.specs.Prelude.{◌≡◌, ◌≢◌, ◌⊎◌, ℕ, false, true, Ok, Option, None, Some, IfSome, IsSomeAnd, unwrap_or};
+ghost use Rattle.std.specs.Prelude.{List, [], ◌∷◌, ◌++◌, Contains, slice_get, if◌then◌else◌};
+ghost use Rattle.std.specs.Int.{bit_at};
+ghost use Rattle.hart_values.specs.EachMaster.{of_master, with_master};
+ghost use Rattle.hart_values.specs.declared.master_id.MasterId.{MasterId};
 ghost use Rattle.hart_frame.specs.Character.{Character};
 ghost use Rattle.hart_frame.specs.FrameParts.{FrameParts, reply_parts};
 ghost use Rattle.hart_commands.specs.Registers.{Contents, Overwrite, bytes_in, last_named, overwrite_of, overwritten, registers_of};
 ghost use Rattle.hart_commands.specs.declared.register.Register.{Register};
 ghost use Rattle.hart_commands.specs.declared.request.Request.{Request};
 ghost use Rattle.hart_commands.specs.declared.request.Request.TheVariants.{ResetChanged};
-ghost use Rattle.hart_device.specs.Answer.{answer_of, code_of, effect_of, is_answered, reading_of, state_after};
+ghost use Rattle.hart_device.specs.Answer.{after_refusal, answer_of, code_of, effect_of, is_answered, reading_of, state_after};
 ghost use Rattle.hart_device.specs.Delivery.{Brings, Brought};
 ghost use Rattle.hart_device.specs.Garbled.{HasGarbled};
 ghost use Rattle.hart_device.specs.declared.fault.DeviceFault.{DeviceFault};
 ghost use Rattle.hart_device.specs.declared.garbled.GarbledRequest.{GarbledRequest};
 ghost use Rattle.hart_device.specs.declared.identity_parts.IdentityParts.{IdentityParts};
 ghost use Rattle.hart_device.specs.declared.process.Process.{Process};
-ghost use Rattle.hart_device.specs.Device.{DeviceState, Nothing, Executes, Resets};
+ghost use Rattle.hart_device.specs.Device.{DeviceState, Nothing, Executes, Resets, restarted};
 ghost use Rattle.hart_device.specs.Image.{IsImageOf, IsImageFault};
 
 use hart_commands::all_registers_are_listed_once;
 use hart_frame::{every_list_has_frames, first_starts_are_decided, frames_are_unambiguous};
 use hart_values::address_bytes_are_unambiguous;
 
-/// A command that is refused, or not answered, has no effect, and leaves the device as it is.
+/// A command that is refused, or not answered, has no effect. It changes nothing of the device but the cold start bit of its master,
+/// which the reply shows and clears; without a reply nothing changes at all.
 pub fn refused_commands_change_nothing()
     ensures refused { (state : DeviceState) (frame : FrameParts) → code_of state frame ≢ 0 → effect_of state frame ≡ Nothing }
     ensures silent { (state : DeviceState) (frame : FrameParts)
         → is_answered state frame ≡ false → effect_of state frame ≡ Nothing }
-    ensures stays { (state : DeviceState) (frame : FrameParts) → effect_of state frame ≡ Nothing → state_after state frame ≡ state }
+    ensures stays { (state : DeviceState) (frame : FrameParts) → effect_of state frame ≡ Nothing
+        → state_after state frame ≡ after_refusal state frame }
+    ensures stays_in_silence { (state : DeviceState) (frame : FrameParts)
+        → is_answered state frame ≡ false → state_after state frame ≡ state }
 {}
 
 /// An answer is a reply to the frame, whose first byte is the frame's response code; silence means that the frame is not
@@ -38,6 +45,24 @@ pub fn answers_give_their_code()
         × (slice_get reply.payload 0 ≡ Some (code_of state frame)) }
     ensures silent { (state : DeviceState) (process : Process) (frame : FrameParts)
         → answer_of state process frame ≡ None → is_answered state frame ≡ false }
+{}
+
+/// A restart sets both masters' cold start bits. A reply with a response code shows its master's, and clears it; the other master's
+/// stays, and without a reply both stay. So after a restart the first such reply to each master shows the bit, and no other does until
+/// the next restart.
+pub fn cold_starts_are_shown_once()
+    ensures shown { (state : DeviceState) (process : Process) (frame reply : FrameParts)
+        → answer_of state process frame ≡ Some reply
+        → IsSomeAnd (slice_get reply.payload 1) (λ status. bit_at status 5 ≡ (if of_master frame.master state.cold_start then 1 else 0)) }
+    ensures set { (state : DeviceState) (master : MasterId) → of_master master (restarted state).cold_start ≡ true }
+    ensures once { (state : DeviceState) (process : Process) (frame later reply : FrameParts)
+        → is_answered state frame ≡ true → later.master ≡ frame.master
+        → answer_of (state_after state frame) process later ≡ Some reply
+        → IsSomeAnd (slice_get reply.payload 1) (λ status. bit_at status 5 ≡ 0) }
+    ensures cleared { (state : DeviceState) (frame : FrameParts) → is_answered state frame ≡ true
+        → (state_after state frame).cold_start ≡ with_master frame.master false state.cold_start }
+    ensures stays { (state : DeviceState) (frame : FrameParts) → is_answered state frame ≡ false
+        → (state_after state frame).cold_start ≡ state.cold_start }
 {}
 
 /// A list of characters has one garbled request for a device at most, and it has one or none.
@@ -130,12 +155,13 @@ pub fn bytes_have_one_image_fault()
         → IsImageFault image fault → IsImageFault image other → fault ≡ other }
 {}
 
-/// A device's state has one image, and an image is of one state of a device.
+/// A device's state has one image, and an image is of one state of a device, but for who it is and for its cold start bits.
 pub fn images_have_one_state()
     ensures one_image { (state : DeviceState) (image other : List ℕ)
         → IsImageOf state image → IsImageOf state other → image ≡ other }
     ensures one_state { (state other : DeviceState) (image : List ℕ)
-        → IsImageOf state image → IsImageOf other image → state.identity ≡ other.identity → state ≡ other }
+        → IsImageOf state image → IsImageOf other image → state.identity ≡ other.identity → state.cold_start ≡ other.cold_start
+        → state ≡ other }
 {
     // No-op: its contract says that the list has every register.
     all_registers_are_listed_once();

@@ -2,8 +2,8 @@
 //! state afterwards.
 //!
 //! A [`Device`] is an [`Identity`], registers in a [`RegisterStore`], a configuration change counter, for each master whether
-//! the configuration has changed since it last reset this, and whether the device is write protected. What the device measures is
-//! handed in with each request, as a [`Process`].
+//! the configuration has changed since it last reset this, whether the device is write protected, and for each master its cold
+//! start bit. What the device measures is handed in with each request, as a [`Process`].
 //!
 //! ```rust
 //! let mut device: Device<FieldRegisters> = Device::new(bench::identity(), &bench::register_values());
@@ -46,10 +46,11 @@ pub use identity_parts::IdentityParts;
 pub use image::Image;
 pub use image_registers::ImageRegisters;
 pub use laws::{
-    answers_give_their_code, bytes_have_one_image_fault, deliveries_bring_one,
-    frames_leave_identity_and_protection, garbled_requests_are_decided, images_have_no_fault,
-    images_have_one_state, overwrites_absorb, refused_commands_change_nothing, registers_of_lists,
-    resets_name_this_counter, writes_execute_their_overwrite,
+    answers_give_their_code, bytes_have_one_image_fault, cold_starts_are_shown_once,
+    deliveries_bring_one, frames_leave_identity_and_protection, garbled_requests_are_decided,
+    images_have_no_fault, images_have_one_state, overwrites_absorb,
+    refused_commands_change_nothing, registers_of_lists, resets_name_this_counter,
+    writes_execute_their_overwrite,
 };
 pub use process::{OutputValues, Process, ProcessVariable};
 pub use registers::RegisterStore;

@@ -6,6 +6,7 @@ use std::test::Fail;
 
 mod deliveries;
 mod images;
+mod restarts;
 
 /// The payload of the reply to Command 0, before anything is counted.
 const IDENTITY: &[u8] = &[

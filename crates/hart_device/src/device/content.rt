@@ -20,13 +20,14 @@ impl<S: RegisterStore> Device<S> {
         ensures { result.0 ≡ device_status self.now process.now master }
     {
         let changed = bit_if(self.changed(master), DeviceStatus::CONFIGURATION_CHANGED);
+        let cold_start = bit_if(*self.cold_start.get(master), DeviceStatus::COLD_START);
         let more = bit_if(
             process.has_more_status(),
             DeviceStatus::MORE_STATUS_AVAILABLE,
         );
         let is_fixed = self.byte(Register::Mode) == 0;
         let fixed = bit_if(is_fixed, DeviceStatus::LOOP_CURRENT_FIXED);
-        DeviceStatus((process.status & PROCESS_BITS) | changed | more | fixed)
+        DeviceStatus((process.status & PROCESS_BITS) | changed | cold_start | more | fixed)
     }
 
     /// What a reply with this code says, if the request is read so.

@@ -46,7 +46,7 @@ const EXCHANGES: &[Exchange] = &[
 ];
 
 /// The characters of the longer request.
-const MOST: usize = 17;
+pub(super) const MOST: usize = 17;
 
 /// As many of the five preamble bytes may be lost: two have to stand before the delimiter.
 const SPARE: usize = 3;
@@ -181,6 +181,11 @@ const BAD_CHECK: &[u8] = &[
 const FAULTY: &[u8] = &[
     0xFF, 0xFF, 0xFF, 0xFF, 0xFF, 0x86, 0xB7, 0x42, 0x0A, 0x1B, 0x2C, 0x13, 0x02, 0x88, 0x00, 0xD7,
 ];
+
+/// The characters of the writing with another check byte.
+pub(super) fn garbled_write() -> Result<[Char; MOST], Fail> {
+    chars_of(BAD_CHECK)
+}
 
 /// What is replied to damaged messages.
 const DAMAGED: &[Damaged] = &[

@@ -1,9 +1,9 @@
-use Rattle.hart_device.specs.Answer.{effect_of}
-use Rattle.hart_device.proofs.EffectLemmas.{after_identity, after_protected}
+use Rattle.hart_device.specs.Answer.{effect_of, is_answered}
+use Rattle.hart_device.proofs.EffectLemmas.{identity_stays, protection_stays}
 use Rattle.hart_device.proofs.laws.frames_leave_identity_and_protection.Goals as goal
 
 pub returns-clause-identity : goal.returns-clause-identity
-returns-clause-identity c = λ state frame. after_identity frame.master (effect_of state frame) state
+returns-clause-identity c = λ state frame. identity_stays (is_answered state frame) frame.master (effect_of state frame) state
 
 pub returns-clause-protected : goal.returns-clause-protected
-returns-clause-protected c = λ state frame. after_protected frame.master (effect_of state frame) state
+returns-clause-protected c = λ state frame. protection_stays (is_answered state frame) frame.master (effect_of state frame) state

@@ -1,7 +1,14 @@
-use Rattle.hart_device.specs.Answer.{asked_effect, code_of, is_answered, reading_of}
+use Rattle.hart_device.specs.Answer.{asked_effect, code_of, effect_of, is_answered, reading_of}
+use Rattle.hart_device.proofs.ColdStartLemmas.{stays, without_effect}
 use Rattle.hart_device.proofs.EffectLemmas.{refused}
 use Rattle.hart_device.proofs.laws.refused_commands_change_nothing.Goals as goal
 
 pub returns-clause-refused : goal.returns-clause-refused
 returns-clause-refused c = λ state frame.
     refused (is_answered state frame) (code_of state frame) (asked_effect (reading_of frame))
+
+pub returns-clause-stays : goal.returns-clause-stays
+returns-clause-stays c = λ state frame. without_effect (is_answered state frame) frame.master (effect_of state frame) state
+
+pub returns-clause-stays_in_silence : goal.returns-clause-stays_in_silence
+returns-clause-stays_in_silence c = λ state frame. stays (is_answered state frame) frame.master (effect_of state frame) state
