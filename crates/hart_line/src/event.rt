@@ -32,4 +32,6 @@ pub enum LineEvent {
     Protect(bool),
     /// The device and both masters hear these characters, and both masters hear without damage what the device answers to them.
     Noise(CharList),
+    /// The device was without power and is on again. The masters go on with what they have in hand.
+    Restart,
 }

@@ -4,6 +4,7 @@ ghost use Rattle.hart_values.specs.declared.address.Address.{Address};
 ghost use Rattle.hart_values.specs.declared.master_id.MasterId.{MasterId};
 ghost use Rattle.hart_values.specs.EachMaster.{of_master};
 ghost use Rattle.hart_commands.specs.Registers.{registers_of};
+ghost use Rattle.hart_device.specs.Answer.{after_refusal};
 ghost use Rattle.hart_commands.specs.RequestCode.{is_write};
 ghost use Rattle.hart_commands.specs.RequestData.{command_of};
 ghost use Rattle.hart_commands.specs.declared.reply.Reply.{Reply};
@@ -74,11 +75,12 @@ pub fn scripts_have_one_last_world()
     replies_are_decided();
 }
 
-/// A turn in which the device refuses a command, or does not answer it, leaves the device as it was, wherever it stands in a
-/// script.
+/// A turn in which the device refuses a command leaves the device as it was but for the cold start bit of the turn's master, which the
+/// reply shows and clears, wherever the turn stands in a script. One in which it does not answer leaves it as it was.
 pub fn refused_turns_change_nothing()
     ensures { (start : Start) (events : List LineEvent) (before next : World)
-        → IsRefusedByDevice start events before next → state_of start.device next ≡ state_of start.device before }
+        (refused : IsRefusedByDevice start events before next)
+        → state_of start.device next ≡ after_refusal (state_of start.device before) refused.frame }
 {
     // No-op: its contract says that a refused command changes nothing.
     refused_commands_change_nothing();
@@ -102,9 +104,10 @@ pub fn scripts_keep_their_promises()
         → (state_of start.device world).counter ≡ (start.device.counter + length world.executions) % 2 ^ 16 }
     ensures refused_commands_change_nothing { (start : Start) (events : List LineEvent) (world : World) → IsLast start events world
         → (before next : World) (refused : IsRefusedByDevice start events before next)
-        → refused.turn.suffix ≡ [] → state_of start.device world ≡ state_of start.device before }
+        → refused.turn.suffix ≡ [] → state_of start.device world ≡ after_refusal (state_of start.device before) refused.frame }
     ensures refused_turns_change_nothing { (start : Start) (events : List LineEvent) (before next : World)
-        → IsRefusedByDevice start events before next → state_of start.device next ≡ state_of start.device before }
+        (refused : IsRefusedByDevice start events before next)
+        → state_of start.device next ≡ after_refusal (state_of start.device before) refused.frame }
     ensures unrefused_writes_are_executed { (start : Start) (events : List LineEvent) → AreWellMade events
         → (before next : World) (who : MasterId) (up down : Heard)
         (turn : IsStepOf start (first_world start) events before (Turn who up down) next)

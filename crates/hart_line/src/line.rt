@@ -135,6 +135,7 @@ impl<S: RegisterStore> Line<S> {
             LineEvent::Turn { who, up, down } => self.turn(*who, up, down, process)?,
             LineEvent::Protect(on) => self.device.protect(*on),
             LineEvent::Noise(chars) => self.hear_noise(chars.as_slice(), process)?,
+            LineEvent::Restart => self.device.restart(),
         }
         Ok(())
     }

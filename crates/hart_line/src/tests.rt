@@ -87,6 +87,7 @@ const SCRIPTS: &[(&str, Result<&str, usize>)] = &[
         "protect on\n protect\toff \nnoise FF!40ff\nturn S 82!40B7 FFFF",
         Ok("+-NT"),
     ),
+    (" restart\t\r\n#\nrestart", Ok("RR")),
     ("submit P 37420A1B2C 6 4001", Err(1)),
     ("submit P 37420A1B2C 19 0123", Err(1)),
     ("submit P 37420A1B2C 20", Err(1)),
@@ -105,7 +106,8 @@ const SCRIPTS: &[(&str, Result<&str, usize>)] = &[
     ("noise ok", Err(1)),
     ("protect", Err(1)),
     ("protect on # now", Err(1)),
-    ("restart", Err(1)),
+    ("restart now", Err(1)),
+    ("restarted", Err(1)),
     ("protect on\nturn X ok ok", Err(2)),
     ("# one\n\nturn P ok ok ok\nturn\n", Err(3)),
 ];
@@ -120,6 +122,7 @@ fn letters(alloc: Global, events: &[LineEvent]) -> Result<Vec<u8>, AllocError> {
             LineEvent::Protect(true) => b'+',
             LineEvent::Protect(false) => b'-',
             LineEvent::Noise(_) => b'N',
+            LineEvent::Restart => b'R',
         })?;
     }
     Ok(letters)

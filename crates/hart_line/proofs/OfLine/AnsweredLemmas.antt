@@ -20,7 +20,7 @@ use Rattle.hart_line.specs.Line.Step.{Accepts, IsLast, IsTurn, Run, Step, sent_b
 use Rattle.hart_line.specs.Line.World.{InHand, Start, World, first_world, state_of}
 use Rattle.hart_line.specs.declared.event.Heard.{Heard}
 use Rattle.hart_line.specs.declared.event.LineEvent.{LineEvent}
-use Rattle.hart_line.specs.declared.event.LineEvent.TheVariants.{Submit, Turn, Protect, Noise}
+use Rattle.hart_line.specs.declared.event.LineEvent.TheVariants.{Submit, Turn, Protect, Noise, Restart}
 use Rattle.hart_line.specs.declared.line.report.Outcome.TheVariants.{Answered, NoReply, Unfinished, Refused}
 use Rattle.hart_line.specs.declared.line.report.Party.{Party}
 use Rattle.hart_line.proofs.OfLine.ArrivalLemmas.{arrives_cases, frame_in, reaches_cases}
@@ -177,6 +177,7 @@ step_answered law start world (Turn who up down) next step events number reply s
     turn_answered law start world who up down next (of_master who world.hands) refl step step.arrives step.accepts step.next_is
     number reply sendings (rw step.next_is at is) events
 step_answered law start world (Protect on) next step events number reply sendings is = inl (rw step at is)
+step_answered law start world Restart next step events number reply sendings is = inl (rw step at is)
 step_answered law start world (Noise chars) next step events number reply sendings is = inl (rw step.next_is at is)
 
 later_answered : (start : Start) (world next : World) (event : LineEvent) (events : List LineEvent) (number : ℕ) (reply : Reply)

@@ -181,6 +181,7 @@ counted_kept start = record {
   turns = turned_counted start;
   switches = λ world on c. record { in_hand = c.in_hand; apart = c.apart; counts = c.counts };
   replies = λ world arrived c. record { in_hand = c.in_hand; apart = c.apart; counts = c.counts };
+  restarts = λ world c. record { in_hand = c.in_hand; apart = c.apart; counts = c.counts };
 }
 
 first_counted : (start : Start) → IsCounted (first_world start)

@@ -1,5 +1,5 @@
 -- Detectable damage is detected, and a script of which all damage is detected has a last world.
-use Rattle.std.proofs.Common.{◌≡◌, ℕ, ◌≤◌, ◌∙◌, sym, refl, subst, arith, Option, None, Some, List, [], ◌∷◌, length, take, ◌⊎◌, inl, inr}
+use Rattle.std.proofs.Common.{◌≡◌, true, ℕ, ◌≤◌, ◌∙◌, sym, refl, subst, arith, Option, None, Some, List, [], ◌∷◌, length, take, ◌⊎◌, inl, inr}
 use Rattle.hart_values.specs.declared.address.Address.{Address}
 use Rattle.hart_values.specs.declared.master_id.MasterId.{MasterId}
 use Rattle.hart_frame.specs.Character.{Character, faultless}
@@ -12,6 +12,7 @@ use Rattle.hart_commands.specs.declared.reply.Reply.{Reply}
 use Rattle.hart_commands.specs.declared.request.Request.{Request}
 use Rattle.hart_device.specs.Delivery.{answer_to}
 use Rattle.hart_master.specs.Acceptance.{IsReplyTo}
+use Rattle.hart_device.specs.Device.{for_both}
 use Rattle.hart_line.specs.Line.Damage.{IsDetectable, IsDetected, IsUndetected}
 use Rattle.hart_line.specs.Line.Faults.{AreAllDetected, HasDetectable, HasUndetected, IsFault, IsNotDetectable, LegsAreDetected}
 use Rattle.hart_line.specs.Line.Spoken.{SpokenFrame, frame_of, spoken_by}
@@ -20,7 +21,7 @@ use Rattle.hart_line.specs.Line.World.{InHand, Start, World, first_world, state_
 use Rattle.hart_line.specs.declared.event.Heard.{Heard}
 use Rattle.hart_line.specs.declared.event.Heard.TheVariants.{Clean, Lost, Chars}
 use Rattle.hart_line.specs.declared.event.LineEvent.{LineEvent}
-use Rattle.hart_line.specs.declared.event.LineEvent.TheVariants.{Submit, Turn, Protect, Noise}
+use Rattle.hart_line.specs.declared.event.LineEvent.TheVariants.{Submit, Turn, Protect, Noise, Restart}
 use Rattle.hart_line.specs.declared.fault.Leg.{Leg}
 use Rattle.hart_line.specs.declared.fault.Leg.TheVariants as legs
 use Rattle.hart_line.specs.declared.fault.LineFault.{LineFault}
@@ -97,6 +98,7 @@ leg_detected laws damage start world (Turn who up down) legs.Down enough d u =
     (subst (λ arrived. IsDetectable down (sent_back start world arrived)) same d.2) u.2
 leg_detected laws damage start world (Turn who up down) legs.Noise enough d u = d
 leg_detected laws damage start world (Protect on) leg enough d u = d
+leg_detected laws damage start world Restart leg enough d u = d
 leg_detected laws damage start world (Noise chars) leg enough d u = d
 
 pub fault_not_detectable : Laws → DetectedLaws → (start : Start) (events : List LineEvent) (fault : LineFault)
@@ -145,6 +147,7 @@ step_exists decided start world (Turn who up down) detected =
       },
     )
 step_exists decided start world (Protect on) detected = (record world { protected = on }, refl)
+step_exists decided start world Restart detected = (record world { cold_start = for_both true }, refl)
 step_exists decided start world (Noise chars) detected =
     (replied start world detected.0, record { arrived = detected.0; arrives = detected.1; next_is = refl })
 

@@ -1,12 +1,12 @@
--- A submission and the switch of protection on the line are those of the world.
-use Rattle.std.proofs.Common.{◌≡◌, refl, Option, None, Some, [], ◌∷◌, ◌++◌, Bool, length}
+-- A submission, the switch of protection and a restart on the line are those of the world.
+use Rattle.std.proofs.Common.{◌≡◌, refl, true, Option, None, Some, [], ◌∷◌, ◌++◌, Bool, length}
 use Rattle.hart_values.specs.declared.address.Address.{Address}
 use Rattle.hart_values.specs.declared.master_id.MasterId.{MasterId}
 use Rattle.hart_values.specs.declared.master_id.MasterId.TheVariants.{Primary, Secondary}
 use Rattle.hart_values.specs.declared.each_master.EachMaster.{EachMaster}
 use Rattle.hart_values.specs.EachMaster.{of_master, with_master}
 use Rattle.hart_commands.specs.declared.request.Request.{Request}
-use Rattle.hart_device.specs.Device.{DeviceState}
+use Rattle.hart_device.specs.Device.{DeviceState, for_both, restarted}
 use Rattle.hart_master.specs.declared.fault.MasterFault.{MasterFault}
 use Rattle.hart_line.specs.Line.LineState.{LineState, Stands}
 use Rattle.hart_line.specs.Line.Masters.{AreHeld, Submits}
@@ -42,6 +42,16 @@ pub protected_stands : (start : Start) (world : World) (on : Bool) (line : LineS
     → device ≡ record line.device { protected = on }
     → Stands start (record world { protected = on }) (record line { device = device })
 protected_stands start world on line device s is = record {
+  device_is = rw (is, s.device_is);
+  masters_are = s.masters_are;
+  outcomes_are = s.outcomes_are;
+  spoken_are = s.spoken_are;
+}
+
+pub restarted_stands : (start : Start) (world : World) (line : LineState) (device : DeviceState) → Stands start world line
+    → device ≡ restarted line.device
+    → Stands start (record world { cold_start = for_both true }) (record line { device = device })
+restarted_stands start world line device s is = record {
   device_is = rw (is, s.device_is);
   masters_are = s.masters_are;
   outcomes_are = s.outcomes_are;

@@ -20,7 +20,7 @@ use Rattle.hart_line.specs.Line.Promises.{AreWellMade, requests_of}
 use Rattle.hart_line.specs.Line.Step.{IsLast, Run, Step, effect_on, executions_after, spoken_request, sent_by, submission_fault, submitted, turned}
 use Rattle.hart_line.specs.Line.World.{Execution, InHand, Start, World, first_world, overwrites_of, state_of}
 use Rattle.hart_line.specs.declared.event.LineEvent.{LineEvent}
-use Rattle.hart_line.specs.declared.event.LineEvent.TheVariants.{Submit, Turn, Protect, Noise}
+use Rattle.hart_line.specs.declared.event.LineEvent.TheVariants.{Submit, Turn, Protect, Noise, Restart}
 use Rattle.hart_line.proofs.OfLine.ArrivalLemmas.{frame_in, reaches_cases}
 use Rattle.hart_line.proofs.OfLine.SubmittedLemmas.{IsAlong, first_along, made_of, step_along}
 
@@ -117,6 +117,7 @@ step_writes law reads events made start world (Turn who up down) later next is a
     (turned_writes law reads events made start world who (of_master who world.hands) is.arrived is.accepted (Turn who up down ∷ later) refl
     (reaches_cases start.device.identity up (sent_by who (of_master who world.hands)) is.arrived is.arrives) a all)
 step_writes law reads events made start world (Protect on) later next is a all = subst (AreWrites (requests_of events)) (sym is) all
+step_writes law reads events made start world Restart later next is a all = subst (AreWrites (requests_of events)) (sym is) all
 step_writes law reads events made start world (Noise chars) later next is a all =
     subst (AreWrites (requests_of events)) (sym is.next_is) all
 

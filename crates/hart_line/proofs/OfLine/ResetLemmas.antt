@@ -1,28 +1,30 @@
 -- What holds since a master's last reset.
-use Rattle.std.proofs.Common.{◌≡◌, ◌≢◌, ℕ, ◌+◌, ◌%◌, ◌≤◌, nat_lt, ap, ◌∙◌, sym, refl, subst, arith, Option, None, Some, IfSome, Ok, false, List, [], ◌∷◌, ◌++◌, length, append_assoc, append-nil, ◌⊎◌}
+use Rattle.std.proofs.Common.{◌≡◌, ◌≢◌, ℕ, ◌+◌, ◌%◌, ◌≤◌, nat_lt, ap, ◌∙◌, sym, refl, subst, arith, Option, None, Some, IfSome, Ok, false, List, [], ◌∷◌, ◌++◌, length, append_assoc, append-nil, ◌⊎◌, inl, inr, Bool, if◌then◌else◌}
 use Rattle.std.proofs.lemmas.List.{length-append}
 use Rattle.std.proofs.lemmas.Bool.{ltb-false}
 use Rattle.hart_values.specs.declared.master_id.MasterId.{MasterId}
 use Rattle.hart_values.specs.declared.master_id.MasterId.TheVariants.{Primary, Secondary}
 use Rattle.hart_frame.specs.FrameParts.{FrameParts}
-use Rattle.hart_values.specs.EachMaster.{of_master}
+use Rattle.hart_values.specs.EachMaster.{of_master, with_master}
 use Rattle.hart_values.specs.declared.each_master.EachMaster.{EachMaster}
 use Rattle.hart_commands.specs.Registers.{registers_of}
 use Rattle.hart_commands.specs.RequestData.{Reading}
 use Rattle.hart_commands.specs.declared.reply.Reply.{Reply}
 use Rattle.hart_commands.specs.declared.request.Request.{Request}
 use Rattle.hart_commands.specs.declared.request.Request.TheVariants.{ResetChanged}
-use Rattle.hart_device.specs.Answer.{code_of, effect_of, is_answered, reading_of}
-use Rattle.hart_device.specs.Delivery.{Brought}
+use Rattle.hart_device.specs.Answer.{after_refusal, code_of, effect_of, is_answered, reading_of}
+use Rattle.hart_device.specs.Delivery.{Brought, OneFrame}
 use Rattle.hart_device.specs.Device.{DeviceState, Effect, Nothing, Executes, Resets}
+use Rattle.hart_device.specs.declared.identity_parts.IdentityParts.{IdentityParts}
 use Rattle.hart_line.specs.Line.Damage.{Reaches}
 use Rattle.hart_line.specs.Line.Promises.{HasNoReset, IsLastReset, IsRefusedByDevice}
-use Rattle.hart_line.specs.Line.Step.{IsLast, IsTurn, Run, Step, effect_on, executions_after, marks_after, sent_by, submission_fault, submitted, turned}
+use Rattle.hart_line.specs.Line.Step.{IsLast, IsTurn, Run, Step, cold_start_after, effect_on, executions_after, marks_after, sent_by}
+use Rattle.hart_line.specs.Line.Step.{spoken_request, submission_fault, submitted, turned}
 use Rattle.hart_line.specs.Line.World.{Execution, InHand, Start, World, first_world, is_changed, overwrites_of, state_of}
 use Rattle.hart_line.specs.declared.event.Heard.{Heard}
 use Rattle.hart_line.specs.declared.event.LineEvent.{LineEvent}
-use Rattle.hart_line.specs.declared.event.LineEvent.TheVariants.{Submit, Turn, Protect, Noise}
-use Rattle.hart_line.proofs.OfLine.ArrivalLemmas.{no_effect, none_reaches}
+use Rattle.hart_line.specs.declared.event.LineEvent.TheVariants.{Submit, Turn, Protect, Noise, Restart}
+use Rattle.hart_line.proofs.OfLine.ArrivalLemmas.{no_effect, none_reaches, reaches_cases}
 use Rattle.hart_line.proofs.OfLine.RunLemmas.{Laws, step_one}
 
 -- EXECUTIONS GROW
@@ -54,6 +56,7 @@ step_grows start world (Turn who up down) next step =
     by_hand None = grows_same world.executions world.executions refl
     by_hand (Some held) = effect_grows (effect_on (state_of start.device world) step.arrived) held.submission world.executions
 step_grows start world (Protect on) next step = grows_same _ _ (ap (λ (w : World). w.executions) step)
+step_grows start world Restart next step = grows_same _ _ (ap (λ (w : World). w.executions) step)
 step_grows start world (Noise chars) next step = grows_same _ _ (ap (λ (w : World). w.executions) step.next_is)
 
 grows_on : (a b c : List Execution) → Grows a b → Grows b c → Grows a c
@@ -80,6 +83,7 @@ abbrev pub IsNoReset : (start : Start) (world : World) (event : LineEvent) (next
 IsNoReset start world (Submit who address request) next id step = Unit {0}
 IsNoReset start world (Turn who up down) next id step = id ≡ who → effect_on (state_of start.device world) step.arrived ≢ Resets
 IsNoReset start world (Protect on) next id step = Unit {0}
+IsNoReset start world Restart next id step = Unit {0}
 IsNoReset start world (Noise chars) next id step = Unit {0}
 
 step_kept : (start : Start) (world : World) (event : LineEvent) (next : World) (id : MasterId) (step : Step start world event next)
@@ -99,6 +103,7 @@ step_kept start world (Turn who up down) next id step quiet =
     by_hand (Some held) =
         marks_kept (effect_on (state_of start.device world) step.arrived) id who (length world.executions) world.marks quiet
 step_kept start world (Protect on) next id step quiet = ap (λ (w : World). of_master id w.marks) step
+step_kept start world Restart next id step quiet = ap (λ (w : World). of_master id w.marks) step
 step_kept start world (Noise chars) next id step quiet = ap (λ (w : World). of_master id w.marks) step.next_is
 
 first_quiet : (start : Start) (world : World) (event : LineEvent) (events : List LineEvent) (next : World) (id : MasterId)
@@ -110,6 +115,7 @@ first_quiet start world (Turn who up down) events next id step none = λ same.
     subst P same
     (λ s quiet. quiet world next up down (record { prefix = []; suffix = events; split = refl; led = refl; step = s })) step none
 first_quiet start world (Protect on) events next id step none = tt
+first_quiet start world Restart events next id step none = tt
 first_quiet start world (Noise chars) events next id step none = tt
 
 later_quiet : (start : Start) (world : World) (event : LineEvent) (events : List LineEvent) (next : World) (id : MasterId)
@@ -233,24 +239,47 @@ abbrev pub RefusedLaw : Type 0
 RefusedLaw = (state : DeviceState) (frame : FrameParts) → (code_of state frame ≢ 0) ⊎ (is_answered state frame ≡ false)
     → effect_of state frame ≡ Nothing
 
-unmoved : (start : Start) (world : World) (who : MasterId) (hand : Option InHand) (arrived : Brought) (accepted : Option Reply)
+-- A turn without an effect changes no more of the device than cold start bits.
+unmoved : (start : Start) (world : World) (who : MasterId) (held : InHand) (arrived : Brought) (accepted : Option Reply)
     → effect_on (state_of start.device world) arrived ≡ Nothing
-    → state_of start.device (turned start world who hand arrived accepted) ≡ state_of start.device world
-unmoved start world who None arrived accepted nothing = refl
-unmoved start world who (Some held) arrived accepted nothing = rw nothing refl
+    → state_of start.device (turned start world who (Some held) arrived accepted)
+    ≡ record (state_of start.device world) { cold_start = cold_start_after (state_of start.device world) who arrived }
+unmoved start world who held arrived accepted nothing = rw nothing refl
+
+-- A frame that arrives in a turn is the one that its master sent.
+frame_arrived : (identity : IdentityParts) (up : Heard) (who : MasterId) (hand : Option InHand) (frame : FrameParts)
+    → Reaches identity up (sent_by who hand) (OneFrame frame) → (held : InHand) × (hand ≡ Some held) × (frame.master ≡ who)
+frame_arrived identity up who None frame reaches = let none = none_reaches identity up (OneFrame frame) reaches in cc
+frame_arrived identity up who (Some held) frame reaches =
+    elim (reaches_cases identity up (Some (spoken_request who held)) (OneFrame frame) reaches) [
+      | inl none ↦ cc
+      | inr same ↦ (held, refl, of_sent same)
+    ]
+  where
+    of_sent : Some frame ≡ Some (spoken_request who held).frame → frame.master ≡ who
+    of_sent same = let is : frame ≡ (spoken_request who held).frame = cc in ap (λ (f : FrameParts). f.master) is
 
 pub refused_step : RefusedLaw → (start : Start) (events : List LineEvent) (before next : World)
-    (r : IsRefusedByDevice start events before next) → state_of start.device next ≡ state_of start.device before
+    (r : IsRefusedByDevice start events before next)
+    → state_of start.device next ≡ after_refusal (state_of start.device before) r.frame
 refused_step law start events before next r =
-    let nothing : effect_on (state_of start.device before) r.turn.step.arrived ≡ Nothing =
-    ap (effect_on (state_of start.device before)) r.arrived ∙ law (state_of start.device before) r.frame r.refused in
-    ap (state_of start.device) r.turn.step.next_is
-    ∙ unmoved start before r.who (of_master r.who before.hands) r.turn.step.arrived r.turn.step.accepted nothing
+    let state = state_of start.device before in
+    let nothing : effect_on state r.turn.step.arrived ≡ Nothing = ap (effect_on state) r.arrived ∙ law state r.frame r.refused in
+    let sent = frame_arrived start.device.identity r.up r.who (of_master r.who before.hands) r.frame (rw r.arrived at r.turn.step.arrives) in
+    let cold_start : cold_start_after state r.who r.turn.step.arrived
+    ≡ (if is_answered state r.frame then with_master r.frame.master false state.cold_start else state.cold_start) =
+    ap (cold_start_after state r.who) r.arrived
+    ∙ ap (λ (who : MasterId). if is_answered state r.frame then with_master who false state.cold_start else state.cold_start) (sym sent.2) in
+    ap (state_of start.device) (r.turn.step.next_is
+    ∙ ap (λ (hand : Option InHand). turned start before r.who hand r.turn.step.arrived r.turn.step.accepted) sent.1)
+    ∙ unmoved start before r.who sent.0 r.turn.step.arrived r.turn.step.accepted nothing
+    ∙ ap (λ (bits : EachMaster Bool). record state { cold_start = bits }) cold_start
 
-pub refused_last : Laws → ((start : Start) (events : List LineEvent) (before next : World) → IsRefusedByDevice start events before next
-    → state_of start.device next ≡ state_of start.device before)
+pub refused_last : Laws → ((start : Start) (events : List LineEvent) (before next : World)
+    (r : IsRefusedByDevice start events before next) → state_of start.device next ≡ after_refusal (state_of start.device before) r.frame)
     → (start : Start) (events : List LineEvent) (last : World) → IsLast start events last → (before next : World)
-    (r : IsRefusedByDevice start events before next) → r.turn.suffix ≡ [] → state_of start.device last ≡ state_of start.device before
+    (r : IsRefusedByDevice start events before next) → r.turn.suffix ≡ []
+    → state_of start.device last ≡ after_refusal (state_of start.device before) r.frame
 refused_last laws stays start events last run before next r end =
     let split_run = rw r.turn.split at run in
     let back = run_back laws start r.turn.prefix _ r.turn.suffix (first_world start) before next last split_run r.turn.led r.turn.step in

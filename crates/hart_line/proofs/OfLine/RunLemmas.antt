@@ -1,5 +1,5 @@
 -- Scripts: one event more, and that a script leads to one world.
-use Rattle.std.proofs.Common.{◌≡◌, ℕ, ap, ◌∙◌, sym, refl, subst, Option, None, Some, List, [], ◌∷◌, ◌++◌, zero, suc, take, Bool}
+use Rattle.std.proofs.Common.{◌≡◌, true, ℕ, ap, ◌∙◌, sym, refl, subst, Option, None, Some, List, [], ◌∷◌, ◌++◌, zero, suc, take, Bool}
 use Rattle.std.specs.List.{slice_get}
 use Rattle.hart_values.specs.declared.address.Address.{Address}
 use Rattle.hart_values.specs.declared.master_id.MasterId.{MasterId}
@@ -15,6 +15,7 @@ use Rattle.hart_device.specs.Delivery.{Brings, Brought}
 use Rattle.hart_device.specs.declared.identity_parts.IdentityParts.{IdentityParts}
 use Rattle.hart_master.specs.Acceptance.{IsReplyTo}
 use Rattle.hart_master.specs.declared.fault.MasterFault.{MasterFault}
+use Rattle.hart_device.specs.Device.{for_both}
 use Rattle.hart_line.specs.Line.Damage.{AreHeard, Arrives, IsDetected, IsUndetected, Reaches}
 use Rattle.hart_line.specs.Line.Spoken.{SpokenFrame, frame_of}
 use Rattle.hart_line.specs.Line.Step.{Accepts, IsLast, IsTurn, Run, Step, replied, sent_back, sent_by, submission_fault, submitted, turned}
@@ -22,13 +23,13 @@ use Rattle.hart_line.specs.Line.World.{InHand, Start, World, first_world}
 use Rattle.hart_line.specs.declared.event.Heard.{Heard}
 use Rattle.hart_line.specs.declared.event.Heard.TheVariants.{Clean, Lost, Chars}
 use Rattle.hart_line.specs.declared.event.LineEvent.{LineEvent}
-use Rattle.hart_line.specs.declared.event.LineEvent.TheVariants.{Submit, Turn, Protect, Noise}
+use Rattle.hart_line.specs.declared.event.LineEvent.TheVariants.{Submit, Turn, Protect, Noise, Restart}
 use Rattle.hart_line.specs.declared.fault.Leg.{Leg}
 use Rattle.hart_line.specs.declared.fault.Leg.TheVariants as legs
 use Rattle.hart_line.specs.Line.Faults.{HasUndetected, IsFault}
 use Rattle.hart_line.specs.declared.fault.LineFault.TheVariants.{Undetected}
 
--- What a submission, a turn, the switch of protection and a reply keep stays at each event, and from a world to the last one.
+-- What a submission, a turn, the switch of protection, a reply and a restart keep stays at each event, and from a world to the last one.
 pub record Keeps (start : Start) (P : World → Type 0) : Type 0 where
   pub submissions : (world : World) (who : MasterId) (address : Address) (request : Request) (fault : Option MasterFault)
       → P world → P (submitted world who address request fault)
@@ -36,6 +37,7 @@ pub record Keeps (start : Start) (P : World → Type 0) : Type 0 where
       → of_master who world.hands ≡ hand → P world → P (turned start world who hand arrived accepted)
   pub switches : (world : World) (on : Bool) → P world → P (record world { protected = on })
   pub replies : (world : World) (arrived : Brought) → P world → P (replied start world arrived)
+  pub restarts : (world : World) → P world → P (record world { cold_start = for_both true })
 
 pub step_keeps : (start : Start) (P : World → Type 0) → Keeps start P → (world : World) (event : LineEvent) (next : World)
     → Step start world event next → P world → P next
@@ -45,6 +47,7 @@ step_keeps start P keeps world (Turn who up down) next is p = subst P (sym is.ne
     (keeps.turns world who (of_master who world.hands) is.arrived is.accepted refl p)
 step_keeps start P keeps world (Protect on) next is p = subst P (sym is) (keeps.switches world on p)
 step_keeps start P keeps world (Noise chars) next is p = subst P (sym is.next_is) (keeps.replies world is.arrived p)
+step_keeps start P keeps world Restart next is p = subst P (sym is) (keeps.restarts world p)
 
 pub run_keeps : (start : Start) (P : World → Type 0) → Keeps start P → (events : List LineEvent) (world last : World)
     → Run start world events last → P world → P last
@@ -136,6 +139,7 @@ pub step_one : Laws → (start : Start) (world : World) (event : LineEvent) (a b
 step_one laws start world (Submit who address request) a b s t = s ∙ sym t
 step_one laws start world (Turn who up down) a b s t = IsTurn-one laws start world who up down a b s t
 step_one laws start world (Protect on) a b s t = s ∙ sym t
+step_one laws start world Restart a b s t = s ∙ sym t
 step_one laws start world (Noise chars) a b s t =
     s.next_is ∙ ap (replied start world)
     (Reaches-one laws start.device.identity (Chars chars) None s.arrived t.arrived s.arrives t.arrives) ∙ sym t.next_is
@@ -163,6 +167,7 @@ step_detected laws start world (Turn who up down) next legs.Down step undetected
     arrives_detected laws down _ step.returned (rw arrived at step.returns) undetected.2
 step_detected laws start world (Turn who up down) next legs.Noise step undetected = undetected
 step_detected laws start world (Protect on) next leg step undetected = undetected
+step_detected laws start world Restart next leg step undetected = undetected
 step_detected laws start world (Noise chars) next legs.Up step undetected = undetected
 step_detected laws start world (Noise chars) next legs.Down step undetected = undetected
 step_detected laws start world (Noise chars) next legs.Noise step undetected =
@@ -179,6 +184,7 @@ undetected_one laws start world (Turn who up down) legs.Down legs.Down u v = ref
 undetected_one laws start world (Turn who up down) legs.Down legs.Noise u v = absurd v
 undetected_one laws start world (Turn who up down) legs.Noise another u v = absurd u
 undetected_one laws start world (Protect on) leg another u v = absurd u
+undetected_one laws start world Restart leg another u v = absurd u
 undetected_one laws start world (Noise chars) legs.Up another u v = absurd u
 undetected_one laws start world (Noise chars) legs.Down another u v = absurd u
 undetected_one laws start world (Noise chars) legs.Noise legs.Up u v = absurd v

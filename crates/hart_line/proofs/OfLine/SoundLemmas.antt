@@ -105,6 +105,7 @@ sound_kept start = record {
   turns = turned_sound start;
   switches = λ world on s. record { marks = s.marks; within = s.within };
   replies = λ world arrived s. record { marks = s.marks; within = s.within };
+  restarts = λ world s. record { marks = s.marks; within = s.within };
 }
 
 pub step_sound : (start : Start) (world : World) (event : LineEvent) (next : World) → Step start world event next → IsSound world

@@ -34,18 +34,18 @@ length-one_more xs x = grind (arith, common_steps)
 counted : (counter count : ℕ) → ((counter + count) % 65536 + 1) % 65536 ≡ (counter + (count + 1)) % 65536
 counted counter count = mod-add-mod (counter + count) 65536 1 ∙ ap (λ n. n % 65536) (omega arith)
 
-same_parts : {A B C D E F G : Type 0} (f : A → B → C → D → E → F → G) {a a' : A} {b b' : B} {c c' : C} {d d' : D} {e e' : E}
-    {g g' : F} → a ≡ a' → b ≡ b' → c ≡ c' → d ≡ d' → e ≡ e' → g ≡ g' → f a b c d e g ≡ f a' b' c' d' e' g'
-same_parts f one two three four five six = cc
-
-state_by : IdentityParts → Contents → ℕ → Bool → Bool → Bool → DeviceState
-state_by i r n p s w = record { identity = i; contents = r; counter = n; changed = record { primary = p; secondary = s }; protected = w }
-
+-- States are the same if their parts are.
 pub same_state : (a b : DeviceState) → a.identity ≡ b.identity → a.contents ≡ b.contents → a.counter ≡ b.counter
-    → a.changed.primary ≡ b.changed.primary → a.changed.secondary ≡ b.changed.secondary → a.protected ≡ b.protected → a ≡ b
-unfolding state_by
-same_state a b identity contents counter primary secondary protected =
-    same_parts state_by identity contents counter primary secondary protected
+    → a.changed.primary ≡ b.changed.primary → a.changed.secondary ≡ b.changed.secondary → a.protected ≡ b.protected
+    → a.cold_start ≡ b.cold_start → a ≡ b
+same_state a b identity contents counter primary secondary protected cold_start = λ i. record {
+  identity = identity i;
+  contents = contents i;
+  counter = counter i;
+  changed = record { primary = primary i; secondary = secondary i };
+  protected = protected i;
+  cold_start = cold_start i;
+}
 
 contents-more : LastLaw → (executions : List Execution) (execution : Execution) (initial : Contents)
     → overwritten execution.overwrite (registers_of (overwrites_of executions) initial)
@@ -54,14 +54,14 @@ contents-more last executions execution initial =
     sym (ap (λ os. registers_of os initial) (map-append (λ (e : Execution). e.overwrite) executions (execution ∷ []))
     ∙ last (overwrites_of executions) execution.overwrite initial)
 
--- The state after an effect is that of the world that the effect entered.
+-- The state after an effect, with other cold start bits, is that of the world that the effect entered, with these bits.
 pub state-after : LastLaw → (initial : DeviceState) (world next : World) (id : MasterId) (number : ℕ) (effect : Effect) → MarksWithin world
     → next.executions ≡ executions_after effect number world.executions
     → next.marks ≡ marks_after effect id (length world.executions) world.marks
     → next.protected ≡ world.protected
-    → after id effect (state_of initial world) ≡ state_of initial next
+    → record (after id effect (state_of initial world)) { cold_start = next.cold_start } ≡ state_of initial next
 state-after last initial world next id number Nothing within executions marks protected =
-    rw (executions, marks, protected)
+    rw (executions, marks, protected) refl
 state-after last initial world next id number (Executes overwrite) within executions marks protected =
     let entry : Execution = record { submission = number; overwrite = overwrite } in
     let more = length-one_more world.executions entry in
@@ -70,13 +70,13 @@ state-after last initial world next id number (Executes overwrite) within execut
     (rw more (counted initial.counter (length world.executions)))
     (rw more (is_changed-more initial.changed.primary world.marks.primary (length world.executions) (within Primary)))
     (rw more (is_changed-more initial.changed.secondary world.marks.secondary (length world.executions) (within Secondary)))
-    refl)
+    refl refl)
 state-after last initial world next Primary number Resets within executions marks protected =
     rw (executions, marks, protected) (same_state _ _ refl refl refl (is_changed-now initial.changed.primary
-    (length world.executions)) refl refl)
+    (length world.executions)) refl refl refl)
 state-after last initial world next Secondary number Resets within executions marks protected =
     rw (executions, marks, protected)
-    (same_state _ _ refl refl refl refl (is_changed-now initial.changed.secondary (length world.executions)) refl)
+    (same_state _ _ refl refl refl refl (is_changed-now initial.changed.secondary (length world.executions)) refl refl)
 
 -- THE FIRST WORLD
 or_none : (b : Bool) → (b || nat_lt 0 0) ≡ b
@@ -90,4 +90,4 @@ small_mod n h = let same : n + 0 ≡ n = omega arith in rw same (mod-eq_of_lt h)
 pub state-first : ((initial : Contents) → registers_of [] initial ≡ initial) → (start : Start) → start.device.counter < 65536
     → state_of start.device (first_world start) ≡ start.device
 state-first none start small = same_state _ _ refl (none start.device.contents) (small_mod start.device.counter small)
-    (or_none start.device.changed.primary) (or_none start.device.changed.secondary) refl
+    (or_none start.device.changed.primary) (or_none start.device.changed.secondary) refl refl

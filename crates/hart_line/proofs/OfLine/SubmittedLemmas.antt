@@ -16,7 +16,7 @@ use Rattle.hart_line.specs.Line.Promises.{AreWellMade, requests_of}
 use Rattle.hart_line.specs.Line.Step.{Run, Step, hand_left, outcome_of, submission_fault, submitted, turned}
 use Rattle.hart_line.specs.Line.World.{InHand, Start, World, first_world}
 use Rattle.hart_line.specs.declared.event.LineEvent.{LineEvent}
-use Rattle.hart_line.specs.declared.event.LineEvent.TheVariants.{Submit, Turn, Protect, Noise}
+use Rattle.hart_line.specs.declared.event.LineEvent.TheVariants.{Submit, Turn, Protect, Noise, Restart}
 use Rattle.hart_line.specs.declared.line.report.Outcome.{Outcome}
 use Rattle.hart_line.specs.declared.line.report.Outcome.TheVariants.{Answered, NoReply, Unfinished, Refused}
 use Rattle.hart_line.proofs.OfLine.SoundLemmas.{hand_left-number, nothing_first, with_master-cases}
@@ -98,6 +98,7 @@ step_along requests start world (Turn who up down) later next step a =
     rw step.next_is (turned_along requests start world who (of_master who world.hands) step.arrived step.accepted
     (Turn who up down ∷ later) later refl refl a)
 step_along requests start world (Protect on) later next step a = rw step (record { to_come = a.to_come; hands = a.hands })
+step_along requests start world Restart later next step a = rw step (record { to_come = a.to_come; hands = a.hands })
 step_along requests start world (Noise chars) later next step a = rw step.next_is (record { to_come = a.to_come; hands = a.hands })
 
 run_along : (requests : List Request) (start : Start) (prefix later : List LineEvent) (from before : World) → Run start from prefix before
@@ -131,6 +132,7 @@ requests_of-append [] suffix = refl
 requests_of-append (Submit who address request ∷ prefix) suffix = ap (λ rs. request ∷ rs) (requests_of-append prefix suffix)
 requests_of-append (Turn who up down ∷ prefix) suffix = requests_of-append prefix suffix
 requests_of-append (Protect on ∷ prefix) suffix = requests_of-append prefix suffix
+requests_of-append (Restart ∷ prefix) suffix = requests_of-append prefix suffix
 requests_of-append (Noise chars ∷ prefix) suffix = requests_of-append prefix suffix
 
 -- One event more.

@@ -1,18 +1,19 @@
 -- A turn of the line is a turn of the world.
-use Rattle.std.proofs.Common.{◌≡◌, ℕ, ap, ◌∙◌, refl, Option, None, Some, List, [], ◌∷◌, ◌++◌, ◌⊎◌, inl, inr, append_assoc}
+use Rattle.std.proofs.Common.{◌≡◌, ◌==◌, ◌&&◌, Bool, true, false, if◌then◌else◌, ℕ, ap, ◌∙◌, refl, Option, None, Some, List, [], ◌∷◌, ◌++◌, ◌⊎◌, inl, inr, append_assoc}
 use Rattle.std.specs.Option.{option_to_list}
 use Rattle.hart_values.specs.declared.master_id.MasterId.{MasterId}
 use Rattle.hart_values.specs.declared.master_id.MasterId.TheVariants.{Primary, Secondary}
 use Rattle.hart_frame.specs.FrameParts.{FrameParts}
 use Rattle.hart_values.specs.declared.each_master.EachMaster.{EachMaster}
 use Rattle.hart_values.specs.EachMaster.{of_master, with_master}
-use Rattle.hart_device.specs.Device.{DeviceState, after}
+use Rattle.hart_device.specs.Answer.{asked_effect, code_of, is_answered, reading_of}
+use Rattle.hart_device.specs.Device.{DeviceState, Effect, Executes, Nothing, Resets, after, after_reply}
 use Rattle.hart_device.specs.Delivery.{Brought, Garbled, NoMessage, OneFrame, state_after_delivery}
 use Rattle.hart_line.specs.Line.Damage.{Arrives, Reaches}
 use Rattle.hart_line.specs.Line.LineState.{MarksWithin, Stands, Stepped}
 use Rattle.hart_line.specs.Line.Masters.{AreHeld, Concludes}
 use Rattle.hart_line.specs.Line.Spoken.{AreSpoken, Speaks}
-use Rattle.hart_line.specs.Line.Step.{Step, effect_on, replied, spoken_request, sent_back, turned}
+use Rattle.hart_line.specs.Line.Step.{Step, cold_start_after, effect_on, replied, spoken_request, sent_back, turned}
 use Rattle.hart_line.specs.Line.World.{InHand, Start, World, state_of}
 use Rattle.hart_line.specs.declared.event.Heard.{Heard}
 use Rattle.hart_line.specs.declared.event.LineEvent.TheVariants.{Turn}
@@ -62,14 +63,31 @@ silent_step start world who up down arrived returned in_hand reaches returns = r
   next_is = rw in_hand refl;
 }
 
+-- What an answer leaves is what its command leaves, but for the cold start bit of its master; silence leaves all.
+reply_leaves : (id : MasterId) (effect : Effect) (state : DeviceState)
+    → after_reply id (after id effect state) ≡ record (after id effect state) { cold_start = with_master id false state.cold_start }
+reply_leaves id Nothing state = refl
+reply_leaves id (Executes overwrite) state = refl
+reply_leaves id Resets state = refl
+
+answer_leaves : (answered zero : Bool) (asked : Effect) (id : MasterId) (state : DeviceState)
+    → (if answered then after_reply id (after id (if answered && zero then asked else Nothing) state) else state)
+    ≡ record (after id (if answered && zero then asked else Nothing) state) {
+      cold_start = if answered then with_master id false state.cold_start else state.cold_start;
+    }
+answer_leaves true zero asked id state = reply_leaves id (if zero then asked else Nothing) state
+answer_leaves false zero asked id state = refl
+
 state_after-effect : (state : DeviceState) (id : MasterId) (held : InHand) (arrived : Brought)
     → (frame_in arrived ≡ None) ⊎ (frame_in arrived ≡ Some (spoken_request id held).frame)
-    → state_after_delivery state arrived ≡ after id (effect_on state arrived) state
+    → state_after_delivery state arrived
+    ≡ record (after id (effect_on state arrived) state) { cold_start = cold_start_after state id arrived }
 state_after-effect state id held (Garbled request) known = refl
 state_after-effect state id held NoMessage known = refl
 state_after-effect state id held (OneFrame frame) (inl is) = cc
 state_after-effect state id held (OneFrame frame) (inr is) =
-    let master : frame.master ≡ id = ap (λ (f : FrameParts). f.master) (some_one is) in rw master
+    let master : frame.master ≡ id = ap (λ (f : FrameParts). f.master) (some_one is) in
+    rw (← master) (answer_leaves (is_answered state frame) (code_of state frame == 0) (asked_effect (reading_of frame)) frame.master state)
   where
     some_one : {A : Type 0} {x y : A} → Some x ≡ Some y → x ≡ y
     some_one is = cc

@@ -23,7 +23,7 @@ use Rattle.hart_line.specs.Line.Step.{IsTurn, Step, effect_on, executions_after,
 use Rattle.hart_line.specs.Line.World.{Execution, InHand, Start, World, first_world, state_of}
 use Rattle.hart_line.specs.declared.event.Heard.{Heard}
 use Rattle.hart_line.specs.declared.event.LineEvent.{LineEvent}
-use Rattle.hart_line.specs.declared.event.LineEvent.TheVariants.{Submit, Turn, Protect, Noise}
+use Rattle.hart_line.specs.declared.event.LineEvent.TheVariants.{Submit, Turn, Protect, Noise, Restart}
 use Rattle.hart_line.proofs.OfLine.ArrivalLemmas.{frame_in, none_reaches, reaches_cases}
 use Rattle.hart_line.proofs.OfLine.LastLemmas.{ReadsLaw}
 use Rattle.hart_line.proofs.OfLine.SubmittedLemmas.{made_of, submitted_as}
@@ -213,4 +213,5 @@ step_stays laws start before (Turn who up down) next step other =
     by_hand None = refl
     by_hand (Some held) = arrived_stays laws (state_of start.device before) step.arrived held.submission before.executions other
 step_stays laws start before (Protect on) next step other = ap (λ (w : World). w.executions) step
+step_stays laws start before Restart next step other = ap (λ (w : World). w.executions) step
 step_stays laws start before (Noise chars) next step other = ap (λ (w : World). w.executions) step.next_is

@@ -10,7 +10,7 @@ use Rattle.hart_line.specs.Script.Rows.{AreDataWords, IsEvent, IsLeg, IsNeededBy
 use Rattle.hart_line.specs.Script.Words.{Finds, IsCommandWord}
 use Rattle.hart_line.specs.declared.event.Heard.{Heard}
 use Rattle.hart_line.specs.declared.event.LineEvent.{LineEvent}
-use Rattle.hart_line.specs.declared.event.LineEvent.TheVariants.{Noise, Protect, Submit, Turn}
+use Rattle.hart_line.specs.declared.event.LineEvent.TheVariants.{Noise, Protect, Restart, Submit, Turn}
 use Rattle.hart_line.specs.declared.script.rows.RowFault.{RowFault}
 use Rattle.hart_line.specs.declared.script.rows.RowFault.TheVariants.{Bad, Memory}
 use Rattle.hart_line.proofs.OfScript.UnambiguousWords.{AreDataWords-one, IsCommandWord-one}
@@ -38,6 +38,10 @@ leg_fault words k word (Memory room) short here legs reads = needed_by_words wor
 pub first_letter : (word other : List ℕ) (words others : List (List ℕ)) → word ∷ words ≡ other ∷ others → get_or word 0 0 ≡ get_or other 0 0
 first_letter word other words others e = let same : word ≡ other = cc e in ap (λ (xs : List ℕ). get_or xs 0 0) same
 
+-- equal words have the same first one
+first_word : {word other : List ℕ} {words others : List (List ℕ)} → word ∷ words ≡ other ∷ others → word ≡ other
+first_word same = cc
+
 -- `submit` says no event but a submission
 pub only_submit : (words : List (List ℕ)) (event : LineEvent) → IsEvent (codes "submit" ∷ words) event
     → ((master : MasterId) (to : Address) (request : Request) → IsSubmitRow (codes "submit" ∷ words) master to request → ⊥) → ⊥
@@ -45,6 +49,7 @@ only_submit words (Submit master to request) is n = n master to request is
 only_submit words (Turn who up down) is n = omega (arith, first_letter _ _ _ _ is.row)
 only_submit words (Protect on) is n = omega (arith, first_letter _ _ _ _ is)
 only_submit words (Noise chars) is n = omega (arith, first_letter _ _ _ _ is.row)
+only_submit words Restart is n = omega (arith, first_letter _ _ _ _ is)
 
 -- the words of a turn say what is heard in its legs
 pub turn_legs : (words : List (List ℕ)) (who up down : List ℕ) (event : LineEvent) → words ≡ who ∷ up ∷ down ∷ []
@@ -57,6 +62,7 @@ turn_legs words who up down (Turn master up_heard down_heard) same is =
     ((up_heard, rw up_same is.up_written), (down_heard, rw down_same is.down_written))
 turn_legs words who up down (Protect on) same is = absurd (omega (arith, first_letter _ _ _ _ is))
 turn_legs words who up down (Noise chars) same is = absurd (omega (arith, first_letter _ _ _ _ is.row))
+turn_legs words who up down Restart same is = absurd (omega (arith, first_letter _ _ _ _ is))
 
 -- the request of a row is what its command and its data are read as
 pub read_as : (words : List (List ℕ)) (master : MasterId) (to : Address) (request : Request)
@@ -72,3 +78,13 @@ read_as words master to request who address command payload number bytes e c d p
     let bytes_same : bytes ≡ p.bytes =
     AreDataWords-one p.payload bytes p.bytes (subst (λ (xs : List (List ℕ)). AreDataWords xs bytes) payload_same d) p.data_written in
     rw (number_same, bytes_same) p.read
+
+-- words that begin with the first word of no row say no event
+pub other_word : (first : List ℕ) (words : List (List ℕ)) → (first ≡ codes "submit" → ⊥) → (first ≡ codes "turn" → ⊥)
+    → (first ≡ codes "protect" → ⊥) → (first ≡ codes "noise" → ⊥) → (first ≡ codes "restart" → ⊥)
+    → (event : LineEvent) → IsEvent (first ∷ words) event → ⊥
+other_word first words submit turn protect noise restart (Submit master to request) is = submit (first_word is.row)
+other_word first words submit turn protect noise restart (Turn who up down) is = turn (first_word is.row)
+other_word first words submit turn protect noise restart (Protect on) is = protect (first_word is)
+other_word first words submit turn protect noise restart (Noise chars) is = noise (first_word is.row)
+other_word first words submit turn protect noise restart Restart is = restart (first_word is)

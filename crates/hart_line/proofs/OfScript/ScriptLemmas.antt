@@ -16,7 +16,7 @@ use Rattle.hart_line.specs.Script.Words.{IsAddressWord, IsWho}
 use Rattle.hart_line.specs.declared.event.Heard.{Heard}
 use Rattle.hart_line.specs.declared.event.Heard.TheVariants.{Chars, Clean, Lost}
 use Rattle.hart_line.specs.declared.event.LineEvent.{LineEvent}
-use Rattle.hart_line.specs.declared.event.LineEvent.TheVariants.{Noise, Protect, Submit, Turn}
+use Rattle.hart_line.specs.declared.event.LineEvent.TheVariants.{Noise, Protect, Restart, Submit, Turn}
 use Rattle.hart_line.specs.declared.fault.LineFault.{LineFault}
 use Rattle.hart_line.specs.declared.fault.LineFault.TheVariants.{BadLine, Memory, Undetected}
 use Rattle.hart_line.proofs.OfScript.ItemsLemmas.{items_to_the_end, NoItemBegins-nil}
@@ -71,6 +71,7 @@ IsEvent-one words (Submit m a r) (Submit n b s) p q =
 IsEvent-one words (Submit m a r) (Turn n up down) p q = absurd (omega (arith, first_letter _ _ _ _ (sym p.row ∙ q.row)))
 IsEvent-one words (Submit m a r) (Protect on) p q = absurd (omega (arith, first_letter _ _ _ _ (sym p.row ∙ q)))
 IsEvent-one words (Submit m a r) (Noise chars) p q = absurd (omega (arith, first_letter _ _ _ _ (sym p.row ∙ q.row)))
+IsEvent-one words (Submit m a r) Restart p q = absurd (omega (arith, first_letter _ _ _ _ (sym p.row ∙ q)))
 IsEvent-one words (Turn m up down) (Submit n b s) p q = absurd (omega (arith, first_letter _ _ _ _ (sym p.row ∙ q.row)))
 IsEvent-one words (Turn m up down) (Turn n up' down') p q =
     let row = sym p.row ∙ q.row in
@@ -84,6 +85,7 @@ IsEvent-one words (Turn m up down) (Turn n up' down') p q =
     cc (master, ups, downs)
 IsEvent-one words (Turn m up down) (Protect on) p q = absurd (omega (arith, first_letter _ _ _ _ (sym p.row ∙ q)))
 IsEvent-one words (Turn m up down) (Noise chars) p q = absurd (omega (arith, first_letter _ _ _ _ (sym p.row ∙ q.row)))
+IsEvent-one words (Turn m up down) Restart p q = absurd (omega (arith, first_letter _ _ _ _ (sym p.row ∙ q)))
 IsEvent-one words (Protect on) (Submit n b s) p q = absurd (omega (arith, first_letter _ _ _ _ (sym p ∙ q.row)))
 IsEvent-one words (Protect on) (Turn n up down) p q = absurd (omega (arith, first_letter _ _ _ _ (sym p ∙ q.row)))
 IsEvent-one words (Protect true) (Protect true) p q = refl
@@ -95,16 +97,23 @@ IsEvent-one words (Protect false) (Protect true) p q =
     let switch : codes "off" ≡ codes "on" = cc row in absurd (omega (arith, ap (λ (xs : List ℕ). get_or xs 1 0) switch))
 IsEvent-one words (Protect false) (Protect false) p q = refl
 IsEvent-one words (Protect on) (Noise chars) p q = absurd (omega (arith, first_letter _ _ _ _ (sym p ∙ q.row)))
+IsEvent-one words (Protect on) Restart p q = absurd (omega (arith, first_letter _ _ _ _ (sym p ∙ q)))
 IsEvent-one words (Noise chars) (Submit n b s) p q = absurd (omega (arith, first_letter _ _ _ _ (sym p.row ∙ q.row)))
 IsEvent-one words (Noise chars) (Turn n up down) p q = absurd (omega (arith, first_letter _ _ _ _ (sym p.row ∙ q.row)))
 IsEvent-one words (Noise chars) (Protect on) p q = absurd (omega (arith, first_letter _ _ _ _ (sym p.row ∙ q)))
+IsEvent-one words (Noise chars) Restart p q = absurd (omega (arith, first_letter _ _ _ _ (sym p.row ∙ q)))
 IsEvent-one words (Noise xs) (Noise ys) p q =
     let row = sym p.row ∙ q.row in
     let items : p.items ≡ q.items = cc in
     ap (λ (zs : List Character). Noise zs)
     (IsItemsWord-one q.items xs ys (subst (λ (zs : List ℕ). IsItemsWord zs xs) items p.heard) q.heard)
+IsEvent-one words Restart (Submit n b s) p q = absurd (omega (arith, first_letter _ _ _ _ (sym p ∙ q.row)))
+IsEvent-one words Restart (Turn n up down) p q = absurd (omega (arith, first_letter _ _ _ _ (sym p ∙ q.row)))
+IsEvent-one words Restart (Protect on) p q = absurd (omega (arith, first_letter _ _ _ _ (sym p ∙ q)))
+IsEvent-one words Restart (Noise chars) p q = absurd (omega (arith, first_letter _ _ _ _ (sym p ∙ q.row)))
+IsEvent-one words Restart Restart p q = refl
 
--- a line that says an event has a first word, and it begins with one of four letters
+-- a line that says an event has a first word, and it begins with one of five letters
 record Keyword (words : List (List ℕ)) : Type 0 where
   word : List ℕ
   others : List (List ℕ)
@@ -127,6 +136,7 @@ keyword words (Turn m up down) p = record {
 keyword words (Protect true) p = record { word = codes "protect"; others = codes "on" ∷ []; row = p; letter = λ e. absurd (omega arith) }
 keyword words (Protect false) p = record { word = codes "protect"; others = codes "off" ∷ []; row = p; letter = λ e. absurd (omega arith) }
 keyword words (Noise chars) p = record { word = codes "noise"; others = p.items ∷ []; row = p.row; letter = λ e. absurd (omega arith) }
+keyword words Restart p = record { word = codes "restart"; others = []; row = p; letter = λ e. absurd (omega arith) }
 
 skipped_says_nothing : (words : List (List ℕ)) (e : LineEvent) → IsSkipped words → IsEvent words e → ⊥
 skipped_says_nothing [] e s p = let k = (keyword [] e p).row in cc k

@@ -19,7 +19,7 @@ use Rattle.hart_line.specs.Line.Step.{Run, Step, effect_on, executions_after, sp
 use Rattle.hart_line.specs.Line.World.{InHand, Start, World, first_world, state_of}
 use Rattle.hart_line.specs.declared.event.Heard.{Heard}
 use Rattle.hart_line.specs.declared.event.LineEvent.{LineEvent}
-use Rattle.hart_line.specs.declared.event.LineEvent.TheVariants.{Submit, Turn, Protect, Noise}
+use Rattle.hart_line.specs.declared.event.LineEvent.TheVariants.{Submit, Turn, Protect, Noise, Restart}
 use Rattle.hart_line.specs.declared.line.report.Outcome.{Outcome}
 use Rattle.hart_line.specs.declared.line.report.Outcome.TheVariants.{Answered, NoReply, Unfinished, Refused}
 
@@ -102,6 +102,7 @@ arrived_in_step start before (Submit who address request) next step = NoMessage
 arrived_in_step start before (Turn who up down) next step = step.arrived
 arrived_in_step start before (Protect on) next step = NoMessage
 arrived_in_step start before (Noise chars) next step = step.arrived
+arrived_in_step start before Restart next step = NoMessage
 
 -- What arrived is a write that is not refused: a frame of a configuration write that the device answers with code 0.
 abbrev pub IsUnrefusedWrite : DeviceState → Brought → Type 0

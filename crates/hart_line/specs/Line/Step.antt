@@ -1,5 +1,5 @@
 -- What an event does to a world, and what a script does (own profile).
-use Rattle.std.specs.Prelude.{◌≡◌, ℕ, ◌+◌, nat_le, if◌then◌else◌, List, [], ◌∷◌, ◌++◌, length, slice_set, Option, None, Some}
+use Rattle.std.specs.Prelude.{◌≡◌, Bool, true, false, ℕ, ◌+◌, nat_le, if◌then◌else◌, List, [], ◌∷◌, ◌++◌, length, slice_set, Option, None, Some}
 use Rattle.std.specs.Option.{option_to_list}
 use Rattle.hart_values.specs.declared.address.Address.{Address}
 use Rattle.hart_values.specs.declared.master_id.MasterId.{MasterId}
@@ -10,9 +10,9 @@ use Rattle.hart_values.specs.declared.each_master.EachMaster.{EachMaster}
 use Rattle.hart_commands.specs.RequestData.{command_of, request_data}
 use Rattle.hart_commands.specs.declared.reply.Reply.{Reply}
 use Rattle.hart_commands.specs.declared.request.Request.{Request}
-use Rattle.hart_device.specs.Answer.{effect_of}
+use Rattle.hart_device.specs.Answer.{effect_of, is_answered}
 use Rattle.hart_device.specs.Delivery.{Brought, Garbled, NoMessage, OneFrame, answer_to}
-use Rattle.hart_device.specs.Device.{DeviceState, Effect, Nothing, Executes, Resets}
+use Rattle.hart_device.specs.Device.{DeviceState, Effect, Nothing, Executes, Resets, for_both}
 use Rattle.hart_master.specs.Acceptance.{IsReplyTo}
 use Rattle.hart_master.specs.Pairing.{may_ask}
 use Rattle.hart_master.specs.declared.fault.MasterFault.{MasterFault}
@@ -23,7 +23,7 @@ use Rattle.hart_line.specs.Line.World.{Execution, InHand, Start, World, first_wo
 use Rattle.hart_line.specs.declared.event.Heard.{Heard}
 use Rattle.hart_line.specs.declared.event.Heard.TheVariants.{Chars}
 use Rattle.hart_line.specs.declared.event.LineEvent.{LineEvent}
-use Rattle.hart_line.specs.declared.event.LineEvent.TheVariants.{Submit, Turn, Protect, Noise}
+use Rattle.hart_line.specs.declared.event.LineEvent.TheVariants.{Submit, Turn, Protect, Noise, Restart}
 use Rattle.hart_line.specs.declared.line.report.Outcome.{Outcome}
 use Rattle.hart_line.specs.declared.line.report.Outcome.TheVariants.{Answered, NoReply, Unfinished, Refused}
 use Rattle.hart_line.specs.declared.line.report.Party.TheVariants.{Device}
@@ -84,6 +84,13 @@ marks_after Nothing who count marks = marks
 marks_after (Executes overwrite) who count marks = marks
 marks_after Resets who count marks = with_master who (Some count) marks
 
+-- If a frame is answered in a master's turn, the reply shows this master's cold start bit and clears it, whatever its response code. A
+-- frame that is not answered, a garbled request and no message leave both masters' bits as they are.
+abbrev pub cold_start_after : DeviceState → MasterId → Brought → EachMaster Bool
+cold_start_after state who (OneFrame frame) = if is_answered state frame then with_master who false state.cold_start else state.cold_start
+cold_start_after state who (Garbled request) = state.cold_start
+cold_start_after state who NoMessage = state.cold_start
+
 -- A master accepts what comes back as the reply that it is to the request in hand; it accepts nothing if it is no such reply,
 -- if nothing comes back, or if nothing is in hand.
 abbrev pub Accepts : MasterId → Option InHand → Option FrameParts → Option Reply → Type 0
@@ -111,7 +118,8 @@ replied start world arrived = record world { spoken = world.spoken ++ option_to_
 
 -- A turn of a master, in which this arrived and this reply was accepted: with nothing in hand the device's answer to what arrived
 -- is spoken alone, if any; otherwise the request is spoken, then that answer; the effect enters the executions under the number of
--- the submission, or sets the master's mark; and the submission gets its outcome, by which the request stays in hand or leaves it.
+-- the submission, or sets the master's mark; if the frame is answered, the master's cold start bit is cleared; and the submission gets
+-- its outcome, by which the request stays in hand or leaves it.
 abbrev pub turned : Start → World → MasterId → Option InHand → Brought → Option Reply → World
 turned start world who None arrived accepted = replied start world arrived
 turned start world who (Some held) arrived accepted =
@@ -121,6 +129,7 @@ turned start world who (Some held) arrived accepted =
       executions = executions_after effect held.submission world.executions;
       marks = marks_after effect who (length world.executions) world.marks;
       protected = world.protected;
+      cold_start = cold_start_after (state_of start.device world) who arrived;
       hands = with_master who (hand_left held outcome) world.hands;
       outcomes = slice_set world.outcomes held.submission outcome;
       spoken = world.spoken ++ spoken_request who held ∷ option_to_list (sent_back start world arrived);
@@ -145,13 +154,15 @@ pub record IsNoise (start : Start) (world : World) (chars : List Character) (nex
   pub next_is : next ≡ replied start world arrived
 
 -- An event leads from a world to the next: a submission by the fault that refuses it, if any; a turn; the switch of protection,
--- which changes nothing else; and noise. If damage is not detected there is no next world.
+-- which changes nothing else; noise; and a restart of the device, which sets both masters' cold start bits and changes nothing else,
+-- so that what the masters have in hand stays. If damage is not detected there is no next world.
 abbrev pub Step : Start → World → LineEvent → World → Type 0
 Step start world (Submit who address request) next =
     next ≡ submitted world who address request (submission_fault (of_master who world.hands) address request)
 Step start world (Turn who up down) next = IsTurn start world who up down next
 Step start world (Protect on) next = next ≡ record world { protected = on }
 Step start world (Noise chars) next = IsNoise start world chars next
+Step start world Restart next = next ≡ record world { cold_start = for_both true }
 
 -- The events of a script lead from a world to the last one, event by event.
 abbrev pub Run : Start → World → List LineEvent → World → Type 0

@@ -23,12 +23,13 @@ pub record InHand : Type 0 where
   pub sendings : ℕ
 
 -- A world is what was executed, oldest first; for each master its mark, which is how many executions there were when its last
--- Command 38 was executed, if any was; whether the device is protected; what each master has in hand; what became of each
--- submission so far; and what was spoken.
+-- Command 38 was executed, if any was; whether the device is protected; for each master its cold start bit; what each master has in
+-- hand; what became of each submission so far; and what was spoken.
 pub record World : Type 0 where
   pub executions : List Execution
   pub marks : EachMaster (Option ℕ)
   pub protected : Bool
+  pub cold_start : EachMaster Bool
   pub hands : EachMaster (Option InHand)
   pub outcomes : List Outcome
   pub spoken : List SpokenFrame
@@ -39,12 +40,13 @@ pub record Start : Type 0 where
   pub process : Process
   pub retries : EachMaster ℕ
 
--- The world before a script: nothing has happened yet.
+-- The world before a script: nothing has happened yet, and protection and cold start bits are those of the device.
 abbrev pub first_world : Start → World
 first_world start = record {
   executions = [];
   marks = record { primary = None; secondary = None };
   protected = start.device.protected;
+  cold_start = start.device.cold_start;
   hands = record { primary = None; secondary = None };
   outcomes = [];
   spoken = [];
@@ -62,7 +64,7 @@ is_changed initially (Some mark) count = nat_lt mark count
 
 -- The device in a world: each register holds the bytes of the newest execution that names it, otherwise its initial bytes; the
 -- counter has grown by the number of executions, 65535 being followed by 0; each configuration-changed bit is as its master's
--- mark says; protection is that of the world; the identity stays.
+-- mark says; protection and the cold start bits are those of the world; the identity stays.
 abbrev pub state_of : DeviceState → World → DeviceState
 state_of initial world = record initial {
   contents = registers_of (overwrites_of world.executions) initial.contents;
@@ -72,4 +74,5 @@ state_of initial world = record initial {
     secondary = is_changed initial.changed.secondary world.marks.secondary (length world.executions);
   };
   protected = world.protected;
+  cold_start = world.cold_start;
 }

@@ -11,7 +11,7 @@ use Rattle.hart_line.specs.Script.Words.{HasNoValue, IsAddressWord, IsCommandWor
 use Rattle.hart_line.specs.declared.event.Heard.{Heard}
 use Rattle.hart_line.specs.declared.event.Heard.TheVariants.{Clean, Lost, Chars}
 use Rattle.hart_line.specs.declared.event.LineEvent.{LineEvent}
-use Rattle.hart_line.specs.declared.event.LineEvent.TheVariants.{Submit, Turn, Protect, Noise}
+use Rattle.hart_line.specs.declared.event.LineEvent.TheVariants.{Submit, Turn, Protect, Noise, Restart}
 use Rattle.hart_line.specs.declared.fault.LineFault.{LineFault}
 use Rattle.hart_line.specs.declared.fault.LineFault.TheVariants.{BadLine, Memory, Undetected}
 use Rattle.hart_line.specs.declared.script.rows.RowFault.{RowFault}
@@ -65,12 +65,13 @@ pub record IsNoiseRow (words : List (List ℕ)) (chars : List Character) : Type 
   pub row : words ≡ codes "noise" ∷ items ∷ []
   pub heard : IsItemsWord items chars
 
--- The words of a line say an event by the row of its kind; the rows `protect on` and `protect off` are these words alone.
+-- The words of a line say an event by the row of its kind; the rows `protect on`, `protect off` and `restart` are these words alone.
 abbrev pub IsEvent : List (List ℕ) → LineEvent → Type 0
 IsEvent words (Submit who address request) = IsSubmitRow words who address request
 IsEvent words (Turn who up down) = IsTurnRow words who up down
 IsEvent words (Protect on) = words ≡ codes "protect" ∷ switch_word on ∷ []
 IsEvent words (Noise chars) = IsNoiseRow words chars
+IsEvent words Restart = words ≡ codes "restart" ∷ []
 
 -- A line is skipped, and is no event, if it has no words or its first word begins with `#`.
 abbrev pub IsSkipped : List (List ℕ) → Type 0

@@ -3,6 +3,7 @@ ghost use Rattle.std.specs.Prelude.{◌≡◌, ◌≤◌, ◌+◌, ◌%◌, ◌^
 ghost use Rattle.std.specs.Prelude.{Err, IsOk};
 ghost use Rattle.hart_values.specs.EachMaster.{of_master};
 ghost use Rattle.hart_commands.specs.Registers.{registers_of};
+ghost use Rattle.hart_device.specs.Answer.{after_refusal};
 ghost use Rattle.hart_commands.specs.RequestCode.{is_write};
 ghost use Rattle.hart_commands.specs.RequestData.{command_of};
 ghost use Rattle.hart_commands.specs.declared.reply.Reply.{Reply};
@@ -38,7 +39,7 @@ use std::alloc::Global;
 ///
 /// At a turn the master sends the request in its hand, if there is one; the device hears what goes up, and answers; both
 /// masters hear what comes down; and a master that still awaits its reply waits no longer. Noise is heard by all three, and both
-/// masters hear without damage what the device answers to it.
+/// masters hear without damage what the device answers to it. At a restart both cold start bits of the device are set.
 ///
 /// The masters are the primary and the secondary one, with no request in hand. The process values are those that the device
 /// is handed.
@@ -82,13 +83,14 @@ pub fn run<S: RegisterStore + Drop>(
     ensures counter_counts_executions { let start = start_of device process.now primary secondary in
         IfOk result (λ report. (world : World) → IsLast start events.now world
         → report.device.counter ≡ (device.counter + length world.executions) % 2 ^ 16) }
-    // A command that is refused or not answered changes nothing: not as the last of a script, and not in any turn of it.
+    // A command that is not answered changes nothing, and one that is refused changes nothing but its master's cold start bit, which
+    // the reply shows and clears: not as the last of a script, and not in any turn of it.
     ensures refused_commands_change_nothing { let start = start_of device process.now primary secondary in
         IfOk result (λ report. (before next : World) (refused : IsRefusedByDevice start events.now before next)
-        → refused.turn.suffix ≡ [] → report.device ≡ state_of device before) }
+        → refused.turn.suffix ≡ [] → report.device ≡ after_refusal (state_of device before) refused.frame) }
     ensures refused_turns_change_nothing { let start = start_of device process.now primary secondary in
-        IfOk result (λ _. (before next : World) → IsRefusedByDevice start events.now before next
-        → state_of device next ≡ state_of device before) }
+        IfOk result (λ _. (before next : World) (refused : IsRefusedByDevice start events.now before next)
+        → state_of device next ≡ after_refusal (state_of device before) refused.frame) }
     // In each turn in which a write arrives that the device answers with code 0 the request in hand is executed, heard or not, and
     // nothing else is ever executed. So a write whose accepted reply has code 0 was executed in the turn of that reply; and a
     // submission was executed at most as often as it was sent, a refused one never.
@@ -164,13 +166,14 @@ fn carry_out<S: RegisterStore + Drop>(
     ensures counter_counts_executions { let start = start_of device process.now primary secondary in
         IfOk result (λ report. (world : World) → IsLast start events.now world
         → report.device.counter ≡ (device.counter + length world.executions) % 2 ^ 16) }
-    // A command that is refused or not answered changes nothing: not as the last of a script, and not in any turn of it.
+    // A command that is not answered changes nothing, and one that is refused changes nothing but its master's cold start bit, which
+    // the reply shows and clears: not as the last of a script, and not in any turn of it.
     ensures refused_commands_change_nothing { let start = start_of device process.now primary secondary in
         IfOk result (λ report. (before next : World) (refused : IsRefusedByDevice start events.now before next)
-        → refused.turn.suffix ≡ [] → report.device ≡ state_of device before) }
+        → refused.turn.suffix ≡ [] → report.device ≡ after_refusal (state_of device before) refused.frame) }
     ensures refused_turns_change_nothing { let start = start_of device process.now primary secondary in
-        IfOk result (λ _. (before next : World) → IsRefusedByDevice start events.now before next
-        → state_of device next ≡ state_of device before) }
+        IfOk result (λ _. (before next : World) (refused : IsRefusedByDevice start events.now before next)
+        → state_of device next ≡ after_refusal (state_of device before) refused.frame) }
     // In each turn in which a write arrives that the device answers with code 0 the request in hand is executed, heard or not, and
     // nothing else is ever executed. So a write whose accepted reply has code 0 was executed in the turn of that reply; and a
     // submission was executed at most as often as it was sent, a refused one never.

@@ -73,6 +73,7 @@ fn read_event(alloc: Global, first: &[u8], rest: &[u8]) -> Result<LineEvent, Row
         b"turn" => read_turn(alloc, rest),
         b"protect" => read_protect(rest).ok_or(RowFault::Bad),
         b"noise" => read_noise(alloc, rest),
+        b"restart" => read_restart(rest).ok_or(RowFault::Bad),
         _ => Err(RowFault::Bad),
     }
 }
@@ -156,4 +157,14 @@ fn read_noise(alloc: Global, rest: &[u8]) -> Result<LineEvent, RowFault>
 {
     let items = only_word(rest).ok_or(RowFault::Bad)?;
     Ok(LineEvent::Noise(read_items(alloc, items)?))
+}
+
+/// The restart that `restart` says if no word is after it.
+fn read_restart(rest: &[u8]) -> Option<LineEvent>
+    ensures { Finds (IsEvent (codes "restart" ∷ words_of rest.now)) result }
+{
+    match next_word(rest) {
+        None => Some(LineEvent::Restart),
+        Some(_) => None,
+    }
 }

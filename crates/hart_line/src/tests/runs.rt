@@ -112,6 +112,23 @@ const NOTHING_ASKED: &str =
 
 const GARBLED_NOISE: &str = "noise FFFF82B7420A1B2C13030123453C";
 
+/// A restart is shown once to each master, whatever the response code.
+const RESTART_SHOWN: &str = "restart\nsubmit P 37420A1B2C 19 012345\nturn P ok ok\n\
+    submit P 37420A1B2C 7\nturn P ok ok\nsubmit S 37420A1B2C 7\nturn S ok ok";
+
+/// After two restarts neither a communication-fault reply nor silence shows them, and a refused reply does.
+const RESTART_REFUSED: &str = "restart\nprotect on\nrestart\nnoise FFFF82B7420A1B2C13030123453C\n\
+    submit P 37420A1B2D 7\nturn P ok ok\nsubmit P 37420A1B2C 19 012345\nturn P ok ok\n\
+    submit P 37420A1B2C 7\nturn P ok ok";
+
+/// The reply that shows a restart is lost.
+const RESTART_LOST: &str =
+    "restart\nsubmit P 37420A1B2C 7\nturn P ok lost\nturn P ok ok\nsubmit S @0 0";
+
+/// The device restarts between two sendings of a request, which stays in hand.
+const RESTART_MEANWHILE: &str =
+    "submit P 37420A1B2C 19 012345\nturn P ok lost\nrestart\nturn P ok ok\nturn S ok ok";
+
 /// Scripts, and what comes of them.
 const ROWS: &[Row] = &[
     NOTHING,
@@ -262,6 +279,46 @@ const ROWS: &[Row] = &[
         fates: &[Fate::Answered(19, 1, &[0x00, 0x40, 0x01, 0x23, 0x45])],
         spoken: 2,
         counter: 1,
+        assembly: &[0x01, 0x23, 0x45],
+        ..NOTHING
+    },
+    Row {
+        script: RESTART_SHOWN,
+        fates: &[
+            Fate::Answered(19, 1, &[0x00, 0x60, 0x01, 0x23, 0x45]),
+            Fate::Answered(7, 1, &[0x00, 0x40, 0x00, 0x01]),
+            Fate::Answered(7, 1, &[0x00, 0x60, 0x00, 0x01]),
+        ],
+        spoken: 6,
+        counter: 1,
+        assembly: &[0x01, 0x23, 0x45],
+        ..NOTHING
+    },
+    Row {
+        retries: 0,
+        script: RESTART_REFUSED,
+        fates: &[
+            Fate::NoReply(1),
+            Fate::Answered(19, 1, &[0x07, 0x20]),
+            Fate::Answered(7, 1, &[0x00, 0x00, 0x00, 0x01]),
+        ],
+        spoken: 6,
+        ..NOTHING
+    },
+    Row {
+        script: RESTART_LOST,
+        fates: &[
+            Fate::Answered(7, 2, &[0x00, 0x00, 0x00, 0x01]),
+            Fate::Unfinished(0),
+        ],
+        spoken: 4,
+        ..NOTHING
+    },
+    Row {
+        script: RESTART_MEANWHILE,
+        fates: &[Fate::Answered(19, 2, &[0x00, 0x60, 0x01, 0x23, 0x45])],
+        spoken: 4,
+        counter: 2,
         assembly: &[0x01, 0x23, 0x45],
         ..NOTHING
     },

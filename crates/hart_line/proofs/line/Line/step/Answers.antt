@@ -1,5 +1,5 @@
 use Rattle.std.proofs.Common.{refl}
-use Rattle.hart_line.proofs.OfLine.EventLemmas.{protected_stands}
+use Rattle.hart_line.proofs.OfLine.EventLemmas.{protected_stands, restarted_stands}
 use Rattle.hart_line.proofs.line.Line.step.Goals as goal
 
 pub returns-in-Protect-clause-stepped : goal.returns-in-Protect-clause-stepped
@@ -7,4 +7,11 @@ returns-in-Protect-clause-stepped g c = λ start world process within stands. rw
   next = _;
   step = refl;
   stands = protected_stands start world c.in-Protect.on _ _ (rw (← c.self.view_is) at stands) c.protect.ensures;
+})
+
+pub returns-in-Restart-clause-stepped : goal.returns-in-Restart-clause-stepped
+returns-in-Restart-clause-stepped g c = λ start world process within stands. rw c.in-Restart.is (record {
+  next = _;
+  step = refl;
+  stands = restarted_stands start world _ _ (rw (← c.self-in-Restart.view_is) at stands) c.restart.ensures;
 })

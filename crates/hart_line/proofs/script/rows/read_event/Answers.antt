@@ -2,7 +2,7 @@ use Rattle.std.proofs.Common.{◌≡◌, ◌∷◌, codes, arith, rules}
 use Rattle.std.proofs.lemmas.Slice.Eq.{text_from_reads}
 use Rattle.hart_line.specs.Script.Lines.{words_of}
 use Rattle.hart_line.specs.Script.Rows.{IsEvent}
-use Rattle.hart_line.proofs.OfScript.RowsLemmas.{found_read}
+use Rattle.hart_line.proofs.OfScript.RowsLemmas.{found_read, other_word}
 use Rattle.hart_line.proofs.script.rows.read_event.Goals as goal
 
 pub returns-in-submit : goal.returns-in-submit
@@ -21,3 +21,13 @@ pub returns-in-noise : goal.returns-in-noise
 returns-in-noise c =
     let word : c.args.first.now ≡ codes "noise" = text_from_reads c.args.first.now (codes "noise") (omega arith) (search rules) in
     rw word c.read_noise.ensures
+
+pub returns-in-restart : goal.returns-in-restart
+returns-in-restart c =
+    let word : c.args.first.now ≡ codes "restart" = text_from_reads c.args.first.now (codes "restart") (omega arith) (search rules) in
+    rw (word, c.ok_or-in-restart.ensures.value) (found_read (codes "restart" ∷ words_of c.args.rest.now)
+    (IsEvent (codes "restart" ∷ words_of c.args.rest.now)) c.read_restart.result c.read_restart.ensures)
+
+pub returns-in_default : goal.returns-in_default
+returns-in_default c = other_word c.args.first.now (words_of c.args.rest.now)
+    (λ is. search rules) (λ is. search rules) (λ is. search rules) (λ is. search rules) (λ is. search rules)
