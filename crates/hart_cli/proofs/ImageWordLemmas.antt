@@ -23,7 +23,7 @@ use Rattle.hart_cli.specs.ImageWord.{HasImageFault, IsBadHexWord, IsDeviceOf, Is
 abbrev pub OneState : Type 0
 OneState =
     (state other : DeviceState) (image : List ℕ) → IsImageOf state image → IsImageOf other image → state.identity ≡ other.identity
-    → state ≡ other
+    → state.cold_start ≡ other.cold_start → state ≡ other
 
 abbrev pub NoImageFault : Type 0
 NoImageFault = (state : DeviceState) (image : List ℕ) (fault : DeviceFault) → IsImageOf state image → IsImageFault image fault → ⊥
@@ -33,9 +33,9 @@ pub IsDeviceOf-one : OneState → (image : Option (List ℕ)) (device other : De
     → IsDeviceOf image other → device ≡ other
 IsDeviceOf-one states None device other p q = p ∙ sym q
 IsDeviceOf-one states (Some word) device other p q =
-    let same = decode_of-same word p.1 q.1 p.2 q.2 in
-    let of : IsImageOf device q.1 = subst (λ (image : List ℕ). IsImageOf device image) same p.3 in
-    states device other q.1 of q.3 (p.0 ∙ sym q.0)
+    let same = decode_of-same word p.2 q.2 p.3 q.3 in
+    let of : IsImageOf device q.2 = subst (λ (image : List ℕ). IsImageOf device image) same p.4 in
+    states device other q.2 of q.4 (p.0 ∙ sym q.0) (p.1 ∙ sym q.1)
 
 -- an element of the first ones, all of which are digits, is a digit
 digit_before : (word : List ℕ) (place n : ℕ) → place < n → n < length word → AllPass is_hex_digit (take n word)
@@ -171,9 +171,9 @@ HasImageFault-one None fault other p q = absurd p
 -- an image with a device has no fault
 pub IsDeviceOf-faultless : NoImageFault → (image : Option (List ℕ)) (device : DeviceState) (fault : CliFault) → IsDeviceOf image device
     → HasImageFault image fault → ⊥
-IsDeviceOf-faultless images (Some word) device (BadHex place) p q = bad_is_no_word word place p.1 q p.2
+IsDeviceOf-faultless images (Some word) device (BadHex place) p q = bad_is_no_word word place p.2 q p.3
 IsDeviceOf-faultless images (Some word) device (Image fault) p q =
-    let same = decode_of-same word p.1 q.0 p.2 q.1 in
-    images device q.0 fault (subst (λ (image : List ℕ). IsImageOf device image) same p.3) q.2
+    let same = decode_of-same word p.2 q.0 p.3 q.1 in
+    images device q.0 fault (subst (λ (image : List ℕ). IsImageOf device image) same p.4) q.2
 IsDeviceOf-faultless images (Some word) device _ p q = absurd q
 IsDeviceOf-faultless images None device fault p q = absurd q

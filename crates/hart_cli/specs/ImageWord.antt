@@ -3,7 +3,7 @@ use Rattle.std.specs.Prelude.{◌≡◌, ℕ, ◌%◌, ◌/◌, ◌<◌, ◌⊎�
 use Rattle.std.specs.List.{AllPass}
 use Rattle.hex.specs.Hex.{decode_of, is_hex_digit}
 use Rattle.hart_device.specs.Bench.{bench_identity, bench_values}
-use Rattle.hart_device.specs.Device.{DeviceState, new_device}
+use Rattle.hart_device.specs.Device.{DeviceState, for_both, new_device}
 use Rattle.hart_device.specs.Image.{IsImageOf, IsImageFault}
 use Rattle.hart_cli.specs.declared.fault.CliFault.{CliFault}
 use Rattle.hart_cli.specs.declared.fault.CliFault.TheVariants.{BadHex, Image, Memory}
@@ -18,11 +18,12 @@ abbrev pub IsImageWord : List ℕ → List ℕ → Type 0
 IsImageWord word image = decode_of word ≡ Ok image
 
 -- The device of a call without an image is the bench device, as it is new; that of a call with an image is the bench device in the
--- state that the image is of.
+-- state that the image is of, with no cold start bit set.
 abbrev pub IsDeviceOf : Option (List ℕ) → DeviceState → Type 0
 IsDeviceOf None device = device ≡ bench_device
 IsDeviceOf (Some word) device =
-    (device.identity ≡ bench_identity) × (image : List ℕ) × IsImageWord word image × IsImageOf device image
+    (device.identity ≡ bench_identity) × (device.cold_start ≡ for_both false)
+    × (image : List ℕ) × IsImageWord word image × IsImageOf device image
 
 -- A word is bad hex at its length if it has an odd number of bytes, and otherwise at its first byte that is no digit.
 pub data IsBadHexWord (word : List ℕ) : ℕ → Type 0 where

@@ -28,7 +28,7 @@ impl<'a> Model for ImageWord<'a> {
     ghost view = { λ image. option_map (λ word. word.now) image.word };
 }
 
-/// The bench device, as it is new or, with an image, in the state that the image is of.
+/// The bench device, as it is new or, with an image, in the state that the image is of, with no cold start bit set.
 ///
 /// # Errors
 ///

@@ -119,6 +119,30 @@ image 01000182082082082082082082082082082082082082082082082082082082082082082082
         "",
     ),
     ("noise FFFF82B7420A1B2C13030123453C", FAULTS_SPOKEN, ""),
+    ("restart\nturn P ok ok\nrestart", AS_IT_WAS, ""),
+    (
+        "\
+restart\n\
+submit P 37420A1B2C 19 012345\n\
+turn P ok ok\n\
+submit P 37420A1B2C 7\n\
+turn P ok ok\n\
+submit S 37420A1B2C 7\n\
+turn S ok ok\n",
+        "\
+P 20 82B7420A1B2C13030123453D\n\
+D 5 86B7420A1B2C130500600123455F\n\
+P 20 82B7420A1B2C07004D\n\
+D 5 86B7420A1B2C0704004000010C\n\
+S 20 8237420A1B2C0700CD\n\
+D 5 8637420A1B2C070400600001AC\n\
+1 answered 1 00 60 012345\n\
+2 answered 1 00 40 0001\n\
+3 answered 1 00 60 0001\n\
+counter 1\n\
+image 010001820820820820820820820820820820820820820820820820820820820820820820820820820820820820000000012345000103\n",
+        "",
+    ),
     (
         "turn S FFFF82B7420A1B2C13030123453C FFFF86B7420A1B2C13028800D7",
         FAULTS_SPOKEN,
@@ -279,6 +303,7 @@ turn P FFFF82!40B7420A1B2C1118FFFF0280000082000000000000000000000000000000000043
     ("protect on\nturn X ok ok\n", "", "bad line 2\n"),
     ("noise FFFF0280000082\nprotect", "", "bad line 2\n"),
     ("turn P ok ok\r\r", "", "bad line 1\n"),
+    ("restart now", "", "bad line 1\n"),
     ("turn P ok ok #", "", "bad line 1\n"),
     ("turn P FF FF ok", "", "bad line 1\n"),
     ("noise FF\rFF", "", "bad line 1\n"),
