@@ -10,10 +10,11 @@ use Rattle.hart_frame.specs.declared.found.Found.{Found}
 use Rattle.hart_values.specs.EachMaster.{of_master}
 use Rattle.hart_commands.specs.declared.reply.Reply.{Reply}
 use Rattle.hart_commands.specs.declared.request.Request.{Request}
-use Rattle.hart_device.specs.Delivery.{answer_to}
+use Rattle.hart_device.specs.Delivery.{Brings, BringsBy, Brought, answer_to}
+use Rattle.hart_device.specs.declared.identity_parts.IdentityParts.{IdentityParts}
 use Rattle.hart_master.specs.Acceptance.{IsReplyTo}
 use Rattle.hart_device.specs.Device.{for_both}
-use Rattle.hart_line.specs.Line.Damage.{IsDetectable, IsDetected, IsUndetected}
+use Rattle.hart_line.specs.Line.Damage.{Arrives, IsDetectable, IsDetected, IsUndetected, Reaches}
 use Rattle.hart_line.specs.Line.Faults.{AreAllDetected, HasDetectable, HasUndetected, IsFault, IsNotDetectable, LegsAreDetected}
 use Rattle.hart_line.specs.Line.Spoken.{SpokenFrame, frame_of, spoken_by}
 use Rattle.hart_line.specs.Line.Step.{Accepts, Run, Step, replied, sent_back, sent_by, submission_fault, submitted, turned}
@@ -128,33 +129,51 @@ accepted_of decided who (Some held) (Some frame) = elim (decided who held.addres
   | inr none ↦ record { accepted = None; accepts = none }
 ]
 
-step_exists : Decided → (start : Start) (world : World) (event : LineEvent) → LegsAreDetected start world event
+-- What the laws of the crates below say.
+pub record WorldLaws : Type 0 where
+  pub one_list : (chars : List Character) (from : ℕ) (xs ys : List Found) → AreFrames chars from xs → AreFrames chars from ys → xs ≡ ys
+  pub brings : (identity : IdentityParts) (delivery : List Character) → (brought : Brought) × Brings identity delivery brought
+  pub decided : Decided
+
+-- A leg whose damage is detected brings the device one thing.
+reaches_one : WorldLaws → (identity : IdentityParts) (heard : Heard) (sent : Option SpokenFrame) (arrived : Option FrameParts)
+    → Arrives heard sent arrived → (brought : Brought) × Reaches identity heard sent brought
+reaches_one laws identity heard sent arrived a =
+    let b = laws.brings identity a.chars in
+    let same = laws.one_list a.chars 0 b.1.frames a.frames b.1.are_frames a.are_frames in
+    let brings = subst (λ fs. BringsBy identity a.chars fs b.0) same b.1.by_frames in
+    (b.0, record { frame = arrived; arrives = a; brings = brings })
+
+step_exists : WorldLaws → (start : Start) (world : World) (event : LineEvent) → LegsAreDetected start world event
     → (next : World) × Step start world event next
-step_exists decided start world (Submit who address request) detected =
+step_exists laws start world (Submit who address request) detected =
     (submitted world who address request (submission_fault (of_master who world.hands) address request), refl)
-step_exists decided start world (Turn who up down) detected =
+step_exists laws start world (Turn who up down) detected =
     let hand = of_master who world.hands in
-    let a = accepted_of decided who hand detected.2 in (
-      turned start world who hand detected.0 a.accepted,
+    let brought = reaches_one laws start.device.identity up (sent_by who hand) detected.0 detected.1 in
+    let back = detected.2 brought.0 brought.1 in
+    let a = accepted_of laws.decided who hand back.0 in (
+      turned start world who hand brought.0 a.accepted,
       record {
-        arrived = detected.0;
-        arrives = detected.1;
-        returned = detected.2;
-        returns = detected.3;
+        arrived = brought.0;
+        arrives = brought.1;
+        returned = back.0;
+        returns = back.1;
         accepted = a.accepted;
         accepts = a.accepts;
         next_is = refl;
       },
     )
-step_exists decided start world (Protect on) detected = (record world { protected = on }, refl)
-step_exists decided start world Restart detected = (record world { cold_start = for_both true }, refl)
-step_exists decided start world (Noise chars) detected =
-    (replied start world detected.0, record { arrived = detected.0; arrives = detected.1; next_is = refl })
+step_exists laws start world (Protect on) detected = (record world { protected = on }, refl)
+step_exists laws start world Restart detected = (record world { cold_start = for_both true }, refl)
+step_exists laws start world (Noise chars) detected =
+    let brought = reaches_one laws start.device.identity (Chars chars) None None detected in
+    (replied start world brought.0, record { arrived = brought.0; arrives = brought.1; next_is = refl })
 
-pub run_exists : Decided → (start : Start) (world : World) (events : List LineEvent) → AreAllDetected start world events
+pub run_exists : WorldLaws → (start : Start) (world : World) (events : List LineEvent) → AreAllDetected start world events
     → (last : World) × Run start world events last
-run_exists decided start world [] detected = (world, refl)
-run_exists decided start world (event ∷ events) detected =
-    let step = step_exists decided start world event detected.0 in
-    let rest = run_exists decided start step.0 events (detected.1 step.0 step.1) in
+run_exists laws start world [] detected = (world, refl)
+run_exists laws start world (event ∷ events) detected =
+    let step = step_exists laws start world event detected.0 in
+    let rest = run_exists laws start step.0 events (detected.1 step.0 step.1) in
     (rest.0, (step.0, step.1, rest.1))

@@ -46,13 +46,14 @@ IsNotDetectable start events (Undetected number leg) = (world : World) (event : 
 IsNotDetectable start events (Memory room) = Unit {0}
 IsNotDetectable start events (BadLine line) = Unit {0}
 
--- The damage of each leg of an event is detected.
+-- The damage of each leg of an event is detected: in a turn that of what goes up and then, whatever that brings the device, that of
+-- what comes down; in noise, which nobody sent, no frame arrives.
 abbrev pub LegsAreDetected : Start → World → LineEvent → Type 0
-LegsAreDetected start world (Turn who up down) = (arrived : Brought)
-    × Reaches start.device.identity up (sent_by who (of_master who world.hands)) arrived
-    × (returned : Option FrameParts) × Arrives down (sent_back start world arrived) returned
-LegsAreDetected start world (Noise chars) =
-    (arrived : Brought) × Reaches start.device.identity (Chars chars) None arrived
+LegsAreDetected start world (Turn who up down) = (arrived : Option FrameParts)
+    × Arrives up (sent_by who (of_master who world.hands)) arrived
+    × ((brought : Brought) → Reaches start.device.identity up (sent_by who (of_master who world.hands)) brought
+    → (returned : Option FrameParts) × Arrives down (sent_back start world brought) returned)
+LegsAreDetected start world (Noise chars) = Arrives (Chars chars) None None
 LegsAreDetected start world _ = Unit {0}
 
 -- The damage of each leg of these events is detected, one event after another.

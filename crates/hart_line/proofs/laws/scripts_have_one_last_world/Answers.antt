@@ -1,6 +1,6 @@
 use Rattle.hart_line.specs.Line.World.{first_world}
 use Rattle.hart_line.proofs.OfLine.RunLemmas.{Laws, fault_one, no_fault, run_one}
-use Rattle.hart_line.proofs.OfLine.DetectedLemmas.{run_exists}
+use Rattle.hart_line.proofs.OfLine.DetectedLemmas.{WorldLaws, run_exists}
 use Rattle.hart_line.proofs.laws.scripts_have_one_last_world.Goals as goal
 
 pub returns-clause-one_world : goal.returns-clause-one_world
@@ -35,4 +35,9 @@ returns-clause-one_fault c = λ start events number other leg another fault seco
 
 pub returns-clause-detected : goal.returns-clause-detected
 returns-clause-detected c = λ start events detected.
-    run_exists c.replies_are_decided.ensures.decided start (first_world start) events detected
+    let laws : WorldLaws = record {
+      one_list = c.frames_are_unambiguous.ensures.one_list;
+      brings = c.deliveries_bring_one.ensures.brings;
+      decided = c.replies_are_decided.ensures.decided;
+    } in
+    run_exists laws start (first_world start) events detected
