@@ -95,13 +95,14 @@ pub record IsExecutedInItsTurn (start : Start) (events : List LineEvent) (number
   pub executed : answered.next.executions
       ≡ answered.before.executions ++ record { submission = number; overwrite = overwrite } ∷ []
 
--- What arrived at the device in an event: in a turn and in noise what it was brought, and in every other event no message.
+-- What arrived at the device in an event, as far as that can be a frame: in a turn what it was brought. Every other event stands as
+-- no message; noise can bring a garbled request, but never a frame, since nobody sent one.
 abbrev pub arrived_in_step : (start : Start) (before : World) (event : LineEvent) (next : World) → Step start before event next
     → Brought
 arrived_in_step start before (Submit who address request) next step = NoMessage
 arrived_in_step start before (Turn who up down) next step = step.arrived
 arrived_in_step start before (Protect on) next step = NoMessage
-arrived_in_step start before (Noise chars) next step = step.arrived
+arrived_in_step start before (Noise chars) next step = NoMessage
 arrived_in_step start before Restart next step = NoMessage
 
 -- What arrived is a write that is not refused: a frame of a configuration write that the device answers with code 0.
