@@ -1,17 +1,19 @@
 //! The HART line: a device and its two masters, and what an event does to them.
-ghost use Rattle.std.specs.Prelude.{◌≡◌, [], ◌∷◌, IfErr, OnOk};
+ghost use Rattle.std.specs.Prelude.{◌≡◌, ◌+◌, ◌<◌, ◌≤◌, [], ◌∷◌, IfErr, OnOk, length};
 ghost use Rattle.std.specs.Option.{option_copied};
 ghost use Rattle.hart_values.specs.declared.master_id.MasterId.{MasterId};
 ghost use Rattle.hart_values.specs.EachMaster.{of_master};
 ghost use Rattle.hart_commands.specs.RequestData.{IsRequest};
+ghost use Rattle.hart_frame.specs.Message.{IsPreambleCount};
 ghost use Rattle.hart_line.specs.Line.LineRoom.{HasRoomFor, LeavesRoom};
 ghost use Rattle.hart_line.specs.Line.LineState.{MarksWithin, Stands, Stepped};
 ghost use Rattle.hart_line.specs.Line.Faults.{HasUndetected};
 ghost use Rattle.hart_line.specs.Line.Promises.{AreWellMade};
-ghost use Rattle.hart_line.specs.Line.Spoken.{frame_if, party_of};
+ghost use Rattle.hart_line.specs.Line.Spoken.{Speaks, frame_if, party_of, spoken_by};
 ghost use Rattle.hart_line.specs.Line.Step.{submission_fault, submitted};
 ghost use Rattle.hart_line.specs.Line.World.{Start, World};
 ghost use Rattle.hart_line.specs.declared.event.LineEvent.TheVariants.{Noise, Submit, Turn};
+ghost use Rattle.hart_line.specs.declared.line.report.Party.TheVariants as parties;
 
 use crate::line::leg::{answer_among, answer_in, arrived_in};
 use crate::line::masters::{Masters, Submitter};
@@ -174,10 +176,8 @@ impl<S: RegisterStore> Line<S> {
         let is_sent = self.masters.send(who, &mut self.request);
         let request = frame_if(is_sent, &self.request);
         self.spoken.speak(party_of(who), MASTER_PREAMBLES, request);
-        let preambles = self.device.response_preambles();
         let is_answered = answer_in(&mut self.device, up, request, process, &mut self.reply)?;
-        let answer = frame_if(is_answered, &self.reply);
-        self.spoken.speak(Party::Device, preambles, answer);
+        let answer = speak_answer(&mut self.spoken, &self.device, is_answered, &self.reply);
         let returned = arrived_in(Leg::Down, down, answer)?;
         if !is_sent {
             self.masters.overhear(returned);
@@ -196,11 +196,9 @@ impl<S: RegisterStore> Line<S> {
             → Stands start world self.old → HasUndetected start world (Noise chars.now) damage.leg) }
         ensures room { OnOk result (LeavesRoom (Noise chars.now) self.old self.new) }
     {
-        let preambles = self.device.response_preambles();
         let reply = &mut self.reply;
         let is_answered = answer_among(&mut self.device, Leg::Noise, chars, None, process, reply)?;
-        let answer = frame_if(is_answered, &self.reply);
-        self.spoken.speak(Party::Device, preambles, answer);
+        let answer = speak_answer(&mut self.spoken, &self.device, is_answered, &self.reply);
         self.masters.hear_noise(chars);
         self.masters.overhear(answer);
         Ok(())
@@ -222,6 +220,26 @@ fn frame_if(is_there: bool, frame: &Frame) -> Option<&Frame>
     ensures { option_copied result ≡ frame_if is_there frame.now }
 {
     if is_there { Some(frame) } else { None }
+}
+
+/// The device's answer, if there is one, which the device speaks after as many preamble bytes as its identity says.
+fn speak_answer<'a, S: RegisterStore>(
+    spoken: &mut Filling<Spoken>,
+    device: &Device<S>,
+    is_answered: bool,
+    reply: &'a Frame,
+) -> Option<&'a Frame>
+    requires { length spoken.old.items < spoken.old.room }
+    ensures answer { option_copied result ≡ frame_if is_answered reply.now }
+    ensures speaks { Speaks (spoken_by parties.Device device.now.identity.response_preambles (frame_if is_answered reply.now))
+        spoken.old.items spoken.new.items }
+    ensures preambles { IsPreambleCount device.now.identity.response_preambles }
+    ensures one { length spoken.new.items ≤ length spoken.old.items + 1 }
+    ensures room { spoken.new.room ≡ spoken.old.room }
+{
+    let answer = frame_if(is_answered, reply);
+    spoken.speak(Party::Device, device.response_preambles(), answer);
+    answer
 }
 
 /// What a HART line has if no frame was written yet.

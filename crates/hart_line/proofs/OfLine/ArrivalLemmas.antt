@@ -4,7 +4,9 @@ use Rattle.std.specs.Option.{option_to_list}
 use Rattle.hart_frame.specs.FrameParts.{FrameParts}
 use Rattle.hart_frame.specs.declared.found.Found.{Found}
 use Rattle.hart_device.specs.Delivery.{Brought, BringsBy, Garbled, NoMessage, OneFrame, state_after_delivery}
-use Rattle.hart_device.specs.Device.{DeviceState, Nothing}
+use Rattle.hart_device.specs.Answer.{effect_of}
+use Rattle.hart_device.specs.Device.{DeviceState, Effect, Executes, Nothing, Resets, after}
+use Rattle.hart_values.specs.declared.master_id.MasterId.{MasterId}
 use Rattle.hart_device.specs.declared.identity_parts.IdentityParts.{IdentityParts}
 use Rattle.hart_frame.specs.Character.{Character}
 use Rattle.hart_line.specs.Line.Damage.{Arrives, IsDetected, Reaches}
@@ -59,6 +61,17 @@ pub left_alone : (state : DeviceState) (brought : Brought) → frame_in brought 
 left_alone state (OneFrame frame) none = cc
 left_alone state (Garbled request) none = refl
 left_alone state NoMessage none = refl
+
+-- Who the device is stays.
+after_identity : (master : MasterId) (effect : Effect) (state : DeviceState) → (after master effect state).identity ≡ state.identity
+after_identity master Nothing state = refl
+after_identity master (Executes overwrite) state = refl
+after_identity master Resets state = refl
+
+pub delivery_identity : (state : DeviceState) (brought : Brought) → (state_after_delivery state brought).identity ≡ state.identity
+delivery_identity state (OneFrame frame) = after_identity frame.master (effect_of state frame) state
+delivery_identity state (Garbled request) = refl
+delivery_identity state NoMessage = refl
 
 -- Messages are spoken one after another.
 AreSpoken-push : (frames : List SpokenFrame) (said : SpokenFrame) (list : List Spoken) (spoken : Spoken)

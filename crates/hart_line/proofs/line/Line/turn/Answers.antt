@@ -7,7 +7,8 @@ use Rattle.hart_line.specs.Line.Leg.{IsSent}
 use Rattle.hart_line.specs.Line.Spoken.{AreSpoken}
 use Rattle.hart_line.specs.declared.line.report.Spoken.{Spoken}
 use Rattle.hart_line.specs.Line.Step.{replied, sent_back, sent_by}
-use Rattle.hart_line.specs.Line.World.{InHand}
+use Rattle.hart_line.specs.Line.World.{InHand, state_of}
+use Rattle.hart_line.proofs.OfLine.ArrivalLemmas.{delivery_identity}
 use Rattle.hart_line.proofs.OfLine.LegLemmas.{reply_sent, said_by, sent_said}
 use Rattle.hart_line.proofs.OfLine.TurnLemmas.{replied_stands, silent_step, turned_stands}
 use Rattle.hart_line.proofs.line.Line.turn.Goals as goal
@@ -36,13 +37,13 @@ returns-in_err-returned-clause-stopped g c =
     let was_sent : IsSent (option_copied c.frame_if-request.result) (sent_by c.args.who hand) =
     rw c.frame_if-request.ensures (sent_said _ _ c.args.who hand _ _ _ sends spoke) in
     let a = rw (s.device_is, ← process) at (c.in_ok-is_answered.ensures.answers (sent_by c.args.who hand) was_sent) in
-    let enough = rw (c.response_preambles-preambles.ensures.same, s.device_is) at c.response_preambles-preambles.ensures.in_range.0 in
-    let speaks = rw (c.frame_if-answer.ensures, c.response_preambles-preambles.ensures.same, a.answers.answer_is, s.device_is)
-    at c.speak-2.ensures.speaks in (
+    let same = delivery_identity (state_of start.device world) a.brought in
+    let enough = rw (a.answers.after_is, same) at c.speak_answer-answer.ensures.preambles.0 in
+    let speaks = rw (a.answers.after_is, same, a.answers.answer_is) at c.speak_answer-answer.ensures.speaks in (
       a.brought,
       a.reaches,
       c.in_err-returned.ensures.undetected (sent_back start world a.brought)
-          (reply_sent _ _ _ _ _ _ (c.frame_if-answer.ensures ∙ a.answers.answer_is) (omega (arith, enough)) speaks),
+          (reply_sent _ _ _ _ _ _ (c.speak_answer-answer.ensures.answer ∙ a.answers.answer_is) (omega (arith, enough)) speaks),
     ))
 
 pub returns-then-not-is_sent-clause-stepped : goal.returns-then-not-is_sent-clause-stepped
@@ -55,15 +56,15 @@ returns-then-not-is_sent-clause-stepped g c = λ start world process within stan
     let was_sent : IsSent (option_copied c.frame_if-request.result) (sent_by c.args.who hand) =
     rw c.frame_if-request.ensures (sent_said _ _ c.args.who hand _ _ _ sends spoke) in
     let a = rw (s.device_is, ← process) at (c.in_ok-is_answered.ensures.answers (sent_by c.args.who hand) was_sent) in
-    let enough = rw (c.response_preambles-preambles.ensures.same, s.device_is) at c.response_preambles-preambles.ensures.in_range.0 in
-    let speaks = rw (c.frame_if-answer.ensures, c.response_preambles-preambles.ensures.same, a.answers.answer_is, s.device_is)
-    at c.speak-2.ensures.speaks in
+    let same = delivery_identity (state_of start.device world) a.brought in
+    let enough = rw (a.answers.after_is, same) at c.speak_answer-answer.ensures.preambles.0 in
+    let speaks = rw (a.answers.after_is, same, a.answers.answer_is) at c.speak_answer-answer.ensures.speaks in
     let nothing_said = rw silent.0 at (said_by _ _ c.args.who hand _ _ _ sends spoke) in
     let Up : Option InHand → Type 0 = λ h. Reaches start.device.identity c.args.up.now (sent_by c.args.who h) a.brought in
     let Were : List Spoken → Type 0 = λ list. AreSpoken world.spoken list in
     let reaches = subst Up silent.0 a.reaches in
     let returns = c.in_ok-returned.ensures.arrives (sent_back start world a.brought)
-    (reply_sent _ _ _ _ _ _ (c.frame_if-answer.ensures ∙ a.answers.answer_is) (omega (arith, enough)) speaks) in
+    (reply_sent _ _ _ _ _ _ (c.speak_answer-answer.ensures.answer ∙ a.answers.answer_is) (omega (arith, enough)) speaks) in
     record {
       next = replied start world a.brought;
       step = silent_step start world c.args.who c.args.up.now c.args.down.now a.brought _ silent.0 reaches returns;
@@ -81,14 +82,14 @@ returns-clause-stepped g c = λ start world process within stands.
     let was_sent : IsSent (option_copied c.frame_if-request.result) (sent_by c.args.who hand) =
     rw c.frame_if-request.ensures (sent_said _ _ c.args.who hand _ _ _ sends spoke) in
     let a = rw (s.device_is, ← process) at (c.in_ok-is_answered.ensures.answers (sent_by c.args.who hand) was_sent) in
-    let enough = rw (c.response_preambles-preambles.ensures.same, s.device_is) at c.response_preambles-preambles.ensures.in_range.0 in
-    let speaks = rw (c.frame_if-answer.ensures, c.response_preambles-preambles.ensures.same, a.answers.answer_is, s.device_is)
-    at c.speak-2.ensures.speaks in
+    let same = delivery_identity (state_of start.device world) a.brought in
+    let enough = rw (a.answers.after_is, same) at c.speak_answer-answer.ensures.preambles.0 in
+    let speaks = rw (a.answers.after_is, same, a.answers.answer_is) at c.speak_answer-answer.ensures.speaks in
     let requested = rw sent.1 at (said_by _ _ c.args.who hand _ _ _ sends spoke) in
     let Up : Option InHand → Type 0 = λ h. Reaches start.device.identity c.args.up.now (sent_by c.args.who h) a.brought in
     let reaches = subst Up sent.1 a.reaches in
     let returns = c.in_ok-returned.ensures.arrives (sent_back start world a.brought)
-    (reply_sent _ _ _ _ _ _ (c.frame_if-answer.ensures ∙ a.answers.answer_is) (omega (arith, enough)) speaks) in
+    (reply_sent _ _ _ _ _ _ (c.speak_answer-answer.ensures.answer ∙ a.answers.answer_is) (omega (arith, enough)) speaks) in
     rw a.answers.after_is (turned_stands c.registers_of_lists.ensures.last start world c.args.who c.args.up.now c.args.down.now
     sent.0 a.brought _ _ _ _ _ _ _ _ within sent.1 reaches returns s.spoken_are requested speaks
     (rw s.outcomes_are at (c.conclude.ensures.concludes start.retries world.hands sent.0 sent.3)))
