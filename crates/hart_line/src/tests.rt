@@ -1,6 +1,7 @@
 mod room;
 mod runs;
 mod texts;
+mod undetected;
 
 use super::*;
 use hart_values::{Address, MasterId};

@@ -110,6 +110,17 @@ const COMMUNICATION_FAULTS: &str = "submit P 37420A1B2C 19 012345\nsubmit S 3742
 const NOTHING_ASKED: &str =
     "turn P FFFF82B7420A1B2C13030123453C ok\nturn S FFFF82B7420A1B2C13030123453C lost";
 
+/// The reply to such a request is heard as its own characters, with a fault bit, and with another check byte.
+const REPLY_HEARD: &str = "submit P 37420A1B2C 19 012345\n\
+    turn P FFFF82B7420A1B2C13030123453C FFFF86B7420A1B2C13028800D7\n\
+    turn P FFFF82B7420A1B2C13030123453C FFFF86B7420A1B2C13028800D7!02\n\
+    turn P FFFF82B7420A1B2C13030123453C FFFF86B7420A1B2C13028800D6";
+
+/// The same, though nothing was asked.
+const REPLY_HEARD_UNASKED: &str = "turn P FFFF82B7420A1B2C13030123453C FFFF86B7420A1B2C13028800D7\n\
+    turn S FFFF82B7420A1B2C13030123453C FFFF86B7420A1B2C13028800D7!02\n\
+    turn P FFFF82B7420A1B2C13030123453C FFFF86B7420A1B2C13028800D6";
+
 const GARBLED_NOISE: &str = "noise FFFF82B7420A1B2C13030123453C";
 
 /// A restart is shown once to each master, whatever the response code.
@@ -270,6 +281,17 @@ const ROWS: &[Row] = &[
         ..NOTHING
     },
     Row {
+        script: REPLY_HEARD,
+        fates: &[Fate::Unfinished(3)],
+        spoken: 6,
+        ..NOTHING
+    },
+    Row {
+        script: REPLY_HEARD_UNASKED,
+        spoken: 3,
+        ..NOTHING
+    },
+    Row {
         script: GARBLED_NOISE,
         spoken: 1,
         ..NOTHING
@@ -406,17 +428,5 @@ fn scripts_lead_to_reports(rt: HostRuntime) -> Result<(), Fail> {
         assert_eq!(rt; other.spoken.as_slice(), report.spoken.as_slice());
         assert_eq!(rt; other.device.image(), report.device.image());
     }
-    Ok(())
-}
-
-#[test]
-fn noise_with_a_frame_is_undetected(rt: HostRuntime) -> Result<(), Fail> {
-    let script = "noise FFFF0280000083\nprotect on\nnoise FFFF0280000082";
-    let fault = run_of(rt.alloc(), 3, script)?.err().ok_or("a report")?;
-    let want = LineFault::Undetected {
-        event: 2,
-        leg: Leg::Noise,
-    };
-    assert_eq!(rt; fault, want);
     Ok(())
 }

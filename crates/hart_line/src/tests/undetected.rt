@@ -1,0 +1,43 @@
+//! Scripts that stop at undetected damage.
+use super::runs::run_of;
+use super::*;
+
+/// A frame in noise.
+const FRAME_IN_NOISE: &str = "noise FFFF0280000083\nprotect on\nnoise FFFF0280000082";
+
+/// The device replies to a garbled request, and the reply to the whole request is heard.
+const WRITTEN_HEARD: &str = "submit P 37420A1B2C 19 012345\n\
+    turn P FFFF82B7420A1B2C13030123453C FFFF86B7420A1B2C130500400123457F";
+
+/// The same, but a communication-fault reply with another fault is heard.
+const OTHER_FAULT_HEARD: &str = "submit P 37420A1B2C 19 012345\n\
+    turn P FFFF82B7420A1B2C13030123453C FFFF86B7420A1B2C1302C0009F";
+
+/// Both, though nothing was asked.
+const WRITTEN_HEARD_UNASKED: &str =
+    "turn P FFFF82B7420A1B2C13030123453C FFFF86B7420A1B2C130500400123457F";
+
+const OTHER_FAULT_HEARD_UNASKED: &str =
+    "turn P FFFF82B7420A1B2C13030123453C FFFF86B7420A1B2C1302C0009F";
+
+/// Scripts, each with the number of the event at which it stops, and the leg.
+const UNDETECTED: &[(&str, usize, Leg)] = &[
+    (FRAME_IN_NOISE, 2, Leg::Noise),
+    (WRITTEN_HEARD, 1, Leg::Down),
+    (OTHER_FAULT_HEARD, 1, Leg::Down),
+    (WRITTEN_HEARD_UNASKED, 0, Leg::Down),
+    (OTHER_FAULT_HEARD_UNASKED, 0, Leg::Down),
+];
+
+#[test]
+fn undetected_damage_stops_scripts(rt: HostRuntime) -> Result<(), Fail> {
+    for (script, event, leg) in UNDETECTED {
+        let fault = run_of(rt.alloc(), 3, *script)?.err().ok_or("a report")?;
+        let want = LineFault::Undetected {
+            event: *event,
+            leg: *leg,
+        };
+        assert_eq!(rt; fault, want, "of {}", script);
+    }
+    Ok(())
+}
