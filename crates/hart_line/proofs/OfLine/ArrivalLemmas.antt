@@ -1,11 +1,11 @@
 -- What arrives, what is accepted, and what is spoken.
-use Rattle.std.proofs.Common.{◌≡◌, ◌∙◌, ap, refl, sym, Option, None, Some, List, [], ◌∷◌, ◌++◌, ◌⊎◌, inl, inr, append-nil}
+use Rattle.std.proofs.Common.{◌≡◌, ◌∙◌, Bool, true, false, if◌then◌else◌, ap, refl, sym, Option, None, Some, List, [], ◌∷◌, ◌++◌, ◌⊎◌, inl, inr, append-nil}
 use Rattle.std.specs.Option.{option_to_list}
 use Rattle.hart_frame.specs.FrameParts.{FrameParts}
 use Rattle.hart_frame.specs.declared.found.Found.{Found}
 use Rattle.hart_device.specs.Delivery.{Brought, BringsBy, Garbled, NoMessage, OneFrame, state_after_delivery}
-use Rattle.hart_device.specs.Answer.{effect_of}
-use Rattle.hart_device.specs.Device.{DeviceState, Effect, Executes, Nothing, Resets, after}
+use Rattle.hart_device.specs.Answer.{effect_of, is_answered}
+use Rattle.hart_device.specs.Device.{DeviceState, Effect, Executes, Nothing, Resets, after, after_reply}
 use Rattle.hart_values.specs.declared.master_id.MasterId.{MasterId}
 use Rattle.hart_device.specs.declared.identity_parts.IdentityParts.{IdentityParts}
 use Rattle.hart_frame.specs.Character.{Character}
@@ -68,8 +68,13 @@ after_identity master Nothing state = refl
 after_identity master (Executes overwrite) state = refl
 after_identity master Resets state = refl
 
+frame_identity : (answered : Bool) (master : MasterId) (effect : Effect) (state : DeviceState)
+    → (if answered then after_reply master (after master effect state) else state).identity ≡ state.identity
+frame_identity true master effect state = after_identity master effect state
+frame_identity false master effect state = refl
+
 pub delivery_identity : (state : DeviceState) (brought : Brought) → (state_after_delivery state brought).identity ≡ state.identity
-delivery_identity state (OneFrame frame) = after_identity frame.master (effect_of state frame) state
+delivery_identity state (OneFrame frame) = frame_identity (is_answered state frame) frame.master (effect_of state frame) state
 delivery_identity state (Garbled request) = refl
 delivery_identity state NoMessage = refl
 
