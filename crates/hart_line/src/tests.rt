@@ -1,5 +1,6 @@
 mod room;
 mod runs;
+mod scripts;
 mod texts;
 mod undetected;
 
