@@ -9,7 +9,7 @@ use Rattle.hart_frame.specs.Streamed.{IsHistory, IsWholeHistory}
 use Rattle.hart_frame.specs.declared.found.Found.{Found}
 use Rattle.hart_cli.specs.declared.fault.CliFault.{CliFault}
 use Rattle.hart_cli.specs.declared.frame_lines.FrameLines.{FrameLines}
-use Rattle.hart_cli.specs.Dump.{AreLines, DumpOutcome, HasDump, IsDump, StopsWriting}
+use Rattle.hart_cli.specs.Dump.{AreFrameLines, DumpOutcome, HasDump, IsDump, StopsWriting}
 use Rattle.hart_cli.specs.DumpText.{dump_text}
 use Rattle.hart_cli.specs.FrameLines.{BreaksOff, ScansAll, ScansPart, WritesSoFar, WritesWhole}
 use Rattle.hart_cli.specs.Input.{Ending}
@@ -38,8 +38,8 @@ GivesFirst = (past more : List Character) (scan : Scan) (given frames : List Fou
     → (IsTrue scan.finished → more ≡ []) → AreFrames (past ++ more) 0 frames → (later : List Found) × (frames ≡ given ++ later)
 
 -- characters have one text
-AreLines-one : OneFrames → (chars : List Character) (xs ys : List ℕ) → AreLines chars xs → AreLines chars ys → xs ≡ ys
-AreLines-one frames chars xs ys p q =
+AreFrameLines-one : OneFrames → (chars : List Character) (xs ys : List ℕ) → AreFrameLines chars xs → AreFrameLines chars ys → xs ≡ ys
+AreFrameLines-one frames chars xs ys p q =
     p.text ∙ ap dump_text (frames chars 0 p.frames q.frames p.are_frames q.are_frames) ∙ sym q.text
 
 -- an input has one text and one fault
@@ -47,8 +47,8 @@ pub IsDump-one : OneFrames → OneInput → (input : List ℕ) (ending : Ending)
     → IsDump input ending f xs → IsDump input ending g ys → (f ≡ g) × (xs ≡ ys)
 IsDump-one frames inputs input ending f g xs ys p q =
     let same = inputs input ending p.chars q.chars f g p.has_chars q.has_chars in
-    let P : List Character → Type 0 = λ chars. AreLines chars xs in
-    (same.1, AreLines-one frames q.chars xs ys (subst P same.0 p.are_lines) q.are_lines)
+    let P : List Character → Type 0 = λ chars. AreFrameLines chars xs in
+    (same.1, AreFrameLines-one frames q.chars xs ys (subst P same.0 p.are_lines) q.are_lines)
 
 -- what was not written is not empty
 rest_stays : (rest more : List ℕ) → rest ≢ [] → rest ++ more ≢ []
@@ -71,7 +71,7 @@ FailsToWrite-longer old new text more all e fails = (
 
 -- a prefix of the lines of frames that were given is one of the lines of all frames
 lines_broken_off : HasFrames → GivesFirst → (start now : Stream) (chars : List Character) → BreaksOff start [] now chars
-    → (lines : List ℕ) × AreLines chars lines × FailsToWrite start now lines
+    → (lines : List ℕ) × AreFrameLines chars lines × FailsToWrite start now lines
 lines_broken_off has first start now chars broken =
     let all = has chars 0 in
     let Of : List Character → Type 0 = λ cs. AreFrames cs 0 all.0 in

@@ -13,7 +13,7 @@ mod InTimeLemmas
 mod ImageWordLemmas
 mod ItemsLemmas
 mod KnownBytesLemmas
-mod LineLemmas
+mod TextLineLemmas
 mod MessageLineLemmas
 mod RunLemmas
 mod ScanInputLemmas

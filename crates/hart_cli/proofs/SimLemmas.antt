@@ -94,7 +94,7 @@ pub IsSimulation-run : (first : DeviceState) (input text : List ℕ) (start : St
     → ((world : World) → IsLast start events world → outcomes ≡ world.outcomes)
     → ((world : World) → IsLast start events world → AreSpoken world.spoken spoken)
     → text ≡ sim_text spoken outcomes device → IsSimulation first input text
-IsSimulation-run first input text start read events device outcomes spoken same script same_events last devices results messages text_is =
+IsSimulation-run first input text start read events device outcomes spoken same script same_events last devices results said text_is =
     let world = last.0 in
     let Leads : List LineEvent → Type 0 = λ es. IsLast start es world in
     let Begins : Start → Type 0 = λ s. IsLast s read world in
@@ -105,7 +105,7 @@ IsSimulation-run first input text start read events device outcomes spoken same 
       script = script;
       world = world;
       last = subst Begins same (subst Leads same_events last.1);
-      world_text = record { spoken = spoken; are_spoken = messages world last.1; gives = text_is ∙ given };
+      world_text = record { spoken = spoken; are_spoken = said world last.1; gives = text_is ∙ given };
     }
 
 -- the fault of a script that was not carried out
@@ -146,23 +146,23 @@ same_spoken x y party preambles bytes =
     (ap₂ (λ (p : Party) (n : ℕ). (p, n)) party preambles) bytes
 
 -- frames are spoken in one way
-AreSpoken-one : OneBody → (messages : List SpokenFrame) (xs ys : List Spoken) → AreSpoken messages xs → AreSpoken messages ys → xs ≡ ys
+AreSpoken-one : OneBody → (frames : List SpokenFrame) (xs ys : List Spoken) → AreSpoken frames xs → AreSpoken frames ys → xs ≡ ys
 AreSpoken-one bodies [] [] [] p q = refl
 AreSpoken-one bodies [] [] (y ∷ ys) p q = absurd q
 AreSpoken-one bodies [] (x ∷ xs) ys p q = absurd p
-AreSpoken-one bodies (message ∷ messages) [] ys p q = absurd p
-AreSpoken-one bodies (message ∷ messages) (x ∷ xs) [] p q = absurd q
-AreSpoken-one bodies (message ∷ messages) (x ∷ xs) (y ∷ ys) p q =
+AreSpoken-one bodies (said ∷ frames) [] ys p q = absurd p
+AreSpoken-one bodies (said ∷ frames) (x ∷ xs) [] p q = absurd q
+AreSpoken-one bodies (said ∷ frames) (x ∷ xs) (y ∷ ys) p q =
     let first = same_spoken x y (p.0.party ∙ sym q.0.party) (p.0.preambles ∙ sym q.0.preambles)
-    (bodies message.frame x.bytes y.bytes p.0.body q.0.body) in
-    ap₂ (λ (z : Spoken) (zs : List Spoken). z ∷ zs) first (AreSpoken-one bodies messages xs ys p.1 q.1)
+    (bodies said.frame x.bytes y.bytes p.0.body q.0.body) in
+    ap₂ (λ (z : Spoken) (zs : List Spoken). z ∷ zs) first (AreSpoken-one bodies frames xs ys p.1 q.1)
 
 -- a world has one text
 IsWorldText-one : OneBody → (start : Start) (world : World) (xs ys : List ℕ) → IsWorldText start world xs → IsWorldText start world ys
     → xs ≡ ys
 IsWorldText-one bodies start world xs ys p q =
     let spoken = AreSpoken-one bodies world.spoken p.spoken q.spoken p.are_spoken q.are_spoken in
-    p.gives ∙ ap (λ (messages : List Spoken). sim_text messages world.outcomes (state_of start.device world)) spoken ∙ sym q.gives
+    p.gives ∙ ap (λ (frames : List Spoken). sim_text frames world.outcomes (state_of start.device world)) spoken ∙ sym q.gives
 
 -- an input has one text
 pub IsSimulation-one : OneScript → OneLastWorld → OneBody → (device : DeviceState) (input xs ys : List ℕ)

@@ -14,7 +14,7 @@ use Rattle.hart_cli.specs.Items.{ReadsSoFarAs, ReadsUpTo, closed}
 use Rattle.hart_cli.specs.Stream.{FailsToWrite, Stream, WritesAll}
 
 -- The lines of some characters are those of the frames in them.
-pub record AreLines (chars : List Character) (lines : List ℕ) : Type 0 where
+pub record AreFrameLines (chars : List Character) (lines : List ℕ) : Type 0 where
   pub frames : List Found
   pub are_frames : AreFrames chars 0 frames
   pub text : lines ≡ dump_text frames
@@ -23,7 +23,7 @@ pub record AreLines (chars : List Character) (lines : List ℕ) : Type 0 where
 pub record IsDump (input : List ℕ) (ending : Ending) (fault : Option CliFault) (lines : List ℕ) : Type 0 where
   pub chars : List Character
   pub has_chars : HasChars input ending chars fault
-  pub are_lines : AreLines chars lines
+  pub are_lines : AreFrameLines chars lines
 
 -- At most so many bytes are read and not yet scanned: the beginning of an item, which is five bytes at most, and what one read gives.
 abbrev pub most_ahead : ℕ
@@ -91,7 +91,7 @@ pub record StopsWriting (reader reader_after writer writer_after : Stream) : Typ
   pub chars : List Character
   pub scanned : AreScanned input ending chars
   pub lines : List ℕ
-  pub are_lines : AreLines chars lines
+  pub are_lines : AreFrameLines chars lines
   pub fails : FailsToWrite writer writer_after lines
   pub in_time : WroteInTime input writer writer_after
 

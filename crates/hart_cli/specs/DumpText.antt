@@ -10,7 +10,7 @@ use Rattle.hart_values.specs.declared.master_id.MasterId.TheVariants.{Primary, S
 use Rattle.hart_frame.specs.declared.kind.FrameKind.{FrameKind}
 use Rattle.hart_frame.specs.declared.kind.FrameKind.TheVariants.{Stx, Ack}
 use Rattle.hart_frame.specs.declared.found.Found.{Found}
-use Rattle.hart_cli.specs.Line.{bytes_word, line_of}
+use Rattle.hart_cli.specs.TextLine.{bytes_word, line_of}
 
 -- The word of a kind of frame is `STX` for an STX and `ACK` for an ACK.
 abbrev pub kind_word : FrameKind → List ℕ

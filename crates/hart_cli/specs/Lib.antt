@@ -9,7 +9,7 @@ pub mod MessageLine
 pub mod MessageWords
 pub mod ImageWord
 pub mod Answer
-pub mod Line
+pub mod TextLine
 pub mod DumpText
 pub mod Dump
 pub mod FrameLines

@@ -27,7 +27,7 @@ start_with device = record {
   retries = record { primary = 3; secondary = 3 };
 }
 
--- The text of a world gives the messages that were spoken, what became of each submission, and the counter and the image of the
+-- The text of a world gives the frames that were spoken, what became of each submission, and the counter and the image of the
 -- device as it is then.
 pub record IsWorldText (start : Start) (world : World) (text : List ℕ) : Type 0 where
   pub spoken : List Spoken

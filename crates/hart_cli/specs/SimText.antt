@@ -12,7 +12,7 @@ use Rattle.hart_line.specs.declared.line.report.Outcome.TheVariants.{Answered, N
 use Rattle.hart_line.specs.declared.line.report.Party.{Party}
 use Rattle.hart_line.specs.declared.line.report.Party.TheVariants.{Device, Primary, Secondary}
 use Rattle.hart_line.specs.declared.line.report.Spoken.{Spoken}
-use Rattle.hart_cli.specs.Line.{bytes_word, line_of}
+use Rattle.hart_cli.specs.TextLine.{bytes_word, line_of}
 
 -- The word of a party is P for the primary master, S for the secondary and D for the device.
 abbrev pub party_word : Party → List ℕ
@@ -20,8 +20,7 @@ party_word Primary = codes "P"
 party_word Secondary = codes "S"
 party_word Device = codes "D"
 
--- The line of a spoken message has the word of its party, the number of its preamble bytes in decimal, and its body in upper case
--- hex.
+-- The line of a spoken frame has the word of its party, the number of its preamble bytes in decimal, and its body in upper case hex.
 abbrev pub spoken_line : Spoken → List ℕ
 spoken_line spoken =
     line_of (party_word spoken.party ∷ decimal spoken.preambles ∷ encode_upper spoken.bytes ∷ [])
@@ -55,7 +54,7 @@ counter_line device = line_of (codes "counter" ∷ decimal device.counter ∷ []
 abbrev pub image_line : DeviceState → List ℕ
 image_line device = line_of (codes "image" ∷ encode_upper (image_of device) ∷ [])
 
--- The text is a line for each spoken message, in order, then one for each submission, numbered from 1, then that of the counter and
+-- The text is a line for each spoken frame, in order, then one for each submission, numbered from 1, then that of the counter and
 -- that of the image.
 abbrev pub sim_text : List Spoken → List Outcome → DeviceState → List ℕ
 sim_text spoken outcomes device =

@@ -4,7 +4,7 @@ ghost use Rattle.hart_frame.specs.View.{found_of};
 ghost use Rattle.hart_cli.specs.DumpText.{address_word, burst_word, device_digits, dump_line, kind_word, master_word};
 
 use crate::hex_text::push_hex;
-use crate::line::{push_bytes, push_word};
+use crate::text_line::{push_bytes, push_word};
 use hart_frame::{FoundView, FrameKind};
 use hart_values::{Address, ByteList, MasterId, UniqueAddress};
 use itoa::Buffer;

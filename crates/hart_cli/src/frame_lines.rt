@@ -11,18 +11,18 @@ ghost use Rattle.hart_cli.specs.Stream.{FailsToWrite, Stream};
 
 use crate::dump_text::push_frame_line;
 use crate::items::leading_piece;
-use crate::line::LINE_LEN;
 use crate::output::write_all;
 use crate::run::{Run, read_run};
 use crate::stream::{Failed, Sink};
+use crate::text_line::TEXT_LINE_LEN;
 use hart_frame::{Char, FoundView, Scanner, held_frames_are_given};
 use hart_values::ByteList;
 
 /// The most bytes of lines that are kept.
-const LINES_LEN: usize = 16_384;
+const TEXT_LINES_LEN: usize = 16_384;
 
 /// Lines that are not yet written.
-type Lines = ByteList<LINES_LEN>;
+type TextLines = ByteList<TEXT_LINES_LEN>;
 
 /// A scanner, and lines of the frames that it gave.
 #[derive(Drop)]
@@ -30,7 +30,7 @@ pub struct FrameLines {
     /// It finds the frames.
     pub scanner: Scanner,
     /// The lines that are not yet written.
-    pub lines: Lines,
+    pub lines: TextLines,
 }
 
 impl FrameLines {
@@ -41,7 +41,7 @@ impl FrameLines {
     {
         FrameLines {
             scanner: Scanner::new(),
-            lines: Lines::new(),
+            lines: TextLines::new(),
         }
     }
 
@@ -185,7 +185,7 @@ impl FrameLines {
 ///
 /// `Failed` at the first write that fails. A prefix of the lines that were kept is written then.
 fn keep_line<W: Sink>(
-    lines: &mut Lines,
+    lines: &mut TextLines,
     found: &FoundView<'_>,
     writer: &mut W,
 ) -> Result<(), Failed>
@@ -193,7 +193,7 @@ fn keep_line<W: Sink>(
         (λ _. KeepsLine (W.stream writer.old) (W.stream writer.new) lines.old lines.new (dump_line (found_of found.now)))
         (λ _. FailsToWrite (W.stream writer.old) (W.stream writer.new) lines.old) }
 {
-    if lines.len() > LINES_LEN - LINE_LEN {
+    if lines.len() > TEXT_LINES_LEN - TEXT_LINE_LEN {
         write_all(writer, lines.as_slice())?;
         lines.clear();
     }

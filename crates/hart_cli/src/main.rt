@@ -14,7 +14,6 @@ mod hex_text;
 mod image_word;
 mod input;
 mod items;
-mod line;
 mod output;
 mod plain;
 mod program;
@@ -22,6 +21,7 @@ mod run;
 mod sim;
 mod sim_text;
 mod stream;
+mod text_line;
 
 use crate::plain::Plain;
 use crate::program::{NO_CALL, program};

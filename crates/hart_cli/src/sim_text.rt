@@ -7,7 +7,7 @@ ghost use Rattle.hart_cli.specs.Sim.{IsNeededByWriting};
 ghost use Rattle.hart_cli.specs.SimText.{sim_text, spoken_line};
 
 use crate::hex_text::push_hex;
-use crate::line::{Line, push_bytes, push_word};
+use crate::text_line::{TextLine, push_bytes, push_word};
 use hart_commands::Reply;
 use hart_device::{Device, RegisterStore};
 use hart_line::{Filling, NoRoom, Outcome, Party, Report, Spoken};
@@ -19,7 +19,7 @@ use std::alloc::Global;
 /// A payload of a reply begins with its two status bytes.
 const STATUS_LEN: usize = 2;
 
-/// The text of a report: a line for each message that was spoken, one for each submission, numbered from 1, and those of the
+/// The text of a report: a line for each spoken frame, one for each submission, numbered from 1, and those of the
 /// counter and the image of the device.
 ///
 /// # Errors
@@ -30,36 +30,36 @@ pub fn sim_text<S: RegisterStore>(alloc: Global, report: &Report<S>) -> Result<V
     ensures refused { IfErr result (λ none.
         IsNeededByWriting (sim_text report.now.spoken report.now.outcomes report.now.device) none.items) }
 {
-    let messages = report.spoken.as_slice();
+    let spoken = report.spoken.as_slice();
     let outcomes = report.outcomes.as_slice();
     let last_lines = device_lines(&report.device);
-    let len = spoken_len(messages)
+    let len = spoken_len(spoken)
         .saturating_add(outcomes_len(outcomes))
         .saturating_add(last_lines.len());
     let mut text = Filling::with_room(alloc, len)?;
-    push_spoken(&mut text, messages);
+    push_spoken(&mut text, spoken);
     push_outcomes(&mut text, outcomes);
     text.extend(last_lines.as_slice());
     Ok(text.finish())
 }
 
-/// The length of the lines of messages, or the greatest number if they are longer than that.
-fn spoken_len(messages: &[Spoken]) -> usize
-    ensures { result ≡ min (length (flat_map spoken_line messages.now)) usize.MAX }
+/// The length of the lines of spoken frames, or the greatest number if they are longer than that.
+fn spoken_len(spoken: &[Spoken]) -> usize
+    ensures { result ≡ min (length (flat_map spoken_line spoken.now)) usize.MAX }
 {
     let mut len = 0usize;
-    for message in messages {
-        len = len.saturating_add(spoken_line_len(message));
+    for frame in spoken {
+        len = len.saturating_add(spoken_line_len(frame));
     }
     len
 }
 
-/// The length of the line of a message.
-fn spoken_line_len(message: &Spoken) -> usize
-    ensures { result ≡ length (spoken_line message.now) }
+/// The length of the line of a spoken frame.
+fn spoken_line_len(frame: &Spoken) -> usize
+    ensures { result ≡ length (spoken_line frame.now) }
 {
-    let words = party_word(message.party).len() + Buffer::new().format(message.preambles).len();
-    words + 2 * message.bytes.len() + 3
+    let words = party_word(frame.party).len() + Buffer::new().format(frame.preambles).len();
+    words + 2 * frame.bytes.len() + 3
 }
 
 /// The length of the lines of submissions, or the greatest number if they are longer than that.
@@ -67,7 +67,7 @@ fn outcomes_len(outcomes: &[Outcome]) -> usize
     ensures { result ≡ min (length (flat_map outcome_line (enumerate_from 1 outcomes.now))) usize.MAX }
 {
     let mut len = 0usize;
-    let mut line = Line::new();
+    let mut line = TextLine::new();
     for (index, outcome) in outcomes.iter().enumerate() {
         make_outcome_line(&mut line, index + 1, outcome);
         len = len.saturating_add(line.len());
@@ -75,14 +75,14 @@ fn outcomes_len(outcomes: &[Outcome]) -> usize
     len
 }
 
-/// Adds a line for each message, for which there is room.
-fn push_spoken(text: &mut Filling<u8>, messages: &[Spoken])
-    requires { length text.old.items + length (flat_map spoken_line messages.now) ≤ text.old.room }
-    ensures { text.new ≡ record text.old { items = text.old.items ++ flat_map spoken_line messages.now } }
+/// Adds a line for each spoken frame, for which there is room.
+fn push_spoken(text: &mut Filling<u8>, spoken: &[Spoken])
+    requires { length text.old.items + length (flat_map spoken_line spoken.now) ≤ text.old.room }
+    ensures { text.new ≡ record text.old { items = text.old.items ++ flat_map spoken_line spoken.now } }
 {
-    let mut line = Line::new();
-    for message in messages {
-        make_spoken_line(&mut line, message);
+    let mut line = TextLine::new();
+    for frame in spoken {
+        make_spoken_line(&mut line, frame);
         text.extend(line.as_slice());
     }
 }
@@ -92,21 +92,21 @@ fn push_outcomes(text: &mut Filling<u8>, outcomes: &[Outcome])
     requires { length text.old.items + length (flat_map outcome_line (enumerate_from 1 outcomes.now)) ≤ text.old.room }
     ensures { text.new ≡ record text.old { items = text.old.items ++ flat_map outcome_line (enumerate_from 1 outcomes.now) } }
 {
-    let mut line = Line::new();
+    let mut line = TextLine::new();
     for (index, outcome) in outcomes.iter().enumerate() {
         make_outcome_line(&mut line, index + 1, outcome);
         text.extend(line.as_slice());
     }
 }
 
-/// Makes a line, whatever it holds, that of a message that was spoken.
-fn make_spoken_line(line: &mut Line, message: &Spoken)
-    ensures { line.new ≡ spoken_line message.now }
+/// Makes a line, whatever it holds, that of a spoken frame.
+fn make_spoken_line(line: &mut TextLine, frame: &Spoken)
+    ensures { line.new ≡ spoken_line frame.now }
 {
     line.clear();
-    push_word(line, party_word(message.party));
-    push_word(line, Buffer::new().format(message.preambles));
-    push_hex(line, message.bytes.as_slice());
+    push_word(line, party_word(frame.party));
+    push_word(line, Buffer::new().format(frame.preambles));
+    push_hex(line, frame.bytes.as_slice());
     line.push(b'\n');
 }
 
@@ -123,7 +123,7 @@ fn party_word(party: Party) -> &'static str
 }
 
 /// Makes a line that of the submission with this number.
-fn make_outcome_line(line: &mut Line, number: usize, outcome: &Outcome)
+fn make_outcome_line(line: &mut TextLine, number: usize, outcome: &Outcome)
     ensures { line.new ≡ outcome_line (number, outcome.now) }
 {
     line.clear();
@@ -133,7 +133,7 @@ fn make_outcome_line(line: &mut Line, number: usize, outcome: &Outcome)
 }
 
 /// Adds the words of what became of a submission, to a line that has at most its number, of 20 digits, and a space.
-fn push_outcome(line: &mut Line, outcome: &Outcome)
+fn push_outcome(line: &mut TextLine, outcome: &Outcome)
     requires { length line.old ≤ 21 }
     ensures words { line.new ≡ line.old ++ join_with_byte 32 (outcome_words outcome.now) }
     ensures room { length line.new < 583 }
@@ -147,7 +147,7 @@ fn push_outcome(line: &mut Line, outcome: &Outcome)
 }
 
 /// Adds the words of a submission that was answered, to such a line.
-fn push_answered(line: &mut Line, reply: &Reply, sendings: u8)
+fn push_answered(line: &mut TextLine, reply: &Reply, sendings: u8)
     requires { length line.old ≤ 21 }
     ensures words { line.new ≡ line.old ++ join_with_byte 32 (outcome_words (Answered reply.now sendings)) }
     ensures room { length line.new < 583 }
@@ -164,7 +164,7 @@ fn push_answered(line: &mut Line, reply: &Reply, sendings: u8)
 }
 
 /// Adds a word and a number.
-fn push_count(line: &mut Line, word: &str, number: u8)
+fn push_count(line: &mut TextLine, word: &str, number: u8)
     requires { length line.old + length word.now ≤ 575 }
     ensures words { line.new ≡ line.old ++ join_with_byte 32 (word.now ∷ decimal number ∷ []) }
     ensures room { length line.new < 583 }
@@ -185,10 +185,10 @@ fn master_fault_number(fault: MasterFault) -> u8
 }
 
 /// The lines of the counter and of the image.
-fn device_lines<S: RegisterStore>(device: &Device<S>) -> Line
+fn device_lines<S: RegisterStore>(device: &Device<S>) -> TextLine
     ensures { result ≡ counter_line device.now ++ image_line device.now }
 {
-    let mut lines = Line::new();
+    let mut lines = TextLine::new();
     push_word(&mut lines, "counter");
     lines.extend_from_slice(Buffer::new().format(device.counter()).as_bytes());
     lines.push(b'\n');

@@ -1,7 +1,7 @@
 use Rattle.std.proofs.Common.{ap, decimal, ◌∙◌}
 use Rattle.hart_cli.specs.DumpText.{address_word, burst_word, kind_word, master_word}
-use Rattle.hart_cli.specs.Line.{bytes_word}
-use Rattle.hart_cli.proofs.LineLemmas.{nine_words}
+use Rattle.hart_cli.specs.TextLine.{bytes_word}
+use Rattle.hart_cli.proofs.TextLineLemmas.{nine_words}
 use Rattle.hart_cli.proofs.dump_text.push_frame_line.Goals as goal
 
 pub returns : goal.returns

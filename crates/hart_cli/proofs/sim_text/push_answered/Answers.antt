@@ -1,8 +1,8 @@
 use Rattle.std.proofs.Common.{◌≡◌, [], ◌∷◌, ◌++◌, List, ap, arith, codes, drop, length-drop, ℕ, ◌∙◌}
 use Rattle.std.proofs.lemmas.List.{take_all}
 use Rattle.hex.specs.Hex.{encode_upper}
-use Rattle.hart_cli.specs.Line.{bytes_word}
-use Rattle.hart_cli.proofs.LineLemmas.{five_words}
+use Rattle.hart_cli.specs.TextLine.{bytes_word}
+use Rattle.hart_cli.proofs.TextLineLemmas.{five_words}
 use Rattle.hart_cli.proofs.sim_text.push_answered.Goals as goal
 
 pub returns-clause-words : goal.returns-clause-words

@@ -3,9 +3,9 @@ use Rattle.std.specs.List.{flat_map}
 use Rattle.hart_cli.specs.SimText.{spoken_line}
 use Rattle.hart_cli.proofs.sim_text.push_spoken.Given as goal
 
-abbrev pub invariant-loop-message : goal.invariant-loop-message
-invariant-loop-message l = record {
-  items : l.text.items ≡ l.initial.text.items ++ flat_map spoken_line (take l.message-index l.messages);
+abbrev pub invariant-loop-frame : goal.invariant-loop-frame
+invariant-loop-frame l = record {
+  items : l.text.items ≡ l.initial.text.items ++ flat_map spoken_line (take l.frame-index l.spoken);
   same_room : l.text.room ≡ l.initial.text.room;
-  room : length l.text.items + length (flat_map spoken_line (drop l.message-index l.messages)) ≤ l.text.room;
+  room : length l.text.items + length (flat_map spoken_line (drop l.frame-index l.spoken)) ≤ l.text.room;
 }

@@ -1,6 +1,6 @@
 //! Lines of words, in buffers of a fixed size.
 ghost use Rattle.std.specs.Prelude.{◌≡◌, ◌∷◌, [], ◌++◌, ◌+◌, ◌*◌, ◌<◌, ◌≤◌, length, max};
-ghost use Rattle.hart_cli.specs.Line.{bytes_word};
+ghost use Rattle.hart_cli.specs.TextLine.{bytes_word};
 
 use crate::hex_text::push_hex;
 use hart_values::ByteList;
@@ -8,10 +8,10 @@ use hart_values::ByteList;
 /// The most bytes of a line, which the longest line of a frame has: two places of 20 digits, the three words of kind, master and
 /// burst bit, 10 digits of an address, 6 of the expansion bytes, 3 of the command and 510 of the payload, eight spaces and a
 /// line feed.
-pub const LINE_LEN: usize = 583;
+pub const TEXT_LINE_LEN: usize = 583;
 
 /// A line by itself.
-pub type Line = ByteList<LINE_LEN>;
+pub type TextLine = ByteList<TEXT_LINE_LEN>;
 
 /// Adds a word and the space after it.
 pub fn push_word<const N: usize>(line: &mut ByteList<N>, word: &str)
