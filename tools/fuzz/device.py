@@ -37,6 +37,7 @@ COMMUNICATION_FAULTS = 0x80
 LONGITUDINAL_PARITY = 0x08
 
 CONFIGURATION_CHANGED = 0x40
+COLD_START = 0x20
 LOOP_CURRENT_FIXED = 0x08
 
 IMAGE_VERSION = 1
@@ -59,7 +60,7 @@ def bytes_fault(data):
 
 @dataclass
 class Device:
-    """What a device holds: its registers, its counter, a changed bit for each master, and its write protection."""
+    """What a device holds: its registers, its counter, a changed bit and a cold start bit for each master, and its write protection."""
 
     polling: int
     mode: int
@@ -71,6 +72,7 @@ class Device:
     counter: int
     changed: dict
     protected: bool
+    cold_start: dict
 
     @classmethod
     def from_image(cls, image):
@@ -78,7 +80,7 @@ class Device:
         counter, flags = int.from_bytes(image[51:53], "big"), image[53]
         changed = {"P": bool(flags & 1), "S": bool(flags & 2)}
         return cls(image[1], image[2], image[3:27], image[27:33], image[33:45], image[45:48], image[48:51],
-                   counter, changed, bool(flags & 4))
+                   counter, changed, bool(flags & 4), {"P": False, "S": False})
 
     def image(self):
         """The bytes that say what the device holds."""
@@ -86,6 +88,10 @@ class Device:
         prefix = bytes([IMAGE_VERSION, self.polling, self.mode])
         registers = self.message + self.tag + self.descriptor + self.date + self.assembly
         return prefix + registers + self.counter.to_bytes(2, "big") + bytes([flags])
+
+    def restart(self):
+        """The device was without power, which it says to each master once."""
+        self.cold_start = {"P": True, "S": True}
 
     def hear(self, heard):
         """The answer to a delivery: to its frame if it has exactly one, or if it has none to a garbled request. None is silence."""
@@ -109,6 +115,7 @@ class Device:
             self.execute(command, commands.written_data(command, data), frame.master)
             content = self.content(command, data)
         payload = bytes([code, self.status(frame.master)]) + content
+        self.cold_start[frame.master] = False
         return Frame("ACK", frame.master, 0, frame.address, b"", command, payload)
 
     def is_asked(self, address, command):
@@ -136,7 +143,8 @@ class Device:
 
     def status(self, master):
         """The device status that this master is given."""
-        return CONFIGURATION_CHANGED * self.changed[master] | LOOP_CURRENT_FIXED * (self.mode == 0)
+        return (CONFIGURATION_CHANGED * self.changed[master] | COLD_START * self.cold_start[master]
+                | LOOP_CURRENT_FIXED * (self.mode == 0))
 
     def identity(self):
         """Who the device is, 22 bytes."""

@@ -6,7 +6,7 @@ from . import commands, heard, inputs
 from .device import OWN_ADDRESS, RESPONSE_PREAMBLES
 from .frames import Char, Frame, Polling, body_of, faultless, frames_of
 from .heard import weighted
-from .line import LOST, OK, Line, Noise, Protect, Submit, Turn, Undetected, answer_in
+from .line import LOST, OK, Line, Noise, Protect, Restart, Submit, Turn, Undetected, answer_in
 from .master import MASTER_PREAMBLES
 
 BAD_LINES = (
@@ -16,8 +16,9 @@ BAD_LINES = (
     "submit P 37420A1B2C 256", "submit P 37420A1B2C 18 415350B71C318208208208208208208208201D0200", "submit", "Submit P @0 0",
     "turn P ok", "turn P ok ok ok", "turn P OK ok", "turn p ok ok", "turn", "turn P lost,ok", "turn P FF!08 ok", "turn P FFF ok",
     "turn P ok FF!", "turn X ok ok", "noise", "noise ok", "noise FF FF", "noise FF!08", "noise FF!00", "noise !40", "noise F",
-    "protect", "protect On", "protect on off", "protect 1", "restart", "x # no comment", "turn P ok ok # no comment", "\r",
-    "turn P ok ok\r", "noise FF\r\r", "\x00", "counter 0", "protect\von", "\ufeffprotect on",
+    "protect", "protect On", "protect on off", "protect 1", "restart now", "restart restart", "Restart", "restarted", "restar",
+    "restart\r\r", "restart # no comment", "x # no comment", "turn P ok ok # no comment", "\r", "turn P ok ok\r", "noise FF\r\r",
+    "\x00", "counter 0", "protect\von", "\ufeffprotect on",
 )
 QUIET_LINES = ("", "", " ", "\t \t", "# any", "#", "#submit P @0 0", " \t# é \r x", "# turn P ok ok")
 
@@ -81,7 +82,7 @@ class Play:
 
     def event(self):
         """A next event."""
-        kinds = [(10, self.turn), (6, self.submit), (1, self.protect), (1, self.noise)]
+        kinds = [(10, self.turn), (6, self.submit), (1, self.protect), (1, self.noise), (1, Restart)]
         return weighted(self.rng, *kinds)()
 
     def submit(self):
@@ -113,7 +114,8 @@ class Play:
 
     def trial_device(self):
         """A device in the state of the line's."""
-        return replace(self.line.device, changed=dict(self.line.device.changed))
+        device = self.line.device
+        return replace(device, changed=dict(device.changed), cold_start=dict(device.cold_start))
 
     def protect(self):
         """A switch of the write protection."""
@@ -153,6 +155,8 @@ def event_words(rng, event):
         return ["turn", event.who, leg_word(rng, event.up), leg_word(rng, event.down)]
     if isinstance(event, Protect):
         return ["protect", "on" if event.on else "off"]
+    if isinstance(event, Restart):
+        return ["restart"]
     return ["noise", heard_word(rng, event.heard)]
 
 

@@ -40,6 +40,10 @@ class Noise(NamedTuple):
     heard: tuple
 
 
+class Restart(NamedTuple):
+    """The device was without power, and is on again."""
+
+
 class Spoken(NamedTuple):
     """A message that was spoken: by `P`, `S` or `D`, with so many preamble bytes."""
 
@@ -96,6 +100,8 @@ class Line:
             self.turn(event)
         elif isinstance(event, Protect):
             self.device.protected = event.on
+        elif isinstance(event, Restart):
+            self.device.restart()
         else:
             self.speak_back(answer_in(self.device, None, event.heard, "noise"))
 

@@ -3,7 +3,7 @@
 import re
 
 from . import commands, texts
-from .line import LOST, OK, Line, Noise, Protect, Submit, Turn, Undetected
+from .line import LOST, OK, Line, Noise, Protect, Restart, Submit, Turn, Undetected
 
 WORDS = re.compile(rb"[^ \t]+")
 LEGS = {b"ok": OK, b"lost": LOST}
@@ -54,7 +54,12 @@ def read_noise(words):
     return None if heard is None else Noise(heard)
 
 
-EVENTS = {b"submit": read_submit, b"turn": read_turn, b"protect": read_protect, b"noise": read_noise}
+def read_restart(words):
+    """The event of the words after `restart`, which are none, or None."""
+    return None if words else Restart()
+
+
+EVENTS = {b"submit": read_submit, b"turn": read_turn, b"protect": read_protect, b"noise": read_noise, b"restart": read_restart}
 
 
 class BadLine(Exception):

@@ -4,10 +4,12 @@ REGISTERS = "010001" + "820820" * 14 + "000000"
 IMAGE_PREFIX = f"image {REGISTERS}"
 WRITE = "P 20 82B7420A1B2C13030123453D\n"
 WRITTEN = WRITE + "D 5 86B7420A1B2C130500400123457F\n"
+WRITTEN_AFTER_RESTART = WRITE + "D 5 86B7420A1B2C130500600123455F\n"
 FAULTS_REPLY = "D 5 86B7420A1B2C13028800D7\n"
 IDENTITY = "180000FE37420507010218000A1B2C05040000000037003701"
 SUBMIT_WRITE = "submit P 37420A1B2C 19 012345\n"
 RESET = "P 20 82B7420A1B2C260200016F\n"
+READ_POLLING = "P 20 82B7420A1B2C07004D\n"
 FRAME_IN_DATA = "FFFF0280000082" + "00" * 17
 REQUEST = "FF FF FF FF FF 82 B7 42 0A 1B 2C "
 REPLY = "FF FF FF FF FF 86 B7 42 0A 1B 2C "
@@ -149,6 +151,18 @@ PLAYED = (
     (SUBMIT_WRITE + "turn P ok ok\nsubmit P 37420A1B2C 38 0001\nturn P ok ok\n",
      WRITTEN + "P 20 82B7420A1B2C260200016F\nD 5 86B7420A1B2C2604000000016D\n1 answered 1 00 40 012345\n2 answered 1 00 00 0001\n"
      f"counter 1\n{IMAGE_PREFIX}012345000102\n"),
+    ("restart", f"counter 0\n{IMAGE_PREFIX}000000000000\n"),
+    ("restart\n" + SUBMIT_WRITE + "turn P ok ok\nsubmit P 37420A1B2C 7\nturn P ok ok\nsubmit S 37420A1B2C 7\nturn S ok ok\n",
+     WRITTEN_AFTER_RESTART + READ_POLLING + "D 5 86B7420A1B2C0704004000010C\nS 20 8237420A1B2C0700CD\nD 5 8637420A1B2C070400600001AC\n"
+     f"1 answered 1 00 60 012345\n2 answered 1 00 40 0001\n3 answered 1 00 60 0001\ncounter 1\n{IMAGE_PREFIX}012345000103\n"),
+    ("restart\nsubmit P 37420A1B2C 7\nturn P ok lost\nturn P ok ok\n",
+     READ_POLLING + "D 5 86B7420A1B2C0704002000016C\n" + READ_POLLING + "D 5 86B7420A1B2C0704000000014C\n"
+     f"1 answered 2 00 00 0001\ncounter 0\n{IMAGE_PREFIX}000000000000\n"),
+    ("restart\nprotect on\nnoise FFFF82B7420A1B2C13030123453C\n" + SUBMIT_WRITE + "turn P ok ok\nsubmit P 37420A1B2C 7\nturn P ok ok\n",
+     FAULTS_REPLY + WRITE + "D 5 86B7420A1B2C1302072078\n" + READ_POLLING + "D 5 86B7420A1B2C0704000000014C\n"
+     f"1 answered 1 07 20 -\n2 answered 1 00 00 0001\ncounter 0\n{IMAGE_PREFIX}000000000004\n"),
+    (SUBMIT_WRITE + "turn P ok lost\nrestart\nturn P ok ok\n",
+     WRITTEN + WRITTEN_AFTER_RESTART + f"1 answered 2 00 60 012345\ncounter 2\n{IMAGE_PREFIX}012345000203\n"),
 )
 
 # The image of `hart sim`, its script, and its text.
@@ -174,6 +188,7 @@ NOT_PLAYED = (
     (f"submit P 37420A1B2C 17 {FRAME_IN_DATA}\nturn P FFFF82!40B7420A1B2C1118{FRAME_IN_DATA}43 ok", "undetected damage at event 1, up"),
     ("protect on\nturn X ok ok\n", "bad line 2"),
     ("# a comment\n\nturn P ok ok ok", "bad line 3"),
+    ("restart now", "bad line 1"),
 )
 
 # The words of `hart encode`, its message, and its fault; words that make no call have None.
