@@ -2,10 +2,10 @@
 //! they lead to.
 //!
 //! A script is a text, and each of its own lines has one event but for comments and empty ones: a request that a master is
-//! asked to send, a turn with what is heard in its two legs, a switch of the write protection, or noise. [`read_script`]
-//! reads them, or names the first bad line of the text. The words and items of a script are those of the command line too, so their readers
-//! are public. [`run`] carries out the events with a device and two masters, and reports what was spoken, what became of
-//! each submission, and the device as it is then; or it names the first leg whose damage is undetected.
+//! asked to send, a turn with what is heard in its two legs, a switch of the write protection, noise, or a restart of the device.
+//! [`read_script`] reads them, or names the first bad line of the text. The words and items of a script are those of the command
+//! line too, so their readers are public. [`run`] carries out the events with a device and two masters, and reports what was
+//! spoken, what became of each submission, and the device as it is then; or it names the first leg whose damage is undetected.
 //!
 //! ```rust
 //! let events = read_script(rt.alloc(), b"submit P @0 0\nturn P ok lost\n")?;
