@@ -113,6 +113,7 @@ Input (stdin): a script, a line for each event.
                                      device hears UP, and both masters DOWN
   protect on, protect off            the write protection of the device
   noise ITEMS                        all three hear these bytes
+  restart                            the device was without power
 WHO is P for the primary master and S for the secondary. ADDRESS is @ and the
 polling address, @0 to @63; or ten hex digits, four of the type of the device
 and six of its id; or all, for every device. DATA are hex, and such as COMMAND
@@ -145,9 +146,10 @@ Output (stdout): written once the script has come to its end.
                              device is protected
 
 Each run starts a new device, or one that goes on from an image: with that of
-the last line of one script the next begins where that one ended. If that is no
-image nothing is read, and standard error says why: bad image: version, length
-or field; bad hex at N, a place in the image, counted from 0.
+the last line of one script the next begins where that one ended, with no cold
+start bit set. If HEX is no image nothing is read, and standard error says why:
+bad image: version, length or field; bad hex at N, a place in the image,
+counted from 0.
 
 If no output is written, standard error says why.
   bad line N                 every line counts, an empty one too, from 1
