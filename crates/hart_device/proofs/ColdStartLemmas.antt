@@ -1,5 +1,5 @@
 -- What a frame and a reply do to the cold start bits.
-use Rattle.std.proofs.Common.{◌≡◌, ℕ, refl, ap, ◌∙◌, sym, subst, arith, bit_and, bit_or, slice_get, List, Bool, true, false, if◌then◌else◌}
+use Rattle.std.proofs.Common.{◌≡◌, ℕ, refl, ap, subst, arith, bit_and, bit_or, slice_get, List, Bool, true, false, if◌then◌else◌}
 use Rattle.std.proofs.Common.{Some, None, IsSomeAnd}
 use Rattle.std.specs.Int.{bit_at}
 use Rattle.std.proofs.lemmas.Nat.Bits.{bit_at_and, bit_at_or}

@@ -8,7 +8,6 @@ use Rattle.hart_values.specs.declared.master_id.MasterId.{MasterId}
 use Rattle.hart_values.specs.declared.master_id.MasterId.TheVariants.{Primary, Secondary}
 use Rattle.hart_commands.specs.Registers.{Contents, Overwrite, registers_of, overwritten}
 use Rattle.hart_device.specs.Device.{DeviceState, Effect, Nothing, Executes, Resets, after}
-use Rattle.hart_device.specs.declared.identity_parts.IdentityParts.{IdentityParts}
 use Rattle.hart_line.specs.Line.World.{World, Execution, Start, first_world, state_of, overwrites_of, is_changed}
 use Rattle.hart_line.specs.Line.LineState.{MarksWithin}
 use Rattle.hart_line.specs.Line.Step.{executions_after, marks_after}

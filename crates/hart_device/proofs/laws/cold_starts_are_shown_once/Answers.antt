@@ -2,7 +2,6 @@ use Rattle.std.proofs.Common.{if◌then◌else◌, ◌≡◌, ◌∙◌, ℕ, Bo
 use Rattle.std.specs.Int.{bit_at}
 use Rattle.hart_values.specs.EachMaster.{of_master}
 use Rattle.hart_values.specs.declared.each_master.EachMaster.{EachMaster}
-use Rattle.hart_values.specs.declared.master_id.MasterId.{MasterId}
 use Rattle.hart_frame.specs.FrameParts.{FrameParts}
 use Rattle.hart_device.specs.Answer.{after_command, answer_of, effect_of, is_answered, reply_of, state_after}
 use Rattle.hart_device.specs.Device.{DeviceState}
