@@ -1,5 +1,6 @@
 -- The answer to an input, of which there is one at most.
 use Rattle.std.proofs.Common.{◌≡◌, ℕ, inr, List, Option, None, Some, Result, Ok, Err, refl, sym, ap, ◌∙◌, subst}
+use Rattle.std.proofs.KnownBytes.{Keeps-refl}
 use Rattle.std.specs.Result.{IsErrAnd}
 use Rattle.hart_frame.specs.Character.{Character}
 use Rattle.hart_frame.specs.FrameParts.{FrameParts}
@@ -19,7 +20,6 @@ use Rattle.hart_cli.specs.InputChars.{HasChars, IsWholeTextFault}
 use Rattle.hart_cli.specs.Answer.{IsAnswer, IsAnswerText, IsTextFor}
 use Rattle.hart_cli.specs.WholeInput.{WholeInput, WholeOutcome}
 use Rattle.hart_cli.proofs.DumpLemmas.{OneInput}
-use Rattle.hart_cli.proofs.KnownBytesLemmas.{Keeps-same}
 use Rattle.hart_cli.proofs.MessageLineLemmas.{IsMessageLine-one, OneBody}
 
 -- an answer has one text
@@ -74,9 +74,9 @@ pub AnswerOutcome-fault : (device : DeviceState) (reader reader_after writer : S
     → Reads reader reader_after input Ended → IsWholeTextFault input fault
     → WholeOutcome (IsAnswer device) IsWholeTextFault reader reader_after writer writer (Err fault)
 AnswerOutcome-fault device reader reader_after writer input (faults.BadHex place) read is =
-    (record { input = input; whole = read; holds = is }, (Keeps-same writer.bytes, refl))
+    (record { input = input; whole = read; holds = is }, (Keeps-refl writer.bytes, refl))
 AnswerOutcome-fault device reader reader_after writer input (faults.Memory none) read is =
-    (inr (record { input = input; whole = read; holds = is }), (Keeps-same writer.bytes, refl))
+    (inr (record { input = input; whole = read; holds = is }), (Keeps-refl writer.bytes, refl))
 AnswerOutcome-fault device reader reader_after writer input faults.Read read is = absurd is
 AnswerOutcome-fault device reader reader_after writer input faults.Write read is = absurd is
 AnswerOutcome-fault device reader reader_after writer input faults.TooLong read is = absurd is

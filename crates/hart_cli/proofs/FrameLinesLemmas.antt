@@ -5,6 +5,7 @@ use Rattle.std.proofs.Common.{append_assoc, subst, arith, length-append, replica
 use Rattle.std.specs.Result.{IsErrAnd}
 use Rattle.std.proofs.lemmas.Bool.{false≢true}
 use Rattle.std.proofs.lemmas.List.{append-nil, drop-take, length-replicate, map-append, take-append-drop}
+use Rattle.std.proofs.KnownBytes.{Appends-nil, Appends-trans}
 use Rattle.hart_frame.specs.Character.{Character, faultless}
 use Rattle.hart_frame.specs.Scanner.{Ends, Gives, GivesNothing, MovesPast, Scan, Waits, finishing, hearing}
 use Rattle.hart_frame.specs.Streamed.{IsHistory, give, wait, finish, push, push_run}
@@ -17,11 +18,10 @@ use Rattle.hart_cli.specs.Stream.{FailsToWrite, Stream, Writes, WritesAll, count
 use Rattle.hart_cli.specs.declared.stream.Failed.{Failed}
 use Rattle.hart_cli.proofs.DumpTextLemmas.{dump_text-more}
 use Rattle.hart_cli.proofs.ItemsLemmas.{ReadsUpTo-part}
-use Rattle.hart_cli.proofs.KnownBytesLemmas.{Appends-append, Appends-nothing}
 
 -- one text after another was written
 WritesAll-on : (a b c : Stream) (xs ys : List ℕ) → WritesAll a b xs → WritesAll b c ys → WritesAll a c (xs ++ ys)
-WritesAll-on a b c xs ys h k = (Appends-append a.bytes b.bytes c.bytes xs ys h.0 k.0, k.1 ∙ h.1)
+WritesAll-on a b c xs ys h k = (Appends-trans a.bytes b.bytes c.bytes xs ys h.0 k.0, k.1 ∙ h.1)
 
 -- a write failed in a text after another
 FailsToWrite-on : (a b c : Stream) (xs ys : List ℕ) → WritesAll a b xs → FailsToWrite b c ys → FailsToWrite a c (xs ++ ys)
@@ -31,7 +31,7 @@ FailsToWrite-on a b c xs ys h k = (
     rest = k.0.rest;
     split = ap (λ (zs : List ℕ). xs ++ zs) k.0.split ∙ sym (append_assoc xs k.0.prefix k.0.rest);
     short = k.0.short;
-    written = Appends-append a.bytes b.bytes c.bytes xs k.0.prefix h.0 k.0.written;
+    written = Appends-trans a.bytes b.bytes c.bytes xs k.0.prefix h.0 k.0.written;
   },
   k.1 ∙ ap count_after_failure h.1,
 )
@@ -296,5 +296,5 @@ from_now start earlier now frames chars so_far = record {
   history = so_far.history;
   written = [];
   split = so_far.split ∙ sym (append_assoc earlier so_far.written frames.lines);
-  wrote = (Appends-nothing now.bytes, refl);
+  wrote = (Appends-nil now.bytes, refl);
 }

@@ -4,6 +4,7 @@ use Rattle.std.proofs.Common.{append_assoc, arith, length-append, subst}
 use Rattle.std.specs.Io.KnownBytes.{Appends}
 use Rattle.std.proofs.lemmas.Bool.{false≢true}
 use Rattle.std.proofs.lemmas.List.{append-nil}
+use Rattle.std.proofs.KnownBytes.{Appends-nil, Appends-trans}
 use Rattle.hart_frame.specs.Character.{Character, faultless}
 use Rattle.hart_frame.specs.Frames.{AreFrames, HasNoFrame, IsUndecided}
 use Rattle.hart_frame.specs.Scanner.{Hears, MovesPast, Scan, hearing}
@@ -18,7 +19,6 @@ use Rattle.hart_cli.specs.Items.{ReadsSoFarAs, nothing}
 use Rattle.hart_cli.specs.Stream.{Stream}
 use Rattle.hart_cli.proofs.InputCharsLemmas.{may_begin-nil}
 use Rattle.hart_cli.proofs.ItemsLemmas.{NoPieceBegins-nil}
-use Rattle.hart_cli.proofs.KnownBytesLemmas.{Appends-append, Appends-nothing}
 
 -- the frames that a scanner gave come first in what it heard, and it holds what comes after them
 record IsPassed (chars : List Character) (scan : Scan) (given : List Found) : Type 0 where
@@ -124,7 +124,7 @@ in_time_at_first w = record {
   frames = [];
   decided = record { passed = []; rest = []; split = refl; first = λ more later are. are; undecided = inl HasNoFrame-nil };
   more = [];
-  written = Appends-nothing w.bytes;
+  written = Appends-nil w.bytes;
 }
 
 -- if no line is kept when more is read, all lines were written that were due
@@ -165,5 +165,5 @@ in_time_on input w now later text before on =
       decided = before.decided;
       more = before.more ++ text;
       written = subst Of (append_assoc (dump_text before.frames) before.more text)
-          (Appends-append w.bytes now.bytes later.bytes (dump_text before.frames ++ before.more) text before.written on);
+          (Appends-trans w.bytes now.bytes later.bytes (dump_text before.frames ++ before.more) text before.written on);
     }

@@ -2,6 +2,7 @@
 use Rattle.std.proofs.Common.{◌≡◌, ◌≢◌, ◌≤◌, ◌<◌, ◌+◌, ℕ, List, [], ◌∷◌, ◌++◌, length, false, Option, None, Some, refl, sym, ap, ◌∙◌, subst}
 use Rattle.std.proofs.Common.{arith, append_assoc}
 use Rattle.std.proofs.Common.{length-append}
+use Rattle.std.proofs.KnownBytes.{Consumes-trans}
 use Rattle.std.specs.Option.{option_eq}
 use Rattle.hart_cli.specs.contracts.input.InputEndPartialEq.TheImpl.{eq-value}
 use Rattle.hart_cli.specs.declared.input.InputEnd.{InputEnd}
@@ -9,11 +10,10 @@ use Rattle.hart_cli.specs.declared.input.InputEnd.TheVariants.{Ended, Failed, To
 use Rattle.hart_cli.specs.Dump.{ended_text}
 use Rattle.hart_cli.specs.Input.{Reads, ReadsPortion, ReadsWell, ending_of, input_limit}
 use Rattle.hart_cli.specs.Stream.{Stream, count_after_failure}
-use Rattle.hart_cli.proofs.KnownBytesLemmas.{Consumes-append}
 
 -- two parts in a row are read
 ReadsWell-on : (a b c : Stream) (xs ys : List ℕ) → ReadsWell a b xs → ReadsWell b c ys → ReadsWell a c (xs ++ ys)
-ReadsWell-on a b c xs ys h k = (Consumes-append a.bytes b.bytes c.bytes xs ys h.0 k.0, k.1 ∙ h.1)
+ReadsWell-on a b c xs ys h k = (Consumes-trans a.bytes b.bytes c.bytes xs ys h.0 k.0, k.1 ∙ h.1)
 
 -- some bytes have a length
 some_length : (xs : List ℕ) → xs ≢ [] → 0 < length xs
@@ -40,7 +40,7 @@ portion_last a b c text bytes room Ended h full k =
 portion_last a b c text bytes room Failed h full k =
     let long = length-append text bytes in
     let none = ap (λ (xs : List ℕ). length xs) k.1 in
-    ((Consumes-append a.bytes b.bytes c.bytes text bytes h.0 k.0.0, k.0.1 ∙ ap count_after_failure h.1), omega (arith, long, none, full))
+    ((Consumes-trans a.bytes b.bytes c.bytes text bytes h.0 k.0.0, k.0.1 ∙ ap count_after_failure h.1), omega (arith, long, none, full))
 portion_last a b c text bytes room TooLong h full k =
     let long = length-append text bytes in
     let all = k.1 in (

@@ -4,6 +4,7 @@ use Rattle.std.proofs.Common.{subst, arith}
 use Rattle.std.proofs.Common.{Err, ◌≤◌, add-zero, length-append, length-take}
 use Rattle.std.proofs.lemmas.Grind.{flat_map-append}
 use Rattle.std.proofs.lemmas.List.{flat_map_more, take-append-drop, take_more}
+use Rattle.std.proofs.KnownBytes.{Keeps-refl}
 use Rattle.std.specs.List.{enumerate_from, flat_map}
 use Rattle.hart_device.specs.Bench.{bench_process}
 use Rattle.hart_device.specs.Device.{DeviceState}
@@ -32,7 +33,6 @@ use Rattle.hart_cli.specs.WholeInput.{WholeOutcome}
 use Rattle.hart_cli.specs.declared.fault.CliFault.{CliFault}
 use Rattle.hart_cli.specs.declared.fault.CliFault.TheVariants as faults
 use Rattle.hart_cli.specs.declared.input.InputEnd.TheVariants.{Ended}
-use Rattle.hart_cli.proofs.KnownBytesLemmas.{Keeps-same}
 use Rattle.hart_cli.proofs.MessageLineLemmas.{OneBody}
 
 -- the things of a list that goes on are numbered on
@@ -126,9 +126,9 @@ pub given_of_input : (device : DeviceState) (reader reader_after writer : Stream
     → Reads reader reader_after input Ended → IsSimulationFault device input fault
     → WholeOutcome (IsSimulation device) (IsSimulationFault device) reader reader_after writer writer (Err fault)
 given_of_input device reader reader_after writer input (faults.Line fault) read is =
-    (record { input = input; whole = read; holds = is }, (Keeps-same writer.bytes, refl))
+    (record { input = input; whole = read; holds = is }, (Keeps-refl writer.bytes, refl))
 given_of_input device reader reader_after writer input (faults.Memory none) read is =
-    (inr (record { input = input; whole = read; holds = is }), (Keeps-same writer.bytes, refl))
+    (inr (record { input = input; whole = read; holds = is }), (Keeps-refl writer.bytes, refl))
 given_of_input device reader reader_after writer input _ read is = absurd is
 
 -- the law of scripts: a text is one at most

@@ -1,16 +1,16 @@
 use Rattle.std.proofs.Common.{ℕ, List, [], refl, subst}
+use Rattle.std.proofs.KnownBytes.{Appends-nil}
 use Rattle.hart_frame.specs.Character.{Character}
 use Rattle.hart_cli.specs.Answer.{IsTextFor}
 use Rattle.hart_cli.specs.declared.fault.CliFault.TheVariants.{Write}
 use Rattle.hart_cli.proofs.AnswerLemmas.{answer_read, made_of}
-use Rattle.hart_cli.proofs.KnownBytesLemmas.{Appends-nothing}
 use Rattle.hart_cli.proofs.answer.answer_of.Goals as goal
 
 pub returns-in_default : goal.returns-in_default
 returns-in_default g c =
     let Silent : List Character → Type 0 = λ chars. IsTextFor c.args.device chars [] in
     let silent = subst Silent c.as_slice.ensures.value c.in_default.ensures in
-    ([], answer_read _ _ _ _ _ [] c.in_ok-input.ensures.reads c.in_ok-delivery.ensures.chars silent, (Appends-nothing _, refl))
+    ([], answer_read _ _ _ _ _ [] c.in_ok-input.ensures.reads c.in_ok-delivery.ensures.chars silent, (Appends-nil _, refl))
 
 pub returns-in_err-write_all : goal.returns-in_err-write_all
 returns-in_err-write_all g c =

@@ -1,5 +1,6 @@
 use Rattle.std.proofs.Common.{◌≡◌, ◌+◌, ◌++◌, ◌-◌, List, ℕ, [], Option, take, drop, length, refl, sym, ap, ◌∙◌, subst, arith}
 use Rattle.std.proofs.lemmas.List.{take_rest}
+use Rattle.std.proofs.KnownBytes.{Appends-nil, Consumes-nil}
 use Rattle.hart_frame.specs.Scanner.{Scan}
 use Rattle.hart_frame.specs.Streamed.{IsHistory, begin}
 use Rattle.hart_cli.specs.declared.input.InputEnd.{InputEnd}
@@ -9,7 +10,6 @@ use Rattle.hart_cli.specs.Items.{ReadsUpTo, nothing}
 use Rattle.hart_cli.proofs.InTimeLemmas.{in_time_at_first}
 use Rattle.hart_cli.proofs.InputCharsLemmas.{may_begin-nil}
 use Rattle.hart_cli.proofs.ItemsLemmas.{NoPieceBegins-nil, ReadsUpTo-few}
-use Rattle.hart_cli.proofs.KnownBytesLemmas.{Appends-nothing, Consumes-nothing}
 use Rattle.hart_cli.proofs.ScanInputLemmas.{IsDue, input_stops, reads_on, scanned_step, stopped, stopped_before, stopped_within}
 use Rattle.hart_cli.proofs.dump.scan_input.Goals as goal
 
@@ -22,7 +22,7 @@ loop-ahead-init g c =
       drained = ap (λ (scan : Scan). scan.drained) c.requires.scanner;
       going = ap (λ (scan : Scan). scan.finished) c.requires.scanner;
       input = [];
-      read = (Consumes-nothing _, refl);
+      read = (Consumes-nil _, refl);
       within = omega arith;
       placed = refl;
       chars = [];
@@ -34,7 +34,7 @@ loop-ahead-init g c =
         history = subst (λ (scan : Scan). IsHistory [] scan []) (sym c.requires.scanner) begin;
         written = [];
         split = sym c.requires.lines;
-        wrote = (Appends-nothing _, refl);
+        wrote = (Appends-nil _, refl);
       };
       in_time = in_time_at_first _;
     })
