@@ -4,8 +4,6 @@ mod DumpLemmas
 mod DumpTextLemmas
 mod FrameLinesLemmas
 mod EncodeLemmas
-mod EncodeRowLemmas
-mod FaultlessRowLemmas
 mod InputCharsLemmas
 mod InputLemmas
 mod HexTextLemmas

@@ -1,7 +1,7 @@
 -- What the words after the program's name ask for, as clap reads them (own profile).
-use Rattle.std.specs.Prelude.{◌≡◌, ◌≤◌, [], ◌∷◌, List, Some, true, codes, is_some, pos, unwrap_or}
+use Rattle.std.specs.Prelude.{◌≡◌, [], ◌∷◌, List, Some, true, codes, pos, unwrap_or}
 use Rattle.std.specs.Str.Parse.{IsNumeral, digits_value, without_leading_plus}
-use Rattle.clap.specs.Words.{App, Row, Rule, Text, fault_of, first_of, new_app, new_rule, one_of, subcommand_of, with_rule, with_subcommand}
+use Rattle.clap.specs.Words.{App, Row, Rule, Text, fault_of, first_of, new_app, new_rule, subcommand_of, with_rule, with_subcommand}
 use Rattle.clap.specs.declared.builder.value_parser.ValueParser.TheVariants.{Signed}
 use Rattle.hart_frame.specs.Message.{IsPreambleCount}
 use Rattle.hart_cli.specs.MessageWords.{MessageWords}
@@ -89,17 +89,3 @@ pub record Calls (call : Call) (words : List Text) : Type 0 where
   pub rows : List Row
   pub named : subcommand_of hart_app words ≡ Some (name_of call, rows)
   pub values : GivesValues call rows
-
--- For private calls alone: what the code knows of the matches.
-
--- The matches of `encode` have its three words, and a number of preamble bytes that clap let pass and reads as it is written.
-pub record HasWords (rows : List Row) : Type 0 where
-  pub who : is_some (first_of (codes "WHO") rows) ≡ true
-  pub address : is_some (first_of (codes "ADDRESS") rows) ≡ true
-  pub command : is_some (first_of (codes "COMMAND") rows) ≡ true
-  pub number : Text
-  pub given : first_of (codes "preambles") rows ≡ Some number
-  pub read : one_of (codes "preambles") rows ≡ Some number
-  pub digits : IsNumeral 10 (without_leading_plus number)
-  pub enough : 5 ≤ digits_value 10 (without_leading_plus number)
-  pub few : digits_value 10 (without_leading_plus number) ≤ 20

@@ -1,8 +1,8 @@
 //! The call that the words after the program's name ask for.
 
-ghost use Rattle.std.specs.Prelude.{◌≡◌, ◌∷◌, [], ℕ, IfErr, IfOk, List, None, Some, codes, false, map, string_bytes};
+ghost use Rattle.std.specs.Prelude.{◌≡◌, ◌∷◌, [], ℕ, IfErr, IfOk, IfSome, List, None, Some, codes, false, map, string_bytes};
 ghost use Rattle.clap.specs.Words.{HasKind, app_of, fault_of, first_of, found_of, new_app, rows_of, rule_of};
-ghost use Rattle.hart_cli.specs.CommandLine.{Calls, GivesWords, HasWords, encode_app, hart_app, image_app, image_rule};
+ghost use Rattle.hart_cli.specs.CommandLine.{Calls, GivesWords, encode_app, hart_app, image_app, image_rule};
 ghost use Rattle.hart_cli.specs.CommandLine.{preambles_rule, required_rule};
 ghost use Rattle.hart_cli.specs.MessageWords.{MessageWords};
 ghost use Rattle.hart_cli.specs.declared.program.command_line.Call.{Call};
@@ -62,15 +62,19 @@ pub fn requested_call<'a>(alloc: Global, words: &'a [String]) -> Result<Call<'a>
     ensures refused { IfErr result (HasKind (fault_of hart_app (map string_bytes words.entry.now))) }
 {
     let matches = hart_command(alloc)?.try_get_matches_from(words)?;
+    // clap's contract leaves this case and the two below open. None comes about, and each would end as refused memory does.
     let Some((name, given)) = matches.subcommand() else {
-        unreachable!();
+        return Err(AllocError.into());
     };
     match name {
         "answer" => Ok(Call::Answer(image_word(given))),
         "dump" => Ok(Call::Dump),
         "sim" => Ok(Call::Sim(image_word(given))),
-        "encode" => Ok(Call::Encode(encode_words(given))),
-        _ => unreachable!(),
+        "encode" => match encode_words(given) {
+            Some(words) => Ok(Call::Encode(words)),
+            None => Err(AllocError.into()),
+        },
+        _ => Err(AllocError.into()),
     }
 }
 
@@ -83,18 +87,21 @@ fn image_word<'a>(given: &ArgMatches<'a>) -> ImageWord<'a>
     }
 }
 
-/// The words of `hart encode`, which clap let pass.
-fn encode_words<'a>(given: &ArgMatches<'a>) -> EncodeWords<'a>
-    requires { HasWords (rows_of (found_of given.now)) }
-    ensures { GivesWords (rows_of (found_of given.now)) result }
+/// The words of `hart encode`, or `None` if one is wanting or the number of preamble bytes is none, which clap does not let pass.
+fn encode_words<'a>(given: &ArgMatches<'a>) -> Option<EncodeWords<'a>>
+    ensures { IfSome result (GivesWords (rows_of (found_of given.now))) }
 {
-    EncodeWords {
-        who: given.get_str("WHO").unwrap(),
-        address: given.get_str("ADDRESS").unwrap(),
-        command: given.get_str("COMMAND").unwrap(),
-        payload: given.get_str("DATA").unwrap_or(""),
-        preambles: given.get_one::<u8>("preambles").unwrap(),
+    let preambles = given.get_str("preambles")?.parse::<u8>().ok()?;
+    if preambles < LEAST_PREAMBLES || preambles > MOST_PREAMBLES {
+        return None;
     }
+    Some(EncodeWords {
+        who: given.get_str("WHO")?,
+        address: given.get_str("ADDRESS")?,
+        command: given.get_str("COMMAND")?,
+        payload: given.get_str("DATA").unwrap_or(""),
+        preambles,
+    })
 }
 
 /// What the words are matched against.

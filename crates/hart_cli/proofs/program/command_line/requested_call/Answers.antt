@@ -1,7 +1,7 @@
 use Rattle.std.proofs.Common.{map, string_bytes}
 use Rattle.std.proofs.lemmas.Result.{err_from_is_err_and}
 use Rattle.hart_cli.specs.declared.program.command_line.Call.TheVariants.{Answer, Dump, Encode, Sim}
-use Rattle.hart_cli.proofs.CommandLineLemmas.{call_named, encode_entered, meets_call, met_by_words, no_other_entered, gives_fault}
+use Rattle.hart_cli.proofs.CommandLineLemmas.{call_named, gives_fault, meets_call, met_by_words}
 use Rattle.hart_cli.proofs.program.command_line.requested_call.Goals as goal
 
 pub returns-in_err-matches-clause-refused : goal.returns-in_err-matches-clause-refused
@@ -31,23 +31,9 @@ returns-in-sim-clause-call c =
     call_named _ _ (Sim _) _ _ meets (met_by_words _ _ _ _ meets c.in-Some.ensures.name c.in-Some.ensures.rows) c.in-sim.is
     c.image_word-in-sim.ensures
 
-pub encode_words-requires : goal.encode_words-requires
-encode_words-requires c =
-    let matched = c.in_ok-matches.ensures in
-    let meets = meets_call _ (map string_bytes c.args.words.now) _ c.in_ok-hart_command.ensures matched.kinds matched.matches in
-    encode_entered _ _ _ meets.enters (met_by_words _ _ _ _ meets c.in-Some.ensures.name c.in-Some.ensures.rows) c.in-encode.is
-
-pub returns-in-encode-clause-call : goal.returns-in-encode-clause-call
-returns-in-encode-clause-call c =
+pub returns-in-Some-encode_words-clause-call : goal.returns-in-Some-encode_words-clause-call
+returns-in-Some-encode_words-clause-call c =
     let matched = c.in_ok-matches.ensures in
     let meets = meets_call _ (map string_bytes c.args.words.now) _ c.in_ok-hart_command.ensures matched.kinds matched.matches in
     call_named _ _ (Encode _) _ _ meets (met_by_words _ _ _ _ meets c.in-Some.ensures.name c.in-Some.ensures.rows) c.in-encode.is
-    c.encode_words.ensures
-
-pub unreachable-requires-in_default-name : goal.unreachable-requires-in_default-name
-unreachable-requires-in_default-name c =
-    let matched = c.in_ok-matches.ensures in
-    let meets = meets_call _ (map string_bytes c.args.words.now) _ c.in_ok-hart_command.ensures matched.kinds matched.matches in
-    no_other_entered _ _ _ meets.enters (met_by_words _ _ _ _ meets c.in-Some.ensures.name c.in-Some.ensures.rows)
-    c.in_default-name.not-answer
-    c.in_default-name.not-dump c.in_default-name.not-sim c.in_default-name.not-encode
+    c.in-Some-encode_words.ensures
