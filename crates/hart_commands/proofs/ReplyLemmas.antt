@@ -5,7 +5,7 @@ use Rattle.std.specs.Simd.{first_chunks}
 use Rattle.std.proofs.lemmas.List.{take_at, drop_at, take_all}
 use Rattle.hart_values.specs.declared.bits32.Bits32.{Bits32}
 use Rattle.hart_commands.specs.declared.content.ReplyContent.{ReplyContent}
-use Rattle.hart_commands.specs.declared.content.ReplyContent.TheVariants.{Identity, Primary, Current, Dynamic, Polling, Classes, Variables, Message, Tag, Sensor, Output, Assembly, Counter, More, Refused}
+use Rattle.hart_commands.specs.declared.content.ReplyContent.TheVariants.{Identity, Primary, Current, Dynamic, Polling, Classes, Variables, Message, Tag, Sensor, Output, Assembly, LongTag, Counter, More, Refused}
 use Rattle.hart_commands.specs.declared.reply.Reply.{Reply}
 use Rattle.hart_commands.specs.declared.value.UnitValue.{UnitValue}
 use Rattle.hart_commands.specs.declared.value.VariableReading.{VariableReading}
@@ -93,7 +93,9 @@ pub content_is_read : (command : ℕ) (content : ReplyContent) → IsContentOf c
     → content_reading command (content_bytes content) ≡ Some content
 content_is_read command (Identity identity) (inl by) is =
     rw by (identity_is_read _ (identity-back identity is).1 ∙ ap (λ i. Some (Identity i)) (identity-back identity is).0)
-content_is_read command (Identity identity) (inr by) is =
+content_is_read command (Identity identity) (inr (inl by)) is =
+    rw by (identity_is_read _ (identity-back identity is).1 ∙ ap (λ i. Some (Identity i)) (identity-back identity is).0)
+content_is_read command (Identity identity) (inr (inr by)) is =
     rw by (identity_is_read _ (identity-back identity is).1 ∙ ap (λ i. Some (Identity i)) (identity-back identity is).0)
 content_is_read command (Primary value) by is =
     rw by (having-exactly 5 (λ xs. Primary (unit_value_of xs)) (unit_value_bytes value) (unit_value-size value is)
@@ -116,6 +118,8 @@ content_is_read command (Output output) by is =
     ∙ ap (λ o. Some (Output o)) (output-back output is).0)
 content_is_read command (Assembly assembly) (inl by) is = rw by (having-exactly 3 Assembly assembly is)
 content_is_read command (Assembly assembly) (inr by) is = rw by (having-exactly 3 Assembly assembly is)
+content_is_read command (LongTag long_tag) (inl by) is = rw by (having-exactly 32 LongTag long_tag is)
+content_is_read command (LongTag long_tag) (inr by) is = rw by (having-exactly 32 LongTag long_tag is)
 content_is_read command (Counter counter) by is = rw by (having-exactly 2 Counter counter is)
 content_is_read command (More []) by is = absurd (omega (arith, is.0))
 content_is_read command (More (byte ∷ bytes)) by is = rw by (ap (λ xs. Some (More xs)) (take_all 25 (byte ∷ bytes) is.1))

@@ -5,7 +5,7 @@ use Rattle.std.proofs.lemmas.Bool.Decides.{nat_tests}
 use Rattle.hart_values.specs.declared.loop_mode.LoopMode.TheVariants.{Disabled, Enabled}
 use Rattle.hart_values.specs.Calendar.{IsDateBytes, is_date}
 use Rattle.hart_commands.specs.declared.request.Request.{Request}
-use Rattle.hart_commands.specs.declared.request.Request.TheVariants.{SetPolling, ReadVariables, IdentifyByTag, WriteMessage, WriteTag, WriteAssembly, ResetChanged}
+use Rattle.hart_commands.specs.declared.request.Request.TheVariants.{SetPolling, ReadVariables, IdentifyByTag, WriteMessage, WriteTag, WriteAssembly, IdentifyByLongTag, WriteLongTag, ResetChanged}
 use Rattle.hart_commands.specs.TagBytes.{tag_in, descriptor_in, date_in}
 use Rattle.hart_commands.specs.RequestData.{IsRequest, MayFollow, command_of, request_reading, request_data, needing, tag_reading}
 
@@ -63,6 +63,8 @@ written_is_read dates (WriteTag tag descriptor date) rest is may =
     tag_reading-good (tag ++ descriptor ++ date ++ rest) tag descriptor date
     (parts-append tag descriptor date rest is.0 is.1 is.2.0) (dates date is.2)
 written_is_read dates (WriteAssembly assembly) rest is may = needing-append 3 WriteAssembly assembly rest is
+written_is_read dates (IdentifyByLongTag long_tag) rest is may = needing-append 32 IdentifyByLongTag long_tag rest is
+written_is_read dates (WriteLongTag long_tag) rest is may = needing-append 32 WriteLongTag long_tag rest is
 written_is_read dates (ResetChanged None) rest is may = rw may refl
 written_is_read dates (ResetChanged (Some counter)) rest is may = ap (λ n. Ok (ResetChanged (Some n))) (omega arith)
 written_is_read dates _ rest is may = refl

@@ -6,7 +6,7 @@ use Rattle.std.proofs.lemmas.Bool.Decides.{nat_tests}
 use Rattle.hart_values.specs.declared.loop_mode.LoopMode.TheVariants.{Disabled, Enabled}
 use Rattle.hart_values.specs.Calendar.{IsDateBytes, is_date}
 use Rattle.hart_commands.specs.declared.request.Request.{Request}
-use Rattle.hart_commands.specs.declared.request.Request.TheVariants.{SetPolling, ReadVariables, IdentifyByTag, WriteMessage, WriteTag, WriteAssembly}
+use Rattle.hart_commands.specs.declared.request.Request.TheVariants.{SetPolling, ReadVariables, IdentifyByTag, WriteMessage, WriteTag, WriteAssembly, IdentifyByLongTag, WriteLongTag}
 use Rattle.hart_commands.specs.TagBytes.{tag_in, descriptor_in, date_in}
 use Rattle.hart_commands.specs.RequestData.{RequestRow, Reading, IsRequest, command_of, is_known, needing, polling_with, mode_left_out, polling_reading, codes_reading, tag_reading, reset_reading, read_by, request_row, request_reading}
 use Rattle.hart_commands.proofs.TestLemmas.{below, above, is_one}
@@ -101,8 +101,11 @@ rows-given dates command =
     entry 17 command _ _ (needing-row 17 24 WriteMessage (λ xs long. (refl, long))) (
     entry 18 command _ _ (tag-row dates) (
     entry 19 command _ _ (needing-row 19 3 WriteAssembly (λ xs long. (refl, long))) (
+    entry 20 command _ _ (λ bytes. (refl, tt)) (
+    entry 21 command _ _ (needing-row 21 32 IdentifyByLongTag (λ xs long. (refl, long))) (
+    entry 22 command _ _ (needing-row 22 32 WriteLongTag (λ xs long. (refl, long))) (
     entry 38 command _ _ reset-row (
-    entry 48 command _ _ (λ bytes. (refl, tt)) tt))))))))))))))))))
+    entry 48 command _ _ (λ bytes. (refl, tt)) tt)))))))))))))))))))))
 
 -- the same of what is read
 given_by : (command : ℕ) (row : Option RequestRow) (bytes : List ℕ) (request : Request) → IfSome row (IsRowOf command)

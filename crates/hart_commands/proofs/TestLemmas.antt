@@ -23,3 +23,10 @@ is_either m a b t = go (eqb m a) refl t
     go : (c : Bool) → eqb m a ≡ c → (c || eqb m b) ≡ true → (m ≡ a) ⊎ (m ≡ b)
     go true e h = inl (is_one m a e)
     go false e h = inr (is_one m b h)
+
+pub is_of_three : (m a b c : ℕ) → (eqb m a || eqb m b || eqb m c) ≡ true → (m ≡ a) ⊎ (m ≡ b) ⊎ (m ≡ c)
+is_of_three m a b c t = go (eqb m a) refl t
+  where
+    go : (d : Bool) → eqb m a ≡ d → (d || eqb m b || eqb m c) ≡ true → (m ≡ a) ⊎ (m ≡ b) ⊎ (m ≡ c)
+    go true e h = inl (is_one m a e)
+    go false e h = inr (is_either m b c h)

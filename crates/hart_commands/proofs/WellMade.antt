@@ -6,7 +6,7 @@ use Rattle.std.specs.Simd.{first_chunks}
 use Rattle.std.proofs.lemmas.Bool.{cases_lt}
 use Rattle.std.proofs.lemmas.Bool.Decides.{nat_tests}
 use Rattle.hart_commands.specs.declared.content.ReplyContent.{ReplyContent}
-use Rattle.hart_commands.specs.declared.content.ReplyContent.TheVariants.{Identity, Primary, Current, Polling, Classes, Variables, Message, Tag, Sensor, Output, Assembly, Counter, More, Refused}
+use Rattle.hart_commands.specs.declared.content.ReplyContent.TheVariants.{Identity, Primary, Current, Polling, Classes, Variables, Message, Tag, Sensor, Output, Assembly, LongTag, Counter, More, Refused}
 use Rattle.hart_commands.specs.declared.reply.Reply.{Reply}
 use Rattle.hart_commands.specs.TagBytes.{tag_in, descriptor_in, date_in}
 use Rattle.hart_commands.specs.Values.{float_at, unit_value_of, variable_of}
@@ -15,7 +15,7 @@ use Rattle.hart_commands.specs.IdentityBytes.{IsIdentity, identity_of}
 use Rattle.hart_commands.specs.SensorBytes.{IsSensor, sensor_of}
 use Rattle.hart_commands.specs.OutputBytes.{IsOutput, output_of}
 use Rattle.hart_commands.specs.ReplyData.{IsReply, IsContent, IsContentOf, having, identity_reading, dynamic_reading, variables_reading, tag_reading, more_reading, content_reading, reply_reading}
-use Rattle.hart_commands.proofs.TestLemmas.{below, above, is_one, is_either}
+use Rattle.hart_commands.proofs.TestLemmas.{below, above, is_one, is_either, is_of_three}
 use Rattle.hart_commands.proofs.ChunkLemmas.{chunks-sized, length-chunks}
 
 -- a range of a list that is long enough has its size
@@ -67,7 +67,8 @@ by_test : {A : Type 0} (b : Bool) (x y : Option A) (P : A → Type 0) → (b ≡
 by_test true x y P then_x else_y = then_x refl
 by_test false x y P then_x else_y = else_y refl
 
-identity-made : (command : ℕ) (bytes : List ℕ) → (command ≡ 0) ⊎ (command ≡ 11) → IfSome (identity_reading bytes) (IsMade command)
+identity-made : (command : ℕ) (bytes : List ℕ) → (command ≡ 0) ⊎ (command ≡ 11) ⊎ (command ≡ 21)
+    → IfSome (identity_reading bytes) (IsMade command)
 identity-made command bytes by = go 22 (cases_lt (length bytes) 22) refl
   where
     named : (size : ℕ) → size ≡ 22 → size ≤ length bytes → (b : Bool)
@@ -149,7 +150,7 @@ tag-made command bytes by =
 
 pub content-made : (command : ℕ) (bytes : List ℕ) → IfSome (content_reading command bytes) (IsMade command)
 content-made command bytes =
-    by_test _ _ _ _ (λ t. identity-made command bytes (is_either command 0 11 t)) (λ f.
+    by_test _ _ _ _ (λ t. identity-made command bytes (is_of_three command 0 11 21 t)) (λ f.
     by_test _ _ _ _ (λ t. having-made 5 (λ xs. Primary (unit_value_of xs)) bytes (IsMade command) (λ xs long.
     (is_one command 1 t, float-sized xs 1 (omega arith)))) (λ f.
     by_test _ _ _ _ (λ t. having-made 8 (λ xs. Current (float_at xs 0) (float_at xs 4)) bytes (IsMade command) (λ xs long.
@@ -166,8 +167,9 @@ content-made command bytes =
     by_test _ _ _ _ (λ t. having-made 18 (λ xs. Output (output_of xs)) bytes (IsMade command) (λ xs long.
     (is_one command 15 t, output-sized xs (omega arith)))) (λ f.
     by_test _ _ _ _ (λ t. having-made 3 Assembly bytes (IsMade command) (λ xs long. (is_either command 16 19 t, long))) (λ f.
+    by_test _ _ _ _ (λ t. having-made 32 LongTag bytes (IsMade command) (λ xs long. (is_either command 20 22 t, long))) (λ f.
     by_test _ _ _ _ (λ t. having-made 2 Counter bytes (IsMade command) (λ xs long. (is_one command 38 t, long))) (λ f.
-    by_test _ (more_reading bytes) None (IsMade command) (λ t. rw (is_one command 48 t) (more-made bytes)) (λ f. tt))))))))))))))
+    by_test _ (more_reading bytes) None (IsMade command) (λ t. rw (is_one command 48 t) (more-made bytes)) (λ f. tt)))))))))))))))
 
 -- a reading, if it gives a reply, gives a well-made one to this command
 pub reading-to_command : (command : ℕ) (payload : List ℕ)

@@ -3,15 +3,16 @@ use Rattle.std.specs.Prelude.{ℕ, ◌≡◌, ◌<◌, List, [], ◌∷◌, leng
 use Rattle.std.specs.Option.{option_or}
 use Rattle.hart_values.specs.Calendar.{IsDateBytes}
 use Rattle.hart_commands.specs.declared.register.Register.{Register}
-use Rattle.hart_commands.specs.declared.register.Register.TheVariants.{Polling, Mode, Message, Tag, Descriptor, Date, Assembly}
+use Rattle.hart_commands.specs.declared.register.Register.TheVariants.{Polling, Mode, Message, Tag, Descriptor, Date, Assembly, LongTag}
 use Rattle.hart_commands.specs.declared.request.Request.{Request}
-use Rattle.hart_commands.specs.declared.request.Request.TheVariants.{SetPolling, WriteMessage, WriteTag, WriteAssembly}
+use Rattle.hart_commands.specs.declared.request.Request.TheVariants.{SetPolling, WriteMessage, WriteTag, WriteAssembly, WriteLongTag}
 use Rattle.hart_commands.specs.RequestCode.{is_write}
 use Rattle.hart_commands.specs.RequestData.{command_of, mode_byte}
 
--- The registers in their order: polling address, loop current mode, message, tag, descriptor, date, final assembly number.
+-- The registers in their order: polling address, loop current mode, message, tag, descriptor, date, final assembly number,
+-- long tag.
 abbrev pub registers : List Register
-registers = Polling ∷ Mode ∷ Message ∷ Tag ∷ Descriptor ∷ Date ∷ Assembly ∷ []
+registers = Polling ∷ Mode ∷ Message ∷ Tag ∷ Descriptor ∷ Date ∷ Assembly ∷ LongTag ∷ []
 
 -- A row of the table of registers says how many bytes a register has, and which of so many are valid in it.
 pub record RegisterRow : Type 1 where
@@ -36,6 +37,7 @@ row_of Tag = record { size = 6; IsValid = Any }
 row_of Descriptor = record { size = 12; IsValid = Any }
 row_of Date = record { size = 3; IsValid = IsDateBytes }
 row_of Assembly = record { size = 3; IsValid = Any }
+row_of LongTag = record { size = 32; IsValid = Any }
 
 -- How many bytes a register has.
 abbrev pub size_of : Register → ℕ
@@ -54,6 +56,7 @@ pub record Contents : Type 0 where
   pub descriptor : List ℕ
   pub date : List ℕ
   pub assembly : List ℕ
+  pub long_tag : List ℕ
 
 -- The bytes that a register holds.
 abbrev pub bytes_in : Contents → Register → List ℕ
@@ -64,6 +67,7 @@ bytes_in contents Tag = contents.tag
 bytes_in contents Descriptor = contents.descriptor
 bytes_in contents Date = contents.date
 bytes_in contents Assembly = contents.assembly
+bytes_in contents LongTag = contents.long_tag
 
 -- The contents in which each register holds the bytes that a function gives it.
 abbrev pub contents_by : (Register → List ℕ) → Contents
@@ -75,6 +79,7 @@ contents_by bytes = record {
   descriptor = bytes Descriptor;
   date = bytes Date;
   assembly = bytes Assembly;
+  long_tag = bytes LongTag;
 }
 
 -- Contents are valid if every register holds bytes that are valid in it.
@@ -86,7 +91,8 @@ abbrev pub Overwrite : Type 0
 Overwrite = Request
 
 -- The bytes that an overwrite gives a register, if it names that: Command 6 names the polling address and the loop current mode,
--- Command 17 the message, Command 18 the tag, the descriptor and the date, and Command 19 the final assembly number.
+-- Command 17 the message, Command 18 the tag, the descriptor and the date, Command 19 the final assembly number, and Command 22
+-- the long tag.
 abbrev pub named_in : Overwrite → Register → Option (List ℕ)
 named_in (SetPolling address mode) Polling = Some (address ∷ [])
 named_in (SetPolling address mode) Mode = Some (mode_byte mode ∷ [])
@@ -95,6 +101,7 @@ named_in (WriteTag tag descriptor date) Tag = Some tag
 named_in (WriteTag tag descriptor date) Descriptor = Some descriptor
 named_in (WriteTag tag descriptor date) Date = Some date
 named_in (WriteAssembly assembly) Assembly = Some assembly
+named_in (WriteLongTag long_tag) LongTag = Some long_tag
 named_in _ _ = None
 
 -- A configuration write has an overwrite; every other request has none.

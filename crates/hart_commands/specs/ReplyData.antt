@@ -4,7 +4,7 @@ use Rattle.std.specs.List.{flat_map, AllByRecursion}
 use Rattle.std.specs.Option.{option_map}
 use Rattle.std.specs.Simd.{first_chunks}
 use Rattle.hart_commands.specs.declared.content.ReplyContent.{ReplyContent}
-use Rattle.hart_commands.specs.declared.content.ReplyContent.TheVariants.{Identity, Primary, Current, Dynamic, Polling, Classes, Variables, Message, Tag, Sensor, Output, Assembly, Counter, More, Refused}
+use Rattle.hart_commands.specs.declared.content.ReplyContent.TheVariants.{Identity, Primary, Current, Dynamic, Polling, Classes, Variables, Message, Tag, Sensor, Output, Assembly, LongTag, Counter, More, Refused}
 use Rattle.hart_commands.specs.declared.reply.Reply.{Reply}
 use Rattle.hart_commands.specs.RequestData.{is_known}
 use Rattle.hart_commands.specs.TagBytes.{tag_in, descriptor_in, date_in}
@@ -17,7 +17,7 @@ use Rattle.hart_commands.specs.OutputBytes.{IsOutput, output_of, output_bytes}
 abbrev pub having : ℕ → (List ℕ → ReplyContent) → List ℕ → Option ReplyContent
 having size content bytes = if nat_lt (length bytes) size then None else Some (content (take size bytes))
 
--- Commands 0 and 11: an identity has 22 bytes, of which the first is 254.
+-- Commands 0, 11 and 21: an identity has 22 bytes, of which the first is 254.
 abbrev pub identity_reading : List ℕ → Option ReplyContent
 identity_reading bytes =
     if nat_lt (length bytes) 22 then None
@@ -76,6 +76,10 @@ output_reading = having 18 (λ xs. Output (output_of xs))
 abbrev pub assembly_reading : List ℕ → Option ReplyContent
 assembly_reading = having 3 Assembly
 
+-- Commands 20 and 22: a long tag.
+abbrev pub long_tag_reading : List ℕ → Option ReplyContent
+long_tag_reading = having 32 LongTag
+
 -- Command 38: a configuration change counter.
 abbrev pub counter_reading : List ℕ → Option ReplyContent
 counter_reading = having 2 Counter
@@ -88,7 +92,7 @@ more_reading (byte ∷ bytes) = Some (More (take 25 (byte ∷ bytes)))
 -- The table of the replies with code 0 has a row for each content; every other command has none.
 abbrev pub content_reading : ℕ → List ℕ → Option ReplyContent
 content_reading command bytes =
-    if (command == 0) || (command == 11) then identity_reading bytes
+    if (command == 0) || (command == 11) || (command == 21) then identity_reading bytes
     else if command == 1 then primary_reading bytes
     else if command == 2 then current_reading bytes
     else if command == 3 then dynamic_reading bytes
@@ -100,6 +104,7 @@ content_reading command bytes =
     else if command == 14 then sensor_reading bytes
     else if command == 15 then output_reading bytes
     else if (command == 16) || (command == 19) then assembly_reading bytes
+    else if (command == 20) || (command == 22) then long_tag_reading bytes
     else if command == 38 then counter_reading bytes
     else if command == 48 then more_reading bytes
     else None
@@ -131,6 +136,7 @@ content_bytes (Tag tag descriptor date) = tag ++ descriptor ++ date
 content_bytes (Sensor sensor) = sensor_bytes sensor
 content_bytes (Output output) = output_bytes output
 content_bytes (Assembly assembly) = assembly
+content_bytes (LongTag long_tag) = long_tag
 content_bytes (Counter counter) = counter
 content_bytes (More status) = status
 content_bytes Refused = []
@@ -141,7 +147,7 @@ reply_payload reply = reply.code ∷ reply.status.0 ∷ content_bytes reply.cont
 
 -- A content is that of replies to these commands.
 abbrev pub IsContentOf : ReplyContent → ℕ → Type 0
-IsContentOf (Identity identity) command = (command ≡ 0) ⊎ (command ≡ 11)
+IsContentOf (Identity identity) command = (command ≡ 0) ⊎ (command ≡ 11) ⊎ (command ≡ 21)
 IsContentOf (Primary value) command = command ≡ 1
 IsContentOf (Current loop_current percent_of_range) command = command ≡ 2
 IsContentOf (Dynamic loop_current values) command = command ≡ 3
@@ -153,6 +159,7 @@ IsContentOf (Tag tag descriptor date) command = (command ≡ 13) ⊎ (command �
 IsContentOf (Sensor sensor) command = command ≡ 14
 IsContentOf (Output output) command = command ≡ 15
 IsContentOf (Assembly assembly) command = (command ≡ 16) ⊎ (command ≡ 19)
+IsContentOf (LongTag long_tag) command = (command ≡ 20) ⊎ (command ≡ 22)
 IsContentOf (Counter counter) command = command ≡ 38
 IsContentOf (More status) command = command ≡ 48
 IsContentOf Refused command = ⊥
@@ -174,6 +181,7 @@ IsContent (Tag tag descriptor date) = (length tag ≡ 6) × (length descriptor �
 IsContent (Sensor sensor) = IsSensor sensor
 IsContent (Output output) = IsOutput output
 IsContent (Assembly assembly) = length assembly ≡ 3
+IsContent (LongTag long_tag) = length long_tag ≡ 32
 IsContent (Counter counter) = length counter ≡ 2
 IsContent (More status) = (0 < length status) × (length status ≤ 25)
 IsContent Refused = Unit {0}

@@ -4,9 +4,9 @@ use Rattle.hart_commands.specs.declared.request.Request.{Request}
 use Rattle.hart_commands.specs.declared.request.Request.TheVariants.{ResetChanged}
 use Rattle.hart_commands.specs.RequestData.{Reading}
 
--- The configuration writes are Commands 6, 17, 18 and 19.
+-- The configuration writes are Commands 6, 17, 18, 19 and 22.
 abbrev pub is_write : ℕ → Bool
-is_write command = (command == 6) || (command == 17) || (command == 18) || (command == 19)
+is_write command = (command == 6) || (command == 17) || (command == 18) || (command == 19) || (command == 22)
 
 -- A given counter of Command 38 that is not the device's is refused with code 9; nothing else is, if the data are good.
 abbrev pub counter_code : Request → ℕ → ℕ

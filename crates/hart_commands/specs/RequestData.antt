@@ -6,7 +6,7 @@ use Rattle.hart_values.specs.declared.loop_mode.LoopMode.TheVariants.{Disabled, 
 use Rattle.hart_values.specs.Calendar.{IsDateBytes, is_date}
 use Rattle.hart_commands.specs.TagBytes.{tag_in, descriptor_in, date_in}
 use Rattle.hart_commands.specs.declared.request.Request.{Request}
-use Rattle.hart_commands.specs.declared.request.Request.TheVariants.{Identify, ReadPrimary, ReadCurrent, ReadDynamic, SetPolling, ReadPolling, ReadClasses, ReadVariables, IdentifyByTag, ReadMessage, ReadTag, ReadSensor, ReadOutput, ReadAssembly, WriteMessage, WriteTag, WriteAssembly, ResetChanged, ReadMore}
+use Rattle.hart_commands.specs.declared.request.Request.TheVariants.{Identify, ReadPrimary, ReadCurrent, ReadDynamic, SetPolling, ReadPolling, ReadClasses, ReadVariables, IdentifyByTag, ReadMessage, ReadTag, ReadSensor, ReadOutput, ReadAssembly, WriteMessage, WriteTag, WriteAssembly, ReadLongTag, IdentifyByLongTag, WriteLongTag, ResetChanged, ReadMore}
 
 -- Data are read as a request, or refused with a response code.
 abbrev pub Reading : Type 0
@@ -85,6 +85,9 @@ request_row command =
     else if command == 17 then Some (needing 24 WriteMessage)
     else if command == 18 then Some tag_reading
     else if command == 19 then Some (needing 3 WriteAssembly)
+    else if command == 20 then Some (always ReadLongTag)
+    else if command == 21 then Some (needing 32 IdentifyByLongTag)
+    else if command == 22 then Some (needing 32 WriteLongTag)
     else if command == 38 then Some reset_reading
     else if command == 48 then Some (always ReadMore)
     else None
@@ -121,6 +124,9 @@ command_of ReadAssembly = 16
 command_of (WriteMessage message) = 17
 command_of (WriteTag tag descriptor date) = 18
 command_of (WriteAssembly assembly) = 19
+command_of ReadLongTag = 20
+command_of (IdentifyByLongTag long_tag) = 21
+command_of (WriteLongTag long_tag) = 22
 command_of (ResetChanged counter) = 38
 command_of ReadMore = 48
 
@@ -133,6 +139,8 @@ request_data (IdentifyByTag tag) = tag
 request_data (WriteMessage message) = message
 request_data (WriteTag tag descriptor date) = tag ++ descriptor ++ date
 request_data (WriteAssembly assembly) = assembly
+request_data (IdentifyByLongTag long_tag) = long_tag
+request_data (WriteLongTag long_tag) = long_tag
 request_data (ResetChanged None) = []
 request_data (ResetChanged (Some counter)) = counter / 256 ∷ counter % 256 ∷ []
 request_data _ = []
@@ -145,6 +153,8 @@ IsRequest (IdentifyByTag tag) = length tag ≡ 6
 IsRequest (WriteMessage message) = length message ≡ 24
 IsRequest (WriteTag tag descriptor date) = (length tag ≡ 6) × (length descriptor ≡ 12) × IsDateBytes date
 IsRequest (WriteAssembly assembly) = length assembly ≡ 3
+IsRequest (IdentifyByLongTag long_tag) = length long_tag ≡ 32
+IsRequest (WriteLongTag long_tag) = length long_tag ≡ 32
 IsRequest _ = Unit {0}
 
 -- Anything may follow the data of a request, but nothing after fewer than eight codes of Command 9, which would be read as a

@@ -7,7 +7,7 @@ use hart_values::{Bits32, ByteList, PackedText};
 /// date.
 #[derive(Debug, Drop, PartialEq, Eq)]
 pub enum ReplyContent {
-    /// Who the device is (Commands 0 and 11).
+    /// Who the device is (Commands 0, 11 and 21).
     Identity(IdentityContent),
     /// The primary variable (Command 1).
     Primary(UnitValue),
@@ -48,6 +48,8 @@ pub enum ReplyContent {
     Output(OutputContent),
     /// The final assembly number (Commands 16 and 19).
     Assembly([u8; 3]),
+    /// The long tag (Commands 20 and 22).
+    LongTag([u8; 32]),
     /// The configuration change counter (Command 38).
     Counter([u8; 2]),
     /// The additional status bytes, one to 25 (Command 48).

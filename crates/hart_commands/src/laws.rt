@@ -42,6 +42,9 @@ pub fn requests_are_well_made(request: &Request)
         Request::WriteAssembly(assembly) => {
             let _bytes: &[u8] = assembly;
         }
+        Request::IdentifyByLongTag(long_tag) | Request::WriteLongTag(long_tag) => {
+            let _bytes: &[u8] = long_tag;
+        }
         _ => {}
     }
 }

@@ -49,6 +49,7 @@ impl<'a> Overwrite<'a> {
                 _ => None,
             },
             Request::WriteAssembly(assembly) if register == Register::Assembly => Some(assembly),
+            Request::WriteLongTag(long_tag) if register == Register::LongTag => Some(long_tag),
             _ => None,
         }
     }
@@ -65,9 +66,9 @@ pub fn writes_of(request: &Request) -> Option<Overwrite<'_>>
     }
 }
 
-/// Whether a command is a configuration write: 6, 17, 18 or 19.
+/// Whether a command is a configuration write: 6, 17, 18, 19 or 22.
 pub fn is_write(command: u8) -> bool
     ensures { result ≡ is_write command }
 {
-    matches!(command, 6 | 17 | 18 | 19)
+    matches!(command, 6 | 17 | 18 | 19 | 22)
 }

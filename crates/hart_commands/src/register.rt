@@ -15,11 +15,13 @@ pub enum Register {
     Date,
     /// The final assembly number, 3 bytes (Command 19).
     Assembly,
+    /// The long tag, 32 bytes (Command 22).
+    LongTag,
 }
 
 impl Register {
     /// Every register once, in the order of an image.
-    pub const ALL: [Register; 7] = [
+    pub const ALL: [Register; 8] = [
         Register::Polling,
         Register::Mode,
         Register::Message,
@@ -27,5 +29,6 @@ impl Register {
         Register::Descriptor,
         Register::Date,
         Register::Assembly,
+        Register::LongTag,
     ];
 }

@@ -53,6 +53,12 @@ pub enum Request {
     },
     /// Command 19, a write: the final assembly number.
     WriteAssembly([u8; 3]),
+    /// Command 20: the long tag.
+    ReadLongTag,
+    /// Command 21: who the device with this long tag is.
+    IdentifyByLongTag([u8; 32]),
+    /// Command 22, a write: the long tag.
+    WriteLongTag([u8; 32]),
     /// Command 38: that this master has seen the changes of the configuration, up to this configuration change counter, if
     /// it names one.
     ResetChanged(Option<u16>),
@@ -90,6 +96,9 @@ impl Request {
             17 => Request::WriteMessage(PackedText::from_bytes(needed(bytes)?)),
             18 => read_tag(bytes)?,
             19 => Request::WriteAssembly(needed(bytes)?),
+            20 => Request::ReadLongTag,
+            21 => Request::IdentifyByLongTag(needed(bytes)?),
+            22 => Request::WriteLongTag(needed(bytes)?),
             38 => read_reset(bytes)?,
             48 => Request::ReadMore,
             _ => return Err(ResponseCode::COMMAND_NOT_IMPLEMENTED),
@@ -120,6 +129,9 @@ impl Request {
             Request::WriteMessage(_) => 17,
             Request::WriteTag { .. } => 18,
             Request::WriteAssembly(_) => 19,
+            Request::ReadLongTag => 20,
+            Request::IdentifyByLongTag(_) => 21,
+            Request::WriteLongTag(_) => 22,
             Request::ResetChanged(_) => 38,
             Request::ReadMore => 48,
         }
@@ -136,10 +148,7 @@ impl Request {
             Request::ReadPrimary => Request::ReadPrimary,
             Request::ReadCurrent => Request::ReadCurrent,
             Request::ReadDynamic => Request::ReadDynamic,
-            Request::SetPolling { address, mode } => Request::SetPolling {
-                address: *address,
-                mode: *mode,
-            },
+            &Request::SetPolling { address, mode } => Request::SetPolling { address, mode },
             Request::ReadPolling => Request::ReadPolling,
             Request::ReadClasses => Request::ReadClasses,
             Request::ReadVariables(codes) => Request::ReadVariables(codes.copy()),
@@ -150,16 +159,19 @@ impl Request {
             Request::ReadOutput => Request::ReadOutput,
             Request::ReadAssembly => Request::ReadAssembly,
             Request::WriteMessage(message) => Request::WriteMessage(*message),
-            Request::WriteTag {
+            &Request::WriteTag {
                 tag,
                 descriptor,
                 date,
             } => Request::WriteTag {
-                tag: *tag,
-                descriptor: *descriptor,
-                date: *date,
+                tag,
+                descriptor,
+                date,
             },
             Request::WriteAssembly(assembly) => Request::WriteAssembly(*assembly),
+            Request::ReadLongTag => Request::ReadLongTag,
+            Request::IdentifyByLongTag(long_tag) => Request::IdentifyByLongTag(*long_tag),
+            Request::WriteLongTag(long_tag) => Request::WriteLongTag(*long_tag),
             Request::ResetChanged(counter) => Request::ResetChanged(*counter),
             Request::ReadMore => Request::ReadMore,
         }
@@ -190,6 +202,9 @@ impl Request {
                 data.extend_from_slice(date.as_bytes());
             }
             Request::WriteAssembly(assembly) => data.extend_from_slice(assembly),
+            Request::IdentifyByLongTag(long_tag) | Request::WriteLongTag(long_tag) => {
+                data.extend_from_slice(long_tag);
+            }
             Request::ResetChanged(Some(counter)) => {
                 data.extend_from_slice(&counter.to_be_bytes());
             }
@@ -202,7 +217,7 @@ impl Request {
 pub(crate) fn is_known(command: u8) -> bool
     ensures { result ≡ is_known command }
 {
-    matches!(command, 0..=3 | 6..=9 | 11..=19 | 38 | 48)
+    matches!(command, 0..=3 | 6..=9 | 11..=22 | 38 | 48)
 }
 
 /// The byte of a loop current mode: 0 disabled, 1 enabled.

@@ -31,6 +31,14 @@ const REQUESTS: &[(u8, &[u8], &[u8])] = &[
     (9, &[0xF5], &[0xF5]),
     (18, &TAG, &TAG),
     (19, &[0x01, 0x23, 0x45, 0x67], &[0x01, 0x23, 0x45]),
+    (20, &[], &[]),
+    (20, &[0x20; 31], &[]),
+    (20, &[0x20; 32], &[]),
+    (20, &[0x20; 33], &[]),
+    (21, &[0x20; 32], &[0x20; 32]),
+    (21, &[0x20; 33], &[0x20; 32]),
+    (22, &[0xFF; 32], &[0xFF; 32]),
+    (22, &[0xFF; 33], &[0xFF; 32]),
     (38, &[], &[]),
     (38, &[0x00, 0x01], &[0x00, 0x01]),
     (38, &[0x00, 0x01, 0x99], &[0x00, 0x01]),
@@ -59,14 +67,17 @@ const REFUSED: &[(u8, &[u8], u8)] = &[
     (18, &BAD_DATE, 9),
     (18, &TAG_WITHOUT_YEAR, 5),
     (19, &[0x01, 0x23], 5),
+    (21, &[], 5),
+    (21, &[0x20; 31], 5),
+    (22, &[], 5),
+    (22, &[0xFF; 31], 5),
     (38, &[0x00], 5),
     (4, &[], 64),
     (5, &[], 64),
     (10, &[], 64),
-    (20, &[], 64),
-    (21, &[], 64),
-    (22, &[], 64),
+    (23, &[], 64),
     (31, &[], 64),
+    (37, &[], 64),
     (255, &[], 64),
 ];
 
@@ -79,6 +90,9 @@ fn bad_data_are_refused(rt: HostRuntime) {
         assert_eq!(rt; code, Some(*want), "of {command} with {bytes:?}");
     }
 }
+
+/// The commands that an identity replies to.
+const IDENTIFYING: &[u8] = &[0, 11, 21];
 
 /// The identity of a device, in 22 bytes and three that follow.
 const IDENTITY: [u8; 27] = [
@@ -106,6 +120,10 @@ const LENGTHS: &[(u8, usize, usize)] = &[
     (9, 2 + 13, 2 + 13),
     (9, 2 + 21, 2 + 21),
     (9, 2 + 69, 2 + 69),
+    (20, 2 + 32, 2 + 32),
+    (20, 2 + 33, 2 + 32),
+    (22, 2 + 32, 2 + 32),
+    (22, 2 + 33, 2 + 32),
     (48, 2 + 1, 2 + 1),
     (48, 2 + 25, 2 + 25),
     (48, 2 + 26, 2 + 25),
@@ -129,6 +147,12 @@ const NO_REPLIES: &[(u8, &[u8])] = &[
     (0, &[0, 0, 0xFE]),
     (3, &[0, 0, 1, 2, 3, 4, 5, 6, 7, 8]),
     (9, &[0, 0, 1, 2, 3, 4, 5, 6, 7, 8, 9, 10, 11, 12]),
+    (20, &[0, 0]),
+    (20, &[0; 33]),
+    (21, &NO_IDENTITY),
+    (21, &[0; 34]),
+    (22, &[0, 0]),
+    (22, &[0; 33]),
     (48, &[0, 0]),
     (19, &[0x88, 0x00]),
     (19, &[0x00]),
@@ -166,6 +190,10 @@ fn an_identity_has_its_parts(rt: HostRuntime) -> Result<(), Fail> {
         device_profile: 1,
     };
     assert_eq!(rt; reply.content, ReplyContent::Identity(want));
+    for command in IDENTIFYING {
+        let same = Reply::read(*command, &IDENTITY).ok_or("an identity")?;
+        assert_eq!(rt; same.content, reply.content, "of {command}");
+    }
     let mut payload = Payload::new();
     reply.write(&mut payload);
     assert_eq!(rt; payload.as_slice(), &IDENTITY[..24]);
@@ -194,6 +222,7 @@ const NAMED: &[(Register, Option<&[u8]>)] = &[
     ),
     (Register::Date, Some(&[0x1D, 0x02, 0x64])),
     (Register::Assembly, None),
+    (Register::LongTag, None),
 ];
 
 #[test]
@@ -202,6 +231,26 @@ fn a_write_names_its_registers(rt: HostRuntime) -> Result<(), Fail> {
     let overwrite = writes_of(&request).ok_or("a write")?;
     for (register, want) in NAMED {
         assert_eq!(rt; overwrite.get(*register), *want, "of {register:?}");
+    }
+    Ok(())
+}
+
+#[test]
+fn a_long_tag_has_any_bytes(rt: HostRuntime) -> Result<(), Fail> {
+    for byte in 0..=255u8 {
+        let long_tag = [byte; 32];
+        let request = Request::read(22, &long_tag)?;
+        assert_eq!(rt; request, Request::WriteLongTag(long_tag));
+        let overwrite = writes_of(&request).ok_or("a write")?;
+        assert_eq!(rt; overwrite.get(Register::LongTag), Some(long_tag.as_slice()));
+        let mut payload = Payload::new();
+        request.write(&mut payload);
+        assert_eq!(rt; payload.as_slice(), long_tag.as_slice());
+        payload.clear();
+        payload.extend_from_slice(&[0; 2]);
+        payload.extend_from_slice(&long_tag);
+        let reply = Reply::read(20, payload.as_slice()).ok_or("a reply")?;
+        assert_eq!(rt; reply.content, ReplyContent::LongTag(long_tag));
     }
     Ok(())
 }

@@ -15,7 +15,7 @@ pub fn read_content(command: u8, bytes: &[u8]) -> Option<ReplyContent>
     ensures { result ≡ content_reading command bytes.now }
 {
     match command {
-        0 | 11 => read_identity(bytes),
+        0 | 11 | 21 => read_identity(bytes),
         1 => read_primary(bytes),
         2 => read_current(bytes),
         3 => read_dynamic(bytes),
@@ -27,13 +27,14 @@ pub fn read_content(command: u8, bytes: &[u8]) -> Option<ReplyContent>
         14 => read_sensor(bytes),
         15 => read_output(bytes),
         16 | 19 => Some(ReplyContent::Assembly(*bytes.first_chunk()?)),
+        20 | 22 => Some(ReplyContent::LongTag(*bytes.first_chunk()?)),
         38 => Some(ReplyContent::Counter(*bytes.first_chunk()?)),
         48 => read_more(bytes),
         _ => None,
     }
 }
 
-/// Commands 0 and 11: an identity, which begins with 254.
+/// Commands 0, 11 and 21: an identity, which begins with 254.
 fn read_identity(bytes: &[u8]) -> Option<ReplyContent>
     ensures { result ≡ identity_reading bytes.now }
 {

@@ -53,6 +53,7 @@ pub fn push_content(content: &ReplyContent, payload: &mut Payload)
         ReplyContent::Sensor(sensor) => sensor.push_to(payload),
         ReplyContent::Output(output) => output.push_to(payload),
         ReplyContent::Assembly(assembly) => payload.extend_from_slice(assembly),
+        ReplyContent::LongTag(long_tag) => payload.extend_from_slice(long_tag),
         ReplyContent::Counter(counter) => payload.extend_from_slice(counter),
         ReplyContent::More(status) => payload.extend_from_slice(status.as_slice()),
         ReplyContent::Refused => {}

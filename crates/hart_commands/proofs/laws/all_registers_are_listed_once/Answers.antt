@@ -1,6 +1,6 @@
 use Rattle.std.proofs.Common.{Contains, refl, lit<}
 use Rattle.hart_commands.specs.declared.register.Register.{Register}
-use Rattle.hart_commands.specs.declared.register.Register.TheVariants.{Polling, Mode, Message, Tag, Descriptor, Date, Assembly}
+use Rattle.hart_commands.specs.declared.register.Register.TheVariants.{Polling, Mode, Message, Tag, Descriptor, Date, Assembly, LongTag}
 use Rattle.hart_commands.specs.Registers.{registers}
 use Rattle.hart_commands.proofs.laws.all_registers_are_listed_once.Goals as goal
 
@@ -12,6 +12,7 @@ listed Tag = (3, lit< tt, refl)
 listed Descriptor = (4, lit< tt, refl)
 listed Date = (5, lit< tt, refl)
 listed Assembly = (6, lit< tt, refl)
+listed LongTag = (7, lit< tt, refl)
 
 pub returns-clause-every : goal.returns-clause-every
 returns-clause-every c = listed

@@ -1,5 +1,5 @@
-use Rattle.hart_commands.specs.declared.register.Register.TheVariants.{Polling, Message, Tag, Assembly}
-use Rattle.hart_commands.specs.declared.request.Request.TheVariants.{SetPolling, WriteMessage, WriteTag, WriteAssembly}
+use Rattle.hart_commands.specs.declared.register.Register.TheVariants.{Polling, Message, Tag, Assembly, LongTag}
+use Rattle.hart_commands.specs.declared.request.Request.TheVariants.{SetPolling, WriteMessage, WriteTag, WriteAssembly, WriteLongTag}
 use Rattle.hart_commands.proofs.laws.writes_have_overwrites.Goals as goal
 
 -- src/laws.rt:90:1
@@ -8,4 +8,5 @@ returns-clause-some_register c (SetPolling address mode) write = (Polling, cc)
 returns-clause-some_register c (WriteMessage message) write = (Message, cc)
 returns-clause-some_register c (WriteTag tag descriptor date) write = (Tag, cc)
 returns-clause-some_register c (WriteAssembly assembly) write = (Assembly, cc)
+returns-clause-some_register c (WriteLongTag long_tag) write = (LongTag, cc)
 returns-clause-some_register c _ write = cc
