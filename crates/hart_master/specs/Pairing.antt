@@ -6,7 +6,9 @@ use Rattle.hart_values.specs.declared.address.Address.TheVariants.{Polling, Uniq
 use Rattle.hart_commands.specs.RequestData.{command_of}
 use Rattle.hart_commands.specs.declared.request.Request.{Request}
 
--- To a polling address Command 0 alone is sent, to broadcast Command 11 alone, and to any other unique address every command.
+-- To a polling address Command 0 alone is sent, to broadcast Commands 11 and 21 alone, and to any other unique address every
+-- command.
 abbrev pub may_ask : Address → Request → Bool
 may_ask (Polling number) request = command_of request == 0
-may_ask (Unique numbers) request = not (is_broadcast (Unique numbers)) || (command_of request == 11)
+may_ask (Unique numbers) request =
+    not (is_broadcast (Unique numbers)) || (command_of request == 11) || (command_of request == 21)

@@ -96,8 +96,8 @@ impl Master {
     /// # Errors
     ///
     /// [`MasterFault::Pending`] if one is in hand already, whatever the address; then [`MasterFault::WrongAddress`] for a
-    /// polling address with a command other than 0, and for broadcast with a command other than 11. The request is handed back,
-    /// and the master is as it was.
+    /// polling address with a command other than 0, and for broadcast with a command other than 11 and 21. The request is
+    /// handed back, and the master is as it was.
     pub fn submit(&mut self, address: Address, request: Request) -> Result<(), Rejected>
         ensures result { result ≡ result_submitted self.old.hand address request }
         ensures state { self.new ≡ record self.old { hand = hand_submitted self.old.hand address request } }

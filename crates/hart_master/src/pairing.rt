@@ -5,13 +5,13 @@ ghost use Rattle.hart_master.specs.Pairing.{may_ask};
 use hart_commands::Request;
 use hart_values::Address;
 
-/// Whether the request may be sent to this address: to a polling address Command 0 alone, to broadcast Command 11 alone, and to
-/// any other address every command.
+/// Whether the request may be sent to this address: to a polling address Command 0 alone, to broadcast Commands 11 and 21
+/// alone, and to any other address every command.
 pub(crate) fn may_ask(address: Address, request: &Request) -> bool
     ensures { result ≡ may_ask address request.now }
 {
     match address {
         Address::Polling(_) => request.command() == 0,
-        Address::Unique(_) => !address.is_broadcast() || request.command() == 11,
+        Address::Unique(_) => !address.is_broadcast() || matches!(request.command(), 11 | 21),
     }
 }

@@ -51,6 +51,11 @@ const SUBMISSIONS: &[(&[u8], u8, &[u8], Option<MasterFault>)] = &[
     (DEVICE, 1, &[], None),
     (ALL, 0, &[], Some(MasterFault::WrongAddress)),
     (ALL, 11, &[0x41, 0x53, 0x50, 0xB7, 0x1C, 0x31], None),
+    (ALL, 20, &[], Some(MasterFault::WrongAddress)),
+    (ALL, 21, &[0x20; 32], None),
+    (ALL, 22, &[0x20; 32], Some(MasterFault::WrongAddress)),
+    (POLLING, 21, &[0x20; 32], Some(MasterFault::WrongAddress)),
+    (DEVICE, 21, &[0x20; 32], None),
 ];
 
 /// The address of these bytes.
@@ -241,6 +246,7 @@ const NOWHERE: &[u8] = &[
 const IDENTITIES: &[(u8, &[u8], Option<(u16, u32)>)] = &[
     (0, IDENTITY, Some((0x3742, 0x0A1B2C))),
     (11, IDENTITY, Some((0x3742, 0x0A1B2C))),
+    (21, IDENTITY, Some((0x3742, 0x0A1B2C))),
     (0, LONG_TYPE, Some((0x3F42, 0x0A1B2C))),
     (0, NOWHERE, None),
     (0, &[0x20, 0x00], None),
