@@ -91,7 +91,7 @@ fn bad_data_are_refused(rt: HostRuntime) {
     }
 }
 
-/// The commands that an identity replies to.
+/// The commands that are replied to with an identity.
 const IDENTIFYING: &[u8] = &[0, 11, 21];
 
 /// The identity of a device, in 22 bytes and three that follow.
@@ -150,6 +150,7 @@ const NO_REPLIES: &[(u8, &[u8])] = &[
     (20, &[0, 0]),
     (20, &[0; 33]),
     (21, &NO_IDENTITY),
+    (21, &[0, 0, 0xFE]),
     (21, &[0; 34]),
     (22, &[0, 0]),
     (22, &[0; 33]),
