@@ -1,125 +1,209 @@
 -- What an image says, and that it says one thing.
-use Rattle.std.proofs.Common.{◌≡◌, ℕ, ◌+◌, ◌-◌, ◌*◌, ◌/◌, ◌%◌, ◌^◌, ◌<◌, ◌≤◌, ◌⊎◌, inl, inr, refl, sym, ap, ◌∙◌, subst, arith}
-use Rattle.std.proofs.Common.{Bool, true, false, ◌==◌, if◌then◌else◌, Some, None, List, [], ◌∷◌, ◌++◌, length, drop, slice_index}
-use Rattle.std.specs.List.{Contains, flat_map, slice_index_or}
+use Rattle.std.proofs.Common.{◌≡◌, ◌≢◌, ℕ, zero, suc, ◌+◌, ◌-◌, ◌*◌, ◌/◌, ◌%◌, ◌^◌, ◌<◌, ◌≤◌, ◌⊎◌}
+use Rattle.std.proofs.Common.{inl, inr, refl, sym, ap, ◌∙◌, subst, arith}
+use Rattle.std.proofs.Common.{Bool, true, false, ◌==◌, if◌then◌else◌, Some, None, List, [], ◌∷◌, ◌++◌, length, drop, replicate, slice_index}
+use Rattle.std.specs.List.{Contains, flat_map, slice_index_or, sum_by}
 use Rattle.std.proofs.lemmas.Bool.Decides.{nat_tests}
 use Rattle.std.proofs.lemmas.Grind.{common_steps, elements}
 use Rattle.std.proofs.lemmas.List.{drop_at, take-append-le}
 use Rattle.std.proofs.lemmas.Slice.{between_is}
+use Rattle.hart_values.specs.Packing.{IsPacked}
 use Rattle.hart_values.specs.declared.each_master.EachMaster.{EachMaster}
-use Rattle.hart_commands.specs.Registers.{AreValid, Contents, bytes_in, registers}
+use Rattle.hart_commands.specs.Registers.{AreValid, Contents, bytes_in, registers, size_of}
 use Rattle.hart_commands.specs.declared.register.Register.{Register}
+use Rattle.hart_commands.specs.declared.register.Register.TheVariants.{Polling, Mode, Message, Tag, Descriptor, Date, Assembly, LongTag}
 use Rattle.hart_device.specs.declared.fault.DeviceFault.{DeviceFault}
 use Rattle.hart_device.specs.declared.fault.DeviceFault.TheVariants.{BadField, BadLength, BadVersion, BroadcastAddress, OutOfRange}
 use Rattle.hart_device.specs.Device.{DeviceState}
 use Rattle.hart_device.specs.Identity.{two_bytes}
-use Rattle.hart_device.specs.Image.{HasBadField, HasBadRegister, IsImageOf, IsImageFault, ending_of, flags_of}
-use Rattle.hart_device.specs.Image.{image_bytes, image_length, image_of, registers_of_version}
+use Rattle.hart_device.specs.Image.{HasBadField, HasBadRegister, IsImageOf, IsImageFault, IsLongTagOf, ending_of, flags_of}
+use Rattle.hart_device.specs.Image.{image_bytes, image_length, registers_of_version, registers_of_version_1}
 use Rattle.hart_device.specs.ImageParts.{state_with}
-use Rattle.hart_device.specs.Ranges.{array_length, contents_in, end_of, standing_for, start_of}
+use Rattle.hart_device.specs.Ranges.{contents_in, end_of, standing_for, start_of}
 use Rattle.hart_device.specs.Values.{values_of}
 use Rattle.hart_device.specs.declared.identity_parts.IdentityParts.{IdentityParts}
 use Rattle.hart_device.specs.declared.image.ImageParts.{ImageParts}
-use Rattle.hart_device.proofs.RangeLemmas.{length_written, table, written}
-use Rattle.hart_device.proofs.RegistersLemmas.{same_contents}
+use Rattle.hart_device.proofs.RangeLemmas.{end_to_end, length_written, written}
+use Rattle.hart_device.proofs.RegistersLemmas.{bytes_in-contents_by, same_contents}
 
--- Version 1 is the one that is known, and it has every register.
-pub known_version : (version : ℕ) (held : List Register) → registers_of_version version ≡ Some held
-    → (version ≡ 1) × (held ≡ registers)
+-- Version 1 is known, with all registers but the long tag, and version 2, with all.
+known_version : (version : ℕ) (held : List Register) → registers_of_version version ≡ Some held
+    → ((version ≡ 1) × (held ≡ registers_of_version_1)) ⊎ ((version ≡ 2) × (held ≡ registers))
 known_version version held known = by_test (version == 1) refl known
   where
-    by_test : (is_one : Bool) → (version == 1) ≡ is_one → (if is_one then Some registers else None) ≡ Some held
-        → (version ≡ 1) × (held ≡ registers)
-    by_test true test is = (grind (arith, nat_tests, test), cc)
-    by_test false test is = cc
+    by_second : (is_two : Bool) → (version == 2) ≡ is_two → (if is_two then Some registers else None) ≡ Some held
+        → ((version ≡ 1) × (held ≡ registers_of_version_1)) ⊎ ((version ≡ 2) × (held ≡ registers))
+    by_second true test is = inr (grind (arith, nat_tests, test), cc)
+    by_second false test is = cc
 
--- So an image is what the device writes.
-pub one_image : (state : DeviceState) (image : List ℕ) → IsImageOf state image → image ≡ image_of state
-one_image state image is =
-    let version = known_version is.version is.listed is.known in
-    is.written ∙ ap (λ v. image_bytes v is.listed state) version.0 ∙ ap (λ held. image_bytes 1 held state) version.1
+    by_test : (is_one : Bool) → (version == 1) ≡ is_one
+        → (if is_one then Some registers_of_version_1 else if version == 2 then Some registers else None) ≡ Some held
+        → ((version ≡ 1) × (held ≡ registers_of_version_1)) ⊎ ((version ≡ 2) × (held ≡ registers))
+    by_test true test is = inl (grind (arith, nat_tests, test), cc)
+    by_test false test is = by_second (version == 2) refl is
+
+-- A version has one list of registers.
+one_list : (version : ℕ) (listed other : List Register) → registers_of_version version ≡ Some listed
+    → registers_of_version version ≡ Some other → listed ≡ other
+one_list version listed other known same = let both = sym known ∙ same in cc
+
+-- The registers of a version stand end to end.
+ends_of : (version : ℕ) (held : List Register) → registers_of_version version ≡ Some held → end_to_end 0 held ≡ true
+ends_of version held known = by_version (known_version version held known)
+  where
+    by_version : ((version ≡ 1) × (held ≡ registers_of_version_1)) ⊎ ((version ≡ 2) × (held ≡ registers)) → end_to_end 0 held ≡ true
+    by_version (inl one) = rw one.1 refl
+    by_version (inr two) = rw two.1 refl
+
+-- The long tag is not among the registers of version 1.
+no_long_tag : Contains registers_of_version_1 LongTag → ⊥
+no_long_tag (zero, within, is) = cc
+no_long_tag (suc zero, within, is) = cc
+no_long_tag (suc (suc zero), within, is) = cc
+no_long_tag (suc (suc (suc zero)), within, is) = cc
+no_long_tag (suc (suc (suc (suc zero))), within, is) = cc
+no_long_tag (suc (suc (suc (suc (suc zero)))), within, is) = cc
+no_long_tag (suc (suc (suc (suc (suc (suc zero))))), within, is) = cc
+no_long_tag (suc (suc (suc (suc (suc (suc (suc k)))))), within, is) = absurd (omega (arith, within))
+
+-- So a register of version 1 is not the long tag.
+pub listed_differs : (register : Register) → Contains registers_of_version_1 register → register ≢ LongTag
+listed_differs register listed same = no_long_tag (subst (λ r. Contains registers_of_version_1 r) same listed)
+
+-- A register that a version has not is the long tag.
+listed_or_not : (version : ℕ) (held : List Register) → registers_of_version version ≡ Some held
+    → ((register : Register) → Contains registers register) → (register : Register)
+    → Contains held register ⊎ ((register ≡ LongTag) × (Contains held LongTag → ⊥) × Contains held Tag)
+listed_or_not version held known every register = by_version (known_version version held known) register
+  where
+    in_first : (r : Register)
+        → Contains registers_of_version_1 r
+        ⊎ ((r ≡ LongTag) × (Contains registers_of_version_1 LongTag → ⊥) × Contains registers_of_version_1 Tag)
+    in_first LongTag = inr (refl, no_long_tag, (3, omega arith, refl))
+    in_first Polling = inl (0, omega arith, refl)
+    in_first Mode = inl (1, omega arith, refl)
+    in_first Message = inl (2, omega arith, refl)
+    in_first Tag = inl (3, omega arith, refl)
+    in_first Descriptor = inl (4, omega arith, refl)
+    in_first Date = inl (5, omega arith, refl)
+    in_first Assembly = inl (6, omega arith, refl)
+
+    by_version : ((version ≡ 1) × (held ≡ registers_of_version_1)) ⊎ ((version ≡ 2) × (held ≡ registers)) → (r : Register)
+        → Contains held r ⊎ ((r ≡ LongTag) × (Contains held LongTag → ⊥) × Contains held Tag)
+    by_version (inl one) r =
+        subst (λ (xs : List Register). Contains xs r ⊎ ((r ≡ LongTag) × (Contains xs LongTag → ⊥) × Contains xs Tag))
+        (sym one.1) (in_first r)
+    by_version (inr two) r = inl (rw two.1 (every r))
+
+-- What an image of a version says of its device.
+said : (state : DeviceState) (version : ℕ) (rest : List ℕ) (held : List Register) → registers_of_version version ≡ Some held
+    → IsImageOf state (version ∷ rest)
+    → (rest ≡ flat_map (bytes_in state.contents) held ++ ending_of state)
+    × ((Contains held LongTag → ⊥) → IsLongTagOf state.contents.tag state.contents.long_tag)
+said state version rest held known is =
+    let first : version ≡ is.version = ap (λ xs. slice_index xs 0) is.written in
+    let list : is.listed ≡ held = one_list is.version is.listed held is.known (rw (← first) known) in (
+      ap (drop 1) is.written ∙ ap (λ listed. flat_map (bytes_in state.contents) listed ++ ending_of state) list,
+      subst (λ (listed : List Register). (Contains listed LongTag → ⊥) → IsLongTagOf state.contents.tag state.contents.long_tag)
+          list is.long_tag,
+    )
+
+-- A state has one image of each version.
+pub one_image : (state : DeviceState) (image other : List ℕ) (is : IsImageOf state image) (other_is : IsImageOf state other)
+    → is.version ≡ other_is.version → image ≡ other
+one_image state image other is other_is same =
+    let list : is.listed ≡ other_is.listed =
+    one_list is.version is.listed other_is.listed is.known (rw same other_is.known) in
+    is.written ∙ (λ i. image_bytes (same i) (list i) state) ∙ sym other_is.written
 
 -- The flags are below 8.
 pub flags_of-le : (changed : EachMaster Bool) (protected : Bool) → flags_of changed protected ≤ 7
 flags_of-le changed protected = grind arith
 
--- As many bytes as all registers have stand before its ending.
-pub held_len : (state : DeviceState) → AreValid state.contents → length (flat_map (bytes_in state.contents) registers) ≡ array_length
-held_len state valid = length_written (bytes_in state.contents) (λ r. (valid r).0) registers
+-- As many bytes as its registers have stand before the ending of an image.
+pub held_len : (state : DeviceState) → AreValid state.contents → (held : List Register)
+    → length (flat_map (bytes_in state.contents) held) ≡ sum_by size_of held
+held_len state valid = length_written (bytes_in state.contents) (λ r. (valid r).0)
 
--- What stands for a register in an image is what it holds.
-pub held_in_image : (state : DeviceState) → AreValid state.contents → ((register : Register) → Contains registers register)
-    → (register : Register)
-    → standing_for register (flat_map (bytes_in state.contents) registers ++ ending_of state) ≡ bytes_in state.contents register
-held_in_image state valid every register =
-    let listed = every register in
-    let same : slice_index_or registers listed.0 register ≡ register = listed.2 in
-    subst (λ (r : Register). standing_for r (flat_map (bytes_in state.contents) registers ++ ending_of state) ≡ bytes_in state.contents r)
-    same (written (bytes_in state.contents) [] (ending_of state) registers table (λ r. (valid r).0) listed.0 register listed.1)
+-- What stands for a register in an image that has it is what it holds.
+pub held_in_image : (state : DeviceState) → AreValid state.contents → (held : List Register) → end_to_end 0 held ≡ true
+    → (register : Register) → Contains held register
+    → standing_for register (flat_map (bytes_in state.contents) held ++ ending_of state) ≡ bytes_in state.contents register
+held_in_image state valid held ends register listed =
+    let same : slice_index_or held listed.0 register ≡ register = listed.2 in
+    subst (λ (r : Register). standing_for r (flat_map (bytes_in state.contents) held ++ ending_of state) ≡ bytes_in state.contents r)
+    same (written (bytes_in state.contents) [] (ending_of state) held ends (λ r. (valid r).0) listed.0 register listed.1)
 
--- What was read of the bytes of an image is what they say.
-pub read_is : (parts : ImageParts) (array end : List ℕ) → flat_map (λ register. standing_for register array) registers ≡ array
+-- What was read of the registers in an array, and of the bytes that end an image, is what the image says.
+pub read_is : (version : ℕ) (held : List Register) → registers_of_version version ≡ Some held
+    → (parts : ImageParts) (array prefix end : List ℕ) → flat_map (λ register. standing_for register array) held ≡ prefix
+    → ((Contains held LongTag → ⊥) → IsLongTagOf (standing_for Tag array) (standing_for LongTag array))
     → values_of parts.values ≡ contents_in array → AreValid (values_of parts.values) × (parts.counter < 2 ^ 16)
     → two_bytes parts.counter ++ flags_of parts.flags.changed parts.flags.protected ∷ [] ≡ end
-    → (identity : IdentityParts) → IsImageOf (state_with identity parts) (1 ∷ (array ++ end))
-read_is parts array end fill contents valid ends identity = record {
+    → (identity : IdentityParts) → IsImageOf (state_with identity parts) (version ∷ (prefix ++ end))
+read_is version held known parts array prefix end fill long_tag contents valid ends identity = record {
   contents = valid.0;
   counter = valid.1;
-  version = 1;
-  listed = registers;
-  known = refl;
-  written = ap (λ xs. 1 ∷ xs) (ap (λ xs. array ++ xs) (sym ends) ∙ ap (λ xs. xs ++ ending_of (state_with identity parts)) (sym fill)
-      ∙ ap (λ (c : Contents). flat_map (bytes_in c) registers ++ ending_of (state_with identity parts)) (sym contents));
+  version = version;
+  listed = held;
+  known = known;
+  long_tag = subst (λ (c : Contents). (Contains held LongTag → ⊥) → IsLongTagOf c.tag c.long_tag) (sym contents) long_tag;
+  written = ap (λ xs. version ∷ xs) (ap (λ xs. prefix ++ xs) (sym ends) ∙ ap (λ xs. xs ++ ending_of (state_with identity parts)) (sym fill)
+      ∙ ap (λ (bytes : Register → List ℕ). flat_map bytes held ++ ending_of (state_with identity parts))
+      (λ i register. sym (bytes_in-contents_by (λ r. standing_for r array) register) i)
+      ∙ ap (λ (c : Contents). flat_map (bytes_in c) held ++ ending_of (state_with identity parts)) (sym contents));
 }
 
 -- The flags are the last byte of an image.
-pub last_is : (array end : List ℕ) → length array ≡ array_length → length end ≡ 3
-    → slice_index (1 ∷ (array ++ end)) (length (1 ∷ (array ++ end)) - 1) ≡ slice_index end 2
-last_is array end len three =
-    let last : length (1 ∷ (array ++ end)) - 1 ≡ 53 = grind (arith, common_steps) in
-    let flags : slice_index (1 ∷ (array ++ end)) 53 ≡ slice_index end 2 = grind (arith, common_steps, elements) in
+pub last_is : (version : ℕ) (prefix end : List ℕ) → length end ≡ 3
+    → slice_index (version ∷ (prefix ++ end)) (length (version ∷ (prefix ++ end)) - 1) ≡ slice_index end 2
+last_is version prefix end three =
+    let last : length (version ∷ (prefix ++ end)) - 1 ≡ suc (length prefix + 2) = grind (arith, common_steps) in
+    let flags : slice_index (version ∷ (prefix ++ end)) (suc (length prefix + 2)) ≡ slice_index end 2 =
+    grind (arith, common_steps, elements) in
     rw last flags
 
--- A register that is bad in the array, or bad flags in what follows it, are a bad field.
-pub bad_field : (array end : List ℕ) → length array ≡ array_length → length end ≡ 3
-    → ((register : Register) → end_of register ≤ array_length)
-    → HasBadRegister registers array ⊎ (7 < slice_index end 2) → HasBadField registers (1 ∷ (array ++ end))
-bad_field array end len three fits (inl (register, there, bad)) =
-    let whole : standing_for register (array ++ end) ≡ standing_for register array =
-    between_is (array ++ end) (start_of register) (end_of register)
-    ∙ ap (drop (start_of register)) (take-append-le (end_of register) array end (omega (arith, fits register, len)))
-    ∙ sym (between_is array (start_of register) (end_of register)) in
-    inl (register, there, λ valid. bad (rw (← whole) valid))
-bad_field array end len three fits (inr above) = inr (rw (last_is array end len three) above)
+-- What stands for a register before the end of some bytes stands for it also if others follow them.
+pub before_others : (register : Register) (prefix others : List ℕ) → end_of register ≤ length prefix
+    → standing_for register (prefix ++ others) ≡ standing_for register prefix
+before_others register prefix others fits =
+    between_is (prefix ++ others) (start_of register) (end_of register)
+    ∙ ap (drop (start_of register)) (take-append-le (end_of register) prefix others fits)
+    ∙ sym (between_is prefix (start_of register) (end_of register))
+
+-- A register that is bad in the array, or bad flags in the bytes that end an image, are a bad field.
+pub bad_field : (version : ℕ) (held : List Register) (array prefix end : List ℕ) → length end ≡ 3
+    → ((register : Register) → Contains registers_of_version_1 register → Contains held register)
+    → ((register : Register) → Contains registers_of_version_1 register
+    → standing_for register (prefix ++ end) ≡ standing_for register array)
+    → HasBadRegister registers_of_version_1 array ⊎ (7 < slice_index end 2) → HasBadField held (version ∷ (prefix ++ end))
+bad_field version held array prefix end three has whole (inl (register, there, bad)) =
+    inl (register, has register there, λ valid. bad (rw (← whole register there) valid))
+bad_field version held array prefix end three has whole (inr above) = inr (rw (last_is version prefix end three) above)
 
 -- An image has no fault.
-pub no_fault : (state : DeviceState) (image : List ℕ) (fault : DeviceFault) → ((register : Register) → Contains registers register)
-    → IsImageOf state image → IsImageFault image fault → ⊥
-no_fault state [] fault every is faulty = let one = one_image state [] is in cc
-no_fault state (version ∷ rest) BadVersion every is faulty =
-    let first : version ≡ 1 = ap (λ xs. slice_index xs 0) (one_image state (version ∷ rest) is) in
-    let unknown : registers_of_version 1 ≡ None = subst (λ v. registers_of_version v ≡ None) first faulty in
+pub no_fault : (state : DeviceState) (image : List ℕ) (fault : DeviceFault) → IsImageOf state image → IsImageFault image fault → ⊥
+no_fault state [] fault is faulty = let none = is.written in cc
+no_fault state (version ∷ rest) BadVersion is faulty =
+    let first : version ≡ is.version = ap (λ xs. slice_index xs 0) is.written in
+    let unknown : registers_of_version is.version ≡ None = subst (λ v. registers_of_version v ≡ None) first faulty in
+    let no = sym unknown ∙ is.known in
     cc
-no_fault state (version ∷ rest) BadLength every is (held, known, wrong) =
-    let len = held_len state is.contents in
-    let all : length (version ∷ rest) ≡ image_length registers =
-    ap (λ (xs : List ℕ). length xs) (one_image state (version ∷ rest) is) ∙ (grind (arith, common_steps)) in
-    wrong (all ∙ ap image_length (sym (known_version version held known).1))
-no_fault state (version ∷ rest) BadField every is (held, known, len, inl (register, there, bad)) =
-    let after : rest ≡ flat_map (bytes_in state.contents) registers ++ ending_of state =
-    ap (drop 1) (one_image state (version ∷ rest) is) in
-    bad (rw (after, held_in_image state is.contents every register) (is.contents register))
-no_fault state (version ∷ rest) BadField every is (held, known, len, inr above) =
-    let last = last_is (flat_map (bytes_in state.contents) registers) (ending_of state) (held_len state is.contents) refl in
+no_fault state (version ∷ rest) BadLength is (held, known, wrong) =
+    let len = held_len state is.contents held in
+    let says = said state version rest held known is in
+    let all : length rest ≡ sum_by size_of held + 3 = ap (λ (xs : List ℕ). length xs) says.0 ∙ (grind (arith, common_steps)) in
+    wrong (omega (arith, all))
+no_fault state (version ∷ rest) BadField is (held, known, len, inl (register, there, bad)) =
+    let after = (said state version rest held known is).0 in
+    bad (rw (after, held_in_image state is.contents held (ends_of version held known) register there) (is.contents register))
+no_fault state (version ∷ rest) BadField is (held, known, len, inr above) =
+    let after : rest ≡ flat_map (bytes_in state.contents) held ++ ending_of state = (said state version rest held known is).0 in
+    let last = last_is version (flat_map (bytes_in state.contents) held) (ending_of state) refl in
     let flags : 7 < flags_of state.changed state.protected =
-    subst (λ n. 7 < n) last (subst (λ (xs : List ℕ). 7 < slice_index xs (length xs - 1)) (one_image state (version ∷ rest) is) above) in
+    subst (λ n. 7 < n) last (subst (λ (xs : List ℕ). 7 < slice_index (version ∷ xs) (length (version ∷ xs) - 1)) after above) in
     absurd (omega (arith, flags, flags_of-le state.changed state.protected))
-no_fault state (version ∷ rest) _ every is faulty = faulty
-
--- A version has one list of registers.
-one_list : (version : ℕ) (listed other : List Register) → registers_of_version version ≡ Some listed
-    → registers_of_version version ≡ Some other → listed ≡ other
-one_list version listed other known same = (known_version version listed known).1 ∙ sym (known_version version other same).1
+no_fault state (version ∷ rest) _ is faulty = faulty
 
 -- No bytes have the fault of a bad length alone.
 length_of_none : (fault : DeviceFault) → IsImageFault [] fault → fault ≡ BadLength
@@ -186,19 +270,49 @@ same_state state other identity contents counter changed protected cold_start = 
   cold_start = cold_start i;
 }
 
+-- Contents are determined by what an image says of them.
+one_contents : (state other : DeviceState) (held : List Register)
+    → ((text others bytes : List ℕ) → IsPacked text bytes → IsPacked others bytes → text ≡ others)
+    → ((register : Register) → Contains held register ⊎ ((register ≡ LongTag) × (Contains held LongTag → ⊥) × Contains held Tag))
+    → ((register : Register) → Contains held register → bytes_in state.contents register ≡ bytes_in other.contents register)
+    → ((Contains held LongTag → ⊥) → IsLongTagOf state.contents.tag state.contents.long_tag)
+    → ((Contains held LongTag → ⊥) → IsLongTagOf other.contents.tag other.contents.long_tag)
+    → state.contents ≡ other.contents
+one_contents state other held one_text listed same long_tag other_long_tag =
+    same_contents state.contents other.contents (λ register. by_listed register (listed register))
+  where
+    one_long_tag : (tag a b : List ℕ) → IsLongTagOf tag a → IsLongTagOf tag b → a ≡ b
+    one_long_tag tag a b (text, packed, is) (others, other_packed, other_is) =
+        is ∙ ap (λ xs. xs ++ replicate 24 0x20) (one_text text others tag packed other_packed) ∙ sym other_is
+
+    by_listed : (register : Register) → Contains held register ⊎ ((register ≡ LongTag) × (Contains held LongTag → ⊥) × Contains held Tag)
+        → bytes_in state.contents register ≡ bytes_in other.contents register
+    by_listed register (inl there) = same register there
+    by_listed register (inr (is, not, tag)) =
+        let mine = subst (λ (t : List ℕ). IsLongTagOf t state.contents.long_tag) (same Tag tag) (long_tag not) in
+        rw is (one_long_tag other.contents.tag state.contents.long_tag other.contents.long_tag mine (other_long_tag not))
+
 -- An image is of one state.
 pub one_state : (state other : DeviceState) (image : List ℕ) → ((register : Register) → Contains registers register)
+    → ((text others bytes : List ℕ) → IsPacked text bytes → IsPacked others bytes → text ≡ others)
     → IsImageOf state image → IsImageOf other image → state.identity ≡ other.identity → state.cold_start ≡ other.cold_start → state ≡ other
-one_state state other image every is other_is identity cold_start =
-    let same : flat_map (bytes_in state.contents) registers ++ ending_of state
-    ≡ flat_map (bytes_in other.contents) registers ++ ending_of other =
-    ap (drop 1) (sym (one_image state image is) ∙ one_image other image other_is) in
-    let contents : state.contents ≡ other.contents = same_contents _ _ (λ register.
-    sym (held_in_image state is.contents every register) ∙ ap (standing_for register) same
-    ∙ held_in_image other other_is.contents every register) in
+one_state state other [] every one_text is other_is identity cold_start = let none = is.written in cc
+one_state state other (version ∷ rest) every one_text is other_is identity cold_start =
+    let held = is.listed in
+    let first : is.version ≡ version = ap (λ xs. slice_index xs 0) (sym is.written) in
+    let known : registers_of_version version ≡ Some held = rw (← first) is.known in
+    let says = said state version rest held known is in
+    let other_says = said other version rest held known other_is in
+    let same : flat_map (bytes_in state.contents) held ++ ending_of state ≡ flat_map (bytes_in other.contents) held ++ ending_of other =
+    sym says.0 ∙ other_says.0 in
+    let table = ends_of version held known in
+    let contents : state.contents ≡ other.contents =
+    one_contents state other held one_text (listed_or_not version held known every) (λ register there.
+    sym (held_in_image state is.contents held table register there) ∙ ap (standing_for register) same
+    ∙ held_in_image other other_is.contents held table register there) says.1 other_says.1 in
     let ends : ending_of state ≡ ending_of other =
-    sym (drop_at _ (ending_of state) array_length (held_len state is.contents)) ∙ ap (drop array_length) same
-    ∙ drop_at _ (ending_of other) array_length (held_len other other_is.contents) in
+    sym (drop_at _ (ending_of state) (sum_by size_of held) (held_len state is.contents held)) ∙ ap (drop (sum_by size_of held)) same
+    ∙ drop_at _ (ending_of other) (sum_by size_of held) (held_len other other_is.contents held) in
     let high : state.counter / 256 ≡ other.counter / 256 = ap (λ xs. slice_index xs 0) ends in
     let low : state.counter % 256 ≡ other.counter % 256 = ap (λ xs. slice_index xs 1) ends in
     let bits = flags_determine state.changed.primary state.changed.secondary state.protected

@@ -1,6 +1,7 @@
 pub mod RangeLemmas
 pub mod WritingLemmas
 pub mod ImageLemmas
+pub mod ReadLemmas
 pub mod RegistersLemmas
 pub mod EffectLemmas
 pub mod ColdStartLemmas

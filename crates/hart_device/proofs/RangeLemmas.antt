@@ -1,14 +1,16 @@
 -- Registers that stand one after the other in an array.
 use Rattle.std.proofs.Common.{◌≡◌, ℕ, ◌+◌, ◌-◌, ◌<◌, zero, suc, refl, sym, ap, ◌∙◌, arith, Bool, true, false, ◌==◌, ◌&&◌}
 use Rattle.std.proofs.Common.{List, [], ◌∷◌, ◌++◌, length, take, drop}
-use Rattle.std.proofs.Common.{append_assoc, length-append, drop-drop, take-append-drop, drop_of_length-le}
+use Rattle.std.proofs.Common.{append_assoc, append-nil, length-append, drop-drop, take-append-drop, drop_of_length-le}
 use Rattle.std.proofs.lemmas.List.{take_at, drop_at}
 use Rattle.std.specs.List.{flat_map, slice_index_or, sum_by}
 use Rattle.std.proofs.lemmas.Bool.{eqb-true}
-use Rattle.std.proofs.lemmas.Grind.{common_steps}
-use Rattle.std.proofs.lemmas.List.Sums.{sum_by-cons}
+use Rattle.std.proofs.Math.Seq.{take-suc}
+use Rattle.std.proofs.lemmas.Grind.{common_steps, flat_map-append}
+use Rattle.std.proofs.lemmas.List.Sums.{sum_by-append, sum_by-cons}
 use Rattle.hart_commands.specs.Registers.{registers, size_of}
 use Rattle.hart_commands.specs.declared.register.Register.{Register}
+use Rattle.hart_commands.specs.declared.register.Register.TheVariants.{Polling}
 use Rattle.hart_device.specs.Ranges.{end_of, standing_for, start_of}
 
 -- Each register of a list starts where the one before it ends, and the first at a place.
@@ -63,6 +65,27 @@ written bytes before after (register ∷ later) ends sizes (suc k) d within =
     ≡ before ++ (bytes register ++ flat_map bytes later ++ after) =
     grind (arith, common_steps) in
     rw (← moved) (written bytes (before ++ bytes register) after later (rw len first.1) sizes k d (omega arith))
+
+-- What is written for the next register comes after what is written for those before it.
+pub next_written : (bytes : Register → List ℕ) (place : ℕ) → place < length registers
+    → flat_map bytes (take (place + 1) registers)
+    ≡ flat_map bytes (take place registers) ++ bytes (slice_index_or registers place Polling)
+next_written bytes place within =
+    let next : place + 1 ≡ suc place = omega arith in
+    ap (λ n. flat_map bytes (take n registers)) next
+    ∙ ap (flat_map bytes) (take-suc registers place Polling within)
+    ∙ flat_map-append bytes (take place registers) (slice_index_or registers place Polling ∷ [])
+    ∙ ap (λ xs. flat_map bytes (take place registers) ++ xs) (append-nil (bytes (slice_index_or registers place Polling)))
+
+pub next_size : (place : ℕ) → place < length registers
+    → sum_by size_of (take (place + 1) registers)
+    ≡ sum_by size_of (take place registers) + size_of (slice_index_or registers place Polling)
+next_size place within =
+    let next : place + 1 ≡ suc place = omega arith in
+    ap (λ n. sum_by size_of (take n registers)) next
+    ∙ ap (sum_by size_of) (take-suc registers place Polling within)
+    ∙ sum_by-append size_of (take place registers) (slice_index_or registers place Polling ∷ [])
+    ∙ ap (λ n. sum_by size_of (take place registers) + n) (omega arith)
 
 -- What is written for each register is as long as all of them.
 pub length_written : (bytes : Register → List ℕ) → ((register : Register) → length (bytes register) ≡ size_of register)

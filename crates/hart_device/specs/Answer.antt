@@ -14,7 +14,7 @@ use Rattle.hart_frame.specs.declared.kind.FrameKind.TheVariants.{Stx, Ack}
 use Rattle.hart_commands.specs.declared.reply.Reply.{Reply}
 use Rattle.hart_commands.specs.declared.content.ReplyContent.{ReplyContent}
 use Rattle.hart_commands.specs.declared.content.ReplyContent.TheVariants.{Refused}
-use Rattle.hart_commands.specs.declared.request.Request.TheVariants.{IdentifyByTag, ResetChanged}
+use Rattle.hart_commands.specs.declared.request.Request.TheVariants.{IdentifyByTag, IdentifyByLongTag, ResetChanged}
 use Rattle.hart_commands.specs.Registers.{Overwrite, overwrite_of}
 use Rattle.hart_commands.specs.ReplyData.{reply_payload}
 use Rattle.hart_commands.specs.RequestCode.{request_code}
@@ -34,12 +34,12 @@ is_request Ack = false
 abbrev pub same_numbers : DeviceNumbers → DeviceNumbers → Bool
 same_numbers a b = (a.expanded_type == b.expanded_type) && (a.device_id == b.device_id)
 
--- Command 0 is asked at the polling address that the device has, every command at its own unique address, and Command 11 at the
--- broadcast address.
+-- Command 0 is asked at the polling address that the device has, every command at its own unique address, and Commands 11 and 21 at
+-- the broadcast address.
 abbrev pub is_paired : DeviceState → Address → ℕ → Bool
 is_paired state (Polling number) command = (command == 0) && (slice_index state.contents.polling 0 == number)
 is_paired state (Unique numbers) command =
-    same_numbers numbers (own_numbers state.identity) || ((command == 11) && is_broadcast (Unique numbers))
+    same_numbers numbers (own_numbers state.identity) || (((command == 11) || (command == 21)) && is_broadcast (Unique numbers))
 
 -- A frame is for the device if it is a request without expansion bytes whose address and command are paired so; the burst bit
 -- is not looked at.
@@ -55,12 +55,14 @@ reading_of frame = request_reading frame.command frame.payload
 abbrev pub code_of : DeviceState → FrameParts → ℕ
 code_of state frame = request_code frame.command (reading_of frame) state.protected state.counter
 
--- Command 11 names another device if its tag is not the bytes of the register Tag; every other request names none.
+-- Command 11 names another device if its tag is not the bytes of the register Tag, and Command 21 if its long tag is not those of the
+-- register LongTag; every other request names none.
 abbrev pub names_another : DeviceState → Reading → Bool
 names_another state (Ok (IdentifyByTag tag)) = not (bytes_eq state.contents.tag tag)
+names_another state (Ok (IdentifyByLongTag long_tag)) = not (bytes_eq state.contents.long_tag long_tag)
 names_another state _ = false
 
--- A frame for the device that is read so and has this code is met with silence all the same if it names another's tag, on
+-- A frame for the device that is read so and has this code is met with silence all the same if it names another device, on
 -- either address, and if it came by broadcast and its code is not 0.
 abbrev pub is_answered_with : DeviceState → FrameParts → Reading → ℕ → Bool
 is_answered_with state frame reading code =

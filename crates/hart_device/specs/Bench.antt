@@ -29,8 +29,8 @@ bench_identity = record {
 abbrev pub eight_spaces : List ℕ
 eight_spaces = 0x82 ∷ 0x08 ∷ 0x20 ∷ 0x82 ∷ 0x08 ∷ 0x20 ∷ []
 
--- Its registers begin with polling address 0, the loop current enabled, texts of spaces, a date that is not set, and final
--- assembly number 0.
+-- Its registers begin with polling address 0, the loop current enabled, texts of spaces, a date that is not set, final assembly
+-- number 0, and a long tag of spaces.
 abbrev pub bench_values : RegisterValues
 bench_values = record {
   polling = 0;
@@ -40,6 +40,7 @@ bench_values = record {
   descriptor = eight_spaces ++ eight_spaces;
   date = not_set;
   assembly = 0 ∷ 0 ∷ 0 ∷ [];
+  long_tag = replicate 32 0x20;
 }
 
 -- Four bytes of a float, the most significant first.

@@ -1,5 +1,5 @@
 -- What a device says in reply to a request (HCF_SPEC-127).
-use Rattle.std.specs.Prelude.{ℕ, Bool, if◌then◌else◌, [], ◌∷◌, map, slice_get, slice_index}
+use Rattle.std.specs.Prelude.{ℕ, Bool, if◌then◌else◌, [], ◌∷◌, List, map, slice_get, slice_index}
 use Rattle.std.specs.Option.{option_map_or}
 use Rattle.hart_commands.specs.declared.content.ReplyContent.{ReplyContent}
 use Rattle.hart_commands.specs.declared.content.ReplyContent.TheVariants as replied
@@ -33,6 +33,11 @@ abbrev pub reply_classes : Process → ReplyContent
 reply_classes process =
     replied.Classes (class_at process 0 ∷ class_at process 1 ∷ class_at process 2 ∷ class_at process 3 ∷ [])
 
+-- The extended device status, the device variables of these codes, and the time stamp.
+abbrev pub reply_variables : Process → List ℕ → ReplyContent
+reply_variables process codes =
+    replied.Variables (extended_device_status process) (map (variable_reading process) codes) process.time_stamp
+
 -- The polling address and the loop current mode that the registers hold.
 abbrev pub reply_polling : DeviceState → ReplyContent
 reply_polling state = replied.Polling (slice_index state.contents.polling 0) (slice_index state.contents.mode 0)
@@ -65,8 +70,7 @@ reply_content state process asked.ReadDynamic = replied.Dynamic process.loop_cur
 reply_content state process (asked.SetPolling address mode) = reply_polling state
 reply_content state process asked.ReadPolling = reply_polling state
 reply_content state process asked.ReadClasses = reply_classes process
-reply_content state process (asked.ReadVariables codes) =
-    replied.Variables (extended_device_status process) (map (variable_reading process) codes) process.time_stamp
+reply_content state process (asked.ReadVariables codes) = reply_variables process codes
 reply_content state process (asked.IdentifyByTag tag) = reply_identity state process
 reply_content state process asked.ReadMessage = replied.Message state.contents.message
 reply_content state process asked.ReadTag = reply_tag state
@@ -76,5 +80,8 @@ reply_content state process asked.ReadAssembly = replied.Assembly state.contents
 reply_content state process (asked.WriteMessage message) = replied.Message state.contents.message
 reply_content state process (asked.WriteTag tag descriptor date) = reply_tag state
 reply_content state process (asked.WriteAssembly assembly) = replied.Assembly state.contents.assembly
+reply_content state process asked.ReadLongTag = replied.LongTag state.contents.long_tag
+reply_content state process (asked.IdentifyByLongTag long_tag) = reply_identity state process
+reply_content state process (asked.WriteLongTag long_tag) = replied.LongTag state.contents.long_tag
 reply_content state process (asked.ResetChanged counter) = replied.Counter (two_bytes state.counter)
 reply_content state process asked.ReadMore = replied.More process.additional_status

@@ -1,11 +1,12 @@
 -- The image of a device: what it holds, in bytes that are kept while it is stopped (own profile).
 use Rattle.std.specs.Prelude.{◌≡◌, ◌≢◌, ℕ, ◌+◌, ◌-◌, ◌<◌, ◌^◌, ◌⊎◌, Bool, if◌then◌else◌, ◌==◌, Option, Some, None}
-use Rattle.std.specs.Prelude.{List, [], ◌∷◌, ◌++◌, length, drop, slice_index}
+use Rattle.std.specs.Prelude.{List, [], ◌∷◌, ◌++◌, length, drop, replicate, slice_index}
 use Rattle.std.specs.List.{Contains, flat_map, sum_by}
+use Rattle.hart_values.specs.Packing.{IsPacked}
 use Rattle.hart_values.specs.declared.each_master.EachMaster.{EachMaster}
-use Rattle.hart_commands.specs.Registers.{AreValid, IsValidIn, bytes_in, size_of}
+use Rattle.hart_commands.specs.Registers.{AreValid, IsValidIn, bytes_in, registers, size_of}
 use Rattle.hart_commands.specs.declared.register.Register.{Register}
-use Rattle.hart_commands.specs.declared.register.Register.TheVariants.{Polling, Mode, Message, Tag, Descriptor, Date, Assembly}
+use Rattle.hart_commands.specs.declared.register.Register.TheVariants.{Polling, Mode, Message, Tag, Descriptor, Date, Assembly, LongTag}
 use Rattle.hart_device.specs.declared.fault.DeviceFault.{DeviceFault}
 use Rattle.hart_device.specs.declared.fault.DeviceFault.TheVariants.{BadField, BadLength, BadVersion}
 use Rattle.hart_device.specs.Device.{DeviceState}
@@ -18,13 +19,21 @@ abbrev pub flags_of : EachMaster Bool → Bool → ℕ
 flags_of changed protected =
     (if changed.primary then 1 else 0) + (if changed.secondary then 2 else 0) + (if protected then 4 else 0)
 
--- The registers of an image of version 1, in their order.
+-- The registers of an image of version 1, in their order, are all but the long tag.
 abbrev pub registers_of_version_1 : List Register
 registers_of_version_1 = Polling ∷ Mode ∷ Message ∷ Tag ∷ Descriptor ∷ Date ∷ Assembly ∷ []
 
--- The table of the versions says which registers an image of each has; other versions are not known.
+-- The table of the versions says which registers an image of each has: one of version 1 all but the long tag, and one of version 2
+-- all; other versions are not known.
 abbrev pub registers_of_version : ℕ → Option (List Register)
-registers_of_version version = if version == 1 then Some registers_of_version_1 else None
+registers_of_version version =
+    if version == 1 then Some registers_of_version_1
+    else if version == 2 then Some registers
+    else None
+
+-- A long tag is that of a tag if it is the text of the tag and after it 24 spaces.
+abbrev pub IsLongTagOf : List ℕ → List ℕ → Type 0
+IsLongTagOf tag long_tag = (text : List ℕ) × IsPacked text tag × (long_tag ≡ text ++ replicate 24 0x20)
 
 -- An image ends with the configuration change counter in two bytes, the most significant first, and the flags.
 abbrev pub ending_of : DeviceState → List ℕ
@@ -34,23 +43,25 @@ ending_of state = two_bytes state.counter ++ flags_of state.changed state.protec
 abbrev pub image_bytes : ℕ → List Register → DeviceState → List ℕ
 image_bytes version listed state = version ∷ (flat_map (bytes_in state.contents) listed ++ ending_of state)
 
--- Bytes are an image of a device's state, in which every register holds valid bytes and the counter is below 65536, if they are
--- those of a version that is known. Who the device is does not stand in them, and neither do its cold start bits.
+-- Bytes are an image of a device's state, in which every register holds valid bytes and the counter is below 65536, if they are its
+-- bytes in a version that is known. If images of that version have no long tag, the state's long tag is that of its tag. Who the device
+-- is does not stand in them, and neither do its cold start bits.
 pub record IsImageOf (state : DeviceState) (image : List ℕ) : Type 0 where
   pub contents : AreValid state.contents
   pub counter : state.counter < 2 ^ 16
   pub version : ℕ
   pub listed : List Register
   pub known : registers_of_version version ≡ Some listed
+  pub long_tag : (¬ Contains listed LongTag) → IsLongTagOf state.contents.tag state.contents.long_tag
   pub written : image ≡ image_bytes version listed state
 
 -- Bytes are an image if they are one of some state.
 abbrev pub IsImage : List ℕ → Type 0
 IsImage image = (state : DeviceState) × IsImageOf state image
 
--- A device writes its image in version 1.
+-- A device writes its image in version 2.
 abbrev pub image_of : DeviceState → List ℕ
-image_of state = image_bytes 1 registers_of_version_1 state
+image_of state = image_bytes 2 registers state
 
 -- An image has a byte for its version, those of its registers, two for the counter and one for the flags.
 abbrev pub image_length : List Register → ℕ

@@ -3,7 +3,7 @@ use Rattle.std.specs.Prelude.{ℕ, ◌+◌, List, slice_range}
 use Rattle.std.specs.List.{sum_by}
 use Rattle.hart_commands.specs.Registers.{Contents, contents_by, registers, size_of}
 use Rattle.hart_commands.specs.declared.register.Register.{Register}
-use Rattle.hart_commands.specs.declared.register.Register.TheVariants.{Polling, Mode, Message, Tag, Descriptor, Date, Assembly}
+use Rattle.hart_commands.specs.declared.register.Register.TheVariants.{Polling, Mode, Message, Tag, Descriptor, Date, Assembly, LongTag}
 
 -- The table of the ranges says at which byte of the array each register starts, counted from 0.
 abbrev pub start_of : Register → ℕ
@@ -14,6 +14,7 @@ start_of Tag = 26
 start_of Descriptor = 32
 start_of Date = 44
 start_of Assembly = 47
+start_of LongTag = 50
 
 -- A register ends after as many bytes as it has.
 abbrev pub end_of : Register → ℕ

@@ -14,4 +14,5 @@ values_of values = record {
   descriptor = values.descriptor;
   date = values.date;
   assembly = values.assembly;
+  long_tag = values.long_tag;
 }

@@ -20,6 +20,9 @@ const MESSAGE: [u8; 24] = [
     0x08, 0x20, 0x82, 0x08, 0x20, 0x82, 0x08, 0x20,
 ];
 
+/// Thirty-two spaces.
+const LONG_TAG: [u8; 32] = [b' '; 32];
+
 /// Degrees Celsius.
 const CELSIUS: u8 = 0x20;
 
@@ -45,7 +48,8 @@ pub fn identity() -> Identity
     .unwrap()
 }
 
-/// What its registers begin with: polling address 0, the loop current enabled, texts of spaces, no date, assembly number 0.
+/// What its registers begin with: polling address 0, the loop current enabled, texts of spaces, no date, assembly number 0, and a
+/// long tag of spaces.
 pub fn register_values() -> RegisterValues
     ensures { result ≡ bench_values }
 {
@@ -57,6 +61,7 @@ pub fn register_values() -> RegisterValues
         descriptor: PackedText::from_bytes(DESCRIPTOR),
         date: HartDate::from_bytes([0; 3]).unwrap(),
         assembly: [0; 3],
+        long_tag: LONG_TAG,
     }
 }
 

@@ -30,6 +30,9 @@ const IDENTIFY: u8 = 0;
 /// The command by which a master finds the device of a tag.
 const IDENTIFY_BY_TAG: u8 = 11;
 
+/// The command by which a master finds the device of a long tag.
+const IDENTIFY_BY_LONG_TAG: u8 = 21;
+
 /// A HART field device (HCF_SPEC-081, HCF_SPEC-127), over any store of its registers.
 ///
 /// Contracts see who it is, the contents of its registers, the configuration change counter, the configuration-changed bit of
@@ -280,17 +283,21 @@ impl<S: RegisterStore> Device<S> {
             }
             Address::Unique(unique) => {
                 unique == self.identity.unique_address()
-                    || (command == IDENTIFY_BY_TAG && address.is_broadcast())
+                    || ((command == IDENTIFY_BY_TAG || command == IDENTIFY_BY_LONG_TAG)
+                        && address.is_broadcast())
             }
         }
     }
 
-    /// Whether Command 11 names a tag that is not the device's.
+    /// Whether Command 11 names a tag, or Command 21 a long tag, that is not the device's.
     fn names_another(&self, reading: &Result<Request, ResponseCode>) -> bool
         ensures { result ≡ names_another self.now reading.now }
     {
         match reading {
             Ok(Request::IdentifyByTag(tag)) => self.registers.get(Register::Tag) != tag.as_bytes(),
+            Ok(Request::IdentifyByLongTag(long_tag)) => {
+                self.registers.get(Register::LongTag) != long_tag.as_slice()
+            }
             _ => false,
         }
     }

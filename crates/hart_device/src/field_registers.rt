@@ -14,6 +14,7 @@ pub struct FieldRegisters {
     descriptor: [u8; 12],
     date: [u8; 3],
     assembly: [u8; 3],
+    long_tag: [u8; 32],
 }
 
 impl RegisterStore for FieldRegisters {
@@ -25,6 +26,7 @@ impl RegisterStore for FieldRegisters {
       descriptor = store.descriptor;
       date = store.date;
       assembly = store.assembly;
+      long_tag = store.long_tag;
     } };
 
     fn with(values: &RegisterValues) -> Self {
@@ -36,6 +38,7 @@ impl RegisterStore for FieldRegisters {
             descriptor: [0; 12],
             date: [0; 3],
             assembly: values.assembly,
+            long_tag: values.long_tag,
         };
         store.message.copy_from_slice(values.message.as_bytes());
         store.tag.copy_from_slice(values.tag.as_bytes());
@@ -55,6 +58,7 @@ impl RegisterStore for FieldRegisters {
             Register::Descriptor => &self.descriptor,
             Register::Date => &self.date,
             Register::Assembly => &self.assembly,
+            Register::LongTag => &self.long_tag,
         }
     }
 
@@ -66,6 +70,7 @@ impl RegisterStore for FieldRegisters {
         replace(&mut self.descriptor, overwrite.get(Register::Descriptor));
         replace(&mut self.date, overwrite.get(Register::Date));
         replace(&mut self.assembly, overwrite.get(Register::Assembly));
+        replace(&mut self.long_tag, overwrite.get(Register::LongTag));
     }
 }
 

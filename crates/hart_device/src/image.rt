@@ -1,10 +1,10 @@
 //! The image of a device: what it holds, in bytes that are kept while it is stopped (own profile).
 ghost use Rattle.std.specs.Prelude.{◌≡◌, ◌<◌, ◌^◌, ◌↔◌, ◌⊎◌, [], ◌∷◌, ◌++◌, false, IsOk, IfOk, IfErr, IfSome, IfNone, length, slice_index};
-ghost use Rattle.hart_commands.specs.Registers.{AreValid, registers};
+ghost use Rattle.hart_commands.specs.Registers.{AreValid};
 ghost use Rattle.hart_device.specs.Identity.{two_bytes};
-ghost use Rattle.hart_device.specs.Ranges.{array_length, contents_in};
+ghost use Rattle.hart_device.specs.Ranges.{contents_in};
 ghost use Rattle.hart_device.specs.Values.{values_of};
-ghost use Rattle.hart_device.specs.Image.{HasBadRegister, IsImage, IsImageOf, IsImageFault, flags_of, image_of};
+ghost use Rattle.hart_device.specs.Image.{HasBadRegister, IsImage, IsImageOf, IsImageFault, flags_of, image_of, registers_of_version_1};
 ghost use Rattle.hart_device.specs.Device.{for_both};
 ghost use Rattle.hart_device.specs.ImageParts.{state_with};
 ghost use Rattle.hart_device.specs.declared.identity_parts.IdentityParts.{IdentityParts};
@@ -15,14 +15,20 @@ use crate::laws::images_have_no_fault;
 use crate::ranges::{ARRAY_LEN, ranges_fill_the_array};
 use crate::values::values_are_valid;
 use crate::{Device, DeviceFault, Identity, RegisterStore, RegisterValues};
-use hart_commands::Register;
+use hart_commands::{Register, all_registers_are_listed_once};
 use hart_values::{ByteList, EachMaster, MasterId};
 
-/// An image: 54 bytes in version 1, and room for those of a version with more registers.
+/// An image: 86 bytes in version 2, and 54 in version 1, which has no long tag.
 pub type Image = ByteList<86>;
 
-/// The first version, which has every register.
+/// The version that has every register but the long tag.
 const VERSION_1: u8 = 1;
+
+/// The version that has every register.
+const VERSION_2: u8 = 2;
+
+/// How many bytes the registers of an image of version 1 have together.
+const ARRAY_LEN_OF_VERSION_1: usize = 50;
 
 /// An image ends with two bytes of the counter and the flags.
 const ENDING_LEN: usize = 3;
@@ -39,17 +45,17 @@ pub(crate) struct ImageParts {
 }
 
 impl<S: RegisterStore> Device<S> {
-    /// What the device holds, but for its identity and its cold start bits: its image, of version 1. [`Device::from_image`] reads it
+    /// What the device holds, but for its identity and its cold start bits: its image, of version 2. [`Device::from_image`] reads it
     /// again.
     pub fn image(&self) -> Image
         ensures written { result ≡ image_of self.now }
         ensures image { IsImageOf self.now result }
-        ensures len { length result ≡ 54 }
+        ensures len { length result ≡ 86 }
     {
         let registers = self.registers();
         let counter = self.counter();
         let mut image = Image::new();
-        image.push(VERSION_1);
+        image.push(VERSION_2);
         for register in Register::ALL {
             image.extend_from_slice(registers.get(register));
         }
@@ -65,7 +71,8 @@ impl<S: RegisterStore> Device<S> {
         image
     }
 
-    /// A device with this identity that goes on from an image, with no cold start bit set.
+    /// A device with this identity that goes on from an image of either version, with no cold start bit set. From one of version 1 its
+    /// long tag is the text of its tag and 24 spaces.
     ///
     /// # Errors
     ///
@@ -99,6 +106,7 @@ fn read_image(image: &[u8]) -> Result<ImageParts, DeviceFault>
     let (version, rest) = image.split_first().ok_or(DeviceFault::BadLength)?;
     match *version {
         VERSION_1 => read_version_1(rest),
+        VERSION_2 => read_version_2(rest),
         _ => Err(DeviceFault::BadVersion),
     }
 }
@@ -108,29 +116,43 @@ fn read_version_1(rest: &[u8]) -> Result<ImageParts, DeviceFault>
     ensures kept { IfOk result (λ parts. (identity : IdentityParts) → IsImageOf (state_with identity parts) (1 ∷ rest.now)) }
     ensures refused { IfErr result (IsImageFault (1 ∷ rest.now)) }
 {
+    if rest.len() != ARRAY_LEN_OF_VERSION_1 + ENDING_LEN {
+        return Err(DeviceFault::BadLength);
+    }
+    let (array, ending) = rest.split_at(ARRAY_LEN_OF_VERSION_1);
+    let mut bytes = [0; ARRAY_LEN];
+    bytes[..ARRAY_LEN_OF_VERSION_1].copy_from_slice(array);
+    let mut registers = ImageRegisters { bytes };
+    registers.set_long_tag();
+    read_parts(&registers, ending).ok_or(DeviceFault::BadField)
+}
+
+/// What an image of version 2 says, by its bytes after the version.
+fn read_version_2(rest: &[u8]) -> Result<ImageParts, DeviceFault>
+    ensures kept { IfOk result (λ parts. (identity : IdentityParts) → IsImageOf (state_with identity parts) (2 ∷ rest.now)) }
+    ensures refused { IfErr result (IsImageFault (2 ∷ rest.now)) }
+{
     if rest.len() != ARRAY_LEN + ENDING_LEN {
         return Err(DeviceFault::BadLength);
     }
-    // No-op: its contract says that the registers fill the array.
+    // No-ops: their contracts say that the list has every register, and that the registers fill the array.
+    all_registers_are_listed_once();
     ranges_fill_the_array();
     let (array, ending) = rest.split_at(ARRAY_LEN);
-    read_parts(array, ending).ok_or(DeviceFault::BadField)
+    let mut bytes = [0; ARRAY_LEN];
+    bytes.copy_from_slice(array);
+    read_parts(&ImageRegisters { bytes }, ending).ok_or(DeviceFault::BadField)
 }
 
-/// What the bytes of the registers and those that end an image say, or `None` if a field of them is bad.
-fn read_parts(array: &[u8], ending: &[u8]) -> Option<ImageParts>
-    requires array_len { length array.now ≡ array_length }
-    requires ending_len { length ending.now ≡ 3 }
-    ensures registers { IfSome result (λ parts. values_of parts.values ≡ contents_in array.now) }
+/// What the registers and the bytes that end an image say, or `None` if a field of them is bad.
+fn read_parts(registers: &ImageRegisters, ending: &[u8]) -> Option<ImageParts>
+    requires { length ending.now ≡ 3 }
+    ensures registers { IfSome result (λ parts. values_of parts.values ≡ contents_in «registers».now.bytes) }
     ensures valid { IfSome result (λ parts. AreValid (values_of parts.values) × (parts.counter < 2 ^ 16)) }
     ensures ending { IfSome result (λ parts.
         two_bytes parts.counter ++ flags_of parts.flags.changed parts.flags.protected ∷ [] ≡ ending.now) }
-    ensures refused { IfNone result (HasBadRegister registers array.now ⊎ (7 < slice_index ending.now 2)) }
+    ensures refused { IfNone result (HasBadRegister registers_of_version_1 «registers».now.bytes ⊎ (7 < slice_index ending.now 2)) }
 {
-    let mut registers = ImageRegisters {
-        bytes: [0; ARRAY_LEN],
-    };
-    registers.bytes.copy_from_slice(array);
     let values = registers.values()?;
     // No-op: its contract says that the values are valid.
     values_are_valid(&values);

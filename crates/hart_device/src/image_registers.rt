@@ -1,9 +1,9 @@
 ghost use Rattle.std.specs.Prelude.{◌≡◌, ◌≢◌, ◌↔◌, IsSome, IfSome, IfNone, [], ◌∷◌, length};
-ghost use Rattle.hart_commands.specs.Registers.{IsValidIn, registers, size_of};
+ghost use Rattle.hart_commands.specs.Registers.{IsValidIn, size_of};
 ghost use Rattle.hart_commands.specs.RequestData.{mode_byte};
 ghost use Rattle.hart_commands.specs.declared.register.Register.{Register};
-ghost use Rattle.hart_commands.specs.declared.register.Register.TheVariants.{Polling, Mode};
-ghost use Rattle.hart_device.specs.Image.{HasBadRegister};
+ghost use Rattle.hart_commands.specs.declared.register.Register.TheVariants.{Polling, Mode, Tag, LongTag};
+ghost use Rattle.hart_device.specs.Image.{HasBadRegister, IsLongTagOf, registers_of_version_1};
 ghost use Rattle.hart_device.specs.Ranges.{contents_in, standing_for};
 ghost use Rattle.hart_device.specs.Values.{values_of};
 
@@ -51,13 +51,12 @@ impl RegisterStore for ImageRegisters {
 }
 
 impl ImageRegisters {
-    /// The values of the registers, or `None` if one of them holds bytes that are not valid in it.
+    /// The values of the registers, or `None` if one of them holds bytes that are not valid in it. That is never the long tag, of which any
+    /// bytes are valid.
     pub(crate) fn values(&self) -> Option<RegisterValues>
         ensures kept { IfSome result (λ values. values_of values ≡ contents_in self.now.bytes) }
-        ensures refused { IfNone result (HasBadRegister registers self.now.bytes) }
+        ensures refused { IfNone result (HasBadRegister registers_of_version_1 self.now.bytes) }
     {
-        // No-op: its contract says that the list has every register.
-        all_registers_are_listed_once();
         let polling = polling_in(self.get(Register::Polling))?;
         let mode = mode_in(self.get(Register::Mode))?;
         let date = HartDate::from_bytes(bytes_of(self, Register::Date)).ok()?;
@@ -69,7 +68,18 @@ impl ImageRegisters {
             descriptor: PackedText::from_bytes(bytes_of(self, Register::Descriptor)),
             date,
             assembly: bytes_of(self, Register::Assembly),
+            long_tag: bytes_of(self, Register::LongTag),
         })
+    }
+
+    /// Gives the long tag the text of the tag and 24 spaces.
+    pub(crate) fn set_long_tag(&mut self)
+        ensures set { IsLongTagOf (standing_for Tag self.new.bytes) (standing_for LongTag self.new.bytes) }
+        ensures others { (other : Register) → other ≢ LongTag
+            → standing_for other self.new.bytes ≡ standing_for other self.old.bytes }
+    {
+        let tag = PackedText::from_bytes(bytes_of(self, Register::Tag));
+        self.write(Register::LongTag, &long_tag_of(&tag));
     }
 
     /// Gives a register other bytes.
@@ -84,6 +94,17 @@ impl ImageRegisters {
         let range = range_of(register);
         self.bytes[range.start..range.end].copy_from_slice(bytes);
     }
+}
+
+/// The text of a tag and 24 spaces.
+fn long_tag_of(tag: &PackedText<6>) -> [u8; 32]
+    ensures { IsLongTagOf tag.now result }
+{
+    let mut text = [0; 8];
+    tag.write_text(&mut text).unwrap();
+    let mut long_tag = [b' '; 32];
+    long_tag[..8].copy_from_slice(&text);
+    long_tag
 }
 
 /// The polling address in the byte of its register, if that is valid.

@@ -22,7 +22,7 @@ ghost use Rattle.hart_device.specs.Image.{IsImageOf, IsImageFault};
 
 use hart_commands::all_registers_are_listed_once;
 use hart_frame::{every_list_has_frames, first_starts_are_decided, frames_are_unambiguous};
-use hart_values::address_bytes_are_unambiguous;
+use hart_values::{address_bytes_are_unambiguous, packed_text_and_bytes_determine_each_other};
 
 /// A command that is refused, or not answered, has no effect. It changes nothing of the device but the cold start bit of its master,
 /// which the reply shows and clears; without a reply nothing changes at all.
@@ -144,10 +144,7 @@ pub fn registers_of_lists()
 pub fn images_have_no_fault()
     ensures { (state : DeviceState) (image : List ℕ) (fault : DeviceFault)
         → IsImageOf state image → IsImageFault image fault → ⊥ }
-{
-    // No-op: its contract says that the list has every register.
-    all_registers_are_listed_once();
-}
+{}
 
 /// Bytes that are no image have one fault.
 pub fn bytes_have_one_image_fault()
@@ -155,14 +152,16 @@ pub fn bytes_have_one_image_fault()
         → IsImageFault image fault → IsImageFault image other → fault ≡ other }
 {}
 
-/// A device's state has one image, and an image is of one state of a device, but for who it is and for its cold start bits.
+/// A device's state has one image of each version, and an image is of one state of a device, but for who it is and for its cold start
+/// bits.
 pub fn images_have_one_state()
-    ensures one_image { (state : DeviceState) (image other : List ℕ)
-        → IsImageOf state image → IsImageOf state other → image ≡ other }
+    ensures one_image { (state : DeviceState) (image other : List ℕ) (is : IsImageOf state image) (other_is : IsImageOf state other)
+        → is.version ≡ other_is.version → image ≡ other }
     ensures one_state { (state other : DeviceState) (image : List ℕ)
         → IsImageOf state image → IsImageOf other image → state.identity ≡ other.identity → state.cold_start ≡ other.cold_start
         → state ≡ other }
 {
-    // No-op: its contract says that the list has every register.
+    // No-ops: their contracts say that the list has every register, and that bytes are the packed form of one text at most.
     all_registers_are_listed_once();
+    packed_text_and_bytes_determine_each_other();
 }

@@ -9,7 +9,7 @@ use hart_commands::{Register, all_registers_are_listed_once};
 use std::ops::Range;
 
 /// How many bytes all registers have together.
-pub(crate) const ARRAY_LEN: usize = 50;
+pub(crate) const ARRAY_LEN: usize = 82;
 
 /// The table of the ranges.
 pub(crate) fn range_of(register: Register) -> Range<usize>
@@ -24,6 +24,7 @@ pub(crate) fn range_of(register: Register) -> Range<usize>
         Register::Descriptor => 32..44,
         Register::Date => 44..47,
         Register::Assembly => 47..50,
+        Register::LongTag => 50..82,
     }
 }
 

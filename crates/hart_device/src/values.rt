@@ -22,6 +22,8 @@ pub struct RegisterValues {
     pub date: HartDate,
     /// The final assembly number.
     pub assembly: [u8; 3],
+    /// The long tag.
+    pub long_tag: [u8; 32],
 }
 
 impl RegisterValues {
@@ -38,6 +40,7 @@ impl RegisterValues {
             Register::Descriptor => self.descriptor.as_bytes(),
             Register::Date => self.date.as_bytes(),
             Register::Assembly => &self.assembly,
+            Register::LongTag => &self.long_tag,
         }
     }
 }
@@ -52,4 +55,5 @@ pub(crate) fn values_are_valid(values: &RegisterValues)
     values.descriptor.as_bytes();
     values.date.as_bytes();
     let _assembly: &[u8] = &values.assembly;
+    let _long_tag: &[u8] = &values.long_tag;
 }

@@ -2,7 +2,7 @@
 ghost use Rattle.std.specs.Prelude.{◌≡◌, slice_index};
 ghost use Rattle.hart_commands.specs.Registers.{bytes_in, size_of};
 ghost use Rattle.hart_device.specs.Answer.{content_with};
-ghost use Rattle.hart_device.specs.Content.{reply_content, reply_polling, reply_tag};
+ghost use Rattle.hart_device.specs.Content.{reply_content, reply_identity, reply_polling, reply_tag, reply_variables};
 ghost use Rattle.hart_device.specs.Status.{device_status};
 
 use super::Device;
@@ -11,7 +11,7 @@ use crate::registers::bytes_of;
 use crate::status::{PROCESS_BITS, bit_if};
 use crate::variables::variable_readings;
 use crate::{Process, RegisterStore};
-use hart_commands::{Register, ReplyContent, Request};
+use hart_commands::{CodeList, Register, ReplyContent, Request};
 use hart_values::{DeviceStatus, MasterId, PackedText, ResponseCode};
 
 impl<S: RegisterStore> Device<S> {
@@ -49,11 +49,10 @@ impl<S: RegisterStore> Device<S> {
     fn reply_content(&self, process: &Process, request: &Request) -> ReplyContent
         ensures { result ≡ reply_content self.now process.now request.now }
     {
-        let extended_device_status = process.extended_device_status();
         match request {
-            Request::Identify | Request::IdentifyByTag(_) => ReplyContent::Identity(
-                self.identity.content(self.counter, extended_device_status),
-            ),
+            Request::Identify | Request::IdentifyByTag(_) | Request::IdentifyByLongTag(_) => {
+                self.identity(process)
+            }
             Request::ReadPrimary => ReplyContent::Primary(unit_value(&process.first)),
             Request::ReadCurrent => ReplyContent::Current {
                 loop_current: process.loop_current,
@@ -65,11 +64,7 @@ impl<S: RegisterStore> Device<S> {
             },
             Request::SetPolling { .. } | Request::ReadPolling => self.polling(),
             Request::ReadClasses => ReplyContent::Classes(classes(process)),
-            Request::ReadVariables(codes) => ReplyContent::Variables {
-                extended_device_status,
-                variables: variable_readings(process, codes),
-                time_stamp: process.time_stamp,
-            },
+            Request::ReadVariables(codes) => variables(process, codes),
             Request::ReadMessage | Request::WriteMessage(_) => {
                 ReplyContent::Message(PackedText::from_bytes(self.bytes(Register::Message)))
             }
@@ -81,9 +76,20 @@ impl<S: RegisterStore> Device<S> {
             Request::ReadAssembly | Request::WriteAssembly(_) => {
                 ReplyContent::Assembly(self.bytes(Register::Assembly))
             }
+            Request::ReadLongTag | Request::WriteLongTag(_) => {
+                ReplyContent::LongTag(self.bytes(Register::LongTag))
+            }
             Request::ResetChanged(_) => ReplyContent::Counter(self.counter.to_be_bytes()),
             Request::ReadMore => ReplyContent::More(additional_status(process)),
         }
+    }
+
+    /// The identity of the device, with the counter of its state.
+    fn identity(&self, process: &Process) -> ReplyContent
+        ensures { result ≡ reply_identity self.now process.now }
+    {
+        let extended_device_status = process.extended_device_status();
+        ReplyContent::Identity(self.identity.content(self.counter, extended_device_status))
     }
 
     /// The polling address and the loop current mode that the registers hold.
@@ -121,5 +127,16 @@ impl<S: RegisterStore> Device<S> {
         ensures { result ≡ slice_index (bytes_in self.now.contents register) 0 }
     {
         self.registers.get(register)[0]
+    }
+}
+
+/// The extended device status, the device variables of these codes, and the time stamp.
+fn variables(process: &Process, codes: &CodeList) -> ReplyContent
+    ensures { result ≡ reply_variables process.now codes.now }
+{
+    ReplyContent::Variables {
+        extended_device_status: process.extended_device_status(),
+        variables: variable_readings(process, codes),
+        time_stamp: process.time_stamp,
     }
 }

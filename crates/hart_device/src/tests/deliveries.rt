@@ -1,21 +1,24 @@
 //! What a new bench device answers to a message that is cut, changed or damaged, and to noise.
-use super::images::image_with;
+use super::images::{ENDING, IMAGE_2, image_with};
 use super::*;
 use hart_frame::{Message, encode};
 use std::alloc::Global;
 
-/// The place in an image from which the registers that a row here writes stand, then the counter and the flags.
-const ENDING: usize = 48;
+/// The place in an image from which the register stands that a row here writes.
+const ASSEMBLY: usize = 48;
 
-/// How the image of a new bench device ends.
-const UNCHANGED: [u8; 6] = [0; 6];
+/// What stands in an image of a bench device: the final assembly number, and then the counter and the flags.
+type Held = ([u8; 3], [u8; 3]);
 
-/// A request's message, that of the reply, and how the image ends then.
+/// What stands in the image of a new bench device.
+const UNCHANGED: Held = ([0; 3], [0; 3]);
+
+/// A request's message, that of the reply, and what stands in the image then.
 #[derive(Debug)]
 struct Exchange<'a> {
     request: &'a [u8],
     reply: &'a [u8],
-    ending: [u8; 6],
+    held: Held,
 }
 
 /// The message of the reply by which a new bench device is found at polling address 0.
@@ -30,7 +33,7 @@ const EXCHANGES: &[Exchange] = &[
     Exchange {
         request: &[0xFF, 0xFF, 0xFF, 0xFF, 0xFF, 0x02, 0x80, 0x00, 0x00, 0x82],
         reply: FOUND,
-        ending: UNCHANGED,
+        held: UNCHANGED,
     },
     Exchange {
         request: &[
@@ -41,7 +44,7 @@ const EXCHANGES: &[Exchange] = &[
             0xFF, 0xFF, 0xFF, 0xFF, 0xFF, 0x86, 0xB7, 0x42, 0x0A, 0x1B, 0x2C, 0x13, 0x05, 0x00,
             0x40, 0x01, 0x23, 0x45, 0x7F,
         ],
-        ending: [0x01, 0x23, 0x45, 0x00, 0x01, 0x03],
+        held: ([0x01, 0x23, 0x45], [0x00, 0x01, 0x03]),
     },
 ];
 
@@ -65,14 +68,16 @@ fn chars_of(request: &[u8]) -> Result<[Char; MOST], Fail> {
     Ok(chars)
 }
 
-/// Whether a new bench device replies so to a delivery, by nothing if it is silent, and its image ends so then.
-fn leads_to(delivery: &[Char], reply: &[u8], ending: [u8; 6]) -> Result<bool, Fail> {
+/// Whether a new bench device replies so to a delivery, by nothing if it is silent, and this stands in its image then.
+fn leads_to(delivery: &[Char], reply: &[u8], held: Held) -> Result<bool, Fail> {
     let mut device = device_of(&bench::register_values());
     let mut message = Message::new();
     if let Some(answer) = device.hear(delivery, &bench::process()) {
         encode(&answer, device.response_preambles(), &mut message)?;
     }
-    let image = image_with(ENDING, &ending)?;
+    let (assembly, ending) = held;
+    let written = image_with(IMAGE_2, ASSEMBLY, &assembly);
+    let image = image_with(written, ENDING, &ending);
     Ok(message.as_slice() == reply && device.image().as_slice() == image.as_slice())
 }
 
@@ -107,7 +112,7 @@ fn is_met_at(exchange: &Exchange, place: usize, byte: u8, faults: u8) -> Result<
     *character = Char::new(byte, faults).ok_or("faults")?;
     let delivery = chars.get(..exchange.request.len()).ok_or("too long")?;
     if place < SPARE {
-        return leads_to(delivery, exchange.reply, exchange.ending);
+        return leads_to(delivery, exchange.reply, exchange.held);
     }
     if exchange.request.len() == MOST
         && let Some(reply) = reply_to_change(place, byte, faults)
@@ -130,7 +135,7 @@ fn cut_requests_are_met_with_silence(rt: HostRuntime) -> Result<(), Fail> {
         }
         let whole = chars.get(..exchange.request.len()).ok_or("too long")?;
         assert!(rt;
-            leads_to(whole, exchange.reply, exchange.ending)?,
+            leads_to(whole, exchange.reply, exchange.held)?,
             "of {exchange:?}"
         );
     }

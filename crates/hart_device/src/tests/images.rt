@@ -1,68 +1,97 @@
 use super::*;
 
-/// The image of a new bench device.
-const IMAGE: [u8; 54] = [
+/// An image of version 1 of a new bench device.
+const IMAGE_1: [u8; 54] = [
     0x01, 0x00, 0x01, 0x82, 0x08, 0x20, 0x82, 0x08, 0x20, 0x82, 0x08, 0x20, 0x82, 0x08, 0x20, 0x82,
     0x08, 0x20, 0x82, 0x08, 0x20, 0x82, 0x08, 0x20, 0x82, 0x08, 0x20, 0x82, 0x08, 0x20, 0x82, 0x08,
     0x20, 0x82, 0x08, 0x20, 0x82, 0x08, 0x20, 0x82, 0x08, 0x20, 0x82, 0x08, 0x20, 0x00, 0x00, 0x00,
     0x00, 0x00, 0x00, 0x00, 0x00, 0x00,
 ];
 
-/// The image of a new bench device, with other bytes from a place on.
-pub(super) fn image_with(place: usize, bytes: &[u8]) -> Result<[u8; 54], Fail> {
-    let mut image = IMAGE;
-    for (byte, other) in image.iter_mut().skip(place).zip(bytes) {
+/// The image of a new bench device, which is of version 2.
+pub(super) const IMAGE_2: [u8; 86] = [
+    0x02, 0x00, 0x01, 0x82, 0x08, 0x20, 0x82, 0x08, 0x20, 0x82, 0x08, 0x20, 0x82, 0x08, 0x20, 0x82,
+    0x08, 0x20, 0x82, 0x08, 0x20, 0x82, 0x08, 0x20, 0x82, 0x08, 0x20, 0x82, 0x08, 0x20, 0x82, 0x08,
+    0x20, 0x82, 0x08, 0x20, 0x82, 0x08, 0x20, 0x82, 0x08, 0x20, 0x82, 0x08, 0x20, 0x00, 0x00, 0x00,
+    0x00, 0x00, 0x00, 0x20, 0x20, 0x20, 0x20, 0x20, 0x20, 0x20, 0x20, 0x20, 0x20, 0x20, 0x20, 0x20,
+    0x20, 0x20, 0x20, 0x20, 0x20, 0x20, 0x20, 0x20, 0x20, 0x20, 0x20, 0x20, 0x20, 0x20, 0x20, 0x20,
+    0x20, 0x20, 0x20, 0x00, 0x00, 0x00,
+];
+
+/// The place in an image of version 2 from which the long tag stands.
+const LONG_TAG: usize = 51;
+
+/// The place in an image of version 2 from which the counter and the flags stand.
+pub(super) const ENDING: usize = 83;
+
+/// An image with other bytes from a place on.
+pub(super) fn image_with<const N: usize>(image: [u8; N], place: usize, bytes: &[u8]) -> [u8; N] {
+    let mut changed = image;
+    for (byte, other) in changed.iter_mut().skip(place).zip(bytes) {
         *byte = *other;
     }
-    Ok(image)
+    changed
 }
-
-/// Bytes that stand in the bench device's image from a place on, and make it one that is refused, and the fault.
-const BAD_IMAGES: &[(usize, &[u8], DeviceFault)] = &[
-    (0, &[0x00], DeviceFault::BadVersion),
-    (0, &[0x02], DeviceFault::BadVersion),
-    (1, &[0x40], DeviceFault::BadField),
-    (2, &[0x02], DeviceFault::BadField),
-    (45, &[0x1D, 0x02, 0x00], DeviceFault::BadField),
-    (53, &[0x08], DeviceFault::BadField),
-];
-
-/// Images that have not as many bytes as one of their version, and the fault.
-const SHORT_IMAGES: &[(&[u8], DeviceFault)] = &[
-    (&[], DeviceFault::BadLength),
-    (&[0x00], DeviceFault::BadVersion),
-    (&[0x01], DeviceFault::BadLength),
-    (&[0x01, 0x40], DeviceFault::BadLength),
-    (&[0x02], DeviceFault::BadVersion),
-];
 
 /// The fault for which bytes are refused as an image.
 fn image_fault(image: &[u8]) -> Option<DeviceFault> {
     Device::<ImageRegisters>::from_image(bench::identity(), image).err()
 }
 
+/// Bytes that stand in an image of either version from a place on, and make it one that is refused, and the fault.
+const BAD_IMAGES: &[(usize, &[u8], DeviceFault)] = &[
+    (0, &[0x00], DeviceFault::BadVersion),
+    (0, &[0x00, 0x40], DeviceFault::BadVersion),
+    (0, &[0x03], DeviceFault::BadVersion),
+    (0, &[0xFF], DeviceFault::BadVersion),
+    (1, &[0x40], DeviceFault::BadField),
+    (2, &[0x02], DeviceFault::BadField),
+    (45, &[0x1D, 0x02, 0x00], DeviceFault::BadField),
+];
+
+/// Bytes that are not as many as an image of their version has, or are of no version, and the fault.
+const BAD_LENGTHS: &[(&[u8], DeviceFault)] = &[
+    (&[], DeviceFault::BadLength),
+    (&[0x00], DeviceFault::BadVersion),
+    (&[0x01], DeviceFault::BadLength),
+    (&[0x01, 0x40], DeviceFault::BadLength),
+    (&[0x01; 53], DeviceFault::BadLength),
+    (&[0x01; 55], DeviceFault::BadLength),
+    (&[0x01; 86], DeviceFault::BadLength),
+    (&[0x02], DeviceFault::BadLength),
+    (&[0x02, 0x40], DeviceFault::BadLength),
+    (&[0x02; 54], DeviceFault::BadLength),
+    (&[0x02; 85], DeviceFault::BadLength),
+    (&[0x02; 87], DeviceFault::BadLength),
+    (&[0x03], DeviceFault::BadVersion),
+    (&[0x03; 54], DeviceFault::BadVersion),
+];
+
 #[test]
-fn bad_images_are_refused(rt: HostRuntime) -> Result<(), Fail> {
-    assert!(rt; image_fault(&IMAGE).is_none());
+fn bad_images_are_refused(rt: HostRuntime) {
+    assert!(rt; image_fault(&IMAGE_1).is_none() && image_fault(&IMAGE_2).is_none());
     for (place, bytes, fault) in BAD_IMAGES {
-        let image = image_with(*place, bytes)?;
+        let first = image_fault(&image_with(IMAGE_1, *place, bytes));
+        assert_eq!(rt; first, Some(*fault), "of version 1, {bytes:?} at {place}");
+        let second = image_fault(&image_with(IMAGE_2, *place, bytes));
+        assert_eq!(rt; second, Some(*fault), "of version 2, {bytes:?} at {place}");
+    }
+    for flags in [0x08, 0x80, 0xFF] {
+        let bad = Some(DeviceFault::BadField);
         assert_eq!(rt;
-            image_fault(&image),
-            Some(*fault),
-            "of {bytes:?} at {place}"
+            image_fault(&image_with(IMAGE_1, 53, &[flags])),
+            bad,
+            "of {flags}"
+        );
+        assert_eq!(rt;
+            image_fault(&image_with(IMAGE_2, 85, &[flags])),
+            bad,
+            "of {flags}"
         );
     }
-    for (image, fault) in SHORT_IMAGES {
-        assert_eq!(rt; image_fault(image), Some(*fault), "of {image:?}");
+    for (bytes, fault) in BAD_LENGTHS {
+        assert_eq!(rt; image_fault(bytes), Some(*fault), "of {bytes:?}");
     }
-    let mut long = Image::from_slice(&IMAGE).ok_or("too long")?;
-    assert_eq!(rt;
-        image_fault(&long.as_slice()[..53]),
-        Some(DeviceFault::BadLength)
-    );
-    long.push(0x00);
-    assert_eq!(rt; image_fault(long.as_slice()), Some(DeviceFault::BadLength));
-    Ok(())
 }
 
 /// How the image ends of which a device goes on, what it replies to a write, and how its image ends then.
@@ -91,7 +120,7 @@ const GOES_ON: &[GoesOn] = &[
 /// Whether a device that goes on from such an image replies to the write and ends so, and another goes on from its image.
 fn goes_on<S: RegisterStore + Drop>(row: &GoesOn) -> Result<bool, Fail> {
     let (before, payload, after) = row;
-    let image = image_with(51, before)?;
+    let image = image_with(IMAGE_2, ENDING, before);
     let mut device: Device<S> = Device::from_image(bench::identity(), &image)?;
     let kept = device.image().as_slice() == image.as_slice();
     let write = request(19, &[0x01, 0x23, 0x45])?;
@@ -110,6 +139,71 @@ fn devices_go_on_from_their_images(rt: HostRuntime) -> Result<(), Fail> {
     for row in GOES_ON {
         assert!(rt; goes_on::<FieldRegisters>(row)?, "of {row:?}");
         assert!(rt; goes_on::<ImageRegisters>(row)?, "of {row:?}");
+    }
+    Ok(())
+}
+
+/// Whether a device that goes on from one image has another.
+fn has_image<S: RegisterStore + Drop>(image: &[u8], other: &[u8]) -> Result<bool, Fail> {
+    let device: Device<S> = Device::from_image(bench::identity(), image)?;
+    Ok(device.image().as_slice() == other)
+}
+
+#[test]
+fn a_long_tag_is_any_bytes(rt: HostRuntime) -> Result<(), Fail> {
+    for group in 0..8u8 {
+        let mut long_tag = [0; 32];
+        for (byte, place) in long_tag.iter_mut().zip(0..32u8) {
+            *byte = group.wrapping_mul(32).wrapping_add(place);
+        }
+        let image = image_with(IMAGE_2, LONG_TAG, &long_tag);
+        assert!(rt;
+            has_image::<FieldRegisters>(&image, &image)?,
+            "of group {group}"
+        );
+        assert!(rt;
+            has_image::<ImageRegisters>(&image, &image)?,
+            "of group {group}"
+        );
+    }
+    Ok(())
+}
+
+/// Bytes that stand in an image of version 1 from a place on, and the first eight characters of the long tag after it.
+const MIGRATED: &[(usize, &[u8], &[u8; 8])] = &[
+    (1, &[0x3F], b"        "),
+    (2, &[0x00], b"        "),
+    (3, &[0xFF; 24], b"        "),
+    (27, &[0x41, 0x53, 0x50, 0xB7, 0x1C, 0x31], b"PUMP-101"),
+    (27, &[0x00; 6], b"@@@@@@@@"),
+    (27, &[0xFF; 6], b"????????"),
+    (33, &[0x41; 12], b"        "),
+    (45, &[0x1F, 0x0C, 0xFF], b"        "),
+    (48, &[0x01, 0x23, 0x45], b"        "),
+    (51, &[0x12, 0xFF], b"        "),
+    (53, &[0x07], b"        "),
+];
+
+/// The image of version 2 of a device that went on from one of version 1, with this text before the spaces of its long tag.
+fn migrated(image: &[u8; 54], text: &[u8; 8]) -> [u8; 86] {
+    let held = image_with(IMAGE_2, 1, &image[1..51]);
+    let tagged = image_with(held, LONG_TAG, text);
+    image_with(tagged, ENDING, &image[51..54])
+}
+
+#[test]
+fn images_of_version_1_migrate(rt: HostRuntime) -> Result<(), Fail> {
+    for (place, bytes, text) in MIGRATED {
+        let image = image_with(IMAGE_1, *place, bytes);
+        let after = migrated(&image, text);
+        assert!(rt;
+            has_image::<FieldRegisters>(&image, &after)?,
+            "of {bytes:?} at {place}"
+        );
+        assert!(rt;
+            has_image::<ImageRegisters>(&image, &after)?,
+            "of {bytes:?} at {place}"
+        );
     }
     Ok(())
 }

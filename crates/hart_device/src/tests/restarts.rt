@@ -29,6 +29,9 @@ const SILENT: &[(Asked, u8, &[u8])] = &[
     (Asked::Own, 11, OTHER_TAG),
     (Asked::All, 11, OTHER_TAG),
     (Asked::All, 11, &[0x82]),
+    (Asked::Own, 21, &[0xFF; 32]),
+    (Asked::All, 21, &[0xFF; 32]),
+    (Asked::All, 21, &[0x20; 31]),
 ];
 
 /// Requests of which the first reply shows a cold start, whatever its response code.
@@ -42,6 +45,8 @@ const FIRST_REPLIES: &[Row] = &[
     (Asked::Own, 38, &[0x00, 0x01], [0x09, 0x20]),
     (Asked::Own, 38, &[], [0x00, 0x20]),
     (Asked::All, 11, TAG, [0x00, 0x20]),
+    (Asked::All, 21, &[0x20; 32], [0x00, 0x20]),
+    (Asked::Own, 22, &[0xFF; 32], [0x00, 0x60]),
 ];
 
 /// The status bytes of the device's reply to a request, if it replies.

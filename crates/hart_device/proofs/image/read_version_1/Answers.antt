@@ -1,36 +1,51 @@
-use Rattle.std.proofs.Common.{refl, arith, Option, None, Some, IfSome, IfNone, IfOk, IfErr}
-use Rattle.std.specs.Option.{ok_or}
+use Rattle.std.proofs.Common.{◌≡◌, ◌≢◌, ap, refl, sym, ◌∙◌, ◌++◌, drop, replicate, arith}
+use borrow.Rule.Slice.PartMut.{put_mid}
 use Rattle.std.proofs.lemmas.Grind.{common_steps}
-use Rattle.hart_commands.specs.Registers.{registers}
-use Rattle.hart_device.proofs.ImageLemmas.{bad_field, read_is}
+use Rattle.hart_commands.specs.declared.register.Register.{Register}
+use Rattle.hart_commands.specs.declared.register.Register.TheVariants.{LongTag}
+use Rattle.hart_device.specs.Image.{registers_of_version_1}
+use Rattle.hart_device.specs.Ranges.{standing_for}
+use Rattle.hart_device.proofs.ImageLemmas.{bad_field, listed_differs, read_is}
+use Rattle.hart_device.proofs.ReadLemmas.{holds_prefix, kept_or, refused_or, stands_before}
 use Rattle.hart_device.proofs.image.read_version_1.Goals as goal
 
 pub returns-then-rest-clause-refused : goal.returns-then-rest-clause-refused
-returns-then-rest-clause-refused c = (registers, refl, λ same. absurd (c.if-rest.true (omega (arith, same))))
+returns-then-rest-clause-refused c = (registers_of_version_1, refl, λ same. absurd (c.if-rest.true (omega (arith, same))))
 
-refused_or : {A E Bad : Type 0} (P : E → Type 0) (read : Option A) (fault : E) → IfNone read Bad → (Bad → P fault)
-    → IfErr (ok_or read fault) P
-refused_or P None fault bad gives = gives bad
-refused_or P (Some x) fault bad gives = tt
+-- The registers of the image are the first bytes of the array.
+stored : (c : goal.After-ok_or)
+    → put_mid 0 50 (replicate 82 0) c.copy_from_slice.new.self ≡ c.split_at.result.0.now ++ drop 50 (replicate 82 0)
+stored c = rw c.copy_from_slice.ensures.after refl
 
-kept_or : {A E : Type 0} (P Q R S : A → Type 0) (read : Option A) (fault : E) → IfSome read P → IfSome read Q → IfSome read R
-    → ((x : A) → P x → Q x → R x → S x) → IfOk (ok_or read fault) S
-kept_or P Q R S None fault p q r gives = tt
-kept_or P Q R S (Some x) fault p q r gives = gives x p q r
+-- What the image has for a register is read of the array.
+is_read : (c : goal.After-ok_or) (register : Register) → register ≢ LongTag
+    → standing_for register c.set_long_tag.new.self.bytes ≡ standing_for register c.split_at.result.0.now
+is_read c register differ =
+    c.set_long_tag.ensures.others register differ
+    ∙ ap (standing_for register) (stored c)
+    ∙ stands_before c.split_at.result.0.now (drop 50 (replicate 82 0)) c.split_at.ensures.front_len register differ
 
 pub returns-clause-refused : goal.returns-clause-refused
 returns-clause-refused c =
     let split = c.split_at.ensures in
     rw (c.ok_or.ensures.value, split.by_index.0) (refused_or _ c.read_parts.result _ c.read_parts.ensures.refused (λ bad. (
-      registers,
+      registers_of_version_1,
       refl,
       grind (arith, common_steps, split.front_len, split.back_len, c.if-rest.false),
-      bad_field _ _ split.front_len (omega (arith, split.back_len, c.if-rest.false)) c.ranges_fill_the_array.ensures.within bad,
+      bad_field 1 registers_of_version_1 c.set_long_tag.new.self.bytes c.split_at.result.0.now c.split_at.result.1.now
+          (omega (arith, split.back_len, c.if-rest.false)) (λ register there. there)
+          (λ register there.
+          let differ = listed_differs register there in
+          stands_before c.split_at.result.0.now c.split_at.result.1.now split.front_len register differ ∙ sym (is_read c register differ))
+          bad,
     )))
 
 pub returns-clause-kept : goal.returns-clause-kept
 returns-clause-kept c =
     let read = c.read_parts.ensures in
+    let array = c.set_long_tag.new.self.bytes in
     rw (c.ok_or.ensures.value, c.split_at.ensures.by_index.0)
     (kept_or _ _ _ _ c.read_parts.result _ read.registers read.valid read.ending (λ parts contents valid ends.
-    read_is parts _ _ (c.ranges_fill_the_array.ensures.fill _ c.split_at.ensures.front_len) contents valid ends))
+    read_is 1 registers_of_version_1 refl parts array c.split_at.result.0.now c.split_at.result.1.now
+    (holds_prefix array c.split_at.result.0.now c.split_at.ensures.front_len (is_read c))
+    (λ not_listed. c.set_long_tag.ensures.set) contents valid ends))

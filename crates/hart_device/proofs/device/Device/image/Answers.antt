@@ -1,14 +1,35 @@
-use Rattle.std.proofs.Common.{refl, arith}
+use Rattle.std.proofs.Common.{◌≡◌, ℕ, ap, sym, ◌∙◌, List, ◌∷◌, ◌++◌, length, take, length-append, refl, arith}
+use Rattle.std.specs.List.{flat_map, slice_index_or}
 use Rattle.std.proofs.lemmas.Grind.{common_steps}
-use Rattle.hart_commands.specs.Registers.{registers}
+use Rattle.hart_commands.specs.Registers.{Contents, bytes_in, registers}
+use Rattle.hart_commands.specs.declared.register.Register.TheVariants.{Polling}
+use Rattle.hart_device.proofs.RangeLemmas.{next_size, next_written}
 use Rattle.hart_device.proofs.device.Device.image.Goals as goal
 
 pub returns-clause-image : goal.returns-clause-image
 returns-clause-image g c = record {
   contents = c.registers-registers.ensures.valid;
   counter = grind (arith, c.counter-counter.ensures, c.counter-counter.type_inv);
-  version = 1;
+  version = 2;
   listed = registers;
   known = refl;
+  long_tag = λ not_listed. absurd (not_listed (7, omega arith, refl));
   written = grind (arith, common_steps);
 }
+
+pub loop-register-preserved : goal.loop-register-preserved
+loop-register-preserved g c =
+    let place = c.loop-register.register-index in
+    let within = c.loop-register-test.true in
+    let bytes = next_written (bytes_in c.args.self.now.contents) place within in
+    let len = next_size place within in
+    let before = c.loop-register.invariant in
+    let got : c.get.result.now ≡ bytes_in c.args.self.now.contents (slice_index_or registers place Polling) =
+    c.get.ensures.value ∙ ap (λ (contents : Contents). bytes_in contents (slice_index_or registers place Polling))
+    c.registers-registers.ensures.contents in
+    record {
+      bytes = c.extend_from_slice.ensures ∙ ap (λ xs. xs ++ c.get.result.now) before.bytes
+          ∙ ap (λ xs. 2 ∷ (flat_map (bytes_in c.args.self.now.contents) (take place registers) ++ xs)) got ∙ ap (λ xs. 2 ∷ xs) (sym bytes);
+      len = ap (λ (xs : List ℕ). length xs) c.extend_from_slice.ensures ∙ length-append c.loop-register.image c.get.result.now
+          ∙ (omega (arith, before.len, len, c.get.ensures.size));
+    }

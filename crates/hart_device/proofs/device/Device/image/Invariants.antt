@@ -4,6 +4,6 @@ use Rattle.hart_device.proofs.device.Device.image.Given as goal
 
 abbrev pub invariant-loop-register : goal.invariant-loop-register
 invariant-loop-register g l = record {
-  bytes : l.image ≡ 1 ∷ flat_map (bytes_in l.self.contents) (take l.register-index registers);
+  bytes : l.image ≡ 2 ∷ flat_map (bytes_in l.self.contents) (take l.register-index registers);
   len : length l.image ≡ 1 + sum_by size_of (take l.register-index registers);
 }

@@ -3,7 +3,7 @@ use Rattle.hart_commands.specs.Registers.{bytes_in}
 use Rattle.hart_device.specs.Ranges.{standing_for}
 use Rattle.hart_device.specs.Values.{values_of}
 use Rattle.hart_device.proofs.RegistersLemmas.{bytes_in-contents_by}
-use Rattle.hart_device.proofs.WritingLemmas.{all_written}
+use Rattle.hart_device.proofs.WritingLemmas.{all_written, one_more}
 use Rattle.hart_device.proofs.image_registers.ImageRegistersRegisterStore.with.Goals as goal
 
 pub returns : goal.returns
@@ -11,3 +11,9 @@ returns c = λ register.
     bytes_in-contents_by (λ r. standing_for r c.loop-register.store.bytes) register
     ∙ all_written (λ r. Some (bytes_in (values_of c.args.values.now) r)) _ c.loop-register.store.bytes c.loop-register.register-index
     c.loop-register-test.false c.all_registers_are_listed_once.ensures.every c.loop-register.invariant register
+
+pub loop-register-preserved : goal.loop-register-preserved
+loop-register-preserved c =
+    one_more (λ r. Some (bytes_in (values_of c.args.values.now) r)) _ c.loop-register.store.bytes c.write.new.self.bytes
+    c.loop-register.register-index c.loop-register-test.true c.all_registers_are_listed_once.ensures.once
+    (c.write.ensures.written ∙ c.get.ensures.value) c.write.ensures.others c.loop-register.invariant

@@ -1,0 +1,38 @@
+use Rattle.std.proofs.Common.{refl, ◌∙◌, ◌≡◌, length, arith}
+use Rattle.std.proofs.lemmas.Grind.{common_steps}
+use Rattle.hart_commands.specs.Registers.{registers}
+use Rattle.hart_commands.specs.declared.register.Register.TheVariants.{LongTag}
+use Rattle.hart_device.specs.Ranges.{array_length}
+use Rattle.hart_device.proofs.ImageLemmas.{bad_field, before_others, read_is}
+use Rattle.hart_device.proofs.ReadLemmas.{kept_or, refused_or}
+use Rattle.hart_device.proofs.image.read_version_2.Goals as goal
+
+pub returns-then-rest-clause-refused : goal.returns-then-rest-clause-refused
+returns-then-rest-clause-refused c = (registers, refl, λ same. absurd (c.if-rest.true (omega (arith, same))))
+
+pub returns-clause-refused : goal.returns-clause-refused
+returns-clause-refused c =
+    let split = c.split_at.ensures in
+    let len : length c.split_at.result.0.now ≡ array_length = split.front_len in
+    rw (c.ok_or.ensures.value, split.by_index.0) (refused_or _ c.read_parts.result _ c.read_parts.ensures.refused (λ bad. (
+      registers,
+      refl,
+      grind (arith, common_steps, split.front_len, split.back_len, c.if-rest.false),
+      bad_field 2 registers c.copy_from_slice.new.self c.split_at.result.0.now c.split_at.result.1.now
+          (omega (arith, split.back_len, c.if-rest.false)) (λ register there. c.all_registers_are_listed_once.ensures.every register)
+          (λ register there.
+          let fits = c.ranges_fill_the_array.ensures.within register in
+          rw c.copy_from_slice.ensures.after
+          (before_others register c.split_at.result.0.now c.split_at.result.1.now (omega (arith, fits, len))))
+          bad,
+    )))
+
+pub returns-clause-kept : goal.returns-clause-kept
+returns-clause-kept c =
+    let read = c.read_parts.ensures in
+    let array = c.copy_from_slice.new.self in
+    rw (c.ok_or.ensures.value, c.split_at.ensures.by_index.0)
+    (kept_or _ _ _ _ c.read_parts.result _ read.registers read.valid read.ending (λ parts contents valid ends.
+    read_is 2 registers refl parts array c.split_at.result.0.now c.split_at.result.1.now
+    (c.ranges_fill_the_array.ensures.fill array c.copy_from_slice.ensures.len ∙ c.copy_from_slice.ensures.after)
+    (λ not_listed. absurd (not_listed (c.all_registers_are_listed_once.ensures.every LongTag))) contents valid ends))
