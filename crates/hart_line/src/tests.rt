@@ -81,6 +81,7 @@ const SCRIPTS: &[(&str, Result<&str, usize>)] = &[
     ("submit P @07 0", Ok("S")),
     ("submit P FF420A1B2C 0\r\n", Ok("S")),
     ("submit P @0 1\nturn P ok lost\n", Ok("ST")),
+    ("submit P 37420A1B2C 20", Ok("S")),
     (
         "# a reply is lost\nsubmit\tP 37420A1B2C 19 012345\n\nturn P ok lost\r\nturn P ok ok\r",
         Ok("STT"),
@@ -92,7 +93,8 @@ const SCRIPTS: &[(&str, Result<&str, usize>)] = &[
     (" restart\t\r\n#\nrestart", Ok("RR")),
     ("submit P 37420A1B2C 6 4001", Err(1)),
     ("submit P 37420A1B2C 19 0123", Err(1)),
-    ("submit P 37420A1B2C 20", Err(1)),
+    ("submit P 37420A1B2C 22 0123", Err(1)),
+    ("submit P 37420A1B2C 37", Err(1)),
     ("submit P 37420A1B2C 256", Err(1)),
     ("submit P 37420A1B2C 19 012345 00", Err(1)),
     ("submit P @64 0", Err(1)),

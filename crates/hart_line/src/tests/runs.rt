@@ -43,6 +43,19 @@ const NOTHING: Row = Row {
     assembly: &[0x00, 0x00, 0x00],
 };
 
+/// The payload of the reply by which the bench device is found.
+const IDENTITY: &[u8] = &[
+    0x00, 0x00, 0xFE, 0x37, 0x42, 0x05, 0x07, 0x01, 0x02, 0x18, 0x00, 0x0A, 0x1B, 0x2C, 0x05, 0x04,
+    0x00, 0x00, 0x00, 0x00, 0x37, 0x00, 0x37, 0x01,
+];
+
+/// The payload of the reply to the long tag that a script writes, whose bytes are of every size.
+const LONG_TAG: &[u8] = &[
+    0x00, 0x40, 0xF0, 0xF1, 0xF2, 0xF3, 0xF4, 0xF5, 0xF6, 0xF7, 0xF8, 0xF9, 0xFA, 0xFB, 0xFC, 0xFD,
+    0xFE, 0xFF, 0x00, 0x01, 0x02, 0x03, 0x04, 0x05, 0x06, 0x07, 0x08, 0x09, 0x0A, 0x0B, 0x0C, 0x0D,
+    0x0E, 0x0F,
+];
+
 /// Scripts, and what comes of them.
 const ROWS: &[Row] = &[
     NOTHING,
@@ -247,6 +260,17 @@ const ROWS: &[Row] = &[
         assembly: &[0x01, 0x23, 0x45],
         ..NOTHING
     },
+    Row {
+        script: LONG_TAG_WRITTEN,
+        fates: &[
+            Fate::Answered(21, 1, IDENTITY),
+            Fate::Answered(22, 1, LONG_TAG),
+            Fate::Answered(20, 1, LONG_TAG),
+        ],
+        spoken: 6,
+        counter: 1,
+        ..NOTHING
+    },
 ];
 
 /// What comes of a script on a device, with a primary master that sends so often again.
@@ -282,7 +306,8 @@ pub fn run_of(
 /// What a row's script leads to, on a device with this store that goes on from the row's image.
 fn report_of<S: RegisterStore + Drop>(alloc: Global, row: &Row) -> Result<Report<S>, Fail> {
     let new = Device::<S>::new(bench::identity(), &bench::register_values()).image();
-    let mut image = Image::from_slice(&new.as_slice()[..51]).ok_or("too long")?;
+    let registers = &new.as_slice()[..new.len() - row.ending.len()];
+    let mut image = Image::from_slice(registers).ok_or("too long")?;
     image.extend_from_slice(&row.ending);
     let device = Device::from_image(bench::identity(), image.as_slice())?;
     Ok(run_on(alloc, device, row.retries, row.script)??)

@@ -101,3 +101,10 @@ pub const RESTART_LOST: &str =
 /// The device restarts between two sendings of a request, which stays in hand.
 pub const RESTART_MEANWHILE: &str =
     "submit P 37420A1B2C 19 012345\nturn P ok lost\nrestart\nturn P ok ok\nturn S ok ok";
+
+/// All devices are asked for the one that has this long tag, which is then written and read.
+pub const LONG_TAG_WRITTEN: &str =
+    "submit P all 21 2020202020202020202020202020202020202020202020202020202020202020\n\
+    turn P ok ok\n\
+    submit S 37420A1B2C 22 F0F1F2F3F4F5F6F7F8F9FAFBFCFDFEFF000102030405060708090A0B0C0D0E0F\nturn S ok ok\n\
+    submit P 37420A1B2C 20\nturn P ok ok";
