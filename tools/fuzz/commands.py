@@ -6,9 +6,9 @@ from typing import NamedTuple
 # How many bytes of its request data a command needs, from the first on.
 NEEDED = {
     0: 0, 1: 0, 2: 0, 3: 0, 6: 1, 7: 0, 8: 0, 9: 1, 11: 6, 12: 0, 13: 0, 14: 0, 15: 0, 16: 0,
-    17: 24, 18: 21, 19: 3, 38: 0, 48: 0,
+    17: 24, 18: 21, 19: 3, 20: 0, 21: 32, 22: 32, 38: 0, 48: 0,
 }
-WRITES = (6, 17, 18, 19)
+WRITES = (6, 17, 18, 19, 22)
 MOST_CODES = 8
 
 SUCCESS = 0
@@ -21,9 +21,10 @@ NOT_IMPLEMENTED = 64
 
 # How many bytes the reply of a command has at least; Commands 3, 9 and 48 have rules of their own.
 REPLY_NEEDED = {
-    0: 22, 1: 5, 2: 8, 6: 2, 7: 2, 8: 4, 11: 22, 12: 24, 13: 21, 14: 16, 15: 18, 16: 3, 17: 24, 18: 21, 19: 3, 38: 2,
+    0: 22, 1: 5, 2: 8, 6: 2, 7: 2, 8: 4, 11: 22, 12: 24, 13: 21, 14: 16, 15: 18, 16: 3, 17: 24, 18: 21, 19: 3,
+    20: 32, 21: 22, 22: 32, 38: 2,
 }
-IDENTITY_COMMANDS = (0, 11)
+IDENTITY_COMMANDS = (0, 11, 21)
 IDENTITY_FIRST = 254
 
 

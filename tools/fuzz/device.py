@@ -40,22 +40,30 @@ CONFIGURATION_CHANGED = 0x40
 COLD_START = 0x20
 LOOP_CURRENT_FIXED = 0x08
 
-IMAGE_VERSION = 1
-IMAGE_BYTES = 54
+IMAGE_VERSION = 2
+# How many bytes an image of each version has: one of version 1 has no long tag.
+IMAGE_BYTES = {1: 54, 2: 86}
 GREATEST_POLLING, GREATEST_MODE, GREATEST_FLAGS = 63, 1, 7
-NEW_IMAGE = bytes.fromhex("010001" + "820820" * 14 + "000000" + "000000" + "0000" + "00")
+NEW_IMAGE = bytes.fromhex("020001" + "820820" * 14 + "000000" + "000000" + "20" * 32 + "0000" + "00")
 
 
 def bytes_fault(data):
     """The first thing by which bytes are no image; None if they are one."""
     if not data:
         return "length"
-    if data[0] != IMAGE_VERSION:
+    if data[0] not in IMAGE_BYTES:
         return "version"
-    if len(data) != IMAGE_BYTES:
+    if len(data) != IMAGE_BYTES[data[0]]:
         return "length"
-    taken = data[1] <= GREATEST_POLLING and data[2] <= GREATEST_MODE and data[53] <= GREATEST_FLAGS
+    taken = data[1] <= GREATEST_POLLING and data[2] <= GREATEST_MODE and data[-1] <= GREATEST_FLAGS
     return None if taken and commands.is_date(data[45:48]) else "field"
+
+
+def unpacked(packed):
+    """The text of packed bytes: four characters of six bits in three bytes, codes hex 20 to 5F."""
+    bits = int.from_bytes(packed, "big")
+    codes = (bits >> shift & 63 for shift in range(8 * len(packed) - 6, -1, -6))
+    return bytes(code + 64 if code < 32 else code for code in codes)
 
 
 @dataclass
@@ -69,6 +77,7 @@ class Device:
     descriptor: bytes
     date: bytes
     assembly: bytes
+    long_tag: bytes
     counter: int
     changed: dict
     protected: bool
@@ -76,17 +85,18 @@ class Device:
 
     @classmethod
     def from_image(cls, image):
-        """The device that goes on from the 54 bytes of a good image."""
-        counter, flags = int.from_bytes(image[51:53], "big"), image[53]
+        """The device that goes on from a good image; after one of version 1 its long tag is the text of its tag and spaces."""
+        long_tag = image[51:-3] or unpacked(image[27:33]).ljust(32)
+        counter, flags = int.from_bytes(image[-3:-1], "big"), image[-1]
         changed = {"P": bool(flags & 1), "S": bool(flags & 2)}
         return cls(image[1], image[2], image[3:27], image[27:33], image[33:45], image[45:48], image[48:51],
-                   counter, changed, bool(flags & 4), {"P": False, "S": False})
+                   long_tag, counter, changed, bool(flags & 4), {"P": False, "S": False})
 
     def image(self):
         """The bytes that say what the device holds."""
         flags = self.changed["P"] | 2 * self.changed["S"] | 4 * self.protected
         prefix = bytes([IMAGE_VERSION, self.polling, self.mode])
-        registers = self.message + self.tag + self.descriptor + self.date + self.assembly
+        registers = self.message + self.tag + self.descriptor + self.date + self.assembly + self.long_tag
         return prefix + registers + self.counter.to_bytes(2, "big") + bytes([flags])
 
     def restart(self):
@@ -108,7 +118,7 @@ class Device:
         code = commands.request_code(command, data, self.protected, self.counter)
         if code != commands.SUCCESS and frame.address == BROADCAST:
             return None
-        if code == commands.SUCCESS and command == 11 and data[:6] != self.tag:
+        if code == commands.SUCCESS and (command == 11 and data[:6] != self.tag or command == 21 and data[:32] != self.long_tag):
             return None
         content = b""
         if code == commands.SUCCESS:
@@ -122,7 +132,7 @@ class Device:
         """Whether address and command of a request go together."""
         if isinstance(address, Polling):
             return address.number == self.polling and command == 0
-        return address == OWN_ADDRESS or address == BROADCAST and command == 11
+        return address == OWN_ADDRESS or address == BROADCAST and command in (11, 21)
 
     def execute(self, command, data, master):
         """Carries out a command that has code 0."""
@@ -136,8 +146,10 @@ class Device:
             self.message = data
         elif command == 18:
             self.tag, self.descriptor, self.date = data[:6], data[6:18], data[18:]
-        else:
+        elif command == 19:
             self.assembly = data
+        else:
+            self.long_tag = data
         self.counter = (self.counter + 1) % 0x10000
         self.changed = {"P": True, "S": True}
 
@@ -160,7 +172,7 @@ class Device:
         tag = self.tag + self.descriptor + self.date
         polling = bytes([self.polling, self.mode])
         return {
-            0: self.identity(), 11: self.identity(),
+            0: self.identity(), 11: self.identity(), 21: self.identity(),
             1: VARIABLE_UNIT + VARIABLE_VALUE,
             2: LOOP_CURRENT + PERCENT,
             3: LOOP_CURRENT + VARIABLE_UNIT + VARIABLE_VALUE,
@@ -171,6 +183,7 @@ class Device:
             14: SENSOR,
             15: OUTPUT + bytes([self.protected, 250]) + CHANNEL_FLAGS,
             16: self.assembly, 19: self.assembly,
+            20: self.long_tag, 22: self.long_tag,
             38: self.counter.to_bytes(2, "big"),
             48: ADDITIONAL_STATUS,
         }[command]

@@ -11,7 +11,8 @@ from .master import MASTER_PREAMBLES
 
 BAD_LINES = (
     "submit P 37420A1B2C 6 4001", "submit P 37420A1B2C 6 0002", "submit P 37420A1B2C 6", "submit P 37420A1B2C 19 0123",
-    "submit P 37420A1B2C 38 00", "submit P 37420A1B2C 4", "submit P 37420A1B2C 20", "submit P @64 0", "submit X @0 0",
+    "submit P 37420A1B2C 38 00", "submit P 37420A1B2C 4", "submit P 37420A1B2C 23", "submit P @64 0", "submit X @0 0",
+    "submit P all 21 " + "20" * 31, "submit P 37420A1B2C 22 " + "FF" * 31, "submit P 37420A1B2C 21", "submit P 37420A1B2C 22",
     "submit P @0 0 \"\"", "submit P @0", "submit P @0 0 00 00", "submit P all 11 41535B", "submit P 37420A1B2C 9",
     "submit P 37420A1B2C 256", "submit P 37420A1B2C 18 415350B71C318208208208208208208208201D0200", "submit", "Submit P @0 0",
     "turn P ok", "turn P ok ok ok", "turn P OK ok", "turn p ok ok", "turn", "turn P lost,ok", "turn P FF!08 ok", "turn P FFF ok",
@@ -88,13 +89,13 @@ class Play:
     def submit(self):
         """A submission of a request that is well formed, also one that its master refuses."""
         rng, device = self.rng, self.line.device
-        command = rng.choice((6, 17, 18, 19, 38, 38)) if rng.random() < 0.5 else rng.choice(list(commands.NEEDED))
+        command = rng.choice((6, 17, 18, 19, 22, 38, 38)) if rng.random() < 0.5 else rng.choice(list(commands.NEEDED))
         address = OWN_ADDRESS if rng.random() < 0.5 else heard.random_address(rng, device.polling)
         if rng.random() < 0.2:
-            address, command = rng.choice(((Polling(device.polling), 0), (heard.BROADCAST, 11)))
+            address, command = rng.choice(((Polling(device.polling), 0), (heard.BROADCAST, 11), (heard.BROADCAST, 21)))
         data = None
         while data is None or commands.request_code(command, data) != commands.SUCCESS:
-            data = heard.random_data(rng, command, device.counter, device.tag)[:255]
+            data = heard.random_data(rng, command, device.counter, device.tag, device.long_tag)[:255]
         idle = [who for who, master in self.line.masters.items() if not master.pending]
         who = rng.choice(idle) if idle and rng.random() < 0.6 else heard.random_master(rng)
         return Submit(who, address, command, data)

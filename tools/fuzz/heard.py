@@ -6,6 +6,8 @@ from .frames import BROADCAST, LONGEST_BODY, PREAMBLE, Char, Polling, Unique, ad
 
 BLANK_TAG = bytes.fromhex("820820" * 2)
 OTHER_TAG = bytes.fromhex("415350B71C31")
+BLANK_LONG_TAG = b" " * 32
+OTHER_LONG_TAG = b"PUMP-101".ljust(32)
 DATES = [bytes.fromhex(date) for date in ("000000", "1D0264", "1D0200", "1F0CFF", "000164", "1D02C8", "1F0400", "010101", "200101")]
 STATUS_PAIRS = [bytes.fromhex(pair) for pair in ("0000", "0040", "0740", "8800", "C005", "2000", "7F00", "8000")]
 SMALL_MESSAGE = bytes.fromhex("FFFF0280000082")
@@ -33,8 +35,8 @@ def random_address(rng, polling=0):
 
 def random_command(rng):
     """A command, mostly one of the profile."""
-    return weighted(rng, (12, rng.choice(list(NEEDED))), (6, rng.choice((6, 17, 18, 19, 38, 11, 9))), (1, rng.randrange(256)),
-                    (1, rng.choice((4, 5, 10, 20, 21, 22, 31, 37, 39, 47, 49, 255))))
+    return weighted(rng, (12, rng.choice(list(NEEDED))), (6, rng.choice((6, 17, 18, 19, 22, 38, 11, 21, 9))), (1, rng.randrange(256)),
+                    (1, rng.choice((4, 5, 10, 23, 31, 37, 39, 47, 49, 255))))
 
 
 def random_bytes(rng, length):
@@ -52,7 +54,7 @@ def with_message_inside(rng, data):
     return data[:place] + SMALL_MESSAGE + data[place + len(SMALL_MESSAGE):]
 
 
-def good_data(rng, command, counter=0, tag=BLANK_TAG):
+def good_data(rng, command, counter=0, tag=BLANK_TAG, long_tag=BLANK_LONG_TAG):
     """Request data that the command takes, as a rule."""
     if command == 6:
         address = bytes([rng.choice((0, 0, 5, 62, 63, 64, 255, rng.randrange(64)))])
@@ -69,15 +71,22 @@ def good_data(rng, command, counter=0, tag=BLANK_TAG):
         return rng.choice((BLANK_TAG, OTHER_TAG)) + rng.choice((BLANK_TAG * 2, rng.randbytes(12))) + date
     if command == 19:
         return rng.choice((bytes.fromhex("012345"), rng.randbytes(3), bytes.fromhex("FFFFFF")))
+    if command == 21:
+        near = bytearray(long_tag)
+        near[rng.randrange(32)] ^= 1 << rng.randrange(8)
+        return rng.choice((long_tag, long_tag, long_tag, BLANK_LONG_TAG, OTHER_LONG_TAG, bytes(near), rng.randbytes(32)))
+    if command == 22:
+        text = rng.choice((BLANK_LONG_TAG, OTHER_LONG_TAG, rng.randbytes(32), bytes([255] * 32)))
+        return with_message_inside(rng, text) if rng.random() < 0.3 else text
     if command == 38:
         near = (counter, counter, counter, 0, counter + 1, 0xFFFF, rng.randrange(0x10000))
         return b"" if rng.random() < 0.3 else (rng.choice(near) % 0x10000).to_bytes(2, "big")
     return b""
 
 
-def random_data(rng, command, counter=0, tag=BLANK_TAG):
+def random_data(rng, command, counter=0, tag=BLANK_TAG, long_tag=BLANK_LONG_TAG):
     """Request data of any command: as it wants them, too few, too many, the most that there are, or of any bytes."""
-    data = good_data(rng, command, counter, tag)
+    data = good_data(rng, command, counter, tag, long_tag)
     return weighted(
         rng, (12, lambda: data), (2, lambda: data[:rng.randrange(len(data) + 1)]), (2, lambda: data[:-1]),
         (2, lambda: data + random_bytes(rng, rng.choice((1, 1, 2, 8, 30)))),

@@ -23,12 +23,14 @@ def packed(rng, length):
 
 
 def random_image(rng):
-    """A good image with any registers, a counter near its ends, and any flags."""
+    """A good image of either version with any registers, a counter near its ends, and any flags."""
     polling = rng.choice((0, 0, 1, 5, 62, 63, rng.randrange(64)))
     tag = rng.choice((heard.BLANK_TAG, heard.OTHER_TAG, packed(rng, 6)))
     counter = rng.choice((0, 1, 0xFFFE, 0xFFFF, 0x00FF, 0xFF00, rng.randrange(0x10000)))
-    return (bytes([1, polling, rng.randrange(2)]) + packed(rng, 24) + tag + packed(rng, 12) + good_date(rng)
-            + rng.randbytes(3) + counter.to_bytes(2, "big") + bytes([rng.randrange(8)]))
+    version = rng.choice((1, 2))
+    long_tag = rng.choice((heard.BLANK_LONG_TAG, heard.OTHER_LONG_TAG, rng.randbytes(32), bytes(32))) if version == 2 else b""
+    return (bytes([version, polling, rng.randrange(2)]) + packed(rng, 24) + tag + packed(rng, 12) + good_date(rng)
+            + rng.randbytes(3) + long_tag + counter.to_bytes(2, "big") + bytes([rng.randrange(8)]))
 
 
 def earlier_image(rng):
@@ -56,21 +58,23 @@ def bad_field(rng, image):
         image = with_field(image, *rng.choice((
             (1, bytes([rng.choice((0x40, 0x41, 0x7F, 0x80, 0xFF, rng.randrange(64, 256)))])),
             (2, bytes([rng.choice((2, 3, 0x80, 0xFF, rng.randrange(2, 256)))])),
-            (45, date), (53, bytes([rng.choice((8, 9, 0x0F, 0x10, 0x80, 0xFF, rng.randrange(8, 256)))])))))
+            (45, date), (len(image) - 1, bytes([rng.choice((8, 9, 0x0F, 0x10, 0x80, 0xFF, rng.randrange(8, 256)))])))))
     return image
 
 
 def bad_version(rng, image):
     """Bytes of any length, an image's too, that begin with a version that is none."""
-    version = rng.choice((0, 2, 2, 3, 0xFF, 0x10, 0x81))
+    version = rng.choice((0, 3, 3, 4, 0xFF, 0x10, 0x81))
     return bytes([version]) + rng.choice((image, image + bytes(32), b"", image[:20], rng.randbytes(rng.randrange(300))))[1:]
 
 
 def bad_length(rng, image):
-    """The bytes of an image, fewer or more; also with a field that is not taken."""
+    """The bytes of an image, fewer or more, or with the other version; also with a field that is not taken."""
     image = image if rng.random() < 0.7 else bad_field(rng, image)
     longer = image + rng.choice((b"\x00", rng.randbytes(1), rng.randbytes(32), image, rng.randbytes(rng.randrange(1, 300))))
-    return rng.choice((image[:53], longer[:55], longer, image[:rng.randrange(1, 54)], image[:1], b""))
+    other = bytes([3 - image[0]]) + image[1:]
+    fewer = image[:rng.randrange(1, len(image))]
+    return rng.choice((image[:-1], longer[:len(image) + 1], longer, other, fewer, image[:1], b""))
 
 
 def bad_bytes(rng):

@@ -73,9 +73,9 @@ def answer_input(rng, device):
     command = heard.random_command(rng)
     address = heard.random_address(rng, device.polling)
     if rng.random() < 0.3:
-        address, command = rng.choice(((Polling(device.polling), 0), (heard.BROADCAST, 11)))
+        address, command = rng.choice(((Polling(device.polling), 0), (heard.BROADCAST, 11), (heard.BROADCAST, 21)))
     expansion = rng.randbytes(weighted(rng, (20, 0), (1, 1), (1, 3)))
-    data = heard.random_data(rng, command, device.counter, device.tag)
+    data = heard.random_data(rng, command, device.counter, device.tag, device.long_tag)
     body = heard.body_of_fields(rng, rng.random() < 0.05, address, expansion, command, data)
     characters = faultless(b"\xFF" * weighted(rng, (1, 1), (3, 2), (8, 5), (1, 20)) + body)
     if rng.random() < 0.3:

@@ -33,7 +33,7 @@ class Master:
         """Takes a request in hand, and gives None; or the number of the refusal."""
         if self.pending is not None:
             return PENDING
-        if isinstance(address, Polling) and command != 0 or address == BROADCAST and command != 11:
+        if isinstance(address, Polling) and command != 0 or address == BROADCAST and command not in (11, 21):
             return WRONG_ADDRESS
         self.pending = Pending(number, address, command, commands.written_data(command, data))
         return None

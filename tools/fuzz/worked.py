@@ -1,7 +1,8 @@
 """Worked messages and scripts, against which the model is held before it judges anything."""
 
 REGISTERS = "010001" + "820820" * 14 + "000000"
-IMAGE_PREFIX = f"image {REGISTERS}"
+LONG_TAG = "20" * 32
+IMAGE_PREFIX = f"image 02{REGISTERS[2:]}"
 WRITE = "P 20 82B7420A1B2C13030123453D\n"
 WRITTEN = WRITE + "D 5 86B7420A1B2C130500400123457F\n"
 WRITTEN_AFTER_RESTART = WRITE + "D 5 86B7420A1B2C130500600123455F\n"
@@ -13,6 +14,8 @@ READ_POLLING = "P 20 82B7420A1B2C07004D\n"
 FRAME_IN_DATA = "FFFF0280000082" + "00" * 17
 REQUEST = "FF FF FF FF FF 82 B7 42 0A 1B 2C "
 REPLY = "FF FF FF FF FF 86 B7 42 0A 1B 2C "
+LONG_TAG_OF_PUMP = "50554D502D313031" + "20" * 24
+IDENTIFY_LONG_PUMP = f"FF FF 82 80 00 00 00 00 15 20 {LONG_TAG_OF_PUMP} 32"
 INSIDE = "FF FF 82 B7 42 0A 1B 2C 13 FF FF FF FF FF FF 02 80 00 00 82"
 SPACES = "82 08 20 "
 TAG_OF_PUMP = "41 53 50 B7 1C 31 "
@@ -30,6 +33,7 @@ DUMPED = (
     ("FF FF 82 B7 42 0A 1B 2C 13 03 01 23 45 3D", "2 14 STX P 0 37420A1B2C - 19 012345\n", ""),
     ("FF FF 86 77 42 0A 1B 2C 13 05 00 40 01 23 45 BF", "2 16 ACK S 1 37420A1B2C - 19 0040012345\n", ""),
     ("FF FF 82 80 00 00 00 00 0B 06 41 53 50 B7 1C 31 D7", "2 17 STX P 0 all - 11 415350B71C31\n", ""),
+    ("FF FF 82 80 00 00 00 00 15 20" + LONG_TAG + "37", f"2 43 STX P 0 all - 21 {LONG_TAG}\n", ""),
     ("FF FF 22 BF 55 00 00 C8", "2 8 STX P 0 @63 55 0 -\n", ""),
     ("FF" * 20 + "E2800000000000000000FF" + "00" * 255 + "9D", "20 287 STX P 0 all 000000 0 " + "00" * 255 + "\n", ""),
     ("FF FF 06 80 00 01 00 87", "", ""),
@@ -87,6 +91,13 @@ ANSWERED = (
     (REQUEST + "13 03 01 23 45 3C FF FF 02 80 00 00 82", "FF" * 5 + "068000" + IDENTITY + "31"),
     (REQUEST + "13 02 01 23 79", REPLY + "13 02 05 00 5A"),
     (REQUEST + "13 04 01 23 45 67 5D", REPLY + "13 05 00 40 01 23 45 7F"),
+    (REQUEST + "14 00 5E", REPLY + "14 22 00 00" + LONG_TAG + "78"),
+    (REQUEST + "15 20" + LONG_TAG + "7F", REPLY + "15" + IDENTITY + "EC"),
+    ("FF FF 82 80 00 00 00 00 15 20" + LONG_TAG + "37", "FF" * 5 + "86800000000015" + IDENTITY + "A4"),
+    (IDENTIFY_LONG_PUMP, ""),
+    (REQUEST + "16 20" + "FF" * 32 + "7C", REPLY + "16 22 00 40" + "FF" * 32 + "3A"),
+    (REQUEST + "16 21" + "FF" * 33 + "82", REPLY + "16 22 00 40" + "FF" * 32 + "3A"),
+    (REQUEST + "16 1F" + "FF" * 31 + "BC", REPLY + "16 02 05 00 5F"),
     (REQUEST + "26 02 00 01 6F", REPLY + "26 02 09 00 63"),
     (REQUEST + "26 01 00 6D", REPLY + "26 02 05 00 6F"),
     (REQUEST + "26 00 6C", REPLY + "26 04 00 00 00 00 6C"),
@@ -101,6 +112,9 @@ ANSWERED_FROM = (
     (f"{REGISTERS}000000000000", IDENTIFY_PUMP, ""),
     ("010001" + "820820" * 8 + "415350b71c31" + "820820" * 4 + "000000000000000000", IDENTIFY_PUMP,
      "FF" * 5 + "8680000000000B" + IDENTITY + "BA"),
+    ("010001" + "820820" * 8 + "415350b71c31" + "820820" * 4 + "000000000000000000", IDENTIFY_LONG_PUMP,
+     "FF" * 5 + "86800000000015" + IDENTITY + "A4"),
+    (f"{REGISTERS}000000000004", REQUEST + "16 20" + "FF" * 32 + "7C", REPLY + "16 02 07 00 5D"),
     (f"{REGISTERS}012345000103", "FF FF FF FF FF 02 80 00 00 82",
      "FF FF FF FF FF 06 80 00 18 00 40 FE 37 42 05 07 01 02 18 00 0A 1B 2C 05 04 00 01 00 00 37 00 37 01 70"),
     (f"{REGISTERS}012345000103", REQUEST + "26 02 00 01 6F", REPLY + "26 04 00 00 00 01 6D"),
@@ -113,9 +127,13 @@ NO_IMAGES = (
     ("é", "bad hex at 0"),
     ("0é", "bad hex at 3"),
     ("", "bad image: length"),
-    ("02", "bad image: version"),
+    ("00", "bad image: version"),
     ("03", "bad image: version"),
     ("01", "bad image: length"),
+    ("02", "bad image: length"),
+    (f"02{REGISTERS[2:]}000000000000", "bad image: length"),
+    (f"{REGISTERS}000000{LONG_TAG}000000", "bad image: length"),
+    (f"02{REGISTERS[2:]}000000{LONG_TAG}000008", "bad image: field"),
     (f"{REGISTERS}000000000008", "bad image: field"),
     (f"0140{REGISTERS[4:]}000000000000", "bad image: field"),
     (f"010002{REGISTERS[6:]}000000000000", "bad image: field"),
@@ -124,58 +142,66 @@ NO_IMAGES = (
 
 # The script of `hart sim`, and its text.
 PLAYED = (
-    ("", f"counter 0\n{IMAGE_PREFIX}000000000000\n"),
-    ("turn P ok ok", f"counter 0\n{IMAGE_PREFIX}000000000000\n"),
-    ("submit P @0 1", f"1 refused 3\ncounter 0\n{IMAGE_PREFIX}000000000000\n"),
+    ("", f"counter 0\n{IMAGE_PREFIX}000000{LONG_TAG}000000\n"),
+    ("turn P ok ok", f"counter 0\n{IMAGE_PREFIX}000000{LONG_TAG}000000\n"),
+    ("submit P @0 1", f"1 refused 3\ncounter 0\n{IMAGE_PREFIX}000000{LONG_TAG}000000\n"),
     (SUBMIT_WRITE + "turn P ok lost\nturn P ok ok\n",
-     WRITTEN * 2 + f"1 answered 2 00 40 012345\ncounter 2\n{IMAGE_PREFIX}012345000203\n"),
+     WRITTEN * 2 + f"1 answered 2 00 40 012345\ncounter 2\n{IMAGE_PREFIX}012345{LONG_TAG}000203\n"),
     (SUBMIT_WRITE + "turn P ok FFFF86B7420A1B2C130500400123457E\nturn P ok ok\n",
-     WRITTEN * 2 + f"1 answered 2 00 40 012345\ncounter 2\n{IMAGE_PREFIX}012345000203\n"),
+     WRITTEN * 2 + f"1 answered 2 00 40 012345\ncounter 2\n{IMAGE_PREFIX}012345{LONG_TAG}000203\n"),
     (SUBMIT_WRITE + "turn P FFFF82!40B7420A1B2C13030123453D ok\nturn P ok ok\n",
-     WRITE + WRITTEN + f"1 answered 2 00 40 012345\ncounter 1\n{IMAGE_PREFIX}012345000103\n"),
+     WRITE + WRITTEN + f"1 answered 2 00 40 012345\ncounter 1\n{IMAGE_PREFIX}012345{LONG_TAG}000103\n"),
     (SUBMIT_WRITE + "turn P FFFF82B7420A1B2C13030123453C ok\nturn P ok ok\n",
-     WRITE + FAULTS_REPLY + WRITTEN + f"1 answered 2 00 40 012345\ncounter 1\n{IMAGE_PREFIX}012345000103\n"),
-    ("noise FFFF82B7420A1B2C13030123453C", FAULTS_REPLY + f"counter 0\n{IMAGE_PREFIX}000000000000\n"),
-    ("turn S FFFF82B7420A1B2C13030123453C ok", FAULTS_REPLY + f"counter 0\n{IMAGE_PREFIX}000000000000\n"),
-    (SUBMIT_WRITE + "turn P lost ok\n" * 4, WRITE * 4 + f"1 noreply 4\ncounter 0\n{IMAGE_PREFIX}000000000000\n"),
+     WRITE + FAULTS_REPLY + WRITTEN + f"1 answered 2 00 40 012345\ncounter 1\n{IMAGE_PREFIX}012345{LONG_TAG}000103\n"),
+    ("noise FFFF82B7420A1B2C13030123453C", FAULTS_REPLY + f"counter 0\n{IMAGE_PREFIX}000000{LONG_TAG}000000\n"),
+    ("turn S FFFF82B7420A1B2C13030123453C ok", FAULTS_REPLY + f"counter 0\n{IMAGE_PREFIX}000000{LONG_TAG}000000\n"),
+    (SUBMIT_WRITE + "turn P lost ok\n" * 4, WRITE * 4 + f"1 noreply 4\ncounter 0\n{IMAGE_PREFIX}000000{LONG_TAG}000000\n"),
     ("submit P all 0\nsubmit S 37420A1B2C 16\nsubmit S 37420A1B2C 16\n",
-     f"1 refused 3\n2 unfinished 0\n3 refused 2\ncounter 0\n{IMAGE_PREFIX}000000000000\n"),
+     f"1 refused 3\n2 unfinished 0\n3 refused 2\ncounter 0\n{IMAGE_PREFIX}000000{LONG_TAG}000000\n"),
     (TWO_MASTERS + "turn P ok ok\n",
-     TWO_WRITTEN + WRITTEN + f"1 answered 2 00 40 012345\n2 answered 1 00 40 0A0B0C\ncounter 3\n{IMAGE_PREFIX}012345000303\n"),
+     TWO_WRITTEN + WRITTEN + f"1 answered 2 00 40 012345\n2 answered 1 00 40 0A0B0C\ncounter 3\n{IMAGE_PREFIX}012345{LONG_TAG}000303\n"),
     (TWO_MASTERS + "protect on\nturn P ok ok\n",
      TWO_WRITTEN + WRITE + "D 5 86B7420A1B2C1302074018\n1 answered 2 07 40 -\n2 answered 1 00 40 0A0B0C\n"
-     f"counter 2\n{IMAGE_PREFIX}0A0B0C000207\n"),
+     f"counter 2\n{IMAGE_PREFIX}0A0B0C{LONG_TAG}000207\n"),
     ("submit P @0 0\nsubmit S 37420A1B2C 6 0501\nturn P ok lost\nturn S ok ok\nturn P ok ok\n",
      f"P 20 0280000082\nD 5 068000{IDENTITY}31\nS 20 8237420A1B2C06020501CA\nD 5 8637420A1B2C06040040050188\nP 20 0280000082\n"
-     "1 unfinished 2\n2 answered 1 00 40 0501\ncounter 1\nimage 010501" + "820820" * 14 + "000000000000000103\n"),
+     "1 unfinished 2\n2 answered 1 00 40 0501\ncounter 1\nimage 020501" + "820820" * 14 + "000000" * 2 + LONG_TAG + "000103\n"),
     (SUBMIT_WRITE + "turn P ok ok\nsubmit P 37420A1B2C 38 0001\nturn P ok ok\n",
      WRITTEN + "P 20 82B7420A1B2C260200016F\nD 5 86B7420A1B2C2604000000016D\n1 answered 1 00 40 012345\n2 answered 1 00 00 0001\n"
-     f"counter 1\n{IMAGE_PREFIX}012345000102\n"),
-    ("restart", f"counter 0\n{IMAGE_PREFIX}000000000000\n"),
+     f"counter 1\n{IMAGE_PREFIX}012345{LONG_TAG}000102\n"),
+    (f"submit P all 21 {LONG_TAG}\nturn P ok ok\nsubmit P all 20\nsubmit P 37420A1B2C 22 " + "FF" * 33 + "\nturn P ok ok\n",
+     f"P 20 8280000000001520{LONG_TAG}37\nD 5 86800000000015{IDENTITY}A4\n"
+     "P 20 82B7420A1B2C1620" + "FF" * 32 + "7C\nD 5 86B7420A1B2C16220040" + "FF" * 32 + "3A\n"
+     f"1 answered 1 00 00 {IDENTITY[6:]}\n2 refused 3\n3 answered 1 00 40 " + "FF" * 32
+     + f"\ncounter 1\n{IMAGE_PREFIX}000000" + "FF" * 32 + "000103\n"),
+    ("restart", f"counter 0\n{IMAGE_PREFIX}000000{LONG_TAG}000000\n"),
     ("restart\n" + SUBMIT_WRITE + "turn P ok ok\nsubmit P 37420A1B2C 7\nturn P ok ok\nsubmit S 37420A1B2C 7\nturn S ok ok\n",
      WRITTEN_AFTER_RESTART + READ_POLLING + "D 5 86B7420A1B2C0704004000010C\nS 20 8237420A1B2C0700CD\nD 5 8637420A1B2C070400600001AC\n"
-     f"1 answered 1 00 60 012345\n2 answered 1 00 40 0001\n3 answered 1 00 60 0001\ncounter 1\n{IMAGE_PREFIX}012345000103\n"),
+     f"1 answered 1 00 60 012345\n2 answered 1 00 40 0001\n3 answered 1 00 60 0001\ncounter 1\n{IMAGE_PREFIX}012345{LONG_TAG}000103\n"),
     ("restart\nsubmit P 37420A1B2C 7\nturn P ok lost\nturn P ok ok\n",
      READ_POLLING + "D 5 86B7420A1B2C0704002000016C\n" + READ_POLLING + "D 5 86B7420A1B2C0704000000014C\n"
-     f"1 answered 2 00 00 0001\ncounter 0\n{IMAGE_PREFIX}000000000000\n"),
+     f"1 answered 2 00 00 0001\ncounter 0\n{IMAGE_PREFIX}000000{LONG_TAG}000000\n"),
     ("restart\nprotect on\nnoise FFFF82B7420A1B2C13030123453C\n" + SUBMIT_WRITE + "turn P ok ok\nsubmit P 37420A1B2C 7\nturn P ok ok\n",
      FAULTS_REPLY + WRITE + "D 5 86B7420A1B2C1302072078\n" + READ_POLLING + "D 5 86B7420A1B2C0704000000014C\n"
-     f"1 answered 1 07 20 -\n2 answered 1 00 00 0001\ncounter 0\n{IMAGE_PREFIX}000000000004\n"),
+     f"1 answered 1 07 20 -\n2 answered 1 00 00 0001\ncounter 0\n{IMAGE_PREFIX}000000{LONG_TAG}000004\n"),
     (SUBMIT_WRITE + "turn P ok lost\nrestart\nturn P ok ok\n",
-     WRITTEN + WRITTEN_AFTER_RESTART + f"1 answered 2 00 60 012345\ncounter 2\n{IMAGE_PREFIX}012345000203\n"),
+     WRITTEN + WRITTEN_AFTER_RESTART + f"1 answered 2 00 60 012345\ncounter 2\n{IMAGE_PREFIX}012345{LONG_TAG}000203\n"),
 )
 
 # The image of `hart sim`, its script, and its text.
 PLAYED_FROM = (
-    (f"{REGISTERS}000000000000", "", f"counter 0\n{IMAGE_PREFIX}000000000000\n"),
+    ("010001" + "820820" * 8 + "415350B71C31" + "820820" * 4 + "000000000000000000", "",
+     "counter 0\nimage 020001" + "820820" * 8 + "415350B71C31" + "820820" * 4 + "000000" * 2 + LONG_TAG_OF_PUMP + "000000\n"),
+    (f"{REGISTERS}000000000000", "", f"counter 0\n{IMAGE_PREFIX}000000{LONG_TAG}000000\n"),
     (f"{REGISTERS}000000000103", "submit P 37420A1B2C 38 0001\nsubmit S 37420A1B2C 19 0A0B0C\nturn P ok lost\nturn S ok ok\nturn P ok ok\n",
      RESET + "D 5 86B7420A1B2C2604000000016D\nS 20 8237420A1B2C13030A0B0CD7\nD 5 8637420A1B2C130500400A0B0C95\n"
-     + RESET + f"D 5 86B7420A1B2C2602094023\n1 answered 2 09 40 -\n2 answered 1 00 40 0A0B0C\ncounter 2\n{IMAGE_PREFIX}0A0B0C000203\n"),
+     + RESET + f"D 5 86B7420A1B2C2602094023\n1 answered 2 09 40 -\n"
+     f"2 answered 1 00 40 0A0B0C\ncounter 2\n{IMAGE_PREFIX}0A0B0C{LONG_TAG}000203\n"),
     (f"{REGISTERS}000000FFFF00", SUBMIT_WRITE + "turn P ok ok\n",
-     WRITTEN + f"1 answered 1 00 40 012345\ncounter 0\n{IMAGE_PREFIX}012345000003\n"),
+     WRITTEN + f"1 answered 1 00 40 012345\ncounter 0\n{IMAGE_PREFIX}012345{LONG_TAG}000003\n"),
     (f"{REGISTERS}012345000103", "submit P 37420A1B2C 16\nturn P ok ok\n",
      "P 20 82B7420A1B2C10005A\nD 5 86B7420A1B2C100500400123457C\n1 answered 1 00 40 012345\n"
-     f"counter 1\n{IMAGE_PREFIX}012345000103\n"),
+     f"counter 1\n{IMAGE_PREFIX}012345{LONG_TAG}000103\n"),
 )
 
 # The script of `hart sim`, and its fault.
