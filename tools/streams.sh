@@ -106,7 +106,8 @@ ends_with 1 'read fault' "$work/output" dump <"$work"
 ends_with 1 'read fault' "$work/output" answer <"$work"
 ends_with 1 'read fault' "$work/output" sim <"$work"
 # An image that is none is refused before anything is read, and so before the fault of the input.
-ends_with 1 'bad image: version' "$work/output" answer --image 02 <"$work"
+ends_with 1 'bad image: version' "$work/output" answer --image 03 <"$work"
+ends_with 1 'bad image: length' "$work/output" answer --image 02 <"$work"
 ends_with 1 'bad image: length' "$work/output" sim --image '' <"$work"
 ends_with 1 'bad hex at 3' "$work/output" sim --image "$(printf '0\303\251')" <"$work"
 ends_with 2 'error: *' "$work/output" answer --image "$(printf '\377')" <"$request"
@@ -115,10 +116,12 @@ ends_with 2 'error: *' "$work/output" encode P @0 "$(printf '\377')" <"$request"
 ends_with 1 'bad word 1' "$work/output" encode '' @0 0 </dev/null
 writes 'FF FF FF FF FF FF FF FF FF FF FF FF FF FF FF FF FF FF FF FF 82 00 00 00 00 00 0B 06 41 53 50 B7 1C 31 57' \
     encode S all 11 415350B71C31 --preambles 20
-# What a device holds is what the next run goes on from.
-image=010501820820820820820820820820820820820820820820820820820820820820820820820820820820820820000000012345000107
+# What a device holds is what the next run goes on from, and an image of version 1 is written as one of version 2.
+earlier=010501820820820820820820820820820820820820820820820820820820820820820820820820820820820820000000012345000107
+image=0205018208208208208208208208208208208208208208208208208208208208208208208208208208208208200000000123452020202020202020202020202020202020202020202020202020202020202020000107
 writes "$(printf 'counter 1\nimage %s' "$image")" sim --image "$image"
 writes "$(printf 'counter 1\nimage %s' "$image")" sim "--image=$image"
+writes "$(printf 'counter 1\nimage %s' "$image")" sim --image "$earlier"
 shows help --help
 for word in answer dump sim encode; do
     shows "help-$word" "$word" --help

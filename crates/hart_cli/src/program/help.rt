@@ -23,19 +23,21 @@ bytes. The input has at most 1048576 bytes of text.
 
 Output (stdout): the reply of the device in upper case hex, or nothing if the
 device is silent. It answers command 0 at its polling address, any command at
-its own address 37420A1B2C, and command 11 with its tag, sent to all. If no
-message came whole, but one that was sent to its own address is damaged only
-after that address, the reply says how: its first status byte is 80, with the
-fault bits of the bytes, and with 08 if the check byte does not fit; the second
-is 00. In every other case the device is silent: if it hears no message, or
-more than one; if the message is a reply or has expansion bytes; and if it was
-sent to another address or another tag.
+its own address 37420A1B2C, and, sent to all, command 11 with its tag and
+command 21 with its long tag. If no message came whole, but one that was sent
+to its own address is damaged only after that address, the reply says how: its
+first status byte is 80, with the fault bits of the bytes, and with 08 if the
+check byte does not fit; the second is 00. In every other case the device is
+silent: if it hears no message, or more than one; if the message is a reply or
+has expansion bytes; and if it was sent to another address, or names another
+tag or long tag.
 
-Each run starts a new device, with polling address 0 and a tag of eight spaces,
-in command 11 the data 820820820820; or one that goes on from an image, as hart
-sim writes it in its last line. If that is no image nothing is read, and
-standard error says why: bad image: version, length or field; bad hex at N, a
-place in the image, counted from 0.";
+Each run starts a new device, with polling address 0, a tag of eight spaces, in
+command 11 the data 820820820820, and a long tag of 32 spaces, which are bytes
+20 in command 21; or one that goes on from an image, as hart sim writes it in
+its last line. If that is no image nothing is read, and standard error says
+why: bad image: version, length or field; bad hex at N, a place in the image,
+counted from 0.";
 
 pub(super) const ANSWER_EXAMPLE: &str = "\
 Examples:
@@ -138,18 +140,19 @@ Output (stdout): written once the script has come to its end.
   N refused FAULT            the master did not take it: 2, it had another in
                              hand; 3, the command may not go to the address
   counter N                  the configuration change counter of the device
-  image HEX                  01, and then in hex the polling address, the loop
+  image HEX                  02, and then in hex the polling address, the loop
                              current mode, message, tag, descriptor, date,
-                             final assembly number, counter, and a byte of
-                             flags: 1 and 2, the configuration has changed for
-                             the primary and the secondary master; 4, the
-                             device is protected
+                             final assembly number, long tag, counter, and a
+                             byte of flags: 1 and 2, the configuration has
+                             changed for the primary and the secondary master;
+                             4, the device is protected
 
 Each run starts a new device, or one that goes on from an image: with that of
 the last line of one script the next begins where that one ended, with no cold
-start bit set. If HEX is no image nothing is read, and standard error says why:
-bad image: version, length or field; bad hex at N, a place in the image,
-counted from 0.
+start bit set. An image of version 1 begins with 01 and has no long tag: that
+of the device is then its tag and 24 spaces. If HEX is no image nothing is
+read, and standard error says why: bad image: version, length or field; bad hex
+at N, a place in the image, counted from 0.
 
 If no output is written, standard error says why.
   bad line N                 every line counts, an empty one too, from 1
