@@ -265,11 +265,13 @@ pub refused_step : RefusedLaw → (start : Start) (events : List LineEvent) (bef
 refused_step law start events before next r =
     let state = state_of start.device before in
     let nothing : effect_on state r.turn.step.arrived ≡ Nothing = ap (effect_on state) r.arrived ∙ law state r.frame r.refused in
-    let sent = frame_arrived start.device.identity r.up r.who (of_master r.who before.hands) r.frame (rw r.arrived at r.turn.step.arrives) in
+    let arrives = rw r.arrived at r.turn.step.arrives in
+    let sent = frame_arrived start.device.identity r.up r.who (of_master r.who before.hands) r.frame arrives in
     let cold_start : cold_start_after state r.who r.turn.step.arrived
     ≡ (if is_answered state r.frame then with_master r.frame.master false state.cold_start else state.cold_start) =
     ap (cold_start_after state r.who) r.arrived
-    ∙ ap (λ (who : MasterId). if is_answered state r.frame then with_master who false state.cold_start else state.cold_start) (sym sent.2) in
+    ∙ ap (λ (who : MasterId). if is_answered state r.frame then with_master who false state.cold_start else state.cold_start)
+    (sym sent.2) in
     ap (state_of start.device) (r.turn.step.next_is
     ∙ ap (λ (hand : Option InHand). turned start before r.who hand r.turn.step.arrived r.turn.step.accepted) sent.1)
     ∙ unmoved start before r.who sent.0 r.turn.step.arrived r.turn.step.accepted nothing
