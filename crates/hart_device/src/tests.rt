@@ -1,13 +1,13 @@
 use super::*;
-use hart_commands::Register;
 use hart_frame::{Char, Frame, Payload};
-use hart_values::{Address, LoopMode, MasterId, PackedText, PollingAddress};
+use hart_values::{Address, MasterId};
 use std::test::Fail;
 
+mod addresses;
 mod deliveries;
 mod images;
-mod long_tags;
 mod restarts;
+mod writes;
 
 /// The payload of the reply to Command 0, before anything is counted.
 const IDENTITY: &[u8] = &[
@@ -19,12 +19,6 @@ const IDENTITY: &[u8] = &[
 const BAD_DATE: &[u8] = &[
     0x41, 0x53, 0x50, 0xB7, 0x1C, 0x31, 0x82, 0x08, 0x20, 0x82, 0x08, 0x20, 0x82, 0x08, 0x20, 0x82,
     0x08, 0x20, 0x1D, 0x02, 0x00,
-];
-
-/// Thirty-two spaces in packed text.
-const SPACES: &[u8] = &[
-    0x82, 0x08, 0x20, 0x82, 0x08, 0x20, 0x82, 0x08, 0x20, 0x82, 0x08, 0x20, 0x82, 0x08, 0x20, 0x82,
-    0x08, 0x20, 0x82, 0x08, 0x20, 0x82, 0x08, 0x20,
 ];
 
 /// A command, its data, and the payload of the reply.
@@ -59,9 +53,9 @@ const PROTECTED: &[Row] = &[
     ),
 ];
 
-/// A new bench device whose registers hold these values.
-fn device_of(values: &RegisterValues) -> Device<FieldRegisters> {
-    Device::new(bench::identity(), values)
+/// A new bench device.
+fn bench_device() -> Device<FieldRegisters> {
+    Device::new(bench::identity(), &bench::register_values())
 }
 
 /// The primary master's request of a command to the bench device at its own address.
@@ -80,7 +74,7 @@ fn asked(device: &mut Device<FieldRegisters>, command: u8, data: &[u8]) -> Resul
 #[test]
 fn requests_are_answered(rt: HostRuntime) -> Result<(), Fail> {
     for (command, data, payload) in BENCH {
-        let mut device = device_of(&bench::register_values());
+        let mut device = bench_device();
         let reply = asked(&mut device, *command, data)?;
         assert_eq!(rt;
             reply.payload(),
@@ -89,7 +83,7 @@ fn requests_are_answered(rt: HostRuntime) -> Result<(), Fail> {
         );
     }
     for (command, data, payload) in PROTECTED {
-        let mut device = device_of(&bench::register_values());
+        let mut device = bench_device();
         device.protect(true);
         let reply = asked(&mut device, *command, data)?;
         assert_eq!(rt;
@@ -103,57 +97,9 @@ fn requests_are_answered(rt: HostRuntime) -> Result<(), Fail> {
 }
 
 #[test]
-fn a_reset_clears_the_bit_of_its_master(rt: HostRuntime) -> Result<(), Fail> {
-    let mut device = device_of(&bench::register_values());
-    let _written = asked(&mut device, 19, &[0x01, 0x23, 0x45])?;
-    let reply = asked(&mut device, 38, &[0x00, 0x01])?;
-    assert_eq!(rt; reply.payload(), [0x00, 0x00, 0x00, 0x01].as_slice());
-    assert!(rt; !device.changed(MasterId::Primary) && device.changed(MasterId::Secondary));
-    assert_eq!(rt; device.counter(), 1);
-    assert_eq!(rt;
-        device.registers().get(Register::Assembly),
-        [0x01, 0x23, 0x45].as_slice()
-    );
-    Ok(())
-}
-
-#[test]
-fn the_counter_goes_round(rt: HostRuntime) -> Result<(), Fail> {
-    let mut device = device_of(&bench::register_values());
-    let write = request(19, &[0x01, 0x23, 0x45])?;
-    for _ in 0..65_536u32 {
-        let _reply = device.receive(&write, &bench::process()).ok_or("silence")?;
-    }
-    assert_eq!(rt; device.counter(), 0);
-    Ok(())
-}
-
-#[test]
-fn a_polling_address_is_answered_by_its_device(rt: HostRuntime) -> Result<(), Fail> {
-    let mut device = device_of(&RegisterValues {
-        polling: PollingAddress::new(5)?,
-        mode: LoopMode::Disabled,
-        ..bench::register_values()
-    });
-    let reply = asked(&mut device, 7, &[])?;
-    assert_eq!(rt; reply.payload(), [0x00, 0x08, 0x05, 0x00].as_slice());
-    for (address, command, answered) in [(0, 0, false), (5, 0, true), (5, 1, false)] {
-        let at = Address::polling(address)?;
-        let frame = Frame::request(MasterId::Secondary, at, command, Payload::new());
-        let reply = device.receive(&frame, &bench::process());
-        assert_eq!(rt;
-            reply.is_some(),
-            answered,
-            "at {address} with command {command}"
-        );
-    }
-    Ok(())
-}
-
-#[test]
 fn additional_status_is_shown(rt: HostRuntime) -> Result<(), Fail> {
     for (place, status) in [(0, 0x10), (5, 0x10), (6, 0x00), (7, 0x10), (24, 0x10)] {
-        let mut device = device_of(&bench::register_values());
+        let mut device = bench_device();
         let mut process = bench::process();
         assert!(rt; place < 25);
         process.additional_status[place] = 1;
@@ -166,56 +112,6 @@ fn additional_status_is_shown(rt: HostRuntime) -> Result<(), Fail> {
             "of byte {place}"
         );
     }
-    Ok(())
-}
-
-/// The data of Command 11, and whether they are answered at the broadcast address by a device with the tag PUMP-101.
-const TAGS: &[(&[u8], bool)] = &[
-    (&[0x41, 0x53, 0x50, 0xB7, 0x1C, 0x31], true),
-    (&[0x41, 0x53, 0x50, 0xB7, 0x1C, 0x31, 0x00], true),
-    (&[0x41, 0x53, 0x50, 0xB7, 0x1C], false),
-    (&[0x82, 0x08, 0x20, 0x82, 0x08, 0x20], false),
-];
-
-#[test]
-fn a_tag_is_answered_by_its_device(rt: HostRuntime) -> Result<(), Fail> {
-    let mut device = device_of(&RegisterValues {
-        tag: PackedText::from_bytes([0x41, 0x53, 0x50, 0xB7, 0x1C, 0x31]),
-        ..bench::register_values()
-    });
-    let all = Address::unique(0, 0)?;
-    for (tag, answered) in TAGS {
-        let payload = Payload::from_slice(tag).ok_or("too long")?;
-        let frame = Frame::request(MasterId::Primary, all, 11, payload);
-        let reply = device.receive(&frame, &bench::process());
-        assert_eq!(rt; reply.is_some(), *answered, "of {tag:?}");
-        if let Some(reply) = reply {
-            assert_eq!(rt; reply.payload(), IDENTITY);
-            assert!(rt; reply.address() == all);
-        }
-    }
-    let identify = Frame::request(MasterId::Primary, all, 0, Payload::new());
-    assert!(rt; device.receive(&identify, &bench::process()).is_none());
-    assert!(rt;
-        device
-            .receive(&request(11, SPACES)?, &bench::process())
-            .is_none()
-    );
-    Ok(())
-}
-
-#[test]
-fn a_request_is_heard_among_noise(rt: HostRuntime) -> Result<(), Fail> {
-    let mut device = device_of(&bench::register_values());
-    let mut delivery = [Char::new(0, 0).ok_or("faults")?; 8];
-    for (character, byte) in delivery
-        .iter_mut()
-        .zip([0xFF, 0xFF, 0x02, 0x00, 0x00, 0x00, 0x02, 0x55])
-    {
-        *character = Char::new(byte, 0).ok_or("faults")?;
-    }
-    let reply = device.hear(&delivery, &bench::process()).ok_or("silence")?;
-    assert_eq!(rt; reply.payload(), IDENTITY);
     Ok(())
 }
 

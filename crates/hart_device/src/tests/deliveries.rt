@@ -70,7 +70,7 @@ fn chars_of(request: &[u8]) -> Result<[Char; MOST], Fail> {
 
 /// Whether a new bench device replies so to a delivery, by nothing if it is silent, and this stands in its image then.
 fn leads_to(delivery: &[Char], reply: &[u8], held: Held) -> Result<bool, Fail> {
-    let mut device = device_of(&bench::register_values());
+    let mut device = bench_device();
     let mut message = Message::new();
     if let Some(answer) = device.hear(delivery, &bench::process()) {
         encode(&answer, device.response_preambles(), &mut message)?;
@@ -122,46 +122,34 @@ fn is_met_at(exchange: &Exchange, place: usize, byte: u8, faults: u8) -> Result<
     leads_to(delivery, &[], UNCHANGED)
 }
 
-#[test]
-fn cut_requests_are_met_with_silence(rt: HostRuntime) -> Result<(), Fail> {
-    for exchange in EXCHANGES {
-        let chars = chars_of(exchange.request)?;
-        for count in 0..exchange.request.len() {
-            let delivery = chars.get(..count).ok_or("too long")?;
-            assert!(rt;
-                leads_to(delivery, &[], UNCHANGED)?,
-                "of {count} characters of {exchange:?}"
-            );
-        }
-        let whole = chars.get(..exchange.request.len()).ok_or("too long")?;
-        assert!(rt;
-            leads_to(whole, exchange.reply, exchange.held)?,
-            "of {exchange:?}"
-        );
-    }
-    Ok(())
+/// Whether a request that ends before a place is met with silence.
+fn is_silent_before(exchange: &Exchange, place: usize) -> Result<bool, Fail> {
+    let chars = chars_of(exchange.request)?;
+    let delivery = chars.get(..place).ok_or("too long")?;
+    leads_to(delivery, &[], UNCHANGED)
 }
 
 #[test]
-fn another_byte_is_borne_in_the_spare_preamble_alone(rt: HostRuntime) -> Result<(), Fail> {
+fn damage_is_borne_in_the_spare_preamble_alone(rt: HostRuntime) -> Result<(), Fail> {
     for exchange in EXCHANGES {
+        let whole = chars_of(exchange.request)?;
+        let delivery = whole.get(..exchange.request.len()).ok_or("too long")?;
+        assert!(rt;
+            leads_to(delivery, exchange.reply, exchange.held)?,
+            "of {exchange:?}"
+        );
         for (place, byte) in exchange.request.iter().enumerate() {
-            for change in 1..=255u8 {
+            assert!(rt;
+                is_silent_before(exchange, place)?,
+                "of {place} characters of {exchange:?}"
+            );
+            for change in 0..=255u8 {
                 let other = byte ^ change;
                 assert!(rt;
-                    is_met_at(exchange, place, other, 0)?,
+                    change == 0 || is_met_at(exchange, place, other, 0)?,
                     "of {other} at {place} of {exchange:?}"
                 );
             }
-        }
-    }
-    Ok(())
-}
-
-#[test]
-fn fault_bits_are_borne_in_the_spare_preamble_alone(rt: HostRuntime) -> Result<(), Fail> {
-    for exchange in EXCHANGES {
-        for (place, byte) in exchange.request.iter().enumerate() {
             for faults in FAULT_SETS {
                 assert!(rt;
                     is_met_at(exchange, place, *byte, *faults)?,
@@ -172,9 +160,6 @@ fn fault_bits_are_borne_in_the_spare_preamble_alone(rt: HostRuntime) -> Result<(
     }
     Ok(())
 }
-
-/// A message, the place of a character of it with fault bits, these, and the message of the reply to it, if any.
-type Damaged<'a> = (&'a [u8], usize, u8, &'a [u8]);
 
 /// The writing with another check byte.
 const BAD_CHECK: &[u8] = &[
@@ -192,68 +177,8 @@ pub(super) fn garbled_write() -> Result<[Char; MOST], Fail> {
     chars_of(BAD_CHECK)
 }
 
-/// What is replied to damaged messages.
-const DAMAGED: &[Damaged] = &[
-    (BAD_CHECK, 0, 0x00, FAULTY),
-    (
-        &[
-            0xFF, 0xFF, 0xFF, 0xFF, 0xFF, 0x82, 0xB7, 0x42, 0x0A, 0x1B, 0x2C, 0x13, 0x03, 0x01,
-            0x23, 0x45, 0x3D,
-        ],
-        14,
-        0x40,
-        &[
-            0xFF, 0xFF, 0xFF, 0xFF, 0xFF, 0x86, 0xB7, 0x42, 0x0A, 0x1B, 0x2C, 0x13, 0x02, 0xC0,
-            0x00, 0x9F,
-        ],
-    ),
-    (
-        BAD_CHECK,
-        12,
-        0x20,
-        &[
-            0xFF, 0xFF, 0xFF, 0xFF, 0xFF, 0x86, 0xB7, 0x42, 0x0A, 0x1B, 0x2C, 0x13, 0x02, 0xA8,
-            0x00, 0xF7,
-        ],
-    ),
-    (
-        &[
-            0xFF, 0xFF, 0x82, 0x37, 0x42, 0x0A, 0x1B, 0x2C, 0x13, 0x03, 0x0A, 0x0B, 0x0C, 0xD6,
-        ],
-        0,
-        0x00,
-        &[
-            0xFF, 0xFF, 0xFF, 0xFF, 0xFF, 0x86, 0x37, 0x42, 0x0A, 0x1B, 0x2C, 0x13, 0x02, 0x88,
-            0x00, 0x57,
-        ],
-    ),
-    (
-        &[
-            0xFF, 0xFF, 0x82, 0xB7, 0x42, 0x0A, 0x1B, 0x2C, 0x13, 0x03, 0x01, 0x23, 0x45, 0x3D,
-        ],
-        4,
-        0x10,
-        &[],
-    ),
-];
-
-#[test]
-fn a_damaged_request_is_replied_to(rt: HostRuntime) -> Result<(), Fail> {
-    for (message, place, faults, reply) in DAMAGED {
-        let mut chars = chars_of(message)?;
-        let character = chars.get_mut(*place).ok_or("a place")?;
-        *character = Char::new(character.byte(), *faults).ok_or("faults")?;
-        let delivery = chars.get(..message.len()).ok_or("too long")?;
-        assert!(rt;
-            leads_to(delivery, reply, UNCHANGED)?,
-            "of {faults} at {place} of {message:?}"
-        );
-    }
-    Ok(())
-}
-
-/// Bytes one after another, each so many times.
-type Noise<'a> = &'a [(&'a [u8], usize)];
+/// Bytes one after another, each so many times, with these fault bits.
+type Noise<'a> = &'a [(&'a [u8], usize, u8)];
 
 /// The body of a request for the identity at polling address 0.
 const IDENTIFY: &[u8] = &[0x02, 0x80, 0x00, 0x00, 0x82];
@@ -266,37 +191,114 @@ const LONGEST: &[u8] = &[
     0xE2, 0x80, 0x00, 0x00, 0x00, 0x00, 0x00, 0x00, 0x00, 0x00, 0xFF,
 ];
 
-/// Noise, and the message of the reply to it, if any.
-const NOISES: &[(Noise, &[u8])] = &[
-    (&[(&[0xFF], 100_000)], &[]),
-    (&[(&[0xFF], 100_000), (IDENTIFY, 1)], FOUND),
-    (
-        &[(&[0xFF], 20), (LONGEST, 1), (&[0x00], 255), (&[0x9D], 1)],
-        &[],
-    ),
-    (&[(FALSE_START, 2000)], FAULTY),
-    (
-        &[(FALSE_START, 2000), (&[0xFF, 0xFF], 1), (IDENTIFY, 1)],
-        FOUND,
-    ),
-    // A garbled request after noise, and before it; after another start; and beside a whole frame.
-    (&[(&[0x55, 0xFF, 0x00], 1), (BAD_CHECK, 1)], FAULTY),
-    (&[(BAD_CHECK, 1), (&[0x55], 100)], FAULTY),
-    (&[(&[0xFF, 0xFF, 0x00], 1), (BAD_CHECK, 1)], &[]),
-    (&[(BAD_CHECK, 1), (&[0xFF, 0xFF], 1), (IDENTIFY, 1)], FOUND),
-    (&[(&[0xFF, 0xFF], 1), (IDENTIFY, 1), (BAD_CHECK, 1)], FOUND),
-    // The longest garbled request, and one character less.
-    (&[(FALSE_START, 1), (&[0x00], 255), (&[0x01], 1)], FAULTY),
-    (&[(FALSE_START, 1), (&[0x00], 255)], &[]),
+/// A start and the body of the writing up to its address.
+const TO_ADDRESS: &[u8] = &[0xFF, 0xFF, 0x82, 0xB7, 0x42, 0x0A, 0x1B, 0x2C];
+
+/// A writing of the secondary master with another check byte.
+const BAD_CHECK_OF_SECONDARY: &[u8] = &[
+    0xFF, 0xFF, 0x82, 0x37, 0x42, 0x0A, 0x1B, 0x2C, 0x13, 0x03, 0x0A, 0x0B, 0x0C, 0xD6,
 ];
 
-/// The characters of noise, all faultless.
+/// The message of the reply to that.
+const FAULTY_TO_SECONDARY: &[u8] = &[
+    0xFF, 0xFF, 0xFF, 0xFF, 0xFF, 0x86, 0x37, 0x42, 0x0A, 0x1B, 0x2C, 0x13, 0x02, 0x88, 0x00, 0x57,
+];
+
+/// The message of the reply to the writing with a vertical parity fault at a data byte.
+const VERTICAL: &[u8] = &[
+    0xFF, 0xFF, 0xFF, 0xFF, 0xFF, 0x86, 0xB7, 0x42, 0x0A, 0x1B, 0x2C, 0x13, 0x02, 0xC0, 0x00, 0x9F,
+];
+
+/// The message of the reply to the writing with an overrun at the byte count and another check byte.
+const OVERRUN: &[u8] = &[
+    0xFF, 0xFF, 0xFF, 0xFF, 0xFF, 0x86, 0xB7, 0x42, 0x0A, 0x1B, 0x2C, 0x13, 0x02, 0xA8, 0x00, 0xF7,
+];
+
+/// Noise and damaged messages, and the message of the reply to each, if any.
+const NOISES: &[(Noise, &[u8])] = &[
+    (&[(&[0xFF], 100_000, 0)], &[]),
+    (
+        &[(&[0xFF], 100_000, 0), (IDENTIFY, 1, 0), (&[0x55], 1, 0)],
+        FOUND,
+    ),
+    (
+        &[
+            (&[0xFF], 20, 0),
+            (LONGEST, 1, 0),
+            (&[0x00], 255, 0),
+            (&[0x9D], 1, 0),
+        ],
+        &[],
+    ),
+    (&[(FALSE_START, 2000, 0)], FAULTY),
+    (
+        &[
+            (FALSE_START, 2000, 0),
+            (&[0xFF, 0xFF], 1, 0),
+            (IDENTIFY, 1, 0),
+        ],
+        FOUND,
+    ),
+    // A garbled request, with fault bits after its address and in it.
+    (&[(BAD_CHECK, 1, 0)], FAULTY),
+    (&[(BAD_CHECK_OF_SECONDARY, 1, 0)], FAULTY_TO_SECONDARY),
+    (
+        &[
+            (TO_ADDRESS, 1, 0),
+            (&[0x13, 0x03, 0x01], 1, 0),
+            (&[0x23], 1, 0x40),
+            (&[0x45, 0x3D], 1, 0),
+        ],
+        VERTICAL,
+    ),
+    (
+        &[
+            (TO_ADDRESS, 1, 0),
+            (&[0x13], 1, 0),
+            (&[0x03], 1, 0x20),
+            (&[0x01, 0x23, 0x45, 0x3C], 1, 0),
+        ],
+        OVERRUN,
+    ),
+    (
+        &[
+            (&[0xFF, 0xFF, 0x82, 0xB7], 1, 0),
+            (&[0x42], 1, 0x10),
+            (
+                &[0x0A, 0x1B, 0x2C, 0x13, 0x03, 0x01, 0x23, 0x45, 0x3D],
+                1,
+                0,
+            ),
+        ],
+        &[],
+    ),
+    // A garbled request after noise, and before it; after another start; and beside a whole frame.
+    (&[(&[0x55, 0xFF, 0x00], 1, 0), (BAD_CHECK, 1, 0)], FAULTY),
+    (&[(BAD_CHECK, 1, 0), (&[0x55], 100, 0)], FAULTY),
+    (&[(&[0xFF, 0xFF, 0x00], 1, 0), (BAD_CHECK, 1, 0)], &[]),
+    (
+        &[(BAD_CHECK, 1, 0), (&[0xFF, 0xFF], 1, 0), (IDENTIFY, 1, 0)],
+        FOUND,
+    ),
+    (
+        &[(&[0xFF, 0xFF], 1, 0), (IDENTIFY, 1, 0), (BAD_CHECK, 1, 0)],
+        FOUND,
+    ),
+    // The longest garbled request, and one character less.
+    (
+        &[(FALSE_START, 1, 0), (&[0x00], 255, 0), (&[0x01], 1, 0)],
+        FAULTY,
+    ),
+    (&[(FALSE_START, 1, 0), (&[0x00], 255, 0)], &[]),
+];
+
+/// The characters of noise.
 fn chars_of_noise(alloc: Global, noise: Noise) -> Result<Vec<Char>, Fail> {
     let mut chars = Vec::new(alloc);
-    for (bytes, times) in noise {
+    for (bytes, times, faults) in noise {
         for _ in 0..*times {
             for byte in *bytes {
-                chars.push(Char::new(*byte, 0).ok_or("faults")?)?;
+                chars.push(Char::new(*byte, *faults).ok_or("faults")?)?;
             }
         }
     }

@@ -1,3 +1,4 @@
+//! Images of both versions: which are refused, and how a device goes on from the others.
 use super::*;
 
 /// An image of version 1 of a new bench device.
@@ -149,26 +150,6 @@ fn has_image<S: RegisterStore + Drop>(image: &[u8], other: &[u8]) -> Result<bool
     Ok(device.image().as_slice() == other)
 }
 
-#[test]
-fn a_long_tag_is_any_bytes(rt: HostRuntime) -> Result<(), Fail> {
-    for group in 0..8u8 {
-        let mut long_tag = [0; 32];
-        for (byte, place) in long_tag.iter_mut().zip(0..32u8) {
-            *byte = group.wrapping_mul(32).wrapping_add(place);
-        }
-        let image = image_with(IMAGE_2, LONG_TAG, &long_tag);
-        assert!(rt;
-            has_image::<FieldRegisters>(&image, &image)?,
-            "of group {group}"
-        );
-        assert!(rt;
-            has_image::<ImageRegisters>(&image, &image)?,
-            "of group {group}"
-        );
-    }
-    Ok(())
-}
-
 /// Bytes that stand in an image of version 1 from a place on, and the first eight characters of the long tag after it.
 const MIGRATED: &[(usize, &[u8], &[u8; 8])] = &[
     (1, &[0x3F], b"        "),
@@ -191,8 +172,28 @@ fn migrated(image: &[u8; 54], text: &[u8; 8]) -> [u8; 86] {
     image_with(tagged, ENDING, &image[51..54])
 }
 
+/// A long tag of the bytes from 32 times a number on.
+fn long_tag_of(group: u8) -> [u8; 32] {
+    let mut long_tag = [0; 32];
+    for (byte, place) in long_tag.iter_mut().zip(0..32u8) {
+        *byte = group.wrapping_mul(32).wrapping_add(place);
+    }
+    long_tag
+}
+
 #[test]
-fn images_of_version_1_migrate(rt: HostRuntime) -> Result<(), Fail> {
+fn images_of_both_versions_are_gone_on_from(rt: HostRuntime) -> Result<(), Fail> {
+    for group in 0..8u8 {
+        let image = image_with(IMAGE_2, LONG_TAG, &long_tag_of(group));
+        assert!(rt;
+            has_image::<FieldRegisters>(&image, &image)?,
+            "of group {group}"
+        );
+        assert!(rt;
+            has_image::<ImageRegisters>(&image, &image)?,
+            "of group {group}"
+        );
+    }
     for (place, bytes, text) in MIGRATED {
         let image = image_with(IMAGE_1, *place, bytes);
         let after = migrated(&image, text);

@@ -1,21 +1,11 @@
+//! What shows a restart to a master, and what does not.
+use super::addresses::{Asked, request_to};
 use super::deliveries::garbled_write;
 use super::*;
+use std::process::Abort;
 
-/// Whom a request is for.
-#[derive(Clone, Copy)]
-enum Asked {
-    /// The bench device, at its own address.
-    Own,
-    /// The bench device, at its polling address.
-    Polling,
-    /// Another device.
-    Another,
-    /// Every device.
-    All,
-}
-
-/// A request, and the status bytes of the bench device's first reply to it after a restart.
-type Row<'a> = (Asked, u8, &'a [u8], [u8; 2]);
+/// Whether a device is protected, a request, and the status bytes of its first reply to it after a restart.
+type Row<'a> = (bool, Asked, u8, &'a [u8], [u8; 2]);
 
 /// The tag of the bench device.
 const TAG: &[u8] = &[0x82, 0x08, 0x20, 0x82, 0x08, 0x20];
@@ -36,20 +26,22 @@ const SILENT: &[(Asked, u8, &[u8])] = &[
 
 /// Requests of which the first reply shows a cold start, whatever its response code.
 const FIRST_REPLIES: &[Row] = &[
-    (Asked::Own, 7, &[], [0x00, 0x20]),
-    (Asked::Polling, 0, &[], [0x00, 0x20]),
-    (Asked::Own, 4, &[], [0x40, 0x20]),
-    (Asked::Own, 6, &[0x40, 0x01], [0x02, 0x20]),
-    (Asked::Own, 19, &[0x01, 0x23], [0x05, 0x20]),
-    (Asked::Own, 19, &[0x01, 0x23, 0x45], [0x00, 0x60]),
-    (Asked::Own, 38, &[0x00, 0x01], [0x09, 0x20]),
-    (Asked::Own, 38, &[], [0x00, 0x20]),
-    (Asked::All, 11, TAG, [0x00, 0x20]),
-    (Asked::All, 21, &[0x20; 32], [0x00, 0x20]),
-    (Asked::Own, 22, &[0xFF; 32], [0x00, 0x60]),
+    (false, Asked::Own, 7, &[], [0x00, 0x20]),
+    (false, Asked::Polling(0), 0, &[], [0x00, 0x20]),
+    (false, Asked::Own, 4, &[], [0x40, 0x20]),
+    (false, Asked::Own, 6, &[0x40, 0x01], [0x02, 0x20]),
+    (false, Asked::Own, 19, &[0x01, 0x23], [0x05, 0x20]),
+    (false, Asked::Own, 19, &[0x01, 0x23, 0x45], [0x00, 0x60]),
+    (true, Asked::Own, 19, &[0x01, 0x23, 0x45], [0x07, 0x20]),
+    (false, Asked::Own, 38, &[0x00, 0x01], [0x09, 0x20]),
+    (false, Asked::Own, 38, &[], [0x00, 0x20]),
+    (false, Asked::All, 11, TAG, [0x00, 0x20]),
+    (false, Asked::All, 21, &[0x20; 32], [0x00, 0x20]),
+    (false, Asked::Own, 22, &[0xFF; 32], [0x00, 0x60]),
+    (true, Asked::Own, 22, &[0xFF; 32], [0x07, 0x20]),
 ];
 
-/// The status bytes of the device's reply to a request, if it replies.
+/// The status bytes of the device's reply to a master's request, if it replies.
 fn status_bytes(
     device: &mut Device<FieldRegisters>,
     master: MasterId,
@@ -57,54 +49,42 @@ fn status_bytes(
     command: u8,
     data: &[u8],
 ) -> Result<Option<[u8; 2]>, Fail> {
-    let address = match asked {
-        Asked::Own => Address::Unique(bench::identity().unique_address()),
-        Asked::Polling => Address::polling(0)?,
-        Asked::Another => Address::unique(0x3742, 0x0A1B2D)?,
-        Asked::All => Address::unique(0, 0)?,
-    };
-    let payload = Payload::from_slice(data).ok_or("too long")?;
-    let request = Frame::request(master, address, command, payload);
+    let request = request_to(asked, master, command, data)?;
     let Some(reply) = device.receive(&request, &bench::process()) else {
         return Ok(None);
     };
-    Ok(Some([reply.payload()[0], reply.payload()[1]]))
+    Ok(reply.payload().first_chunk::<2>().copied())
+}
+
+/// A bench device that was restarted twice, and has since met silent requests and a garbled one.
+fn restarted_device(rt: &impl Abort, protected: bool) -> Result<Device<FieldRegisters>, Fail> {
+    let mut device = bench_device();
+    device.protect(protected);
+    let image = device.image();
+    device.restart();
+    device.restart();
+    assert!(rt; device.image().as_slice() == image.as_slice());
+    for (asked, command, data) in SILENT {
+        let silence = status_bytes(&mut device, MasterId::Primary, *asked, *command, data)?;
+        assert_eq!(rt; silence, None);
+    }
+    let faulty = device.hear(&garbled_write()?, &bench::process());
+    let reply = faulty.ok_or("silence")?;
+    assert_eq!(rt; reply.payload(), [0x88, 0x00].as_slice());
+    Ok(device)
 }
 
 #[test]
 fn a_cold_start_is_shown_once_to_each_master(rt: HostRuntime) -> Result<(), Fail> {
-    for (asked, command, data, status) in FIRST_REPLIES {
-        let mut device = device_of(&bench::register_values());
-        let image = device.image();
-        device.restart();
-        device.restart();
-        assert!(rt; device.image().as_slice() == image.as_slice());
-        for (asked, command, data) in SILENT {
-            let silence = status_bytes(&mut device, MasterId::Primary, *asked, *command, data)?;
-            assert_eq!(rt; silence, None);
-        }
-        let faulty = device.hear(&garbled_write()?, &bench::process());
-        let reply = faulty.ok_or("silence")?;
-        assert_eq!(rt; reply.payload(), [0x88, 0x00].as_slice());
+    for (protected, asked, command, data, status) in FIRST_REPLIES {
+        let mut device = restarted_device(&rt, *protected)?;
         for shown in [*status, [status[0], status[1] & 0x40]] {
             let bytes = status_bytes(&mut device, MasterId::Primary, *asked, *command, data)?;
             assert_eq!(rt; bytes, Some(shown), "of command {command} with {data:?}");
         }
         let other = status_bytes(&mut device, MasterId::Secondary, Asked::Own, 7, &[])?;
         assert_eq!(rt; other, Some([0x00, status[1]]));
+        assert_eq!(rt; device.is_protected(), *protected);
     }
-    Ok(())
-}
-
-#[test]
-fn a_protected_device_shows_its_cold_start(rt: HostRuntime) -> Result<(), Fail> {
-    let mut device = device_of(&bench::register_values());
-    device.protect(true);
-    device.restart();
-    for status in [0x20, 0x00] {
-        let reply = asked(&mut device, 19, &[0x01, 0x23, 0x45])?;
-        assert_eq!(rt; reply.payload(), [0x07, status].as_slice());
-    }
-    assert!(rt; device.is_protected() && device.counter() == 0);
     Ok(())
 }

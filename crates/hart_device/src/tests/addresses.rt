@@ -1,0 +1,136 @@
+//! Which device answers a request, at which address.
+use super::*;
+use hart_values::{LoopMode, PackedText, PollingAddress};
+
+/// Whom a request is for.
+#[derive(Clone, Copy, Debug)]
+pub(super) enum Asked {
+    /// The bench device, at its own address.
+    Own,
+    /// The device at this polling address.
+    Polling(u8),
+    /// Another device, at its own address.
+    Another,
+    /// Every device.
+    All,
+}
+
+/// A master's request of a command to whom it is for.
+pub(super) fn request_to(
+    asked: Asked,
+    master: MasterId,
+    command: u8,
+    data: &[u8],
+) -> Result<Frame, Fail> {
+    let address = match asked {
+        Asked::Own => Address::Unique(bench::identity().unique_address()),
+        Asked::Polling(number) => Address::polling(number)?,
+        Asked::Another => Address::unique(0x3742, 0x0A1B2D)?,
+        Asked::All => Address::unique(0, 0)?,
+    };
+    let payload = Payload::from_slice(data).ok_or("too long")?;
+    Ok(Frame::request(master, address, command, payload))
+}
+
+/// What the registers of the bench device hold.
+#[derive(Clone, Copy, Debug)]
+enum Values {
+    /// What they begin with.
+    New,
+    /// Polling address 5 and the tag PUMP-101.
+    Pump,
+    /// Polling address 5 and loop current mode 0.
+    Fixed,
+}
+
+/// The bench device with these values.
+fn device_of(values: Values) -> Result<Device<FieldRegisters>, Fail> {
+    let new = bench::register_values();
+    let held = match values {
+        Values::New => new,
+        Values::Pump => RegisterValues {
+            polling: PollingAddress::new(5)?,
+            tag: PackedText::from_bytes(PUMP),
+            ..new
+        },
+        Values::Fixed => RegisterValues {
+            polling: PollingAddress::new(5)?,
+            mode: LoopMode::Disabled,
+            ..new
+        },
+    };
+    Ok(Device::new(bench::identity(), &held))
+}
+
+/// What a device holds, whom a request is for, its command and data, and the payload of the reply, if there is one.
+type Row<'a> = (Values, Asked, u8, &'a [u8], Option<&'a [u8]>);
+
+/// The tag PUMP-101.
+const PUMP: [u8; 6] = [0x41, 0x53, 0x50, 0xB7, 0x1C, 0x31];
+
+/// The tag of the bench device, and more spaces in packed text.
+const SPACES: &[u8] = &[0x82, 0x08, 0x20, 0x82, 0x08, 0x20, 0x82, 0x08, 0x20];
+
+/// The tag of the bench device without its last byte.
+const SHORT: &[u8] = &[0x82, 0x08, 0x20, 0x82, 0x08];
+
+/// The long tag of the bench device but for its last byte.
+const LAST_IS_ANOTHER: &[u8] = &[
+    0x20, 0x20, 0x20, 0x20, 0x20, 0x20, 0x20, 0x20, 0x20, 0x20, 0x20, 0x20, 0x20, 0x20, 0x20, 0x20,
+    0x20, 0x20, 0x20, 0x20, 0x20, 0x20, 0x20, 0x20, 0x20, 0x20, 0x20, 0x20, 0x20, 0x20, 0x20, 0x00,
+];
+
+/// Requests by each kind of address, with the device's tags and others, and with too few and too many bytes of them.
+const ROWS: &[Row] = &[
+    (Values::Fixed, Asked::Own, 7, &[], Some(&[0, 8, 5, 0])),
+    (Values::New, Asked::Another, 7, &[], None),
+    (Values::New, Asked::Polling(0), 0, &[], Some(IDENTITY)),
+    (Values::New, Asked::Polling(0), 1, &[], None),
+    (Values::Pump, Asked::Polling(0), 0, &[], None),
+    (Values::Pump, Asked::Polling(5), 0, &[], Some(IDENTITY)),
+    (Values::New, Asked::All, 0, &[], None),
+    (Values::New, Asked::All, 22, &[0x20; 32], None),
+    // Command 11.
+    (Values::Pump, Asked::All, 11, &PUMP, Some(IDENTITY)),
+    (Values::Pump, Asked::Own, 11, &PUMP, Some(IDENTITY)),
+    (Values::Pump, Asked::All, 11, SPACES, None),
+    (Values::Pump, Asked::Own, 11, SPACES, None),
+    (Values::New, Asked::All, 11, SPACES, Some(IDENTITY)),
+    (Values::New, Asked::All, 11, SHORT, None),
+    (Values::New, Asked::Own, 11, SHORT, Some(&[5, 0])),
+    (Values::New, Asked::All, 11, &PUMP, None),
+    // Command 21.
+    (Values::New, Asked::All, 21, &[0x20; 32], Some(IDENTITY)),
+    (Values::New, Asked::Own, 21, &[0x20; 32], Some(IDENTITY)),
+    (Values::New, Asked::All, 21, &[0x20; 33], Some(IDENTITY)),
+    (Values::New, Asked::Own, 21, &[0x20; 33], Some(IDENTITY)),
+    (Values::New, Asked::All, 21, &[0x20; 31], None),
+    (Values::New, Asked::Own, 21, &[0x20; 31], Some(&[5, 0])),
+    (Values::New, Asked::All, 21, &[], None),
+    (Values::New, Asked::Own, 21, &[], Some(&[5, 0])),
+    (Values::New, Asked::All, 21, &[0xFF; 32], None),
+    (Values::New, Asked::Own, 21, &[0xFF; 32], None),
+    (Values::New, Asked::All, 21, LAST_IS_ANOTHER, None),
+    (Values::New, Asked::Own, 21, LAST_IS_ANOTHER, None),
+];
+
+#[test]
+fn who_is_asked_answers(rt: HostRuntime) -> Result<(), Fail> {
+    for (values, asked, command, data, payload) in ROWS {
+        let frame = request_to(*asked, MasterId::Secondary, *command, data)?;
+        for protected in [false, true] {
+            let mut device = device_of(*values)?;
+            device.protect(protected);
+            let reply = device.receive(&frame, &bench::process());
+            let replied = reply.as_ref().map(|reply| reply.payload());
+            assert_eq!(rt;
+                replied,
+                *payload,
+                "of command {command} to {asked:?} with {data:?}"
+            );
+            assert!(rt; reply.is_none_or(|reply| reply.address() == frame.address()));
+            assert_eq!(rt; device.counter(), 0);
+        }
+    }
+    Ok(())
+}
