@@ -1,11 +1,11 @@
 //! The data of a reply's content.
-ghost use Rattle.std.specs.Prelude.{◌≡◌, ◌+◌, ◌*◌, ◌≤◌, ◌++◌, length};
+ghost use Rattle.std.specs.Prelude.{◌≡◌, ◌+◌, ◌*◌, ◌≤◌, ◌∷◌, ◌++◌, length};
 ghost use Rattle.std.specs.List.{flat_map};
 ghost use Rattle.hart_commands.specs.Values.{unit_value_bytes, variable_bytes};
 ghost use Rattle.hart_commands.specs.ReplyData.{content_bytes};
 
 use crate::{ReplyContent, UnitValue, VariableReading};
-use hart_values::Payload;
+use hart_values::{Bits32, PackedText, Payload};
 
 /// Adds the data of a content at the end of a payload.
 pub fn push_content(content: &ReplyContent, payload: &mut Payload)
@@ -18,38 +18,29 @@ pub fn push_content(content: &ReplyContent, payload: &mut Payload)
         ReplyContent::Current {
             loop_current,
             percent_of_range,
-        } => {
-            payload.extend_from_slice(&loop_current.0);
-            payload.extend_from_slice(&percent_of_range.0);
-        }
+        } => push_current(*loop_current, *percent_of_range, payload),
         ReplyContent::Dynamic {
             loop_current,
             values,
-        } => {
-            payload.extend_from_slice(&loop_current.0);
-            push_values(values.as_slice(), payload);
-        }
+        } => push_dynamic(*loop_current, values.as_slice(), payload),
         ReplyContent::Polling { address, mode } => payload.extend_from_slice(&[*address, *mode]),
         ReplyContent::Classes(classes) => payload.extend_from_slice(classes),
         ReplyContent::Variables {
             extended_device_status,
             variables,
             time_stamp,
-        } => {
-            payload.push(*extended_device_status);
-            push_variables(variables.as_slice(), payload);
-            payload.extend_from_slice(time_stamp);
-        }
+        } => push_variables(
+            *extended_device_status,
+            variables.as_slice(),
+            time_stamp,
+            payload,
+        ),
         ReplyContent::Message(message) => payload.extend_from_slice(message.as_bytes()),
         ReplyContent::Tag {
             tag,
             descriptor,
             date,
-        } => {
-            payload.extend_from_slice(tag.as_bytes());
-            payload.extend_from_slice(descriptor.as_bytes());
-            payload.extend_from_slice(date);
-        }
+        } => push_tag(tag, descriptor, date, payload),
         ReplyContent::Sensor(sensor) => sensor.push_to(payload),
         ReplyContent::Output(output) => output.push_to(payload),
         ReplyContent::Assembly(assembly) => payload.extend_from_slice(assembly),
@@ -58,6 +49,52 @@ pub fn push_content(content: &ReplyContent, payload: &mut Payload)
         ReplyContent::More(status) => payload.extend_from_slice(status.as_slice()),
         ReplyContent::Refused => {}
     }
+}
+
+/// Adds a loop current and a percent of range at the end of a payload.
+fn push_current(loop_current: Bits32, percent_of_range: Bits32, payload: &mut Payload)
+    requires { length payload.old ≤ 2 }
+    ensures { payload.new ≡ payload.old ++ loop_current.0 ++ percent_of_range.0 }
+{
+    payload.extend_from_slice(&loop_current.0);
+    payload.extend_from_slice(&percent_of_range.0);
+}
+
+/// Adds a loop current, and after it values with their units, at the end of a payload.
+fn push_dynamic(loop_current: Bits32, values: &[UnitValue], payload: &mut Payload)
+    requires few { length values.now ≤ 4 }
+    requires room { length payload.old ≤ 2 }
+    ensures { payload.new ≡ payload.old ++ loop_current.0 ++ flat_map unit_value_bytes values.now }
+{
+    payload.extend_from_slice(&loop_current.0);
+    push_values(values, payload);
+}
+
+/// Adds an extended device status, and after it variables and their time stamp, at the end of a payload.
+fn push_variables(
+    extended_device_status: u8,
+    variables: &[VariableReading],
+    time_stamp: &[u8; 4],
+    payload: &mut Payload,
+)
+    requires few { length variables.now ≤ 8 }
+    requires room { length payload.old ≤ 2 }
+    ensures { payload.new
+        ≡ payload.old ++ (extended_device_status ∷ flat_map variable_bytes variables.now ++ time_stamp.now) }
+{
+    payload.push(extended_device_status);
+    push_readings(variables, payload);
+    payload.extend_from_slice(time_stamp);
+}
+
+/// Adds a tag, a descriptor and a date at the end of a payload.
+fn push_tag(tag: &PackedText<6>, descriptor: &PackedText<12>, date: &[u8; 3], payload: &mut Payload)
+    requires { length payload.old ≤ 2 }
+    ensures { payload.new ≡ payload.old ++ tag.now ++ descriptor.now ++ date.now }
+{
+    payload.extend_from_slice(tag.as_bytes());
+    payload.extend_from_slice(descriptor.as_bytes());
+    payload.extend_from_slice(date);
 }
 
 /// Adds values with their units at the end of a payload.
@@ -72,7 +109,7 @@ fn push_values(values: &[UnitValue], payload: &mut Payload)
 }
 
 /// Adds variables at the end of a payload.
-fn push_variables(variables: &[VariableReading], payload: &mut Payload)
+fn push_readings(variables: &[VariableReading], payload: &mut Payload)
     requires few { length variables.now ≤ 8 }
     requires room { length payload.old ≤ 100 }
     ensures pushed { payload.new ≡ payload.old ++ flat_map variable_bytes variables.now }
