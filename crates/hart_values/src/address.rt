@@ -16,7 +16,7 @@ pub enum Address {
 }
 
 impl Address {
-    ghost use Rattle.hart_values.specs.AddressBytes.{IsAddressBytes, broadcast};
+    ghost use Rattle.hart_values.specs.AddressBytes.{IsAddressBytes, broadcast, is_broadcast};
     ghost use Rattle.hart_values.specs.DeviceNumbers.{DeviceNumbers};
 
     /// The address with this polling address.
@@ -48,7 +48,8 @@ impl Address {
 
     /// Whether it is the broadcast address: the unique address whose two numbers are zero.
     pub fn is_broadcast(self) -> bool
-        ensures { IsTrue result ↔ (self ≡ broadcast) }
+        ensures known { IsTrue result ↔ (self ≡ broadcast) }
+        ensures test { result ≡ is_broadcast self }
     {
         match self {
             Address::Polling(_) => false,
