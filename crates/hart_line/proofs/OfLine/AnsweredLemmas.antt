@@ -14,7 +14,7 @@ use Rattle.hart_device.specs.declared.process.Process.{Process}
 use Rattle.hart_master.specs.Acceptance.{IsReplyTo}
 use Rattle.hart_master.specs.declared.fault.MasterFault.{MasterFault}
 use Rattle.hart_line.specs.Line.Damage.{Arrives, Reaches}
-use Rattle.hart_line.specs.Line.Promises.{AnswersLastSending, AnswersLastSendingFrom}
+use Rattle.hart_line.specs.Line.Promises.{AnswersLastSending, AnswersLastSendingFrom, submissions_of}
 use Rattle.hart_line.specs.Line.Spoken.{frame_of, spoken_by}
 use Rattle.hart_line.specs.Line.Step.{Accepts, IsLast, IsTurn, Run, Step, sent_back, effect_on, executions_after, hand_left, spoken_request, outcome_of, sent_by, submission_fault, submitted, turned}
 use Rattle.hart_line.specs.Line.World.{InHand, Start, World, first_world, state_of}
@@ -24,6 +24,7 @@ use Rattle.hart_line.specs.declared.event.LineEvent.TheVariants.{Submit, Turn, P
 use Rattle.hart_line.specs.declared.line.report.Outcome.TheVariants.{Answered, NoReply, Unfinished, Refused}
 use Rattle.hart_line.specs.declared.line.report.Party.{Party}
 use Rattle.hart_line.proofs.OfLine.ArrivalLemmas.{arrives_cases, frame_in, reaches_cases}
+use Rattle.hart_line.proofs.OfLine.SubmittedLemmas.{submitted_as}
 use Rattle.hart_line.proofs.OfLine.TurnLemmas.{of_master-same}
 
 some_one : {A : Type 0} {x y : A} → Some x ≡ Some y → x ≡ y
@@ -225,4 +226,12 @@ pub answered_last : FaultsLaw → (start : Start) (events : List LineEvent) (las
     → (number : ℕ) (reply : Reply) (sendings : ℕ) → slice_get last.outcomes number ≡ Some (Answered reply sendings)
     → AnswersLastSending start events number reply sendings
 answered_last law start events last run number reply sendings is =
-    elim (run_answered law start events (first_world start) last run number reply sendings is) [ inl before ↦ cc | inr answered ↦ answered ]
+    elim (run_answered law start events (first_world start) last run number reply sendings is) [
+      | inl before ↦ cc
+      | inr answered ↦ (let turn = answered.turn in record {
+          last_turn = answered;
+          submitted_as = ap (slice_get (submissions_of events)) (sym answered.of_submission)
+              ∙ submitted_as start events turn.prefix _ turn.suffix answered.before turn.split turn.led answered.who answered.held
+              answered.in_hand;
+        })
+    ]

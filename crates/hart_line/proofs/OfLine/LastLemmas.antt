@@ -16,13 +16,13 @@ use Rattle.hart_device.specs.Device.{DeviceState, Effect, Nothing, Executes, Res
 use Rattle.hart_master.specs.declared.fault.MasterFault.{MasterFault}
 use Rattle.hart_line.specs.Line.Spoken.{frame_of}
 use Rattle.hart_line.specs.Line.Executions.{has_execution_of, last_executions}
-use Rattle.hart_line.specs.Line.Promises.{AreWellMade, requests_of}
+use Rattle.hart_line.specs.Line.Promises.{AreWellMade, requests_of, submissions_of}
 use Rattle.hart_line.specs.Line.Step.{IsLast, Run, Step, effect_on, executions_after, spoken_request, sent_by, submission_fault, submitted, turned}
 use Rattle.hart_line.specs.Line.World.{Execution, InHand, Start, World, first_world, overwrites_of, state_of}
 use Rattle.hart_line.specs.declared.event.LineEvent.{LineEvent}
 use Rattle.hart_line.specs.declared.event.LineEvent.TheVariants.{Submit, Turn, Protect, Noise, Restart}
 use Rattle.hart_line.proofs.OfLine.ArrivalLemmas.{frame_in, reaches_cases}
-use Rattle.hart_line.proofs.OfLine.SubmittedLemmas.{IsAlong, first_along, made_of, step_along}
+use Rattle.hart_line.proofs.OfLine.SubmittedLemmas.{IsAlong, first_along, made_of, request_there, step_along}
 
 -- LAWS
 -- What the law of the device says of an execution.
@@ -97,18 +97,18 @@ effect_writes Resets number requests executions writes all = all
 turned_writes : ExecutesLaw → ReadsLaw → (events : List LineEvent) → AreWellMade events → (start : Start) (world : World) (who : MasterId)
     (hand : Option InHand) (arrived : Brought) (accepted : Option Reply) (later : List LineEvent)
     → of_master who world.hands ≡ hand → (frame_in arrived ≡ None) ⊎ (frame_in arrived ≡ frame_of (sent_by who hand))
-    → IsAlong (requests_of events) world later → AreWrites (requests_of events) world
+    → IsAlong (submissions_of events) world later → AreWrites (requests_of events) world
     → AreWrites (requests_of events) (turned start world who hand arrived accepted)
 turned_writes law reads events made start world who None arrived accepted later in_hand known a all = all
 turned_writes law reads events made start world who (Some held) arrived accepted later in_hand known a all =
-    let there = a.hands who held in_hand in
+    let there = request_there events held.submission _ (a.hands who held in_hand) in
     effect_writes (effect_on (state_of start.device world) arrived) held.submission (requests_of events) world.executions
     (λ overwrite is. arrived_executes law (state_of start.device world) who held (requests_of events) arrived overwrite there
     (reads held.request (made_of events held.submission held.request made there)) known is) all
 
 step_writes : ExecutesLaw → ReadsLaw → (events : List LineEvent) → AreWellMade events → (start : Start) (world : World) (event : LineEvent)
     (later : List LineEvent) (next : World) → Step start world event next
-    → IsAlong (requests_of events) world (event ∷ later) → AreWrites (requests_of events) world → AreWrites (requests_of events) next
+    → IsAlong (submissions_of events) world (event ∷ later) → AreWrites (requests_of events) world → AreWrites (requests_of events) next
 step_writes law reads events made start world (Submit who address request) later next is a all =
     subst (AreWrites (requests_of events)) (sym is)
     (submitted_writes (requests_of events) world who address request (submission_fault (of_master who world.hands) address request) all)
@@ -123,11 +123,11 @@ step_writes law reads events made start world (Noise chars) later next is a all 
 
 run_writes : ExecutesLaw → ReadsLaw → (events : List LineEvent) → AreWellMade events → (start : Start) (later : List LineEvent)
     (world last : World) → Run start world later last
-    → IsAlong (requests_of events) world later → AreWrites (requests_of events) world → AreWrites (requests_of events) last
+    → IsAlong (submissions_of events) world later → AreWrites (requests_of events) world → AreWrites (requests_of events) last
 run_writes law reads events made start [] world last run a all = subst (AreWrites (requests_of events)) (sym run) all
 run_writes law reads events made start (event ∷ later) world last run a all =
     run_writes law reads events made start later run.0 last run.2
-    (step_along (requests_of events) start world event later run.0 run.1 a)
+    (step_along (submissions_of events) start world event later run.0 run.1 a)
     (step_writes law reads events made start world event later run.0 run.1 a all)
 
 -- LAST EXECUTIONS

@@ -34,11 +34,11 @@ slice_get-last (y ∷ xs) x = slice_get-last xs x
 
 -- A value for one of the masters.
 pub with_master-cases : {A : Type 0} (id who : MasterId) (a : Option A) (each : EachMaster (Option A)) (x : A)
-    → of_master id (with_master who a each) ≡ Some x → (a ≡ Some x) ⊎ (of_master id each ≡ Some x)
-with_master-cases Primary Primary a each x is = inl is
+    → of_master id (with_master who a each) ≡ Some x → ((id ≡ who) × (a ≡ Some x)) ⊎ (of_master id each ≡ Some x)
+with_master-cases Primary Primary a each x is = inl (refl, is)
 with_master-cases Primary Secondary a each x is = inr is
 with_master-cases Secondary Primary a each x is = inr is
-with_master-cases Secondary Secondary a each x is = inl is
+with_master-cases Secondary Secondary a each x is = inl (refl, is)
 
 -- SUBMIT
 below_more : {A : Type 0} (xs : List A) (x : A) (n : ℕ) → n < length xs → n < length (xs ++ x ∷ [])
@@ -49,7 +49,7 @@ submitted_sound : (world : World) (who : MasterId) (address : Address) (request 
 submitted_sound world who address request None s = record {
   marks = s.marks;
   within = λ id held is. elim (with_master-cases id who _ world.hands held is) [
-    | inl new ↦ (let same : record { submission = length world.outcomes; address = address; request = request; sendings = 0 } ≡ held = cc in
+    | inl (own, new) ↦ (let same : record { submission = length world.outcomes; address = address; request = request; sendings = 0 } ≡ held = cc in
         subst (λ (h : InHand). h.submission < length (world.outcomes ++ Unfinished 0 ∷ [])) same
         (omega (arith, length-append {A = Outcome})))
     | inr old ↦ below_more world.outcomes (Unfinished 0) held.submission (s.within id held old)
@@ -70,7 +70,7 @@ marks_sound (Executes overwrite) who number executions marks within id mark is =
     let bound = within id mark is in omega (arith, length-append {A = Execution})
 marks_sound Resets who number executions marks within id mark is =
     elim (with_master-cases id who (Some (length executions)) marks mark is) [
-      | inl new ↦ (let same : length executions ≡ mark = cc in omega arith)
+      | inl (own, new) ↦ (let same : length executions ≡ mark = cc in omega arith)
       | inr old ↦ within id mark old
     ]
 
@@ -93,7 +93,7 @@ turned_sound start world who (Some held) arrived accepted in_hand s =
     record {
       marks = marks_sound effect who held.submission world.executions world.marks s.marks;
       within = λ id other is. rw length-set (elim (with_master-cases id who (hand_left held outcome) world.hands other is) [
-        | inl left ↦ rw (hand_left-number held other outcome left) (s.within who held in_hand)
+        | inl (own, left) ↦ rw (hand_left-number held other outcome left) (s.within who held in_hand)
         | inr old ↦ s.within id other old
       ]);
     }

@@ -26,7 +26,7 @@ use Rattle.hart_line.specs.declared.event.LineEvent.{LineEvent}
 use Rattle.hart_line.specs.declared.event.LineEvent.TheVariants.{Submit, Turn, Protect, Noise, Restart}
 use Rattle.hart_line.proofs.OfLine.ArrivalLemmas.{frame_in, none_reaches, reaches_cases}
 use Rattle.hart_line.proofs.OfLine.LastLemmas.{ReadsLaw}
-use Rattle.hart_line.proofs.OfLine.SubmittedLemmas.{made_of, submitted_as}
+use Rattle.hart_line.proofs.OfLine.SubmittedLemmas.{made_of, request_there, submitted_as}
 
 -- THE CODE OF A REPLY
 some_one : {A : Type 0} {x y : A} → Some x ≡ Some y → x ≡ y
@@ -148,7 +148,7 @@ turn_executed laws start events made who up down before next t write =
     by_hand (Some held) in_hand arrives =
         let there = submitted_as start events t.prefix _ t.suffix before t.split t.led who held in_hand in
         let e = turn_executes laws start before who up down next t.step held in_hand
-        (made_of events held.submission held.request made there) write in record {
+        (made_of events held.submission held.request made (request_there events held.submission _ there)) write in record {
           held = held;
           in_hand = in_hand;
           submitted_as = there;
@@ -164,19 +164,20 @@ pub answered_executed : WriteLaws → (start : Start) (events : List LineEvent) 
     → IsTrue (is_write (command_of request)) → reply.code ≡ 0
     → IsExecutedInItsTurn start events number request reply sendings
 answered_executed laws start events made number request reply sendings a submitted write success =
-    let state = state_of start.device a.before in
-    let frame = (spoken_request a.who a.held).frame in
-    let coded = laws.code state start.process frame a.answer a.answered in
-    let code : code_of state frame ≡ 0 = sym (reading_code a.answer.command a.answer.payload reply _ a.is_reply.read coded.2) ∙ success in
-    let there = submitted_as start events a.turn.prefix _ a.turn.suffix a.before a.turn.split a.turn.led a.who a.held a.in_hand in
-    let same : a.held.request ≡ request = some_one (sym there ∙ ap (slice_get (requests_of events)) a.of_submission ∙ submitted) in
+    let t = a.last_turn in
+    let state = state_of start.device t.before in
+    let frame = (spoken_request t.who t.held).frame in
+    let coded = laws.code state start.process frame t.answer t.answered in
+    let code : code_of state frame ≡ 0 = sym (reading_code t.answer.command t.answer.payload reply _ t.is_reply.read coded.2) ∙ success in
+    let there = request_there events number _ a.submitted_as in
+    let same : t.held.request ≡ request = some_one (sym there ∙ submitted) in
     let unrefused : IsUnrefusedWrite state (OneFrame frame) = (rw (← same) at write, coded.0, code) in
-    let e = turn_executes laws start a.before a.who a.up a.down a.next a.turn.step a.held a.in_hand
-    (made_of events a.held.submission a.held.request made there) (subst (IsUnrefusedWrite state) (sym a.arrived) unrefused) in record {
+    let e = turn_executes laws start t.before t.who t.up t.down t.next t.turn.step t.held t.in_hand
+    (made_of events number t.held.request made there) (subst (IsUnrefusedWrite state) (sym t.arrived) unrefused) in record {
       answered = a;
       overwrite = e.overwrite;
       overwrites = ap overwrite_of (sym same) ∙ e.overwrites;
-      executed = e.executed ∙ ap (λ n. a.before.executions ++ record { submission = n; overwrite = e.overwrite } ∷ []) a.of_submission;
+      executed = e.executed ∙ ap (λ n. t.before.executions ++ record { submission = n; overwrite = e.overwrite } ∷ []) t.of_submission;
     }
 
 -- NOTHING ELSE

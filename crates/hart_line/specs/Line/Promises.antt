@@ -1,5 +1,6 @@
 -- What is promised of a whole script (own profile).
-use Rattle.std.specs.Prelude.{◌≡◌, ◌≢◌, ◌⊎◌, ℕ, ◌+◌, List, [], ◌∷◌, ◌++◌, All, Option, None, Some, IsTrue, Ok, false, true, slice_get}
+use Rattle.std.specs.Prelude.{◌≡◌, ◌≢◌, ◌⊎◌, ℕ, ◌+◌, List, [], ◌∷◌, ◌++◌, map, All, Option, None, Some, IsTrue, Ok, false, true, slice_get}
+use Rattle.hart_values.specs.declared.address.Address.{Address}
 use Rattle.hart_values.specs.declared.master_id.MasterId.{MasterId}
 use Rattle.hart_frame.specs.FrameParts.{FrameParts}
 use Rattle.hart_values.specs.EachMaster.{of_master}
@@ -31,6 +32,23 @@ start_of device process primary secondary = record {
   retries = record { primary = primary.retries; secondary = secondary.retries };
 }
 
+-- A submission: a master is asked to send a request to an address.
+pub record Submission : Type 0 where
+  pub who : MasterId
+  pub address : Address
+  pub request : Request
+
+-- The submissions of a script, in order, refused ones too.
+abbrev pub submissions_of : List LineEvent → List Submission
+submissions_of [] = []
+submissions_of (Submit who address request ∷ events) =
+    record { who = who; address = address; request = request } ∷ submissions_of events
+submissions_of (event ∷ events) = submissions_of events
+
+-- The submission of a request that is in a master's hand.
+abbrev pub submission_in : MasterId → InHand → Submission
+submission_in who held = record { who = who; address = held.address; request = held.request }
+
 -- One event of a script: the events before it lead to a world, and it leads from there to the next.
 pub record IsStepOf (start : Start) (from : World) (events : List LineEvent) (before : World) (event : LineEvent) (next : World)
     : Type 0 where
@@ -40,8 +58,9 @@ pub record IsStepOf (start : Start) (from : World) (events : List LineEvent) (be
   pub led : Run start from prefix before
   pub step : Step start before event next
 
--- The turn in which a submission was answered: the request in hand was sent for the last time, and arrived; the device's answer to
--- it came back, and was accepted as this reply; what the request did entered the executions; and the request left the hand.
+-- The turn in which a submission was answered, in the events after some world: the request in hand was sent for the last time, and
+-- arrived; the device's answer to it came back, and was accepted as this reply; what the request did entered the executions; and the
+-- request left the hand.
 pub record AnswersLastSendingFrom (start : Start) (from : World) (events : List LineEvent) (number : ℕ) (reply : Reply)
     (sendings : ℕ) : Type 0 where
   pub before : World
@@ -64,15 +83,15 @@ pub record AnswersLastSendingFrom (start : Start) (from : World) (events : List 
   pub reached : slice_get next.outcomes number ≡ Some (Answered reply sendings)
   pub left : of_master who next.hands ≡ None
 
--- An accepted reply is the device's answer in the turn of its request's last sending.
-abbrev pub AnswersLastSending : Start → List LineEvent → ℕ → Reply → ℕ → Type 0
-AnswersLastSending start events number reply sendings = AnswersLastSendingFrom start (first_world start) events number reply sendings
+-- An accepted reply is the device's answer in the turn of its request's last sending; the request in hand in that turn, with its
+-- address, is the one that was submitted under this number to that turn's master.
+pub record AnswersLastSending (start : Start) (events : List LineEvent) (number : ℕ) (reply : Reply) (sendings : ℕ) : Type 0 where
+  pub last_turn : AnswersLastSendingFrom start (first_world start) events number reply sendings
+  pub submitted_as : slice_get (submissions_of events) number ≡ Some (submission_in last_turn.who last_turn.held)
 
 -- The requests that are submitted, in order, refused ones too.
 abbrev pub requests_of : List LineEvent → List Request
-requests_of [] = []
-requests_of (Submit who address request ∷ events) = request ∷ requests_of events
-requests_of (event ∷ events) = requests_of events
+requests_of events = map (λ submission. submission.request) (submissions_of events)
 
 -- Each request that is submitted is well made.
 abbrev pub AreWellMade : List LineEvent → Type 0
@@ -92,11 +111,11 @@ pub record IsExecutedInItsTurn (start : Start) (events : List LineEvent) (number
   pub answered : AnswersLastSending start events number reply sendings
   pub overwrite : Overwrite
   pub overwrites : overwrite_of request ≡ Some overwrite
-  pub executed : answered.next.executions
-      ≡ answered.before.executions ++ record { submission = number; overwrite = overwrite } ∷ []
+  pub executed : answered.last_turn.next.executions
+      ≡ answered.last_turn.before.executions ++ record { submission = number; overwrite = overwrite } ∷ []
 
--- What arrived at the device in an event, as far as that can be a frame: in a turn what it was brought. Every other event stands as
--- no message; noise can bring a garbled request, but never a frame, since nobody sent one.
+-- What an event brought the device: a turn what arrived in it. Every other event is taken to bring no message, as none of them can
+-- bring a frame: noise may bring a garbled request, which has no effect.
 abbrev pub arrived_in_step : (start : Start) (before : World) (event : LineEvent) (next : World) → Step start before event next
     → Brought
 arrived_in_step start before (Submit who address request) next step = NoMessage
@@ -113,11 +132,11 @@ IsUnrefusedWrite state (Garbled request) = ⊥
 IsUnrefusedWrite state NoMessage = ⊥
 
 -- In a turn of this master one execution is added: that of the submission whose request is in its hand, with the overwrite of this
--- request, which is the one that was submitted under that number.
+-- request, which is the one that was submitted under that number to this master, with its address.
 pub record IsExecutedFromHand (start : Start) (events : List LineEvent) (who : MasterId) (before next : World) : Type 0 where
   pub held : InHand
   pub in_hand : of_master who before.hands ≡ Some held
-  pub submitted_as : slice_get (requests_of events) held.submission ≡ Some held.request
+  pub submitted_as : slice_get (submissions_of events) held.submission ≡ Some (submission_in who held)
   pub overwrite : Overwrite
   pub overwrites : overwrite_of held.request ≡ Some overwrite
   pub executed : next.executions ≡ before.executions ++ record { submission = held.submission; overwrite = overwrite } ∷ []
