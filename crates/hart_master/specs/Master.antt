@@ -65,10 +65,10 @@ hand_sent (ToSend transaction) = Awaiting (record transaction { sendings = trans
 hand_sent (Awaiting transaction time) = Awaiting transaction time
 
 -- A delivery brings a reply if that is awaited, and the delivery is accepted as it.
-abbrev pub Brings : MasterId → Hand → List Character → Reply → Type 0
-Brings id Empty delivery reply = ⊥
-Brings id (ToSend transaction) delivery reply = ⊥
-Brings id (Awaiting transaction time) delivery reply = IsAccepted id transaction.address transaction.request delivery reply
+abbrev pub DeliveryBrings : MasterId → Hand → List Character → Reply → Type 0
+DeliveryBrings id Empty delivery reply = ⊥
+DeliveryBrings id (ToSend transaction) delivery reply = ⊥
+DeliveryBrings id (Awaiting transaction time) delivery reply = IsAccepted id transaction.address transaction.request delivery reply
 
 -- A frame brings a reply if that is awaited, and the frame is it.
 abbrev pub FrameBrings : MasterId → Hand → FrameParts → Reply → Type 0

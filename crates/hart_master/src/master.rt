@@ -4,7 +4,7 @@ ghost use Rattle.hart_commands.specs.RequestData.{command_of, request_data};
 ghost use Rattle.hart_commands.specs.declared.reply.Reply.{Reply};
 ghost use Rattle.hart_master.specs.declared.hand.Hand.TheVariants as hands;
 ghost use Rattle.hart_master.specs.Master.{sendings_of, result_submitted, hand_submitted, frame_sent, hand_sent};
-ghost use Rattle.hart_master.specs.Master.{Brings, FrameBrings, IsHeard, hand_heard, event_ticked, hand_ticked};
+ghost use Rattle.hart_master.specs.Master.{DeliveryBrings, FrameBrings, IsHeard, hand_heard, event_ticked, hand_ticked};
 
 use crate::acceptance::reply_in;
 use crate::hand::{Hand, Transaction};
@@ -182,11 +182,11 @@ impl Master {
     /// What a delivery brings: what its frame brings to [`Master::receive`], if it has exactly one. Otherwise it is
     /// [`MasterEvent::Nothing`], and nothing changes.
     pub fn hear(&mut self, delivery: &[Char]) -> MasterEvent
-        ensures event { IsHeard self.old.hand (Brings self.old.id self.old.hand delivery.now) result }
+        ensures event { IsHeard self.old.hand (DeliveryBrings self.old.id self.old.hand delivery.now) result }
         ensures state { self.new ≡ record self.old { hand = hand_heard self.old.hand result } }
-        ensures answered { (reply : Reply) → Brings self.old.id self.old.hand delivery.now reply
+        ensures answered { (reply : Reply) → DeliveryBrings self.old.id self.old.hand delivery.now reply
             → result ≡ MasterEvent.Answered reply (sendings_of self.old.hand) }
-        ensures nothing { ((reply : Reply) → Brings self.old.id self.old.hand delivery.now reply → ⊥)
+        ensures nothing { ((reply : Reply) → DeliveryBrings self.old.id self.old.hand delivery.now reply → ⊥)
             → result ≡ MasterEvent.Nothing }
     {
         // A master that awaits nothing does not search what it hears.

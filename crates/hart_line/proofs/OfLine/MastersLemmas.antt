@@ -6,7 +6,7 @@ use Rattle.hart_frame.specs.Character.{Character}
 use Rattle.hart_frame.specs.FrameParts.{FrameParts}
 use Rattle.hart_commands.specs.declared.reply.Reply.{Reply}
 use Rattle.hart_commands.specs.declared.request.Request.{Request}
-use Rattle.hart_master.specs.Master.{Brings, hand_submitted, result_submitted}
+use Rattle.hart_master.specs.Master.{DeliveryBrings, hand_submitted, result_submitted}
 use Rattle.hart_master.specs.Pairing.{may_ask}
 use Rattle.hart_master.specs.declared.fault.MasterFault.{MasterFault}
 use Rattle.hart_master.specs.declared.fault.MasterFault.TheVariants.{WrongAddress}
@@ -53,6 +53,6 @@ concludes_more more c =
 
 -- Between two turns a master awaits nothing, so that no delivery brings it a reply.
 pub nothing_brought : (id : MasterId) (held : Option InHand) (delivery : List Character) (reply : Reply)
-    → Brings id (hand_of held) delivery reply → ⊥
+    → DeliveryBrings id (hand_of held) delivery reply → ⊥
 nothing_brought id None delivery reply brought = brought
 nothing_brought id (Some held) delivery reply brought = brought
