@@ -1,6 +1,5 @@
 -- The answer to an input, of which there is one at most.
-use Rattle.std.proofs.Common.{◌≡◌, ℕ, inr, List, Option, None, Some, Result, Ok, Err, refl, sym, ap, ◌∙◌, subst}
-use Rattle.std.proofs.KnownBytes.{Keeps-refl}
+use Rattle.std.proofs.Common.{◌≡◌, ℕ, List, Option, None, Some, Result, Ok, Err, refl, sym, ap, ◌∙◌, subst}
 use Rattle.std.specs.Result.{IsErrAnd}
 use Rattle.hart_frame.specs.Character.{Character}
 use Rattle.hart_frame.specs.FrameParts.{FrameParts}
@@ -10,15 +9,14 @@ use Rattle.hart_device.specs.Device.{DeviceState}
 use Rattle.hart_device.specs.declared.identity_parts.IdentityParts.{IdentityParts}
 use Rattle.hart_device.specs.declared.process.Process.{Process}
 use Rattle.hart_cli.specs.declared.fault.CliFault.{CliFault}
-use Rattle.hart_cli.specs.declared.fault.CliFault.TheVariants as faults
 use Rattle.hart_cli.specs.declared.input.InputEnd.TheVariants.{Ended}
 use Rattle.hart_cli.specs.Input.{Reads}
 use Rattle.hart_cli.specs.Items.{ReadsAs}
 use Rattle.hart_cli.specs.Stream.{Stream}
 use Rattle.hart_cli.specs.Input.{CameTo}
-use Rattle.hart_cli.specs.InputChars.{HasChars, IsWholeTextFault}
+use Rattle.hart_cli.specs.InputChars.{HasChars}
 use Rattle.hart_cli.specs.Answer.{IsAnswer, IsAnswerText, IsTextFor}
-use Rattle.hart_cli.specs.WholeInput.{WholeInput, WholeOutcome}
+use Rattle.hart_cli.specs.WholeInput.{WholeInput}
 use Rattle.hart_cli.proofs.DumpLemmas.{OneInput}
 use Rattle.hart_cli.proofs.MessageLineLemmas.{IsMessageLine-one, OneBody}
 
@@ -68,21 +66,6 @@ answer_read device reader reader_after input chars text read reads text_for = re
   whole = read;
   holds = record { delivery = chars; reads = reads; text_for = text_for };
 }
-
--- the fault of an input that ended
-pub AnswerOutcome-fault : (device : DeviceState) (reader reader_after writer : Stream) (input : List ℕ) (fault : CliFault)
-    → Reads reader reader_after input Ended → IsWholeTextFault input fault
-    → WholeOutcome (IsAnswer device) IsWholeTextFault reader reader_after writer writer (Err fault)
-AnswerOutcome-fault device reader reader_after writer input (faults.BadHex place) read is =
-    (record { input = input; whole = read; holds = is }, (Keeps-refl writer.bytes, refl))
-AnswerOutcome-fault device reader reader_after writer input (faults.Memory none) read is =
-    (inr (record { input = input; whole = read; holds = is }), (Keeps-refl writer.bytes, refl))
-AnswerOutcome-fault device reader reader_after writer input faults.Read read is = absurd is
-AnswerOutcome-fault device reader reader_after writer input faults.Write read is = absurd is
-AnswerOutcome-fault device reader reader_after writer input faults.TooLong read is = absurd is
-AnswerOutcome-fault device reader reader_after writer input (faults.Line fault) read is = absurd is
-AnswerOutcome-fault device reader reader_after writer input (faults.Image fault) read is = absurd is
-AnswerOutcome-fault device reader reader_after writer input (faults.BadWord number) read is = absurd is
 
 -- a fault that is made of its cause alone
 pub made_of : {T : Type 0} (result : Result T CliFault) (cause : CliFault) → IsErrAnd result (λ fault. fault ≡ cause) → result ≡ Err cause

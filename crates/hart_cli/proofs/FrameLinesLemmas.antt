@@ -1,5 +1,5 @@
 -- What is given, kept and written while characters are scanned.
-use Rattle.std.proofs.Common.{◌≡◌, ◌+◌, ◌≤◌, ℕ, List, [], ◌∷◌, ◌++◌, false, true, IsTrue, length, Result, Ok, Err, MatchResult, IfOk, take}
+use Rattle.std.proofs.Common.{◌≡◌, ◌+◌, ◌≤◌, ℕ, List, [], ◌∷◌, ◌++◌, false, true, IsTrue, length, Result, Ok, Err, MatchResult, take}
 use Rattle.std.proofs.Common.{drop, take-take, inl, inr, refl, sym, ap, ◌∙◌}
 use Rattle.std.proofs.Common.{append_assoc, subst, arith, length-append, replicate, Bool}
 use Rattle.std.specs.Result.{IsErrAnd}
@@ -199,11 +199,6 @@ pub on_failure : {T E : Type 0} (result : Result T E) (P : E → Type 0) (A : T 
     → MatchResult result A (λ _. B)
 on_failure (Ok done) P A B err holds = absurd err
 on_failure (Err failed) P A B err holds = holds
-
--- what holds of each success holds of a result
-pub on_success : {T E : Type 0} (result : Result T E) (A B : T → Type 0) → ((done : T) → A done → B done) → IfOk result A → IfOk result B
-on_success (Ok done) A B then holds = then done holds
-on_success (Err failed) A B then holds = tt
 
 -- characters that were pushed are scanned once all frames are given that are decided
 pub pushed_scanned : {T E : Type 0} (result : Result T E) (before after : Stream) (old pushed new : FrameLines) (finished : Bool)

@@ -8,7 +8,7 @@ use Rattle.hart_frame.specs.Parity.{HasEvenParity}
 use Rattle.hart_frame.specs.Layout.{Describes, delimiter_in, byte_count_place, byte_count_in, body_length}
 use Rattle.hart_frame.specs.declared.layout.Layout.{Layout}
 use Rattle.hart_frame.specs.Refusal.{IsDelimiter, IsRefusedWith, HasDelimiter, HasByteCount, HasGoodByteCount, HasCheckByte}
-use Rattle.hart_frame.specs.Verdict.{NeverBecomeBody, IsOpenUntil, IsVerdict, HasPreamble}
+use Rattle.hart_frame.specs.Verdict.{IsOpenUntil, IsVerdict, HasPreamble}
 
 pub delimiter_more : (xs ys : List ℕ) → 0 < length xs → delimiter_in (xs ++ ys) ≡ delimiter_in xs
 delimiter_more xs ys some = get_or_append_left xs ys 0 0 some
@@ -59,10 +59,6 @@ refused_more xs ys BadCheck decided refused =
     let prefix : take (body_length (xs ++ ys)) (xs ++ ys) ≡ take (body_length xs) xs =
     ap (λ (n : ℕ). take n (xs ++ ys)) (length_more xs ys refused.0.0.0.1) ∙ take-append-le (body_length xs) xs ys refused.0.1 in
     (HasCheckByte-more xs ys refused.0, λ even. refused.1 (subst HasEvenParity prefix even))
-
-pub NeverBecomeBody-more : (xs ys : List ℕ) → NeverBecomeBody xs → NeverBecomeBody (xs ++ ys)
-NeverBecomeBody-more xs ys is =
-    record { fault = is.fault; refused = refused_more xs ys is.fault is.decided is.refused; decided = is.decided }
 
 -- what is open for so long stays open until then
 until_more : (xs : List ℕ) (y count : ℕ) → IsOpenUntil xs count → length xs + 1 < count → IsOpenUntil (xs ++ y ∷ []) count

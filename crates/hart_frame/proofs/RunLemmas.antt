@@ -2,7 +2,7 @@
 use Rattle.std.proofs.Common.{◌≡◌, ◌≢◌, ℕ, suc, ◌+◌, ◌-◌, ◌<◌, ◌≤◌, ◌^◌, ◌⊎◌, inl, inr, false, IsTrue, List, [], ◌∷◌, ◌++◌, length, take, drop, refl, sym, ap, ◌∙◌, arith, subst, append_assoc, length-append}
 use Rattle.std.specs.List.{All}
 use Rattle.std.proofs.lemmas.Bool.{false≢true}
-use Rattle.std.proofs.lemmas.List.{append-nil, map-append, take-take, length-map, length-take-le}
+use Rattle.std.proofs.lemmas.List.{map-append, take-take, length-map, length-take-le}
 use Rattle.std.proofs.Math.Seq.{take-add}
 use Rattle.std.specs.List.{slice_range}
 use Rattle.hart_frame.specs.Character.{Character, faultless}
@@ -52,10 +52,6 @@ hearing_more a b c xs ys going p q =
     (moves_none (hearing a (faultless (xs ++ ys))) (hearing (hearing a (faultless xs)) (faultless ys)) both refl refl)
     (moves_then (hearing (hearing a (faultless xs)) (faultless ys)) (hearing b (faultless ys)) c []
     (moves_hearing (hearing a (faultless xs)) b (faultless ys) going p) q)
-
--- no byte is heard
-pub hearing_none : (a : Scan) → MovesPast (hearing a (faultless [])) a []
-hearing_none a = moves_none (hearing a []) a (sym (append-nil a.held)) refl refl
 
 -- what is undecided after two parts was undecided before
 pub undecided_more : (a b : Scan) (xs ys : List ℕ) → a.finished ≡ false → MovesPast (hearing a (faultless xs)) b []

@@ -1,8 +1,8 @@
 -- Sums are equal if the bytes between them have even parity.
 use Rattle.std.proofs.Common.{◌≡◌, ℕ, zero, suc, ◌+◌, ◌-◌, ◌<◌, ◌≤◌, ◌⊎◌, inl, inr, List, [], ◌∷◌, ◌++◌, length, take, drop, get_or, fold, bit_xor, refl, sym, ap, ◌∙◌, arith, subst, length-drop}
-use Rattle.std.specs.List.{slice_range, copy_within}
+use Rattle.std.specs.List.{slice_range}
 use Rattle.std.proofs.Math.ListN.{set}
-use Rattle.std.proofs.lemmas.List.{get_or-drop, get_or-take, get_or_past, length-take-le, get_or-set_same, get_or-set_other, get_or_append_left}
+use Rattle.std.proofs.lemmas.List.{get_or-drop, get_or-take, get_or_past, length-take-le, get_or-set_same, get_or-set_other}
 use Rattle.std.proofs.lemmas.Grind.{fold-append}
 use Rattle.std.proofs.Math.Seq.{take-suc}
 use Rattle.std.specs.Int.Bits.{xor_assoc, xor_self, xor_zero_l, xor_zero_r}
@@ -30,23 +30,6 @@ sums_push bytes sums from to byte within room are place after before =
           ∙ ap (bit_xor (get_or (set sums (to + 1) sum) place 0))
           (sym (get_or-set_same bytes to byte 0 within) ∙ ap (λ (k : ℕ). get_or (set bytes to byte) k 0) last)
     ]
-
--- a part that is moved to the start
-moved : (xs : List ℕ) (i j k : ℕ) → j ≤ length xs → i + k < j → get_or (copy_within xs i j 0) k 0 ≡ get_or xs (i + k) 0
-moved xs i j k within below =
-    let part = take (j - i) (drop i xs) in
-    let long : length part ≡ j - i = length-take-le (j - i) (drop i xs) (omega (arith, length-drop i xs, within)) in
-    get_or_append_left part (drop (0 + (j - i)) xs) 0 k (omega (arith, long, below))
-    ∙ get_or-take (j - i) (drop i xs) k 0 (omega (arith, below)) ∙ get_or-drop i xs k 0
-
-pub sums_moved : (bytes sums : List ℕ) (from to : ℕ) → to ≤ length bytes → to + 1 ≤ length sums → AreSums bytes sums from to
-    → AreSums (copy_within bytes from to 0) (copy_within sums from (to + 1) 0) 0 (to - from)
-sums_moved bytes sums from to within room are place after before =
-    moved sums from (to + 1) (place + 1) room (omega (arith, before))
-    ∙ ap (λ (k : ℕ). get_or sums k 0) (let same : from + (place + 1) ≡ from + place + 1 = omega arith in same)
-    ∙ are (from + place) (omega arith) (omega (arith, before))
-    ∙ ap (λ (s : ℕ). bit_xor s (get_or bytes (from + place) 0)) (sym (moved sums from (to + 1) place room (omega (arith, before))))
-    ∙ ap (bit_xor (get_or (copy_within sums from (to + 1) 0) place 0)) (sym (moved bytes from to place within (omega (arith, before))))
 
 -- the fold of bytes over a start
 fold_start : (xs : List ℕ) (s : ℕ) → fold bit_xor s xs ≡ bit_xor s (fold bit_xor 0 xs)

@@ -1,4 +1,5 @@
 -- How it is proved what scripts lead to.
+pub mod OptionLemmas
 pub mod StateLemmas
 pub mod ArrivalLemmas
 pub mod LegLemmas

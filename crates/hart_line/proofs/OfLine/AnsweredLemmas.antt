@@ -24,11 +24,9 @@ use Rattle.hart_line.specs.declared.event.LineEvent.TheVariants.{Submit, Turn, P
 use Rattle.hart_line.specs.declared.line.report.Outcome.TheVariants.{Answered, NoReply, Unfinished, Refused}
 use Rattle.hart_line.specs.declared.line.report.Party.{Party}
 use Rattle.hart_line.proofs.OfLine.ArrivalLemmas.{arrives_cases, frame_in, reaches_cases}
+use Rattle.hart_line.proofs.OfLine.OptionLemmas.{some_one}
 use Rattle.hart_line.proofs.OfLine.SubmittedLemmas.{submitted_as}
 use Rattle.hart_line.proofs.OfLine.TurnLemmas.{of_master-same}
-
-some_one : {A : Type 0} {x y : A} → Some x ≡ Some y → x ≡ y
-some_one is = cc
 
 -- What is found in a list with one more.
 slice_get-cases : {A : Type 0} (xs : List A) (y : A) (n : ℕ) (x : A) → slice_get (xs ++ y ∷ []) n ≡ Some x
@@ -229,9 +227,9 @@ answered_last law start events last run number reply sendings is =
     elim (run_answered law start events (first_world start) last run number reply sendings is) [
       | inl before ↦ cc
       | inr answered ↦ (let turn = answered.turn in record {
-          last_turn = answered;
-          submitted_as = ap (slice_get (submissions_of events)) (sym answered.of_submission)
-              ∙ submitted_as start events turn.prefix _ turn.suffix answered.before turn.split turn.led answered.who answered.held
-              answered.in_hand;
-        })
+        last_turn = answered;
+        submitted_as = ap (slice_get (submissions_of events)) (sym answered.of_submission)
+            ∙ submitted_as start events turn.prefix _ turn.suffix answered.before turn.split turn.led answered.who answered.held
+            answered.in_hand;
+      })
     ]

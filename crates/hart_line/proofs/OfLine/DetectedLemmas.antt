@@ -29,7 +29,8 @@ use Rattle.hart_line.specs.declared.fault.LineFault.{LineFault}
 use Rattle.hart_line.specs.declared.fault.LineFault.TheVariants.{BadLine, Memory, Undetected}
 use Rattle.hart_line.specs.declared.line.report.Party.{Party}
 use Rattle.hart_line.proofs.OfLine.LegLemmas.{MessageLaw}
-use Rattle.hart_line.proofs.OfLine.RunLemmas.{Laws, Reaches-one, run_one, some_one}
+use Rattle.hart_line.proofs.OfLine.OptionLemmas.{some_one}
+use Rattle.hart_line.proofs.OfLine.RunLemmas.{Laws, Reaches-one, run_one}
 
 -- DETECTABLE DAMAGE
 pub record DetectedLaws : Type 0 where

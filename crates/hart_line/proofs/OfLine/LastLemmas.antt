@@ -22,6 +22,7 @@ use Rattle.hart_line.specs.Line.World.{Execution, InHand, Start, World, first_wo
 use Rattle.hart_line.specs.declared.event.LineEvent.{LineEvent}
 use Rattle.hart_line.specs.declared.event.LineEvent.TheVariants.{Submit, Turn, Protect, Noise, Restart}
 use Rattle.hart_line.proofs.OfLine.ArrivalLemmas.{frame_in, reaches_cases}
+use Rattle.hart_line.proofs.OfLine.OptionLemmas.{some_one}
 use Rattle.hart_line.proofs.OfLine.SubmittedLemmas.{IsAlong, first_along, made_of, request_there, step_along}
 
 -- LAWS
@@ -40,9 +41,6 @@ pub record IsWriteOf (requests : List Request) (execution : Execution) : Type 0 
   pub request : Request
   pub submitted_as : slice_get requests execution.submission ≡ Some request
   pub overwrites : overwrite_of request ≡ Some execution.overwrite
-
-some_one : {A : Type 0} {x y : A} → Some x ≡ Some y → x ≡ y
-some_one is = cc
 
 same_overwrite : (requests : List Request) (a b : Execution) → a.submission ≡ b.submission → IsWriteOf requests a → IsWriteOf requests b
     → a.overwrite ≡ b.overwrite

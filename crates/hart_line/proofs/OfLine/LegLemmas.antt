@@ -23,11 +23,9 @@ use Rattle.hart_line.specs.declared.event.Heard.{Heard}
 use Rattle.hart_line.specs.declared.event.Heard.TheVariants.{Chars, Clean}
 use Rattle.hart_line.specs.declared.line.report.Party.{Party}
 use Rattle.hart_line.specs.declared.line.report.Spoken.{Spoken}
+use Rattle.hart_line.proofs.OfLine.OptionLemmas.{some_one}
 
 -- WHAT CHARACTERS BRING
-some_one : {A : Type 0} {x y : A} → Some x ≡ Some y → x ≡ y
-some_one is = cc
-
 -- A frame that arrives is brought.
 frame_brought : (identity : IdentityParts) (chars : List Character) (sent : Option FrameParts) (frames : List Found) (frame : FrameParts)
     → IsDetected sent frames (Some frame) → BringsBy identity chars frames (OneFrame frame)

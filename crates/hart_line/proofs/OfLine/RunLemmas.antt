@@ -28,6 +28,7 @@ use Rattle.hart_line.specs.declared.fault.Leg.{Leg}
 use Rattle.hart_line.specs.declared.fault.Leg.TheVariants as legs
 use Rattle.hart_line.specs.Line.Faults.{HasUndetected, IsFault}
 use Rattle.hart_line.specs.declared.fault.LineFault.TheVariants.{Undetected}
+use Rattle.hart_line.proofs.OfLine.OptionLemmas.{some_one}
 
 -- What a submission, a turn, the switch of protection, a reply and a restart keep stays at each event, and from a world to the last one.
 pub record Keeps (start : Start) (P : World → Type 0) : Type 0 where
@@ -153,9 +154,6 @@ run_one laws start (event ∷ events) world a b s t =
     (subst (λ w. Run start w events a) (step_one laws start world event s.0 t.0 s.1 t.1) s.2) t.2
 
 -- FAULTS
-pub some_one : {A : Type 0} {x y : A} → Some x ≡ Some y → x ≡ y
-some_one is = cc
-
 -- An event that leads on has no undetected damage, and no other has it in two legs.
 step_detected : Laws → (start : Start) (world : World) (event : LineEvent) (next : World) (leg : Leg)
     → Step start world event next → HasUndetected start world event leg → ⊥

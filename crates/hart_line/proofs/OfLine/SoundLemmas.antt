@@ -12,12 +12,13 @@ use Rattle.hart_commands.specs.declared.request.Request.{Request}
 use Rattle.hart_device.specs.Delivery.{Brought}
 use Rattle.hart_device.specs.Device.{Effect, Nothing, Executes, Resets}
 use Rattle.hart_master.specs.declared.fault.MasterFault.{MasterFault}
-use Rattle.hart_line.specs.Line.Step.{Run, Step, effect_on, executions_after, hand_left, marks_after, outcome_of, submitted, turned}
+use Rattle.hart_line.specs.Line.Step.{Step, effect_on, executions_after, hand_left, marks_after, outcome_of, submitted, turned}
 use Rattle.hart_line.specs.Line.World.{Execution, InHand, Start, World, first_world, state_of}
 use Rattle.hart_line.specs.declared.event.LineEvent.{LineEvent}
 use Rattle.hart_line.specs.declared.line.report.Outcome.{Outcome}
 use Rattle.hart_line.specs.declared.line.report.Outcome.TheVariants.{Answered, NoReply, Unfinished, Refused}
-use Rattle.hart_line.proofs.OfLine.RunLemmas.{Keeps, run_keeps, step_keeps}
+use Rattle.hart_line.proofs.OfLine.OptionLemmas.{some_one}
+use Rattle.hart_line.proofs.OfLine.RunLemmas.{Keeps, step_keeps}
 
 pub record IsSound (world : World) : Type 0 where
   pub marks : (id : MasterId) (mark : ℕ) → of_master id world.marks ≡ Some mark → mark ≤ length world.executions
@@ -49,7 +50,8 @@ submitted_sound : (world : World) (who : MasterId) (address : Address) (request 
 submitted_sound world who address request None s = record {
   marks = s.marks;
   within = λ id held is. elim (with_master-cases id who _ world.hands held is) [
-    | inl (own, new) ↦ (let same : record { submission = length world.outcomes; address = address; request = request; sendings = 0 } ≡ held = cc in
+    | inl (own, new) ↦ (
+        let same : record { submission = length world.outcomes; address = address; request = request; sendings = 0 } ≡ held = cc in
         subst (λ (h : InHand). h.submission < length (world.outcomes ++ Unfinished 0 ∷ [])) same
         (omega (arith, length-append {A = Outcome})))
     | inr old ↦ below_more world.outcomes (Unfinished 0) held.submission (s.within id held old)
@@ -73,9 +75,6 @@ marks_sound Resets who number executions marks within id mark is =
       | inl (own, new) ↦ (let same : length executions ≡ mark = cc in omega arith)
       | inr old ↦ within id mark old
     ]
-
-some_one : {A : Type 0} {x y : A} → Some x ≡ Some y → x ≡ y
-some_one is = cc
 
 pub hand_left-number : (held left : InHand) (outcome : Outcome) → hand_left held outcome ≡ Some left → left.submission ≡ held.submission
 hand_left-number held left (Unfinished n) is = ap (λ (h : InHand). h.submission) (sym (some_one is))
@@ -111,9 +110,6 @@ sound_kept start = record {
 pub step_sound : (start : Start) (world : World) (event : LineEvent) (next : World) → Step start world event next → IsSound world
     → IsSound next
 step_sound start = step_keeps start IsSound (sound_kept start)
-
-pub run_sound : (start : Start) (events : List LineEvent) (world last : World) → Run start world events last → IsSound world → IsSound last
-run_sound start = run_keeps start IsSound (sound_kept start)
 
 -- Neither master has anything before a script.
 pub nothing_first : {A B : Type 0} {x : A} (id : MasterId) → of_master id (record { primary = None; secondary = None }) ≡ Some x → B

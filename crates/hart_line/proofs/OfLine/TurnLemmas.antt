@@ -21,6 +21,7 @@ use Rattle.hart_line.specs.declared.line.masters.Masters.{Masters}
 use Rattle.hart_line.specs.declared.line.report.Outcome.{Outcome}
 use Rattle.hart_line.specs.declared.line.report.Spoken.{Spoken}
 use Rattle.hart_line.proofs.OfLine.ArrivalLemmas.{AreSpoken-more, frame_in, left_alone, none_reaches, reaches_cases}
+use Rattle.hart_line.proofs.OfLine.OptionLemmas.{some_one}
 use Rattle.hart_line.proofs.OfLine.StateLemmas.{LastLaw, state-after}
 
 pub of_master-same : {A : Type 0} (id : MasterId) (a : A) (each : EachMaster A) → of_master id (with_master id a each) ≡ a
@@ -88,9 +89,6 @@ state_after-effect state id held (OneFrame frame) (inl is) = cc
 state_after-effect state id held (OneFrame frame) (inr is) =
     let master : frame.master ≡ id = ap (λ (f : FrameParts). f.master) (some_one is) in
     rw (← master) (answer_leaves (is_answered state frame) (code_of state frame == 0) (asked_effect (reading_of frame)) frame.master state)
-  where
-    some_one : {A : Type 0} {x y : A} → Some x ≡ Some y → x ≡ y
-    some_one is = cc
 
 -- With a request in hand that is sent, the line stands for the world that the turn leads to.
 pub turned_stands : LastLaw → (start : Start) (world : World) (who : MasterId) (up down : Heard) (held : InHand)

@@ -26,12 +26,10 @@ use Rattle.hart_line.specs.declared.event.LineEvent.{LineEvent}
 use Rattle.hart_line.specs.declared.event.LineEvent.TheVariants.{Submit, Turn, Protect, Noise, Restart}
 use Rattle.hart_line.proofs.OfLine.ArrivalLemmas.{frame_in, none_reaches, reaches_cases}
 use Rattle.hart_line.proofs.OfLine.LastLemmas.{ReadsLaw}
+use Rattle.hart_line.proofs.OfLine.OptionLemmas.{some_one}
 use Rattle.hart_line.proofs.OfLine.SubmittedLemmas.{made_of, request_there, submitted_as}
 
 -- THE CODE OF A REPLY
-some_one : {A : Type 0} {x y : A} → Some x ≡ Some y → x ≡ y
-some_one is = cc
-
 reading_code : (command : ℕ) (payload : List ℕ) (reply : Reply) (code : ℕ) → reply_reading command payload ≡ Some reply
     → slice_get payload 0 ≡ Some code → reply.code ≡ code
 reading_code command [] reply code read is = cc
