@@ -24,19 +24,24 @@ bytes. The input has at most 1048576 bytes of text.
 Output (stdout): the reply of the device in upper case hex, or nothing if the
 device is silent. It answers command 0 at its polling address, any command at
 its own address 37420A1B2C, and, sent to all, command 11 with its tag and
-command 21 with its long tag. If no message came whole, but one that was sent
-to its own address is damaged only after that address, the reply says how: its
-first status byte is 80, with the fault bits of the bytes, and with 08 if the
+command 21 with its long tag. If no message came whole, but a request to its
+own address came with all its bytes, damaged only after that address, and
+nothing before it looks like another message, the reply says how: its first
+status byte is 80, joined with the fault bits of the bytes, and with 08 if the
 check byte does not fit; the second is 00. In every other case the device is
 silent: if it hears no message, or more than one; if the message is a reply or
-has expansion bytes; and if it was sent to another address, or names another
-tag or long tag.
+has expansion bytes; if it is another command at the polling address or sent to
+all; and if it was sent to another address, or names another tag or long tag.
 
-Each run starts a new device, with polling address 0, a tag of eight spaces, in
-command 11 the data 820820820820, and a long tag of 32 spaces, which are bytes
-20 in command 21; or one that goes on from an image, as hart sim writes it in
-its last line. If that is no image nothing is read, and standard error says
-why: bad image: version, length or field; bad hex at N, a place in the image,
+If the input holds anything but such bytes, is longer than that, or fails,
+nothing is written, and standard error says why: bad hex at N, a place in the
+text of the input, counted from 0; input too long; read fault.
+
+Each run starts a new device with polling address 0. Its tag is eight spaces,
+820820820820 in command 11; its long tag is 32 spaces, 32 bytes 20 in command
+21. With --image the device goes on from an image, which hart sim writes in its
+last line. If that is no image nothing is read, and standard error says why:
+bad image: version, length or field; bad hex at N, a place in the image,
 counted from 0.";
 
 pub(super) const ANSWER_EXAMPLE: &str = "\
@@ -44,7 +49,7 @@ Examples:
   echo \"FF FF 82 B7 42 0A 1B 2C 10 00 5A\" | hart answer
 writes
   FF FF FF FF FF 86 B7 42 0A 1B 2C 10 05 00 00 00 00 00 5B
-and of a write to a protected device, which it refuses,
+and for a write, which a protected device refuses,
   image=$(echo protect on | hart sim | sed -n 's/^image //p')
   echo \"FF FF 82 B7 42 0A 1B 2C 13 03 01 23 45 3D\" | hart answer --image $image
 writes
@@ -147,19 +152,19 @@ Output (stdout): written once the script has come to its end.
                              changed for the primary and the secondary master;
                              4, the device is protected
 
-Each run starts a new device, or one that goes on from an image: with that of
-the last line of one script the next begins where that one ended, with no cold
-start bit set. An image of version 1 begins with 01 and has no long tag: that
-of the device is then its tag and 24 spaces. If HEX is no image nothing is
-read, and standard error says why: bad image: version, length or field; bad hex
-at N, a place in the image, counted from 0.
+Each run starts a new device. With --image and the image of the last line of
+one run, the next begins where that run ended, with no cold start bit set. An
+image of version 1 begins with 01 and has no long tag: the long tag of the
+device is then its tag and 24 spaces. If HEX is no image nothing is read, and
+standard error says why: bad image: version, length or field; bad hex at N, a
+place in the image, counted from 0.
 
 If no output is written, standard error says why.
   bad line N                 every line counts, an empty one too, from 1
-  undetected damage at event N, up
-                             events alone count, from 0; also down or noise:
-                             what is heard there has another message in it
-                             than the one that was sent, or more than one
+  undetected damage at event N, LEG
+                             events alone count, from 0; LEG is up, down or
+                             noise: what is heard there has another message in
+                             it than the one that was sent, or more than one
   input too long, read fault";
 
 pub(super) const SIM_EXAMPLE: &str = "\
@@ -207,18 +212,17 @@ pub(super) const WHO_HELP: &str = "The master that asks: P for the primary, S fo
 
 pub(super) const ADDRESS_HELP: &str = "\
 The device that is asked: @ and its polling address, @0 to @63; or
-ten hex digits, four of its type and six of its id; or all, for every
-device";
+ten hex digits, four of its type and six of its id; or all, for
+every device";
 
 pub(super) const COMMAND_HELP: &str = "The number of the command, 0 to 255";
 
 pub(super) const DATA_HELP: &str = "\
-The data of the command in hex, two digits for each byte, at most 255
-bytes; left out if there are none";
+The data of the command in hex, two digits for each byte, at most
+255 bytes; left out if there are none";
 
 pub(super) const IMAGE_HELP: &str = "\
-The image that the device goes on from, two hex digits for each byte,
-as hart sim writes it; left out for a new device";
+The image that the device goes on from, two hex digits a
+byte, as hart sim writes it; left out for a new device";
 
-pub(super) const PREAMBLES_HELP: &str =
-    "The number of preamble bytes FF that the message begins with, 5 to 20";
+pub(super) const PREAMBLES_HELP: &str = "The number of preamble bytes FF, 5 to 20";
