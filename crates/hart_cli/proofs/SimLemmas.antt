@@ -171,8 +171,8 @@ IsSimulation-one scripts worlds bodies device input xs ys p q =
     let start = start_with device in
     let Leads : List LineEvent → Type 0 = λ events. IsLast start events p.world in
     let led = subst Leads (scripts input p.events q.events p.script q.script) p.last in
-    let Tells : World → Type 0 = λ world. IsWorldText start world xs in
-    IsWorldText-one bodies start q.world xs ys (subst Tells (worlds start q.events p.world q.world led q.last) p.world_text)
+    let Says : World → Type 0 = λ world. IsWorldText start world xs in
+    IsWorldText-one bodies start q.world xs ys (subst Says (worlds start q.events p.world q.world led q.last) p.world_text)
     q.world_text
 
 -- the law of bad lines: a script has none

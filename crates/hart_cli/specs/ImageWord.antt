@@ -51,7 +51,7 @@ abbrev pub Outcomes : Type 1
 Outcomes = Stream → Stream → Stream → Stream → Result (Unit {0}) CliFault → Type 0
 
 -- A call gave the reason why it has no device, and left the reader and the writer as they were.
-pub record ToldOfImage (image : Option (List ℕ)) (reader reader_after writer writer_after : Stream)
+pub record GivesNoDevice (image : Option (List ℕ)) (reader reader_after writer writer_after : Stream)
     (result : Result (Unit {0}) CliFault) : Type 0 where
   pub fault : CliFault
   pub no_device : HasNoDevice image fault
@@ -65,9 +65,9 @@ pub record WentOn (image : Option (List ℕ)) (Did : DeviceState → Type 0) : T
   pub is_device : IsDeviceOf image device
   pub did : Did device
 
--- A call gave the fault of its image and touched neither the reader nor the writer; otherwise it had an outcome that is one of its
--- device.
+-- A call gave the reason why it has no device and touched neither the reader nor the writer; otherwise it had an outcome that is one
+-- of its device.
 abbrev pub OutcomeWith : (DeviceState → Outcomes) → Option (List ℕ) → Outcomes
 OutcomeWith Outcome image reader reader_after writer writer_after result =
-    ToldOfImage image reader reader_after writer writer_after result
+    GivesNoDevice image reader reader_after writer writer_after result
     ⊎ WentOn image (λ device. Outcome device reader reader_after writer writer_after result)

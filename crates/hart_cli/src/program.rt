@@ -73,7 +73,7 @@ pub fn program<R: Source, W: Sink, E: Sink>(
     }
 }
 
-/// Tells a fault to `errors`, and gives the status of what the call answered.
+/// Writes the line of a fault to `errors`, and gives the status of what the call answered.
 fn finish<E: Sink>(outcome: Result<(), CliFault>, errors: &mut E) -> u8
     ensures status { result ≡ status_of outcome }
     ensures fault { IfErr outcome (λ fault. WritesUnlessFailed

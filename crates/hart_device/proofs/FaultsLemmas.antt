@@ -55,7 +55,7 @@ not_odd n zero_is = grind (arith, nat_tests)
 odd_or_not : (n : ℕ) → n < 2 → (n == 1) ≡ false → n ≡ 0
 odd_or_not n small is = grind (arith, nat_tests)
 
--- a check byte that is zero tells that no bit is odd
+-- a check byte that is zero says that no bit is odd
 pub even_none : (chars : List Character) (check : ℕ) → IsCheck chars check → check ≡ 0 → has_odd_bit chars ≡ false
 even_none chars check is zero_is = list_any_none (is_odd chars) bits (λ k d below.
     let bit : ℕ = get_or bits k d in
@@ -147,8 +147,8 @@ or_bits : (a b : Bool) (x y : ℕ) → x ≡ bit_if a 1 → y ≡ bit_if b 1 →
 or_bits true b x y p q = omega (arith, p, q, bit_if-small b)
 or_bits false b x y p q = omega (arith, p, q)
 
-bit_tells : (n bit : ℕ) → bit_at n bit ≡ bit_if (bit_at n bit == 1) 1
-bit_tells n bit = let below = bit_at-lt n bit in grind (arith, nat_tests)
+bit_says : (n bit : ℕ) → bit_at n bit ≡ bit_if (bit_at n bit == 1) 1
+bit_says n bit = let below = bit_at-lt n bit in grind (arith, nat_tests)
 
 pub AreFaults-more : (chars : List Character) (i faults : ℕ) (character : Character) → i < length chars
     → character ≡ get_or chars i character → AreFaults (take i chars) faults
@@ -159,7 +159,7 @@ AreFaults-more chars i faults character within is are bit =
     list_any_more has chars i character within ∙ ap (λ (x : Character). has_fault bit (take i chars) || has x) (sym is) in
     bit_at_or faults character.faults bit
     ∙ or_bits (has_fault bit (take i chars)) (has character) (bit_at faults bit) (bit_at character.faults bit) (are bit)
-    (bit_tells character.faults bit)
+    (bit_says character.faults bit)
     ∙ ap (λ (b : Bool). bit_if b 1) (sym more)
 
 pub IsCheck-more : (chars : List Character) (i check : ℕ) (character : Character) → i < length chars
@@ -168,7 +168,7 @@ IsCheck-more chars i check character within is checked bit =
     let one : Character → ℕ = λ x. bit_if (bit_at x.byte bit == 1) 1 in
     let more : count bit (take (i + 1) chars) ≡ count bit (take i chars) + one character =
     sum_by_more one chars i character within ∙ ap (λ (x : Character). count bit (take i chars) + one x) (sym is) in
-    omega (arith, more, bit_tells character.byte bit, bit_at_xor check character.byte bit, checked bit)
+    omega (arith, more, bit_says character.byte bit, bit_at_xor check character.byte bit, checked bit)
 
 -- so at the end of a list, with the bit of parity if the check byte is not zero
 pub at_end : (chars : List Character) (i faults check parity : ℕ) → length chars ≤ i → AreFaults (take i chars) faults → faults < 256

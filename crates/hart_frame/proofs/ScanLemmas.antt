@@ -239,7 +239,7 @@ no_tail tail more ends same = elim ends [
   | inr (c, cs, is, faulty) ↦ faulty (ap (λ (d : Character). d.faults) (heads_same c preamble cs more (sym is ∙ same)))
 ]
 
--- an open start starts nothing if the end is reached
+-- an open place starts nothing if the end is reached
 pub nothing_open : (xs : List ℕ) (tail : List Character) (count : ℕ) → IsVerdict xs (Open count) → NothingFollows tail
     → NothingStarts (faultless xs ++ tail)
 nothing_open [] tail count verdict ends f body rest is same = elim verdict [
@@ -257,7 +257,7 @@ nothing_open (x ∷ y ∷ xs) tail count verdict ends f body rest is same = elim
       nothing_open_body xs tail (truncated_until xs count until) ends f body rest is bodies
 ]
 
--- what is held is undecided if its start is open
+-- what is held is undecided if its first place is open
 pub undecided_open : (xs : List ℕ) (count : ℕ) → IsVerdict xs (Open count) → IsUndecided (faultless xs)
 undecided_open [] count verdict = elim verdict [
   | inl one ↦ absurd (omega (arith, one))

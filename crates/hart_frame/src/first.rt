@@ -44,7 +44,7 @@ fn next_start(chars: &[Char], from: usize) -> usize
     ensures least { (found : Found) → StandsIn found chars.now from → result + 2 ≤ found.start }
 {
     let mut place = from;
-    while place < chars.len() && !is_start(&chars[place..]) {
+    while place < chars.len() && !begins_with_preamble(&chars[place..]) {
         place += 1;
     }
     place
@@ -84,7 +84,7 @@ pub(crate) fn found_at(chars: &[Char], places: FramePlaces) -> Found
 }
 
 /// Whether the characters begin with two faultless preamble bytes.
-fn is_start(chars: &[Char]) -> bool
+fn begins_with_preamble(chars: &[Char]) -> bool
     ensures known { (rest : List Character) → chars.now ≡ faultless (255 ∷ 255 ∷ []) ++ rest → IsTrue result }
 {
     matches!(chars, [first, second, ..] if is_preamble(*first) && is_preamble(*second))

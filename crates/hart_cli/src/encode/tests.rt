@@ -125,7 +125,7 @@ fn data_have_255_bytes_at_most(rt: HostRuntime) -> Result<(), Fail> {
 }
 
 #[test]
-fn the_first_bad_word_is_told(rt: HostRuntime) {
+fn the_first_bad_word_is_named(rt: HostRuntime) {
     for (words, number) in BAD_WORDS {
         let (result, writer) = encoded(rt.alloc(), *words, 5);
         let number = *number;

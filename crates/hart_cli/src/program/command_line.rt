@@ -87,7 +87,7 @@ fn image_word<'a>(given: &ArgMatches<'a>) -> ImageWord<'a>
     }
 }
 
-/// The words of `hart encode`, or `None` if one is wanting or the number of preamble bytes is none, which clap does not let pass.
+/// The words of `hart encode`, or `None` if one is missing or the number of preamble bytes is none, which clap does not let pass.
 fn encode_words<'a>(given: &ArgMatches<'a>) -> Option<EncodeWords<'a>>
     ensures { IfSome result (GivesWords (rows_of (found_of given.now))) }
 {
@@ -137,7 +137,7 @@ fn hart_command<'a>(alloc: Global) -> Result<Command<'a>, AllocError>
             help::SIM_EXAMPLE,
         )?)?
         .subcommand(encode_command(alloc)?)?;
-    // The words do not tell clap the program's name, which the usage of a subcommand shows.
+    // The words do not give clap the program's name, which the usage of a subcommand shows.
     hart.bin_name("hart")
 }
 

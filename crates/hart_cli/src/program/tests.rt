@@ -111,7 +111,7 @@ fn check_rows(rt: &impl Abort, alloc: Global, word: &str, rows: &[Row]) -> Resul
 }
 
 #[test]
-fn each_failed_read_is_told(rt: HostRuntime) -> Result<(), Fail> {
+fn each_failed_read_is_named(rt: HostRuntime) -> Result<(), Fail> {
     for word in ["answer", "dump", "sim"] {
         for read in 0..IDENTIFY.len() + 1 {
             let reader = Tape::new(&IDENTIFY.as_bytes()[..read], After::Failure, 1);
@@ -126,7 +126,7 @@ fn each_failed_read_is_told(rt: HostRuntime) -> Result<(), Fail> {
 }
 
 #[test]
-fn each_failed_write_is_told(rt: HostRuntime) -> Result<(), Fail> {
+fn each_failed_write_is_named(rt: HostRuntime) -> Result<(), Fail> {
     for (words, input, want) in CALLS {
         for room in 0..want.len() {
             let reader = Tape::new(input.as_bytes(), After::End, 1);

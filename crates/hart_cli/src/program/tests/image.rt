@@ -205,7 +205,7 @@ const BAD_IMAGES: &[(&str, &str)] = &[
 ];
 
 #[test]
-fn a_bad_image_is_told_before_anything_is_read(rt: HostRuntime) -> Result<(), Fail> {
+fn a_bad_image_is_named_before_anything_is_read(rt: HostRuntime) -> Result<(), Fail> {
     for (image, fault) in BAD_IMAGES {
         for word in ["answer", "sim"] {
             // The input would be at fault too.

@@ -13,7 +13,7 @@ loop-place-preserved c =
       after = omega (arith, c.loop-place.invariant.after);
       none = λ found stands.
           start-later found chars c.args.from place stands (c.loop-place.invariant.none found stands)
-          (λ here start. false≢true (sym c.if-not-is_start.true
-          ∙ c.is_start.ensures.known (faultless here.body ++ here.rest)
+          (λ here start. false≢true (sym c.if-not-begins_with_preamble.true
+          ∙ c.begins_with_preamble.ensures.known (faultless here.body ++ here.rest)
           (take_rest chars place ∙ StandsIn-at chars place place found here start)));
     }
