@@ -28,8 +28,8 @@ pub record IsAnswer (device : DeviceState) (input text : List ℕ) : Type 0 wher
   pub reads : ReadsAs input delivery
   pub text_for : IsTextFor device delivery text
 
--- A call of `answer` gave the fault of its image, if it has one. Otherwise it wrote what its device answers to its whole input at `Ok`,
--- a prefix of it if a write failed, and nothing if it gave the input's fault or if memory for the input or its characters
--- was refused.
+-- A call of `answer` gave the reason why it has no device, if it has none. Otherwise it wrote what its device answers to its whole
+-- input at `Ok`, a prefix of it if a write failed, and nothing if it gave the input's fault or if memory for the input or its
+-- characters was refused.
 abbrev pub AnswerOutcome : Option (List ℕ) → Outcomes
 AnswerOutcome = OutcomeWith (λ device. WholeOutcome (IsAnswer device) IsWholeTextFault)

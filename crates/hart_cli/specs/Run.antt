@@ -1,4 +1,4 @@
--- For private calls alone: what is read of items without fault bits.
+-- For private calls alone: what is read of items without fault bits (own profile).
 use Rattle.std.specs.Prelude.{◌≡◌, ◌≤◌, ◌<◌, ℕ, List, ◌++◌, drop, get_or, length}
 use Rattle.hart_frame.specs.Character.{faultless}
 use Rattle.hart_cli.specs.Items.{IsSeparator, ReadsUpTo}

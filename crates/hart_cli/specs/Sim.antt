@@ -73,8 +73,8 @@ IsSimulationFault device input (Line fault) = HasLineFault device input fault
 IsSimulationFault device input (Memory none) = IsNeededForSimulation device input none.items
 IsSimulationFault device input _ = ⊥
 
--- A call of `simulate` gave the fault of its image, if it has one. Otherwise it wrote the text for its whole input at `Ok`, a prefix of
--- it if a write failed, and nothing if a read failed, if the input was too long or had a fault of its lines or events, or
--- if memory was refused; it gives no other fault.
+-- A call of `simulate` gave the reason why it has no device, if it has none. Otherwise it wrote the text for its whole input at
+-- `Ok`, a prefix of it if a write failed, and nothing if a read failed, if the input was too long or had a fault of its lines or
+-- events, or if memory was refused; it gives no other fault.
 abbrev pub SimOutcome : Option (List ℕ) → Outcomes
 SimOutcome = OutcomeWith (λ device. WholeOutcome (IsSimulation device) (IsSimulationFault device))

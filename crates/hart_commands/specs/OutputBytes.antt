@@ -3,8 +3,8 @@ use Rattle.std.specs.Prelude.{ℕ, ◌≡◌, List, [], ◌∷◌, ◌++◌, len
 use Rattle.hart_commands.specs.declared.output.OutputContent.{OutputContent}
 use Rattle.hart_commands.specs.Values.{float_at}
 
--- An alarm code, a transfer function, a unit, the upper and the lower range value, the damping, a write protect code, a byte that
--- the standard reserves, and channel flags, each in its place.
+-- Eighteen bytes hold an alarm code, a transfer function, a unit, the upper and the lower range value, the damping, a write protect
+-- code, a byte that the standard reserves, and channel flags, each in its place.
 abbrev pub output_of : List ℕ → OutputContent
 output_of bytes = record {
   alarm_code = slice_index bytes 0;

@@ -186,7 +186,8 @@ IsContent (Counter counter) = length counter ≡ 2
 IsContent (More status) = (0 < length status) × (length status ≤ 25)
 IsContent Refused = Unit {0}
 
--- A reply with code 0 has a content of its command; with another code, below 128, its command is in the table and it is refused.
+-- A reply is well made in two cases: its code is 0, and it has a well-made content of its command; or its code is another below 128,
+-- its command is in the table, and it is refused.
 abbrev pub IsReply : Reply → Type 0
 IsReply reply =
     ((reply.code ≡ 0) × IsContentOf reply.content reply.command × IsContent reply.content)

@@ -3,7 +3,7 @@ use Rattle.std.specs.Prelude.{ℕ, ◌≡◌, List, ◌∷◌, ◌++◌, length,
 use Rattle.hart_commands.specs.declared.sensor.SensorContent.{SensorContent}
 use Rattle.hart_commands.specs.Values.{float_at}
 
--- A serial number, a unit, the upper and the lower limit and the minimum span, each in its place.
+-- Sixteen bytes hold a serial number, a unit, the upper and the lower limit and the minimum span, each in its place.
 abbrev pub sensor_of : List ℕ → SensorContent
 sensor_of bytes = record {
   serial_number = slice_range bytes 0 3;

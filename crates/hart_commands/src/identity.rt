@@ -6,7 +6,7 @@ use hart_values::Payload;
 /// The byte with which an identity begins.
 pub(crate) const FIRST_BYTE: u8 = 254;
 
-/// Who a device is, as its reply to Command 0 or 11 gives it (HCF_SPEC-127).
+/// Who a device is, as its reply to Command 0, 11 or 21 gives it (HCF_SPEC-127).
 ///
 /// The numbers of several bytes are kept as they come, the most significant byte first.
 #[derive(Clone, Copy, Debug, PartialEq, Eq)]

@@ -54,6 +54,7 @@ pub fn written_data_are_read_again()
     ensures { (request : Request) (rest : List ℕ) → IsRequest request → MayFollow request rest
         → request_reading (command_of request) (request_data request ++ rest) ≡ Ok request }
 {
+    // No-op: its contract is used below.
     dates_are_decided();
 }
 
@@ -62,6 +63,7 @@ pub fn written_data_are_their_request()
     ensures { (request : Request) → IsRequest request
         → request_reading (command_of request) (request_data request) ≡ Ok request }
 {
+    // No-op: its contract is used below.
     dates_are_decided();
 }
 
@@ -70,6 +72,7 @@ pub fn requests_have_their_command()
     ensures { (command : ℕ) (bytes : List ℕ) (request : Request)
         → request_reading command bytes ≡ Ok request → (command_of request ≡ command) × IsRequest request }
 {
+    // No-op: its contract is used below.
     dates_are_decided();
 }
 
@@ -78,6 +81,7 @@ pub fn unknown_commands_are_refused()
     ensures { (command : ℕ) (bytes : List ℕ)
         → (request_reading command bytes ≡ Err 64) ↔ (is_known command ≡ false) }
 {
+    // No-op: its contract is used below.
     dates_are_decided();
 }
 

@@ -28,7 +28,8 @@ impl Reply {
     /// first is set, if the command is none that [`Request::read`] knows, or if with code 0 the data are no content of the
     /// command.
     ///
-    /// Data after those of the content are ignored, and with a code other than 0 all data are.
+    /// Data after those of the content are ignored, but for Command 9, whose data have to end with the time stamp. With a code
+    /// other than 0 all data are ignored.
     pub fn read(command: u8, payload: &[u8]) -> Option<Self>
         ensures read { result ≡ reply_reading command payload.now }
         ensures well_made { IfSome result IsReply }

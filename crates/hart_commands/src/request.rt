@@ -110,6 +110,7 @@ impl Request {
         ensures command { result ≡ command_of self.now }
         ensures well_made { IsRequest self.now }
     {
+        // No-op: its contract is used below.
         requests_are_well_made(self);
         match self {
             Request::Identify => 0,
@@ -142,6 +143,7 @@ impl Request {
         ensures same { result ≡ self.now }
         ensures well_made { IsRequest self.now }
     {
+        // No-op: its contract is used below.
         requests_are_well_made(self);
         match self {
             Request::Identify => Request::Identify,

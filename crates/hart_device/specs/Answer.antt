@@ -62,8 +62,8 @@ names_another state (Ok (IdentifyByTag tag)) = not (bytes_eq state.contents.tag 
 names_another state (Ok (IdentifyByLongTag long_tag)) = not (bytes_eq state.contents.long_tag long_tag)
 names_another state _ = false
 
--- A frame for the device that is read so and has this code is met with silence all the same if it names another device, on
--- either address, and if it came by broadcast and its code is not 0.
+-- A frame that is read so and has this code is answered if it is for the device, names no other device by its tag or long tag, and
+-- did not come by broadcast with another code than 0.
 abbrev pub is_answered_with : DeviceState → FrameParts → Reading → ℕ → Bool
 is_answered_with state frame reading code =
     is_addressed state frame && not (names_another state reading) && not (is_broadcast frame.address && not (code == 0))
@@ -97,8 +97,8 @@ after_command state frame = after frame.master (effect_of state frame) state
 abbrev pub state_after : DeviceState → FrameParts → DeviceState
 state_after state frame = if is_answered state frame then after_reply frame.master (after_command state frame) else state
 
--- What a frame that has no effect leaves of a device is all but the cold start bit of its master, which is clear if the frame was
--- answered, since the reply has shown it.
+-- What a frame that has no effect leaves of a device is all but the cold start bit of its master. That is clear if the frame was
+-- answered, since the reply has shown it, and otherwise as it was.
 abbrev pub after_refusal : DeviceState → FrameParts → DeviceState
 after_refusal state frame = record state {
   cold_start = if is_answered state frame then with_master frame.master false state.cold_start else state.cold_start;

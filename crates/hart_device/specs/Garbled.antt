@@ -40,8 +40,8 @@ communication_faults chars =
 -- Characters are a garbled request for a device if they are, without faults, the delimiter hex 82 of a request at a unique
 -- address, and the device's own address with the bit of a master and any burst bit; and then, whatever their faults, a command, a
 -- byte count, as many characters of a payload as that says, and one for the check byte. The command is what was heard in its
--- place, and the communication faults are those of all these characters. A request without any fault has this form too; it is a frame,
--- so that a delivery with it brings that.
+-- place, and the communication faults are those of all these characters. A request without any fault has this form too; but a
+-- delivery with it has a frame, and so brings no garbled request.
 pub record IsGarbled (identity : IdentityParts) (chars : List Character) (request : GarbledRequest) : Type 0 where
   pub burst : Bool
   pub address : List ℕ

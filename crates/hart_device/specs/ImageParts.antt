@@ -1,4 +1,4 @@
--- What is read of an image.
+-- What is read of an image (own profile).
 use Rattle.std.specs.Prelude.{false}
 use Rattle.hart_device.specs.declared.identity_parts.IdentityParts.{IdentityParts}
 use Rattle.hart_device.specs.declared.image.ImageParts.{ImageParts}

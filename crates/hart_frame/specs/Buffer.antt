@@ -40,7 +40,7 @@ pub record IsWholeAt (bytes : List ℕ) (from to : ℕ) (layout : Layout) : Type
   pub even : HasEvenParity (slice_range bytes (from + 2) (from + 2 + layout_length layout))
   pub fits : All (λ byte. byte < 256) (slice_range bytes (from + 2) (from + 2 + layout_length layout))
 
--- So the held bytes begin.
+-- The held bytes begin with two preamble bytes and a body of even parity, by this layout.
 abbrev pub BeginsWithWhole : Buffer → Layout → Type 0
 BeginsWithWhole b layout = IsWholeAt b.bytes b.from b.to layout
 

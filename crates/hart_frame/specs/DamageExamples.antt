@@ -1,4 +1,4 @@
--- A request, and what is heard of it with damage and without (HCF_SPEC-081; own profile).
+-- A request, and what is heard of it with damage of each kind, and with damage of neither kind (HCF_SPEC-081; own profile).
 use Rattle.std.specs.Prelude.{List, [], ◌∷◌, ◌++◌}
 use Rattle.hart_values.specs.declared.master_id.MasterId.TheVariants.{Primary}
 use Rattle.hart_values.specs.declared.address.Address.TheVariants.{Polling}

@@ -21,7 +21,7 @@ IsOpenUntil bytes count =
     ⊎ (HasDelimiter bytes × (length bytes ≤ byte_count_place bytes) × (count ≡ byte_count_place bytes + 1))
     ⊎ (HasGoodByteCount bytes × (length bytes < body_length bytes) × (count ≡ body_length bytes))
 
--- So it is said of the bytes after two preamble bytes; of whole ones the layout is given, whatever their parity.
+-- The verdict on the bytes after two preamble bytes; of whole ones the layout is given, whatever their parity.
 abbrev pub IsBodyVerdict : List ℕ → Verdict → Type 0
 IsBodyVerdict bytes Never = NeverBecomeBody bytes
 IsBodyVerdict bytes (Open count) = IsOpenUntil bytes count
@@ -31,8 +31,7 @@ IsBodyVerdict bytes (Whole layout) = Describes layout bytes × HasCheckByte byte
 abbrev pub HasPreamble : List ℕ → Type 0
 HasPreamble held = (2 ≤ length held) × (slice_index held 0 ≡ 255) × (slice_index held 1 ≡ 255)
 
--- So it is said of bytes from their first preamble byte on: a lone one is open, and bytes that begin otherwise never become a
--- frame.
+-- The verdict on bytes from their first preamble byte on: a lone one is open, and bytes that begin otherwise never become a frame.
 abbrev pub IsVerdict : List ℕ → Verdict → Type 0
 IsVerdict held Never =
     (slice_index held 0 ≢ 255) ⊎ ((1 < length held) × (slice_index held 1 ≢ 255)) ⊎ NeverBecomeBody (drop 2 held)

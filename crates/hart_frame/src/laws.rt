@@ -57,7 +57,7 @@ pub fn every_list_has_frames()
     ensures { (chars : List Character) (from : ℕ) → (frames : List Found) × AreFrames chars from frames }
 {}
 
-/// A message that is heard without faults has its frame alone, and nothing has none.
+/// A message with at least two preamble bytes, heard without faults, has its frame alone; an empty list has none.
 pub fn messages_have_their_frame_alone()
     ensures message { (frame : FrameParts) (preambles : ℕ) (bytes : List ℕ) → 2 ≤ preambles → IsMessage frame preambles bytes
         → AreFrames (faultless bytes) 0 (record { start = preambles; stop = length bytes; frame = frame } ∷ []) }

@@ -1,4 +1,4 @@
--- Lists that are filled in room that was reserved for them.
+-- Lists that are filled in room that was reserved for them (own profile).
 use Rattle.std.specs.Prelude.{ℕ, ◌≤◌, List}
 use denote.Memory.{lone}
 use denote.RattleType.{RattleType}
@@ -9,7 +9,6 @@ pub record Filled (T : Type 0) : Type 0 where
   pub items : List T
   pub room : ℕ
 
--- Items of a type are small if each takes 512 bytes at most, so that room for a number of them is refused only if about as
--- many bytes are.
+-- Items of a type are small if each takes 512 bytes at most.
 abbrev pub AreSmall : RattleType → Type 0
 AreSmall T = size (lone T.mir) ≤ 512

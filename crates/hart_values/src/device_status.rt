@@ -9,7 +9,7 @@ impl DeviceStatus {
     /// The configuration has changed since this master last cleared the bit.
     pub const CONFIGURATION_CHANGED: u8 = 0x40;
 
-    /// The device has started anew since this master's last request.
+    /// The device was restarted, and this is its first reply with a response code to this master since.
     pub const COLD_START: u8 = 0x20;
 
     /// More status can be read by Command 48.

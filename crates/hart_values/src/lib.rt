@@ -14,8 +14,8 @@
 //! assert_eq!(rt; tag.as_bytes(), [0x41, 0x53, 0x50, 0xB7, 0x1C, 0x31].as_slice());
 //! ```
 //!
-//! The program `hart` itself calls neither [`Status`], nor [`HartDate::is_set`], nor what reads and writes the text of a
-//! [`PackedText`]: these are for whoever shows replies to a person with this library.
+//! The program `hart` itself calls neither [`Status::read`], nor [`HartDate::is_set`], nor [`PackedText::from_text`]: these are
+//! for whoever shows replies to a person, or writes a text, with this library.
 //!
 //! No call of this crate takes memory.
 #![tactic(auto)]

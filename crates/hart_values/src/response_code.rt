@@ -37,7 +37,7 @@ impl ResponseCode {
     /// The configuration change counter that Command 38 names is not the device's (own profile).
     pub const COUNTER_MISMATCH: ResponseCode = ResponseCode { value: 9 };
 
-    /// The date of Command 18 is no date of the calendar (own profile).
+    /// The date of Command 18 is not in the calendar, and not the three zero bytes of a date that is not set (own profile).
     pub const INVALID_DATE: ResponseCode = ResponseCode { value: 9 };
 
     /// The loop current mode of Command 6 is neither 0 nor 1 (own profile).

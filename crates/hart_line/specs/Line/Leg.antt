@@ -1,4 +1,4 @@
--- What arrives in a leg, by the frame that was sent in it, for private calls alone.
+-- What arrives in a leg, by the frame that was sent in it, for private calls alone (own profile).
 use Rattle.std.specs.Prelude.{◌≡◌, ℕ, ◌≤◌, List, Option, None, Some}
 use Rattle.hart_frame.specs.Body.{IsBody}
 use Rattle.hart_frame.specs.Character.{Character}

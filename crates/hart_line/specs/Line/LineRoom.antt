@@ -1,4 +1,4 @@
--- The room on the line, for private calls alone.
+-- The room on the line, for private calls alone (own profile).
 use Rattle.std.specs.Prelude.{◌≡◌, ◌≤◌, ◌+◌, List, [], ◌∷◌, count_by, length}
 use Rattle.hart_line.specs.Line.LineState.{LineState}
 use Rattle.hart_line.specs.Line.Needs.{is_submission, most_spoken}

@@ -1,4 +1,4 @@
--- The line as one value, as the world of a script has it, for private calls alone.
+-- The line as one value, as the world of a script has it, for private calls alone (own profile).
 use Rattle.std.specs.Prelude.{◌≡◌, ℕ, ◌≤◌, List, length, Some}
 use Rattle.hart_values.specs.declared.master_id.MasterId.{MasterId}
 use Rattle.hart_values.specs.EachMaster.{of_master}

@@ -1,4 +1,4 @@
--- The two masters of a line, as the world of a script has them, for private calls alone.
+-- The two masters of a line, as the world of a script has them, for private calls alone (own profile).
 use Rattle.std.specs.Prelude.{◌≡◌, ℕ, ◌+◌, List, slice_set, Option, None, Some}
 use Rattle.hart_values.specs.declared.address.Address.{Address}
 use Rattle.hart_values.specs.declared.master_id.MasterId.{MasterId}

@@ -60,7 +60,7 @@ abbrev pub sent_by : MasterId → Option InHand → Option SpokenFrame
 sent_by who None = None
 sent_by who (Some held) = Some (spoken_request who held)
 
--- The device sends its answer to what it is brought back after as many preamble bytes as its identity says.
+-- What the device sends back is its answer to what it was brought, after as many preamble bytes as its identity says.
 abbrev pub sent_back : Start → World → Brought → Option SpokenFrame
 sent_back start world arrived = spoken_by Device start.device.identity.response_preambles
     (answer_to (state_of start.device world) start.process arrived)

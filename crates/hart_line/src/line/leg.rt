@@ -30,6 +30,7 @@ pub fn arrived_in<'a>(
         → IsUndetected heard.now said) }
     ensures leg { IfErr result (λ damage. damage.leg ≡ leg) }
 {
+    // No-op: its contract is used below.
     messages_have_their_frame_alone();
     match heard {
         Heard::Clean => Ok(sent),
@@ -77,6 +78,7 @@ pub fn answer_in<S: RegisterStore>(
         → IsUndetected up.now said) }
     ensures leg { IfErr result (λ damage. damage.leg ≡ Up) }
 {
+    // No-op: its contract is used below.
     messages_have_their_frame_alone();
     match up {
         Heard::Clean => match sent {
