@@ -1,9 +1,9 @@
 #!/bin/sh
 # Runs each call of the built program again and again, and refuses one allocation each time: the first, the second, and so
 # on. A run ends with `out of memory` and a prefix of whole lines written: with status 2 if the growth was for the words, of which
-# clap has most, and with 1 if it was one of the call. Of its own a call has as many as its reservations, whatever the length of
-# its input, and `hart dump` and `hart encode` have none. Only before clap has the words a run may do without a growth. That it
-# succeeds with ample memory is the last run, in which none is left to refuse.
+# clap has most, and with 1 if it was one of the call. Of its own a call has as many as its reservations, of which a script has one
+# more for each word of characters, and `hart dump` and `hart encode` have none. Only before clap has the words a run may do
+# without a growth. That it succeeds with ample memory is the last run, in which none is left to refuse.
 #
 # Usage: tools/refused-growths.sh [PROGRAM]; PROGRAM is the ./hart of the repository if absent. It needs cc.
 set -eu
