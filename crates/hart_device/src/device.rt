@@ -1,4 +1,4 @@
-ghost use Rattle.std.specs.Prelude.{◌≡◌, ◌≤◌, false, length, IsSome, IsTrue, IfSome, MatchOption, None, Ok, ◌↔◌};
+ghost use Rattle.std.specs.Prelude.{◌≡◌, ◌≤◌, ◌==◌, if◌then◌else◌, false, length, IsSome, IsTrue, IfSome, MatchOption, None, Ok, ◌↔◌};
 ghost use Rattle.hart_values.specs.EachMaster.{of_master};
 ghost use Rattle.hart_frame.specs.Message.{IsPreambleCount};
 ghost use Rattle.hart_commands.specs.Registers.{AreValid};
@@ -6,7 +6,7 @@ ghost use Rattle.hart_commands.specs.ReplyData.{reply_payload};
 ghost use Rattle.hart_device.specs.Answer.{answer_of, asked_effect, is_addressed, is_answered, is_answered_with, is_paired};
 ghost use Rattle.hart_device.specs.Answer.{after_command, names_another, reply_of, reply_with, state_after};
 ghost use Rattle.hart_device.specs.Delivery.{Brings, Brought, answer_to, state_after_delivery};
-ghost use Rattle.hart_device.specs.Device.{after, for_both, new_device, restarted};
+ghost use Rattle.hart_device.specs.Device.{Nothing, after, for_both, new_device, restarted};
 ghost use Rattle.hart_device.specs.Garbled.{HasGarbled, garbled_reply};
 ghost use Rattle.hart_device.specs.Values.{values_of};
 ghost use Rattle.hart_device.specs.declared.garbled.GarbledRequest.{GarbledRequest};
@@ -240,11 +240,7 @@ impl<S: RegisterStore> Device<S> {
         if !self.answers(frame, &reading, code) {
             return false;
         }
-        if code == ResponseCode::SUCCESS
-            && let Ok(request) = &reading
-        {
-            self.execute(frame.master(), request);
-        }
+        self.carry_out(frame.master(), &reading, code);
         self.write_payload(frame, process, &reading, code, payload);
         self.cold_start.set(frame.master(), false);
         true
@@ -299,6 +295,22 @@ impl<S: RegisterStore> Device<S> {
                 self.registers.get(Register::LongTag) != long_tag.as_slice()
             }
             _ => false,
+        }
+    }
+
+    /// Does what data ask that are read so and have this code.
+    fn carry_out(
+        &mut self,
+        master: MasterId,
+        reading: &Result<Request, ResponseCode>,
+        code: ResponseCode,
+    )
+        ensures { self.new ≡ after master (if code == 0 then asked_effect reading.now else Nothing) self.old }
+    {
+        if code == ResponseCode::SUCCESS
+            && let Ok(request) = reading
+        {
+            self.execute(master, request);
         }
     }
 
