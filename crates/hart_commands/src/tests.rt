@@ -47,12 +47,12 @@ const REQUESTS: &[(u8, &[u8], &[u8])] = &[
 
 #[test]
 fn requests_are_read_and_written(rt: HostRuntime) -> Result<(), Fail> {
-    for (command, bytes, want) in REQUESTS {
+    for (row, (command, bytes, want)) in REQUESTS.iter().enumerate() {
         let request = Request::read(*command, bytes)?;
         let mut data = Payload::new();
         request.write(&mut data);
-        assert_eq!(rt; request.command(), *command, "of {bytes:?}");
-        assert_eq!(rt; data.as_slice(), *want, "of {command} with {bytes:?}");
+        assert_eq!(rt; request.command(), *command, "of row {row}");
+        assert_eq!(rt; data.as_slice(), *want, "of row {row}");
     }
     Ok(())
 }
@@ -83,11 +83,11 @@ const REFUSED: &[(u8, &[u8], u8)] = &[
 
 #[test]
 fn bad_data_are_refused(rt: HostRuntime) {
-    for (command, bytes, want) in REFUSED {
+    for (row, (command, bytes, want)) in REFUSED.iter().enumerate() {
         let code = Request::read(*command, bytes)
             .err()
             .map(|code| code.value());
-        assert_eq!(rt; code, Some(*want), "of {command} with {bytes:?}");
+        assert_eq!(rt; code, Some(*want), "of row {row}");
     }
 }
 
@@ -162,11 +162,8 @@ const NO_REPLIES: &[(u8, &[u8])] = &[
 
 #[test]
 fn other_payloads_are_no_replies(rt: HostRuntime) {
-    for (command, payload) in NO_REPLIES {
-        assert!(rt;
-            Reply::read(*command, payload).is_none(),
-            "of {command} with {payload:?}"
-        );
+    for (row, (command, payload)) in NO_REPLIES.iter().enumerate() {
+        assert!(rt; Reply::read(*command, payload).is_none(), "of row {row}");
     }
 }
 
@@ -230,8 +227,8 @@ const NAMED: &[(Register, Option<&[u8]>)] = &[
 fn a_write_names_its_registers(rt: HostRuntime) -> Result<(), Fail> {
     let request = Request::read(18, &TAG)?;
     let overwrite = writes_of(&request).ok_or("a write")?;
-    for (register, want) in NAMED {
-        assert_eq!(rt; overwrite.get(*register), *want, "of {register:?}");
+    for (row, (register, want)) in NAMED.iter().enumerate() {
+        assert_eq!(rt; overwrite.get(*register), *want, "of row {row}");
     }
     Ok(())
 }

@@ -73,24 +73,16 @@ fn asked(device: &mut Device<FieldRegisters>, command: u8, data: &[u8]) -> Resul
 
 #[test]
 fn requests_are_answered(rt: HostRuntime) -> Result<(), Fail> {
-    for (command, data, payload) in BENCH {
+    for (row, (command, data, payload)) in BENCH.iter().enumerate() {
         let mut device = bench_device();
         let reply = asked(&mut device, *command, data)?;
-        assert_eq!(rt;
-            reply.payload(),
-            *payload,
-            "of command {command} with {data:?}"
-        );
+        assert_eq!(rt; reply.payload(), *payload, "of row {row}");
     }
-    for (command, data, payload) in PROTECTED {
+    for (row, (command, data, payload)) in PROTECTED.iter().enumerate() {
         let mut device = bench_device();
         device.protect(true);
         let reply = asked(&mut device, *command, data)?;
-        assert_eq!(rt;
-            reply.payload(),
-            *payload,
-            "of command {command} with {data:?}"
-        );
+        assert_eq!(rt; reply.payload(), *payload, "of row {row}");
         assert!(rt; device.counter() == 0 && device.is_protected());
     }
     Ok(())
@@ -182,8 +174,8 @@ const REFUSED: &[(IdentityParts, DeviceFault)] = &[
 #[test]
 fn identities_are_refused(rt: HostRuntime) {
     assert!(rt; Identity::new(PARTS).is_ok());
-    for (parts, fault) in REFUSED {
-        assert_eq!(rt; Identity::new(*parts).err(), Some(*fault), "of {parts:?}");
+    for (row, (parts, fault)) in REFUSED.iter().enumerate() {
+        assert_eq!(rt; Identity::new(*parts).err(), Some(*fault), "of row {row}");
     }
 }
 

@@ -62,10 +62,10 @@ fn is_read_as(frame: &Frame, read: &Read) -> bool {
 
 #[test]
 fn bodies_are_read(rt: HostRuntime) -> Result<(), Fail> {
-    for (bytes, read) in BODIES {
+    for (row, (bytes, read)) in BODIES.iter().enumerate() {
         let (frame, len) = decode(bytes)?;
-        assert!(rt; len == read.0 && is_read_as(&frame, read), "of {bytes:?}");
-        assert_eq!(rt; frame.body().as_slice(), &bytes[..read.0], "of {bytes:?}");
+        assert!(rt; len == read.0 && is_read_as(&frame, read), "of row {row}");
+        assert_eq!(rt; frame.body().as_slice(), &bytes[..read.0], "of row {row}");
     }
     Ok(())
 }
@@ -100,8 +100,8 @@ const REFUSED: &[(&[u8], FrameFault)] = &[
 
 #[test]
 fn bodies_are_refused(rt: HostRuntime) {
-    for (bytes, want) in REFUSED {
-        assert_eq!(rt; decode(bytes).err(), Some(*want), "of {bytes:?}");
+    for (row, (bytes, want)) in REFUSED.iter().enumerate() {
+        assert_eq!(rt; decode(bytes).err(), Some(*want), "of row {row}");
     }
 }
 

@@ -66,7 +66,7 @@ fn address_of(bytes: &[u8]) -> Result<Address, Fail> {
 
 #[test]
 fn one_request_is_taken(rt: HostRuntime) -> Result<(), Fail> {
-    for (address, command, data, want) in SUBMISSIONS {
+    for (row, (address, command, data, want)) in SUBMISSIONS.iter().enumerate() {
         let address = address_of(address)?;
         let mut master = Master::new(MasterId::Secondary, 3, 41)?;
         let submitted = master.submit(
@@ -74,7 +74,7 @@ fn one_request_is_taken(rt: HostRuntime) -> Result<(), Fail> {
             Request::read(*command, data).ok().ok_or("bad data")?,
         );
         let fault = submitted.err().map(|rejected| rejected.fault);
-        assert_eq!(rt; fault, *want, "of {command} to {address:?}");
+        assert_eq!(rt; fault, *want, "of row {row}");
         assert_eq!(rt; master.is_idle(), want.is_some());
         if want.is_none() {
             let second = master.submit(address_of(POLLING)?, Request::ReadPrimary);
@@ -200,7 +200,7 @@ fn heard(first: &[u8], second: &[u8]) -> Option<[Char; 80]> {
 
 #[test]
 fn replies_are_accepted(rt: HostRuntime) -> Result<(), Fail> {
-    for (address, command, data, first, second, want) in HEARD {
+    for (row, (address, command, data, first, second, want)) in HEARD.iter().enumerate() {
         let chars = heard(first, second).ok_or("characters")?;
         let mut master = Master::new(MasterId::Primary, 1, 33)?;
         let request = Request::read(*command, data).ok().ok_or("bad data")?;
@@ -216,7 +216,7 @@ fn replies_are_accepted(rt: HostRuntime) -> Result<(), Fail> {
             }
             None => MasterEvent::Nothing,
         };
-        assert_eq!(rt; master.hear(&chars), event, "of {first:?} and {second:?}");
+        assert_eq!(rt; master.hear(&chars), event, "of row {row}");
         assert_eq!(rt; master.is_idle(), want.is_some());
     }
     let mut master = Master::new(MasterId::Primary, 1, 33)?;
@@ -255,10 +255,10 @@ const IDENTITIES: &[(u8, &[u8], Option<(u16, u32)>)] = &[
 
 #[test]
 fn identities_give_addresses(rt: HostRuntime) -> Result<(), Fail> {
-    for (command, payload, want) in IDENTITIES {
+    for (row, (command, payload, want)) in IDENTITIES.iter().enumerate() {
         let reply = Reply::read(*command, payload).ok_or("a reply")?;
         let want = want.and_then(|(expanded_type, id)| Address::unique(expanded_type, id).ok());
-        assert_eq!(rt; unique_of(&reply), want, "of {payload:?}");
+        assert_eq!(rt; unique_of(&reply), want, "of row {row}");
     }
     Ok(())
 }

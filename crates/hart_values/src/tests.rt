@@ -106,9 +106,9 @@ const DATES: &[([u8; 3], bool)] = &[
 
 #[test]
 fn dates_are_those_of_the_calendar(rt: HostRuntime) {
-    for (bytes, good) in DATES {
+    for (row, (bytes, good)) in DATES.iter().enumerate() {
         let date = HartDate::from_bytes(*bytes);
-        assert_eq!(rt; date.is_ok(), *good, "of {bytes:?}");
+        assert_eq!(rt; date.is_ok(), *good, "of row {row}");
     }
 }
 

@@ -3,7 +3,7 @@ use super::*;
 use hart_values::{LoopMode, PackedText, PollingAddress};
 
 /// Whom a request is for.
-#[derive(Clone, Copy, Debug)]
+#[derive(Clone, Copy)]
 pub(super) enum Asked {
     /// The bench device, at its own address.
     Own,
@@ -33,7 +33,7 @@ pub(super) fn request_to(
 }
 
 /// What the registers of the bench device hold.
-#[derive(Clone, Copy, Debug)]
+#[derive(Clone, Copy)]
 enum Values {
     /// What they begin with.
     New,
@@ -116,18 +116,14 @@ const ROWS: &[Row] = &[
 
 #[test]
 fn who_is_asked_answers(rt: HostRuntime) -> Result<(), Fail> {
-    for (values, asked, command, data, payload) in ROWS {
+    for (row, (values, asked, command, data, payload)) in ROWS.iter().enumerate() {
         let frame = request_to(*asked, MasterId::Secondary, *command, data)?;
         for protected in [false, true] {
             let mut device = device_of(*values)?;
             device.protect(protected);
             let reply = device.receive(&frame, &bench::process());
             let replied = reply.as_ref().map(|reply| reply.payload());
-            assert_eq!(rt;
-                replied,
-                *payload,
-                "of command {command} to {asked:?} with {data:?}"
-            );
+            assert_eq!(rt; replied, *payload, "of row {row}");
             assert!(rt; reply.is_none_or(|reply| reply.address() == frame.address()));
             assert_eq!(rt; device.counter(), 0);
         }

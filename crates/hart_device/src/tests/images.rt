@@ -71,11 +71,11 @@ const BAD_LENGTHS: &[(&[u8], DeviceFault)] = &[
 #[test]
 fn bad_images_are_refused(rt: HostRuntime) {
     assert!(rt; image_fault(&IMAGE_1).is_none() && image_fault(&IMAGE_2).is_none());
-    for (place, bytes, fault) in BAD_IMAGES {
+    for (row, (place, bytes, fault)) in BAD_IMAGES.iter().enumerate() {
         let first = image_fault(&image_with(IMAGE_1, *place, bytes));
-        assert_eq!(rt; first, Some(*fault), "of version 1, {bytes:?} at {place}");
+        assert_eq!(rt; first, Some(*fault), "of version 1, row {row}");
         let second = image_fault(&image_with(IMAGE_2, *place, bytes));
-        assert_eq!(rt; second, Some(*fault), "of version 2, {bytes:?} at {place}");
+        assert_eq!(rt; second, Some(*fault), "of version 2, row {row}");
     }
     for flags in [0x08, 0x80, 0xFF] {
         let bad = Some(DeviceFault::BadField);
@@ -90,8 +90,8 @@ fn bad_images_are_refused(rt: HostRuntime) {
             "of {flags}"
         );
     }
-    for (bytes, fault) in BAD_LENGTHS {
-        assert_eq!(rt; image_fault(bytes), Some(*fault), "of {bytes:?}");
+    for (row, (bytes, fault)) in BAD_LENGTHS.iter().enumerate() {
+        assert_eq!(rt; image_fault(bytes), Some(*fault), "of length row {row}");
     }
 }
 
@@ -137,9 +137,9 @@ fn goes_on<S: RegisterStore + Drop>(row: &GoesOn) -> Result<bool, Fail> {
 
 #[test]
 fn devices_go_on_from_their_images(rt: HostRuntime) -> Result<(), Fail> {
-    for row in GOES_ON {
-        assert!(rt; goes_on::<FieldRegisters>(row)?, "of {row:?}");
-        assert!(rt; goes_on::<ImageRegisters>(row)?, "of {row:?}");
+    for (number, row) in GOES_ON.iter().enumerate() {
+        assert!(rt; goes_on::<FieldRegisters>(row)?, "of row {number}");
+        assert!(rt; goes_on::<ImageRegisters>(row)?, "of row {number}");
     }
     Ok(())
 }
@@ -194,16 +194,16 @@ fn images_of_both_versions_are_gone_on_from(rt: HostRuntime) -> Result<(), Fail>
             "of group {group}"
         );
     }
-    for (place, bytes, text) in MIGRATED {
+    for (row, (place, bytes, text)) in MIGRATED.iter().enumerate() {
         let image = image_with(IMAGE_1, *place, bytes);
         let after = migrated(&image, text);
         assert!(rt;
             has_image::<FieldRegisters>(&image, &after)?,
-            "of {bytes:?} at {place}"
+            "of row {row}"
         );
         assert!(rt;
             has_image::<ImageRegisters>(&image, &after)?,
-            "of {bytes:?} at {place}"
+            "of row {row}"
         );
     }
     Ok(())

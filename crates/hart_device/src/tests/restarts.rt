@@ -76,11 +76,11 @@ fn restarted_device(rt: &impl Abort, protected: bool) -> Result<Device<FieldRegi
 
 #[test]
 fn a_cold_start_is_shown_once_to_each_master(rt: HostRuntime) -> Result<(), Fail> {
-    for (protected, asked, command, data, status) in FIRST_REPLIES {
+    for (row, (protected, asked, command, data, status)) in FIRST_REPLIES.iter().enumerate() {
         let mut device = restarted_device(&rt, *protected)?;
         for shown in [*status, [status[0], status[1] & 0x40]] {
             let bytes = status_bytes(&mut device, MasterId::Primary, *asked, *command, data)?;
-            assert_eq!(rt; bytes, Some(shown), "of command {command} with {data:?}");
+            assert_eq!(rt; bytes, Some(shown), "of row {row}");
         }
         let other = status_bytes(&mut device, MasterId::Secondary, Asked::Own, 7, &[])?;
         assert_eq!(rt; other, Some([0x00, status[1]]));

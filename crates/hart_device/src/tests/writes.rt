@@ -4,7 +4,6 @@ use super::*;
 use hart_commands::Register;
 
 /// A command and its data, the payload of the reply, and then the counter and for which masters the configuration has changed.
-#[derive(Debug)]
 struct Step<'a> {
     command: u8,
     data: &'a [u8],
@@ -84,12 +83,12 @@ fn writes_are_counted(rt: HostRuntime) -> Result<(), Fail> {
         let _reply = device.receive(&write, &bench::process()).ok_or("silence")?;
     }
     assert_eq!(rt; device.counter(), 0);
-    for step in STEPS {
+    for (place, step) in STEPS.iter().enumerate() {
         let reply = asked(&mut device, step.command, step.data)?;
-        assert_eq!(rt; reply.payload(), step.payload, "after {step:?}");
-        assert_eq!(rt; device.counter(), step.counter, "after {step:?}");
+        assert_eq!(rt; reply.payload(), step.payload, "after step {place}");
+        assert_eq!(rt; device.counter(), step.counter, "after step {place}");
         let changed = [MasterId::Primary, MasterId::Secondary].map(|master| device.changed(master));
-        assert_eq!(rt; changed, step.changed, "after {step:?}");
+        assert_eq!(rt; changed, step.changed, "after step {place}");
     }
     for command in [21, 22] {
         let former = request_to(Asked::All, MasterId::Primary, command, &[0x20; 32])?;

@@ -98,11 +98,11 @@ fn heard(row: &[u16]) -> Option<[Char; 300]> {
 
 #[test]
 fn the_first_frame_is_found(rt: HostRuntime) -> Result<(), Fail> {
-    for (row, count, from, want) in HEARD {
-        let chars = heard(row).ok_or("characters")?;
+    for (row, (bytes, count, from, want)) in HEARD.iter().enumerate() {
+        let chars = heard(bytes).ok_or("characters")?;
         let chars = chars.get(..*count).ok_or("at most 300 characters")?;
         let places = first_frame(chars, *from).map(|found| (found.start, found.stop));
-        assert_eq!(rt; places, *want, "of {row:?} from {from}");
+        assert_eq!(rt; places, *want, "of row {row}");
     }
     Ok(())
 }
@@ -118,14 +118,14 @@ const DELIVERIES: &[(&[u16], &str)] = &[
 
 #[test]
 fn a_lone_frame_is_given(rt: HostRuntime) -> Result<(), Fail> {
-    for (row, want) in DELIVERIES {
-        let chars = heard(row).ok_or("characters")?;
-        let text = match lone_frame(&chars[..row.len()]) {
+    for (row, (bytes, want)) in DELIVERIES.iter().enumerate() {
+        let chars = heard(bytes).ok_or("characters")?;
+        let text = match lone_frame(&chars[..bytes.len()]) {
             LoneFrame::NoFrame => format!(in rt.alloc(); "none")?,
             LoneFrame::Several => format!(in rt.alloc(); "several")?,
             LoneFrame::Alone(found) => format!(in rt.alloc(); "{} to {}", found.start, found.stop)?,
         };
-        assert_eq!(rt; text.as_str(), *want, "of {row:?}");
+        assert_eq!(rt; text.as_str(), *want, "of row {row}");
     }
     Ok(())
 }

@@ -220,14 +220,14 @@ fn push_run(scanner: &mut Scanner, chars: &[Char], size: usize) -> Option<usize>
 
 #[test]
 fn a_scanner_gives_the_frames(rt: HostRuntime) -> Result<(), Fail> {
-    for (parts, want) in HEARD {
+    for (row, (parts, want)) in HEARD.iter().enumerate() {
         let chars = heard(rt.alloc(), parts)?;
-        assert_eq!(rt; by_character(&chars), Some(*want), "of {parts:?}");
+        assert_eq!(rt; by_character(&chars), Some(*want), "of row {row}");
         for size in RUNS {
             assert_eq!(rt;
                 by_runs(&chars, *size),
                 Some(*want),
-                "of {parts:?} by {size}"
+                "of row {row} by {size}"
             );
         }
     }
@@ -291,21 +291,21 @@ fn bytes_of(alloc: Global, chars: &[Char]) -> Result<Vec<u8>, Fail> {
 
 #[test]
 fn noise_is_passed(rt: HostRuntime) -> Result<(), Fail> {
-    for (parts, want) in NOISE {
+    for (row, (parts, want)) in NOISE.iter().enumerate() {
         let chars = heard(rt.alloc(), parts)?;
         let stop = noise_stop(&chars, want);
-        assert!(rt; stop.is_some(), "of {parts:?}");
-        assert_eq!(rt; by_character(&chars), stop, "of {parts:?}");
+        assert!(rt; stop.is_some(), "of row {row}");
+        assert_eq!(rt; by_character(&chars), stop, "of row {row}");
         for size in RUNS {
-            assert_eq!(rt; by_runs(&chars, *size), stop, "of {parts:?} by {size}");
+            assert_eq!(rt; by_runs(&chars, *size), stop, "of row {row} by {size}");
         }
         let bytes = bytes_of(rt.alloc(), &chars)?;
         let mut scanner = Scanner::new();
-        assert_eq!(rt; scanner.push_run(&bytes), bytes.len(), "of {parts:?}");
+        assert_eq!(rt; scanner.push_run(&bytes), bytes.len(), "of row {row}");
         assert_eq!(rt;
             last_taken(&mut scanner, &chars, 0),
             stop,
-            "of {parts:?} at once"
+            "of row {row} at once"
         );
     }
     Ok(())
