@@ -4,6 +4,7 @@ pub mod StateLemmas
 pub mod ArrivalLemmas
 pub mod LegLemmas
 pub mod MastersLemmas
+pub mod ReturnLemmas
 pub mod TurnLemmas
 pub mod EventLemmas
 pub mod RunLemmas

@@ -1,15 +1,16 @@
 //! The HART line: a device and its two masters, and what an event does to them.
-ghost use Rattle.std.specs.Prelude.{◌≡◌, ◌+◌, ◌<◌, ◌≤◌, [], ◌∷◌, IfErr, OnOk, length};
+ghost use Rattle.std.specs.Prelude.{◌≡◌, ◌+◌, ◌<◌, ◌≤◌, [], ◌∷◌, IfErr, IfOk, OnOk, Option, length};
 ghost use Rattle.std.specs.Option.{option_copied};
 ghost use Rattle.hart_values.specs.declared.master_id.MasterId.{MasterId};
 ghost use Rattle.hart_values.specs.EachMaster.{of_master};
 ghost use Rattle.hart_commands.specs.RequestData.{IsRequest};
 ghost use Rattle.hart_frame.specs.Message.{IsPreambleCount};
+ghost use Rattle.hart_line.specs.Line.Leg.{IsSent, IsUndetectedIn, Returns};
 ghost use Rattle.hart_line.specs.Line.LineRoom.{HasRoomFor, LeavesRoom};
 ghost use Rattle.hart_line.specs.Line.LineState.{MarksWithin, Stands, Stepped};
 ghost use Rattle.hart_line.specs.Line.Faults.{HasUndetected};
 ghost use Rattle.hart_line.specs.Line.Promises.{AreWellMade};
-ghost use Rattle.hart_line.specs.Line.Spoken.{Speaks, frame_if, party_of, spoken_by};
+ghost use Rattle.hart_line.specs.Line.Spoken.{SpokenFrame, Speaks, frame_if, party_of, spoken_by};
 ghost use Rattle.hart_line.specs.Line.Step.{submission_fault, submitted};
 ghost use Rattle.hart_line.specs.Line.World.{Start, World};
 ghost use Rattle.hart_line.specs.declared.event.LineEvent.TheVariants.{Noise, Submit, Turn};
@@ -176,9 +177,9 @@ impl<S: RegisterStore> Line<S> {
         let is_sent = self.masters.send(who, &mut self.request);
         let request = frame_if(is_sent, &self.request);
         self.spoken.speak(party_of(who), MASTER_PREAMBLES, request);
-        let is_answered = answer_in(&mut self.device, up, request, process, &mut self.reply)?;
-        let answer = speak_answer(&mut self.spoken, &self.device, is_answered, &self.reply);
-        let returned = arrived_in(Leg::Down, down, answer)?;
+        let spoken = &mut self.spoken;
+        let reply = &mut self.reply;
+        let returned = returned_in(&mut self.device, spoken, up, down, request, process, reply)?;
         if !is_sent {
             self.masters.overhear(returned);
             return Ok(());
@@ -240,6 +241,33 @@ fn speak_answer<'a, S: RegisterStore>(
     let answer = frame_if(is_answered, reply);
     spoken.speak(Party::Device, device.response_preambles(), answer);
     answer
+}
+
+/// What returns of a turn: the device hears what goes up and speaks its answer, if there is one, of which this comes down.
+///
+/// # Errors
+///
+/// The leg, if its damage is undetected.
+fn returned_in<'a, S: RegisterStore>(
+    device: &mut Device<S>,
+    spoken: &mut Filling<Spoken>,
+    up: &Heard,
+    down: &Heard,
+    request: Option<&Frame>,
+    process: &Process,
+    reply: &'a mut Frame,
+) -> Result<Option<&'a Frame>, Undetected>
+    requires { length spoken.old.items < spoken.old.room }
+    ensures returns { IfOk result (λ returned. (said : Option SpokenFrame) → IsSent (option_copied request.entry) said → Returns up.now
+        down.now said device.old process.now (option_copied returned) device.new spoken.old.items spoken.new.items) }
+    ensures undetected { IfErr result (λ damage. (said : Option SpokenFrame) → IsSent (option_copied request.entry) said
+        → IsUndetectedIn up.now down.now said device.old process.now damage.leg) }
+    ensures one { OnOk result (length spoken.new.items ≤ length spoken.old.items + 1) }
+    ensures room { OnOk result (spoken.new.room ≡ spoken.old.room) }
+{
+    let is_answered = answer_in(device, up, request, process, reply)?;
+    let answer = speak_answer(spoken, device, is_answered, reply);
+    arrived_in(Leg::Down, down, answer)
 }
 
 /// What a HART line has if no frame was written yet.

@@ -10,6 +10,7 @@ use Rattle.hart_device.specs.Answer.{asked_effect, code_of, is_answered, reading
 use Rattle.hart_device.specs.Device.{DeviceState, Effect, Executes, Nothing, Resets, after, after_reply}
 use Rattle.hart_device.specs.Delivery.{Brought, Garbled, NoMessage, OneFrame, state_after_delivery}
 use Rattle.hart_line.specs.Line.Damage.{Arrives, Reaches}
+use Rattle.hart_line.specs.Line.Leg.{Returns}
 use Rattle.hart_line.specs.Line.LineState.{MarksWithin, Stands, Stepped}
 use Rattle.hart_line.specs.Line.Masters.{AreHeld, Concludes}
 use Rattle.hart_line.specs.Line.Spoken.{AreSpoken, Speaks}
@@ -63,6 +64,28 @@ silent_step start world who up down arrived returned in_hand reaches returns = r
   accepts = rw in_hand refl;
   next_is = rw in_hand refl;
 }
+
+-- With nothing in hand the line stands for the world that the turn leads to.
+pub silent_turn : (start : Start) (world : World) (who : MasterId) (up down : Heard) (returned : Option FrameParts) (device : DeviceState)
+    (masters : Masters) (outcomes : List Outcome) (spoken spoken' : List Spoken) (outcomes_room spoken_room : ℕ)
+    → of_master who world.hands ≡ None
+    → Returns up down None (state_of start.device world) start.process returned device spoken spoken'
+    → AreHeld start.retries world.hands masters → outcomes ≡ world.outcomes → AreSpoken world.spoken spoken
+    → Stepped start world (Turn who up down) (record {
+      device = device;
+      masters = masters;
+      outcomes = outcomes;
+      spoken = spoken';
+      outcomes_room = outcomes_room;
+      spoken_room = spoken_room;
+    })
+silent_turn start world who up down returned device masters outcomes spoken spoken' outcomes_room spoken_room in_hand r held same are =
+    record {
+      next = replied start world r.brought;
+      step = silent_step start world who up down r.brought returned in_hand r.reaches r.returns;
+      stands = replied_stands start world up r.brought device masters outcomes spoken spoken' outcomes_room spoken_room r.after_is
+          r.reaches held same are r.speaks;
+    }
 
 -- What an answer leaves is what its command leaves, but for the cold start bit of its master; silence leaves all.
 reply_leaves : (id : MasterId) (effect : Effect) (state : DeviceState)

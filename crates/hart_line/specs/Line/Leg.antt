@@ -9,9 +9,13 @@ use Rattle.hart_device.specs.Delivery.{Brought, BringsBy, answer_to, state_after
 use Rattle.hart_device.specs.Device.{DeviceState}
 use Rattle.hart_device.specs.declared.identity_parts.IdentityParts.{IdentityParts}
 use Rattle.hart_device.specs.declared.process.Process.{Process}
-use Rattle.hart_line.specs.Line.Damage.{IsDetected, Reaches}
-use Rattle.hart_line.specs.Line.Spoken.{SpokenFrame}
+use Rattle.hart_line.specs.Line.Damage.{Arrives, IsDetected, IsUndetected, Reaches}
+use Rattle.hart_line.specs.Line.Spoken.{SpokenFrame, Speaks, spoken_by}
 use Rattle.hart_line.specs.declared.event.Heard.{Heard}
+use Rattle.hart_line.specs.declared.fault.Leg.{Leg}
+use Rattle.hart_line.specs.declared.fault.Leg.TheVariants.{Up, Down, Noise}
+use Rattle.hart_line.specs.declared.line.report.Party.TheVariants as parties
+use Rattle.hart_line.specs.declared.line.report.Spoken.{Spoken}
 
 -- If this was sent, the damage of these characters is detected, and this arrives.
 pub record ArrivesAmong (chars : List Character) (sent arrived : Option FrameParts) : Type 0 where
@@ -63,3 +67,24 @@ abbrev pub IsSent : Option FrameParts → Option SpokenFrame → Type 0
 IsSent None said = said ≡ None
 IsSent (Some frame) None = ⊥
 IsSent (Some frame) (Some said) = IsSpokenOf frame said
+
+-- What the device speaks after what was brought: its answer, if there is one, after as many preamble bytes as its identity says.
+abbrev pub said_back : DeviceState → Process → Brought → Option SpokenFrame
+said_back device process brought = spoken_by parties.Device device.identity.response_preambles (answer_to device process brought)
+
+-- In a turn in which this was sent, the device is in this state after what it was brought; what it answers to that is spoken, and
+-- this returns of it.
+pub record Returns (up down : Heard) (sent : Option SpokenFrame) (device : DeviceState) (process : Process) (returned : Option FrameParts)
+    (after : DeviceState) (old new : List Spoken) : Type 0 where
+  pub brought : Brought
+  pub reaches : Reaches device.identity up sent brought
+  pub after_is : after ≡ state_after_delivery device brought
+  pub speaks : Speaks (said_back device process brought) old new
+  pub returns : Arrives down (said_back device process brought) returned
+
+-- In a turn in which this was sent, the damage of this leg is undetected: of what goes up or, if that is detected, of what comes down.
+abbrev pub IsUndetectedIn : Heard → Heard → Option SpokenFrame → DeviceState → Process → Leg → Type 0
+IsUndetectedIn up down sent device process Up = IsUndetected up sent
+IsUndetectedIn up down sent device process Down = (brought : Brought) × Reaches device.identity up sent brought
+    × IsUndetected down (said_back device process brought)
+IsUndetectedIn up down sent device process Noise = ⊥
