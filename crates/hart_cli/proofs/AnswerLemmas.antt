@@ -10,13 +10,9 @@ use Rattle.hart_device.specs.declared.identity_parts.IdentityParts.{IdentityPart
 use Rattle.hart_device.specs.declared.process.Process.{Process}
 use Rattle.hart_cli.specs.declared.fault.CliFault.{CliFault}
 use Rattle.hart_cli.specs.declared.input.InputEnd.TheVariants.{Ended}
-use Rattle.hart_cli.specs.Input.{Reads}
-use Rattle.hart_cli.specs.Items.{ReadsAs}
-use Rattle.hart_cli.specs.Stream.{Stream}
 use Rattle.hart_cli.specs.Input.{CameTo}
 use Rattle.hart_cli.specs.InputChars.{HasChars}
 use Rattle.hart_cli.specs.Answer.{IsAnswer, IsAnswerText, IsTextFor}
-use Rattle.hart_cli.specs.WholeInput.{WholeInput}
 use Rattle.hart_cli.proofs.DumpLemmas.{OneInput}
 use Rattle.hart_cli.proofs.MessageLineLemmas.{IsMessageLine-one, OneBody}
 
@@ -41,9 +37,9 @@ IsTextFor-one deliveries bodies device delivery xs ys p q =
 
 -- what a device answers has its text
 pub IsTextFor-heard : (delivery : List Character) (brought : Brought) (device : DeviceState) (process : Process)
-    (heard answer : Option FrameParts) (text : List ℕ) → process ≡ bench_process → Brings device.identity delivery brought
-    → heard ≡ answer_to device process brought → heard ≡ answer → IsAnswerText device answer text → IsTextFor device delivery text
-IsTextFor-heard delivery brought device process heard answer text same_process brings answers is has =
+    (answer : Option FrameParts) (text : List ℕ) → process ≡ bench_process → Brings device.identity delivery brought
+    → answer ≡ answer_to device process brought → IsAnswerText device answer text → IsTextFor device delivery text
+IsTextFor-heard delivery brought device process answer text same_process brings answers has =
     let same : answer ≡ answer_to device bench_process brought = cc in
     let P : Option FrameParts → Type 0 = λ a. IsAnswerText device a text in
     record { brought = brought; brings = brings; answered = subst P same has }
@@ -56,16 +52,6 @@ IsAnswer-one deliveries bodies inputs device input xs ys p q =
     (inputs input (CameTo Ended) p.delivery q.delivery None None (HasChars.all p.delivery p.reads) (HasChars.all q.delivery q.reads)).0 in
     let P : List Character → Type 0 = λ delivery. IsTextFor device delivery xs in
     IsTextFor-one deliveries bodies device q.delivery xs ys (subst P same p.text_for) q.text_for
-
--- the answer to an input that reads as its characters
-pub answer_read : (device : DeviceState) (reader reader_after : Stream) (input : List ℕ) (chars : List Character) (text : List ℕ)
-    → Reads reader reader_after input Ended → ReadsAs input chars → IsTextFor device chars text
-    → WholeInput reader reader_after (λ input. IsAnswer device input text)
-answer_read device reader reader_after input chars text read reads text_for = record {
-  input = input;
-  whole = read;
-  holds = record { delivery = chars; reads = reads; text_for = text_for };
-}
 
 -- a fault that is made of its cause alone
 pub made_of : {T : Type 0} (result : Result T CliFault) (cause : CliFault) → IsErrAnd result (λ fault. fault ≡ cause) → result ≡ Err cause

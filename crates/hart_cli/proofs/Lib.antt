@@ -16,3 +16,4 @@ mod MessageLineLemmas
 mod RunLemmas
 mod ScanInputLemmas
 mod SimLemmas
+mod SubcommandLemmas

@@ -89,3 +89,22 @@ pub record Calls (call : Call) (words : List Text) : Type 0 where
   pub rows : List Row
   pub named : subcommand_of hart_app words ≡ Some (name_of call, rows)
   pub values : GivesValues call rows
+
+-- For private calls alone: the command `hart` before it has its subcommands.
+abbrev pub hart_alone : App
+hart_alone =
+    let plain = new_app (codes "hart") in
+    let top = record plain.top {
+      no_binary_name = true;
+      has_version = true;
+      subcommand_required = true;
+      arg_required_else_help = true;
+    } in
+    record plain { top = top }
+
+-- The command `hart` with the three subcommands that read an input.
+abbrev pub reading_app : App
+reading_app =
+    let answer = with_subcommand hart_alone (image_app (codes "answer")).top in
+    let dump = with_subcommand answer (new_app (codes "dump")).top in
+    with_subcommand dump (image_app (codes "sim")).top

@@ -1,5 +1,5 @@
 //! `hart answer`: what the bench device answers to one delivery.
-ghost use Rattle.std.specs.Prelude.{◌≡◌, ℕ, List, [], MatchOption};
+ghost use Rattle.std.specs.Prelude.{◌≡◌, ◌<◌, ℕ, IfErr, IfOk, List, length};
 ghost use Rattle.std.specs.Option.{option_map};
 ghost use Rattle.hart_device.specs.Device.{DeviceState};
 ghost use Rattle.hart_cli.specs.Answer.{AnswerOutcome, IsAnswer, IsTextFor};
@@ -15,6 +15,7 @@ use crate::output::{message_line, write_all};
 use crate::stream::{Sink, Source};
 use hart_device::{Device, ImageRegisters, bench, deliveries_bring_one};
 use hart_frame::{Char, bodies_are_unambiguous};
+use hart_line::Filling;
 use std::alloc::Global;
 
 /// Reads a delivery as hex items, and writes what the bench device answers to it as one line of hex, or nothing if it is
@@ -55,7 +56,7 @@ pub fn one_answer()
 /// Reads a delivery, and writes what a device answers to it.
 fn answer_of<R: Source, W: Sink>(
     alloc: Global,
-    mut device: Device<ImageRegisters>,
+    device: Device<ImageRegisters>,
     reader: &mut R,
     writer: &mut W,
 ) -> Result<(), CliFault>
@@ -65,21 +66,38 @@ fn answer_of<R: Source, W: Sink>(
         result }
 {
     let input = read_whole(alloc, reader)?;
-    let delivery = read_chars(alloc, input)?;
-    let Some(line) = answer_line(&mut device, delivery.as_slice()) else {
-        return Ok(());
-    };
+    let line = answer_text(alloc, device, input)?;
     write_all(writer, line.as_slice())?;
     Ok(())
 }
 
-/// The line of what the device answers to a delivery, or `None` if it is silent.
-fn answer_line(device: &mut Device<ImageRegisters>, delivery: &[Char]) -> Option<HexLine>
-    ensures { MatchOption result (IsTextFor device.old delivery.now []) (IsTextFor device.old delivery.now) }
+/// The line of what a device answers to an input, or no text if it is silent.
+///
+/// # Errors
+///
+/// The fault of the input, or [`CliFault::Memory`] if memory for its characters is refused.
+fn answer_text(
+    alloc: Global,
+    mut device: Device<ImageRegisters>,
+    input: Filling<u8>,
+) -> Result<HexLine, CliFault>
+    requires spare { length input.items < input.room }
+    ensures text { IfOk result (IsAnswer device input.items) }
+    ensures fault { IfErr result (IsWholeTextFault input.items) }
+{
+    let delivery = read_chars(alloc, input)?;
+    Ok(answer_line(&mut device, delivery.as_slice()))
+}
+
+/// The line of what a device answers to a delivery, or no text if it is silent.
+fn answer_line(device: &mut Device<ImageRegisters>, delivery: &[Char]) -> HexLine
+    ensures { IsTextFor device.old delivery.now result }
 {
     // No-op: its contract says that a delivery brings something, of which the device speaks.
     deliveries_bring_one();
     let preambles = device.response_preambles();
-    let reply = device.hear(delivery, &bench::process())?;
-    Some(message_line(&reply, preambles))
+    match device.hear(delivery, &bench::process()) {
+        Some(reply) => message_line(&reply, preambles),
+        None => HexLine::new(),
+    }
 }

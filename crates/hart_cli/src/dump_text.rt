@@ -1,5 +1,5 @@
 //! The line that `hart dump` writes for a frame.
-ghost use Rattle.std.specs.Prelude.{◌≡◌, ◌∷◌, [], ◌++◌, ◌+◌, ◌≤◌, length};
+ghost use Rattle.std.specs.Prelude.{◌≡◌, ◌∷◌, [], ◌++◌, ◌+◌, ◌≤◌, decimal, length};
 ghost use Rattle.hart_frame.specs.View.{found_of};
 ghost use Rattle.hart_cli.specs.DumpText.{address_word, burst_word, device_digits, dump_line, kind_word, master_word};
 
@@ -15,17 +15,41 @@ pub fn push_frame_line<const N: usize>(lines: &mut ByteList<N>, found: &FoundVie
     ensures { lines.new ≡ lines.old ++ dump_line (found_of found.now) }
 {
     let frame = &found.frame;
-    push_word(lines, Buffer::new().format(found.start));
-    push_word(lines, Buffer::new().format(found.stop));
-    push_word(lines, kind_word(frame.kind()));
-    push_word(lines, master_word(frame.master()));
-    push_word(lines, burst_word(frame.burst()));
+    push_places(lines, found.start, found.stop);
+    push_head(lines, frame.kind(), frame.master(), frame.burst());
     push_address(lines, frame.address());
     push_bytes(lines, frame.expansion());
     lines.push(b' ');
     push_word(lines, Buffer::new().format(frame.command()));
     push_bytes(lines, frame.payload());
     lines.push(b'\n');
+}
+
+/// Adds the words of two places, each with a space after it.
+fn push_places<const N: usize>(lines: &mut ByteList<N>, start: u64, stop: u64)
+    requires { length lines.old + 42 ≤ N }
+    ensures words { lines.new ≡ lines.old ++ (decimal start ++ 32 ∷ []) ++ decimal stop ++ 32 ∷ [] }
+    ensures len { length lines.new ≤ length lines.old + 42 }
+{
+    push_word(lines, Buffer::new().format(start));
+    push_word(lines, Buffer::new().format(stop));
+}
+
+/// Adds the words of a kind of frame, of a master and of a burst bit, each with a space after it.
+fn push_head<const N: usize>(
+    lines: &mut ByteList<N>,
+    kind: FrameKind,
+    master: MasterId,
+    burst: bool,
+)
+    requires { length lines.old + 8 ≤ N }
+    ensures words { lines.new ≡
+        lines.old ++ (kind_word kind ++ 32 ∷ []) ++ (master_word master ++ 32 ∷ []) ++ burst_word burst ++ 32 ∷ [] }
+    ensures len { length lines.new ≤ length lines.old + 8 }
+{
+    push_word(lines, kind_word(kind));
+    push_word(lines, master_word(master));
+    push_word(lines, burst_word(burst));
 }
 
 /// The word of a frame's kind.

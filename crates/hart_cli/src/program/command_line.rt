@@ -1,9 +1,9 @@
 //! The call that the words after the program's name ask for.
 
 ghost use Rattle.std.specs.Prelude.{◌≡◌, ◌∷◌, [], ℕ, IfErr, IfOk, IfSome, List, None, Some, codes, false, map, string_bytes};
-ghost use Rattle.clap.specs.Words.{HasKind, app_of, fault_of, first_of, found_of, new_app, rows_of, rule_of};
+ghost use Rattle.clap.specs.Words.{HasKind, app_of, fault_of, first_of, found_of, new_app, new_rule, rows_of, rule_of, with_rule};
 ghost use Rattle.hart_cli.specs.CommandLine.{Calls, GivesWords, encode_app, hart_app, image_app, image_rule};
-ghost use Rattle.hart_cli.specs.CommandLine.{preambles_rule, required_rule};
+ghost use Rattle.hart_cli.specs.CommandLine.{hart_alone, preambles_rule, reading_app, required_rule};
 ghost use Rattle.hart_cli.specs.MessageWords.{MessageWords};
 ghost use Rattle.hart_cli.specs.declared.program.command_line.Call.{Call};
 ghost use Rattle.hart_cli.specs.declared.program.command_line.Call.TheVariants.{Answer, Dump, Encode, Sim};
@@ -108,55 +108,99 @@ fn encode_words<'a>(given: &ArgMatches<'a>) -> Option<EncodeWords<'a>>
 fn hart_command<'a>(alloc: Global) -> Result<Command<'a>, AllocError>
     ensures { IfOk result (λ command. app_of command ≡ hart_app) }
 {
-    let hart = Command::new(alloc, "hart")
+    let hart = reading_command(alloc)?;
+    let encode = encode_command(alloc)?;
+    // The words do not give clap the program's name, which the usage of a subcommand shows.
+    hart.subcommand(encode)?.bin_name("hart")
+}
+
+/// `hart` with the subcommands that read an input.
+fn reading_command<'a>(alloc: Global) -> Result<Command<'a>, AllocError>
+    ensures { IfOk result (λ command. app_of command ≡ reading_app) }
+{
+    let answer = image_command(
+        alloc,
+        "answer",
+        help::ANSWER_ABOUT,
+        help::ANSWER_HELP,
+        help::ANSWER_EXAMPLE,
+    )?;
+    let dump = plain_command(
+        alloc,
+        "dump",
+        help::DUMP_ABOUT,
+        help::DUMP_HELP,
+        help::DUMP_EXAMPLE,
+    );
+    let sim = image_command(
+        alloc,
+        "sim",
+        help::SIM_ABOUT,
+        help::SIM_HELP,
+        help::SIM_EXAMPLE,
+    )?;
+    hart_alone(alloc)
+        .subcommand(answer)?
+        .subcommand(dump)?
+        .subcommand(sim)
+}
+
+/// `hart` before it has its subcommands.
+fn hart_alone<'a>(alloc: Global) -> Command<'a>
+    ensures { app_of result ≡ hart_alone }
+{
+    Command::new(alloc, "hart")
         .about(help::HART_ABOUT)
         .version(VERSION)
         .after_help(help::HART_HELP)
         .no_binary_name(true)
         .subcommand_required(true)
         .arg_required_else_help(true)
-        .subcommand(image_command(
-            alloc,
-            "answer",
-            help::ANSWER_ABOUT,
-            help::ANSWER_HELP,
-            help::ANSWER_EXAMPLE,
-        )?)?
-        .subcommand(plain_command(
-            alloc,
-            "dump",
-            help::DUMP_ABOUT,
-            help::DUMP_HELP,
-            help::DUMP_EXAMPLE,
-        ))?
-        .subcommand(image_command(
-            alloc,
-            "sim",
-            help::SIM_ABOUT,
-            help::SIM_HELP,
-            help::SIM_EXAMPLE,
-        )?)?
-        .subcommand(encode_command(alloc)?)?;
-    // The words do not give clap the program's name, which the usage of a subcommand shows.
-    hart.bin_name("hart")
 }
 
 /// `hart encode` with its words.
 fn encode_command<'a>(alloc: Global) -> Result<Command<'a>, AllocError>
     ensures { IfOk result (λ command. app_of command ≡ encode_app) }
 {
-    plain_command(
+    let encode = plain_command(
         alloc,
         "encode",
         help::ENCODE_ABOUT,
         help::ENCODE_HELP,
         help::ENCODE_EXAMPLE,
-    )
-    .arg(required_word(alloc, "WHO", help::WHO_HELP))?
-    .arg(required_word(alloc, "ADDRESS", help::ADDRESS_HELP))?
-    .arg(required_word(alloc, "COMMAND", help::COMMAND_HELP))?
-    .arg(Arg::new(alloc, "DATA").help(help::DATA_HELP))?
-    .arg(preambles_option(alloc))
+    );
+    let encode = with_word(alloc, encode, "WHO", help::WHO_HELP)?;
+    let encode = with_word(alloc, encode, "ADDRESS", help::ADDRESS_HELP)?;
+    let encode = with_word(alloc, encode, "COMMAND", help::COMMAND_HELP)?;
+    with_options(alloc, encode)
+}
+
+/// The command with a word more, which has to be there.
+fn with_word<'a>(
+    alloc: Global,
+    command: Command<'a>,
+    id: &'a str,
+    help: &'a str,
+) -> Result<Command<'a>, AllocError>
+    ensures { IfOk result (λ more. app_of more ≡ with_rule (app_of command.entry) (required_rule id.entry.now)) }
+{
+    command.arg(required_word(alloc, id, help))
+}
+
+/// The command with the data and the number of preamble bytes, which may be left out.
+fn with_options<'a>(alloc: Global, command: Command<'a>) -> Result<Command<'a>, AllocError>
+    ensures { IfOk result (λ more. app_of more ≡
+        with_rule (with_rule (app_of command.entry) (new_rule (codes "DATA"))) preambles_rule) }
+{
+    command.arg(data_word(alloc))?.arg(preambles_option(alloc))
+}
+
+/// The word of the data, which may be left out.
+fn data_word<'a>(alloc: Global) -> Arg<'a>
+    ensures rule { rule_of result ≡ new_rule (codes "DATA") }
+    ensures local { result.global ≡ false }
+{
+    Arg::new(alloc, "DATA").help(help::DATA_HELP)
 }
 
 /// A subcommand that takes an image.
