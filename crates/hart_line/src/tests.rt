@@ -7,7 +7,6 @@ mod undetected;
 use super::*;
 use hart_values::{Address, MasterId};
 use std::alloc::{AllocError, Global};
-use std::process::Abort;
 use std::test::Fail;
 
 /// Each fault and its text.
@@ -36,40 +35,40 @@ const FAULTS: &[(LineFault, &str)] = &[
     (LineFault::BadLine { number: 1 }, "bad line 1"),
 ];
 
+/// Whether a fault has this text.
+fn is_written(alloc: Global, fault: &LineFault, text: &str) -> Result<bool, AllocError> {
+    let written = format!(in alloc; "{fault}")?;
+    Ok(written.as_str() == text)
+}
+
 #[test]
 fn faults_have_their_texts(rt: HostRuntime) -> Result<(), Fail> {
     for (fault, text) in FAULTS {
-        let written = format!(in rt.alloc(); "{fault}")?;
-        assert_eq!(rt; written.as_str(), *text);
+        assert!(rt; is_written(rt.alloc(), fault, text)?, "of {text}");
     }
     // No room is as large as that.
     let none = reserved::<u8>(rt.alloc(), usize::MAX).err().ok_or("room")?;
-    let written = format!(in rt.alloc(); "{}", LineFault::Memory(none))?;
-    assert_eq!(rt;
-        (written.as_str(), none.items()),
-        ("out of memory", usize::MAX)
-    );
+    assert!(rt; none.items() == usize::MAX);
+    assert!(rt; is_written(rt.alloc(), &LineFault::Memory(none), "out of memory")?);
     Ok(())
+}
+
+/// Whether the address of each kind is read.
+fn addresses_are_read() -> Result<bool, Fail> {
+    let polling = Address::polling(7)?;
+    let unique = Address::unique(0x3F42, 0x0A1B2C)?;
+    Ok(read_address(b"@07") == Some(polling) && read_address(b"FF420A1b2c") == Some(unique))
 }
 
 #[test]
 fn each_word_is_read(rt: HostRuntime) -> Result<(), Fail> {
-    assert_eq!(rt; read_who(b"S"), Some(MasterId::Secondary));
-    assert_eq!(rt; read_address(b"@07"), Some(Address::polling(7)?));
-    assert_eq!(rt;
-        read_address(b"FF420A1b2c"),
-        Some(Address::unique(0x3F42, 0x0A1B2C)?)
-    );
-    assert_eq!(rt; read_command(b"255"), Some(255));
-    assert_eq!(rt;
-        read_data(b"01aB").ok_or("data")?.as_slice(),
-        [0x01, 0xAB].as_slice()
-    );
+    assert!(rt; read_who(b"S") == Some(MasterId::Secondary));
+    assert!(rt; addresses_are_read()?);
+    assert!(rt; read_command(b"255") == Some(255));
+    let data = read_data(b"01aB").ok_or("data")?;
+    assert!(rt; data.as_slice() == [0x01, 0xAB].as_slice());
     let item = leading_item(b"82!40FF").ok_or("item")?;
-    assert_eq!(rt;
-        (item.char.byte(), item.char.faults(), item.len),
-        (0x82, 0x40, 5)
-    );
+    assert!(rt; (item.char.byte(), item.char.faults(), item.len) == (0x82, 0x40, 5));
     Ok(())
 }
 
@@ -132,32 +131,22 @@ fn letters(alloc: Global, events: &[LineEvent]) -> Result<Vec<u8>, AllocError> {
     Ok(letters)
 }
 
-/// Reads a text as a script, which is that of these letters or has its first bad line there.
-fn check_script(
-    rt: &impl Abort,
-    alloc: Global,
-    name: &str,
-    text: &[u8],
-    want: Result<&str, usize>,
-) -> Result<(), Fail> {
-    match read_script(alloc, text) {
+/// Whether a text is read as the script of these letters, or has its first bad line there.
+fn is_read_as(alloc: Global, text: &[u8], want: Result<&str, usize>) -> Result<bool, Fail> {
+    Ok(match read_script(alloc, text) {
         Ok(events) => {
             let found = letters(alloc, events.as_slice())?;
-            let want = want.ok().ok_or("a bad line")?;
-            assert_eq!(rt; found.as_slice(), want.as_bytes(), "at {name}");
+            want.is_ok_and(|want| found.as_slice() == want.as_bytes())
         }
-        Err(fault) => {
-            let number = want.err().ok_or("a script")?;
-            assert_eq!(rt; fault, LineFault::BadLine { number }, "at {name}");
-        }
-    }
-    Ok(())
+        Err(fault) => want.is_err_and(|number| fault == LineFault::BadLine { number }),
+    })
 }
 
 #[test]
 fn scripts_are_read_up_to_a_bad_line(rt: HostRuntime) -> Result<(), Fail> {
     for (text, want) in SCRIPTS {
-        check_script(&rt, rt.alloc(), *text, text.as_bytes(), *want)?;
+        let is_read = is_read_as(rt.alloc(), text.as_bytes(), *want)?;
+        assert!(rt; is_read, "at {text}");
     }
     Ok(())
 }

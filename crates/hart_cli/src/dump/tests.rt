@@ -41,19 +41,44 @@ const FAILED_WRITES: &[(&str, usize, usize, usize, usize, &str)] = &[
     (BAD_HEX, ALL, ALL, 0, 1, ""),
 ];
 
+/// What a call of `dump` answered and did.
+#[derive(Drop)]
+struct Dumped {
+    fault: Option<CliFault>,
+    reads: usize,
+    writer: Trickle,
+}
+
+impl Dumped {
+    /// Whether this was the fault, and this was written.
+    fn gave(&self, fault: Option<CliFault>, text: &str) -> bool {
+        self.fault == fault && self.writer.taken() == text.as_bytes()
+    }
+}
+
+/// Dumps what the reader gives.
+fn run_dump(alloc: Global, mut reader: Tape<'_>, mut writer: Trickle) -> Dumped {
+    let result = dump(alloc, &mut reader, &mut writer);
+    Dumped {
+        fault: result.err(),
+        reads: reader.reads(),
+        writer,
+    }
+}
+
+const WRITE: Option<CliFault> = Some(CliFault::Write);
+
 #[test]
 fn lines_are_written_before_more_is_read(rt: HostRuntime) {
     for (input, most_read, most_written, write, reads, text) in FAILED_WRITES {
-        let mut reader = Tape::new(input.as_bytes(), After::End, *most_read);
-        let mut writer = Trickle::new(rt.alloc(), Some(*write), *most_written);
-        let result = dump(rt.alloc(), &mut reader, &mut writer);
-        assert_eq!(rt; result, Err(CliFault::Write), "at write {write} on {input}");
-        assert_eq!(rt; reader.reads(), *reads, "at write {write} on {input}");
-        assert_eq!(rt; writer.writes().checked_sub(1), Some(*write), "on {input}");
-        assert_eq!(rt;
-            writer.taken(),
-            text.as_bytes(),
-            "at write {write} on {input}"
+        let reader = Tape::new(input.as_bytes(), After::End, *most_read);
+        let writer = Trickle::new(rt.alloc(), Some(*write), *most_written);
+        let run = run_dump(rt.alloc(), reader, writer);
+        assert!(rt; run.gave(WRITE, text), "at write {write} on {input}");
+        assert!(rt; run.reads == *reads, "at write {write} on {input}");
+        assert!(rt;
+            run.writer.writes().checked_sub(1) == Some(*write),
+            "on {input}"
         );
     }
 }
@@ -86,15 +111,12 @@ const READS: &[(&str, After, usize, Option<CliFault>, usize, usize, &str)] = &[
 #[test]
 fn nothing_is_read_after_the_end(rt: HostRuntime) {
     for (input, after, most_read, fault, reads, writes, text) in READS {
-        let mut reader = Tape::new(input.as_bytes(), *after, *most_read);
-        let mut writer = Trickle::new(rt.alloc(), None, ALL);
-        let result = dump(rt.alloc(), &mut reader, &mut writer);
-        assert_eq!(rt; result.err(), *fault, "on {input}, {most_read} a read");
-        assert_eq!(rt; reader.reads(), *reads, "on {input}, {most_read} a read");
-        assert_eq!(rt; writer.writes(), *writes, "on {input}, {most_read} a read");
-        assert_eq!(rt;
-            writer.taken(),
-            text.as_bytes(),
+        let reader = Tape::new(input.as_bytes(), *after, *most_read);
+        let run = run_dump(rt.alloc(), reader, Trickle::new(rt.alloc(), None, ALL));
+        assert!(rt; run.gave(*fault, text), "on {input}, {most_read} a read");
+        assert!(rt; run.reads == *reads, "on {input}, {most_read} a read");
+        assert!(rt;
+            run.writer.writes() == *writes,
             "on {input}, {most_read} a read"
         );
     }
@@ -114,11 +136,9 @@ fn inputs_are_read_up_to_the_limit(rt: HostRuntime) -> Result<(), Fail> {
     for (items, after, fault, text) in LONGEST {
         let spaces = " ".repeat(rt.alloc(), INPUT_LIMIT.saturating_sub(items.len()))?;
         let input = format!(in rt.alloc(); "{spaces}{items}")?;
-        let mut reader = Tape::new(input.as_bytes(), *after, ALL);
-        let mut writer = Trickle::new(rt.alloc(), None, ALL);
-        let result = dump(rt.alloc(), &mut reader, &mut writer);
-        assert_eq!(rt; result.err(), *fault, "on {items}");
-        assert_eq!(rt; writer.taken(), text.as_bytes(), "on {items}");
+        let reader = Tape::new(input.as_bytes(), *after, ALL);
+        let run = run_dump(rt.alloc(), reader, Trickle::new(rt.alloc(), None, ALL));
+        assert!(rt; run.gave(*fault, text), "on {items}");
     }
     Ok(())
 }

@@ -34,6 +34,15 @@ struct Run {
     errors: Trickle,
 }
 
+impl Run {
+    /// Whether this was the status, and this was written.
+    fn gave(&self, status: u8, output: &str, errors: &str) -> bool {
+        self.status == status
+            && self.output.taken() == output.as_bytes()
+            && self.errors.taken() == errors.as_bytes()
+    }
+}
+
 /// The status of `program` on these words and streams.
 fn status_of<R: Source, W: Sink, E: Sink>(
     alloc: Global,
@@ -89,20 +98,10 @@ fn check_rows(rt: &impl Abort, alloc: Global, word: &str, rows: &[Row]) -> Resul
             let reader = Tape::new(input.as_bytes(), After::End, *portion);
             let run = run_program(alloc, &[word], reader, None, None)?;
             let status = if fault.is_empty() { DONE } else { FAULT };
-            assert_eq!(rt; run.status, status, "on {input}, {portion} a read");
-            assert_eq!(rt;
-                run.output.taken(),
-                want.as_bytes(),
-                "on {input}, {portion} a read"
-            );
-            assert_eq!(rt;
-                run.errors.taken(),
-                fault.as_bytes(),
-                "on {input}, {portion} a read"
-            );
             let reads = input.len().div_ceil((*portion).max(1)).saturating_add(1);
+            let ends = run.reads == reads || !fault.is_empty();
             assert!(rt;
-                run.reads == reads || !fault.is_empty(),
+                run.gave(status, want, fault) && ends,
                 "on {input}, {portion} a read"
             );
         }
@@ -116,10 +115,8 @@ fn each_failed_read_is_named(rt: HostRuntime) -> Result<(), Fail> {
         for read in 0..IDENTIFY.len() + 1 {
             let reader = Tape::new(&IDENTIFY.as_bytes()[..read], After::Failure, 1);
             let run = run_program(rt.alloc(), &[word], reader, None, None)?;
-            assert_eq!(rt; run.status, FAULT, "{word} at read {read}");
-            assert_eq!(rt; run.reads, read + 1);
-            assert_eq!(rt; run.errors.taken(), b"read fault\n".as_slice());
-            assert!(rt; run.output.taken().is_empty(), "{word} at read {read}");
+            let is_named = run.gave(FAULT, "", "read fault\n") && run.reads == read + 1;
+            assert!(rt; is_named, "{word} at read {read}");
         }
     }
     Ok(())
@@ -131,13 +128,28 @@ fn each_failed_write_is_named(rt: HostRuntime) -> Result<(), Fail> {
         for room in 0..want.len() {
             let reader = Tape::new(input.as_bytes(), After::End, 1);
             let run = run_program(rt.alloc(), words, reader, Some(room), None)?;
-            assert_eq!(rt; run.status, FAULT, "for {want}");
-            assert_eq!(rt; run.errors.taken(), b"write fault\n".as_slice());
-            assert_eq!(rt; run.output.taken(), &want.as_bytes()[..room]);
-            assert_eq!(rt; run.output.writes(), room + 1);
+            let is_named = run.status == FAULT && run.errors.taken() == b"write fault\n".as_slice();
+            let is_written = run.output.taken() == &want.as_bytes()[..room];
+            assert!(rt;
+                is_named && is_written && run.output.writes() == room + 1,
+                "for {want}"
+            );
         }
     }
     Ok(())
+}
+
+/// Runs `program` on these words, with a reader and two writers of the standard library: its status, and what it writes to each.
+fn run_plain(
+    alloc: Global,
+    words: &[&str],
+    input: &[u8],
+) -> Result<(u8, Vec<u8>, Vec<u8>), AllocError> {
+    let mut reader = Plain::new(input);
+    let mut output = Plain::new(Vec::new(alloc));
+    let mut errors = Plain::new(Vec::new(alloc));
+    let status = status_of(alloc, words, &mut reader, &mut output, &mut errors)?;
+    Ok((status, output.into_inner(), errors.into_inner()))
 }
 
 /// Runs a subcommand without words of its own on an input that has no fault.
@@ -148,13 +160,9 @@ fn check_whole(
     input: &[u8],
     want: &str,
 ) -> Result<(), Fail> {
-    let mut reader = Plain::new(input);
-    let mut output = Plain::new(Vec::new(alloc));
-    let mut errors = Plain::new(Vec::new(alloc));
-    let status = status_of(alloc, &[word], &mut reader, &mut output, &mut errors)?;
-    assert_eq!(rt; status, DONE, "of {word}, {} bytes", input.len());
-    assert_eq!(rt; output.into_inner().as_slice(), want.as_bytes());
-    assert!(rt; errors.into_inner().is_empty());
+    let (status, output, errors) = run_plain(alloc, &[word], input)?;
+    let is_written = output.as_slice() == want.as_bytes() && errors.is_empty();
+    assert!(rt; status == DONE && is_written, "of {word}");
     Ok(())
 }
 
@@ -206,11 +214,9 @@ fn an_input_without_end_is_too_long(rt: HostRuntime) -> Result<(), Fail> {
     for (word, input, want) in WITHOUT_END {
         let reader = Tape::new(input.as_bytes(), After::Spaces, 64);
         let run = run_program(rt.alloc(), &[*word], reader, None, None)?;
-        assert_eq!(rt; run.status, FAULT, "{word} on {input}");
         // The last read gives the first byte after the longest input.
-        assert_eq!(rt; run.reads, 16_385, "{word} on {input}");
-        assert_eq!(rt; run.errors.taken(), b"input too long\n".as_slice());
-        assert_eq!(rt; run.output.taken(), want.as_bytes(), "{word} on {input}");
+        let is_named = run.gave(FAULT, want, "input too long\n") && run.reads == 16_385;
+        assert!(rt; is_named, "{word} on {input}");
     }
     Ok(())
 }
@@ -218,13 +224,10 @@ fn an_input_without_end_is_too_long(rt: HostRuntime) -> Result<(), Fail> {
 #[test]
 fn readers_and_writers_of_the_standard_library_serve(rt: HostRuntime) -> Result<(), Fail> {
     for (words, input, want) in CALLS {
-        let mut reader = Plain::new(input.as_bytes());
-        let mut output = Plain::new(Vec::new(rt.alloc()));
-        let mut errors = Plain::new(Vec::new(rt.alloc()));
-        let status = status_of(rt.alloc(), words, &mut reader, &mut output, &mut errors)?;
+        let (status, output, errors) = run_plain(rt.alloc(), words, input.as_bytes())?;
         assert_eq!(rt; status, DONE);
-        assert_eq!(rt; output.into_inner().as_slice(), want.as_bytes());
-        assert!(rt; errors.into_inner().is_empty());
+        assert!(rt; output.as_slice() == want.as_bytes(), "for {want}");
+        assert!(rt; errors.is_empty());
         // A slice takes as many bytes as it has room for, and then none.
         let mut room = [0; 25];
         let mut reader = Plain::new(input.as_bytes());
@@ -284,10 +287,8 @@ const NO_CALLS: &[&[&str]] = &[
 fn words_that_make_no_call_touch_no_stream(rt: HostRuntime) -> Result<(), Fail> {
     for words in NO_CALLS {
         let run = run_on(rt.alloc(), words, IDENTIFY)?;
-        assert_eq!(rt; run.status, NO_CALL);
-        assert_eq!(rt; run.reads, 0);
-        assert!(rt; run.output.taken().is_empty());
-        assert!(rt; !run.errors.taken().is_empty());
+        assert!(rt; run.status == NO_CALL && run.reads == 0);
+        assert!(rt; run.output.taken().is_empty() && !run.errors.taken().is_empty());
     }
     Ok(())
 }
@@ -326,11 +327,9 @@ const TEXTS: &[(&[&str], &str, &str)] = &[
 fn texts_of_clap_go_to_errors(rt: HostRuntime) -> Result<(), Fail> {
     for (words, start, end) in TEXTS {
         let run = run_on(rt.alloc(), words, "")?;
-        assert!(rt;
-            run.errors.taken().starts_with(start.as_bytes()),
-            "at {start}"
-        );
-        assert!(rt; run.errors.taken().ends_with(end.as_bytes()), "at {start}");
+        let text = run.errors.taken();
+        let is_whole = text.starts_with(start.as_bytes()) && text.ends_with(end.as_bytes());
+        assert!(rt; is_whole, "at {start}");
     }
     Ok(())
 }
@@ -352,9 +351,9 @@ fn a_failed_write_of_errors_leaves_the_status(rt: HostRuntime) -> Result<(), Fai
         for room in 0..text.len() {
             let reader = Tape::new(b"!", After::End, 1);
             let run = run_program(rt.alloc(), &[*word], reader, None, Some(room))?;
-            assert_eq!(rt; run.status, *want, "{word} with room for {room}");
-            assert_eq!(rt; Some(run.errors.taken()), text.get(..room));
-            assert_eq!(rt; run.errors.writes(), room + 1);
+            let is_written = Some(run.errors.taken()) == text.get(..room);
+            let stays = run.status == *want && run.errors.writes() == room + 1;
+            assert!(rt; is_written && stays, "{word} with room for {room}");
         }
     }
     Ok(())
@@ -375,10 +374,9 @@ fn words_of_any_length_are_read(rt: HostRuntime) -> Result<(), Fail> {
     ];
     for (words, status, start) in rows {
         let run = run_on(rt.alloc(), words, IDENTIFY)?;
-        assert_eq!(rt; run.status, *status, "but {start} is wanted");
-        assert_eq!(rt; run.reads, 0);
-        assert!(rt; run.errors.taken().starts_with(start.as_bytes()));
-        assert!(rt; run.output.taken().is_empty());
+        let is_named = run.status == *status && run.errors.taken().starts_with(start.as_bytes());
+        let stays = run.reads == 0 && run.output.taken().is_empty();
+        assert!(rt; is_named && stays, "but {start} is wanted");
     }
     Ok(())
 }

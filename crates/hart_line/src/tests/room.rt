@@ -118,6 +118,14 @@ const GROWING: &[Growing] = &[
     },
 ];
 
+/// Adds a part to a text so often.
+fn push_often(text: &mut String, part: &str, times: usize) -> Result<(), AllocError> {
+    for _ in 0..times {
+        text.push_str(part)?;
+    }
+    Ok(())
+}
+
 /// A text in which a part stands so often.
 pub fn text_of(
     alloc: Global,
@@ -128,9 +136,7 @@ pub fn text_of(
 ) -> Result<String, AllocError> {
     let mut text = String::new(alloc);
     text.push_str(prefix)?;
-    for _ in 0..times {
-        text.push_str(part)?;
-    }
+    push_often(&mut text, part, times)?;
     text.push_str(suffix)?;
     Ok(text)
 }
@@ -179,12 +185,8 @@ fn grow(rt: &impl Abort, alloc: Global, growing: &Growing) -> Result<(), Fail> {
             times.saturating_mul(growing.outcomes),
             times.saturating_mul(growing.spoken),
         );
-        assert_eq!(rt;
-            lens_of(alloc, text.as_str())?,
-            want,
-            "at {times} of {}",
-            growing.part
-        );
+        let lens = lens_of(alloc, text.as_str())?;
+        assert!(rt; lens == want, "at {times} of {}", growing.part);
     }
     Ok(())
 }

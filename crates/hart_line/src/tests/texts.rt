@@ -133,8 +133,8 @@ const LONG: &[Long] = &[
 fn long_texts_are_read(rt: HostRuntime) -> Result<(), Fail> {
     for long in LONG {
         let text = text_of(rt.alloc(), long.prefix, long.part, long.times, long.suffix)?;
-        let name = format!(in rt.alloc(); "{}{}..", long.prefix, long.part)?;
-        check_script(&rt, rt.alloc(), name.as_str(), text.as_bytes(), long.want)?;
+        let is_read = is_read_as(rt.alloc(), text.as_bytes(), long.want)?;
+        assert!(rt; is_read, "at {}{}..", long.prefix, long.part);
     }
     Ok(())
 }
@@ -159,7 +159,8 @@ const WITH_ZEROS: &[(&str, Result<&str, usize>)] = &[
 #[test]
 fn a_byte_zero_is_part_of_a_word(rt: HostRuntime) -> Result<(), Fail> {
     for (text, want) in WITH_ZEROS {
-        check_script(&rt, rt.alloc(), *text, text.as_bytes(), *want)?;
+        let is_read = is_read_as(rt.alloc(), text.as_bytes(), *want)?;
+        assert!(rt; is_read, "at {text}");
     }
     Ok(())
 }
@@ -171,8 +172,7 @@ const LONE: &[u8] = b" \t\n\r#";
 fn few_bytes_alone_are_scripts(rt: HostRuntime) -> Result<(), Fail> {
     for byte in 0..=u8::MAX {
         let want = if LONE.contains(&byte) { Ok("") } else { Err(1) };
-        let name = format!(in rt.alloc(); "byte {byte}")?;
-        check_script(&rt, rt.alloc(), name.as_str(), &[byte], want)?;
+        assert!(rt; is_read_as(rt.alloc(), &[byte], want)?, "at byte {byte}");
     }
     Ok(())
 }

@@ -37,7 +37,7 @@ fn undetected_damage_stops_scripts(rt: HostRuntime) -> Result<(), Fail> {
             event: *event,
             leg: *leg,
         };
-        assert_eq!(rt; fault, want, "of {}", script);
+        assert!(rt; fault == want, "of {script}");
     }
     Ok(())
 }

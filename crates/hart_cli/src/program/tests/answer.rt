@@ -196,12 +196,9 @@ fn every_command_is_answered_where_it_comes_alone(rt: HostRuntime) -> Result<(),
         all.push_str(input.as_str())?;
         let want = format!(in rt.alloc(); "{REPLY}{replied}\n")?;
         let run = run_on(rt.alloc(), &["answer"], input.as_str())?;
-        assert_eq!(rt; run.status, DONE, "on {asked}");
-        assert_eq!(rt; run.output.taken(), want.as_bytes(), "on {asked}");
-        assert!(rt; run.errors.taken().is_empty(), "on {asked}");
+        assert!(rt; run.gave(DONE, want.as_str(), ""), "on {asked}");
     }
     let run = run_on(rt.alloc(), &["answer"], all.as_str())?;
-    assert_eq!(rt; run.status, DONE);
-    assert!(rt; run.output.taken().is_empty() && run.errors.taken().is_empty());
+    assert!(rt; run.gave(DONE, "", ""));
     Ok(())
 }

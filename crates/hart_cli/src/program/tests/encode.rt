@@ -48,10 +48,8 @@ fn words_give_a_message_or_the_first_bad_one(rt: HostRuntime) -> Result<(), Fail
     for (words, want, fault) in ROWS {
         let run = run_on(rt.alloc(), words, "FFFF0280000082")?;
         let status = if fault.is_empty() { DONE } else { FAULT };
-        assert_eq!(rt; run.status, status, "for {want}{fault}");
-        assert_eq!(rt; run.reads, 0, "for {want}{fault}");
-        assert_eq!(rt; run.output.taken(), want.as_bytes());
-        assert_eq!(rt; run.errors.taken(), fault.as_bytes());
+        let is_given = run.gave(status, want, fault) && run.reads == 0;
+        assert!(rt; is_given, "for {want}{fault}");
     }
     Ok(())
 }

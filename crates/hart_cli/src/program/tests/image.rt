@@ -115,9 +115,7 @@ image 02000182082082082082082082082082082082082082082082082082082082082082082082
 fn a_device_goes_on_from_its_image(rt: HostRuntime) -> Result<(), Fail> {
     for (words, input, want) in ROWS {
         let run = run_on(rt.alloc(), words, input)?;
-        assert_eq!(rt; run.errors.taken(), b"".as_slice(), "on {input}");
-        assert_eq!(rt; run.output.taken(), want.as_bytes(), "on {input}");
-        assert_eq!(rt; run.status, DONE, "on {input}");
+        assert!(rt; run.gave(DONE, want, ""), "on {input}");
     }
     Ok(())
 }
@@ -210,10 +208,8 @@ fn a_bad_image_is_named_before_anything_is_read(rt: HostRuntime) -> Result<(), F
         for word in ["answer", "sim"] {
             // The input would be at fault too.
             let run = run_on(rt.alloc(), &[word, "--image", *image], "!")?;
-            assert_eq!(rt; run.errors.taken(), fault.as_bytes(), "of {image}");
-            assert_eq!(rt; run.status, FAULT, "of {image}");
-            assert_eq!(rt; run.reads, 0, "of {image}");
-            assert!(rt; run.output.taken().is_empty(), "of {image}");
+            let is_named = run.gave(FAULT, "", fault) && run.reads == 0;
+            assert!(rt; is_named, "of {image}");
         }
     }
     Ok(())
