@@ -12,7 +12,7 @@ use Rattle.clap.specs.declared.error.Error.{Error}
 use Rattle.clap.specs.declared.parser.matches.ArgMatches.{ArgMatches}
 use Rattle.clap.specs.declared.parser.matches.ArgMatches.TheViews.{out-ArgMatches, out-SubCommand}
 use Rattle.clap.proofs.OnLiterals.{clap_on_literals}
-use Rattle.hart_cli.specs.CommandLine.{Calls, GivesValues, hart_app, name_of}
+use Rattle.hart_cli.specs.CommandLine.{Calls, GivesCall, GivesValues, hart_app, name_of}
 use Rattle.hart_cli.specs.MessageWords.{MessageWords}
 use Rattle.hart_cli.specs.declared.program.command_line.Call.{Call}
 use Rattle.hart_cli.specs.declared.program.command_line.Call.TheVariants.{Answer, Dump, Encode, Sim}
@@ -53,18 +53,22 @@ joined None name rows named with_rows = cc
 joined (Some p) name rows named with_rows =
     ap₂ (λ n r. Some (n, r)) (ap (λ o. unwrap_or o name) (sym named)) (ap (λ o. unwrap_or o rows) (sym with_rows))
 
--- what `subcommand()` gives is what the words name
-pub met_by_words : (words : List Text) (m : ArgMatches) (name : Text) (rows : List Row) → MeetsCall words m
-    → Some name ≡ subcommand_name_of m
-    → Some rows ≡ option_map (λ p. p.1) (subcommand_rows_of m) → subcommand_of hart_app words ≡ Some (name, rows)
-met_by_words words m name rows meets named with_rows = sym meets.same
-    ∙ joined (subcommand_rows_of m) name rows (named ∙ sym (subcommand_name-rows m)) with_rows
+-- what `subcommand()` gives, with a name that is known, gives a call
+pub given_call : (m : ArgMatches) (call : Call) (name : Text) (rows : List Row) → Some name ≡ subcommand_name_of m
+    → Some rows ≡ option_map (λ p. p.1) (subcommand_rows_of m) → name ≡ name_of call → GivesValues call rows
+    → GivesCall (subcommand_rows_of m) call
+given_call m call name rows named with_rows is values =
+    record {
+      rows = rows;
+      named = joined (subcommand_rows_of m) name rows (named ∙ sym (subcommand_name-rows m)) with_rows ∙ ap (λ n. Some (n, rows)) is;
+      values = values;
+    }
 
--- a call whose name is known
-pub call_named : (words : List Text) (m : ArgMatches) (call : Call) (name : Text) (rows : List Row) → MeetsCall words m
-    → subcommand_of hart_app words ≡ Some (name, rows) → name ≡ name_of call → GivesValues call rows → Calls call words
-call_named words m call name rows meets is named values =
-    record { no_fault = meets.no_fault; rows = rows; named = is ∙ ap (λ n. Some (n, rows)) named; values = values }
+-- and so do the words
+pub calls_given : (words : List Text) (m : ArgMatches) (call : Call) → MeetsCall words m → GivesCall (subcommand_rows_of m) call
+    → Calls call words
+calls_given words m call meets gives =
+    record { no_fault = meets.no_fault; gives = subst (λ met. GivesCall met call) meets.same gives }
 
 same_name : (a b : Text) (rows others : List Row) (met : Option (Text × List Row)) → met ≡ Some (a, rows) → met ≡ Some (b, others) → a ≡ b
 same_name a b rows others met first second =
@@ -114,30 +118,32 @@ same_call (Encode words) (Encode others) rows names one other =
 -- so words make one call at most
 pub words_make_one_call : (a b : Call) (words : List Text) → Calls a words → Calls b words → a ≡ b
 words_make_one_call a b words one other =
-    same_call a b one.rows (same_name _ _ _ _ _ one.named other.named) one.values
-    (subst (GivesValues b) (same_rows _ _ _ _ _ other.named one.named) other.values)
+    let first = one.gives in
+    let second = other.gives in
+    same_call a b first.rows (same_name _ _ _ _ _ first.named second.named) first.values
+    (subst (GivesValues b) (same_rows _ _ _ _ _ second.named first.named) second.values)
 
 -- the words `answer`, `dump` and `sim` alone are calls of these, without an image
 pub answer_alone : Calls (Answer None) (codes "answer" ∷ [])
 unfolding clap_on_literals
-answer_alone = record { no_fault = refl; rows = []; named = refl; values = refl }
+answer_alone = record { no_fault = refl; gives = record { rows = []; named = refl; values = refl } }
 
 pub dump_alone : Calls Dump (codes "dump" ∷ [])
 unfolding clap_on_literals
-dump_alone = record { no_fault = refl; rows = []; named = refl; values = tt }
+dump_alone = record { no_fault = refl; gives = record { rows = []; named = refl; values = tt } }
 
 pub sim_alone : Calls (Sim None) (codes "sim" ∷ [])
 unfolding clap_on_literals
-sim_alone = record { no_fault = refl; rows = []; named = refl; values = refl }
+sim_alone = record { no_fault = refl; gives = record { rows = []; named = refl; values = refl } }
 
 -- and with one
 pub answer_with_image : Calls (Answer (Some (codes "01"))) (codes "answer" ∷ codes "--image" ∷ codes "01" ∷ [])
 unfolding clap_on_literals
-answer_with_image = record { no_fault = refl; rows = _; named = refl; values = refl }
+answer_with_image = record { no_fault = refl; gives = record { rows = _; named = refl; values = refl } }
 
 pub sim_with_image : Calls (Sim (Some (codes "01"))) (codes "sim" ∷ codes "--image" ∷ codes "01" ∷ [])
 unfolding clap_on_literals
-sim_with_image = record { no_fault = refl; rows = _; named = refl; values = refl }
+sim_with_image = record { no_fault = refl; gives = record { rows = _; named = refl; values = refl } }
 
 -- and the words of `encode`, without and with a number of preamble bytes
 abbrev identify : ℕ → MessageWords
@@ -147,18 +153,20 @@ pub encode_alone : Calls (Encode (identify 5)) (codes "encode" ∷ codes "P" ∷
 unfolding clap_on_literals
 encode_alone = record {
   no_fault = refl;
-  rows = _;
-  named = refl;
-  values = record {
-    who = refl;
-    address = refl;
-    command = refl;
-    payload = refl;
-    number = codes "5";
-    given = refl;
-    digits = search rules;
-    value = refl;
-    count = (omega arith, omega arith);
+  gives = record {
+    rows = _;
+    named = refl;
+    values = record {
+      who = refl;
+      address = refl;
+      command = refl;
+      payload = refl;
+      number = codes "5";
+      given = refl;
+      digits = search rules;
+      value = refl;
+      count = (omega arith, omega arith);
+    };
   };
 }
 
@@ -167,17 +175,19 @@ pub encode_with_20 : Calls (Encode (identify 20))
 unfolding clap_on_literals
 encode_with_20 = record {
   no_fault = refl;
-  rows = _;
-  named = refl;
-  values = record {
-    who = refl;
-    address = refl;
-    command = refl;
-    payload = refl;
-    number = codes "20";
-    given = refl;
-    digits = search rules;
-    value = refl;
-    count = (omega arith, omega arith);
+  gives = record {
+    rows = _;
+    named = refl;
+    values = record {
+      who = refl;
+      address = refl;
+      command = refl;
+      payload = refl;
+      number = codes "20";
+      given = refl;
+      digits = search rules;
+      value = refl;
+      count = (omega arith, omega arith);
+    };
   };
 }

@@ -1,5 +1,5 @@
 -- What the words after the program's name ask for, as clap reads them (own profile).
-use Rattle.std.specs.Prelude.{◌≡◌, [], ◌∷◌, List, Some, true, codes, pos, unwrap_or}
+use Rattle.std.specs.Prelude.{◌≡◌, [], ◌∷◌, List, Option, Some, true, codes, pos, unwrap_or}
 use Rattle.std.specs.Str.Parse.{IsNumeral, digits_value, without_leading_plus}
 use Rattle.clap.specs.Words.{App, Row, Rule, Text, fault_of, first_of, new_app, new_rule, subcommand_of, with_rule, with_subcommand}
 use Rattle.clap.specs.declared.builder.value_parser.ValueParser.TheVariants.{Signed}
@@ -38,10 +38,10 @@ encode_app =
     let payload = with_rule command (new_rule (codes "DATA")) in
     with_rule payload preambles_rule
 
--- The command `hart` takes words without the program's name, has a version, wants one of its four subcommands named, and
--- shows its help if there is no word at all; `dump` takes no words.
-abbrev pub hart_app : App
-hart_app =
+-- The command `hart` alone takes words without the program's name, has a version, wants a subcommand named, and shows its help if
+-- there is no word at all.
+abbrev pub hart_alone : App
+hart_alone =
     let plain = new_app (codes "hart") in
     let top = record plain.top {
       no_binary_name = true;
@@ -49,10 +49,18 @@ hart_app =
       subcommand_required = true;
       arg_required_else_help = true;
     } in
-    let answer = with_subcommand (record plain { top = top }) (image_app (codes "answer")).top in
+    record plain { top = top }
+
+-- With the three subcommands that read an input; `dump` takes no words.
+abbrev pub reading_app : App
+reading_app =
+    let answer = with_subcommand hart_alone (image_app (codes "answer")).top in
     let dump = with_subcommand answer (new_app (codes "dump")).top in
-    let sim = with_subcommand dump (image_app (codes "sim")).top in
-    with_subcommand sim encode_app.top
+    with_subcommand dump (image_app (codes "sim")).top
+
+-- The command `hart` has the subcommand `encode` besides.
+abbrev pub hart_app : App
+hart_app = with_subcommand reading_app encode_app.top
 
 -- Each call has a subcommand of its own.
 abbrev pub name_of : Call → Text
@@ -82,29 +90,13 @@ GivesValues Dump rows = Unit {0}
 GivesValues (Sim image) rows = first_of (codes "image") rows ≡ image
 GivesValues (Encode words) rows = GivesWords rows words
 
--- The words make a call if clap finds no fault in them, they name its subcommand, and the matches of this give the call's
--- values.
-pub record Calls (call : Call) (words : List Text) : Type 0 where
-  pub no_fault : fault_of hart_app words ≡ []
+-- A subcommand that was met, with its matches, gives a call if it is the call's and the matches give the call's values.
+pub record GivesCall (met : Option (Text × List Row)) (call : Call) : Type 0 where
   pub rows : List Row
-  pub named : subcommand_of hart_app words ≡ Some (name_of call, rows)
+  pub named : met ≡ Some (name_of call, rows)
   pub values : GivesValues call rows
 
--- For private calls alone: the command `hart` before it has its subcommands.
-abbrev pub hart_alone : App
-hart_alone =
-    let plain = new_app (codes "hart") in
-    let top = record plain.top {
-      no_binary_name = true;
-      has_version = true;
-      subcommand_required = true;
-      arg_required_else_help = true;
-    } in
-    record plain { top = top }
-
--- The command `hart` with the three subcommands that read an input.
-abbrev pub reading_app : App
-reading_app =
-    let answer = with_subcommand hart_alone (image_app (codes "answer")).top in
-    let dump = with_subcommand answer (new_app (codes "dump")).top in
-    with_subcommand dump (image_app (codes "sim")).top
+-- The words make a call if clap finds no fault in them, and the subcommand that they name gives it.
+pub record Calls (call : Call) (words : List Text) : Type 0 where
+  pub no_fault : fault_of hart_app words ≡ []
+  pub gives : GivesCall (subcommand_of hart_app words) call

@@ -1,14 +1,16 @@
 //! The call that the words after the program's name ask for.
 
 ghost use Rattle.std.specs.Prelude.{◌≡◌, ◌∷◌, [], ℕ, IfErr, IfOk, IfSome, List, None, Some, codes, false, map, string_bytes};
-ghost use Rattle.clap.specs.Words.{HasKind, app_of, fault_of, first_of, found_of, new_app, new_rule, rows_of, rule_of, with_rule};
-ghost use Rattle.hart_cli.specs.CommandLine.{Calls, GivesWords, encode_app, hart_app, image_app, image_rule};
+ghost use Rattle.clap.specs.Words.{HasKind, app_of, fault_of, first_of, found_of, new_app, new_rule, rows_of, rule_of};
+ghost use Rattle.clap.specs.Words.{subcommand_rows_of, with_rule, with_subcommand};
+ghost use Rattle.hart_cli.specs.CommandLine.{Calls, GivesCall, GivesWords, encode_app, hart_app, image_app, image_rule};
 ghost use Rattle.hart_cli.specs.CommandLine.{hart_alone, preambles_rule, reading_app, required_rule};
 ghost use Rattle.hart_cli.specs.MessageWords.{MessageWords};
 ghost use Rattle.hart_cli.specs.declared.program.command_line.Call.{Call};
 ghost use Rattle.hart_cli.specs.declared.program.command_line.Call.TheVariants.{Answer, Dump, Encode, Sim};
 
 use super::help;
+use super::help::Page;
 use crate::encode::EncodeWords;
 use crate::image_word::ImageWord;
 use clap::{Arg, ArgMatches, Command, value_parser};
@@ -62,19 +64,25 @@ pub fn requested_call<'a>(alloc: Global, words: &'a [String]) -> Result<Call<'a>
     ensures refused { IfErr result (HasKind (fault_of hart_app (map string_bytes words.entry.now))) }
 {
     let matches = hart_command(alloc)?.try_get_matches_from(words)?;
-    // clap's contract leaves this case and the two below open. None comes about, and each would end as refused memory does.
-    let Some((name, given)) = matches.subcommand() else {
-        return Err(AllocError.into());
-    };
+    match call_of(&matches) {
+        Some(call) => Ok(call),
+        // clap's contract leaves this case open. It does not come about, and would end as refused memory does.
+        None => Err(AllocError.into()),
+    }
+}
+
+/// The call of the subcommand that the words named, or `None` if they named none or gave it too few words, which clap does not
+/// let pass.
+fn call_of<'a>(matches: &ArgMatches<'a>) -> Option<Call<'a>>
+    ensures { IfSome result (GivesCall (subcommand_rows_of matches.now)) }
+{
+    let (name, given) = matches.subcommand()?;
     match name {
-        "answer" => Ok(Call::Answer(image_word(given))),
-        "dump" => Ok(Call::Dump),
-        "sim" => Ok(Call::Sim(image_word(given))),
-        "encode" => match encode_words(given) {
-            Some(words) => Ok(Call::Encode(words)),
-            None => Err(AllocError.into()),
-        },
-        _ => Err(AllocError.into()),
+        "answer" => Some(Call::Answer(image_word(given))),
+        "dump" => Some(Call::Dump),
+        "sim" => Some(Call::Sim(image_word(given))),
+        "encode" => Some(Call::Encode(encode_words(given)?)),
+        _ => None,
     }
 }
 
@@ -118,31 +126,9 @@ fn hart_command<'a>(alloc: Global) -> Result<Command<'a>, AllocError>
 fn reading_command<'a>(alloc: Global) -> Result<Command<'a>, AllocError>
     ensures { IfOk result (λ command. app_of command ≡ reading_app) }
 {
-    let answer = image_command(
-        alloc,
-        "answer",
-        help::ANSWER_ABOUT,
-        help::ANSWER_HELP,
-        help::ANSWER_EXAMPLE,
-    )?;
-    let dump = plain_command(
-        alloc,
-        "dump",
-        help::DUMP_ABOUT,
-        help::DUMP_HELP,
-        help::DUMP_EXAMPLE,
-    );
-    let sim = image_command(
-        alloc,
-        "sim",
-        help::SIM_ABOUT,
-        help::SIM_HELP,
-        help::SIM_EXAMPLE,
-    )?;
-    hart_alone(alloc)
-        .subcommand(answer)?
-        .subcommand(dump)?
-        .subcommand(sim)
+    let hart = with_image_command(alloc, hart_alone(alloc), "answer", help::ANSWER)?;
+    let hart = hart.subcommand(plain_command(alloc, "dump", help::DUMP))?;
+    with_image_command(alloc, hart, "sim", help::SIM)
 }
 
 /// `hart` before it has its subcommands.
@@ -162,13 +148,7 @@ fn hart_alone<'a>(alloc: Global) -> Command<'a>
 fn encode_command<'a>(alloc: Global) -> Result<Command<'a>, AllocError>
     ensures { IfOk result (λ command. app_of command ≡ encode_app) }
 {
-    let encode = plain_command(
-        alloc,
-        "encode",
-        help::ENCODE_ABOUT,
-        help::ENCODE_HELP,
-        help::ENCODE_EXAMPLE,
-    );
+    let encode = plain_command(alloc, "encode", help::ENCODE);
     let encode = with_word(alloc, encode, "WHO", help::WHO_HELP)?;
     let encode = with_word(alloc, encode, "ADDRESS", help::ADDRESS_HELP)?;
     let encode = with_word(alloc, encode, "COMMAND", help::COMMAND_HELP)?;
@@ -203,33 +183,28 @@ fn data_word<'a>(alloc: Global) -> Arg<'a>
     Arg::new(alloc, "DATA").help(help::DATA_HELP)
 }
 
-/// A subcommand that takes an image.
-fn image_command<'a>(
+/// The command with a subcommand more, which takes an image.
+fn with_image_command<'a>(
     alloc: Global,
+    command: Command<'a>,
     name: &'a str,
-    about: &'a str,
-    help: &'a str,
-    example: &'a str,
+    page: Page<'a>,
 ) -> Result<Command<'a>, AllocError>
-    ensures { IfOk result (λ command. app_of command ≡ image_app name.entry.now) }
+    ensures { IfOk result (λ more. app_of more ≡
+        with_subcommand (app_of command.entry) (image_app name.entry.now).top) }
 {
-    plain_command(alloc, name, about, help, example).arg(image_option(alloc))
+    let added = plain_command(alloc, name, page).arg(image_option(alloc))?;
+    command.subcommand(added)
 }
 
 /// A subcommand without words of its own.
-fn plain_command<'a>(
-    alloc: Global,
-    name: &'a str,
-    about: &'a str,
-    help: &'a str,
-    example: &'a str,
-) -> Command<'a>
+fn plain_command<'a>(alloc: Global, name: &'a str, page: Page<'a>) -> Command<'a>
     ensures { app_of result ≡ new_app name.entry.now }
 {
     Command::new(alloc, name)
-        .about(about)
-        .long_about(help)
-        .after_long_help(example)
+        .about(page.about)
+        .long_about(page.help)
+        .after_long_help(page.example)
 }
 
 /// A word that has to be there.

@@ -1,5 +1,16 @@
 //! The texts of the program's help.
 
+/// What the help of a command shows.
+#[derive(Clone, Copy)]
+pub(super) struct Page<'a> {
+    /// What the command does, in one line.
+    pub about: &'a str,
+    /// What goes in and what comes out.
+    pub help: &'a str,
+    /// How it is used, with what it writes.
+    pub example: &'a str,
+}
+
 pub(super) const HART_ABOUT: &str =
     "Find, write and answer HART messages, and carry out scripts of them";
 
@@ -10,9 +21,9 @@ Exit status 0: the work was done.
 Exit status 1: a fault; one line on standard error names it.
 Exit status 2: the command line is invalid, or help was asked for.";
 
-pub(super) const ANSWER_ABOUT: &str = "Answer one message, in hex, from standard input";
-
-pub(super) const ANSWER_HELP: &str = "\
+pub(super) const ANSWER: Page = Page {
+    about: "Answer one message, in hex, from standard input",
+    help: "\
 Answer one message as the simulated device does.
 
 Input (stdin): what the device hears, the message with its preamble bytes FF
@@ -42,9 +53,8 @@ Each run starts a new device with polling address 0. Its tag is eight spaces,
 21. With --image the device goes on from an image, which hart sim writes in its
 last line. If that is no image nothing is read, and standard error says why:
 bad image: version, length or field; bad hex at N, a place in the image,
-counted from 0.";
-
-pub(super) const ANSWER_EXAMPLE: &str = "\
+counted from 0.",
+    example: "\
 Examples:
   echo \"FF FF 82 B7 42 0A 1B 2C 10 00 5A\" | hart answer
 writes
@@ -53,12 +63,12 @@ and for a write, which a protected device refuses,
   image=$(echo protect on | hart sim | sed -n 's/^image //p')
   echo \"FF FF 82 B7 42 0A 1B 2C 13 03 01 23 45 3D\" | hart answer --image $image
 writes
-  FF FF FF FF FF 86 B7 42 0A 1B 2C 13 02 07 00 58";
+  FF FF FF FF FF 86 B7 42 0A 1B 2C 13 02 07 00 58",
+};
 
-pub(super) const DUMP_ABOUT: &str =
-    "List the messages in what was heard, in hex, from standard input";
-
-pub(super) const DUMP_HELP: &str = "\
+pub(super) const DUMP: Page = Page {
+    about: "List the messages in what was heard, in hex, from standard input",
+    help: "\
 List the messages in what was heard on a line.
 
 Input (stdin): the bytes that were heard, noise among them. Each is two hex
@@ -93,9 +103,8 @@ a burst message of a device, which hart does not read.
 
 If the input holds anything else, is longer, or fails, the lines of the
 messages before are written, and standard error says why: bad hex at N, a place
-in the text of the input, counted from 0; input too long; read fault.";
-
-pub(super) const DUMP_EXAMPLE: &str = "\
+in the text of the input, counted from 0; input too long; read fault.",
+    example: "\
 Examples:
   hart dump < FILE
 for a file of hex text;
@@ -105,12 +114,12 @@ for one of raw bytes, which are not hex;
 for bytes written as FF:82 or 0xFF;
   echo \"FF FF 02 80 00 00 82\" | hart dump
 writes
-  2 7 STX P 0 @0 - 0 -";
+  2 7 STX P 0 @0 - 0 -",
+};
 
-pub(super) const SIM_ABOUT: &str =
-    "Carry out a script of two masters and a device from standard input";
-
-pub(super) const SIM_HELP: &str = "\
+pub(super) const SIM: Page = Page {
+    about: "Carry out a script of two masters and a device from standard input",
+    help: "\
 Carry out a script on a line with the simulated device and two masters.
 
 Input (stdin): a script, a line for each event.
@@ -165,9 +174,8 @@ If no output is written, standard error says why.
                              events alone count, from 0; LEG is up, down or
                              noise: what is heard there has another message in
                              it than the one that was sent, or more than one
-  input too long, read fault";
-
-pub(super) const SIM_EXAMPLE: &str = "\
+  input too long, read fault",
+    example: "\
 Examples:
   printf 'submit P 37420A1B2C 19 012345\\nturn P ok ok\\n' > script.txt
   hart sim < script.txt | grep -v image
@@ -184,11 +192,12 @@ writes
   P 20 82B7420A1B2C10005A
   D 5 86B7420A1B2C100500400123457C
   1 answered 1 00 40 012345
-  counter 1";
+  counter 1",
+};
 
-pub(super) const ENCODE_ABOUT: &str = "Write a request to a device, in hex";
-
-pub(super) const ENCODE_HELP: &str = "\
+pub(super) const ENCODE: Page = Page {
+    about: "Write a request to a device, in hex",
+    help: "\
 Write a request of a master to a device, ready to be sent.
 
 Input: the words of the command line say who asks, which device, with which
@@ -196,9 +205,8 @@ command, and the data of the command. Standard input is not read.
 
 Output (stdout): the message in upper case hex, with its preamble bytes FF and
 its check byte. If a word cannot be read nothing is written, and standard error
-gives its number, as in bad word 2: 1 is WHO, 2 ADDRESS, 3 COMMAND, 4 DATA.";
-
-pub(super) const ENCODE_EXAMPLE: &str = "\
+gives its number, as in bad word 2: 1 is WHO, 2 ADDRESS, 3 COMMAND, 4 DATA.",
+    example: "\
 Examples:
   hart encode P @0 0
 writes
@@ -206,7 +214,8 @@ writes
 and with data, a write of the final assembly number 012345,
   hart encode P 37420A1B2C 19 012345
 writes
-  FF FF FF FF FF 82 B7 42 0A 1B 2C 13 03 01 23 45 3D";
+  FF FF FF FF FF 82 B7 42 0A 1B 2C 13 03 01 23 45 3D",
+};
 
 pub(super) const WHO_HELP: &str = "The master that asks: P for the primary, S for the secondary";
 
