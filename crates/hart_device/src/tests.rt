@@ -71,38 +71,39 @@ fn asked(device: &mut Device<FieldRegisters>, command: u8, data: &[u8]) -> Resul
     Ok(reply.ok_or("silence")?)
 }
 
+/// Whether a device replies so.
+fn replies(device: &mut Device<FieldRegisters>, row: &Row) -> Result<bool, Fail> {
+    let (command, data, payload) = row;
+    Ok(asked(device, *command, data)?.payload() == *payload)
+}
+
 #[test]
 fn requests_are_answered(rt: HostRuntime) -> Result<(), Fail> {
-    for (row, (command, data, payload)) in BENCH.iter().enumerate() {
-        let mut device = bench_device();
-        let reply = asked(&mut device, *command, data)?;
-        assert_eq!(rt; reply.payload(), *payload, "of row {row}");
+    for (number, row) in BENCH.iter().enumerate() {
+        assert!(rt; replies(&mut bench_device(), row)?, "of row {number}");
     }
-    for (row, (command, data, payload)) in PROTECTED.iter().enumerate() {
+    for (number, row) in PROTECTED.iter().enumerate() {
         let mut device = bench_device();
         device.protect(true);
-        let reply = asked(&mut device, *command, data)?;
-        assert_eq!(rt; reply.payload(), *payload, "of row {row}");
-        assert!(rt; device.counter() == 0 && device.is_protected());
+        let replied = replies(&mut device, row)?;
+        let stays = device.counter() == 0 && device.is_protected();
+        assert!(rt; replied && stays, "of row {number} under protection");
     }
     Ok(())
+}
+
+/// The device status of the reply to Command 48, where this byte of the additional status is 1.
+fn status_with(place: usize) -> Result<Option<u8>, Fail> {
+    let mut process = bench::process();
+    *process.additional_status.get_mut(place).ok_or("a place")? = 1;
+    let reply = bench_device().receive(&request(48, &[])?, &process);
+    Ok(reply.ok_or("silence")?.payload().get(1).copied())
 }
 
 #[test]
 fn additional_status_is_shown(rt: HostRuntime) -> Result<(), Fail> {
     for (place, status) in [(0, 0x10), (5, 0x10), (6, 0x00), (7, 0x10), (24, 0x10)] {
-        let mut device = bench_device();
-        let mut process = bench::process();
-        assert!(rt; place < 25);
-        process.additional_status[place] = 1;
-        let reply = device
-            .receive(&request(48, &[])?, &process)
-            .ok_or("silence")?;
-        assert_eq!(rt;
-            reply.payload().get(1).copied(),
-            Some(status),
-            "of byte {place}"
-        );
+        assert!(rt; status_with(place)? == Some(status), "of byte {place}");
     }
     Ok(())
 }
@@ -175,7 +176,7 @@ const REFUSED: &[(IdentityParts, DeviceFault)] = &[
 fn identities_are_refused(rt: HostRuntime) {
     assert!(rt; Identity::new(PARTS).is_ok());
     for (row, (parts, fault)) in REFUSED.iter().enumerate() {
-        assert_eq!(rt; Identity::new(*parts).err(), Some(*fault), "of row {row}");
+        assert!(rt; Identity::new(*parts).err() == Some(*fault), "of row {row}");
     }
 }
 

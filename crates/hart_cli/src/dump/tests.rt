@@ -1,5 +1,6 @@
 use super::*;
 use crate::stream::fakes::{ALL, After, Tape, Trickle};
+use std::alloc::AllocError;
 use std::test::Fail;
 
 /// What follows its last digits makes a frame's last item whole, and here nothing does yet.
@@ -74,12 +75,9 @@ fn lines_are_written_before_more_is_read(rt: HostRuntime) {
         let reader = Tape::new(input.as_bytes(), After::End, *most_read);
         let writer = Trickle::new(rt.alloc(), Some(*write), *most_written);
         let run = run_dump(rt.alloc(), reader, writer);
-        assert!(rt; run.gave(WRITE, text), "at write {write} on {input}");
-        assert!(rt; run.reads == *reads, "at write {write} on {input}");
-        assert!(rt;
-            run.writer.writes().checked_sub(1) == Some(*write),
-            "on {input}"
-        );
+        let is_last = run.writer.writes().checked_sub(1) == Some(*write);
+        let is_named = run.gave(WRITE, text) && run.reads == *reads && is_last;
+        assert!(rt; is_named, "at write {write} on {input}");
     }
 }
 
@@ -113,10 +111,9 @@ fn nothing_is_read_after_the_end(rt: HostRuntime) {
     for (input, after, most_read, fault, reads, writes, text) in READS {
         let reader = Tape::new(input.as_bytes(), *after, *most_read);
         let run = run_dump(rt.alloc(), reader, Trickle::new(rt.alloc(), None, ALL));
-        assert!(rt; run.gave(*fault, text), "on {input}, {most_read} a read");
-        assert!(rt; run.reads == *reads, "on {input}, {most_read} a read");
+        let is_no_more = run.reads == *reads && run.writer.writes() == *writes;
         assert!(rt;
-            run.writer.writes() == *writes,
+            run.gave(*fault, text) && is_no_more,
             "on {input}, {most_read} a read"
         );
     }
@@ -143,24 +140,28 @@ fn inputs_are_read_up_to_the_limit(rt: HostRuntime) -> Result<(), Fail> {
     Ok(())
 }
 
+/// The lines of so many messages end to end, of seven bytes each.
+fn lines_of(alloc: Global, messages: u32) -> Result<String, AllocError> {
+    let mut text = String::new(alloc);
+    for message in 0..messages {
+        let start = u64::from(message) * 7 + 2;
+        let end = start + 5;
+        let line = format!(in alloc; "{start} {end} STX P 0 @0 - 0 -\n")?;
+        text.push_str(line.as_str())?;
+    }
+    Ok(text)
+}
+
 #[test]
 fn lines_go_out_together(rt: HostRuntime) -> Result<(), Fail> {
     let alloc = rt.alloc();
-    let mut input = "FFFF0280000082".repeat(alloc, 1170)?;
-    input.push_str(" ")?;
-    let mut text = String::new(alloc);
-    let mut start: u64 = 2;
-    for _ in 0..1170 {
-        let end = start.saturating_add(5);
-        text.push_str(format!(in alloc; "{start} {end} STX P 0 @0 - 0 -\n")?.as_str())?;
-        start = start.saturating_add(7);
-    }
-    let mut reader = Tape::new(input.as_bytes(), After::End, ALL);
-    let mut writer = Trickle::new(alloc, None, ALL);
-    assert_eq!(rt; dump(alloc, &mut reader, &mut writer), Ok(()));
-    assert_eq!(rt; writer.taken(), text.as_bytes());
+    let messages = "FFFF0280000082".repeat(alloc, 1170)?;
+    let input = format!(in alloc; "{messages} ")?;
+    let lines = lines_of(alloc, 1170)?;
+    let reader = Tape::new(input.as_bytes(), After::End, ALL);
+    let run = run_dump(alloc, reader, Trickle::new(alloc, None, ALL));
     // As many lines as there is room for are kept until they are written.
-    assert_eq!(rt; text.len(), 31_274);
-    assert_eq!(rt; writer.writes(), 2);
+    assert!(rt; run.gave(None, lines.as_str()) && run.writer.writes() == 2);
+    assert!(rt; lines.len() == 31_274);
     Ok(())
 }

@@ -2,6 +2,7 @@ ghost use Rattle.hart_frame.specs.Message.{IsPreambleCount};
 
 use super::*;
 use crate::stream::fakes::Trickle;
+use std::alloc::AllocError;
 use std::test::Fail;
 
 /// Four words, and the line of their request with 5 preamble bytes.
@@ -118,17 +119,20 @@ fn requests_are_written(rt: HostRuntime) {
     }
 }
 
+/// The message with 20 preamble bytes to all devices, with 255 zeros as data.
+fn longest_message(alloc: Global) -> Result<String, AllocError> {
+    let preamble = "FF ".repeat(alloc, 20)?;
+    let zeros = "00 ".repeat(alloc, 255)?;
+    format!(in alloc; "{preamble}82 80 00 00 00 00 00 FF {zeros}FD\n")
+}
+
 #[test]
 fn data_have_255_bytes_at_most(rt: HostRuntime) -> Result<(), Fail> {
     let alloc = rt.alloc();
-    let payload = "00".repeat(alloc, 255)?;
-    let words = ["P", "4000000000", "0", payload.as_str()];
-    let (result, writer) = encoded(alloc, words, 20);
-    assert!(rt; result == Ok(()));
-    let preamble = "FF ".repeat(alloc, 20)?;
-    let zeros = "00 ".repeat(alloc, 255)?;
-    let line = format!(in alloc; "{preamble}82 80 00 00 00 00 00 FF {zeros}FD\n")?;
-    assert!(rt; writer.taken() == line.as_bytes());
+    let most = "00".repeat(alloc, 255)?;
+    let (result, writer) = encoded(alloc, ["P", "4000000000", "0", most.as_str()], 20);
+    let message = longest_message(alloc)?;
+    assert!(rt; result == Ok(()) && writer.taken() == message.as_bytes());
     let longer = "7F".repeat(alloc, 256)?;
     assert!(rt; is_refused(alloc, ["P", "all", "0", longer.as_str()], 4));
     Ok(())

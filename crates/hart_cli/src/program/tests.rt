@@ -122,18 +122,27 @@ fn each_failed_read_is_named(rt: HostRuntime) -> Result<(), Fail> {
     Ok(())
 }
 
+/// Whether a call names a failed write once so many bytes are written, and writes nothing after it.
+fn names_failed_write(
+    alloc: Global,
+    words: &[&str],
+    input: &str,
+    want: &str,
+    room: usize,
+) -> Result<bool, Fail> {
+    let reader = Tape::new(input.as_bytes(), After::End, 1);
+    let run = run_program(alloc, words, reader, Some(room), None)?;
+    let is_named = run.status == FAULT && run.errors.taken() == b"write fault\n".as_slice();
+    let is_written = Some(run.output.taken()) == want.as_bytes().get(..room);
+    Ok(is_named && is_written && run.output.writes().checked_sub(1) == Some(room))
+}
+
 #[test]
 fn each_failed_write_is_named(rt: HostRuntime) -> Result<(), Fail> {
     for (words, input, want) in CALLS {
         for room in 0..want.len() {
-            let reader = Tape::new(input.as_bytes(), After::End, 1);
-            let run = run_program(rt.alloc(), words, reader, Some(room), None)?;
-            let is_named = run.status == FAULT && run.errors.taken() == b"write fault\n".as_slice();
-            let is_written = run.output.taken() == &want.as_bytes()[..room];
-            assert!(rt;
-                is_named && is_written && run.output.writes() == room + 1,
-                "for {want}"
-            );
+            let is_named = names_failed_write(rt.alloc(), words, input, want, room)?;
+            assert!(rt; is_named, "for {want}");
         }
     }
     Ok(())
@@ -152,18 +161,51 @@ fn run_plain(
     Ok((status, output.into_inner(), errors.into_inner()))
 }
 
-/// Runs a subcommand without words of its own on an input that has no fault.
-fn check_whole(
-    rt: &impl Abort,
-    alloc: Global,
-    word: &str,
-    input: &[u8],
-    want: &str,
-) -> Result<(), Fail> {
-    let (status, output, errors) = run_plain(alloc, &[word], input)?;
-    let is_written = output.as_slice() == want.as_bytes() && errors.is_empty();
-    assert!(rt; status == DONE && is_written, "of {word}");
-    Ok(())
+/// Whether a call on readers and writers of the standard library does its work, and writes this.
+fn serves(alloc: Global, words: &[&str], input: &[u8], want: &str) -> Result<bool, Fail> {
+    let (status, output, errors) = run_plain(alloc, words, input)?;
+    Ok(status == DONE && output.as_slice() == want.as_bytes() && errors.is_empty())
+}
+
+/// So many bytes of items: zeros, and then a request for the identity.
+fn items_of(alloc: Global, size: usize) -> Result<String, AllocError> {
+    let noise = size.saturating_sub(IDENTIFY.len());
+    let zeros = "00".repeat(alloc, noise / 2)?;
+    let space = " ".repeat(alloc, noise % 2)?;
+    format!(in alloc; "{zeros}{space}{IDENTIFY}")
+}
+
+/// The line of that request.
+fn line_in(alloc: Global, size: usize) -> Result<String, AllocError> {
+    let start = (size.saturating_sub(IDENTIFY.len()) / 2).saturating_add(2);
+    let stop = start.saturating_add(5);
+    format!(in alloc; "{start} {stop} STX P 0 @0 - 0 -\n")
+}
+
+/// A script of so many bytes, which is a line of noise.
+fn noise_of(alloc: Global, size: usize) -> Result<String, AllocError> {
+    let zeros = "0".repeat(alloc, size.saturating_sub(7) / 2 * 2)?;
+    let spaces = " ".repeat(alloc, 2 - size % 2)?;
+    format!(in alloc; "noise {zeros}{spaces}")
+}
+
+/// Whether the request is answered, and its line is written, in an input of so many bytes.
+fn is_found_in(alloc: Global, size: usize) -> Result<bool, Fail> {
+    let items = items_of(alloc, size)?;
+    let input = items.as_bytes();
+    let line = line_in(alloc, size)?;
+    Ok(
+        input.len() == size
+            && serves(alloc, &["answer"], input, answer::REPLY_TO_PRIMARY)?
+            && serves(alloc, &["dump"], input, line.as_str())?,
+    )
+}
+
+/// Whether a script of so many bytes is carried out.
+fn is_carried_out(alloc: Global, size: usize) -> Result<bool, Fail> {
+    let noise = noise_of(alloc, size)?;
+    let input = noise.as_bytes();
+    Ok(input.len() == size && serves(alloc, &["sim"], input, sim::AS_IT_WAS)?)
 }
 
 /// Sizes of inputs, of which the last is the largest that is taken.
@@ -171,30 +213,9 @@ const SIZES: &[usize] = &[255, 256, 1000, 1001, 4095, 4096, 4097, 65_536, 1_048_
 
 #[test]
 fn inputs_up_to_the_largest_are_taken(rt: HostRuntime) -> Result<(), Fail> {
-    let alloc = rt.alloc();
     for size in SIZES {
-        let noise = size.saturating_sub(IDENTIFY.len());
-        let mut items = "00".repeat(alloc, noise / 2)?;
-        if noise % 2 == 1 {
-            items.push_str(" ")?;
-        }
-        items.push_str(IDENTIFY)?;
-        assert_eq!(rt; items.as_bytes().len(), *size);
-        let start = (noise / 2).saturating_add(2);
-        let stop = start.saturating_add(5);
-        let line = format!(in alloc; "{start} {stop} STX P 0 @0 - 0 -\n")?;
-        check_whole(
-            &rt,
-            alloc,
-            "answer",
-            items.as_bytes(),
-            answer::REPLY_TO_PRIMARY,
-        )?;
-        check_whole(&rt, alloc, "dump", items.as_bytes(), line.as_str())?;
-        let digits = "0".repeat(alloc, size.saturating_sub(7) / 2 * 2)?;
-        let noise = format!(in alloc; "noise {digits}{}", " ".repeat(alloc, 2 - size % 2)?)?;
-        assert_eq!(rt; noise.as_bytes().len(), *size);
-        check_whole(&rt, alloc, "sim", noise.as_bytes(), sim::AS_IT_WAS)?;
+        assert!(rt; is_found_in(rt.alloc(), *size)?, "of {size} bytes");
+        assert!(rt; is_carried_out(rt.alloc(), *size)?, "of {size} bytes");
     }
     Ok(())
 }
@@ -221,22 +242,29 @@ fn an_input_without_end_is_too_long(rt: HostRuntime) -> Result<(), Fail> {
     Ok(())
 }
 
+/// Whether a call names a failed write if its output is a slice, which takes as many bytes as it has room for, and then none.
+fn fills_a_slice(alloc: Global, words: &[&str], input: &str, want: &str) -> Result<bool, Fail> {
+    let mut room = [0; 25];
+    let mut reader = Plain::new(input.as_bytes());
+    let mut output = Plain::new(&mut room[..]);
+    let mut errors = Plain::new(Vec::new(alloc));
+    let status = status_of(alloc, words, &mut reader, &mut output, &mut errors)?;
+    let text = errors.into_inner();
+    Ok(
+        status == FAULT
+            && text.as_slice() == b"write fault\n".as_slice()
+            && want.as_bytes().starts_with(room.as_slice()),
+    )
+}
+
 #[test]
 fn readers_and_writers_of_the_standard_library_serve(rt: HostRuntime) -> Result<(), Fail> {
     for (words, input, want) in CALLS {
-        let (status, output, errors) = run_plain(rt.alloc(), words, input.as_bytes())?;
-        assert_eq!(rt; status, DONE);
-        assert!(rt; output.as_slice() == want.as_bytes(), "for {want}");
-        assert!(rt; errors.is_empty());
-        // A slice takes as many bytes as it has room for, and then none.
-        let mut room = [0; 25];
-        let mut reader = Plain::new(input.as_bytes());
-        let mut output = Plain::new(&mut room[..]);
-        let mut errors = Plain::new(Vec::new(rt.alloc()));
-        let status = status_of(rt.alloc(), words, &mut reader, &mut output, &mut errors)?;
-        assert_eq!(rt; status, FAULT);
-        assert_eq!(rt; errors.into_inner().as_slice(), b"write fault\n".as_slice());
-        assert!(rt; want.as_bytes().starts_with(room.as_slice()), "for {want}");
+        let is_whole = serves(rt.alloc(), words, input.as_bytes(), want)?;
+        assert!(rt;
+            is_whole && fills_a_slice(rt.alloc(), words, input, want)?,
+            "for {want}"
+        );
     }
     Ok(())
 }
@@ -342,18 +370,29 @@ const REFUSALS: &[(&str, u8)] = &[
     ("frob", NO_CALL),
 ];
 
+/// Whether the status is this, and the beginning of a text is written, if the errors take so many bytes and then fail.
+fn leaves_status(
+    alloc: Global,
+    word: &str,
+    status: u8,
+    text: &[u8],
+    room: usize,
+) -> Result<bool, Fail> {
+    let reader = Tape::new(b"!", After::End, 1);
+    let run = run_program(alloc, &[word], reader, None, Some(room))?;
+    let is_written = Some(run.errors.taken()) == text.get(..room);
+    Ok(run.status == status && is_written && run.errors.writes().checked_sub(1) == Some(room))
+}
+
 #[test]
 fn a_failed_write_of_errors_leaves_the_status(rt: HostRuntime) -> Result<(), Fail> {
-    for (word, want) in REFUSALS {
+    for (word, status) in REFUSALS {
         let whole = run_on(rt.alloc(), &[*word], "!")?;
         let text = whole.errors.taken();
         assert!(rt; !text.is_empty());
         for room in 0..text.len() {
-            let reader = Tape::new(b"!", After::End, 1);
-            let run = run_program(rt.alloc(), &[*word], reader, None, Some(room))?;
-            let is_written = Some(run.errors.taken()) == text.get(..room);
-            let stays = run.status == *want && run.errors.writes() == room + 1;
-            assert!(rt; is_written && stays, "{word} with room for {room}");
+            let stays = leaves_status(rt.alloc(), word, *status, text, room)?;
+            assert!(rt; stays, "{word} with room for {room}");
         }
     }
     Ok(())

@@ -75,28 +75,42 @@ const STEPS: &[Step] = &[
     },
 ];
 
-#[test]
-fn writes_are_counted(rt: HostRuntime) -> Result<(), Fail> {
+/// A bench device after as many writes as its counter has values.
+fn device_gone_round() -> Result<Device<FieldRegisters>, Fail> {
     let mut device = bench_device();
     let write = request(19, NUMBER)?;
     for _ in 0..65_536u32 {
         let _reply = device.receive(&write, &bench::process()).ok_or("silence")?;
     }
-    assert_eq!(rt; device.counter(), 0);
+    Ok(device)
+}
+
+/// Whether a device replies so at a step, and counts so.
+fn takes(device: &mut Device<FieldRegisters>, step: &Step) -> Result<bool, Fail> {
+    let reply = asked(device, step.command, step.data)?;
+    let [primary, secondary] = step.changed;
+    Ok(
+        reply.payload() == step.payload
+            && device.counter() == step.counter
+            && device.changed(MasterId::Primary) == primary
+            && device.changed(MasterId::Secondary) == secondary,
+    )
+}
+
+/// Whether a device is silent if a command with the long tag that it had is sent to all.
+fn is_silent_to_former(device: &mut Device<FieldRegisters>, command: u8) -> Result<bool, Fail> {
+    let former = request_to(Asked::All, MasterId::Primary, command, &[0x20; 32])?;
+    Ok(device.receive(&former, &bench::process()).is_none())
+}
+
+#[test]
+fn writes_are_counted(rt: HostRuntime) -> Result<(), Fail> {
+    let mut device = device_gone_round()?;
+    assert!(rt; device.counter() == 0);
     for (place, step) in STEPS.iter().enumerate() {
-        let reply = asked(&mut device, step.command, step.data)?;
-        assert_eq!(rt; reply.payload(), step.payload, "after step {place}");
-        assert_eq!(rt; device.counter(), step.counter, "after step {place}");
-        let changed = [MasterId::Primary, MasterId::Secondary].map(|master| device.changed(master));
-        assert_eq!(rt; changed, step.changed, "after step {place}");
+        assert!(rt; takes(&mut device, step)?, "at step {place}");
     }
-    for command in [21, 22] {
-        let former = request_to(Asked::All, MasterId::Primary, command, &[0x20; 32])?;
-        assert!(rt; device.receive(&former, &bench::process()).is_none());
-    }
-    assert_eq!(rt;
-        device.registers().get(Register::LongTag),
-        [0xFF; 32].as_slice()
-    );
+    assert!(rt; is_silent_to_former(&mut device, 21)? && is_silent_to_former(&mut device, 22)?);
+    assert!(rt; device.registers().get(Register::LongTag) == [0xFF; 32].as_slice());
     Ok(())
 }

@@ -150,6 +150,19 @@ fn lens_of(alloc: Global, script: &str) -> Result<(usize, usize), Fail> {
     ))
 }
 
+/// Whether so many submissions have an outcome each where a master has so many turns after them.
+fn have_outcomes(
+    alloc: Global,
+    submitted: &str,
+    turn: &str,
+    times: usize,
+    submissions: usize,
+) -> Result<bool, Fail> {
+    let script = text_of(alloc, submitted, turn, times, "")?;
+    let (outcomes, _spoken) = lens_of(alloc, script.as_str())?;
+    Ok(outcomes == submissions)
+}
+
 /// A master is asked for a command, which it sends once to four times.
 fn send_often(
     rt: &impl Abort,
@@ -159,12 +172,11 @@ fn send_often(
     (who, before): (&str, &str),
 ) -> Result<(), Fail> {
     let submissions = if before.is_empty() { 1 } else { 2 };
-    let submissions_text = format!(in alloc; "{before}submit {who} 37420A1B2C {command}\n")?;
+    let submitted = format!(in alloc; "{before}submit {who} 37420A1B2C {command}\n")?;
     let turn = format!(in alloc; "turn {who} {legs}\n")?;
     for times in 1..=4 {
-        let script = text_of(alloc, submissions_text.as_str(), turn.as_str(), times, "")?;
-        let (outcomes, _spoken) = lens_of(alloc, script.as_str())?;
-        assert_eq!(rt; outcomes, submissions, "of {script}");
+        let have = have_outcomes(alloc, submitted.as_str(), turn.as_str(), times, submissions)?;
+        assert!(rt; have, "of {command} by {who}, {times} times {legs}");
     }
     Ok(())
 }

@@ -1,6 +1,7 @@
 //! `hart answer`.
 
 use super::{DONE, Row, check_rows, run_on};
+use std::alloc::{AllocError, Global};
 use std::test::Fail;
 
 pub const REPLY_TO_PRIMARY: &str = "\
@@ -188,16 +189,31 @@ const REQUEST: &str = "FF FF FF FF FF 82 B7 42 0A 1B 2C ";
 /// What stands before these in a reply.
 const REPLY: &str = "FF FF FF FF FF 86 B7 42 0A 1B 2C ";
 
+/// Whether a request that comes alone has this reply.
+fn is_answered(alloc: Global, asked: &str, replied: &str) -> Result<bool, Fail> {
+    let input = format!(in alloc; "{REQUEST}{asked}")?;
+    let want = format!(in alloc; "{REPLY}{replied}\n")?;
+    let run = run_on(alloc, &["answer"], input.as_str())?;
+    Ok(run.gave(DONE, want.as_str(), ""))
+}
+
+/// All requests, one after another.
+fn all_requests(alloc: Global) -> Result<String, AllocError> {
+    let mut all = String::new(alloc);
+    for (asked, _) in OWN_ROWS {
+        all.push_str(REQUEST)?;
+        all.push_str(asked)?;
+        all.push_str("\n")?;
+    }
+    Ok(all)
+}
+
 #[test]
 fn every_command_is_answered_where_it_comes_alone(rt: HostRuntime) -> Result<(), Fail> {
-    let mut all = String::new(rt.alloc());
     for (asked, replied) in OWN_ROWS {
-        let input = format!(in rt.alloc(); "{REQUEST}{asked}\n")?;
-        all.push_str(input.as_str())?;
-        let want = format!(in rt.alloc(); "{REPLY}{replied}\n")?;
-        let run = run_on(rt.alloc(), &["answer"], input.as_str())?;
-        assert!(rt; run.gave(DONE, want.as_str(), ""), "on {asked}");
+        assert!(rt; is_answered(rt.alloc(), asked, replied)?, "on {asked}");
     }
+    let all = all_requests(rt.alloc())?;
     let run = run_on(rt.alloc(), &["answer"], all.as_str())?;
     assert!(rt; run.gave(DONE, "", ""));
     Ok(())

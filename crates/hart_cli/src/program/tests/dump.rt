@@ -1,6 +1,7 @@
 //! `hart dump`.
 
 use super::{Row, check_rows};
+use std::alloc::{AllocError, Global};
 use std::test::Fail;
 
 /// A message that begins and goes on far beyond the whole one within it.
@@ -60,17 +61,23 @@ fn frames_in_noise_have_a_line_each(rt: HostRuntime) -> Result<(), Fail> {
     check_rows(&rt, rt.alloc(), "dump", ROWS)
 }
 
+/// The longest message and its line.
+fn longest(alloc: Global) -> Result<(String, String), AllocError> {
+    let preamble = "FF".repeat(alloc, 20)?;
+    let payload = "00".repeat(alloc, 255)?;
+    let message = format!(in alloc; "{preamble}E28000000000000000 00FF{payload}9D")?;
+    let line = format!(in alloc; "20 287 STX P 0 all 000000 0 {payload}\n")?;
+    Ok((message, line))
+}
+
 #[test]
 fn long_messages_are_found_or_passed_over(rt: HostRuntime) -> Result<(), Fail> {
     let alloc = rt.alloc();
-    let preamble = "FF".repeat(alloc, 20)?;
-    let payload = "00".repeat(alloc, 255)?;
-    let longest = format!(in alloc; "{preamble}E28000000000000000 00FF{payload}9D")?;
-    let line = format!(in alloc; "20 287 STX P 0 all 000000 0 {payload}\n")?;
+    let (message, line) = longest(alloc)?;
     let zeros = " 00".repeat(alloc, 246)?;
     let failing = format!(in alloc; "{FALSE_START}{zeros}")?;
     let rows = [
-        (longest.as_str(), line.as_str(), ""),
+        (message.as_str(), line.as_str(), ""),
         (failing.as_str(), "15 20 STX P 0 @0 - 0 -\n", ""),
     ];
     check_rows(&rt, alloc, "dump", &rows)

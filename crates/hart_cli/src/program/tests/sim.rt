@@ -1,6 +1,7 @@
 //! `hart sim`.
 
-use super::{Row, check_rows, check_whole};
+use super::{Row, check_rows, serves};
+use std::alloc::{AllocError, Global};
 use std::test::Fail;
 
 /// What a script without a request leads to.
@@ -337,24 +338,30 @@ fn scripts_are_carried_out(rt: HostRuntime) -> Result<(), Fail> {
 /// How often a master writes, each time in a turn of its own.
 const WRITES: &[usize] = &[1, 32, 33, 64, 65, 128, 129, 255, 256, 257, 300];
 
+/// What is written for so many writes.
+fn text_of(alloc: Global, writes: usize) -> Result<String, AllocError> {
+    let spoken = "P 20 82B7420A1B2C13030123453D\nD 5 86B7420A1B2C130500400123457F\n";
+    let mut text = spoken.repeat(alloc, writes)?;
+    for number in 1..=writes {
+        let line = format!(in alloc; "{number} answered 1 00 40 012345\n")?;
+        text.push_str(line.as_str())?;
+    }
+    let registers = "\
+820820820820820820820820820820820820820820820820820820820820820820820820820820820820000000012345\
+2020202020202020202020202020202020202020202020202020202020202020";
+    let device = format!(in alloc; "counter {writes}\nimage 020001{registers}{writes:04X}03\n")?;
+    text.push_str(device.as_str())?;
+    Ok(text)
+}
+
 #[test]
 fn long_scripts_have_long_texts(rt: HostRuntime) -> Result<(), Fail> {
     let alloc = rt.alloc();
     for writes in WRITES {
         let script = "submit P 37420A1B2C 19 012345\nturn P ok ok\n".repeat(alloc, *writes)?;
-        let mut text = "P 20 82B7420A1B2C13030123453D\nD 5 86B7420A1B2C130500400123457F\n".repeat(
-            alloc, *writes,
-        )?;
-        for number in 1..=*writes {
-            text.push_str(format!(in alloc; "{number} answered 1 00 40 012345\n")?.as_str())?;
-        }
-        let registers = "\
-820820820820820820820820820820820820820820820820820820820820820820820820820820820820000000012345\
-2020202020202020202020202020202020202020202020202020202020202020";
-        text.push_str(format!(in alloc;
-            "counter {writes}\nimage 020001{registers}{writes:04X}03\n"
-        )?.as_str())?;
-        check_whole(&rt, alloc, "sim", script.as_bytes(), text.as_str())?;
+        let text = text_of(alloc, *writes)?;
+        let is_whole = serves(alloc, &["sim"], script.as_bytes(), text.as_str())?;
+        assert!(rt; is_whole, "after {writes} writes");
     }
     Ok(())
 }
