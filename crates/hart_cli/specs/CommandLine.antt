@@ -38,8 +38,8 @@ encode_app =
     let payload = with_rule command (new_rule (codes "DATA")) in
     with_rule payload preambles_rule
 
--- The command `hart` alone takes words without the program's name, has a version, wants a subcommand named, and shows its help if
--- there is no word at all.
+-- The command `hart`, before it has subcommands, takes words without the program's name, has a version, wants a subcommand named,
+-- and shows its help if there is no word at all.
 abbrev pub hart_alone : App
 hart_alone =
     let plain = new_app (codes "hart") in
@@ -51,14 +51,14 @@ hart_alone =
     } in
     record plain { top = top }
 
--- With the three subcommands that read an input; `dump` takes no words.
+-- Three subcommands of `hart` read an input; `dump` takes no words.
 abbrev pub reading_app : App
 reading_app =
     let answer = with_subcommand hart_alone (image_app (codes "answer")).top in
     let dump = with_subcommand answer (new_app (codes "dump")).top in
     with_subcommand dump (image_app (codes "sim")).top
 
--- The command `hart` has the subcommand `encode` besides.
+-- The command `hart` has the subcommand `encode` besides these three.
 abbrev pub hart_app : App
 hart_app = with_subcommand reading_app encode_app.top
 

@@ -71,7 +71,7 @@ fn asked(device: &mut Device<FieldRegisters>, command: u8, data: &[u8]) -> Resul
     Ok(reply.ok_or("silence")?)
 }
 
-/// Whether a device replies so.
+/// Whether a device replies as a row says.
 fn replies(device: &mut Device<FieldRegisters>, row: &Row) -> Result<bool, Fail> {
     let (command, data, payload) = row;
     Ok(asked(device, *command, data)?.payload() == *payload)

@@ -119,7 +119,7 @@ fn requests_are_written(rt: HostRuntime) {
     }
 }
 
-/// The message with 20 preamble bytes to all devices, with 255 zeros as data.
+/// The line of the request to all devices with 20 preamble bytes and 255 zeros as data.
 fn longest_message(alloc: Global) -> Result<String, AllocError> {
     let preamble = "FF ".repeat(alloc, 20)?;
     let zeros = "00 ".repeat(alloc, 255)?;

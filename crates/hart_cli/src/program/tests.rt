@@ -242,7 +242,7 @@ fn an_input_without_end_is_too_long(rt: HostRuntime) -> Result<(), Fail> {
     Ok(())
 }
 
-/// Whether a call names a failed write if its output is a slice, which takes as many bytes as it has room for, and then none.
+/// Whether a call whose output is a slice fills it with the beginning of this, and names a failed write.
 fn fills_a_slice(alloc: Global, words: &[&str], input: &str, want: &str) -> Result<bool, Fail> {
     let mut room = [0; 25];
     let mut reader = Plain::new(input.as_bytes());

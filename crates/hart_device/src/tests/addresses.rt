@@ -114,7 +114,7 @@ const ROWS: &[Row] = &[
     (Values::New, Asked::Own, 21, LAST_IS_ANOTHER, None),
 ];
 
-/// Whether a device that is protected, or not, replies so, to the address of the request, and counts nothing.
+/// Whether a device, protected or not, replies as its row says, with the address of the request, and counts nothing.
 fn answers(row: &Row, protected: bool) -> Result<bool, Fail> {
     let (values, asked, command, data, payload) = row;
     let frame = request_to(*asked, MasterId::Secondary, *command, data)?;

@@ -39,9 +39,10 @@ fn image_fault(image: &[u8]) -> Option<DeviceFault> {
     Device::<ImageRegisters>::from_image(bench::identity(), image).err()
 }
 
-/// Bytes that make an image of either version one that is refused, from which place of each on they stand, and the fault.
+/// Bytes that make an image one that is refused, the places from which they stand in version 1 and in version 2, and the fault.
 type BadImage<'a> = (&'a [u8], usize, usize, DeviceFault);
 
+/// An unknown version, a polling address, a loop current mode, a date and flags that are none.
 const BAD_IMAGES: &[BadImage] = &[
     (&[0x00], 0, 0, DeviceFault::BadVersion),
     (&[0x00, 0x40], 0, 0, DeviceFault::BadVersion),
@@ -73,7 +74,7 @@ const BAD_LENGTHS: &[(&[u8], DeviceFault)] = &[
     (&[0x03; 54], DeviceFault::BadVersion),
 ];
 
-/// Whether an image of either version is refused for the fault with such bytes, and for none without them.
+/// Whether images of both versions are refused for the fault with these bytes, and taken without them.
 fn is_refused(row: &BadImage) -> bool {
     let (bytes, first, second, fault) = row;
     image_fault(&IMAGE_1).is_none()

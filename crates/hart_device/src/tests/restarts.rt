@@ -80,7 +80,7 @@ fn replies_with_faults(device: &mut Device<FieldRegisters>) -> Result<bool, Fail
     Ok(reply.payload() == [0x88, 0x00].as_slice())
 }
 
-/// Whether a device that was restarted shows it in the first of two like replies to the primary master, and to the other master too.
+/// Whether a device shows a cold start in the first of two like replies to the primary master alone, and to the other master too.
 fn is_shown_once(device: &mut Device<FieldRegisters>, row: &Row) -> Result<bool, Fail> {
     let (_, asked, command, data, shown) = row;
     let [code, status] = *shown;

@@ -85,7 +85,7 @@ fn device_gone_round() -> Result<Device<FieldRegisters>, Fail> {
     Ok(device)
 }
 
-/// Whether a device replies so at a step, and counts so.
+/// Whether a device replies as a step says, and has its counter and its changed bits then.
 fn takes(device: &mut Device<FieldRegisters>, step: &Step) -> Result<bool, Fail> {
     let reply = asked(device, step.command, step.data)?;
     let [primary, secondary] = step.changed;

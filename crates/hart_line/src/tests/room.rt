@@ -176,7 +176,7 @@ fn send_often(
     let turn = format!(in alloc; "turn {who} {legs}\n")?;
     for times in 1..=4 {
         let have = have_outcomes(alloc, submitted.as_str(), turn.as_str(), times, submissions)?;
-        assert!(rt; have, "of {command} by {who}, {times} times {legs}");
+        assert!(rt; have, "{times} times {turn} after {submitted}");
     }
     Ok(())
 }

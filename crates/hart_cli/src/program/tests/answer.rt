@@ -189,9 +189,14 @@ const REQUEST: &str = "FF FF FF FF FF 82 B7 42 0A 1B 2C ";
 /// What stands before these in a reply.
 const REPLY: &str = "FF FF FF FF FF 86 B7 42 0A 1B 2C ";
 
+/// A request to the device's own address, on a line of its own.
+fn request_of(alloc: Global, asked: &str) -> Result<String, AllocError> {
+    format!(in alloc; "{REQUEST}{asked}\n")
+}
+
 /// Whether a request that comes alone has this reply.
 fn is_answered(alloc: Global, asked: &str, replied: &str) -> Result<bool, Fail> {
-    let input = format!(in alloc; "{REQUEST}{asked}")?;
+    let input = request_of(alloc, asked)?;
     let want = format!(in alloc; "{REPLY}{replied}\n")?;
     let run = run_on(alloc, &["answer"], input.as_str())?;
     Ok(run.gave(DONE, want.as_str(), ""))
@@ -201,9 +206,7 @@ fn is_answered(alloc: Global, asked: &str, replied: &str) -> Result<bool, Fail> 
 fn all_requests(alloc: Global) -> Result<String, AllocError> {
     let mut all = String::new(alloc);
     for (asked, _) in OWN_ROWS {
-        all.push_str(REQUEST)?;
-        all.push_str(asked)?;
-        all.push_str("\n")?;
+        all.push_str(request_of(alloc, asked)?.as_str())?;
     }
     Ok(all)
 }
