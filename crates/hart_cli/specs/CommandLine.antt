@@ -51,14 +51,14 @@ hart_alone =
     } in
     record plain { top = top }
 
--- Three subcommands of `hart` read an input; `dump` takes no words.
+-- Its subcommands that read an input are `answer`, `dump` and `sim`; `dump` takes no words.
 abbrev pub reading_app : App
 reading_app =
     let answer = with_subcommand hart_alone (image_app (codes "answer")).top in
     let dump = with_subcommand answer (new_app (codes "dump")).top in
     with_subcommand dump (image_app (codes "sim")).top
 
--- The command `hart` has the subcommand `encode` besides these three.
+-- The command `hart` has four subcommands: these three, and `encode`.
 abbrev pub hart_app : App
 hart_app = with_subcommand reading_app encode_app.top
 

@@ -71,8 +71,8 @@ pub fn requested_call<'a>(alloc: Global, words: &'a [String]) -> Result<Call<'a>
     }
 }
 
-/// The call of the subcommand that the words named, or `None` if they named none or gave it too few words, which clap does not
-/// let pass.
+/// The call of the subcommand that the words named, or `None` if they named none of the four, or if `encode_words` gives `None`.
+/// clap lets neither pass.
 fn call_of<'a>(matches: &ArgMatches<'a>) -> Option<Call<'a>>
     ensures { IfSome result (GivesCall (subcommand_rows_of matches.now)) }
 {
