@@ -62,7 +62,7 @@ reading_app =
 abbrev pub hart_app : App
 hart_app = with_subcommand reading_app encode_app.top
 
--- Each call has a subcommand of its own.
+-- Each kind of call has a subcommand of its own.
 abbrev pub name_of : Call → Text
 name_of (Answer image) = codes "answer"
 name_of Dump = codes "dump"
@@ -90,7 +90,8 @@ GivesValues Dump rows = Unit {0}
 GivesValues (Sim image) rows = first_of (codes "image") rows ≡ image
 GivesValues (Encode words) rows = GivesWords rows words
 
--- A subcommand that was met, with its matches, gives a call if it is the call's and the matches give the call's values.
+-- A subcommand that was met, with its matches, gives a call if it is the subcommand of that call and the matches give the call's
+-- values.
 pub record GivesCall (met : Option (Text × List Row)) (call : Call) : Type 0 where
   pub rows : List Row
   pub named : met ≡ Some (name_of call, rows)
