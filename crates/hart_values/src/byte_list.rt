@@ -39,8 +39,11 @@ impl<const N: usize> ByteList<N> {
         ensures fits { IsSome result ↔ (length bytes.now ≤ N) }
         ensures kept { IfSome result (λ list. list ≡ bytes.now) }
     {
+        if bytes.len() > N {
+            return None;
+        }
         let mut list = ByteList::new();
-        list.bytes.try_extend_from_slice(bytes).ok()?;
+        list.extend_from_slice(bytes);
         Some(list)
     }
 
