@@ -60,12 +60,16 @@ fn is_read_as(frame: &Frame, read: &Read) -> bool {
         && frame.payload() == *payload
 }
 
+/// Whether bytes begin with the body of a frame with these parts.
+fn begin_with(bytes: &[u8], read: &Read) -> Result<bool, Fail> {
+    let (frame, len) = decode(bytes)?;
+    Ok(len == read.0 && is_read_as(&frame, read) && bytes.starts_with(frame.body().as_slice()))
+}
+
 #[test]
 fn bodies_are_read(rt: HostRuntime) -> Result<(), Fail> {
     for (row, (bytes, read)) in BODIES.iter().enumerate() {
-        let (frame, len) = decode(bytes)?;
-        assert!(rt; len == read.0 && is_read_as(&frame, read), "of row {row}");
-        assert_eq!(rt; frame.body().as_slice(), &bytes[..read.0], "of row {row}");
+        assert!(rt; begin_with(bytes, read)?, "of row {row}");
     }
     Ok(())
 }
@@ -101,8 +105,29 @@ const REFUSED: &[(&[u8], FrameFault)] = &[
 #[test]
 fn bodies_are_refused(rt: HostRuntime) {
     for (row, (bytes, want)) in REFUSED.iter().enumerate() {
-        assert_eq!(rt; decode(bytes).err(), Some(*want), "of row {row}");
+        assert!(rt; decode(bytes).err() == Some(*want), "of row {row}");
     }
+}
+
+/// The message of a request with five preamble bytes: Command 19 with the final assembly number 01 23 45.
+const REQUEST: &[u8] = &[
+    0xFF, 0xFF, 0xFF, 0xFF, 0xFF, 0x82, 0xB7, 0x42, 0x0A, 0x1B, 0x2C, 0x13, 0x03, 0x01, 0x23, 0x45,
+    0x3D,
+];
+
+/// The message of its reply.
+const REPLY: &[u8] = &[
+    0xFF, 0xFF, 0xFF, 0xFF, 0xFF, 0x86, 0xB7, 0x42, 0x0A, 0x1B, 0x2C, 0x13, 0x05, 0x00, 0x40, 0x01,
+    0x23, 0x45, 0x7F,
+];
+
+/// Whether a frame is written as this message in place of other bytes, which stay if there are too few preamble bytes.
+fn is_written_as(frame: &Frame, want: &[u8]) -> Result<bool, Fail> {
+    let mut output = Message::from_slice(&[1, 2, 3]).ok_or("three bytes")?;
+    let is_refused = encode(frame, 4, &mut output) == Err(FrameFault::BadPreamble)
+        && output.as_slice() == [1, 2, 3].as_slice();
+    encode(frame, 5, &mut output)?;
+    Ok(is_refused && output.as_slice() == want)
 }
 
 #[test]
@@ -110,25 +135,9 @@ fn requests_and_replies_are_written(rt: HostRuntime) -> Result<(), Fail> {
     let address = Address::unique(0x3742, 0x0A1B2C)?;
     let assembly = Payload::from_slice(&[0x01, 0x23, 0x45]).ok_or("three bytes")?;
     let request = Frame::request(MasterId::Primary, address, 19, assembly);
-    let mut output = Message::from_slice(&[1, 2, 3]).ok_or("three bytes")?;
-    encode(&request, 5, &mut output)?;
-    let want = [
-        0xFF, 0xFF, 0xFF, 0xFF, 0xFF, 0x82, 0xB7, 0x42, 0x0A, 0x1B, 0x2C, 0x13, 0x03, 0x01, 0x23,
-        0x45, 0x3D,
-    ];
-    assert_eq!(rt; output.as_slice(), want.as_slice());
-    assert_eq!(rt;
-        encode(&request, 4, &mut output),
-        Err(FrameFault::BadPreamble)
-    );
-    assert_eq!(rt; output.as_slice(), want.as_slice());
     let payload = Payload::from_slice(&[0x00, 0x40, 0x01, 0x23, 0x45]).ok_or("five bytes")?;
-    encode(&request.reply(payload), 5, &mut output)?;
-    let want = [
-        0xFF, 0xFF, 0xFF, 0xFF, 0xFF, 0x86, 0xB7, 0x42, 0x0A, 0x1B, 0x2C, 0x13, 0x05, 0x00, 0x40,
-        0x01, 0x23, 0x45, 0x7F,
-    ];
-    assert_eq!(rt; output.as_slice(), want.as_slice());
+    let reply = request.reply(payload);
+    assert!(rt; is_written_as(&request, REQUEST)? && is_written_as(&reply, REPLY)?);
     Ok(())
 }
 
@@ -144,7 +153,7 @@ fn a_reply_needs_its_status_bytes(rt: HostRuntime) -> Result<(), Fail> {
         0,
         one_byte,
     );
-    assert_eq!(rt; made.err(), Some(FrameFault::TooShortReply));
+    assert!(rt; made.err() == Some(FrameFault::TooShortReply));
     Ok(())
 }
 
@@ -161,8 +170,7 @@ fn the_longest_message_fits(rt: HostRuntime) -> Result<(), Fail> {
     )?;
     let mut output = Message::new();
     encode(&longest, 20, &mut output)?;
-    assert_eq!(rt; output.len(), 287);
-    assert_eq!(rt; output.as_slice().last(), Some(&0x9D));
+    assert!(rt; output.len() == 287 && output.as_slice().ends_with(&[0x9D]));
     Ok(())
 }
 
@@ -171,19 +179,29 @@ const CHECKED_LENGTHS: &[usize] = &[0, 1, 31, 32, 33, 63, 64, 65, 255, 267, MOST
 
 const MOST_CHECKED: usize = 1000;
 
+/// The exclusive or of the first bytes, if there are so many, taken one after another.
+fn exclusive_or(bytes: &[u8], len: usize) -> Option<u8> {
+    let mut all = 0;
+    for byte in bytes.get(..len)? {
+        all ^= *byte;
+    }
+    Some(all)
+}
+
 #[test]
-fn a_check_byte_is_the_exclusive_or(rt: HostRuntime) -> Result<(), Fail> {
-    assert_eq!(rt; check_byte(&[0x02, 0x80, 0x00, 0x00]), 0x82);
+fn a_check_byte_is_the_exclusive_or(rt: HostRuntime) {
+    assert!(rt; check_byte(&[0x02, 0x80, 0x00, 0x00]) == 0x82);
     let mut bytes = [0; MOST_CHECKED];
     for (place, byte) in bytes.iter_mut().enumerate() {
         *byte = (place * 37 % 251) as u8;
     }
     for len in CHECKED_LENGTHS {
-        let bytes = bytes.get(..*len).ok_or("at most 1,000 bytes")?;
-        let one_by_one = bytes.iter().fold(0, |check, byte| check ^ byte);
-        assert_eq!(rt; check_byte(bytes), one_by_one, "of {len} bytes");
+        let check = bytes.get(..*len).map(check_byte);
+        assert!(rt;
+            check.is_some() && check == exclusive_or(&bytes, *len),
+            "of {len} bytes"
+        );
     }
-    Ok(())
 }
 
 const TEXTS: &[(FrameFault, &str)] = &[
@@ -199,7 +217,7 @@ const TEXTS: &[(FrameFault, &str)] = &[
 fn faults_have_texts(rt: HostRuntime) -> Result<(), Fail> {
     for (fault, want) in TEXTS {
         let text = fault.to_string(rt.alloc())?;
-        assert_eq!(rt; text.as_str(), *want);
+        assert!(rt; text.as_str() == *want, "of {want}");
     }
     Ok(())
 }
