@@ -45,14 +45,18 @@ const REQUESTS: &[(u8, &[u8], &[u8])] = &[
     (48, &[0x01], &[]),
 ];
 
+/// Whether a request of a command is written as these data.
+fn is_written_as(request: &Request, command: u8, want: &[u8]) -> bool {
+    let mut data = Payload::new();
+    request.write(&mut data);
+    request.command() == command && data.as_slice() == want
+}
+
 #[test]
 fn requests_are_read_and_written(rt: HostRuntime) -> Result<(), Fail> {
     for (row, (command, bytes, want)) in REQUESTS.iter().enumerate() {
         let request = Request::read(*command, bytes)?;
-        let mut data = Payload::new();
-        request.write(&mut data);
-        assert_eq!(rt; request.command(), *command, "of row {row}");
-        assert_eq!(rt; data.as_slice(), *want, "of row {row}");
+        assert!(rt; is_written_as(&request, *command, want), "of row {row}");
     }
     Ok(())
 }
@@ -87,7 +91,7 @@ fn bad_data_are_refused(rt: HostRuntime) {
         let code = Request::read(*command, bytes)
             .err()
             .map(|code| code.value());
-        assert_eq!(rt; code, Some(*want), "of row {row}");
+        assert!(rt; code == Some(*want), "of row {row}");
     }
 }
 
@@ -136,7 +140,7 @@ fn replies_of_every_length_are_read(rt: HostRuntime) -> Result<(), Fail> {
         let reply = Reply::read(*command, bytes).ok_or("a reply")?;
         let mut payload = Payload::new();
         reply.write(&mut payload);
-        assert_eq!(rt; payload.len(), *want, "of {command} with {len} bytes");
+        assert!(rt; payload.len() == *want, "of {command} with {len} bytes");
     }
     Ok(())
 }
@@ -169,7 +173,6 @@ fn other_payloads_are_no_replies(rt: HostRuntime) {
 
 #[test]
 fn an_identity_has_its_parts(rt: HostRuntime) -> Result<(), Fail> {
-    let reply = Reply::read(0, &IDENTITY).ok_or("an identity")?;
     let want = IdentityContent {
         expanded_device_type: [0x37, 0x42],
         request_preambles: 5,
@@ -187,22 +190,23 @@ fn an_identity_has_its_parts(rt: HostRuntime) -> Result<(), Fail> {
         private_label_distributor: [0x00, 0x37],
         device_profile: 1,
     };
-    assert_eq!(rt; reply.content, ReplyContent::Identity(want));
+    let content = ReplyContent::Identity(want);
     for command in IDENTIFYING {
-        let same = Reply::read(*command, &IDENTITY).ok_or("an identity")?;
-        assert_eq!(rt; same.content, reply.content, "of {command}");
+        let reply = Reply::read(*command, &IDENTITY).ok_or("an identity")?;
+        assert!(rt; reply.content == content, "of {command}");
     }
+    let reply = Reply::read(0, &IDENTITY).ok_or("an identity")?;
     let mut payload = Payload::new();
     reply.write(&mut payload);
-    assert_eq!(rt; payload.as_slice(), &IDENTITY[..24]);
+    assert!(rt; payload.as_slice() == &IDENTITY[..24]);
     Ok(())
 }
 
 #[test]
 fn a_refusal_gives_its_code(rt: HostRuntime) -> Result<(), Fail> {
     let reply = Reply::read(19, &[0x07, 0x40]).ok_or("a refusal")?;
-    assert_eq!(rt; (reply.code.value(), reply.status.0), (7, 0x40));
-    assert_eq!(rt; reply.content, ReplyContent::Refused);
+    assert!(rt; reply.code.value() == 7 && reply.status.0 == 0x40);
+    assert!(rt; reply.content == ReplyContent::Refused);
     Ok(())
 }
 
@@ -228,27 +232,35 @@ fn a_write_names_its_registers(rt: HostRuntime) -> Result<(), Fail> {
     let request = Request::read(18, &TAG)?;
     let overwrite = writes_of(&request).ok_or("a write")?;
     for (row, (register, want)) in NAMED.iter().enumerate() {
-        assert_eq!(rt; overwrite.get(*register), *want, "of row {row}");
+        assert!(rt; overwrite.get(*register) == *want, "of row {row}");
     }
     Ok(())
+}
+
+/// Whether a long tag is what a request writes that has it as its data.
+fn is_written(long_tag: [u8; 32]) -> Result<bool, Fail> {
+    let request = Request::read(22, &long_tag)?;
+    let overwrite = writes_of(&request).ok_or("a write")?;
+    Ok(
+        request == Request::WriteLongTag(long_tag)
+            && overwrite.get(Register::LongTag) == Some(long_tag.as_slice())
+            && is_written_as(&request, 22, &long_tag),
+    )
+}
+
+/// Whether a long tag is what a reply says that has it as its data.
+fn is_said(long_tag: [u8; 32]) -> Result<bool, Fail> {
+    let mut payload = Payload::from_slice(&[0; 2]).ok_or("two bytes")?;
+    payload.extend_from_slice(&long_tag);
+    let reply = Reply::read(20, payload.as_slice()).ok_or("a reply")?;
+    Ok(reply.content == ReplyContent::LongTag(long_tag))
 }
 
 #[test]
 fn a_long_tag_has_any_bytes(rt: HostRuntime) -> Result<(), Fail> {
     for byte in 0..=255u8 {
         let long_tag = [byte; 32];
-        let request = Request::read(22, &long_tag)?;
-        assert_eq!(rt; request, Request::WriteLongTag(long_tag));
-        let overwrite = writes_of(&request).ok_or("a write")?;
-        assert_eq!(rt; overwrite.get(Register::LongTag), Some(long_tag.as_slice()));
-        let mut payload = Payload::new();
-        request.write(&mut payload);
-        assert_eq!(rt; payload.as_slice(), long_tag.as_slice());
-        payload.clear();
-        payload.extend_from_slice(&[0; 2]);
-        payload.extend_from_slice(&long_tag);
-        let reply = Reply::read(20, payload.as_slice()).ok_or("a reply")?;
-        assert_eq!(rt; reply.content, ReplyContent::LongTag(long_tag));
+        assert!(rt; is_written(long_tag)? && is_said(long_tag)?, "of {byte}");
     }
     Ok(())
 }
