@@ -29,27 +29,17 @@ impl<'a> Overwrite<'a> {
         ensures valid { IfSome result (λ bytes. IsValidIn register bytes.now) }
         ensures size { IfSome result (λ bytes. length bytes.now ≡ size_of register) }
     {
-        match self.write {
-            Request::SetPolling { address, mode } => match register {
-                Register::Polling => Some(address.as_bytes()),
-                Register::Mode => Some(mode_bytes(*mode)),
-                _ => None,
-            },
-            Request::WriteMessage(message) if register == Register::Message => {
-                Some(message.as_bytes())
+        match (self.write, register) {
+            (Request::SetPolling { address, .. }, Register::Polling) => Some(address.as_bytes()),
+            (Request::SetPolling { mode, .. }, Register::Mode) => Some(mode_bytes(*mode)),
+            (Request::WriteMessage(message), Register::Message) => Some(message.as_bytes()),
+            (Request::WriteTag { tag, .. }, Register::Tag) => Some(tag.as_bytes()),
+            (Request::WriteTag { descriptor, .. }, Register::Descriptor) => {
+                Some(descriptor.as_bytes())
             }
-            Request::WriteTag {
-                tag,
-                descriptor,
-                date,
-            } => match register {
-                Register::Tag => Some(tag.as_bytes()),
-                Register::Descriptor => Some(descriptor.as_bytes()),
-                Register::Date => Some(date.as_bytes()),
-                _ => None,
-            },
-            Request::WriteAssembly(assembly) if register == Register::Assembly => Some(assembly),
-            Request::WriteLongTag(long_tag) if register == Register::LongTag => Some(long_tag),
+            (Request::WriteTag { date, .. }, Register::Date) => Some(date.as_bytes()),
+            (Request::WriteAssembly(assembly), Register::Assembly) => Some(assembly),
+            (Request::WriteLongTag(long_tag), Register::LongTag) => Some(long_tag),
             _ => None,
         }
     }

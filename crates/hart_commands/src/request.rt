@@ -78,31 +78,31 @@ impl Request {
         ensures read { result ≡ request_reading command bytes.now }
         ensures well_made { IfOk result IsRequest }
     {
-        Ok(match command {
-            0 => Request::Identify,
-            1 => Request::ReadPrimary,
-            2 => Request::ReadCurrent,
-            3 => Request::ReadDynamic,
-            6 => read_polling(bytes)?,
-            7 => Request::ReadPolling,
-            8 => Request::ReadClasses,
-            9 => read_codes(bytes)?,
-            11 => Request::IdentifyByTag(PackedText::from_bytes(needed(bytes)?)),
-            12 => Request::ReadMessage,
-            13 => Request::ReadTag,
-            14 => Request::ReadSensor,
-            15 => Request::ReadOutput,
-            16 => Request::ReadAssembly,
-            17 => Request::WriteMessage(PackedText::from_bytes(needed(bytes)?)),
-            18 => read_tag(bytes)?,
-            19 => Request::WriteAssembly(needed(bytes)?),
-            20 => Request::ReadLongTag,
-            21 => Request::IdentifyByLongTag(needed(bytes)?),
-            22 => Request::WriteLongTag(needed(bytes)?),
-            38 => read_reset(bytes)?,
-            48 => Request::ReadMore,
-            _ => return Err(ResponseCode::COMMAND_NOT_IMPLEMENTED),
-        })
+        match command {
+            0 => Ok(Request::Identify),
+            1 => Ok(Request::ReadPrimary),
+            2 => Ok(Request::ReadCurrent),
+            3 => Ok(Request::ReadDynamic),
+            6 => read_polling(bytes),
+            7 => Ok(Request::ReadPolling),
+            8 => Ok(Request::ReadClasses),
+            9 => read_codes(bytes),
+            11 => Ok(Request::IdentifyByTag(PackedText::from_bytes(needed(bytes)?))),
+            12 => Ok(Request::ReadMessage),
+            13 => Ok(Request::ReadTag),
+            14 => Ok(Request::ReadSensor),
+            15 => Ok(Request::ReadOutput),
+            16 => Ok(Request::ReadAssembly),
+            17 => Ok(Request::WriteMessage(PackedText::from_bytes(needed(bytes)?))),
+            18 => read_tag(bytes),
+            19 => Ok(Request::WriteAssembly(needed(bytes)?)),
+            20 => Ok(Request::ReadLongTag),
+            21 => Ok(Request::IdentifyByLongTag(needed(bytes)?)),
+            22 => Ok(Request::WriteLongTag(needed(bytes)?)),
+            38 => read_reset(bytes),
+            48 => Ok(Request::ReadMore),
+            _ => Err(ResponseCode::COMMAND_NOT_IMPLEMENTED),
+        }
     }
 
     /// The number of the command that asks it.

@@ -10,6 +10,5 @@ pub fn tag_parts(bytes: &[u8]) -> Option<([u8; 6], [u8; 12], [u8; 3])>
 {
     let (tag, rest) = bytes.split_first_chunk::<6>()?;
     let (descriptor, rest) = rest.split_first_chunk::<12>()?;
-    let date = rest.first_chunk::<3>()?;
-    Some((*tag, *descriptor, *date))
+    Some((*tag, *descriptor, *rest.first_chunk()?))
 }

@@ -1,6 +1,7 @@
 //! The rows of the table of replies.
 ghost use Rattle.std.specs.Prelude.{◌≡◌, ◌<◌, ◌≤◌, IfSome, List, ℕ, length, take, drop, map};
-ghost use Rattle.hart_commands.specs.ReplyData.{content_reading, identity_reading, primary_reading, current_reading, dynamic_reading, polling_reading, variables_reading, message_reading, tag_reading, sensor_reading, output_reading, more_reading};
+ghost use Rattle.hart_commands.specs.ReplyData.{content_reading, identity_reading, primary_reading, current_reading, dynamic_reading, polling_reading, classes_reading, variables_reading, message_reading, tag_reading, sensor_reading, output_reading, assembly_reading, long_tag_reading, counter_reading, more_reading};
+ghost use Rattle.hart_commands.specs.Values.{unit_value_of, variable_of};
 
 use crate::identity::FIRST_BYTE;
 use crate::tag_bytes::tag_parts;
@@ -20,15 +21,15 @@ pub fn read_content(command: u8, bytes: &[u8]) -> Option<ReplyContent>
         2 => read_current(bytes),
         3 => read_dynamic(bytes),
         6 | 7 => read_polling(bytes),
-        8 => Some(ReplyContent::Classes(*bytes.first_chunk()?)),
+        8 => read_classes(bytes),
         9 => read_variables(bytes),
         12 | 17 => read_message(bytes),
         13 | 18 => read_tag(bytes),
         14 => read_sensor(bytes),
         15 => read_output(bytes),
-        16 | 19 => Some(ReplyContent::Assembly(*bytes.first_chunk()?)),
-        20 | 22 => Some(ReplyContent::LongTag(*bytes.first_chunk()?)),
-        38 => Some(ReplyContent::Counter(*bytes.first_chunk()?)),
+        16 | 19 => read_assembly(bytes),
+        20 | 22 => read_long_tag(bytes),
+        38 => read_counter(bytes),
         48 => read_more(bytes),
         _ => None,
     }
@@ -72,14 +73,22 @@ fn read_dynamic(bytes: &[u8]) -> Option<ReplyContent>
     }
     let (loop_current, rest) = bytes.split_first_chunk::<4>()?;
     let (groups, _) = rest.as_chunks::<5>();
-    let mut values = ShortList::new();
-    for group in &groups[..groups.len().min(4)] {
-        values.push(UnitValue::from_bytes(*group));
-    }
     Some(ReplyContent::Dynamic {
         loop_current: Bits32(*loop_current),
-        values,
+        values: values_in(&groups[..groups.len().min(4)]),
     })
+}
+
+/// The values of at most four groups.
+fn values_in(groups: &[[u8; 5]]) -> ShortList<UnitValue, 4>
+    requires { length groups.now ≤ 4 }
+    ensures { result ≡ map unit_value_of groups.now }
+{
+    let mut values = ShortList::new();
+    for group in groups {
+        values.push(UnitValue::from_bytes(*group));
+    }
+    values
 }
 
 /// Commands 6 and 7: a polling address and a loop current mode, as they come.
@@ -88,6 +97,13 @@ fn read_polling(bytes: &[u8]) -> Option<ReplyContent>
 {
     let [address, mode] = *bytes.first_chunk::<2>()?;
     Some(ReplyContent::Polling { address, mode })
+}
+
+/// Command 8: the classifications of the four dynamic variables.
+fn read_classes(bytes: &[u8]) -> Option<ReplyContent>
+    ensures { result ≡ classes_reading bytes.now }
+{
+    Some(ReplyContent::Classes(*bytes.first_chunk()?))
 }
 
 /// Command 9: the extended device status, one to eight variables and their time stamp, which ends the data.
@@ -99,15 +115,23 @@ fn read_variables(bytes: &[u8]) -> Option<ReplyContent>
     if groups.is_empty() || 8 < groups.len() || time_stamp.len() != 4 {
         return None;
     }
+    Some(ReplyContent::Variables {
+        extended_device_status: *extended_device_status,
+        variables: variables_in(groups),
+        time_stamp: *time_stamp.first_chunk()?,
+    })
+}
+
+/// The variables of at most eight groups.
+fn variables_in(groups: &[[u8; 8]]) -> ShortList<VariableReading, 8>
+    requires { length groups.now ≤ 8 }
+    ensures { result ≡ map variable_of groups.now }
+{
     let mut variables = ShortList::new();
     for group in groups {
         variables.push(VariableReading::from_bytes(*group));
     }
-    Some(ReplyContent::Variables {
-        extended_device_status: *extended_device_status,
-        variables,
-        time_stamp: *time_stamp.first_chunk()?,
-    })
+    variables
 }
 
 /// Commands 12 and 17: the message.
@@ -141,6 +165,27 @@ fn read_output(bytes: &[u8]) -> Option<ReplyContent>
     ensures { result ≡ output_reading bytes.now }
 {
     Some(ReplyContent::Output(OutputContent::from_bytes(*bytes.first_chunk()?)))
+}
+
+/// Commands 16 and 19: the final assembly number.
+fn read_assembly(bytes: &[u8]) -> Option<ReplyContent>
+    ensures { result ≡ assembly_reading bytes.now }
+{
+    Some(ReplyContent::Assembly(*bytes.first_chunk()?))
+}
+
+/// Commands 20 and 22: the long tag.
+fn read_long_tag(bytes: &[u8]) -> Option<ReplyContent>
+    ensures { result ≡ long_tag_reading bytes.now }
+{
+    Some(ReplyContent::LongTag(*bytes.first_chunk()?))
+}
+
+/// Command 38: the configuration change counter.
+fn read_counter(bytes: &[u8]) -> Option<ReplyContent>
+    ensures { result ≡ counter_reading bytes.now }
+{
+    Some(ReplyContent::Counter(*bytes.first_chunk()?))
 }
 
 /// Command 48: the additional status bytes, one to 25.
