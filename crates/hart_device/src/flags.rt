@@ -15,7 +15,7 @@ const SECONDARY_CHANGED: u8 = 2;
 const PROTECTED: u8 = 4;
 
 /// What the flags of an image say.
-#[derive(Clone, Copy, Debug)]
+#[derive(Clone, Copy)]
 pub(crate) struct Flags {
     /// For each master its configuration-changed bit.
     pub changed: EachMaster<bool>,

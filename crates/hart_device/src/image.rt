@@ -34,7 +34,7 @@ const ARRAY_LEN_OF_VERSION_1: usize = 50;
 const ENDING_LEN: usize = 3;
 
 /// What an image says.
-#[derive(Clone, Copy, Debug)]
+#[derive(Clone, Copy)]
 pub(crate) struct ImageParts {
     /// The values of the registers.
     pub values: RegisterValues,

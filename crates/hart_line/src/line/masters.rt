@@ -20,7 +20,7 @@ use hart_values::{Address, MasterId};
 const TURN_TIME: u8 = 255;
 
 /// A master, and the place of its request in hand among the outcomes.
-#[derive(Debug, Drop)]
+#[derive(Drop)]
 pub struct Submitter {
     pub master: Master,
     pub place: usize,
@@ -112,7 +112,7 @@ impl Submitter {
 }
 
 /// The two masters of a line.
-#[derive(Debug, Drop)]
+#[derive(Drop)]
 pub struct Masters {
     pub primary: Submitter,
     pub secondary: Submitter,

@@ -6,7 +6,7 @@ use crate::{Filling, LineEvent, NoRoom, Outcome, Spoken};
 use std::alloc::Global;
 
 /// Room for what a script leads to.
-#[derive(Debug, Drop)]
+#[derive(Drop)]
 pub struct ScriptRoom {
     /// For an outcome of each submission.
     pub outcomes: Filling<Outcome>,

@@ -4,7 +4,7 @@ ghost use Rattle.std.specs.Prelude.{◌≡◌};
 use crate::{Leg, LineFault};
 
 /// The damage in a leg of an event is undetected.
-#[derive(Clone, Copy, Debug, PartialEq, Eq)]
+#[derive(Clone, Copy)]
 pub struct Undetected {
     pub leg: Leg,
 }
@@ -22,7 +22,7 @@ impl Undetected {
 }
 
 /// Where a script stops: at the event with this number, counted from 0, in which the damage of this leg is undetected.
-#[derive(Clone, Copy, Debug, PartialEq, Eq)]
+#[derive(Clone, Copy)]
 pub struct Stop {
     pub event: usize,
     pub leg: Leg,
