@@ -1,5 +1,5 @@
-ghost use Rattle.std.specs.Prelude.{◌≡◌, length, unwrap_or, IfSome};
-ghost use Rattle.std.specs.Option.{option_map};
+ghost use Rattle.std.specs.Prelude.{◌≡◌, length, unwrap_or};
+ghost use Rattle.hart_commands.specs.Registers.{named_in, size_of};
 
 use crate::{RegisterStore, RegisterValues};
 use hart_commands::{Overwrite, Register};
@@ -63,23 +63,23 @@ impl RegisterStore for FieldRegisters {
     }
 
     fn overwrite(&mut self, overwrite: &Overwrite) {
-        replace(&mut self.polling, overwrite.get(Register::Polling));
-        replace(&mut self.mode, overwrite.get(Register::Mode));
-        replace(&mut self.message, overwrite.get(Register::Message));
-        replace(&mut self.tag, overwrite.get(Register::Tag));
-        replace(&mut self.descriptor, overwrite.get(Register::Descriptor));
-        replace(&mut self.date, overwrite.get(Register::Date));
-        replace(&mut self.assembly, overwrite.get(Register::Assembly));
-        replace(&mut self.long_tag, overwrite.get(Register::LongTag));
+        replace(&mut self.polling, overwrite, Register::Polling);
+        replace(&mut self.mode, overwrite, Register::Mode);
+        replace(&mut self.message, overwrite, Register::Message);
+        replace(&mut self.tag, overwrite, Register::Tag);
+        replace(&mut self.descriptor, overwrite, Register::Descriptor);
+        replace(&mut self.date, overwrite, Register::Date);
+        replace(&mut self.assembly, overwrite, Register::Assembly);
+        replace(&mut self.long_tag, overwrite, Register::LongTag);
     }
 }
 
-/// Gives a register other bytes, if there are any.
-fn replace(register: &mut [u8], bytes: Option<&[u8]>)
-    requires { IfSome bytes (λ bytes. length bytes.now ≡ length register.old) }
-    ensures { register.new ≡ unwrap_or (option_map (λ bytes. bytes.now) bytes.entry) register.old }
+/// Replaces the bytes of a register by those that the overwrite gives it, if it names it.
+fn replace(bytes: &mut [u8], overwrite: &Overwrite, register: Register)
+    requires { length bytes.old ≡ size_of register }
+    ensures { bytes.new ≡ unwrap_or (named_in overwrite.now register) bytes.old }
 {
-    if let Some(bytes) = bytes {
-        register.copy_from_slice(bytes);
+    if let Some(others) = overwrite.get(register) {
+        bytes.copy_from_slice(others);
     }
 }

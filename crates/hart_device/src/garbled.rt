@@ -1,5 +1,6 @@
 //! Requests that a device heard with faults.
-ghost use Rattle.std.specs.Prelude.{◌≡◌, ◌↔◌, ◌++◌, ℕ, List, All, length, Some, IsTrue, IfSome, MatchOption};
+ghost use Rattle.std.specs.Prelude.{◌≡◌, ◌↔◌, ◌++◌, ℕ, List, All, length, slice_get, Some, IsTrue, IfSome, MatchOption};
+ghost use Rattle.std.specs.Option.{option_map};
 ghost use Rattle.hart_values.specs.declared.address.Address.TheVariants.{Unique};
 ghost use Rattle.hart_values.specs.declared.master_id.MasterId.{MasterId};
 ghost use Rattle.hart_frame.specs.Character.{Character, faultless};
@@ -67,14 +68,21 @@ fn garbled_at(identity: &Identity, chars: &[Char]) -> Option<GarbledRequest>
     // No-op: by this law the garbled request that is found is the only one.
     address_bytes_are_unambiguous();
     let master = asking_master(identity, chars)?;
-    let command = chars.get(COMMAND_PLACE)?.byte();
-    let byte_count = chars.get(COMMAND_PLACE + 1)?.byte();
+    let command = byte_at(chars, COMMAND_PLACE)?;
+    let byte_count = byte_at(chars, COMMAND_PLACE + 1)?;
     let garbled = chars.get(..COMMAND_PLACE + 3 + usize::from(byte_count))?;
     Some(GarbledRequest {
         master,
         command,
         faults: communication_faults(garbled),
     })
+}
+
+/// The byte of the character at a place, or `None` if there is none.
+fn byte_at(chars: &[Char], place: usize) -> Option<u8>
+    ensures { result ≡ option_map (λ character. character.byte) (slice_get chars.now place) }
+{
+    Some(chars.get(place)?.byte())
 }
 
 /// The master by whose request for the device of this identity the characters begin, or `None` if they begin with none.

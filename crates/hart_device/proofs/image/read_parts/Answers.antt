@@ -1,4 +1,7 @@
-use Rattle.std.proofs.Common.{◌≡◌, ◌≤◌, inr, sym, subst, slice_index, arith, Option, None, IfNone}
+use Rattle.std.proofs.Common.{◌≡◌, ◌≤◌, ◌<◌, ◌+◌, ◌*◌, ◌/◌, ◌%◌, ℕ, inr, refl, sym, subst, slice_index, arith, Option, None, IfNone}
+use Rattle.std.proofs.Common.{List, [], ◌∷◌, length}
+use Rattle.std.proofs.lemmas.Nat.{div-mul-add, mod-mul-add}
+use Rattle.std.proofs.Math.Facts.{Fits-lt-pow}
 use Rattle.hart_device.proofs.image.read_parts.Goals as goal
 
 none_with : {A : Type 0} {P : Type 0} (result : Option A) → result ≡ None → P → IfNone result P
@@ -8,3 +11,18 @@ pub returns-in_err-flags-clause-refused : goal.returns-in_err-flags-clause-refus
 returns-in_err-flags-clause-refused c =
     let above : slice_index c.args.ending.now 2 ≤ 7 → ⊥ = λ within. let no = c.in_err-flags.ensures.accepted.1 within in cc in
     none_with _ c.from_residual-in_err-flags.ensures (inr (omega (arith, above)))
+
+-- three bytes are a number in two bytes, and the last of them
+three_bytes : (bytes : List ℕ) (counter flags : ℕ) → length bytes ≡ 3
+    → counter ≡ slice_index bytes 0 * 256 + slice_index bytes 1 → slice_index bytes 1 < 256 → flags ≡ slice_index bytes 2
+    → counter / 256 ∷ counter % 256 ∷ flags ∷ [] ≡ bytes
+three_bytes [] counter flags three is low last = absurd (omega (arith, three))
+three_bytes (a ∷ []) counter flags three is low last = absurd (omega (arith, three))
+three_bytes (a ∷ b ∷ []) counter flags three is low last = absurd (omega (arith, three))
+three_bytes (a ∷ b ∷ c ∷ []) counter flags three is low last =
+    rw (is, last, div-mul-add a 256 b low, mod-mul-add a 256 b low) refl
+three_bytes (a ∷ b ∷ c ∷ d ∷ more) counter flags three is low last = absurd (omega (arith, three))
+
+pub returns-clause-ending : goal.returns-clause-ending
+returns-clause-ending c =
+    three_bytes c.args.ending.now _ _ c.requires c.from_be_bytes.ensures (Fits-lt-pow (c.type_inv.ending 1)) c.in_ok-flags.ensures.kept

@@ -6,6 +6,9 @@ use Rattle.hart_commands.specs.declared.register.Register.TheVariants.{Polling}
 use Rattle.hart_device.proofs.RangeLemmas.{next_size, next_written}
 use Rattle.hart_device.proofs.device.Device.image.Goals as goal
 
+pub returns-clause-written : goal.returns-clause-written
+returns-clause-written g c = grind (arith, common_steps)
+
 pub returns-clause-image : goal.returns-clause-image
 returns-clause-image g c = record {
   contents = c.registers-registers.ensures.valid;
@@ -14,7 +17,7 @@ returns-clause-image g c = record {
   listed = registers;
   known = refl;
   long_tag = λ not_listed. absurd (not_listed (7, omega arith, refl));
-  written = grind (arith, common_steps);
+  written = returns-clause-written g c;
 }
 
 pub loop-register-preserved : goal.loop-register-preserved
