@@ -1,18 +1,20 @@
 //! The HART line: a device and its two masters, and what an event does to them.
-ghost use Rattle.std.specs.Prelude.{◌≡◌, ◌+◌, ◌<◌, ◌≤◌, [], ◌∷◌, IfErr, IfOk, OnOk, Option, length};
+ghost use Rattle.std.specs.Prelude.{◌≡◌, ℕ, ◌+◌, ◌<◌, ◌≤◌, [], ◌∷◌, IfErr, IfOk, OnOk, Option, length};
 ghost use Rattle.std.specs.Option.{option_copied};
 ghost use Rattle.hart_values.specs.declared.master_id.MasterId.{MasterId};
 ghost use Rattle.hart_values.specs.EachMaster.{of_master};
+ghost use Rattle.hart_values.specs.declared.each_master.EachMaster.{EachMaster};
 ghost use Rattle.hart_commands.specs.RequestData.{IsRequest};
 ghost use Rattle.hart_frame.specs.Message.{IsPreambleCount};
 ghost use Rattle.hart_line.specs.Line.Leg.{IsSent, IsUndetectedIn, Returns};
 ghost use Rattle.hart_line.specs.Line.LineRoom.{HasRoomFor, LeavesRoom};
+ghost use Rattle.hart_line.specs.Line.Masters.{AreHeld, AreInTurn, Sends};
 ghost use Rattle.hart_line.specs.Line.LineState.{MarksWithin, Stands, Stepped};
 ghost use Rattle.hart_line.specs.Line.Faults.{HasUndetected};
 ghost use Rattle.hart_line.specs.Line.Promises.{AreWellMade};
-ghost use Rattle.hart_line.specs.Line.Spoken.{SpokenFrame, Speaks, frame_if, party_of, spoken_by};
+ghost use Rattle.hart_line.specs.Line.Spoken.{SpokenFrame, Speaks, frame_if, master_preambles, party_of, spoken_by};
 ghost use Rattle.hart_line.specs.Line.Step.{submission_fault, submitted};
-ghost use Rattle.hart_line.specs.Line.World.{Start, World};
+ghost use Rattle.hart_line.specs.Line.World.{InHand, Start, World};
 ghost use Rattle.hart_line.specs.declared.event.LineEvent.TheVariants.{Noise, Submit, Turn};
 ghost use Rattle.hart_line.specs.declared.line.report.Party.TheVariants as parties;
 
@@ -39,7 +41,7 @@ pub mod undetected;
 const MASTER_PREAMBLES: u8 = 20;
 
 /// A HART line: a device, its two masters, what became of each submission so far, and what was spoken.
-#[derive(Debug, Drop)]
+#[derive(Drop)]
 pub struct Line<S: RegisterStore> {
     device: Device<S>,
     masters: Masters,
@@ -135,9 +137,9 @@ impl<S: RegisterStore> Line<S> {
                 address,
                 request,
             } => self.submit(*who, *address, request),
-            LineEvent::Turn { who, up, down } => self.turn(*who, up, down, process)?,
+            LineEvent::Turn { who, up, down } => return self.turn(*who, up, down, process),
             LineEvent::Protect(on) => self.device.protect(*on),
-            LineEvent::Noise(chars) => self.hear_noise(chars.as_slice(), process)?,
+            LineEvent::Noise(chars) => return self.hear_noise(chars.as_slice(), process),
             LineEvent::Restart => self.device.restart(),
         }
         Ok(())
@@ -174,17 +176,14 @@ impl<S: RegisterStore> Line<S> {
     {
         // No-op: its contract says what overwrites leave.
         registers_of_lists();
-        let is_sent = self.masters.send(who, &mut self.request);
-        let request = frame_if(is_sent, &self.request);
-        self.spoken.speak(party_of(who), MASTER_PREAMBLES, request);
         let spoken = &mut self.spoken;
+        let request = speak_request(&mut self.masters, spoken, who, &mut self.request);
         let reply = &mut self.reply;
         let returned = returned_in(&mut self.device, spoken, up, down, request, process, reply)?;
-        if !is_sent {
-            self.masters.overhear(returned);
-            return Ok(());
+        match request {
+            Some(_) => self.masters.conclude(who, returned, &mut self.outcomes),
+            None => self.masters.overhear(returned),
         }
-        self.masters.conclude(who, returned, &mut self.outcomes);
         Ok(())
     }
 
@@ -221,6 +220,27 @@ fn frame_if(is_there: bool, frame: &Frame) -> Option<&Frame>
     ensures { option_copied result ≡ frame_if is_there frame.now }
 {
     if is_there { Some(frame) } else { None }
+}
+
+/// The request in a master's hand, if there is one, which the master sends and speaks, and whose reply it then awaits.
+fn speak_request<'a>(
+    masters: &mut Masters,
+    spoken: &mut Filling<Spoken>,
+    who: MasterId,
+    frame: &'a mut Frame,
+) -> Option<&'a Frame>
+    requires { length spoken.old.items < spoken.old.room }
+    ensures sends { (retries : EachMaster ℕ) (hands : EachMaster (Option InHand)) → AreHeld retries hands masters.old
+        → Sends who (of_master who hands) (option_copied result) (AreHeld retries hands masters.new)
+        (λ sent. AreInTurn who retries hands sent masters.new) }
+    ensures speaks { Speaks (spoken_by (party_of who) master_preambles (option_copied result)) spoken.old.items spoken.new.items }
+    ensures one { length spoken.new.items ≤ length spoken.old.items + 1 }
+    ensures room { spoken.new.room ≡ spoken.old.room }
+{
+    let is_sent = masters.send(who, frame);
+    let request = frame_if(is_sent, frame);
+    spoken.speak(party_of(who), MASTER_PREAMBLES, request);
+    request
 }
 
 /// The device's answer, if there is one, which the device speaks after as many preamble bytes as its identity says.

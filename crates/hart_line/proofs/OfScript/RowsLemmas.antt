@@ -1,12 +1,13 @@
 -- The rows of the table of events, word by word.
-use Rattle.std.proofs.Common.{◌≡◌, ℕ, zero, suc, ◌<◌, List, [], ◌∷◌, codes, get_or, length, Err, Ok, Option, None, Some}
-use Rattle.std.proofs.Common.{sym, ap, ◌∙◌, subst, arith}
+use Rattle.std.proofs.Common.{◌≡◌, ℕ, zero, suc, ◌<◌, List, [], ◌∷◌, codes, get_or, length, Result, Err, Ok, Option, None, Some}
+use Rattle.std.proofs.Common.{sym, ap, ◌∙◌, arith}
 use Rattle.std.specs.Option.{ok_or}
+use Rattle.std.specs.Result.{result_ok}
 use Rattle.hart_values.specs.declared.address.Address.{Address}
 use Rattle.hart_values.specs.declared.master_id.MasterId.{MasterId}
 use Rattle.hart_commands.specs.RequestData.{request_reading}
 use Rattle.hart_commands.specs.declared.request.Request.{Request}
-use Rattle.hart_line.specs.Script.Rows.{AreDataWords, IsEvent, IsLeg, IsNeededByWords, IsSubmitRow, Reads}
+use Rattle.hart_line.specs.Script.Rows.{AreDataWords, IsEvent, IsLeg, IsNeededByWords, IsRequestOf, IsSubmitRow, Reads}
 use Rattle.hart_line.specs.Script.Words.{Finds, IsCommandWord}
 use Rattle.hart_line.specs.declared.event.Heard.{Heard}
 use Rattle.hart_line.specs.declared.event.LineEvent.{LineEvent}
@@ -64,20 +65,48 @@ turn_legs words who up down (Protect on) same is = absurd (omega (arith, first_l
 turn_legs words who up down (Noise chars) same is = absurd (omega (arith, first_letter _ _ _ _ is.row))
 turn_legs words who up down Restart same is = absurd (omega (arith, first_letter _ _ _ _ is))
 
--- the request of a row is what its command and its data are read as
+-- the request of a row is the one that its command and its data write
+pub row_request : (words : List (List ℕ)) (master : MasterId) (to : Address) (request : Request)
+    (who address command : List ℕ) (payload : List (List ℕ)) → words ≡ codes "submit" ∷ who ∷ address ∷ command ∷ payload
+    → IsSubmitRow words master to request → IsRequestOf command payload request
+row_request words master to request who address command payload e p =
+    let row = sym e ∙ p.row in
+    let command_same : command ≡ p.command = cc in
+    let payload_same : payload ≡ p.payload = cc in
+    record {
+      number = p.number;
+      command_written = rw command_same p.command_written;
+      bytes = p.bytes;
+      data_written = rw payload_same p.data_written;
+      read = p.read;
+    }
+
+-- the request that a command and data write is what they are read as
+request_read : (command : List ℕ) (payload : List (List ℕ)) (number : ℕ) (bytes : List ℕ) (request : Request)
+    → IsCommandWord command number → AreDataWords payload bytes → IsRequestOf command payload request
+    → request_reading number bytes ≡ Ok request
+request_read command payload number bytes request c d of =
+    let number_same : number ≡ of.number = IsCommandWord-one command number of.number c of.command_written in
+    let bytes_same : bytes ≡ of.bytes = AreDataWords-one payload bytes of.bytes d of.data_written in
+    rw (number_same, bytes_same) of.read
+
+-- so the request of a row is what its command and its data are read as
 pub read_as : (words : List (List ℕ)) (master : MasterId) (to : Address) (request : Request)
     (who address command : List ℕ) (payload : List (List ℕ)) (number : ℕ) (bytes : List ℕ)
     → words ≡ codes "submit" ∷ who ∷ address ∷ command ∷ payload → IsCommandWord command number → AreDataWords payload bytes
     → IsSubmitRow words master to request → request_reading number bytes ≡ Ok request
 read_as words master to request who address command payload number bytes e c d p =
-    let row = sym e ∙ p.row in
-    let command_same : command ≡ p.command = cc in
-    let payload_same : payload ≡ p.payload = cc in
-    let number_same : number ≡ p.number =
-    IsCommandWord-one p.command number p.number (subst (λ (xs : List ℕ). IsCommandWord xs number) command_same c) p.command_written in
-    let bytes_same : bytes ≡ p.bytes =
-    AreDataWords-one p.payload bytes p.bytes (subst (λ (xs : List (List ℕ)). AreDataWords xs bytes) payload_same d) p.data_written in
-    rw (number_same, bytes_same) p.read
+    request_read command payload number bytes request c d (row_request words master to request who address command payload e p)
+
+-- a command and data write the request that they are read as, and none if they are refused
+pub request_found : (command : List ℕ) (payload : List (List ℕ)) (number : ℕ) (bytes : List ℕ) (read : Result Request ℕ)
+    → IsCommandWord command number → AreDataWords payload bytes → request_reading number bytes ≡ read
+    → Finds (IsRequestOf command payload) (result_ok read)
+request_found command payload number bytes (Ok request) c d is =
+    record { number = number; command_written = c; bytes = bytes; data_written = d; read = is }
+request_found command payload number bytes (Err fault) c d is = λ request of.
+    let read = request_read command payload number bytes request c d of in
+    cc
 
 -- words that begin with the first word of no row say no event
 pub other_word : (first : List ℕ) (words : List (List ℕ)) → (first ≡ codes "submit" → ⊥) → (first ≡ codes "turn" → ⊥)

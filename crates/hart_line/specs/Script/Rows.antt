@@ -130,6 +130,14 @@ Reads {T} words IsValue (Ok value) = IsValue value
 Reads {T} words IsValue (Err rows.Bad) = HasNoValue IsValue
 Reads {T} words IsValue (Err (rows.Memory room)) = IsNeededByWords words room.items
 
+-- A word and the words after it write the command and the data of this request.
+pub record IsRequestOf (command : List ℕ) (payload : List (List ℕ)) (request : Request) : Type 0 where
+  pub number : ℕ
+  pub command_written : IsCommandWord command number
+  pub bytes : List ℕ
+  pub data_written : AreDataWords payload bytes
+  pub read : request_reading number bytes ≡ Ok request
+
 -- The fault of a script whose line with this number is not read.
 abbrev pub fault_at_line : ℕ → RowFault → LineFault
 fault_at_line number rows.Bad = BadLine number

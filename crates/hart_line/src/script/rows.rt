@@ -1,7 +1,7 @@
 //! The rows of the table of events, and the line that says none.
-ghost use Rattle.std.specs.Prelude.{◌≡◌, ◌≢◌, [], ◌∷◌, codes, length, MatchOption};
+ghost use Rattle.std.specs.Prelude.{◌≡◌, ◌≢◌, ◌<◌, [], ◌∷◌, codes, length, MatchOption};
 ghost use Rattle.hart_line.specs.Script.Lines.{words_of};
-ghost use Rattle.hart_line.specs.Script.Rows.{AreDataWords, IsEvent, IsLeg, Reads, SaysLine, fault_at_line};
+ghost use Rattle.hart_line.specs.Script.Rows.{AreDataWords, IsEvent, IsLeg, IsRequestOf, Reads, SaysLine, fault_at_line};
 ghost use Rattle.hart_line.specs.Script.Words.{Finds};
 
 use crate::script::items::read_items;
@@ -13,7 +13,7 @@ use hart_frame::Payload;
 use std::alloc::Global;
 
 /// Why a line says no event.
-#[derive(Clone, Copy, Debug, PartialEq, Eq)]
+#[derive(Clone, Copy)]
 pub enum RowFault {
     /// Its words are those of no row.
     Bad,
@@ -82,16 +82,21 @@ fn read_event(alloc: Global, first: &[u8], rest: &[u8]) -> Result<LineEvent, Row
 fn read_submit(rest: &[u8]) -> Option<LineEvent>
     ensures { Finds (IsEvent (codes "submit" ∷ words_of rest.now)) result }
 {
-    let (who, rest) = next_word(rest)?;
-    let (address, rest) = next_word(rest)?;
-    let (command, rest) = next_word(rest)?;
-    let payload = read_payload(rest)?;
-    let request = Request::read(read_command(command)?, payload.as_slice()).ok()?;
+    let (who, address, command, rest) = first_three_words(rest)?;
+    let request = read_request(command, rest)?;
     Some(LineEvent::Submit {
         who: read_who(who)?,
         address: read_address(address)?,
         request,
     })
+}
+
+/// The request of the command that a word writes and the data that the words after it write, or `None` if there is none.
+fn read_request(command: &[u8], rest: &[u8]) -> Option<Request>
+    ensures { Finds (IsRequestOf command.now (words_of rest.now)) result }
+{
+    let payload = read_payload(rest)?;
+    Request::read(read_command(command)?, payload.as_slice()).ok()
 }
 
 /// The data that the words after COMMAND write, no bytes if there is no word and those of DATA if it is alone, or `None`
@@ -124,9 +129,22 @@ fn three_words(line: &[u8]) -> Option<(&[u8], &[u8], &[u8])>
     ensures { MatchOption result (length (words_of line.now) ≢ 3)
         (λ words. words_of line.now ≡ (words.0).now ∷ (words.1).now ∷ (words.2).now ∷ []) }
 {
+    let (first, second, third, rest) = first_three_words(line)?;
+    match next_word(rest) {
+        None => Some((first, second, third)),
+        Some(_) => None,
+    }
+}
+
+/// The first three words of a line and what follows them, or `None` if it has fewer.
+fn first_three_words(line: &[u8]) -> Option<(&[u8], &[u8], &[u8], &[u8])>
+    ensures { MatchOption result (length (words_of line.now) < 3)
+        (λ taken. words_of line.now ≡ (taken.0).now ∷ (taken.1).now ∷ (taken.2).now ∷ words_of (taken.3).now) }
+{
     let (first, rest) = next_word(line)?;
     let (second, rest) = next_word(rest)?;
-    Some((first, second, only_word(rest)?))
+    let (third, rest) = next_word(rest)?;
+    Some((first, second, third, rest))
 }
 
 /// What the word of a leg says that is heard.

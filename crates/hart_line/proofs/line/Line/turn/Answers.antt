@@ -1,7 +1,7 @@
-use Rattle.std.proofs.Common.{List, subst, sym}
+use Rattle.std.proofs.Common.{List, None, refl, subst, sym}
 use Rattle.std.proofs.lemmas.Result.{err_from_is_err_and}
-use Rattle.hart_values.specs.EachMaster.{of_master}
 use Rattle.std.specs.Option.{option_copied}
+use Rattle.hart_values.specs.EachMaster.{of_master}
 use Rattle.hart_line.specs.Line.Leg.{IsSent}
 use Rattle.hart_line.specs.Line.Spoken.{AreSpoken}
 use Rattle.hart_line.specs.Line.Step.{sent_by}
@@ -17,37 +17,30 @@ returns-in_err-returned-clause-stopped g c =
     rw (stop.1, stop.2) (λ start world process stands.
     let s = rw (← c.self.view_is) at stands in
     let hand = of_master c.args.who world.hands in
-    let sends = c.send-is_sent.ensures start.retries world.hands s.masters_are in
-    let spoke = rw (c.party_of.ensures, c.frame_if-request.ensures) at c.speak.ensures.speaks in
+    let sends = c.speak_request-request.ensures.sends start.retries world.hands s.masters_are in
     undetected_in_turn start world c.args.who c.args.up.now c.args.down.now _
     (rw (s.device_is, ← process) at (c.in_err-returned.ensures.undetected (sent_by c.args.who hand)
-    (rw c.frame_if-request.ensures (sent_said _ _ c.args.who hand _ _ _ sends spoke)))))
+    (sent_said _ _ c.args.who hand _ _ _ sends c.speak_request-request.ensures.speaks))))
 
-pub returns-then-not-is_sent-clause-stepped : goal.returns-then-not-is_sent-clause-stepped
-returns-then-not-is_sent-clause-stepped g c = λ start world process within stands.
+pub returns-in-None-clause-stepped : goal.returns-in-None-clause-stepped
+returns-in-None-clause-stepped g c = λ start world process within stands.
     let s = rw (← c.self.view_is) at stands in
-    let hand = of_master c.args.who world.hands in
-    let sends = c.send-is_sent.ensures start.retries world.hands s.masters_are in
-    let silent = rw c.if-not-is_sent.true at sends in
-    let spoke = rw (c.party_of.ensures, c.frame_if-request.ensures) at c.speak.ensures.speaks in
-    let was_sent : IsSent (option_copied c.frame_if-request.result) (sent_by c.args.who hand) =
-    rw c.frame_if-request.ensures (sent_said _ _ c.args.who hand _ _ _ sends spoke) in
-    let r = rw (s.device_is, ← process) at (c.in_ok-returned.ensures.returns (sent_by c.args.who hand) was_sent) in
-    let nothing_said = rw silent.0 at (said_by _ _ c.args.who hand _ _ _ sends spoke) in
+    let silent = c.in-None.ensures.sends start.retries world.hands s.masters_are in
+    let nothing_sent : IsSent (option_copied c.speak_request-request.result) None = rw c.in-None.is refl in
+    let r = rw (s.device_is, ← process) at (c.in_ok-returned.ensures.returns None nothing_sent) in
     let Were : List Spoken → Type 0 = λ list. AreSpoken world.spoken list in
-    silent_turn start world c.args.who c.args.up.now c.args.down.now _ _ _ _ _ _ _ _ silent.0 (rw silent.0 at r)
-    (c.overhear.ensures start.retries world.hands silent.1) s.outcomes_are (subst Were (sym nothing_said) s.spoken_are)
+    silent_turn start world c.args.who c.args.up.now c.args.down.now _ _ _ _ _ _ _ _ silent.0 r
+    (c.overhear.ensures start.retries world.hands silent.1) s.outcomes_are (subst Were (sym c.in-None.ensures.speaks) s.spoken_are)
 
-pub returns-clause-stepped : goal.returns-clause-stepped
-returns-clause-stepped g c = λ start world process within stands.
+pub returns-in-Some-clause-stepped : goal.returns-in-Some-clause-stepped
+returns-in-Some-clause-stepped g c = λ start world process within stands.
     let s = rw (← c.self.view_is) at stands in
     let hand = of_master c.args.who world.hands in
-    let sends = c.send-is_sent.ensures start.retries world.hands s.masters_are in
-    let sent = rw c.if-not-is_sent.false at sends in
-    let spoke = rw (c.party_of.ensures, c.frame_if-request.ensures) at c.speak.ensures.speaks in
-    let was_sent : IsSent (option_copied c.frame_if-request.result) (sent_by c.args.who hand) =
-    rw c.frame_if-request.ensures (sent_said _ _ c.args.who hand _ _ _ sends spoke) in
-    let r = rw (s.device_is, ← process, sent.1) at (c.in_ok-returned.ensures.returns (sent_by c.args.who hand) was_sent) in
+    let sends = c.speak_request-request.ensures.sends start.retries world.hands s.masters_are in
+    let spoke = c.speak_request-request.ensures.speaks in
+    let sent = c.in-Some.ensures.sends start.retries world.hands s.masters_are in
+    let r = rw (s.device_is, ← process, sent.1) at (c.in_ok-returned.ensures.returns (sent_by c.args.who hand)
+    (sent_said _ _ c.args.who hand _ _ _ sends spoke)) in
     let requested = rw sent.1 at (said_by _ _ c.args.who hand _ _ _ sends spoke) in
     rw r.after_is (turned_stands c.registers_of_lists.ensures.last start world c.args.who c.args.up.now c.args.down.now
     sent.0 r.brought _ _ _ _ _ _ _ _ within sent.1 r.reaches r.returns s.spoken_are requested r.speaks

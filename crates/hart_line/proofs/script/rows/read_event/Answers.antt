@@ -11,6 +11,11 @@ returns-in-submit c =
     rw (word, c.ok_or.ensures.value) (found_read (codes "submit" ∷ words_of c.args.rest.now)
     (IsEvent (codes "submit" ∷ words_of c.args.rest.now)) c.read_submit.result c.read_submit.ensures)
 
+pub returns-in-turn : goal.returns-in-turn
+returns-in-turn c =
+    let word : c.args.first.now ≡ codes "turn" = text_from_reads c.args.first.now (codes "turn") (omega arith) (search rules) in
+    rw word c.read_turn.ensures
+
 pub returns-in-protect : goal.returns-in-protect
 returns-in-protect c =
     let word : c.args.first.now ≡ codes "protect" = text_from_reads c.args.first.now (codes "protect") (omega arith) (search rules) in
