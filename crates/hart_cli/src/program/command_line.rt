@@ -148,11 +148,21 @@ fn hart_alone<'a>(alloc: Global) -> Command<'a>
 fn encode_command<'a>(alloc: Global) -> Result<Command<'a>, AllocError>
     ensures { IfOk result (λ command. app_of command ≡ encode_app) }
 {
+    with_options(alloc, encode_with_words(alloc)?)
+}
+
+/// `hart encode` with the words that have to be there.
+fn encode_with_words<'a>(alloc: Global) -> Result<Command<'a>, AllocError>
+    ensures { IfOk result (λ command. app_of command ≡
+        with_rule (with_rule (with_rule (new_app (codes "encode"))
+        (required_rule (codes "WHO")))
+        (required_rule (codes "ADDRESS")))
+        (required_rule (codes "COMMAND"))) }
+{
     let encode = plain_command(alloc, "encode", help::ENCODE);
     let encode = with_word(alloc, encode, "WHO", help::WHO_HELP)?;
     let encode = with_word(alloc, encode, "ADDRESS", help::ADDRESS_HELP)?;
-    let encode = with_word(alloc, encode, "COMMAND", help::COMMAND_HELP)?;
-    with_options(alloc, encode)
+    with_word(alloc, encode, "COMMAND", help::COMMAND_HELP)
 }
 
 /// The command with a word more, which has to be there.
