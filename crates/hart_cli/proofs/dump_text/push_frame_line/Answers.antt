@@ -1,4 +1,4 @@
-use Rattle.std.proofs.Common.{ap, decimal, ◌∙◌}
+use Rattle.std.proofs.Common.{ap, arith, decimal, length, length-append, rules, ◌∙◌}
 use Rattle.hart_cli.specs.DumpText.{address_word, burst_word, kind_word, master_word}
 use Rattle.hart_cli.specs.TextLine.{bytes_word}
 use Rattle.hart_cli.proofs.TextLineLemmas.{nine_words}
@@ -21,3 +21,12 @@ returns g c =
       command,
       c.payload.ensures.payload,
     ) at all
+
+pub push_word-requires : goal.push_word-requires
+push_word-requires g c = (search rules, omega (arith, simp length-append at (ap length c.push.ensures)))
+
+pub push_bytes-requires-2 : goal.push_bytes-requires-2
+push_bytes-requires-2 g c = (search rules, omega (arith, simp length-append at (ap length c.push.ensures)))
+
+pub push-requires-2 : goal.push-requires-2
+push-requires-2 g c = (search rules, omega (arith, simp length-append at (ap length c.push.ensures)))
