@@ -1,6 +1,6 @@
 #!/usr/bin/env bash
-# Runs the gate, and then, on the program that the gate has built, what only runs of it show. The last line is the gate's
-# count, in which each script that failed here is one failure more; the status is the worst of all.
+# Runs the gate, and then, on the program that the gate has built, what only runs of it show. Says what all of it cost. The last
+# line is the gate's count, in which each script that failed here is one failure more; the status is the worst of all.
 set -u
 cd "$(dirname "$0")/.." || exit 1
 program=crates/hart_cli/out/hart_cli
@@ -33,6 +33,11 @@ else
     echo "The gate built no program, so none was run."
     note 1
 fi
+
+# What all of it cost, in processor time. `times` has to run in this shell, which waited for it.
+times >"$log"
+read -r user system < <(tail -n 1 "$log")
+echo "processor time: $user user, $system system"
 
 echo "$passed passed, $failed failed"
 exit "$worst"
