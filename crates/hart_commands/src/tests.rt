@@ -237,8 +237,8 @@ fn a_write_names_its_registers(rt: HostRuntime) -> Result<(), Fail> {
     Ok(())
 }
 
-/// Whether a long tag is what a request writes that has it as its data.
-fn is_written(long_tag: [u8; 32]) -> Result<bool, Fail> {
+/// Whether the request that has a long tag as its data writes just that.
+fn long_tag_is_written(long_tag: [u8; 32]) -> Result<bool, Fail> {
     let request = Request::read(22, &long_tag)?;
     let overwrite = writes_of(&request).ok_or("a write")?;
     Ok(
@@ -248,8 +248,8 @@ fn is_written(long_tag: [u8; 32]) -> Result<bool, Fail> {
     )
 }
 
-/// Whether a long tag is what a reply says that has it as its data.
-fn is_said(long_tag: [u8; 32]) -> Result<bool, Fail> {
+/// Whether the reply that has a long tag as its data says just that.
+fn long_tag_is_said(long_tag: [u8; 32]) -> Result<bool, Fail> {
     let mut payload = Payload::from_slice(&[0; 2]).ok_or("two bytes")?;
     payload.extend_from_slice(&long_tag);
     let reply = Reply::read(20, payload.as_slice()).ok_or("a reply")?;
@@ -260,7 +260,10 @@ fn is_said(long_tag: [u8; 32]) -> Result<bool, Fail> {
 fn a_long_tag_has_any_bytes(rt: HostRuntime) -> Result<(), Fail> {
     for byte in 0..=255u8 {
         let long_tag = [byte; 32];
-        assert!(rt; is_written(long_tag)? && is_said(long_tag)?, "of {byte}");
+        assert!(rt;
+            long_tag_is_written(long_tag)? && long_tag_is_said(long_tag)?,
+            "of {byte}"
+        );
     }
     Ok(())
 }

@@ -74,7 +74,7 @@ impl RegisterStore for FieldRegisters {
     }
 }
 
-/// Replaces the bytes of a register by those that the overwrite gives it, if it names it.
+/// Gives the bytes of a register their new value, if the overwrite names that register.
 fn replace(bytes: &mut [u8], overwrite: &Overwrite, register: Register)
     requires { length bytes.old ≡ size_of register }
     ensures { bytes.new ≡ unwrap_or (named_in overwrite.now register) bytes.old }

@@ -68,7 +68,7 @@ mod tests {
         ),
     ];
 
-    /// The first place of these characters at which a body may start.
+    /// The first place of these characters at which a body may start; `None` if they are no characters, or more than seven.
     fn start_in(heard: &[(u8, u8)]) -> Option<Option<usize>> {
         let mut chars = [Char::new(0, 0)?; 7];
         for (character, (byte, faults)) in chars.iter_mut().zip(heard) {

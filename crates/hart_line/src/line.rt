@@ -222,7 +222,8 @@ fn frame_if(is_there: bool, frame: &Frame) -> Option<&Frame>
     if is_there { Some(frame) } else { None }
 }
 
-/// The request in a master's hand, if there is one, which the master sends and speaks, and whose reply it then awaits.
+/// The frame of the request in a master's hand, if there is one, written over `frame`: the master speaks it after 20 preamble bytes,
+/// and then awaits the reply.
 fn speak_request<'a>(
     masters: &mut Masters,
     spoken: &mut Filling<Spoken>,

@@ -69,7 +69,7 @@ fn request_of(command: u8, data: &[u8]) -> Result<Request, Fail> {
     Ok(Request::read(command, data).ok().ok_or("bad data")?)
 }
 
-/// Whether a master refuses the second request, and gives it back.
+/// Whether a master refuses a second request, and gives it back.
 fn refuses_another(master: &mut Master) -> Result<bool, Fail> {
     let second = master.submit(address_of(POLLING)?, Request::ReadPrimary);
     let rejected = second.err().ok_or("a second request")?;
@@ -119,7 +119,7 @@ const CALLS: &[Call] = &[
     Call::StaysSilent,
 ];
 
-/// Whether a call gives what it says, the frame being that of the request.
+/// Whether a call gives what it says; what is sent has to be this request.
 fn gives(master: &mut Master, call: &Call, request: &Frame) -> bool {
     match call {
         Call::Sends => master.send().is_some_and(|sent| sent == *request),
@@ -214,7 +214,7 @@ fn with_request(address: &[u8], request: Request) -> Result<Master, Fail> {
     Ok(master)
 }
 
-/// What a master is given with a reply that has this payload, if there is one.
+/// The event at a reply with this payload, or at none.
 fn event_of(command: u8, payload: Option<&[u8]>) -> Result<MasterEvent, Fail> {
     let Some(payload) = payload else {
         return Ok(MasterEvent::Nothing);
@@ -223,7 +223,7 @@ fn event_of(command: u8, payload: Option<&[u8]>) -> Result<MasterEvent, Fail> {
     let is_refused = reply.content == ReplyContent::Refused;
     let is_code = reply.code.value() != 0;
     let answered = (is_refused == is_code).then_some(MasterEvent::Answered(reply, 1));
-    Ok(answered.ok_or("content beside a code")?)
+    Ok(answered.ok_or("either a code or content")?)
 }
 
 #[test]
@@ -243,7 +243,7 @@ fn replies_are_accepted(rt: HostRuntime) -> Result<(), Fail> {
 }
 
 #[test]
-fn a_reply_to_the_other_master_is_passed(rt: HostRuntime) -> Result<(), Fail> {
+fn a_reply_to_the_other_master_is_not_accepted(rt: HostRuntime) -> Result<(), Fail> {
     let mut master = with_request(POLLING, Request::Identify)?;
     assert!(rt; master.send().is_some());
     let (to_other, _) = decode(&TO_SECONDARY[5..])?;

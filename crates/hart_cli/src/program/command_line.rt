@@ -144,15 +144,15 @@ fn hart_alone<'a>(alloc: Global) -> Command<'a>
         .arg_required_else_help(true)
 }
 
-/// `hart encode` with its words.
+/// `hart encode` with its words and its option.
 fn encode_command<'a>(alloc: Global) -> Result<Command<'a>, AllocError>
     ensures { IfOk result (λ command. app_of command ≡ encode_app) }
 {
-    with_options(alloc, encode_with_words(alloc)?)
+    with_options(alloc, encode_with_required_words(alloc)?)
 }
 
 /// `hart encode` with the words that have to be there.
-fn encode_with_words<'a>(alloc: Global) -> Result<Command<'a>, AllocError>
+fn encode_with_required_words<'a>(alloc: Global) -> Result<Command<'a>, AllocError>
     ensures { IfOk result (λ command. app_of command ≡
         with_rule (with_rule (with_rule (new_app (codes "encode"))
         (required_rule (codes "WHO")))

@@ -17,8 +17,8 @@ const FAULT_BITS: &[(u8, bool)] = &[
     (0xFF, false),
 ];
 
-/// Whether a character has these fault bits.
-fn has_faults(character: Char, faults: u8) -> bool {
+/// Whether a character has the byte A5 and these fault bits, and is faultless if there are none.
+fn has_its_parts(character: Char, faults: u8) -> bool {
     character.byte() == 0xA5
         && character.faults() == faults
         && character.is_faultless() == (faults == 0)
@@ -28,7 +28,7 @@ fn has_faults(character: Char, faults: u8) -> bool {
 fn fault_bits_are_four(rt: HostRuntime) {
     for (faults, known) in FAULT_BITS {
         let holds = match Char::new(0xA5, *faults) {
-            Some(character) => *known && has_faults(character, *faults),
+            Some(character) => *known && has_its_parts(character, *faults),
             None => !*known,
         };
         assert!(rt; holds, "of {faults}");
@@ -114,7 +114,7 @@ fn the_first_frame_is_found(rt: HostRuntime) -> Result<(), Fail> {
 }
 
 /// Which frames a delivery has.
-enum Has {
+enum Frames {
     NoFrame,
     Several,
     /// One, with this start and this stop.
@@ -122,19 +122,19 @@ enum Has {
 }
 
 /// Deliveries, and which frames each has.
-const DELIVERIES: &[(&[u16], Has)] = &[
-    (&[], Has::NoFrame),
-    (ONE, Has::Alone(2, 7)),
-    (TWO, Has::Several),
-    (SHARED, Has::Alone(2, 7)),
-    (INSIDE, Has::Alone(15, 20)),
+const DELIVERIES: &[(&[u16], Frames)] = &[
+    (&[], Frames::NoFrame),
+    (ONE, Frames::Alone(2, 7)),
+    (TWO, Frames::Several),
+    (SHARED, Frames::Alone(2, 7)),
+    (INSIDE, Frames::Alone(15, 20)),
 ];
 
 /// Whether these are the frames of a delivery.
-fn are_frames_of(delivery: &[Char], want: &Has) -> bool {
+fn are_frames_of(delivery: &[Char], want: &Frames) -> bool {
     match (lone_frame(delivery), want) {
-        (LoneFrame::NoFrame, Has::NoFrame) | (LoneFrame::Several, Has::Several) => true,
-        (LoneFrame::Alone(found), Has::Alone(start, stop)) => {
+        (LoneFrame::NoFrame, Frames::NoFrame) | (LoneFrame::Several, Frames::Several) => true,
+        (LoneFrame::Alone(found), Frames::Alone(start, stop)) => {
             found.start == *start && found.stop == *stop
         }
         _ => false,

@@ -219,7 +219,7 @@ fn push_run(scanner: &mut Scanner, chars: &[Char], size: usize) -> Option<usize>
 }
 
 /// Whether the last frame of a list stops there, character by character and by runs of every size.
-fn all_stop_at(chars: &[Char], stop: usize) -> bool {
+fn stops_every_way_at(chars: &[Char], stop: usize) -> bool {
     by_character(chars) == Some(stop) && RUNS.iter().all(|size| by_runs(chars, *size) == Some(stop))
 }
 
@@ -227,7 +227,7 @@ fn all_stop_at(chars: &[Char], stop: usize) -> bool {
 fn a_scanner_gives_the_frames(rt: HostRuntime) -> Result<(), Fail> {
     for (row, (parts, want)) in HEARD.iter().enumerate() {
         let chars = heard(rt.alloc(), parts)?;
-        assert!(rt; all_stop_at(&chars, *want), "of row {row}");
+        assert!(rt; stops_every_way_at(&chars, *want), "of row {row}");
     }
     Ok(())
 }
@@ -251,10 +251,10 @@ fn first_view(chars: &[Char]) -> Option<(usize, u64, u64)> {
 #[test]
 fn a_view_waits_for_the_false_message_around_it(rt: HostRuntime) -> Result<(), Fail> {
     let chars = heard(rt.alloc(), &[(INSIDE, 1), (&[0x00], 300)])?;
-    let last_of_the_false_one = first_view(&chars);
-    assert!(rt; last_of_the_false_one == Some((266, 15, 20)));
-    let finished = first_view(chars.get(..20).ok_or("20 characters")?);
-    assert!(rt; finished == Some((20, 15, 20)));
+    let after_the_false_one = first_view(&chars);
+    assert!(rt; after_the_false_one == Some((266, 15, 20)));
+    let after_the_finish = first_view(chars.get(..20).ok_or("20 characters")?);
+    assert!(rt; after_the_finish == Some((20, 15, 20)));
     Ok(())
 }
 
@@ -281,7 +281,7 @@ fn bytes_of(alloc: Global, chars: &[Char]) -> Result<Vec<u8>, Fail> {
     Ok(bytes)
 }
 
-/// Where the last frame of a list without faults stops, if the scanner gives it when all are heard at once.
+/// As `by_character`, by one run of all the characters, of which none has a fault.
 fn at_once(chars: &[Char], bytes: &[u8]) -> Option<usize> {
     let mut scanner = Scanner::new();
     if scanner.push_run(bytes) != bytes.len() {
@@ -296,7 +296,7 @@ fn noise_is_passed(rt: HostRuntime) -> Result<(), Fail> {
         let chars = heard(rt.alloc(), parts)?;
         let bytes = bytes_of(rt.alloc(), &chars)?;
         let passed = match noise_stop(&chars, want) {
-            Some(stop) => all_stop_at(&chars, stop) && at_once(&chars, &bytes) == Some(stop),
+            Some(stop) => stops_every_way_at(&chars, stop) && at_once(&chars, &bytes) == Some(stop),
             None => false,
         };
         assert!(rt; passed, "of row {row}");

@@ -7,7 +7,7 @@ use Rattle.hart_values.specs.declared.address.Address.{Address}
 use Rattle.hart_values.specs.declared.master_id.MasterId.{MasterId}
 use Rattle.hart_commands.specs.RequestData.{request_reading}
 use Rattle.hart_commands.specs.declared.request.Request.{Request}
-use Rattle.hart_line.specs.Script.Rows.{AreDataWords, IsEvent, IsLeg, IsNeededByWords, IsRequestOf, IsSubmitRow, Reads}
+use Rattle.hart_line.specs.Script.Rows.{AreDataWords, AreRequestWords, IsEvent, IsLeg, IsNeededByWords, IsSubmitRow, Reads}
 use Rattle.hart_line.specs.Script.Words.{Finds, IsCommandWord}
 use Rattle.hart_line.specs.declared.event.Heard.{Heard}
 use Rattle.hart_line.specs.declared.event.LineEvent.{LineEvent}
@@ -68,7 +68,7 @@ turn_legs words who up down Restart same is = absurd (omega (arith, first_letter
 -- the request of a row is the one that its command and its data write
 pub row_request : (words : List (List ℕ)) (master : MasterId) (to : Address) (request : Request)
     (who address command : List ℕ) (payload : List (List ℕ)) → words ≡ codes "submit" ∷ who ∷ address ∷ command ∷ payload
-    → IsSubmitRow words master to request → IsRequestOf command payload request
+    → IsSubmitRow words master to request → AreRequestWords command payload request
 row_request words master to request who address command payload e p =
     let row = sym e ∙ p.row in
     let command_same : command ≡ p.command = cc in
@@ -83,7 +83,7 @@ row_request words master to request who address command payload e p =
 
 -- the request that a command and data write is what they are read as
 request_read : (command : List ℕ) (payload : List (List ℕ)) (number : ℕ) (bytes : List ℕ) (request : Request)
-    → IsCommandWord command number → AreDataWords payload bytes → IsRequestOf command payload request
+    → IsCommandWord command number → AreDataWords payload bytes → AreRequestWords command payload request
     → request_reading number bytes ≡ Ok request
 request_read command payload number bytes request c d of =
     let number_same : number ≡ of.number = IsCommandWord-one command number of.number c of.command_written in
@@ -101,7 +101,7 @@ read_as words master to request who address command payload number bytes e c d p
 -- a command and data write the request that they are read as, and none if they are refused
 pub request_found : (command : List ℕ) (payload : List (List ℕ)) (number : ℕ) (bytes : List ℕ) (read : Result Request ℕ)
     → IsCommandWord command number → AreDataWords payload bytes → request_reading number bytes ≡ read
-    → Finds (IsRequestOf command payload) (result_ok read)
+    → Finds (AreRequestWords command payload) (result_ok read)
 request_found command payload number bytes (Ok request) c d is =
     record { number = number; command_written = c; bytes = bytes; data_written = d; read = is }
 request_found command payload number bytes (Err fault) c d is = λ request of.

@@ -130,8 +130,8 @@ Reads {T} words IsValue (Ok value) = IsValue value
 Reads {T} words IsValue (Err rows.Bad) = HasNoValue IsValue
 Reads {T} words IsValue (Err (rows.Memory room)) = IsNeededByWords words room.items
 
--- A word and the words after it write the command and the data of this request.
-pub record IsRequestOf (command : List ℕ) (payload : List (List ℕ)) (request : Request) : Type 0 where
+-- A word writes a command, and the words after it write data, which are read as this request.
+pub record AreRequestWords (command : List ℕ) (payload : List (List ℕ)) (request : Request) : Type 0 where
   pub number : ℕ
   pub command_written : IsCommandWord command number
   pub bytes : List ℕ

@@ -1,7 +1,7 @@
 //! The rows of the table of events, and the line that says none.
 ghost use Rattle.std.specs.Prelude.{◌≡◌, ◌≢◌, ◌<◌, [], ◌∷◌, codes, length, MatchOption};
 ghost use Rattle.hart_line.specs.Script.Lines.{words_of};
-ghost use Rattle.hart_line.specs.Script.Rows.{AreDataWords, IsEvent, IsLeg, IsRequestOf, Reads, SaysLine, fault_at_line};
+ghost use Rattle.hart_line.specs.Script.Rows.{AreDataWords, AreRequestWords, IsEvent, IsLeg, Reads, SaysLine, fault_at_line};
 ghost use Rattle.hart_line.specs.Script.Words.{Finds};
 
 use crate::script::items::read_items;
@@ -91,9 +91,9 @@ fn read_submit(rest: &[u8]) -> Option<LineEvent>
     })
 }
 
-/// The request of the command that a word writes and the data that the words after it write, or `None` if there is none.
+/// The request that the word of a command and the words of its data write, or `None` if they write none.
 fn read_request(command: &[u8], rest: &[u8]) -> Option<Request>
-    ensures { Finds (IsRequestOf command.now (words_of rest.now)) result }
+    ensures { Finds (AreRequestWords command.now (words_of rest.now)) result }
 {
     let payload = read_payload(rest)?;
     Request::read(read_command(command)?, payload.as_slice()).ok()

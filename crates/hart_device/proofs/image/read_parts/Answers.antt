@@ -13,16 +13,16 @@ returns-in_err-flags-clause-refused c =
     none_with _ c.from_residual-in_err-flags.ensures (inr (omega (arith, above)))
 
 -- three bytes are a number in two bytes, and the last of them
-three_bytes : (bytes : List ℕ) (counter flags : ℕ) → length bytes ≡ 3
+counter_and_flags : (bytes : List ℕ) (counter flags : ℕ) → length bytes ≡ 3
     → counter ≡ slice_index bytes 0 * 256 + slice_index bytes 1 → slice_index bytes 1 < 256 → flags ≡ slice_index bytes 2
     → counter / 256 ∷ counter % 256 ∷ flags ∷ [] ≡ bytes
-three_bytes [] counter flags three is low last = absurd (omega (arith, three))
-three_bytes (a ∷ []) counter flags three is low last = absurd (omega (arith, three))
-three_bytes (a ∷ b ∷ []) counter flags three is low last = absurd (omega (arith, three))
-three_bytes (a ∷ b ∷ c ∷ []) counter flags three is low last =
+counter_and_flags [] counter flags three is low last = absurd (omega (arith, three))
+counter_and_flags (a ∷ []) counter flags three is low last = absurd (omega (arith, three))
+counter_and_flags (a ∷ b ∷ []) counter flags three is low last = absurd (omega (arith, three))
+counter_and_flags (a ∷ b ∷ c ∷ []) counter flags three is low last =
     rw (is, last, div-mul-add a 256 b low, mod-mul-add a 256 b low) refl
-three_bytes (a ∷ b ∷ c ∷ d ∷ more) counter flags three is low last = absurd (omega (arith, three))
+counter_and_flags (a ∷ b ∷ c ∷ d ∷ more) counter flags three is low last = absurd (omega (arith, three))
 
 pub returns-clause-ending : goal.returns-clause-ending
 returns-clause-ending c =
-    three_bytes c.args.ending.now _ _ c.requires c.from_be_bytes.ensures (Fits-lt-pow (c.type_inv.ending 1)) c.in_ok-flags.ensures.kept
+    counter_and_flags c.args.ending.now _ _ c.requires c.from_be_bytes.ensures (Fits-lt-pow (c.type_inv.ending 1)) c.in_ok-flags.ensures.kept
