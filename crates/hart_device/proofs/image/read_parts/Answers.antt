@@ -25,4 +25,5 @@ counter_and_flags (a ∷ b ∷ c ∷ d ∷ more) counter flags three is low last
 
 pub returns-clause-ending : goal.returns-clause-ending
 returns-clause-ending c =
-    counter_and_flags c.args.ending.now _ _ c.requires c.from_be_bytes.ensures (Fits-lt-pow (c.type_inv.ending 1)) c.in_ok-flags.ensures.kept
+    counter_and_flags c.args.ending.now _ _ c.requires c.from_be_bytes.ensures (Fits-lt-pow (c.type_inv.ending 1))
+    c.in_ok-flags.ensures.kept
