@@ -12,7 +12,8 @@ use Rattle.clap.specs.declared.error.Error.{Error}
 use Rattle.clap.specs.declared.parser.matches.ArgMatches.{ArgMatches}
 use Rattle.clap.specs.declared.parser.matches.ArgMatches.TheViews.{out-ArgMatches, out-SubCommand}
 use Rattle.clap.proofs.OnLiterals.{clap_on_literals}
-use Rattle.hart_cli.specs.CommandLine.{Calls, GivesCall, GivesValues, hart_app, name_of}
+use Rattle.hart_line.specs.Script.Words.{HasNoValue}
+use Rattle.hart_cli.specs.CommandLine.{Calls, GivesCall, GivesValues, GivesWords, hart_app, name_of}
 use Rattle.hart_cli.specs.MessageWords.{MessageWords}
 use Rattle.hart_cli.specs.declared.program.command_line.Call.{Call}
 use Rattle.hart_cli.specs.declared.program.command_line.Call.TheVariants.{Answer, Dump, Encode, Sim}
@@ -64,6 +65,14 @@ given_call m call name rows named with_rows is values =
       values = values;
     }
 
+-- the name of a call that the matches give
+named : (m : ArgMatches) (call : Call) → GivesCall (subcommand_rows_of m) call → Some (name_of call) ≡ subcommand_name_of m
+named m call gives = ap (option_map (λ met. met.0)) (sym gives.named) ∙ subcommand_name-rows m
+
+-- matches without a subcommand give no call
+pub nameless : (m : ArgMatches) → None ≡ subcommand_name_of m → HasNoValue (GivesCall (subcommand_rows_of m))
+nameless m none call gives = let some = named m call gives in cc
+
 -- and so do the words
 pub calls_given : (words : List Text) (m : ArgMatches) (call : Call) → MeetsCall words m → GivesCall (subcommand_rows_of m) call
     → Calls call words
@@ -81,6 +90,34 @@ same_rows a b rows others met first second =
 
 differ : (a b : Text) → bytes_eq a b ≡ false → a ≢ b
 differ a b other same = let is = (bytes_eq-Decides a b).1 same in cc
+
+-- matches with a subcommand that is none of the four give no call
+pub other_name : (m : ArgMatches) (name : Text) → Some name ≡ subcommand_name_of m → name ≢ codes "answer" → name ≢ codes "dump"
+    → name ≢ codes "sim" → name ≢ codes "encode" → HasNoValue (GivesCall (subcommand_rows_of m))
+other_name m name is answer dump sim encode call gives = none call (ap (λ o. unwrap_or o name) (is ∙ sym (named m call gives)))
+  where
+    none : (call : Call) → name ≡ name_of call → ⊥
+    none (Answer image) = answer
+    none Dump = dump
+    none (Sim image) = sim
+    none (Encode words) = encode
+
+-- and so do those of `encode` that give no words
+pub wordless : (m : ArgMatches) (name : Text) (rows : List Row) → Some name ≡ subcommand_name_of m
+    → Some rows ≡ option_map (λ p. p.1) (subcommand_rows_of m) → name ≡ codes "encode" → HasNoValue (GivesWords rows)
+    → HasNoValue (GivesCall (subcommand_rows_of m))
+wordless m name rows is with_rows encode none call gives =
+    none_of call (same_name _ _ _ _ _ gives.named met ∙ encode)
+    (subst (GivesValues call) (same_rows _ _ _ _ _ gives.named met) gives.values)
+  where
+    met : subcommand_rows_of m ≡ Some (name, rows)
+    met = joined (subcommand_rows_of m) name rows (is ∙ sym (subcommand_name-rows m)) with_rows
+
+    none_of : (call : Call) → name_of call ≡ codes "encode" → GivesValues call rows → ⊥
+    none_of (Answer image) same values = differ (codes "answer") (codes "encode") refl same
+    none_of Dump same values = differ (codes "dump") (codes "encode") refl same
+    none_of (Sim image) same values = differ (codes "sim") (codes "encode") refl same
+    none_of (Encode words) same values = none words values
 
 -- the matches give one call
 same_call : (a b : Call) (rows : List Row) → name_of a ≡ name_of b → GivesValues a rows → GivesValues b rows → a ≡ b

@@ -29,13 +29,17 @@ image_rule = record (new_rule (codes "image")) { long = Some (codes "image"); va
 abbrev pub image_app : Text → App
 image_app name = with_rule (new_app name) image_rule
 
--- The command `encode` takes three words, a fourth if it is given, and the number of preamble bytes.
-abbrev pub encode_app : App
-encode_app =
+-- The command `encode`, before it has what may be left out, takes three words that have to be there.
+abbrev pub encode_with_required_words : App
+encode_with_required_words =
     let who = with_rule (new_app (codes "encode")) (required_rule (codes "WHO")) in
     let address = with_rule who (required_rule (codes "ADDRESS")) in
-    let command = with_rule address (required_rule (codes "COMMAND")) in
-    let payload = with_rule command (new_rule (codes "DATA")) in
+    with_rule address (required_rule (codes "COMMAND"))
+
+-- What may be left out is a fourth word and the number of preamble bytes.
+abbrev pub encode_app : App
+encode_app =
+    let payload = with_rule encode_with_required_words (new_rule (codes "DATA")) in
     with_rule payload preambles_rule
 
 -- The command `hart`, before it has subcommands, takes words without the program's name, has a version, wants a subcommand named,

@@ -1,11 +1,11 @@
 //! The call that the words after the program's name ask for.
 
-ghost use Rattle.std.specs.Prelude.{◌≡◌, ◌∷◌, [], ℕ, IfErr, IfOk, IfSome, List, None, Some, codes, false, map, string_bytes};
+ghost use Rattle.std.specs.Prelude.{◌≡◌, ◌∷◌, [], ℕ, IfErr, IfOk, List, None, Some, codes, false, map, string_bytes};
 ghost use Rattle.clap.specs.Words.{HasKind, app_of, fault_of, first_of, found_of, new_app, new_rule, rows_of, rule_of};
 ghost use Rattle.clap.specs.Words.{subcommand_rows_of, with_rule, with_subcommand};
+ghost use Rattle.hart_line.specs.Script.Words.{Finds};
 ghost use Rattle.hart_cli.specs.CommandLine.{Calls, GivesCall, GivesWords, encode_app, hart_app, image_app, image_rule};
-ghost use Rattle.hart_cli.specs.CommandLine.{hart_alone, preambles_rule, reading_app, required_rule};
-ghost use Rattle.hart_cli.specs.MessageWords.{MessageWords};
+ghost use Rattle.hart_cli.specs.CommandLine.{encode_with_required_words, hart_alone, preambles_rule, reading_app, required_rule};
 ghost use Rattle.hart_cli.specs.declared.program.command_line.Call.{Call};
 ghost use Rattle.hart_cli.specs.declared.program.command_line.Call.TheVariants.{Answer, Dump, Encode, Sim};
 
@@ -74,7 +74,7 @@ pub fn requested_call<'a>(alloc: Global, words: &'a [String]) -> Result<Call<'a>
 /// The call of the subcommand that the words named, or `None` if they named none of the four, or if `encode_words` gives `None`.
 /// clap lets neither pass.
 fn call_of<'a>(matches: &ArgMatches<'a>) -> Option<Call<'a>>
-    ensures { IfSome result (GivesCall (subcommand_rows_of matches.now)) }
+    ensures { Finds (GivesCall (subcommand_rows_of matches.now)) result }
 {
     let (name, given) = matches.subcommand()?;
     match name {
@@ -97,7 +97,7 @@ fn image_word<'a>(given: &ArgMatches<'a>) -> ImageWord<'a>
 
 /// The words of `hart encode`, or `None` if one is missing or the number of preamble bytes is none, which clap does not let pass.
 fn encode_words<'a>(given: &ArgMatches<'a>) -> Option<EncodeWords<'a>>
-    ensures { IfSome result (GivesWords (rows_of (found_of given.now))) }
+    ensures { Finds (GivesWords (rows_of (found_of given.now))) result }
 {
     let preambles = given.get_str("preambles")?.parse::<u8>().ok()?;
     if preambles < LEAST_PREAMBLES || preambles > MOST_PREAMBLES {
@@ -153,11 +153,7 @@ fn encode_command<'a>(alloc: Global) -> Result<Command<'a>, AllocError>
 
 /// `hart encode` with the words that have to be there.
 fn encode_with_required_words<'a>(alloc: Global) -> Result<Command<'a>, AllocError>
-    ensures { IfOk result (λ command. app_of command ≡
-        with_rule (with_rule (with_rule (new_app (codes "encode"))
-        (required_rule (codes "WHO")))
-        (required_rule (codes "ADDRESS")))
-        (required_rule (codes "COMMAND"))) }
+    ensures { IfOk result (λ command. app_of command ≡ encode_with_required_words) }
 {
     let encode = plain_command(alloc, "encode", help::ENCODE);
     let encode = with_word(alloc, encode, "WHO", help::WHO_HELP)?;

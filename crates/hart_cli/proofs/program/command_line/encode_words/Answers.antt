@@ -1,16 +1,26 @@
-use Rattle.std.proofs.Common.{ap, arith, codes, refl, Option, option_map, Some, None, sym, ℕ, ◌≡◌, ◌∙◌, Result, Ok, Err, unwrap_or, []}
+use Rattle.std.proofs.Common.{ap, arith, codes, inl, inr, refl, Option, option_map, Some, None, sym, ℕ, ◌≡◌, ◌∙◌, ◌<◌, ◌≤◌, ◌⊎◌}
+use Rattle.std.proofs.Common.{Result, Ok, Err, unwrap_or, []}
 use Rattle.std.specs.Borrow.{Bor}
 use Rattle.std.specs.Result.{result_ok}
 use Rattle.std.specs.Str.Parse.{IsNumeral, ParsesUnsigned, digits_value, without_leading_plus}
 use Rattle.clap.proofs.WalkLemmas.{first_value-rows}
 use Rattle.clap.specs.Words.{Text, first_of, first_value, found_of, rows_of}
 use Rattle.clap.specs.declared.parser.matches.Found.{Found}
+use Rattle.hart_cli.specs.CommandLine.{GivesWords}
+use Rattle.hart_cli.specs.MessageWords.{MessageWords}
 use Rattle.hart_cli.proofs.program.command_line.encode_words.Goals as goal
 
 -- what `get_str` gives is the word
 text_is : (f : Found) (id : Text) (o : Option (Bor Text)) (s : Bor Text) → option_map (λ s. s.now) o ≡ first_value f id → o ≡ Some s
     → first_of id (rows_of f) ≡ Some s.now
 text_is f id o s is some = sym (first_value-rows f id) ∙ sym is ∙ ap (option_map (λ s. s.now)) some
+
+-- if it gives none there is no word
+no_word : (f : Found) (id : Text) (o : Option (Bor Text)) → option_map (λ s. s.now) o ≡ first_value f id → o ≡ None
+    → (word : Text) → first_of id (rows_of f) ≡ Some word → ⊥
+no_word f id o is none word some =
+    let nothing : None ≡ Some word = ap (option_map (λ s. s.now)) (sym none) ∙ is ∙ first_value-rows f id ∙ some in
+    cc
 
 -- a word that is read as a number is written as one
 parsed : {E : Type 0} (t : Text) (r : Result ℕ E) (o : Option ℕ) (n : ℕ) → ParsesUnsigned 8 10 t r → o ≡ result_ok r → o ≡ Some n
@@ -19,6 +29,28 @@ parsed t (Ok m) o n read is some =
     let same : n ≡ m = ap (λ o. unwrap_or o n) (sym some ∙ is) in
     (read.0.0, same ∙ read.1)
 parsed t (Err e) o n read is some = cc
+
+-- the number of preamble bytes is what the word of it writes
+number_is : (t : Text) (f : Found) (words : MessageWords) → first_of (codes "preambles") (rows_of f) ≡ Some t
+    → (gives : GivesWords (rows_of f) words)
+    → IsNumeral 10 (without_leading_plus t) × (words.preambles ≡ digits_value 10 (without_leading_plus t))
+number_is t f words word gives =
+    let same : t ≡ gives.number = ap (λ o. unwrap_or o t) (sym word ∙ gives.given) in
+    (rw same gives.digits, rw same gives.value)
+
+-- a word that is not read as a number writes none
+not_parsed : {E : Type 0} (t : Text) (r : Result ℕ E) (o : Option ℕ) (f : Found) (words : MessageWords) → ParsesUnsigned 8 10 t r
+    → o ≡ result_ok r → o ≡ None → first_of (codes "preambles") (rows_of f) ≡ Some t → GivesWords (rows_of f) words → ⊥
+not_parsed t (Ok m) o f words read is none word gives = cc
+not_parsed t (Err e) o f words read is none word gives =
+    let number = number_is t f words word gives in
+    read (number.0, omega (arith, number.1, gives.count))
+
+-- and one that is read as another number than 5 to 20 writes none
+out_of_range : (t : Text) (n : ℕ) (f : Found) (words : MessageWords) → n ≡ digits_value 10 (without_leading_plus t)
+    → first_of (codes "preambles") (rows_of f) ≡ Some t → GivesWords (rows_of f) words → (n < 5) ⊎ (5 ≤ n × 20 < n) → ⊥
+out_of_range t n f words value word gives (inl low) = omega (arith, value, (number_is t f words word gives).1, gives.count, low)
+out_of_range t n f words value word gives (inr high) = omega (arith, value, (number_is t f words word gives).1, gives.count, high)
 
 data_is : (o : Option (Bor Text)) (absent : Bor Text) → absent.now ≡ []
     → unwrap_or (option_map (λ s. s.now) o) [] ≡ (unwrap_or o absent).now
@@ -42,3 +74,32 @@ returns c =
       value = number.1;
       count = (omega (arith, c.if-preambles-lt-LEAST_PREAMBLES.false), omega (arith, c.if-preambles-gt-MOST_PREAMBLES.false));
     }
+
+pub returns-in_err-get_str : goal.returns-in_err-get_str
+returns-in_err-get_str c = rw c.from_residual.ensures (λ words gives.
+    no_word (found_of c.args.given.now) (codes "preambles") _ c.get_str.ensures c.in_err-get_str.was gives.number gives.given)
+
+pub returns-in_err-preambles : goal.returns-in_err-preambles
+returns-in_err-preambles c = rw c.from_residual-in_err-preambles.ensures (λ words gives.
+    not_parsed c.in_ok-get_str.field-0.now c.parse.result _ (found_of c.args.given.now) words c.parse.ensures.value.0
+    c.ok.ensures.value c.in_err-preambles.was (text_is (found_of c.args.given.now) (codes "preambles") _ _ c.get_str.ensures
+    c.in_ok-get_str.was) gives)
+
+pub returns-in_err-get_str-2 : goal.returns-in_err-get_str-2
+returns-in_err-get_str-2 c = rw c.from_residual-in_err-get_str-2.ensures (λ words gives.
+    no_word (found_of c.args.given.now) (codes "WHO") _ c.get_str-2.ensures c.in_err-get_str-2.was words.who gives.who)
+
+pub returns-in_err-get_str-3 : goal.returns-in_err-get_str-3
+returns-in_err-get_str-3 c = rw c.from_residual-in_err-get_str-3.ensures (λ words gives.
+    no_word (found_of c.args.given.now) (codes "ADDRESS") _ c.get_str-3.ensures c.in_err-get_str-3.was words.address gives.address)
+
+pub returns-in_err-get_str-4 : goal.returns-in_err-get_str-4
+returns-in_err-get_str-4 c = rw c.from_residual-in_err-get_str-4.ensures (λ words gives.
+    no_word (found_of c.args.given.now) (codes "COMMAND") _ c.get_str-4.ensures c.in_err-get_str-4.was words.command gives.command)
+
+pub returns-then-preambles-lt-LEAST_PREAMBLES : goal.returns-then-preambles-lt-LEAST_PREAMBLES
+returns-then-preambles-lt-LEAST_PREAMBLES c = λ words gives.
+    let f = found_of c.args.given.now in
+    let number = parsed c.in_ok-get_str.field-0.now c.parse.result _ _ c.parse.ensures.value.0 c.ok.ensures.value c.in_ok-preambles.was in
+    out_of_range c.in_ok-get_str.field-0.now c.in_ok-preambles.preambles f words number.1
+    (text_is f (codes "preambles") _ _ c.get_str.ensures c.in_ok-get_str.was) gives c.then-preambles-lt-LEAST_PREAMBLES.either
