@@ -7,7 +7,7 @@ use Rattle.hart_values.specs.declared.address.Address.{Address}
 use Rattle.hart_values.specs.declared.master_id.MasterId.{MasterId}
 use Rattle.hart_commands.specs.RequestData.{request_reading}
 use Rattle.hart_commands.specs.declared.request.Request.{Request}
-use Rattle.hart_line.specs.Script.Rows.{AreDataWords, AreRequestWords, IsEvent, IsLeg, IsNeededByWords, IsSubmitRow, Reads}
+use Rattle.hart_line.specs.Script.Rows.{AreDataWords, AreRequestWords, IsEvent, IsLeg, IsNeededByWords, IsSubmitRow, ReadsWords}
 use Rattle.hart_line.specs.Script.Words.{Finds, IsCommandWord}
 use Rattle.hart_line.specs.declared.event.Heard.{Heard}
 use Rattle.hart_line.specs.declared.event.LineEvent.{LineEvent}
@@ -18,7 +18,7 @@ use Rattle.hart_line.proofs.OfScript.UnambiguousWords.{AreDataWords-one, IsComma
 
 -- a value that is found is read, and if none is found the line is bad
 pub found_read : {T : Type 0} (words : List (List ℕ)) (IsValue : T → Type 0) (found : Option T) → Finds IsValue found
-    → Reads words IsValue (ok_or found Bad)
+    → ReadsWords words IsValue (ok_or found Bad)
 found_read words IsValue None finds = finds
 found_read words IsValue (Some value) finds = finds
 
@@ -31,7 +31,7 @@ needed_by_words words k word items short here (suc i, this, one, same, half) = a
 -- a leg whose word is one of the row's is no better for the row than for itself
 pub leg_fault : (words : List (List ℕ)) (k : ℕ) (word : List ℕ) (fault : RowFault) → k < length words → get_or words k word ≡ word
     → ((event : LineEvent) → IsEvent words event → (heard : Heard) × IsLeg word heard)
-    → Reads (word ∷ []) (IsLeg word) (Err fault) → Reads words (IsEvent words) (Err fault)
+    → ReadsWords (word ∷ []) (IsLeg word) (Err fault) → ReadsWords words (IsEvent words) (Err fault)
 leg_fault words k word Bad short here legs reads = λ event is. reads (legs event is).0 (legs event is).1
 leg_fault words k word (Memory room) short here legs reads = needed_by_words words k word room.items short here reads
 
@@ -65,7 +65,7 @@ turn_legs words who up down (Protect on) same is = absurd (omega (arith, first_l
 turn_legs words who up down (Noise chars) same is = absurd (omega (arith, first_letter _ _ _ _ is.row))
 turn_legs words who up down Restart same is = absurd (omega (arith, first_letter _ _ _ _ is))
 
--- the request of a row is the one that its command and its data write
+-- the request of a row is the one that its last words write
 pub row_request : (words : List (List ℕ)) (master : MasterId) (to : Address) (request : Request)
     (who address command : List ℕ) (payload : List (List ℕ)) → words ≡ codes "submit" ∷ who ∷ address ∷ command ∷ payload
     → IsSubmitRow words master to request → AreRequestWords command payload request
@@ -73,30 +73,16 @@ row_request words master to request who address command payload e p =
     let row = sym e ∙ p.row in
     let command_same : command ≡ p.command = cc in
     let payload_same : payload ≡ p.payload = cc in
-    record {
-      number = p.number;
-      command_written = rw command_same p.command_written;
-      bytes = p.bytes;
-      data_written = rw payload_same p.data_written;
-      read = p.read;
-    }
+    rw (command_same, payload_same) p.request_written
 
 -- the request that a command and data write is what they are read as
-request_read : (command : List ℕ) (payload : List (List ℕ)) (number : ℕ) (bytes : List ℕ) (request : Request)
+pub request_read : (command : List ℕ) (payload : List (List ℕ)) (number : ℕ) (bytes : List ℕ) (request : Request)
     → IsCommandWord command number → AreDataWords payload bytes → AreRequestWords command payload request
     → request_reading number bytes ≡ Ok request
 request_read command payload number bytes request c d of =
     let number_same : number ≡ of.number = IsCommandWord-one command number of.number c of.command_written in
     let bytes_same : bytes ≡ of.bytes = AreDataWords-one payload bytes of.bytes d of.data_written in
     rw (number_same, bytes_same) of.read
-
--- so the request of a row is what its command and its data are read as
-pub read_as : (words : List (List ℕ)) (master : MasterId) (to : Address) (request : Request)
-    (who address command : List ℕ) (payload : List (List ℕ)) (number : ℕ) (bytes : List ℕ)
-    → words ≡ codes "submit" ∷ who ∷ address ∷ command ∷ payload → IsCommandWord command number → AreDataWords payload bytes
-    → IsSubmitRow words master to request → request_reading number bytes ≡ Ok request
-read_as words master to request who address command payload number bytes e c d p =
-    request_read command payload number bytes request c d (row_request words master to request who address command payload e p)
 
 -- a command and data write the request that they are read as, and none if they are refused
 pub request_found : (command : List ℕ) (payload : List (List ℕ)) (number : ℕ) (bytes : List ℕ) (read : Result Request ℕ)

@@ -20,7 +20,7 @@ use Rattle.hart_line.specs.declared.event.LineEvent.TheVariants.{Noise, Protect,
 use Rattle.hart_line.specs.declared.fault.LineFault.{LineFault}
 use Rattle.hart_line.specs.declared.fault.LineFault.TheVariants.{BadLine, Memory, Undetected}
 use Rattle.hart_line.proofs.OfScript.ItemsLemmas.{items_to_the_end, NoItemBegins-nil}
-use Rattle.hart_line.proofs.OfScript.RowsLemmas.{first_letter, read_as}
+use Rattle.hart_line.proofs.OfScript.RowsLemmas.{first_letter, request_read, row_request}
 use Rattle.hart_line.proofs.OfScript.UnambiguousWords.{IsAddressWord-one, IsWho-one}
 
 -- a word is items in one way
@@ -65,8 +65,9 @@ IsEvent-one words (Submit m a r) (Submit n b s) p q =
     let master : m ≡ n = IsWho-one q.who m n (subst (λ (xs : List ℕ). IsWho xs m) who p.master_named) q.master_named in
     let to : a ≡ b =
     IsAddressWord-one q.address a b (subst (λ (xs : List ℕ). IsAddressWord xs a) address p.address_written) q.address_written in
-    let read : Ok r ≡ Ok s =
-    sym p.read ∙ read_as words n b s p.who p.address p.command p.payload p.number p.bytes p.row p.command_written p.data_written q in
+    let of = p.request_written in
+    let read : Ok r ≡ Ok s = sym of.read ∙ request_read p.command p.payload of.number of.bytes s of.command_written of.data_written
+    (row_request words n b s p.who p.address p.command p.payload p.row q) in
     cc (master, to, read)
 IsEvent-one words (Submit m a r) (Turn n up down) p q = absurd (omega (arith, first_letter _ _ _ _ (sym p.row ∙ q.row)))
 IsEvent-one words (Submit m a r) (Protect on) p q = absurd (omega (arith, first_letter _ _ _ _ (sym p.row ∙ q)))

@@ -1,5 +1,6 @@
 -- What the lines of a script say (own profile): a table of one row for each kind of event.
-use Rattle.std.specs.Prelude.{◌≡◌, ◌⊎◌, ℕ, ◌+◌, ◌/◌, Any, Bool, true, false, List, [], ◌∷◌, ◌++◌, codes, length, map, Option, None, Some, Result, Ok, Err}
+use Rattle.std.specs.Prelude.{◌≡◌, ◌⊎◌, ℕ, ◌+◌, ◌/◌, Any, Bool, true, false, List, [], ◌∷◌, ◌++◌, codes, length, map, Option, None, Some}
+use Rattle.std.specs.Prelude.{Result, Ok, Err}
 use Rattle.hart_values.specs.declared.address.Address.{Address}
 use Rattle.hart_values.specs.declared.master_id.MasterId.{MasterId}
 use Rattle.hart_commands.specs.RequestData.{request_reading}
@@ -23,7 +24,15 @@ AreDataWords [] bytes = bytes ≡ []
 AreDataWords (word ∷ []) bytes = IsDataWord word bytes
 AreDataWords (word ∷ other ∷ more) bytes = ⊥
 
--- The row `submit WHO ADDRESS COMMAND [DATA]` names a master, an address and a command, and its data are read as this request.
+-- A word writes a command, and the words after it write data, which are read as this request.
+pub record AreRequestWords (command : List ℕ) (payload : List (List ℕ)) (request : Request) : Type 0 where
+  pub number : ℕ
+  pub command_written : IsCommandWord command number
+  pub bytes : List ℕ
+  pub data_written : AreDataWords payload bytes
+  pub read : request_reading number bytes ≡ Ok request
+
+-- The row `submit WHO ADDRESS COMMAND [DATA]` names a master and an address, and its last words write this request.
 pub record IsSubmitRow (words : List (List ℕ)) (master : MasterId) (to : Address) (request : Request) : Type 0 where
   pub who : List ℕ
   pub address : List ℕ
@@ -32,11 +41,7 @@ pub record IsSubmitRow (words : List (List ℕ)) (master : MasterId) (to : Addre
   pub row : words ≡ codes "submit" ∷ who ∷ address ∷ command ∷ payload
   pub master_named : IsWho who master
   pub address_written : IsAddressWord address to
-  pub number : ℕ
-  pub command_written : IsCommandWord command number
-  pub bytes : List ℕ
-  pub data_written : AreDataWords payload bytes
-  pub read : request_reading number bytes ≡ Ok request
+  pub request_written : AreRequestWords command payload request
 
 -- A leg is heard clean by `ok`, is lost by `lost`, and otherwise is heard as the characters of items end to end.
 abbrev pub IsLeg : List ℕ → Heard → Type 0
@@ -125,18 +130,10 @@ IsScriptFault text (Undetected number leg) = ⊥
 
 -- What is read of some words is a value of which this holds; at a bad line there is none; and no more room is asked for than they
 -- need.
-abbrev pub Reads : {T : Type 0} → List (List ℕ) → (T → Type 0) → Result T RowFault → Type 0
-Reads {T} words IsValue (Ok value) = IsValue value
-Reads {T} words IsValue (Err rows.Bad) = HasNoValue IsValue
-Reads {T} words IsValue (Err (rows.Memory room)) = IsNeededByWords words room.items
-
--- A word writes a command, and the words after it write data, which are read as this request.
-pub record AreRequestWords (command : List ℕ) (payload : List (List ℕ)) (request : Request) : Type 0 where
-  pub number : ℕ
-  pub command_written : IsCommandWord command number
-  pub bytes : List ℕ
-  pub data_written : AreDataWords payload bytes
-  pub read : request_reading number bytes ≡ Ok request
+abbrev pub ReadsWords : {T : Type 0} → List (List ℕ) → (T → Type 0) → Result T RowFault → Type 0
+ReadsWords {T} words IsValue (Ok value) = IsValue value
+ReadsWords {T} words IsValue (Err rows.Bad) = HasNoValue IsValue
+ReadsWords {T} words IsValue (Err (rows.Memory room)) = IsNeededByWords words room.items
 
 -- The fault of a script whose line with this number is not read.
 abbrev pub fault_at_line : ℕ → RowFault → LineFault

@@ -1,7 +1,7 @@
 //! The rows of the table of events, and the line that says none.
 ghost use Rattle.std.specs.Prelude.{◌≡◌, ◌≢◌, ◌<◌, [], ◌∷◌, codes, length, MatchOption};
 ghost use Rattle.hart_line.specs.Script.Lines.{words_of};
-ghost use Rattle.hart_line.specs.Script.Rows.{AreDataWords, AreRequestWords, IsEvent, IsLeg, Reads, SaysLine, fault_at_line};
+ghost use Rattle.hart_line.specs.Script.Rows.{AreDataWords, AreRequestWords, IsEvent, IsLeg, ReadsWords, SaysLine, fault_at_line};
 ghost use Rattle.hart_line.specs.Script.Words.{Finds};
 
 use crate::script::items::read_items;
@@ -66,7 +66,7 @@ pub fn read_line(alloc: Global, number: usize, line: &[u8]) -> Result<Option<Lin
 
 /// The event that a first word and the words after it say.
 fn read_event(alloc: Global, first: &[u8], rest: &[u8]) -> Result<LineEvent, RowFault>
-    ensures { Reads (first.now ∷ words_of rest.now) (IsEvent (first.now ∷ words_of rest.now)) result }
+    ensures { ReadsWords (first.now ∷ words_of rest.now) (IsEvent (first.now ∷ words_of rest.now)) result }
 {
     match first {
         b"submit" => read_submit(rest).ok_or(RowFault::Bad),
@@ -112,7 +112,7 @@ fn read_payload(rest: &[u8]) -> Option<Payload>
 
 /// The turn that the words after `turn` say.
 fn read_turn(alloc: Global, rest: &[u8]) -> Result<LineEvent, RowFault>
-    ensures { Reads (codes "turn" ∷ words_of rest.now) (IsEvent (codes "turn" ∷ words_of rest.now)) result }
+    ensures { ReadsWords (codes "turn" ∷ words_of rest.now) (IsEvent (codes "turn" ∷ words_of rest.now)) result }
 {
     let Some((who, up, down)) = three_words(rest) else {
         return Err(RowFault::Bad);
@@ -149,7 +149,7 @@ fn first_three_words(line: &[u8]) -> Option<(&[u8], &[u8], &[u8], &[u8])>
 
 /// What the word of a leg says that is heard.
 fn read_leg(alloc: Global, word: &[u8]) -> Result<Heard, RowFault>
-    ensures { Reads (word.now ∷ []) (IsLeg word.now) result }
+    ensures { ReadsWords (word.now ∷ []) (IsLeg word.now) result }
 {
     Ok(match word {
         b"ok" => Heard::Clean,
@@ -171,7 +171,7 @@ fn read_protect(rest: &[u8]) -> Option<LineEvent>
 
 /// The noise that the words after `noise` say.
 fn read_noise(alloc: Global, rest: &[u8]) -> Result<LineEvent, RowFault>
-    ensures { Reads (codes "noise" ∷ words_of rest.now) (IsEvent (codes "noise" ∷ words_of rest.now)) result }
+    ensures { ReadsWords (codes "noise" ∷ words_of rest.now) (IsEvent (codes "noise" ∷ words_of rest.now)) result }
 {
     let items = only_word(rest).ok_or(RowFault::Bad)?;
     Ok(LineEvent::Noise(read_items(alloc, items)?))
