@@ -135,12 +135,18 @@ fn is_met_whole(exchange: &Exchange) -> Result<bool, Fail> {
     leads_to(delivery, exchange.reply, exchange.held)
 }
 
-/// Whether a request is met so with each other byte at a place, and with each set of fault bits there.
-fn is_met_with_damage(exchange: &Exchange, place: usize, byte: u8) -> Result<bool, Fail> {
+/// Whether a request is met so with each other byte at a place.
+fn is_met_with_other_bytes(exchange: &Exchange, place: usize, byte: u8) -> Result<bool, Fail> {
     let mut met = true;
     for change in 1..=255u8 {
         met &= is_met_at(exchange, place, byte ^ change, 0)?;
     }
+    Ok(met)
+}
+
+/// Whether a request is met so with each set of fault bits at a place.
+fn is_met_with_fault_bits(exchange: &Exchange, place: usize, byte: u8) -> Result<bool, Fail> {
+    let mut met = true;
     for faults in FAULT_SETS {
         met &= is_met_at(exchange, place, byte, *faults)?;
     }
@@ -153,10 +159,9 @@ fn damage_is_borne_in_the_spare_preamble_alone(rt: HostRuntime) -> Result<(), Fa
         assert!(rt; is_met_whole(exchange)?);
         for (place, byte) in exchange.request.iter().enumerate() {
             let cut = is_silent_before(exchange, place)?;
-            assert!(rt;
-                cut && is_met_with_damage(exchange, place, *byte)?,
-                "at {place}"
-            );
+            let other = is_met_with_other_bytes(exchange, place, *byte)?;
+            let faulty = is_met_with_fault_bits(exchange, place, *byte)?;
+            assert!(rt; cut && other && faulty, "at {place}");
         }
     }
     Ok(())
