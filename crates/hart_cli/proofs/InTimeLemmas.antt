@@ -7,7 +7,7 @@ use Rattle.std.proofs.lemmas.List.{append-nil}
 use Rattle.std.proofs.KnownBytes.{Appends-nil, Appends-trans}
 use Rattle.hart_frame.specs.Character.{Character, faultless}
 use Rattle.hart_frame.specs.Frames.{AreFrames, HasNoFrame, IsUndecided}
-use Rattle.hart_frame.specs.Scanner.{Hears, MovesPast, Scan, hearing}
+use Rattle.hart_frame.specs.Scanner.{CanHear, MovesPast, Scan, hearing}
 use Rattle.hart_frame.specs.Streamed.{IsHistory, begin, finish, give, push, push_run, wait}
 use Rattle.hart_frame.specs.declared.found.Found.{Found}
 use Rattle.hart_cli.specs.declared.frame_lines.FrameLines.{FrameLines}
@@ -56,7 +56,7 @@ passed_on chars old new given next going p moves =
       split = heard.split ∙ ap (λ (xs : List Character). heard.prefix ++ xs) (append-nil new.held);
       place = heard.place;
       first = λ more later are.
-          let all : Hears old more (chars ++ more) = record {
+          let all : CanHear old more (chars ++ more) = record {
             prefix = p.passed;
             split = ap (λ (xs : List Character). xs ++ more) p.split ∙ append_assoc p.passed old.held more;
             place = p.place;

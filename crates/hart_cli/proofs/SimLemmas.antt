@@ -9,7 +9,7 @@ use Rattle.std.specs.List.{enumerate_from, flat_map}
 use Rattle.hart_device.specs.Bench.{bench_process}
 use Rattle.hart_device.specs.Device.{DeviceState}
 use Rattle.hart_device.specs.declared.process.Process.{Process}
-use Rattle.hart_line.specs.Line.Promises.{start_of}
+use Rattle.hart_line.specs.Line.Promises.{start_from}
 use Rattle.hart_line.specs.Line.Faults.{IsFault}
 use Rattle.hart_line.specs.Line.Needs.{IsNeededBy}
 use Rattle.hart_line.specs.Script.Rows.{HasFirstBadLine, IsScript}
@@ -83,7 +83,7 @@ outcomes_longer len most line outcomes i d below len_is line_is =
 
 -- a script starts with the device
 pub same_start : (device : DeviceState) (process : Process) (primary secondary : MasterState) → process ≡ bench_process
-    → primary.retries ≡ 3 → secondary.retries ≡ 3 → start_of device process primary secondary ≡ start_with device
+    → primary.retries ≡ 3 → secondary.retries ≡ 3 → start_from device process primary secondary ≡ start_with device
 same_start device process primary secondary is_process is_primary is_secondary = rw (is_process, is_primary, is_secondary) refl
 
 -- the text of a script that was carried out

@@ -1,11 +1,14 @@
 -- Written payloads are read again.
-use Rattle.std.proofs.Common.{◌≡◌, ℕ, ◌+◌, ◌-◌, ◌*◌, ◌/◌, ◌<◌, ◌≤◌, inl, inr, List, [], ◌∷◌, ◌++◌, take, drop, length, map, min, Some, refl, ap, sym, ◌∙◌, arith, false, ltb, length-append, append-nil}
+use Rattle.std.proofs.Common.{◌≡◌, ℕ, ◌+◌, ◌-◌, ◌*◌, ◌/◌, ◌<◌, ◌≤◌, inl, inr, List, [], ◌∷◌, ◌++◌, take, drop, length, map, min, Some, refl}
+use Rattle.std.proofs.Common.{ap, sym, ◌∙◌, arith, false, ltb, length-append, append-nil}
 use Rattle.std.specs.List.{flat_map, AllByRecursion}
 use Rattle.std.specs.Simd.{first_chunks}
 use Rattle.std.proofs.lemmas.List.{take_at, drop_at, take_all}
 use Rattle.hart_values.specs.declared.bits32.Bits32.{Bits32}
 use Rattle.hart_commands.specs.declared.content.ReplyContent.{ReplyContent}
-use Rattle.hart_commands.specs.declared.content.ReplyContent.TheVariants.{Identity, Primary, Current, Dynamic, Polling, Classes, Variables, Message, Tag, Sensor, Output, Assembly, LongTag, Counter, More, Refused}
+use Rattle.hart_commands.specs.declared.content.ReplyContent.TheVariants.{Identity, Primary, Current, Dynamic, Polling, Classes, Variables}
+use Rattle.hart_commands.specs.declared.content.ReplyContent.TheVariants.{Message, Tag, Sensor, Output, Assembly, LongTag, Counter, More}
+use Rattle.hart_commands.specs.declared.content.ReplyContent.TheVariants.{Refused}
 use Rattle.hart_commands.specs.declared.reply.Reply.{Reply}
 use Rattle.hart_commands.specs.declared.value.UnitValue.{UnitValue}
 use Rattle.hart_commands.specs.declared.value.VariableReading.{VariableReading}
@@ -14,10 +17,12 @@ use Rattle.hart_commands.specs.Values.{unit_value_of, unit_value_bytes, variable
 use Rattle.hart_commands.specs.IdentityBytes.{identity_of}
 use Rattle.hart_commands.specs.SensorBytes.{sensor_bytes, sensor_of}
 use Rattle.hart_commands.specs.OutputBytes.{output_bytes, output_of}
-use Rattle.hart_commands.specs.ReplyData.{IsReply, IsContent, IsContentOf, having, identity_reading, current_reading, dynamic_reading, variables_reading, tag_reading, content_reading, content_bytes, reply_reading, reply_payload}
+use Rattle.hart_commands.specs.ReplyData.{IsReply, IsContent, IsContentOf, having, identity_reading, current_reading, dynamic_reading}
+use Rattle.hart_commands.specs.ReplyData.{variables_reading, tag_reading, content_reading, content_bytes, reply_reading, reply_payload}
 use Rattle.hart_commands.proofs.TestLemmas.{below, above, apart, same}
 use Rattle.hart_commands.proofs.ChunkLemmas.{chunks-flat_map, length-flat_map}
-use Rattle.hart_commands.proofs.PartsLemmas.{four, identity-back, sensor-back, output-back, unit_value-back, unit_value-size, variable-back, variable-size}
+use Rattle.hart_commands.proofs.PartsLemmas.{four, identity-back, sensor-back, output-back, unit_value-back, unit_value-size, variable-back}
+use Rattle.hart_commands.proofs.PartsLemmas.{variable-size}
 use Rattle.hart_commands.proofs.RequestLemmas.{HasParts, parts-append}
 
 -- a content of so many bytes is read from them

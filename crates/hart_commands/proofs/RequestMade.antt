@@ -1,14 +1,18 @@
 -- What is read of data is a well-made request of its command, or refused with another code than 64.
-use Rattle.std.proofs.Common.{◌≡◌, ◌≢◌, ◌↔◌, ℕ, ◌<◌, ◌≤◌, ◌⊎◌, inl, inr, List, [], ◌∷◌, take, drop, length, Option, Some, None, Ok, Err, IfSome, refl, subst, arith, Bool, true, false, ltb, eqb, length-take, length-drop, length-take-le}
+use Rattle.std.proofs.Common.{◌≡◌, ◌≢◌, ◌↔◌, ℕ, ◌<◌, ◌≤◌, ◌⊎◌, inl, inr, List, [], ◌∷◌, take, drop, length, Option, Some, None, Ok, Err}
+use Rattle.std.proofs.Common.{IfSome, refl, subst, arith, Bool, true, false, ltb, eqb, length-take, length-drop, length-take-le}
 use Rattle.std.specs.Prelude.{if◌then◌else◌, is_some}
 use Rattle.std.proofs.lemmas.Bool.{cases_lt}
 use Rattle.std.proofs.lemmas.Bool.Decides.{nat_tests}
 use Rattle.hart_values.specs.declared.loop_mode.LoopMode.TheVariants.{Disabled, Enabled}
 use Rattle.hart_values.specs.Calendar.{IsDateBytes, is_date}
 use Rattle.hart_commands.specs.declared.request.Request.{Request}
-use Rattle.hart_commands.specs.declared.request.Request.TheVariants.{SetPolling, ReadVariables, IdentifyByTag, WriteMessage, WriteTag, WriteAssembly, IdentifyByLongTag, WriteLongTag}
+use Rattle.hart_commands.specs.declared.request.Request.TheVariants.{SetPolling, ReadVariables, IdentifyByTag, WriteMessage, WriteTag}
+use Rattle.hart_commands.specs.declared.request.Request.TheVariants.{WriteAssembly, IdentifyByLongTag, WriteLongTag}
 use Rattle.hart_commands.specs.TagBytes.{tag_in, descriptor_in, date_in}
-use Rattle.hart_commands.specs.RequestData.{RequestRow, Reading, IsRequest, command_of, is_known, needing, polling_with, mode_left_out, polling_reading, codes_reading, tag_reading, reset_reading, read_by, request_row, request_reading}
+use Rattle.hart_commands.specs.RequestData.{RequestRow, Reading, IsRequest, command_of, is_known, needing, polling_with, mode_left_out}
+use Rattle.hart_commands.specs.RequestData.{polling_reading, codes_reading, tag_reading, reset_reading, read_by, request_row}
+use Rattle.hart_commands.specs.RequestData.{request_reading}
 use Rattle.hart_commands.proofs.TestLemmas.{below, above, is_one}
 
 -- a well-made request of a command, or a code other than 64

@@ -1,12 +1,15 @@
 -- What is read of a payload is a well-made reply.
-use Rattle.std.proofs.Common.{◌≡◌, ℕ, ◌+◌, ◌-◌, ◌*◌, ◌/◌, ◌<◌, ◌≤◌, ◌⊎◌, inl, inr, List, [], ◌∷◌, take, drop, length, map, min, Option, Some, None, IfSome, refl, ◌∙◌, subst, arith, Bool, true, false, ltb, eqb, ◌&&◌, length-take, length-drop, length-take-le, slice_range, slice_index}
+use Rattle.std.proofs.Common.{◌≡◌, ℕ, ◌+◌, ◌-◌, ◌*◌, ◌/◌, ◌<◌, ◌≤◌, ◌⊎◌, inl, inr, List, [], ◌∷◌, take, drop, length, map, min, Option}
+use Rattle.std.proofs.Common.{Some, None, IfSome, refl, ◌∙◌, subst, arith, Bool, true, false, ltb, eqb, ◌&&◌, length-take, length-drop}
+use Rattle.std.proofs.Common.{length-take-le, slice_range, slice_index}
 use Rattle.std.specs.Prelude.{if◌then◌else◌}
 use Rattle.std.specs.Option.{option_map}
 use Rattle.std.specs.Simd.{first_chunks}
 use Rattle.std.proofs.lemmas.Bool.{cases_lt}
 use Rattle.std.proofs.lemmas.Bool.Decides.{nat_tests}
 use Rattle.hart_commands.specs.declared.content.ReplyContent.{ReplyContent}
-use Rattle.hart_commands.specs.declared.content.ReplyContent.TheVariants.{Identity, Primary, Current, Polling, Classes, Variables, Message, Tag, Sensor, Output, Assembly, LongTag, Counter, More, Refused}
+use Rattle.hart_commands.specs.declared.content.ReplyContent.TheVariants.{Identity, Primary, Current, Polling, Classes, Variables, Message}
+use Rattle.hart_commands.specs.declared.content.ReplyContent.TheVariants.{Tag, Sensor, Output, Assembly, LongTag, Counter, More, Refused}
 use Rattle.hart_commands.specs.declared.reply.Reply.{Reply}
 use Rattle.hart_commands.specs.TagBytes.{tag_in, descriptor_in, date_in}
 use Rattle.hart_commands.specs.Values.{float_at, unit_value_of, variable_of}
@@ -14,7 +17,8 @@ use Rattle.hart_commands.specs.RequestData.{is_known}
 use Rattle.hart_commands.specs.IdentityBytes.{IsIdentity, identity_of}
 use Rattle.hart_commands.specs.SensorBytes.{IsSensor, sensor_of}
 use Rattle.hart_commands.specs.OutputBytes.{IsOutput, output_of}
-use Rattle.hart_commands.specs.ReplyData.{IsReply, IsContent, IsContentOf, having, identity_reading, dynamic_reading, variables_reading, tag_reading, more_reading, content_reading, reply_reading}
+use Rattle.hart_commands.specs.ReplyData.{IsReply, IsContent, IsContentOf, having, identity_reading, dynamic_reading, variables_reading}
+use Rattle.hart_commands.specs.ReplyData.{tag_reading, more_reading, content_reading, reply_reading}
 use Rattle.hart_commands.proofs.TestLemmas.{below, above, is_one, is_either, is_of_three}
 use Rattle.hart_commands.proofs.ChunkLemmas.{chunks-sized, length-chunks}
 

@@ -1,12 +1,17 @@
 -- What the data bytes of a request ask (HCF_SPEC-127). Of the own profile are the meanings of the codes 9 and 12, the order of
 -- refusals, and that Command 6 is always written with two bytes.
-use Rattle.std.specs.Prelude.{ℕ, ◌+◌, ◌*◌, ◌/◌, ◌%◌, ◌≡◌, ◌<◌, ◌≤◌, ◌⊎◌, ◌==◌, nat_lt, if◌then◌else◌, Bool, List, [], ◌∷◌, ◌++◌, length, take, Result, Ok, Err, Option, Some, None, is_some}
+use Rattle.std.specs.Prelude.{ℕ, ◌+◌, ◌*◌, ◌/◌, ◌%◌, ◌≡◌, ◌<◌, ◌≤◌, ◌⊎◌, ◌==◌, nat_lt, if◌then◌else◌, Bool, List, [], ◌∷◌, ◌++◌, length}
+use Rattle.std.specs.Prelude.{take, Result, Ok, Err, Option, Some, None, is_some}
 use Rattle.hart_values.specs.declared.loop_mode.LoopMode.{LoopMode}
 use Rattle.hart_values.specs.declared.loop_mode.LoopMode.TheVariants.{Disabled, Enabled}
 use Rattle.hart_values.specs.Calendar.{IsDateBytes, is_date}
 use Rattle.hart_commands.specs.TagBytes.{tag_in, descriptor_in, date_in}
 use Rattle.hart_commands.specs.declared.request.Request.{Request}
-use Rattle.hart_commands.specs.declared.request.Request.TheVariants.{Identify, ReadPrimary, ReadCurrent, ReadDynamic, SetPolling, ReadPolling, ReadClasses, ReadVariables, IdentifyByTag, ReadMessage, ReadTag, ReadSensor, ReadOutput, ReadAssembly, WriteMessage, WriteTag, WriteAssembly, ReadLongTag, IdentifyByLongTag, WriteLongTag, ResetChanged, ReadMore}
+use Rattle.hart_commands.specs.declared.request.Request.TheVariants.{Identify, ReadPrimary, ReadCurrent, ReadDynamic, SetPolling}
+use Rattle.hart_commands.specs.declared.request.Request.TheVariants.{ReadPolling, ReadClasses, ReadVariables, IdentifyByTag, ReadMessage}
+use Rattle.hart_commands.specs.declared.request.Request.TheVariants.{ReadTag, ReadSensor, ReadOutput, ReadAssembly, WriteMessage, WriteTag}
+use Rattle.hart_commands.specs.declared.request.Request.TheVariants.{WriteAssembly, ReadLongTag, IdentifyByLongTag, WriteLongTag}
+use Rattle.hart_commands.specs.declared.request.Request.TheVariants.{ResetChanged, ReadMore}
 
 -- Data are read as a request, or refused with a response code.
 abbrev pub Reading : Type 0

@@ -1,5 +1,6 @@
 -- Every list of characters has a garbled request for a device, or has none.
-use Rattle.std.proofs.Common.{◌≡◌, ◌≢◌, ℕ, ◌+◌, ◌/◌, ◌%◌, ◌<◌, ◌≤◌, ◌⊎◌, inl, inr, Bool, true, false, List, [], ◌∷◌, ◌++◌, length, take, drop, get_or, refl, ap, subst, ◌∙◌, arith}
+use Rattle.std.proofs.Common.{◌≡◌, ◌≢◌, ℕ, ◌+◌, ◌/◌, ◌%◌, ◌<◌, ◌≤◌, ◌⊎◌, inl, inr, Bool, true, false, List, [], ◌∷◌, ◌++◌, length, take}
+use Rattle.std.proofs.Common.{drop, get_or, refl, ap, subst, ◌∙◌, arith}
 use Rattle.hart_values.specs.AddressBytes.{IsAddressBytes, IsUniqueBytes, first_byte}
 use Rattle.hart_values.specs.DeviceNumbers.{DeviceNumbers}
 use Rattle.hart_values.specs.declared.address.Address.{Address}

@@ -1,5 +1,6 @@
 -- What a garbled request is known by, and that a list of characters has one at most.
-use Rattle.std.proofs.Common.{◌≡◌, ℕ, ◌+◌, ◌-◌, ◌≤◌, List, [], ◌∷◌, ◌++◌, length, take, drop, map, get_or, refl, sym, subst, ap, ◌∙◌, arith, length-append, append_assoc, Bool}
+use Rattle.std.proofs.Common.{◌≡◌, ℕ, ◌+◌, ◌-◌, ◌≤◌, List, [], ◌∷◌, ◌++◌, length, take, drop, map, get_or, refl, sym, subst, ap, ◌∙◌, arith}
+use Rattle.std.proofs.Common.{length-append, append_assoc, Bool}
 use Rattle.std.proofs.lemmas.List.{get_or-append_right, length-map, length-take-le, take-append-drop, take_at}
 use Rattle.hart_values.specs.AddressBytes.{IsAddressBytes}
 use Rattle.hart_values.specs.declared.address.Address.{Address}
@@ -34,7 +35,7 @@ head_length identity master burst address own =
     omega (arith, five, all)
 
 -- a garbled request is known by the device's address, the characters after that, and how many there are
-pub record Reads (identity : IdentityParts) (chars : List Character) (request : GarbledRequest) (d : Character) : Type 0 where
+pub record ReadsGarbled (identity : IdentityParts) (chars : List Character) (request : GarbledRequest) (d : Character) : Type 0 where
   pub own : BeginsWithOwn identity chars request.master
   pub within : (get_or chars 7 d).byte + 9 ≤ length chars
   pub command : request.command ≡ (get_or chars 6 d).byte
@@ -47,7 +48,7 @@ read_after chars address rest n d six split after =
     ap (λ (xs : List Character). get_or xs n d) split ∙ get_or-append_right (head address) rest 6 n d six after
 
 pub reads_of : (identity : IdentityParts) (chars : List Character) (request : GarbledRequest) (d : Character)
-    → BeginsWithGarbled identity chars request → Reads identity chars request d
+    → BeginsWithGarbled identity chars request → ReadsGarbled identity chars request d
 reads_of identity chars request d begins =
     let is = begins.is_garbled in
     let six = head_length identity request.master is.burst is.address is.own_address in
@@ -120,7 +121,7 @@ garbled_after identity chars request d burst address (c ∷ b ∷ more) own spli
     }
 
 pub from_reads : (identity : IdentityParts) (chars : List Character) (request : GarbledRequest) (d : Character)
-    → Reads identity chars request d → BeginsWithGarbled identity chars request
+    → ReadsGarbled identity chars request d → BeginsWithGarbled identity chars request
 from_reads identity chars request d reads =
     garbled_after identity chars request d reads.own.burst reads.own.address reads.own.rest reads.own.own_address reads.own.split
     reads.within reads.command reads.faults

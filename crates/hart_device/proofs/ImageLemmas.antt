@@ -16,7 +16,7 @@ use Rattle.hart_device.specs.declared.fault.DeviceFault.{DeviceFault}
 use Rattle.hart_device.specs.declared.fault.DeviceFault.TheVariants.{BadField, BadLength, BadVersion, BroadcastAddress, OutOfRange}
 use Rattle.hart_device.specs.Device.{DeviceState}
 use Rattle.hart_device.specs.Identity.{two_bytes}
-use Rattle.hart_device.specs.Image.{HasBadField, HasBadRegister, IsImageOf, IsImageFault, IsLongTagOf, ending_of, flags_of}
+use Rattle.hart_device.specs.Image.{HasBadField, HasBadRegister, IsImageOf, IsImageFault, IsLongTagOf, image_ending, flags_of}
 use Rattle.hart_device.specs.Image.{image_bytes, image_length, registers_of_version, registers_of_version_1}
 use Rattle.hart_device.specs.ImageParts.{state_with}
 use Rattle.hart_device.specs.Ranges.{contents_in, end_of, standing_for, start_of}
@@ -98,12 +98,12 @@ listed_or_not version held known every register = by_version (known_version vers
 -- What an image of a version says of its device.
 said : (state : DeviceState) (version : ℕ) (rest : List ℕ) (held : List Register) → registers_of_version version ≡ Some held
     → IsImageOf state (version ∷ rest)
-    → (rest ≡ flat_map (bytes_in state.contents) held ++ ending_of state)
+    → (rest ≡ flat_map (bytes_in state.contents) held ++ image_ending state)
     × ((Contains held LongTag → ⊥) → IsLongTagOf state.contents.tag state.contents.long_tag)
 said state version rest held known is =
     let first : version ≡ is.version = ap (λ xs. slice_index xs 0) is.written in
     let list : is.listed ≡ held = one_list is.version is.listed held is.known (rw (← first) known) in (
-      ap (drop 1) is.written ∙ ap (λ listed. flat_map (bytes_in state.contents) listed ++ ending_of state) list,
+      ap (drop 1) is.written ∙ ap (λ listed. flat_map (bytes_in state.contents) listed ++ image_ending state) list,
       subst (λ (listed : List Register). (Contains listed LongTag → ⊥) → IsLongTagOf state.contents.tag state.contents.long_tag)
           list is.long_tag,
     )
@@ -128,11 +128,11 @@ held_len state valid = length_written (bytes_in state.contents) (λ r. (valid r)
 -- What stands for a register in an image that has it is what it holds.
 pub held_in_image : (state : DeviceState) → AreValid state.contents → (held : List Register) → end_to_end 0 held ≡ true
     → (register : Register) → Contains held register
-    → standing_for register (flat_map (bytes_in state.contents) held ++ ending_of state) ≡ bytes_in state.contents register
+    → standing_for register (flat_map (bytes_in state.contents) held ++ image_ending state) ≡ bytes_in state.contents register
 held_in_image state valid held ends register listed =
     let same : slice_index_or held listed.0 register ≡ register = listed.2 in
-    subst (λ (r : Register). standing_for r (flat_map (bytes_in state.contents) held ++ ending_of state) ≡ bytes_in state.contents r)
-    same (written (bytes_in state.contents) [] (ending_of state) held ends (λ r. (valid r).0) listed.0 register listed.1)
+    subst (λ (r : Register). standing_for r (flat_map (bytes_in state.contents) held ++ image_ending state) ≡ bytes_in state.contents r)
+    same (written (bytes_in state.contents) [] (image_ending state) held ends (λ r. (valid r).0) listed.0 register listed.1)
 
 -- What was read of the registers in an array, and of the bytes that end an image, is what the image says.
 pub read_is : (version : ℕ) (held : List Register) → registers_of_version version ≡ Some held
@@ -148,10 +148,11 @@ read_is version held known parts array prefix end fill long_tag contents valid e
   listed = held;
   known = known;
   long_tag = subst (λ (c : Contents). (Contains held LongTag → ⊥) → IsLongTagOf c.tag c.long_tag) (sym contents) long_tag;
-  written = ap (λ xs. version ∷ xs) (ap (λ xs. prefix ++ xs) (sym ends) ∙ ap (λ xs. xs ++ ending_of (state_with identity parts)) (sym fill)
-      ∙ ap (λ (bytes : Register → List ℕ). flat_map bytes held ++ ending_of (state_with identity parts))
+  written = ap (λ xs. version ∷ xs) (ap (λ xs. prefix ++ xs) (sym ends)
+      ∙ ap (λ xs. xs ++ image_ending (state_with identity parts)) (sym fill)
+      ∙ ap (λ (bytes : Register → List ℕ). flat_map bytes held ++ image_ending (state_with identity parts))
       (λ i register. sym (bytes_in-contents_by (λ r. standing_for r array) register) i)
-      ∙ ap (λ (c : Contents). flat_map (bytes_in c) held ++ ending_of (state_with identity parts)) (sym contents));
+      ∙ ap (λ (c : Contents). flat_map (bytes_in c) held ++ image_ending (state_with identity parts)) (sym contents));
 }
 
 -- The flags are the last byte of an image.
@@ -198,8 +199,8 @@ no_fault state (version ∷ rest) BadField is (held, known, len, inl (register, 
     let after = (said state version rest held known is).0 in
     bad (rw (after, held_in_image state is.contents held (ends_of version held known) register there) (is.contents register))
 no_fault state (version ∷ rest) BadField is (held, known, len, inr above) =
-    let after : rest ≡ flat_map (bytes_in state.contents) held ++ ending_of state = (said state version rest held known is).0 in
-    let last = last_is version (flat_map (bytes_in state.contents) held) (ending_of state) refl in
+    let after : rest ≡ flat_map (bytes_in state.contents) held ++ image_ending state = (said state version rest held known is).0 in
+    let last = last_is version (flat_map (bytes_in state.contents) held) (image_ending state) refl in
     let flags : 7 < flags_of state.changed state.protected =
     subst (λ n. 7 < n) last (subst (λ (xs : List ℕ). 7 < slice_index (version ∷ xs) (length (version ∷ xs) - 1)) after above) in
     absurd (omega (arith, flags, flags_of-le state.changed state.protected))
@@ -303,16 +304,17 @@ one_state state other (version ∷ rest) every one_text is other_is identity col
     let known : registers_of_version version ≡ Some held = rw (← first) is.known in
     let says = said state version rest held known is in
     let other_says = said other version rest held known other_is in
-    let same : flat_map (bytes_in state.contents) held ++ ending_of state ≡ flat_map (bytes_in other.contents) held ++ ending_of other =
+    let same : flat_map (bytes_in state.contents) held ++ image_ending state
+    ≡ flat_map (bytes_in other.contents) held ++ image_ending other =
     sym says.0 ∙ other_says.0 in
     let table = ends_of version held known in
     let contents : state.contents ≡ other.contents =
     one_contents state other held one_text (listed_or_not version held known every) (λ register there.
     sym (held_in_image state is.contents held table register there) ∙ ap (standing_for register) same
     ∙ held_in_image other other_is.contents held table register there) says.1 other_says.1 in
-    let ends : ending_of state ≡ ending_of other =
-    sym (drop_at _ (ending_of state) (sum_by size_of held) (held_len state is.contents held)) ∙ ap (drop (sum_by size_of held)) same
-    ∙ drop_at _ (ending_of other) (sum_by size_of held) (held_len other other_is.contents held) in
+    let ends : image_ending state ≡ image_ending other =
+    sym (drop_at _ (image_ending state) (sum_by size_of held) (held_len state is.contents held)) ∙ ap (drop (sum_by size_of held)) same
+    ∙ drop_at _ (image_ending other) (sum_by size_of held) (held_len other other_is.contents held) in
     let high : state.counter / 256 ≡ other.counter / 256 = ap (λ xs. slice_index xs 0) ends in
     let low : state.counter % 256 ≡ other.counter % 256 = ap (λ xs. slice_index xs 1) ends in
     let bits = flags_determine state.changed.primary state.changed.secondary state.protected

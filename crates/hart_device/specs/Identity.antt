@@ -11,7 +11,7 @@ use Rattle.hart_device.specs.declared.fault.DeviceFault.TheVariants.{BroadcastAd
 
 -- The parts of an identity are in range if the device id has 24 bits, a sender can put both numbers of preamble bytes, the
 -- hardware revision has 5 bits and the physical signalling code has 3.
-pub record IsInRange (parts : IdentityParts) : Type 0 where
+pub record AreInRange (parts : IdentityParts) : Type 0 where
   pub device_id : parts.device_id < 2 ^ 24
   pub request_preambles : IsPreambleCount parts.request_preambles
   pub response_preambles : IsPreambleCount parts.response_preambles
@@ -24,13 +24,13 @@ own_numbers parts = record { expanded_type = parts.expanded_device_type % 2 ^ 14
 
 -- Parts are an identity if they are in range and the device's unique address is not the broadcast address.
 pub record AreIdentityParts (parts : IdentityParts) : Type 0 where
-  pub in_range : IsInRange parts
+  pub in_range : AreInRange parts
   pub own_address : ¬ (Unique (own_numbers parts) ≡ broadcast)
 
 -- Parts are refused as out of range, otherwise for the broadcast address, and for nothing else.
 abbrev pub IsIdentityFault : IdentityParts → DeviceFault → Type 0
-IsIdentityFault parts OutOfRange = ¬ IsInRange parts
-IsIdentityFault parts BroadcastAddress = IsInRange parts × (Unique (own_numbers parts) ≡ broadcast)
+IsIdentityFault parts OutOfRange = ¬ AreInRange parts
+IsIdentityFault parts BroadcastAddress = AreInRange parts × (Unique (own_numbers parts) ≡ broadcast)
 IsIdentityFault parts _ = ⊥
 
 -- A number below 65536 in two bytes, the most significant first.

@@ -36,12 +36,12 @@ abbrev pub IsLongTagOf : List ℕ → List ℕ → Type 0
 IsLongTagOf tag long_tag = (text : List ℕ) × IsPacked text tag × (long_tag ≡ text ++ replicate 24 0x20)
 
 -- An image ends with the configuration change counter in two bytes, the most significant first, and the flags.
-abbrev pub ending_of : DeviceState → List ℕ
-ending_of state = two_bytes state.counter ++ flags_of state.changed state.protected ∷ []
+abbrev pub image_ending : DeviceState → List ℕ
+image_ending state = two_bytes state.counter ++ flags_of state.changed state.protected ∷ []
 
 -- The bytes of an image are the number of its version, those of its registers in their order, and its ending.
 abbrev pub image_bytes : ℕ → List Register → DeviceState → List ℕ
-image_bytes version listed state = version ∷ (flat_map (bytes_in state.contents) listed ++ ending_of state)
+image_bytes version listed state = version ∷ (flat_map (bytes_in state.contents) listed ++ image_ending state)
 
 -- Bytes are an image of a device's state, in which every register holds valid bytes and the counter is below 65536, if they are its
 -- bytes in a version that is known. If images of that version have no long tag, the state's long tag is that of its tag. Who the device

@@ -4,7 +4,7 @@ ghost use Rattle.hart_frame.specs.Message.{IsPreambleCount};
 ghost use Rattle.hart_commands.specs.Registers.{AreValid};
 ghost use Rattle.hart_commands.specs.ReplyData.{reply_payload};
 ghost use Rattle.hart_device.specs.Answer.{answer_of, asked_effect, is_addressed, is_answered, is_answered_with, is_paired};
-ghost use Rattle.hart_device.specs.Answer.{after_command, names_another, reply_of, reply_with, state_after};
+ghost use Rattle.hart_device.specs.Answer.{names_another, reply_of, reply_with, state_after};
 ghost use Rattle.hart_device.specs.Delivery.{Brings, Brought, answer_to, state_after_delivery};
 ghost use Rattle.hart_device.specs.Device.{Nothing, after, for_both, new_device, restarted};
 ghost use Rattle.hart_device.specs.Garbled.{HasGarbled, garbled_reply};

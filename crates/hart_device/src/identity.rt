@@ -1,6 +1,6 @@
 ghost use Rattle.std.specs.Prelude.{◌≡◌, ◌<◌, ◌^◌, ◌↔◌, IsOk, IfOk, IfErr, IsTrue};
 ghost use Rattle.hart_frame.specs.Message.{IsPreambleCount};
-ghost use Rattle.hart_device.specs.Identity.{AreIdentityParts, IsIdentityFault, IsInRange, own_numbers, identity_content, three_bytes};
+ghost use Rattle.hart_device.specs.Identity.{AreIdentityParts, IsIdentityFault, AreInRange, own_numbers, identity_content, three_bytes};
 
 use crate::{DeviceFault, IdentityParts};
 use hart_commands::IdentityContent;
@@ -96,7 +96,7 @@ impl Identity {
 
 /// Whether each number lies within its range.
 fn is_in_range(parts: &IdentityParts) -> bool
-    ensures { IsTrue result ↔ IsInRange parts.now }
+    ensures { IsTrue result ↔ AreInRange parts.now }
 {
     parts.device_id < 1 << 24
         && is_preamble_count(parts.request_preambles)

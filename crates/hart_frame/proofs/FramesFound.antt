@@ -1,5 +1,6 @@
 -- Every list of characters has its frames.
-use Rattle.std.proofs.Common.{◌≡◌, ◌≢◌, ℕ, zero, suc, ◌+◌, ◌<◌, ◌≤◌, ◌⊎◌, inl, inr, List, [], ◌∷◌, ◌++◌, length, take, drop, refl, sym, ap, ◌∙◌, arith, subst}
+use Rattle.std.proofs.Common.{◌≡◌, ◌≢◌, ℕ, zero, suc, ◌+◌, ◌<◌, ◌≤◌, ◌⊎◌, inl, inr, List, [], ◌∷◌, ◌++◌, length, take, drop, refl, sym, ap}
+use Rattle.std.proofs.Common.{◌∙◌, arith, subst}
 use Rattle.std.proofs.lemmas.List.{take-append-drop, take-map, take_rest, length-take-le, length-map}
 use Rattle.std.specs.List.{All}
 use Rattle.hart_frame.specs.FrameParts.{FrameParts}
@@ -15,7 +16,8 @@ use Rattle.hart_frame.specs.declared.found.Found.{Found}
 use Rattle.hart_frame.proofs.BodiesFound.{body_decided, even_body}
 use Rattle.hart_frame.proofs.HeardLemmas.{BeginsWithBody-heard, bytes_of-faultless, faultless_made, made_of_bytes, take-heard}
 use Rattle.hart_frame.proofs.RefusalLemmas.{says}
-use Rattle.hart_frame.proofs.PlaceLemmas.{preamble, StandsIn-at, StandsIn-heard, StandsIn-hears, StandsIn-from, StandsIn-within, HasNoFrame-end, start-later}
+use Rattle.hart_frame.proofs.PlaceLemmas.{preamble, StandsIn-at, StandsIn-heard, StandsIn-hears, StandsIn-from, StandsIn-within}
+use Rattle.hart_frame.proofs.PlaceLemmas.{HasNoFrame-end, start-later}
 
 -- the first of faultless characters has no fault, and the others are faultless
 pub record FaultlessFirst (first : Character) (others : List Character) : Type 0 where

@@ -1,7 +1,9 @@
 -- A message that is heard without faults has its frame alone.
-use Rattle.std.proofs.Common.{◌≡◌, ℕ, ◌+◌, ◌-◌, ◌<◌, ◌≤◌, ◌⊎◌, inl, inr, List, [], ◌∷◌, ◌++◌, length, get_or, replicate, sym, ap, ◌∙◌, arith, append_assoc, length-append}
+use Rattle.std.proofs.Common.{◌≡◌, ℕ, ◌+◌, ◌-◌, ◌<◌, ◌≤◌, ◌⊎◌, inl, inr, List, [], ◌∷◌, ◌++◌, length, get_or, replicate, sym, ap, ◌∙◌}
+use Rattle.std.proofs.Common.{arith, append_assoc, length-append}
 use Rattle.std.proofs.Math.ListN.{get_or-append}
-use Rattle.std.proofs.lemmas.List.{append-nil, map-append, length-map, length-replicate, replicate-append-replicate, get_or-replicate, get_or-append-add}
+use Rattle.std.proofs.lemmas.List.{append-nil, map-append, length-map, length-replicate, replicate-append-replicate, get_or-replicate}
+use Rattle.std.proofs.lemmas.List.{get_or-append-add}
 use Rattle.hart_frame.specs.FrameParts.{FrameParts}
 use Rattle.hart_frame.specs.Delimiter.{delimiter_of}
 use Rattle.hart_frame.specs.Character.{Character, faultless}

@@ -1,8 +1,10 @@
 -- What bytes say does not change when more bytes follow.
-use Rattle.std.proofs.Common.{◌≡◌, ◌≢◌, ℕ, ◌+◌, ◌-◌, ◌%◌, ◌<◌, ◌≤◌, inl, inr, List, [], ◌∷◌, ◌++◌, length, take, drop, get_or, refl, sym, ap, ◌∙◌, arith, subst, length-append, length-drop}
+use Rattle.std.proofs.Common.{◌≡◌, ◌≢◌, ℕ, ◌+◌, ◌-◌, ◌%◌, ◌<◌, ◌≤◌, inl, inr, List, [], ◌∷◌, ◌++◌, length, take, drop, get_or, refl, sym}
+use Rattle.std.proofs.Common.{ap, ◌∙◌, arith, subst, length-append, length-drop}
 use Rattle.std.proofs.lemmas.List.{get_or_append_left, drop-append-le, take-append-le}
 use Rattle.hart_frame.specs.declared.fault.FrameFault.{FrameFault}
-use Rattle.hart_frame.specs.declared.fault.FrameFault.TheVariants.{TooShortReply, BadPreamble, BadDelimiter, Truncated, BadCheck, ShortReply}
+use Rattle.hart_frame.specs.declared.fault.FrameFault.TheVariants.{TooShortReply, BadPreamble, BadDelimiter, Truncated, BadCheck}
+use Rattle.hart_frame.specs.declared.fault.FrameFault.TheVariants.{ShortReply}
 use Rattle.hart_frame.specs.declared.judge.Verdict.TheVariants.{Open}
 use Rattle.hart_frame.specs.Parity.{HasEvenParity}
 use Rattle.hart_frame.specs.Layout.{Describes, delimiter_in, byte_count_place, byte_count_in, body_length}

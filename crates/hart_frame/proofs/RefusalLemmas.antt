@@ -1,12 +1,14 @@
 -- What begins with a body is not refused.
-use Rattle.std.proofs.Common.{◌≡◌, ℕ, ◌+◌, ◌*◌, ◌/◌, ◌%◌, ◌<◌, ◌≤◌, ◌⊎◌, inl, inr, List, [], ◌∷◌, ◌++◌, length, take, drop, get_or, sym, ap, ◌∙◌, arith, append_assoc, length-append, subst, Result, Ok, Err}
+use Rattle.std.proofs.Common.{◌≡◌, ℕ, ◌+◌, ◌*◌, ◌/◌, ◌%◌, ◌<◌, ◌≤◌, ◌⊎◌, inl, inr, List, [], ◌∷◌, ◌++◌, length, take, drop, get_or, sym, ap}
+use Rattle.std.proofs.Common.{◌∙◌, arith, append_assoc, length-append, subst, Result, Ok, Err}
 use Rattle.std.specs.Result.{IfOk, IfErr}
 use Rattle.std.proofs.lemmas.List.Elements.{All-get_or}
 use Rattle.std.proofs.lemmas.List.{length-take-le, take-append-drop, get_or_at, take_all}
 use Rattle.hart_frame.specs.declared.kind.FrameKind.{FrameKind}
 use Rattle.hart_frame.specs.declared.kind.FrameKind.TheVariants.{Stx, Ack}
 use Rattle.hart_frame.specs.declared.fault.FrameFault.{FrameFault}
-use Rattle.hart_frame.specs.declared.fault.FrameFault.TheVariants.{TooShortReply, BadPreamble, BadDelimiter, Truncated, BadCheck, ShortReply}
+use Rattle.hart_frame.specs.declared.fault.FrameFault.TheVariants.{TooShortReply, BadPreamble, BadDelimiter, Truncated, BadCheck}
+use Rattle.hart_frame.specs.declared.fault.FrameFault.TheVariants.{ShortReply}
 use Rattle.hart_frame.specs.FrameParts.{FrameParts, IsLongEnough}
 use Rattle.hart_frame.specs.Delimiter.{delimiter_of, kind_code, address_type}
 use Rattle.hart_frame.specs.Parity.{HasEvenParity}

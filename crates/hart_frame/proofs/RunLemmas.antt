@@ -1,5 +1,6 @@
 -- What a run of faultless bytes is to a scanner, heard in parts.
-use Rattle.std.proofs.Common.{◌≡◌, ◌≢◌, ℕ, suc, ◌+◌, ◌-◌, ◌<◌, ◌≤◌, ◌^◌, ◌⊎◌, inl, inr, false, IsTrue, List, [], ◌∷◌, ◌++◌, length, take, drop, refl, sym, ap, ◌∙◌, arith, subst, append_assoc, length-append}
+use Rattle.std.proofs.Common.{◌≡◌, ◌≢◌, ℕ, suc, ◌+◌, ◌-◌, ◌<◌, ◌≤◌, ◌^◌, ◌⊎◌, inl, inr, false, IsTrue, List, [], ◌∷◌, ◌++◌, length, take}
+use Rattle.std.proofs.Common.{drop, refl, sym, ap, ◌∙◌, arith, subst, append_assoc, length-append}
 use Rattle.std.specs.List.{All}
 use Rattle.std.proofs.lemmas.Bool.{false≢true}
 use Rattle.std.proofs.lemmas.List.{map-append, take-take, length-map, length-take-le}
@@ -7,9 +8,10 @@ use Rattle.std.proofs.Math.Seq.{take-add}
 use Rattle.std.specs.List.{slice_range}
 use Rattle.hart_frame.specs.Character.{Character, faultless}
 use Rattle.hart_frame.specs.Frames.{IsUndecided}
-use Rattle.hart_frame.specs.Scanner.{Scan, Hears, MovesPast, hearing}
+use Rattle.hart_frame.specs.Scanner.{Scan, CanHear, MovesPast, hearing}
 use Rattle.hart_frame.proofs.BufferLemmas.{length_range}
-use Rattle.hart_frame.proofs.ScanLemmas.{NothingStarts, nothing_never, moves_drop, moves_none, moves_then, undecided_nothing, undecided_open}
+use Rattle.hart_frame.proofs.ScanLemmas.{NothingStarts, nothing_never, moves_drop, moves_none, moves_then, undecided_nothing}
+use Rattle.hart_frame.proofs.ScanLemmas.{undecided_open}
 use Rattle.hart_frame.specs.Verdict.{IsVerdict, NeverBecomeBody}
 use Rattle.hart_frame.specs.declared.fault.FrameFault.TheVariants.{BadDelimiter}
 use Rattle.hart_frame.specs.declared.judge.Verdict.TheVariants.{Open}
@@ -23,7 +25,8 @@ append_none (c ∷ cs) more none = absurd cc
 -- what is passed is also passed if more is heard before it is looked at
 pub moves_hearing : (a b : Scan) (cs : List Character) → a.finished ≡ false → MovesPast a b [] → MovesPast (hearing a cs) (hearing b cs) []
 moves_hearing a b cs going p =
-    let before : (more chars : List Character) → Hears (hearing a cs) more chars → Hears a (cs ++ more) chars = λ more chars hears. record {
+    let before : (more chars : List Character) → CanHear (hearing a cs) more chars → CanHear a (cs ++ more) chars =
+    λ more chars hears. record {
       prefix = hears.prefix;
       split = hears.split ∙ ap (λ (ds : List Character). hears.prefix ++ ds) (append_assoc a.held cs more);
       place = hears.place;

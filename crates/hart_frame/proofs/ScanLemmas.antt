@@ -1,6 +1,8 @@
 -- What one step of a scanner leaves to the frames of whatever is heard.
-use Rattle.std.proofs.Common.{◌≡◌, ◌≢◌, ℕ, ◌+◌, ◌<◌, ◌≤◌, ◌⊎◌, inl, inr, IsTrue, List, [], ◌∷◌, ◌++◌, length, take, drop, get_or, refl, sym, ap, ◌∙◌, arith, subst, append_assoc, length-append}
-use Rattle.std.proofs.lemmas.List.{append-nil, drop_at, length-map, map-append, take-append-le, take-map, take_at, get_or_at, get_or_append_left, get_or-map}
+use Rattle.std.proofs.Common.{◌≡◌, ◌≢◌, ℕ, ◌+◌, ◌<◌, ◌≤◌, ◌⊎◌, inl, inr, IsTrue, List, [], ◌∷◌, ◌++◌, length, take, drop, get_or, refl, sym}
+use Rattle.std.proofs.Common.{ap, ◌∙◌, arith, subst, append_assoc, length-append}
+use Rattle.std.proofs.lemmas.List.{append-nil, drop_at, length-map, map-append, take-append-le, take-map, take_at, get_or_at}
+use Rattle.std.proofs.lemmas.List.{get_or_append_left, get_or-map}
 use Rattle.hart_frame.specs.FrameParts.{FrameParts}
 use Rattle.hart_frame.specs.Body.{IsBody, BeginsWithBody}
 use Rattle.hart_frame.specs.Character.{Character, faultless}
@@ -9,11 +11,12 @@ use Rattle.hart_frame.specs.Place.{StandsIn}
 use Rattle.hart_frame.specs.Frames.{AreFrames, none, first}
 use Rattle.hart_frame.specs.Refusal.{IsTruncated, IsRefusedWith}
 use Rattle.hart_frame.specs.Frames.{IsUndecided}
-use Rattle.hart_frame.specs.Scanner.{Scan, Hears, MovesPast}
+use Rattle.hart_frame.specs.Scanner.{Scan, CanHear, MovesPast}
 use Rattle.hart_frame.specs.Verdict.{NeverBecomeBody, IsOpenUntil, IsVerdict}
 use Rattle.hart_frame.specs.declared.found.Found.{Found}
 use Rattle.hart_frame.specs.declared.fault.FrameFault.{FrameFault}
-use Rattle.hart_frame.specs.declared.fault.FrameFault.TheVariants.{TooShortReply, BadPreamble, BadDelimiter, Truncated, BadCheck, ShortReply}
+use Rattle.hart_frame.specs.declared.fault.FrameFault.TheVariants.{TooShortReply, BadPreamble, BadDelimiter, Truncated, BadCheck}
+use Rattle.hart_frame.specs.declared.fault.FrameFault.TheVariants.{ShortReply}
 use Rattle.hart_frame.specs.declared.judge.Verdict.TheVariants.{Never, Open}
 use Rattle.hart_frame.proofs.HeardLemmas.{BeginsWithBody-heard, bytes_of-faultless, faultless-one}
 use Rattle.hart_frame.proofs.PrefixLemmas.{refused_more}
@@ -54,7 +57,7 @@ AreFrames-earlier chars from to frames before skip (first n found later is rest)
     }) rest
 
 -- what is held is found after as many characters as were let go
-pub heard_at : (scan : Scan) (more chars : List Character) (hears : Hears scan more chars) → drop scan.first chars ≡ scan.held ++ more
+pub heard_at : (scan : Scan) (more chars : List Character) (hears : CanHear scan more chars) → drop scan.first chars ≡ scan.held ++ more
 heard_at scan more chars hears = ap (drop scan.first) hears.split ∙ drop_at hears.prefix (scan.held ++ more) scan.first hears.place
 
 pub moves_none : (old new : Scan) → new.held ≡ old.held → new.first ≡ old.first → new.finished ≡ old.finished → MovesPast old new []

@@ -1,5 +1,6 @@
 -- What a step of a buffer is to the frames of whatever is heard.
-use Rattle.std.proofs.Common.{◌≡◌, ◌≢◌, ℕ, ◌+◌, ◌-◌, ◌<◌, ◌≤◌, ◌⊎◌, inl, inr, Bool, true, false, IsTrue, List, [], ◌∷◌, ◌++◌, length, take, drop, get_or, Option, Some, None, refl, sym, ap, ◌∙◌, arith, subst, append_assoc, length-drop}
+use Rattle.std.proofs.Common.{◌≡◌, ◌≢◌, ℕ, ◌+◌, ◌-◌, ◌<◌, ◌≤◌, ◌⊎◌, inl, inr, Bool, true, false, IsTrue, List, [], ◌∷◌, ◌++◌, length, take}
+use Rattle.std.proofs.Common.{drop, get_or, Option, Some, None, refl, sym, ap, ◌∙◌, arith, subst, append_assoc, length-drop}
 use Rattle.std.specs.List.{slice_range}
 use Rattle.std.specs.Option.{IfSome, MatchOption, is_some, option_to_list}
 use Rattle.std.proofs.lemmas.List.{append-nil, map-append, drop_at, take_at}
@@ -26,7 +27,8 @@ use Rattle.hart_frame.proofs.BufferLemmas.{held_first, length_held, length_range
 use Rattle.hart_frame.proofs.PrefixLemmas.{HasCheckByte-prefix, Describes-prefix, preamble_parts}
 use Rattle.hart_frame.proofs.PlaceLemmas.{HasNoFrame-end, preamble}
 use Rattle.hart_frame.proofs.UndecidedLemmas.{nothing_before}
-use Rattle.hart_frame.proofs.ScanLemmas.{NothingStarts, NothingFollows, nothing_never, nothing_open, moves_drop, moves_none, moves_then, moves_frame, undecided_open, undecided_nothing}
+use Rattle.hart_frame.proofs.ScanLemmas.{NothingStarts, NothingFollows, nothing_never, nothing_open, moves_drop, moves_none, moves_then}
+use Rattle.hart_frame.proofs.ScanLemmas.{moves_frame, undecided_open, undecided_nothing}
 
 -- a buffer whose first byte was let go
 abbrev pub dropped : Buffer → Buffer

@@ -1,10 +1,11 @@
 -- The frames given since a scanner was new are the first of what was pushed, and all of them after the finish.
-use Rattle.std.proofs.Common.{◌≡◌, ◌+◌, false, ℕ, IsTrue, List, [], ◌∷◌, ◌++◌, length, refl, sym, ap, ◌∙◌, subst, append_assoc, arith, length-append}
+use Rattle.std.proofs.Common.{◌≡◌, ◌+◌, false, ℕ, IsTrue, List, [], ◌∷◌, ◌++◌, length, refl, sym, ap, ◌∙◌, subst, append_assoc, arith}
+use Rattle.std.proofs.Common.{length-append}
 use Rattle.std.proofs.lemmas.List.{append-nil}
 use Rattle.std.proofs.lemmas.Bool.{false≢true}
 use Rattle.hart_frame.specs.Character.{Character, faultless}
 use Rattle.hart_frame.specs.Frames.{AreFrames}
-use Rattle.hart_frame.specs.Scanner.{Scan, Hears, MovesPast, finishing, hearing, new_scan}
+use Rattle.hart_frame.specs.Scanner.{Scan, CanHear, MovesPast, finishing, hearing, new_scan}
 use Rattle.hart_frame.specs.Streamed.{IsHistory, IsWholeHistory, begin, push, push_run, give, wait, finish}
 use Rattle.hart_frame.specs.declared.found.Found.{Found}
 use Rattle.hart_frame.proofs.FramesFound.{AreFrames-found}
@@ -13,7 +14,7 @@ use Rattle.hart_frame.proofs.UndecidedLemmas.{stands_held}
 -- the frames given so far are right for the characters pushed so far if, whatever is still to come, the frames of all are those,
 -- then the frames from the first character on that the scanner holds
 record IsStreamed (past : List Character) (scan : Scan) (given : List Found) : Type 0 where
-  pub hears : (more : List Character) → (IsTrue scan.finished → more ≡ []) → Hears scan more (past ++ more)
+  pub hears : (more : List Character) → (IsTrue scan.finished → more ≡ []) → CanHear scan more (past ++ more)
   pub frames : (more : List Character) (later : List Found) → (IsTrue scan.finished → more ≡ [])
       → AreFrames (past ++ more) scan.first later → AreFrames (past ++ more) 0 (given ++ later)
 

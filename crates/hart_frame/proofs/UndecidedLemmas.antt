@@ -1,11 +1,12 @@
 -- What a scanner keeps of what it is to decide.
-use Rattle.std.proofs.Common.{◌≡◌, ℕ, ◌+◌, ◌-◌, ◌<◌, ◌≤◌, ◌⊎◌, inl, inr, false, List, [], ◌∷◌, ◌++◌, length, replicate, drop, get_or, refl, sym, ap, ◌∙◌, arith, subst, append_assoc, length-append, length-drop}
+use Rattle.std.proofs.Common.{◌≡◌, ℕ, ◌+◌, ◌-◌, ◌<◌, ◌≤◌, ◌⊎◌, inl, inr, false, List, [], ◌∷◌, ◌++◌, length, replicate, drop, get_or, refl}
+use Rattle.std.proofs.Common.{sym, ap, ◌∙◌, arith, subst, append_assoc, length-append, length-drop}
 use Rattle.std.proofs.lemmas.List.{append-nil, drop_at, drop-append-le, get_or_at, get_or_append_left, get_or-replicate, length-replicate}
 use Rattle.std.proofs.lemmas.Bool.{false≢true}
 use Rattle.hart_frame.specs.Character.{Character, faultless}
 use Rattle.hart_frame.specs.Place.{StandsIn}
 use Rattle.hart_frame.specs.Frames.{AreFrames, HasNoFrame, IsUndecided, none, first}
-use Rattle.hart_frame.specs.Scanner.{Scan, Hears, MovesPast, Gives, Waits, GivesNothing}
+use Rattle.hart_frame.specs.Scanner.{Scan, CanHear, MovesPast, Gives, Waits, GivesNothing}
 use Rattle.hart_frame.specs.Run.{HoldsFrame}
 use Rattle.hart_frame.specs.declared.found.Found.{Found}
 use Rattle.hart_frame.proofs.FramesFound.{AreFrames-found}
@@ -19,7 +20,7 @@ other = record { byte = 0; faults = 0 }
 abbrev sample : Scan → List Character
 sample scan = replicate scan.first other ++ (scan.held ++ [])
 
-hears_sample : (scan : Scan) → Hears scan [] (sample scan)
+hears_sample : (scan : Scan) → CanHear scan [] (sample scan)
 hears_sample scan =
     record { prefix = replicate scan.first other; split = refl; place = length-replicate scan.first other; ended = λ _. refl }
 
@@ -79,7 +80,7 @@ pub held_stands : (s : Scan) (found : Found) → StandsIn found s.held 0
 held_stands s found stands = stands_after (replicate s.first other) s.held [] found s.first (length-replicate s.first other) stands
 
 -- and what stands there from the first character on that it holds, it holds
-pub stands_held : (s : Scan) (chars : List Character) (found : Found) → Hears s [] chars → StandsIn found chars s.first
+pub stands_held : (s : Scan) (chars : List Character) (found : Found) → CanHear s [] chars → StandsIn found chars s.first
     → StandsIn (record { start = found.start - s.first; stop = found.stop - s.first; frame = found.frame }) s.held 0
 stands_held s chars found hears stands =
     let Stands : List Character → Type 0 = λ cs. StandsIn found cs s.first in

@@ -1,5 +1,6 @@
 -- The bytes that a scanner holds, in an array (own profile). For private calls alone.
-use Rattle.std.specs.Prelude.{◌≡◌, ◌≢◌, ◌<◌, ◌≤◌, ◌+◌, ◌-◌, ◌^◌, ℕ, true, false, IsTrue, IfSome, ◌⊎◌, List, ◌++◌, length, slice_index, slice_set, bit_xor, None}
+use Rattle.std.specs.Prelude.{◌≡◌, ◌≢◌, ◌<◌, ◌≤◌, ◌+◌, ◌-◌, ◌^◌, ℕ, true, false, IsTrue, IfSome, ◌⊎◌, List, ◌++◌, length, slice_index}
+use Rattle.std.specs.Prelude.{slice_set, bit_xor, None}
 use Rattle.std.specs.List.{slice_range, All}
 use Rattle.std.specs.Option.{option_to_list}
 use Rattle.hart_frame.specs.Character.{faultless}

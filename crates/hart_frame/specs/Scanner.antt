@@ -18,7 +18,7 @@ new_scan = record { first = 0; held = []; finished = false; drained = true }
 
 -- A list can be all that a scanner hears if it is as many characters as it let go, then those that it holds, then those still
 -- to come; after the finish none are.
-pub record Hears (scan : Scan) (more chars : List Character) : Type 0 where
+pub record CanHear (scan : Scan) (more chars : List Character) : Type 0 where
   pub prefix : List Character
   pub split : chars ≡ prefix ++ (scan.held ++ more)
   pub place : length prefix ≡ scan.first
@@ -35,8 +35,8 @@ finishing scan = record scan { finished = true; drained = false }
 -- A scanner moves past some frames if, whatever is still to come, they are the next ones, and those after them are the frames
 -- from the first character on that it then holds.
 pub record MovesPast (old new : Scan) (given : List Found) : Type 0 where
-  pub heard : (more chars : List Character) → Hears old more chars → Hears new more chars
-  pub frames : (more chars : List Character) (later : List Found) → Hears old more chars
+  pub heard : (more chars : List Character) → CanHear old more chars → CanHear new more chars
+  pub frames : (more chars : List Character) (later : List Found) → CanHear old more chars
       → AreFrames chars new.first later → AreFrames chars old.first (given ++ later)
 
 -- A scanner that gives a frame moves past it, and then holds what comes after its body. More may be given.

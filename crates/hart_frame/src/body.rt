@@ -1,8 +1,8 @@
-ghost use Rattle.std.specs.Prelude.{◌≡◌, ◌≤◌, ◌-◌, ℕ, length, take, Ok, IfOk, IfErr};
+ghost use Rattle.std.specs.Prelude.{◌≡◌, ◌-◌, ℕ, length, take, Ok, IfOk, IfErr};
 ghost use Rattle.hart_frame.specs.FrameParts.{FrameParts};
 ghost use Rattle.hart_frame.specs.Body.{BeginsWithBody, IsCheckedPart};
 ghost use Rattle.hart_frame.specs.Layout.{Describes, body_length};
-ghost use Rattle.hart_frame.specs.Refusal.{IsRefusedWith, HasCheckByte, HasGoodByteCount};
+ghost use Rattle.hart_frame.specs.Refusal.{IsRefusedWith, HasCheckByte};
 
 use crate::layout::Layout;
 use crate::{Expansion, Frame, FrameFault, Payload, bodies_are_unambiguous, check_byte};

@@ -1,5 +1,5 @@
 //! The characters that a scanner holds.
-ghost use Rattle.std.specs.Prelude.{◌≡◌, ◌<◌, ◌≤◌, ◌+◌, ◌-◌, ◌^◌, ◌++◌, ◌∷◌, [], true, false, None, IsTrue, ◌↔◌, length};
+ghost use Rattle.std.specs.Prelude.{◌≡◌, ◌<◌, ◌≤◌, ◌+◌, ◌-◌, ◌^◌, ◌∷◌, [], true, false, None, IsTrue, ◌↔◌, length};
 ghost use Rattle.std.specs.List.{All, slice_range};
 ghost use Rattle.hart_frame.specs.Buffer.{IsSound, IsEnded, first_body, held_bytes, scan_of, with_byte};
 ghost use Rattle.hart_frame.specs.Body.{IsBody};

@@ -1,4 +1,4 @@
-ghost use Rattle.std.specs.Prelude.{◌≡◌, ◌+◌, ◌-◌, ◌<◌, ◌≤◌, ◌^◌, ◌++◌, ◌∷◌, [], true, false, IsTrue, MatchOption, ℕ, length, take};
+ghost use Rattle.std.specs.Prelude.{◌≡◌, ◌+◌, ◌-◌, ◌<◌, ◌≤◌, ◌^◌, ◌++◌, ◌∷◌, [], false, IsTrue, MatchOption, ℕ, length, take};
 
 use crate::buffer::Buffer;
 use crate::{Char, FoundView};
@@ -58,7 +58,7 @@ impl Scanner {
         }
     }
 
-    /// Hears one more character. The scanner has to be drained, and to have been pushed fewer than 2^64 - 1 characters. At most 269
+    /// CanHear one more character. The scanner has to be drained, and to have been pushed fewer than 2^64 - 1 characters. At most 269
     /// are then held, whatever was pushed.
     pub fn push(&mut self, character: Char)
         requires drained { IsTrue self.old.drained }
@@ -69,7 +69,7 @@ impl Scanner {
         self.buffer.push(character);
     }
 
-    /// Hears the first bytes of a run, without faults, and gives how many: up to the first at which a frame is decided, which
+    /// CanHear the first bytes of a run, without faults, and gives how many: up to the first at which a frame is decided, which
     /// [`Scanner::take`] then gives, or else all of them. The scanner has to be drained, and to have been pushed so few characters
     /// that with the run they are fewer than 2^64.
     ///

@@ -1,4 +1,4 @@
-ghost use Rattle.std.specs.Prelude.{◌≡◌, ◌≤◌, ◌-◌, length, take};
+ghost use Rattle.std.specs.Prelude.{◌≡◌, ◌≤◌, ◌-◌, length};
 ghost use Rattle.hart_frame.specs.Body.{IsBody};
 ghost use Rattle.hart_frame.specs.Parity.{HasEvenParity};
 ghost use Rattle.hart_frame.specs.Layout.{Describes, body_length};

@@ -17,7 +17,6 @@ pub enum Address {
 
 impl Address {
     ghost use Rattle.hart_values.specs.AddressBytes.{IsAddressBytes, broadcast, is_broadcast};
-    ghost use Rattle.hart_values.specs.DeviceNumbers.{DeviceNumbers};
 
     /// The address with this polling address.
     ///

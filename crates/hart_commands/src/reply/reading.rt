@@ -1,6 +1,9 @@
 //! The rows of the table of replies.
-ghost use Rattle.std.specs.Prelude.{◌≡◌, ◌<◌, ◌≤◌, IfSome, List, ℕ, length, take, drop, map};
-ghost use Rattle.hart_commands.specs.ReplyData.{content_reading, identity_reading, primary_reading, current_reading, dynamic_reading, polling_reading, classes_reading, variables_reading, message_reading, tag_reading, sensor_reading, output_reading, assembly_reading, long_tag_reading, counter_reading, more_reading};
+ghost use Rattle.std.specs.Prelude.{◌≡◌, ◌<◌, ◌≤◌, length, map};
+ghost use Rattle.hart_commands.specs.ReplyData.{content_reading, identity_reading, primary_reading, current_reading, dynamic_reading};
+ghost use Rattle.hart_commands.specs.ReplyData.{polling_reading, classes_reading, variables_reading, message_reading, tag_reading};
+ghost use Rattle.hart_commands.specs.ReplyData.{sensor_reading, output_reading, assembly_reading, long_tag_reading, counter_reading};
+ghost use Rattle.hart_commands.specs.ReplyData.{more_reading};
 ghost use Rattle.hart_commands.specs.Values.{unit_value_of, variable_of};
 
 use crate::identity::FIRST_BYTE;

@@ -1,5 +1,6 @@
 -- Each accepted reply was accepted in the turn of the last sending.
-use Rattle.std.proofs.Common.{◌≡◌, ℕ, ◌+◌, nat_le, zero, suc, ap, ◌∙◌, sym, refl, subst, arith, ◌≤◌, slice_index, Option, None, Some, Bool, true, false, List, [], ◌∷◌, ◌++◌, slice_set, ◌⊎◌, inl, inr, if◌then◌else◌}
+use Rattle.std.proofs.Common.{◌≡◌, ℕ, ◌+◌, nat_le, zero, suc, ap, ◌∙◌, sym, refl, subst, arith, ◌≤◌, slice_index, Option, None, Some, Bool}
+use Rattle.std.proofs.Common.{true, false, List, [], ◌∷◌, ◌++◌, slice_set, ◌⊎◌, inl, inr, if◌then◌else◌}
 use Rattle.std.specs.List.{slice_get}
 use Rattle.hart_values.specs.declared.master_id.MasterId.{MasterId}
 use Rattle.hart_values.specs.declared.address.Address.{Address}
@@ -16,7 +17,8 @@ use Rattle.hart_master.specs.declared.fault.MasterFault.{MasterFault}
 use Rattle.hart_line.specs.Line.Damage.{Arrives, Reaches}
 use Rattle.hart_line.specs.Line.Promises.{AnswersLastSending, AnswersLastSendingFrom, submissions_of}
 use Rattle.hart_line.specs.Line.Spoken.{frame_of, spoken_by}
-use Rattle.hart_line.specs.Line.Step.{Accepts, IsLast, IsTurn, Run, Step, sent_back, effect_on, executions_after, hand_left, spoken_request, outcome_of, sent_by, submission_fault, submitted, turned}
+use Rattle.hart_line.specs.Line.Step.{Accepts, IsLast, IsTurn, Run, Step, sent_back, effect_on, executions_after, hand_left, spoken_request}
+use Rattle.hart_line.specs.Line.Step.{outcome_of, sent_by, submission_fault, submitted, turned}
 use Rattle.hart_line.specs.Line.World.{InHand, Start, World, first_world, state_of}
 use Rattle.hart_line.specs.declared.event.Heard.{Heard}
 use Rattle.hart_line.specs.declared.event.LineEvent.{LineEvent}

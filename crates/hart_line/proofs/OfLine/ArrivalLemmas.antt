@@ -1,5 +1,6 @@
 -- What arrives, what is accepted, and what is spoken.
-use Rattle.std.proofs.Common.{◌≡◌, ◌∙◌, Bool, true, false, if◌then◌else◌, ap, refl, sym, Option, None, Some, List, [], ◌∷◌, ◌++◌, ◌⊎◌, inl, inr, append-nil}
+use Rattle.std.proofs.Common.{◌≡◌, ◌∙◌, Bool, true, false, if◌then◌else◌, ap, refl, sym, Option, None, Some, List, [], ◌∷◌, ◌++◌, ◌⊎◌, inl}
+use Rattle.std.proofs.Common.{inr, append-nil}
 use Rattle.std.specs.Option.{option_to_list}
 use Rattle.hart_frame.specs.FrameParts.{FrameParts}
 use Rattle.hart_frame.specs.declared.found.Found.{Found}

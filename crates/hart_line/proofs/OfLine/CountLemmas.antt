@@ -1,5 +1,6 @@
 -- A submission is executed at most as often as it is sent.
-use Rattle.std.proofs.Common.{◌≡◌, ◌≢◌, ℕ, ◌+◌, ◌≤◌, ◌<◌, ◌==◌, zero, suc, ap, ◌∙◌, sym, refl, subst, arith, Option, None, Some, Bool, true, false, List, [], ◌∷◌, ◌++◌, length, slice_set, ◌⊎◌, inl, inr, if◌then◌else◌, nat_le}
+use Rattle.std.proofs.Common.{◌≡◌, ◌≢◌, ℕ, ◌+◌, ◌≤◌, ◌<◌, ◌==◌, zero, suc, ap, ◌∙◌, sym, refl, subst, arith, Option, None, Some, Bool, true}
+use Rattle.std.proofs.Common.{false, List, [], ◌∷◌, ◌++◌, length, slice_set, ◌⊎◌, inl, inr, if◌then◌else◌, nat_le}
 use Rattle.std.specs.List.{slice_get}
 use Rattle.std.proofs.lemmas.Option.{slice_get_within}
 use Rattle.std.proofs.lemmas.Bool.{eqb-true, eqb-false}

@@ -1,5 +1,6 @@
 -- Detectable damage is detected, and a script of which all damage is detected has a last world.
-use Rattle.std.proofs.Common.{◌≡◌, true, ℕ, ◌≤◌, ◌∙◌, sym, refl, subst, arith, Option, None, Some, List, [], ◌∷◌, length, take, ◌⊎◌, inl, inr}
+use Rattle.std.proofs.Common.{◌≡◌, true, ℕ, ◌≤◌, ◌∙◌, sym, refl, subst, arith, Option, None, Some, List, [], ◌∷◌, length, take, ◌⊎◌, inl}
+use Rattle.std.proofs.Common.{inr}
 use Rattle.hart_values.specs.declared.address.Address.{Address}
 use Rattle.hart_values.specs.declared.master_id.MasterId.{MasterId}
 use Rattle.hart_frame.specs.Character.{Character, faultless}

@@ -1,5 +1,6 @@
 -- The registers of all executions are those of the last ones.
-use Rattle.std.proofs.Common.{◌≡◌, ℕ, ◌==◌, ◌||◌, suc, ap, ◌∙◌, sym, refl, arith, subst, Option, Ok, Some, None, Bool, true, false, List, [], ◌∷◌, ◌++◌, if◌then◌else◌, ◌⊎◌, inl, inr}
+use Rattle.std.proofs.Common.{◌≡◌, ℕ, ◌==◌, ◌||◌, suc, ap, ◌∙◌, sym, refl, arith, subst, Option, Ok, Some, None, Bool, true, false, List}
+use Rattle.std.proofs.Common.{[], ◌∷◌, ◌++◌, if◌then◌else◌, ◌⊎◌, inl, inr}
 use Rattle.std.specs.List.{AllByRecursion, Contains, slice_get}
 use Rattle.std.proofs.lemmas.Bool.{eqb-true}
 use Rattle.hart_values.specs.declared.address.Address.{Address}
@@ -17,7 +18,8 @@ use Rattle.hart_master.specs.declared.fault.MasterFault.{MasterFault}
 use Rattle.hart_line.specs.Line.Spoken.{frame_of}
 use Rattle.hart_line.specs.Line.Executions.{has_execution_of, last_executions}
 use Rattle.hart_line.specs.Line.Promises.{AreWellMade, requests_of, submissions_of}
-use Rattle.hart_line.specs.Line.Step.{IsLast, Run, Step, effect_on, executions_after, spoken_request, sent_by, submission_fault, submitted, turned}
+use Rattle.hart_line.specs.Line.Step.{IsLast, Run, Step, effect_on, executions_after, spoken_request, sent_by, submission_fault, submitted}
+use Rattle.hart_line.specs.Line.Step.{turned}
 use Rattle.hart_line.specs.Line.World.{Execution, InHand, Start, World, first_world, overwrites_of, state_of}
 use Rattle.hart_line.specs.declared.event.LineEvent.{LineEvent}
 use Rattle.hart_line.specs.declared.event.LineEvent.TheVariants.{Submit, Turn, Protect, Noise, Restart}

@@ -1,5 +1,6 @@
 -- What arrives in a leg, from what the code finds in it.
-use Rattle.std.proofs.Common.{◌≡◌, ℕ, ◌≤◌, ◌∙◌, ap, sym, subst, refl, arith, length-append, Option, None, Some, List, [], ◌∷◌, ◌++◌, length, replicate}
+use Rattle.std.proofs.Common.{◌≡◌, ℕ, ◌≤◌, ◌∙◌, ap, sym, subst, refl, arith, length-append, Option, None, Some, List, [], ◌∷◌, ◌++◌, length}
+use Rattle.std.proofs.Common.{replicate}
 use Rattle.hart_frame.specs.Character.{Character, faultless}
 use Rattle.hart_frame.specs.FrameParts.{FrameParts}
 use Rattle.hart_frame.specs.Frames.{AreFrames}

@@ -9,7 +9,7 @@ use Rattle.hart_master.specs.Master.{MasterState}
 use Rattle.hart_master.specs.declared.hand.Hand.TheVariants.{Empty}
 use Rattle.hart_line.specs.Line.Faults.{HasUndetected, IsFault}
 use Rattle.hart_line.specs.Line.LineState.{LineState, Stands, Stepped}
-use Rattle.hart_line.specs.Line.Promises.{start_of}
+use Rattle.hart_line.specs.Line.Promises.{start_from}
 use Rattle.hart_line.specs.Line.Step.{IsLast}
 use Rattle.hart_line.specs.Line.World.{Start, World, first_world, state_of}
 use Rattle.hart_line.specs.declared.event.LineEvent.{LineEvent}
@@ -51,9 +51,9 @@ pub reached_report : {start : Start} {events : List LineEvent} {line : LineState
 reached_report device outcomes spoken one two three r = rw (one, two, three) r
 
 pub reached_first : (device : DeviceState) (process : Process) (primary secondary : MasterState) (outcomes_room spoken_room : ℕ)
-    → state_of device (first_world (start_of device process primary secondary)) ≡ device
+    → state_of device (first_world (start_from device process primary secondary)) ≡ device
     → (primary.id ≡ Primary) × (primary.hand ≡ Empty) → (secondary.id ≡ Secondary) × (secondary.hand ≡ Empty)
-    → IsReached (start_of device process primary secondary) [] (record {
+    → IsReached (start_from device process primary secondary) [] (record {
       device = device;
       masters = record {
         primary = record { master = primary; place = 0 };
@@ -65,7 +65,7 @@ pub reached_first : (device : DeviceState) (process : Process) (primary secondar
       spoken_room = spoken_room;
     })
 reached_first device process primary secondary outcomes_room spoken_room first one other = record {
-  world = first_world (start_of device process primary secondary);
+  world = first_world (start_from device process primary secondary);
   is_last = refl;
   stands = record {
     device_is = sym first;
@@ -76,7 +76,7 @@ reached_first device process primary secondary outcomes_room spoken_room first o
     outcomes_are = refl;
     spoken_are = tt;
   };
-  sound = first_sound (start_of device process primary secondary);
+  sound = first_sound (start_from device process primary secondary);
 }
 
 -- The event at which a script stops.

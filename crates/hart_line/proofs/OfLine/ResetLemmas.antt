@@ -1,5 +1,6 @@
 -- What holds since a master's last reset.
-use Rattle.std.proofs.Common.{◌≡◌, ◌≢◌, ℕ, ◌+◌, ◌%◌, ◌≤◌, nat_lt, ap, ◌∙◌, sym, refl, subst, arith, Option, None, Some, IfSome, Ok, false, List, [], ◌∷◌, ◌++◌, length, append_assoc, append-nil, ◌⊎◌, inl, inr, Bool, if◌then◌else◌}
+use Rattle.std.proofs.Common.{◌≡◌, ◌≢◌, ℕ, ◌+◌, ◌%◌, ◌≤◌, nat_lt, ap, ◌∙◌, sym, refl, subst, arith, Option, None, Some, IfSome, Ok, false}
+use Rattle.std.proofs.Common.{List, [], ◌∷◌, ◌++◌, length, append_assoc, append-nil, ◌⊎◌, inl, inr, Bool, if◌then◌else◌}
 use Rattle.std.proofs.lemmas.List.{length-append}
 use Rattle.std.proofs.lemmas.Bool.{ltb-false}
 use Rattle.hart_values.specs.declared.master_id.MasterId.{MasterId}

@@ -1,5 +1,6 @@
 -- A request in hand is the one that was submitted under its number, to its master and for its address.
-use Rattle.std.proofs.Common.{◌≡◌, ℕ, ◌+◌, ◌<◌, zero, suc, ap, ◌∙◌, sym, refl, subst, Option, None, Some, option_map, List, [], ◌∷◌, ◌++◌, drop, get_or, length, take, inl, inr}
+use Rattle.std.proofs.Common.{◌≡◌, ℕ, ◌+◌, ◌<◌, zero, suc, ap, ◌∙◌, sym, refl, subst, Option, None, Some, option_map, List, [], ◌∷◌, ◌++◌}
+use Rattle.std.proofs.Common.{drop, get_or, length, take, inl, inr}
 use Rattle.std.specs.List.{slice_get}
 use Rattle.std.proofs.lemmas.List.{length-set, take_more}
 use Rattle.std.proofs.lemmas.List.Elements.{All-append, All-get_or}

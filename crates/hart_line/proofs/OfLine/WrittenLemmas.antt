@@ -1,5 +1,6 @@
 -- Unrefused writes are executed in their turn, and nothing else is.
-use Rattle.std.proofs.Common.{◌≡◌, ◌↔◌, ℕ, ◌==◌, nat_lt, ap, ◌∙◌, sym, refl, subst, Option, None, Some, Ok, IsSome, IsTrue, Bool, true, false, List, [], ◌∷◌, ◌++◌, if◌then◌else◌, ◌⊎◌, inl, inr}
+use Rattle.std.proofs.Common.{◌≡◌, ◌↔◌, ℕ, ◌==◌, nat_lt, ap, ◌∙◌, sym, refl, subst, Option, None, Some, Ok, IsSome, IsTrue, Bool, true}
+use Rattle.std.proofs.Common.{false, List, [], ◌∷◌, ◌++◌, if◌then◌else◌, ◌⊎◌, inl, inr}
 use Rattle.std.specs.List.{slice_get}
 use Rattle.std.specs.Prelude.{option_map}
 use Rattle.hart_values.specs.declared.master_id.MasterId.{MasterId}
@@ -18,8 +19,10 @@ use Rattle.hart_device.specs.Delivery.{Brought, Garbled, NoMessage, OneFrame}
 use Rattle.hart_device.specs.Device.{DeviceState, Effect, Nothing, Executes, Resets}
 use Rattle.hart_device.specs.declared.process.Process.{Process}
 use Rattle.hart_line.specs.Line.Damage.{Reaches}
-use Rattle.hart_line.specs.Line.Promises.{AnswersLastSending, AreWellMade, IsExecutedFromHand, IsExecutedInItsTurn, IsStepOf, IsUnrefusedWrite, arrived_in_step, requests_of}
-use Rattle.hart_line.specs.Line.Step.{IsTurn, Step, effect_on, executions_after, spoken_request, sent_by, submission_fault, submitted, turned}
+use Rattle.hart_line.specs.Line.Promises.{AnswersLastSending, AreWellMade, IsExecutedFromHand, IsExecutedInItsTurn, IsStepOf}
+use Rattle.hart_line.specs.Line.Promises.{IsUnrefusedWrite, arrived_in_step, requests_of}
+use Rattle.hart_line.specs.Line.Step.{IsTurn, Step, effect_on, executions_after, spoken_request, sent_by, submission_fault, submitted}
+use Rattle.hart_line.specs.Line.Step.{turned}
 use Rattle.hart_line.specs.Line.World.{Execution, InHand, Start, World, first_world, state_of}
 use Rattle.hart_line.specs.declared.event.Heard.{Heard}
 use Rattle.hart_line.specs.declared.event.LineEvent.{LineEvent}

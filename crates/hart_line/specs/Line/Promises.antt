@@ -25,8 +25,8 @@ use Rattle.hart_line.specs.declared.line.report.Outcome.{Outcome}
 use Rattle.hart_line.specs.declared.line.report.Outcome.TheVariants.{Answered, NoReply, Unfinished, Refused}
 
 -- A script starts with a device, the process values that it is handed, and how often each master sends again at most.
-abbrev pub start_of : DeviceState → Process → MasterState → MasterState → Start
-start_of device process primary secondary = record {
+abbrev pub start_from : DeviceState → Process → MasterState → MasterState → Start
+start_from device process primary secondary = record {
   device = device;
   process = process;
   retries = record { primary = primary.retries; secondary = secondary.retries };

@@ -14,8 +14,9 @@ ghost use Rattle.hart_values.specs.declared.master_id.MasterId.TheVariants.{Prim
 ghost use Rattle.hart_line.specs.Line.Executions.{last_executions, times_executed};
 ghost use Rattle.hart_line.specs.Line.Faults.{IsFault, IsNotDetectable};
 ghost use Rattle.hart_line.specs.Line.LineRoom.{IsRoomFor};
-ghost use Rattle.hart_line.specs.Line.Promises.{AnswersLastSending, AreWellMade, IsExecutedFromHand, IsExecutedInItsTurn, IsLastReset, IsRefusedByDevice, IsStepOf, IsUnrefusedWrite};
-ghost use Rattle.hart_line.specs.Line.Promises.{arrived_in_step, requests_of, sendings_in, start_of};
+ghost use Rattle.hart_line.specs.Line.Promises.{AnswersLastSending, AreWellMade, IsExecutedFromHand, IsExecutedInItsTurn, IsLastReset};
+ghost use Rattle.hart_line.specs.Line.Promises.{IsRefusedByDevice, IsStepOf, IsUnrefusedWrite};
+ghost use Rattle.hart_line.specs.Line.Promises.{arrived_in_step, requests_of, sendings_in, start_from};
 ghost use Rattle.hart_line.specs.Line.Spoken.{AreSpoken};
 ghost use Rattle.hart_line.specs.Line.Step.{IsLast};
 ghost use Rattle.hart_line.specs.Line.World.{World, first_world, overwrites_of, state_of};
@@ -61,67 +62,67 @@ pub fn run<S: RegisterStore + Drop>(
     requires primary { (primary.id ≡ Primary) × (primary.hand ≡ Empty) }
     requires secondary { (secondary.id ≡ Secondary) × (secondary.hand ≡ Empty) }
     // The script has a last world; device, outcomes and what was spoken are that world's.
-    ensures world { let start = start_of device process.now primary secondary in IfOk result (λ _.
+    ensures world { let start = start_from device process.now primary secondary in IfOk result (λ _.
         (world : World) × IsLast start events.now world) }
-    ensures device { let start = start_of device process.now primary secondary in IfOk result (λ report.
+    ensures device { let start = start_from device process.now primary secondary in IfOk result (λ report.
         (world : World) → IsLast start events.now world → report.device ≡ state_of device world) }
-    ensures outcomes { let start = start_of device process.now primary secondary in IfOk result (λ report.
+    ensures outcomes { let start = start_from device process.now primary secondary in IfOk result (λ report.
         (world : World) → IsLast start events.now world → report.outcomes ≡ world.outcomes) }
-    ensures spoken { let start = start_of device process.now primary secondary in IfOk result (λ report.
+    ensures spoken { let start = start_from device process.now primary secondary in IfOk result (λ report.
         (world : World) → IsLast start events.now world → AreSpoken world.spoken report.spoken) }
     ensures identity { IfOk result (λ report. report.device.identity ≡ device.identity) }
     // Each accepted reply is the device's answer in the turn of its request's last sending.
-    ensures accepted_reply_answers_last_sending { let start = start_of device process.now primary secondary in IfOk result (λ report.
+    ensures accepted_reply_answers_last_sending { let start = start_from device process.now primary secondary in IfOk result (λ report.
         (number : ℕ) (reply : Reply) (sendings : ℕ)
         → slice_get report.outcomes number ≡ Some (Answered reply sendings)
         → AnswersLastSending start events.now number reply sendings) }
     // The registers are the initial ones overwritten by the last execution of each submission, in their order.
-    ensures registers_follow_last_executions { let start = start_of device process.now primary secondary in
+    ensures registers_follow_last_executions { let start = start_from device process.now primary secondary in
         IfOk result (λ report. (world : World) → IsLast start events.now world
         → report.device.contents ≡ registers_of (overwrites_of (last_executions world.executions)) device.contents) }
     // The counter has grown by the number of executed writes.
-    ensures counter_counts_executions { let start = start_of device process.now primary secondary in
+    ensures counter_counts_executions { let start = start_from device process.now primary secondary in
         IfOk result (λ report. (world : World) → IsLast start events.now world
         → report.device.counter ≡ (device.counter + length world.executions) % 2 ^ 16) }
     // A command that is not answered changes nothing, and one that is refused changes only its master's cold start bit, which the
     // reply shows and clears. That holds at the end of a script, and in every turn of it.
-    ensures refused_commands_change_nothing { let start = start_of device process.now primary secondary in
+    ensures refused_commands_change_nothing { let start = start_from device process.now primary secondary in
         IfOk result (λ report. (before next : World) (refused : IsRefusedByDevice start events.now before next)
         → refused.turn.suffix ≡ [] → report.device ≡ after_refusal (state_of device before) refused.frame) }
-    ensures refused_turns_change_nothing { let start = start_of device process.now primary secondary in
+    ensures refused_turns_change_nothing { let start = start_from device process.now primary secondary in
         IfOk result (λ _. (before next : World) (refused : IsRefusedByDevice start events.now before next)
         → state_of device next ≡ after_refusal (state_of device before) refused.frame) }
     // In each turn in which a write arrives that the device answers with code 0 the request in hand is executed, heard or not, and
     // nothing else is ever executed. So a write whose accepted reply has code 0 was executed in the turn of that reply; and a
     // submission was executed at most as often as it was sent, a refused one never.
-    ensures unrefused_writes_are_executed { let start = start_of device process.now primary secondary in
+    ensures unrefused_writes_are_executed { let start = start_from device process.now primary secondary in
         IfOk result (λ _. (before next : World) (who : MasterId) (up down : Heard)
         (turn : IsStepOf start (first_world start) events.now before (Turn who up down) next)
         → IsUnrefusedWrite (state_of device before) turn.step.arrived → IsExecutedFromHand start events.now who before next) }
-    ensures nothing_else_is_executed { let start = start_of device process.now primary secondary in
+    ensures nothing_else_is_executed { let start = start_from device process.now primary secondary in
         IfOk result (λ _. (before next : World) (event : LineEvent) (here : IsStepOf start (first_world start) events.now before event next)
         → (IsUnrefusedWrite (state_of device before) (arrived_in_step start before event next here.step) → ⊥)
         → next.executions ≡ before.executions) }
-    ensures executed_in_its_turn { let start = start_of device process.now primary secondary in
+    ensures executed_in_its_turn { let start = start_from device process.now primary secondary in
         IfOk result (λ report. (number : ℕ) (request : Request) (reply : Reply) (sendings : ℕ)
         → slice_get (requests_of events.now) number ≡ Some request → IsTrue (is_write (command_of request))
         → slice_get report.outcomes number ≡ Some (Answered reply sendings) → reply.code ≡ 0
         → IsExecutedInItsTurn start events.now number request reply sendings) }
-    ensures at_most_once_a_sending { let start = start_of device process.now primary secondary in
+    ensures at_most_once_a_sending { let start = start_from device process.now primary secondary in
         IfOk result (λ report. (world : World) → IsLast start events.now world → (number : ℕ)
         → times_executed number world.executions ≤ sendings_in (slice_get report.outcomes number)) }
     // If a master's configuration-changed bit is clear after the script, nothing was written since its last Command 38 with
     // code 0: the counter is still the one that it named, if it named one, and the registers are those of that turn.
-    ensures no_change_unseen { let start = start_of device process.now primary secondary in
+    ensures no_change_unseen { let start = start_from device process.now primary secondary in
         IfOk result (λ report. (who : MasterId) (before : World) (given : Option ℕ) → IsLastReset start events.now who before given
         → of_master who report.device.changed ≡ false
         → IfSome given (λ counter. report.device.counter ≡ counter)
         × (report.device.counter ≡ (state_of device before).counter)
         × (report.device.contents ≡ (state_of device before).contents)) }
     // A fault names the first leg whose damage is undetected, or the outcomes or spoken frames that there is no room for.
-    ensures fault { IfErr result (IsFault (start_of device process.now primary secondary) events.now) }
+    ensures fault { IfErr result (IsFault (start_from device process.now primary secondary) events.now) }
     // No leg that is clean, lost, or marked or check damage of the message that was sent in it stops a script.
-    ensures detectable_damage_is_detected { IfErr result (IsNotDetectable (start_of device process.now primary secondary) events.now) }
+    ensures detectable_damage_is_detected { IfErr result (IsNotDetectable (start_from device process.now primary secondary) events.now) }
 {
     // No-op: its contract is used below.
     scripts_keep_their_promises();
@@ -148,22 +149,22 @@ fn carry_out<S: RegisterStore + Drop>(
     requires primary { (primary.id ≡ Primary) × (primary.hand ≡ Empty) }
     requires secondary { (secondary.id ≡ Secondary) × (secondary.hand ≡ Empty) }
     // The script has a last world; device, outcomes and what was spoken are that world's.
-    ensures world { let start = start_of device process.now primary secondary in IfOk result (λ _.
+    ensures world { let start = start_from device process.now primary secondary in IfOk result (λ _.
         (world : World) × IsLast start events.now world) }
-    ensures device { let start = start_of device process.now primary secondary in IfOk result (λ report.
+    ensures device { let start = start_from device process.now primary secondary in IfOk result (λ report.
         (world : World) → IsLast start events.now world → report.device ≡ state_of device world) }
-    ensures outcomes { let start = start_of device process.now primary secondary in IfOk result (λ report.
+    ensures outcomes { let start = start_from device process.now primary secondary in IfOk result (λ report.
         (world : World) → IsLast start events.now world → report.outcomes ≡ world.outcomes) }
-    ensures spoken { let start = start_of device process.now primary secondary in IfOk result (λ report.
+    ensures spoken { let start = start_from device process.now primary secondary in IfOk result (λ report.
         (world : World) → IsLast start events.now world → AreSpoken world.spoken report.spoken) }
     // Each request of the script is well made: it is a value of Request.
     ensures well_made { IfOk result (λ _. AreWellMade events.now) }
     // A report is given exactly of a script that has a last world, and a fault exactly if the damage of a leg is undetected.
-    ensures reported { let start = start_of device process.now primary secondary in
+    ensures reported { let start = start_from device process.now primary secondary in
         (world : World) → IsLast start events.now world → IsOk result }
-    ensures stopped { let start = start_of device process.now primary secondary in
+    ensures stopped { let start = start_from device process.now primary secondary in
         (event : ℕ) (leg : Leg) → IsFault start events.now (Undetected event leg) → result ≡ Err (record { event = event; leg = leg }) }
-    ensures fault { let start = start_of device process.now primary secondary in
+    ensures fault { let start = start_from device process.now primary secondary in
         IfErr result (λ stop. IsFault start events.now (Undetected stop.event stop.leg)) }
 {
     // No-ops: their contracts are used below.

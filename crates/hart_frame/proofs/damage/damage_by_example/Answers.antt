@@ -1,4 +1,5 @@
-use Rattle.hart_frame.proofs.ExampleLemmas.{faulty_is_marked, other_is_check, other_is_not_marked, preamble_is_not_check, request_is_not_check}
+use Rattle.hart_frame.proofs.ExampleLemmas.{faulty_is_marked, other_is_check, other_is_not_marked, preamble_is_not_check}
+use Rattle.hart_frame.proofs.ExampleLemmas.{request_is_not_check}
 use Rattle.hart_frame.proofs.damage.damage_by_example.Goals as goal
 
 pub returns-clause-marked : goal.returns-clause-marked

@@ -5,7 +5,8 @@ use Rattle.hart_frame.specs.Character.{Character}
 use Rattle.hart_frame.proofs.FramesFound.{even_heard}
 use Rattle.hart_frame.proofs.HeardLemmas.{heard_says, heard_clear, heard_even}
 use Rattle.hart_frame.proofs.heard.heard_len.Goals as goal
-use Rattle.hart_frame.proofs.heard.heard_len.Goals.{then-not-are_faultless-via-then-not-are_faultless, then-not-are_faultless-via-else-not-are_faultless+then-heard_check-ne0}
+use Rattle.hart_frame.proofs.heard.heard_len.Goals.{then-not-are_faultless-via-then-not-are_faultless}
+use Rattle.hart_frame.proofs.heard.heard_len.Goals.{then-not-are_faultless-via-else-not-are_faultless+then-heard_check-ne0}
 
 -- the first so many characters are a range of all
 slice_range-prefix : (chars : List Character) (n : ℕ) → slice_range chars 0 n ≡ take n chars

@@ -5,7 +5,8 @@ use Rattle.hart_frame.specs.Buffer.{scan_of}
 use Rattle.hart_frame.specs.declared.buffer.Buffer.{Buffer}
 use Rattle.hart_frame.proofs.BufferLemmas.{not_ended}
 use Rattle.hart_frame.proofs.StepLemmas.{dropped, moves_never, moves_ended, moves_odd, waits}
-use Rattle.hart_frame.proofs.buffer.Buffer.step.Goals.{in_default-via-in-Open+else-not-is_ended, in_default-via-in-Whole+else-is_even, in_default-via-in_default}
+use Rattle.hart_frame.proofs.buffer.Buffer.step.Goals.{in_default-via-in-Open+else-not-is_ended, in_default-via-in-Whole+else-is_even}
+use Rattle.hart_frame.proofs.buffer.Buffer.step.Goals.{in_default-via-in_default}
 use Rattle.hart_frame.proofs.buffer.Buffer.step.Goals as goal
 
 -- what holds of a buffer whose first byte was let go

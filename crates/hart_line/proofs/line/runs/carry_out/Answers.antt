@@ -1,6 +1,6 @@
 use Rattle.std.proofs.Common.{◌<◌, arith, rules, refl, subst}
 use Rattle.std.proofs.lemmas.List.{take_all}
-use Rattle.hart_line.specs.Line.Promises.{AreWellMade, start_of}
+use Rattle.hart_line.specs.Line.Promises.{AreWellMade, start_from}
 use Rattle.hart_line.proofs.OfLine.ReachedLemmas.{fault_at, reached_first, reached_more, reached_report, reached_whole}
 use Rattle.hart_line.proofs.OfLine.RoomLemmas.{room_for_next, room_for_others}
 use Rattle.hart_line.proofs.OfLine.StateLemmas.{state-first}
@@ -11,7 +11,7 @@ use Rattle.hart_line.proofs.line.runs.carry_out.Goals as goal
 pub loop-index-init : goal.loop-index-init
 loop-index-init g c =
     let small : c.args.device.counter < 65536 = rw c.counter-counter.ensures at c.counter-counter.type_inv in
-    let start = start_of c.args.device c.args.process.now c.args.primary c.args.secondary in record {
+    let start = start_from c.args.device c.args.process.now c.args.primary c.args.secondary in record {
       reached = rw (c.new-line.ensures, c.requires.room.no_outcomes, c.requires.room.nothing_spoken)
           (reached_first c.args.device c.args.process.now c.args.primary c.args.secondary _ _
           (state-first c.registers_of_lists.ensures.none start small) c.requires.primary c.requires.secondary);
@@ -28,7 +28,7 @@ step-requires g c = record {
 
 pub returns-in-Err-clause-fault : goal.returns-in-Err-clause-fault
 returns-in-Err-clause-fault g c =
-    let start = start_of c.args.device c.args.process.now c.args.primary c.args.secondary in
+    let start = start_from c.args.device c.args.process.now c.args.primary c.args.secondary in
     let reached = c.loop-index.invariant.reached in
     rw c.at.ensures (fault_at start c.args.events.now c.loop-index.index _ reached.world c.in-Err.damage.leg c.loop-index-test.true
     reached.is_last
@@ -36,7 +36,7 @@ returns-in-Err-clause-fault g c =
 
 pub loop-index-preserved : goal.loop-index-preserved
 loop-index-preserved g c =
-    let start = start_of c.args.device c.args.process.now c.args.primary c.args.secondary in
+    let start = start_from c.args.device c.args.process.now c.args.primary c.args.secondary in
     let reached = c.loop-index.invariant.reached in record {
       reached = reached_more start c.args.events.now c.loop-index.index _ _ _ c.loop-index-test.true reached
           (rw c.index-events-index.is at (c.in_default.ensures.stepped start reached.world refl reached.sound.marks reached.stands));
@@ -48,19 +48,19 @@ loop-index-preserved g c =
 
 pub returns-in-Err-clause-reported : goal.returns-in-Err-clause-reported
 returns-in-Err-clause-reported g c = λ world last. absurd (c.scripts_have_one_last_world.ensures.no_fault
-    (start_of c.args.device c.args.process.now c.args.primary c.args.secondary) c.args.events.now world _ _ last
+    (start_from c.args.device c.args.process.now c.args.primary c.args.secondary) c.args.events.now world _ _ last
     (returns-in-Err-clause-fault g c))
 
 pub returns-in-Err-clause-stopped : goal.returns-in-Err-clause-stopped
 returns-in-Err-clause-stopped g c = λ event leg fault.
     let same = c.scripts_have_one_last_world.ensures.one_fault
-    (start_of c.args.device c.args.process.now c.args.primary c.args.secondary) c.args.events.now _ _ _ _
+    (start_from c.args.device c.args.process.now c.args.primary c.args.secondary) c.args.events.now _ _ _ _
     (returns-in-Err-clause-fault g c) fault in
     rw (← same.0, ← same.1) refl
 
 pub returns : goal.returns
 returns g c =
-    let start = start_of c.args.device c.args.process.now c.args.primary c.args.secondary in
+    let start = start_from c.args.device c.args.process.now c.args.primary c.args.secondary in
     let events = c.args.events.now in
     let worlds = c.scripts_have_one_last_world.ensures in
     let report = c.into_report.ensures in

@@ -1,12 +1,12 @@
 use Rattle.std.proofs.Common.{drop, take}
 use Rattle.hart_line.specs.Line.LineRoom.{HasRoomFor}
-use Rattle.hart_line.specs.Line.Promises.{AreWellMade, start_of}
+use Rattle.hart_line.specs.Line.Promises.{AreWellMade, start_from}
 use Rattle.hart_line.proofs.OfLine.ReachedLemmas.{IsReached}
 use Rattle.hart_line.proofs.line.runs.carry_out.Given as goal
 
 abbrev pub invariant-loop-index : goal.invariant-loop-index
 invariant-loop-index g l = record {
-  reached : IsReached (start_of l.fn.device l.process l.fn.primary l.fn.secondary) (take l.index l.events) l.line;
+  reached : IsReached (start_from l.fn.device l.process l.fn.primary l.fn.secondary) (take l.index l.events) l.line;
   well_made : AreWellMade (take l.index l.events);
   room : HasRoomFor (drop l.index l.events) l.line;
 }

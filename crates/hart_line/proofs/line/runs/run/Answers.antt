@@ -3,14 +3,14 @@ use Rattle.std.specs.List.{slice_get}
 use Rattle.std.proofs.lemmas.Result.{err_from_is_err_and}
 use Rattle.hart_device.specs.Device.{DeviceState}
 use Rattle.hart_commands.specs.declared.reply.Reply.{Reply}
-use Rattle.hart_line.specs.Line.Promises.{AnswersLastSending, start_of}
+use Rattle.hart_line.specs.Line.Promises.{AnswersLastSending, start_from}
 use Rattle.hart_line.specs.declared.fault.LineFault.TheVariants.{Undetected}
 use Rattle.hart_line.specs.declared.line.report.Outcome.TheVariants.{Answered}
 use Rattle.hart_line.proofs.line.runs.run.Goals as goal
 
 pub returns : goal.returns
 returns g c =
-    let start = start_of c.args.device c.args.process.now c.args.primary c.args.secondary in
+    let start = start_from c.args.device c.args.process.now c.args.primary c.args.secondary in
     let events = c.args.events.now in
     let promises = c.scripts_keep_their_promises.ensures in
     let done = c.in_ok-carry_out.ensures in
@@ -54,5 +54,5 @@ returns-in_err-carry_out-clause-detectable_damage_is_detected g c =
     let enough : 5 ≤ c.args.device.identity.response_preambles = rw preambles.same at preambles.in_range.0 in
     let given = err_from_is_err_and c.from_residual-in_err-carry_out.result c.from_residual-in_err-carry_out.ensures.1 in
     rw (given.1, given.2) (c.scripts_keep_their_promises.ensures.detectable_damage_is_detected
-    (start_of c.args.device c.args.process.now c.args.primary c.args.secondary) c.args.events.now
+    (start_from c.args.device c.args.process.now c.args.primary c.args.secondary) c.args.events.now
     (Undetected c.in_err-carry_out.field-0.0.event c.in_err-carry_out.field-0.0.leg) enough c.in_err-carry_out.ensures.fault)
