@@ -1,12 +1,12 @@
 -- The call that the words of a command line make.
-use Rattle.std.proofs.Common.{◌≡◌, ◌≢◌, ◌∙◌, ◌∷◌, [], ap, ap₂, arith, rules, subst, unwrap_or, codes, false}
-use Rattle.std.proofs.Common.{List, None, Option, option_map, refl, Some, sym, true, ℕ}
+use Rattle.std.proofs.Common.{◌≡◌, ◌≢◌, ◌∙◌, ◌∷◌, [], ap, ap₂, arith, rules, subst, unwrap_or, codes, false, List, None, Option, option_map}
+use Rattle.std.proofs.Common.{refl, Some, sym, true, ℕ}
 use Rattle.std.specs.Str.{bytes_eq}
 use Rattle.std.specs.Str.Parse.{digits_value, without_leading_plus}
 use Rattle.std.specs.Box.{box_value}
 use Rattle.std.proofs.lemmas.Slice.Eq.{bytes_eq-Decides}
-use Rattle.clap.specs.Words.{App, HasKind, HasMatchesOf, Row, Text, app_of, fault_of, is_simple, is_simple_and_free}
-use Rattle.clap.specs.Words.{subcommand_name_of, subcommand_of, subcommand_rows, subcommand_rows_of}
+use Rattle.clap.specs.Words.{App, HasKind, HasMatchesOf, Row, Text, app_of, fault_of, is_simple, is_simple_and_free, subcommand_name_of}
+use Rattle.clap.specs.Words.{subcommand_of, subcommand_rows, subcommand_rows_of}
 use Rattle.clap.specs.declared.builder.command.Command.{Command}
 use Rattle.clap.specs.declared.error.Error.{Error}
 use Rattle.clap.specs.declared.parser.matches.ArgMatches.{ArgMatches}
@@ -66,14 +66,14 @@ given_call m call name rows named with_rows is values =
     }
 
 -- the name of a call that the matches give
-named : (m : ArgMatches) (call : Call) → GivesCall (subcommand_rows_of m) call → Some (name_of call) ≡ subcommand_name_of m
-named m call gives = ap (option_map (λ met. met.0)) (sym gives.named) ∙ subcommand_name-rows m
+call_named : (m : ArgMatches) (call : Call) → GivesCall (subcommand_rows_of m) call → Some (name_of call) ≡ subcommand_name_of m
+call_named m call gives = ap (option_map (λ met. met.0)) (sym gives.named) ∙ subcommand_name-rows m
 
 -- matches without a subcommand give no call
 pub nameless : (m : ArgMatches) → None ≡ subcommand_name_of m → HasNoValue (GivesCall (subcommand_rows_of m))
-nameless m none call gives = let some = named m call gives in cc
+nameless m none call gives = let some = call_named m call gives in cc
 
--- and so do the words
+-- the words make the call that their matches give
 pub calls_given : (words : List Text) (m : ArgMatches) (call : Call) → MeetsCall words m → GivesCall (subcommand_rows_of m) call
     → Calls call words
 calls_given words m call meets gives =
@@ -94,7 +94,7 @@ differ a b other same = let is = (bytes_eq-Decides a b).1 same in cc
 -- matches with a subcommand that is none of the four give no call
 pub other_name : (m : ArgMatches) (name : Text) → Some name ≡ subcommand_name_of m → name ≢ codes "answer" → name ≢ codes "dump"
     → name ≢ codes "sim" → name ≢ codes "encode" → HasNoValue (GivesCall (subcommand_rows_of m))
-other_name m name is answer dump sim encode call gives = none call (ap (λ o. unwrap_or o name) (is ∙ sym (named m call gives)))
+other_name m name is answer dump sim encode call gives = none call (ap (λ o. unwrap_or o name) (is ∙ sym (call_named m call gives)))
   where
     none : (call : Call) → name ≡ name_of call → ⊥
     none (Answer image) = answer
@@ -102,7 +102,7 @@ other_name m name is answer dump sim encode call gives = none call (ap (λ o. un
     none (Sim image) = sim
     none (Encode words) = encode
 
--- and so do those of `encode` that give no words
+-- nor do those of `encode` that give no words
 pub wordless : (m : ArgMatches) (name : Text) (rows : List Row) → Some name ≡ subcommand_name_of m
     → Some rows ≡ option_map (λ p. p.1) (subcommand_rows_of m) → name ≡ codes "encode" → HasNoValue (GivesWords rows)
     → HasNoValue (GivesCall (subcommand_rows_of m))

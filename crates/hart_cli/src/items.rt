@@ -1,6 +1,5 @@
 //! The text of an input: hex items, and separators if there are any.
-ghost use Rattle.std.specs.Prelude.{◌≡◌, ◌↔◌, ◌<◌, ◌≤◌, ◌+◌, ◌*◌, ◌/◌, [], ℕ, List, drop, length, Option, IfErr, IfOk, IsTrue};
-ghost use Rattle.std.specs.Prelude.{MatchOption};
+ghost use Rattle.std.specs.Prelude.{◌≡◌, ◌↔◌, ◌<◌, ◌≤◌, ◌+◌, ◌*◌, ◌/◌, [], ℕ, List, drop, length, Option, IfErr, IfOk, IsTrue, MatchOption};
 ghost use Rattle.hart_frame.specs.Character.{Character};
 ghost use Rattle.hart_cli.specs.Input.{Ending};
 ghost use Rattle.hart_cli.specs.InputChars.{HasChars, IsWholeTextFault};

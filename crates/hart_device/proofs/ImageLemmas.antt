@@ -1,7 +1,7 @@
 -- What an image says, and that it says one thing.
-use Rattle.std.proofs.Common.{◌≡◌, ◌≢◌, ℕ, zero, suc, ◌+◌, ◌-◌, ◌*◌, ◌/◌, ◌%◌, ◌^◌, ◌<◌, ◌≤◌, ◌⊎◌}
-use Rattle.std.proofs.Common.{inl, inr, refl, sym, ap, ◌∙◌, subst, arith}
-use Rattle.std.proofs.Common.{Bool, true, false, ◌==◌, if◌then◌else◌, Some, None, List, [], ◌∷◌, ◌++◌, length, drop, replicate, slice_index}
+use Rattle.std.proofs.Common.{◌≡◌, ◌≢◌, ℕ, zero, suc, ◌+◌, ◌-◌, ◌*◌, ◌/◌, ◌%◌, ◌^◌, ◌<◌, ◌≤◌, ◌⊎◌, inl, inr, refl, sym, ap, ◌∙◌, subst}
+use Rattle.std.proofs.Common.{arith, Bool, true, false, ◌==◌, if◌then◌else◌, Some, None, List, [], ◌∷◌, ◌++◌, length, drop, replicate}
+use Rattle.std.proofs.Common.{slice_index}
 use Rattle.std.specs.List.{Contains, flat_map, slice_index_or, sum_by}
 use Rattle.std.proofs.lemmas.Bool.Decides.{nat_tests}
 use Rattle.std.proofs.lemmas.Grind.{common_steps, elements}
@@ -16,8 +16,8 @@ use Rattle.hart_device.specs.declared.fault.DeviceFault.{DeviceFault}
 use Rattle.hart_device.specs.declared.fault.DeviceFault.TheVariants.{BadField, BadLength, BadVersion, BroadcastAddress, OutOfRange}
 use Rattle.hart_device.specs.Device.{DeviceState}
 use Rattle.hart_device.specs.Identity.{two_bytes}
-use Rattle.hart_device.specs.Image.{HasBadField, HasBadRegister, IsImageOf, IsImageFault, IsLongTagOf, image_ending, flags_of}
-use Rattle.hart_device.specs.Image.{image_bytes, image_length, registers_of_version, registers_of_version_1}
+use Rattle.hart_device.specs.Image.{HasBadField, HasBadRegister, IsImageOf, IsImageFault, IsLongTagOf, flags_of, image_ending, image_bytes}
+use Rattle.hart_device.specs.Image.{image_length, registers_of_version, registers_of_version_1}
 use Rattle.hart_device.specs.ImageParts.{state_with}
 use Rattle.hart_device.specs.Ranges.{contents_in, end_of, standing_for, start_of}
 use Rattle.hart_device.specs.Values.{values_of}

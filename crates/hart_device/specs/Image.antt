@@ -1,6 +1,6 @@
 -- The image of a device: what it holds, in bytes that are kept while it is stopped (own profile).
-use Rattle.std.specs.Prelude.{◌≡◌, ◌≢◌, ℕ, ◌+◌, ◌-◌, ◌<◌, ◌^◌, ◌⊎◌, Bool, if◌then◌else◌, ◌==◌, Option, Some, None}
-use Rattle.std.specs.Prelude.{List, [], ◌∷◌, ◌++◌, length, drop, replicate, slice_index}
+use Rattle.std.specs.Prelude.{◌≡◌, ◌≢◌, ℕ, ◌+◌, ◌-◌, ◌<◌, ◌^◌, ◌⊎◌, Bool, if◌then◌else◌, ◌==◌, Option, Some, None, List, [], ◌∷◌, ◌++◌}
+use Rattle.std.specs.Prelude.{length, drop, replicate, slice_index}
 use Rattle.std.specs.List.{Contains, flat_map, sum_by}
 use Rattle.hart_values.specs.Packing.{IsPacked}
 use Rattle.hart_values.specs.declared.each_master.EachMaster.{EachMaster}

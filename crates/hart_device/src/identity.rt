@@ -1,6 +1,6 @@
 ghost use Rattle.std.specs.Prelude.{◌≡◌, ◌<◌, ◌^◌, ◌↔◌, IsOk, IfOk, IfErr, IsTrue};
 ghost use Rattle.hart_frame.specs.Message.{IsPreambleCount};
-ghost use Rattle.hart_device.specs.Identity.{AreIdentityParts, IsIdentityFault, AreInRange, own_numbers, identity_content, three_bytes};
+ghost use Rattle.hart_device.specs.Identity.{AreIdentityParts, AreInRange, IsIdentityFault, own_numbers, identity_content, three_bytes};
 
 use crate::{DeviceFault, IdentityParts};
 use hart_commands::IdentityContent;

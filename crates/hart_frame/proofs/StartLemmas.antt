@@ -35,8 +35,8 @@ starts_at chars place d is =
       other = λ same. is.other (sym first ∙ same);
     }
 
-pub start_from : (chars : List Character) (place : ℕ) (d : Character) → StartsAt chars place d → IsStart place chars
-start_from chars place d at =
+pub is_start_from : (chars : List Character) (place : ℕ) (d : Character) → StartsAt chars place d → IsStart place chars
+is_start_from chars place d at =
     let k : ℕ = place - 2 in
     let before = length-take-le k chars (omega (arith, at.after_two, at.within)) in
     let Suffix : List Character → Type 0 = λ xs. chars ≡ take k chars ++ xs in
@@ -88,7 +88,7 @@ start_decided chars place after within =
         | inr not_two ↦ inr (no (λ at. not_two at.two))
         | inl two ↦ elim (same_or_other (get_or chars place preamble) preamble) [
           | inl three ↦ inr (no (λ at. at.other three))
-          | inr other ↦ inl (start_from chars place preamble
+          | inr other ↦ inl (is_start_from chars place preamble
               (record { after_two = after; within = within; one = one; two = two; other = other }))
         ]
       ]

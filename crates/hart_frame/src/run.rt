@@ -11,7 +11,7 @@ use crate::buffer::Buffer;
 use crate::message::PREAMBLE;
 
 impl Buffer {
-    /// CanHear the bytes of a run until what is held begins with a frame, or all of them.
+    /// Hears the bytes of a run until what is held begins with a frame, or all of them.
     pub(crate) fn push_run(&mut self, run: &[u8]) -> usize
         requires sound { IsSound self.old }
         requires drained { IsTrue self.old.drained }
@@ -34,7 +34,7 @@ impl Buffer {
         taken
     }
 
-    /// CanHear the bytes of a run until something may be decided, or all of them.
+    /// Hears the bytes of a run until something may be decided, or all of them.
     fn hear(&mut self, run: &[u8]) -> usize
         requires sound { IsSound self.old }
         requires drained { IsTrue self.old.drained }

@@ -58,7 +58,7 @@ impl Scanner {
         }
     }
 
-    /// CanHear one more character. The scanner has to be drained, and to have been pushed fewer than 2^64 - 1 characters. At most 269
+    /// Hears one more character. The scanner has to be drained, and to have been pushed fewer than 2^64 - 1 characters. At most 269
     /// are then held, whatever was pushed.
     pub fn push(&mut self, character: Char)
         requires drained { IsTrue self.old.drained }
@@ -69,7 +69,7 @@ impl Scanner {
         self.buffer.push(character);
     }
 
-    /// CanHear the first bytes of a run, without faults, and gives how many: up to the first at which a frame is decided, which
+    /// Hears the first bytes of a run, without faults, and gives how many: up to the first at which a frame is decided, which
     /// [`Scanner::take`] then gives, or else all of them. The scanner has to be drained, and to have been pushed so few characters
     /// that with the run they are fewer than 2^64.
     ///

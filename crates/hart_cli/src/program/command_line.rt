@@ -1,8 +1,8 @@
 //! The call that the words after the program's name ask for.
 
 ghost use Rattle.std.specs.Prelude.{◌≡◌, ◌∷◌, [], ℕ, IfErr, IfOk, List, None, Some, codes, false, map, string_bytes};
-ghost use Rattle.clap.specs.Words.{HasKind, app_of, fault_of, first_of, found_of, new_app, new_rule, rows_of, rule_of};
-ghost use Rattle.clap.specs.Words.{subcommand_rows_of, with_rule, with_subcommand};
+ghost use Rattle.clap.specs.Words.{HasKind, app_of, fault_of, first_of, found_of, new_app, new_rule, rows_of, rule_of, subcommand_rows_of};
+ghost use Rattle.clap.specs.Words.{with_rule, with_subcommand};
 ghost use Rattle.hart_line.specs.Script.Words.{Finds};
 ghost use Rattle.hart_cli.specs.CommandLine.{Calls, GivesCall, GivesWords, encode_app, hart_app, image_app, image_rule};
 ghost use Rattle.hart_cli.specs.CommandLine.{encode_with_required_words, hart_alone, preambles_rule, reading_app, required_rule};
@@ -95,7 +95,8 @@ fn image_word<'a>(given: &ArgMatches<'a>) -> ImageWord<'a>
     }
 }
 
-/// The words of `hart encode`, or `None` if one is missing or the number of preamble bytes is none, which clap does not let pass.
+/// The words of `hart encode`, or `None` if WHO, ADDRESS or COMMAND is missing, or if the number of preamble bytes is none from 5 to
+/// 20. clap lets neither pass.
 fn encode_words<'a>(given: &ArgMatches<'a>) -> Option<EncodeWords<'a>>
     ensures { Finds (GivesWords (rows_of (found_of given.now))) result }
 {

@@ -135,7 +135,7 @@ fn is_met_whole(exchange: &Exchange) -> Result<bool, Fail> {
     leads_to(delivery, exchange.reply, exchange.held)
 }
 
-/// Whether a request is met so with each other byte at a place.
+/// Whether a request is met, as `is_met_at` says, with each other byte at a place.
 fn is_met_with_other_bytes(exchange: &Exchange, place: usize, byte: u8) -> Result<bool, Fail> {
     let mut met = true;
     for change in 1..=255u8 {
@@ -144,7 +144,7 @@ fn is_met_with_other_bytes(exchange: &Exchange, place: usize, byte: u8) -> Resul
     Ok(met)
 }
 
-/// Whether a request is met so with each set of fault bits at a place.
+/// Whether a request is met, as `is_met_at` says, with each set of fault bits at a place.
 fn is_met_with_fault_bits(exchange: &Exchange, place: usize, byte: u8) -> Result<bool, Fail> {
     let mut met = true;
     for faults in FAULT_SETS {

@@ -1,6 +1,6 @@
 -- The rows of the table of events, word by word.
-use Rattle.std.proofs.Common.{◌≡◌, ℕ, zero, suc, ◌<◌, List, [], ◌∷◌, codes, get_or, length, Result, Err, Ok, Option, None, Some}
-use Rattle.std.proofs.Common.{sym, ap, ◌∙◌, arith}
+use Rattle.std.proofs.Common.{◌≡◌, ℕ, zero, suc, ◌<◌, List, [], ◌∷◌, codes, get_or, length, Result, Err, Ok, Option, None, Some, sym, ap}
+use Rattle.std.proofs.Common.{◌∙◌, arith}
 use Rattle.std.specs.Option.{ok_or}
 use Rattle.std.specs.Result.{result_ok}
 use Rattle.hart_values.specs.declared.address.Address.{Address}
@@ -65,7 +65,7 @@ turn_legs words who up down (Protect on) same is = absurd (omega (arith, first_l
 turn_legs words who up down (Noise chars) same is = absurd (omega (arith, first_letter _ _ _ _ is.row))
 turn_legs words who up down Restart same is = absurd (omega (arith, first_letter _ _ _ _ is))
 
--- the request of a row is the one that its last words write
+-- the request of a row is the one that its command and its data write
 pub row_request : (words : List (List ℕ)) (master : MasterId) (to : Address) (request : Request)
     (who address command : List ℕ) (payload : List (List ℕ)) → words ≡ codes "submit" ∷ who ∷ address ∷ command ∷ payload
     → IsSubmitRow words master to request → AreRequestWords command payload request

@@ -10,8 +10,8 @@ use Rattle.hex.specs.Hex.{is_hex_digit}
 use Rattle.hart_frame.specs.Character.{Character}
 use Rattle.hart_line.specs.Script.Items.{BeginsWithItems, Faulty, IsItemsWord, item, nothing, Plain}
 use Rattle.hart_line.specs.Script.Lines.{lines_of, words_of}
-use Rattle.hart_line.specs.Script.Rows.{AreEvents, HasFirstBadLine, IsBadLine, IsEvent, IsLeg, IsScript}
-use Rattle.hart_line.specs.Script.Rows.{IsScriptFault, IsSkipped, SaysLine, none, said, skipped}
+use Rattle.hart_line.specs.Script.Rows.{AreEvents, HasFirstBadLine, IsBadLine, IsEvent, IsLeg, IsScript, IsScriptFault, IsSkipped, SaysLine}
+use Rattle.hart_line.specs.Script.Rows.{none, said, skipped}
 use Rattle.hart_line.specs.Script.Words.{IsAddressWord, IsWho}
 use Rattle.hart_line.specs.declared.event.Heard.{Heard}
 use Rattle.hart_line.specs.declared.event.Heard.TheVariants.{Chars, Clean, Lost}

@@ -32,7 +32,7 @@ pub record AreRequestWords (command : List ℕ) (payload : List (List ℕ)) (req
   pub data_written : AreDataWords payload bytes
   pub read : request_reading number bytes ≡ Ok request
 
--- The row `submit WHO ADDRESS COMMAND [DATA]` names a master and an address, and its last words write this request.
+-- The row `submit WHO ADDRESS COMMAND [DATA]` names a master and an address, and the words after ADDRESS write this request.
 pub record IsSubmitRow (words : List (List ℕ)) (master : MasterId) (to : Address) (request : Request) : Type 0 where
   pub who : List ℕ
   pub address : List ℕ

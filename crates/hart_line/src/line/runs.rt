@@ -15,8 +15,8 @@ ghost use Rattle.hart_line.specs.Line.Executions.{last_executions, times_execute
 ghost use Rattle.hart_line.specs.Line.Faults.{IsFault, IsNotDetectable};
 ghost use Rattle.hart_line.specs.Line.LineRoom.{IsRoomFor};
 ghost use Rattle.hart_line.specs.Line.Promises.{AnswersLastSending, AreWellMade, IsExecutedFromHand, IsExecutedInItsTurn, IsLastReset};
-ghost use Rattle.hart_line.specs.Line.Promises.{IsRefusedByDevice, IsStepOf, IsUnrefusedWrite};
-ghost use Rattle.hart_line.specs.Line.Promises.{arrived_in_step, requests_of, sendings_in, start_from};
+ghost use Rattle.hart_line.specs.Line.Promises.{IsRefusedByDevice, IsStepOf, IsUnrefusedWrite, arrived_in_step, requests_of, sendings_in};
+ghost use Rattle.hart_line.specs.Line.Promises.{start_from};
 ghost use Rattle.hart_line.specs.Line.Spoken.{AreSpoken};
 ghost use Rattle.hart_line.specs.Line.Step.{IsLast};
 ghost use Rattle.hart_line.specs.Line.World.{World, first_world, overwrites_of, state_of};

@@ -5,7 +5,7 @@ use Rattle.std.proofs.lemmas.List.{get_or_default}
 use Rattle.std.proofs.lemmas.Bool.Decides.{nat_tests}
 use Rattle.hart_frame.specs.Character.{Character}
 use Rattle.hart_frame.proofs.PlaceLemmas.{preamble}
-use Rattle.hart_frame.proofs.StartLemmas.{start_from, starts_at}
+use Rattle.hart_frame.proofs.StartLemmas.{is_start_from, starts_at}
 use Rattle.hart_frame.proofs.start.is_start.Goals as goal
 
 -- the test that characters are not the same
@@ -48,7 +48,7 @@ returns c =
     let one = differ-no c.index-chars-place.result c.unwrap-preamble.result (sym c.ne.ensures ∙ c.if-ne.false) ∙ is_preamble in
     let two = differ-no c.index-chars-place-2.result c.unwrap-preamble.result (sym c.ne-else-ne.ensures ∙ c.if-ne-2.false)
     ∙ is_preamble in (
-      (λ yes. start_from chars place third (record {
+      (λ yes. is_start_from chars place third (record {
         after_two = c.requires.after_two;
         within = c.requires.within;
         one = get_or-other chars (place - 2) c.index-chars-place.result third (omega (arith, c.requires)) c.index-chars-place.is ∙ one;

@@ -1,5 +1,5 @@
-use Rattle.std.proofs.Common.{ap, arith, codes, inl, inr, refl, Option, option_map, Some, None, sym, ℕ, ◌≡◌, ◌∙◌, ◌<◌, ◌≤◌, ◌⊎◌}
-use Rattle.std.proofs.Common.{Result, Ok, Err, unwrap_or, []}
+use Rattle.std.proofs.Common.{ap, arith, codes, inl, inr, refl, Option, option_map, Some, None, sym, ℕ, ◌≡◌, ◌∙◌, ◌<◌, ◌≤◌, ◌⊎◌, Result, Ok}
+use Rattle.std.proofs.Common.{Err, unwrap_or, []}
 use Rattle.std.specs.Borrow.{Bor}
 use Rattle.std.specs.Result.{result_ok}
 use Rattle.std.specs.Str.Parse.{IsNumeral, ParsesUnsigned, digits_value, without_leading_plus}
@@ -30,7 +30,7 @@ parsed t (Ok m) o n read is some =
     (read.0.0, same ∙ read.1)
 parsed t (Err e) o n read is some = cc
 
--- the number of preamble bytes is what the word of it writes
+-- the number of preamble bytes is what its word writes
 number_is : (t : Text) (f : Found) (words : MessageWords) → first_of (codes "preambles") (rows_of f) ≡ Some t
     → (gives : GivesWords (rows_of f) words)
     → IsNumeral 10 (without_leading_plus t) × (words.preambles ≡ digits_value 10 (without_leading_plus t))
@@ -46,7 +46,7 @@ not_parsed t (Err e) o f words read is none word gives =
     let number = number_is t f words word gives in
     read (number.0, omega (arith, number.1, gives.count))
 
--- and one that is read as another number than 5 to 20 writes none
+-- and one that is read as a number below 5 or above 20 writes none
 out_of_range : (t : Text) (n : ℕ) (f : Found) (words : MessageWords) → n ≡ digits_value 10 (without_leading_plus t)
     → first_of (codes "preambles") (rows_of f) ≡ Some t → GivesWords (rows_of f) words → (n < 5) ⊎ (5 ≤ n × 20 < n) → ⊥
 out_of_range t n f words value word gives (inl low) = omega (arith, value, (number_is t f words word gives).1, gives.count, low)
