@@ -36,7 +36,7 @@ encode_with_required_words =
     let address = with_rule who (required_rule (codes "ADDRESS")) in
     with_rule address (required_rule (codes "COMMAND"))
 
--- The command `encode` takes these three, a fourth word if it is given, and the number of preamble bytes.
+-- The command `encode` takes the three required words, a fourth if it is given, and the number of preamble bytes.
 abbrev pub encode_app : App
 encode_app =
     let payload = with_rule encode_with_required_words (new_rule (codes "DATA")) in

@@ -95,7 +95,7 @@ fn image_word<'a>(given: &ArgMatches<'a>) -> ImageWord<'a>
     }
 }
 
-/// The words of `hart encode`, or `None` if WHO, ADDRESS or COMMAND is missing, or if the number of preamble bytes is none from 5 to
+/// The words of `hart encode`, or `None` if WHO, ADDRESS or COMMAND is missing, or if the number of preamble bytes is not from 5 to
 /// 20. clap lets neither pass.
 fn encode_words<'a>(given: &ArgMatches<'a>) -> Option<EncodeWords<'a>>
     ensures { Finds (GivesWords (rows_of (found_of given.now))) result }
