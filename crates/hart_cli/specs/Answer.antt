@@ -1,15 +1,15 @@
 -- What `hart answer` writes for what it reads (own profile).
 use Rattle.std.specs.Prelude.{◌≡◌, ℕ, List, [], Option, None, Some}
-use Rattle.hart_frame.specs.Character.{Character}
-use Rattle.hart_frame.specs.FrameParts.{FrameParts}
+use Rattle.hart_frame.specs.heard.Character.{Character}
+use Rattle.hart_frame.specs.wire.FrameParts.{FrameParts}
 use Rattle.hart_device.specs.Bench.{bench_process}
-use Rattle.hart_device.specs.Delivery.{Brings, Brought, answer_to}
+use Rattle.hart_device.specs.answer.Delivery.{Brings, Brought, answer_to}
 use Rattle.hart_device.specs.Device.{DeviceState}
 use Rattle.hart_cli.specs.ImageWord.{OutcomeWith, Outcomes}
-use Rattle.hart_cli.specs.InputChars.{IsWholeTextFault}
-use Rattle.hart_cli.specs.Items.{ReadsAs}
-use Rattle.hart_cli.specs.MessageLine.{IsMessageLine}
-use Rattle.hart_cli.specs.WholeInput.{WholeOutcome}
+use Rattle.hart_cli.specs.text.InputChars.{IsWholeTextFault}
+use Rattle.hart_cli.specs.text.Items.{ReadsAs}
+use Rattle.hart_cli.specs.text.MessageLine.{IsMessageLine}
+use Rattle.hart_cli.specs.input.WholeInput.{WholeOutcome}
 
 -- The text of a device's answer is the line of its message, with as many preamble bytes as the identity says; silence has no text.
 abbrev pub IsAnswerText : DeviceState → Option FrameParts → List ℕ → Type 0

@@ -3,16 +3,17 @@ ghost use Rattle.std.specs.Prelude.{◌≡◌, ◌<◌, ℕ, IfErr, IfOk, List, 
 ghost use Rattle.std.specs.Option.{option_map};
 ghost use Rattle.hart_device.specs.Device.{DeviceState};
 ghost use Rattle.hart_cli.specs.Answer.{AnswerOutcome, IsAnswer, IsTextFor};
-ghost use Rattle.hart_cli.specs.InputChars.{IsWholeTextFault};
-ghost use Rattle.hart_cli.specs.WholeInput.{WholeOutcome};
+ghost use Rattle.hart_cli.specs.text.InputChars.{IsWholeTextFault};
+ghost use Rattle.hart_cli.specs.input.WholeInput.{WholeOutcome};
 
 use crate::fault::CliFault;
-use crate::hex_text::HexLine;
 use crate::image_word::device_of;
 use crate::input::read_whole;
-use crate::items::{inputs_are_unambiguous, read_chars};
-use crate::output::{message_line, write_all};
+use crate::output::write_all;
 use crate::stream::{Sink, Source};
+use crate::text::hex::HexLine;
+use crate::text::items::{inputs_are_unambiguous, read_chars};
+use crate::text::message_line::message_line;
 use hart_device::{Device, ImageRegisters, bench, deliveries_bring_one};
 use hart_frame::{Char, bodies_are_unambiguous};
 use hart_line::Filling;

@@ -1,21 +1,24 @@
 //! `hart dump`: the frames of what was heard, a line each.
 ghost use Rattle.std.specs.Prelude.{◌≡◌, ◌<◌, ◌≤◌, [], ℕ, List, Option, length};
-ghost use Rattle.hart_frame.specs.Scanner.{new_scan};
-ghost use Rattle.hart_cli.specs.Dump.{DumpOutcome, IsDump};
-ghost use Rattle.hart_cli.specs.FrameLines.{IsNextStep, ReadsAhead, ScansInput};
-ghost use Rattle.hart_cli.specs.Items.{NoPieceBegins};
+ghost use Rattle.hart_frame.specs.scan.Scanner.{new_scan};
+ghost use Rattle.hart_cli.specs.dump.Dump.{DumpOutcome, IsDump};
+ghost use Rattle.hart_cli.specs.dump.FrameLines.{IsNextStep, ReadsAhead, ScansInput};
+ghost use Rattle.hart_cli.specs.text.Items.{NoPieceBegins};
 ghost use Rattle.hart_cli.specs.declared.dump.NextStep.TheVariants.{ReadOn};
-ghost use Rattle.hart_cli.specs.Input.{Ending, most_at_once};
+ghost use Rattle.hart_cli.specs.input.Input.{Ending, most_at_once};
 ghost use Rattle.hart_cli.specs.declared.fault.CliFault.{CliFault};
 
+use crate::dump::frame_lines::FrameLines;
 use crate::fault::CliFault;
-use crate::frame_lines::FrameLines;
 use crate::input::{INPUT_LIMIT, InputEnd, PORTION_LEN, read_portion};
-use crate::items::{inputs_are_unambiguous, may_begin};
 use crate::stream::{Failed, Sink, Source};
+use crate::text::items::{inputs_are_unambiguous, may_begin};
 use hart_frame::{every_list_has_frames, frames_are_streamed, frames_are_unambiguous};
 use hart_values::ByteList;
 use std::alloc::Global;
+
+mod frame_lines;
+mod text;
 
 /// The beginning of an item, after which no piece begins yet: at most five bytes.
 type Open = ByteList<OPEN_LEN>;

@@ -1,12 +1,13 @@
 //! `hart encode`: a message to send.
 ghost use Rattle.std.specs.Prelude.{◌≡◌, ℕ, List};
-ghost use Rattle.hart_frame.specs.Message.{IsPreambleCount};
-ghost use Rattle.hart_cli.specs.Encode.{EncodeOutcome, IsEncoding, RequestOutcome};
-ghost use Rattle.hart_cli.specs.MessageWords.{MessageWords};
+ghost use Rattle.hart_frame.specs.wire.Message.{IsPreambleCount};
+ghost use Rattle.hart_cli.specs.encode.Encode.{EncodeOutcome, IsEncoding, RequestOutcome};
+ghost use Rattle.hart_cli.specs.encode.MessageWords.{MessageWords};
 
 use crate::fault::CliFault;
-use crate::output::{message_line, write_all};
+use crate::output::write_all;
 use crate::stream::Sink;
+use crate::text::message_line::message_line;
 use hart_frame::{Frame, bodies_are_unambiguous};
 use hart_line::{read_address, read_command, read_data, read_who, words_have_one_value};
 use std::alloc::Global;
@@ -28,7 +29,7 @@ pub struct EncodeWords<'a> {
 }
 
 impl<'a> Model for EncodeWords<'a> {
-    ghost use Rattle.hart_cli.specs.MessageWords.{MessageWords};
+    ghost use Rattle.hart_cli.specs.encode.MessageWords.{MessageWords};
 
     ghost Value = { MessageWords };
 

@@ -1,6 +1,6 @@
 //! Reading an input, portion by portion or whole.
 ghost use Rattle.std.specs.Prelude.{◌≡◌, ◌<◌, ◌≤◌, [], IfErr, IfOk, length, take};
-ghost use Rattle.hart_cli.specs.Input.{IsReadingFault, Reads, ReadsPortion, input_room, most_at_once};
+ghost use Rattle.hart_cli.specs.input.Input.{IsReadingFault, Reads, ReadsPortion, input_room, most_at_once};
 ghost use Rattle.hart_cli.specs.declared.input.InputEnd.TheVariants.{Ended};
 
 use crate::fault::CliFault;

@@ -6,25 +6,18 @@
 
 mod answer;
 mod dump;
-mod dump_text;
 mod encode;
 mod fault;
-mod frame_lines;
-mod hex_text;
 mod image_word;
 mod input;
-mod items;
 mod output;
-mod plain;
 mod program;
-mod run;
 mod sim;
-mod sim_text;
 mod stream;
-mod text_line;
+mod text;
 
-use crate::plain::Plain;
 use crate::program::{NO_CALL, program};
+use crate::stream::plain::Plain;
 use std::process::ExitCode;
 use std::{env, io};
 

@@ -1,9 +1,9 @@
 //! The program: which call the words make, and with which number it ends.
 
 ghost use Rattle.std.specs.Prelude.{◌≡◌, ◌≢◌, IfErr, map, string_bytes};
-ghost use Rattle.hart_cli.specs.Program.{Ran, status_of};
+ghost use Rattle.hart_cli.specs.program.Program.{Ran, status_of};
 ghost use Rattle.hart_cli.specs.FaultText.{fault_line};
-ghost use Rattle.hart_cli.specs.Stream.{WritesUnlessFailed};
+ghost use Rattle.hart_cli.specs.stream.Stream.{WritesUnlessFailed};
 
 mod command_line;
 mod help;

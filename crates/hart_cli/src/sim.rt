@@ -3,14 +3,14 @@ ghost use Rattle.std.specs.Prelude.{◌≡◌, ℕ, List, IfErr, IfOk};
 ghost use Rattle.std.specs.Option.{option_map};
 ghost use Rattle.hart_device.specs.Device.{DeviceState};
 ghost use Rattle.hart_line.specs.declared.fault.LineFault.{LineFault};
-ghost use Rattle.hart_cli.specs.Sim.{HasLineFault, IsSimulation, IsSimulationFault, SimOutcome};
-ghost use Rattle.hart_cli.specs.WholeInput.{WholeOutcome};
+ghost use Rattle.hart_cli.specs.sim.Sim.{HasLineFault, IsSimulation, IsSimulationFault, SimOutcome};
+ghost use Rattle.hart_cli.specs.input.WholeInput.{WholeOutcome};
 
 use crate::fault::CliFault;
 use crate::image_word::device_of;
 use crate::input::read_whole;
 use crate::output::write_all;
-use crate::sim_text::sim_text;
+use crate::sim::text::sim_text;
 use crate::stream::{Sink, Source};
 use hart_device::{Device, ImageRegisters, bench};
 use hart_frame::bodies_are_unambiguous;
@@ -18,6 +18,8 @@ use hart_line::{read_script, run, scripts_have_one_last_world, texts_have_one_sc
 use hart_master::Master;
 use hart_values::MasterId;
 use std::alloc::Global;
+
+mod text;
 
 /// How often a master sends a request again at most.
 const RETRIES: u8 = 3;

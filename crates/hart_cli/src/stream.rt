@@ -3,7 +3,11 @@
 ghost use Rattle.std.specs.Prelude.{◌<◌, IfOk, length};
 ghost use Rattle.std.specs.Io.{ReadsAtMost, WritesAtMost};
 ghost use Rattle.std.specs.Io.KnownBytes.{ReadConsumes, WriteAppends};
-ghost use Rattle.hart_cli.specs.Stream.{CountsFailure, Stream};
+ghost use Rattle.hart_cli.specs.stream.Stream.{CountsFailure, Stream};
+
+#[cfg(test)]
+pub mod fakes;
+pub mod plain;
 
 /// A read or a write failed.
 #[derive(Clone, Copy, Debug, PartialEq, Eq)]
@@ -44,6 +48,3 @@ pub trait Sink {
         ensures bytes { WriteAppends (stream self.old).bytes (stream self.new).bytes result bytes.now }
         ensures count { CountsFailure (stream self.old) (stream self.new) result };
 }
-
-#[cfg(test)]
-pub mod fakes;

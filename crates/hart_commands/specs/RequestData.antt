@@ -4,7 +4,7 @@ use Rattle.std.specs.Prelude.{ℕ, ◌+◌, ◌*◌, ◌/◌, ◌%◌, ◌≡◌
 use Rattle.std.specs.Prelude.{take, Result, Ok, Err, Option, Some, None, is_some}
 use Rattle.hart_values.specs.declared.loop_mode.LoopMode.{LoopMode}
 use Rattle.hart_values.specs.declared.loop_mode.LoopMode.TheVariants.{Disabled, Enabled}
-use Rattle.hart_values.specs.Calendar.{IsDateBytes, is_date}
+use Rattle.hart_values.specs.hart_date.Calendar.{IsDateBytes, is_date}
 use Rattle.hart_commands.specs.TagBytes.{tag_in, descriptor_in, date_in}
 use Rattle.hart_commands.specs.declared.request.Request.{Request}
 use Rattle.hart_commands.specs.declared.request.Request.TheVariants.{Identify, ReadPrimary, ReadCurrent, ReadDynamic, SetPolling}

@@ -1,11 +1,11 @@
 -- The bench device: the device that a program has if it is given no other (own profile).
 use Rattle.std.specs.Prelude.{ℕ, List, [], ◌∷◌, ◌++◌, replicate}
-use Rattle.hart_values.specs.Calendar.{not_set}
+use Rattle.hart_values.specs.hart_date.Calendar.{not_set}
 use Rattle.hart_values.specs.declared.bits32.Bits32.{Bits32}
 use Rattle.hart_values.specs.declared.loop_mode.LoopMode.TheVariants.{Enabled}
 use Rattle.hart_device.specs.declared.identity_parts.IdentityParts.{IdentityParts}
 use Rattle.hart_device.specs.declared.process.Process.{Process}
-use Rattle.hart_device.specs.declared.values.RegisterValues.{RegisterValues}
+use Rattle.hart_device.specs.declared.registers.values.RegisterValues.{RegisterValues}
 
 -- It is a device of type hex 3742 and id hex 0A1B2C.
 abbrev pub bench_identity : IdentityParts

@@ -6,8 +6,8 @@ use Rattle.hart_values.specs.EachMaster.{with_master}
 use Rattle.hart_values.specs.declared.each_master.EachMaster.{EachMaster}
 use Rattle.hart_commands.specs.Registers.{Contents, Overwrite, overwritten}
 use Rattle.hart_device.specs.declared.identity_parts.IdentityParts.{IdentityParts}
-use Rattle.hart_device.specs.declared.values.RegisterValues.{RegisterValues}
-use Rattle.hart_device.specs.Values.{values_of}
+use Rattle.hart_device.specs.declared.registers.values.RegisterValues.{RegisterValues}
+use Rattle.hart_device.specs.registers.Values.{values_of}
 
 -- A device is who it is, what its registers hold, its configuration change counter, for each master its configuration-changed
 -- bit, which is set if the configuration has changed since this master last reset it, whether it is write protected, and for each

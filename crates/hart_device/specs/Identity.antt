@@ -1,9 +1,9 @@
 -- Who a device is (HCF_SPEC-127), by the numbers that it is made with.
 use Rattle.std.specs.Prelude.{◌≡◌, ℕ, ◌+◌, ◌*◌, ◌/◌, ◌%◌, ◌^◌, ◌<◌, List, [], ◌∷◌}
-use Rattle.hart_values.specs.DeviceNumbers.{DeviceNumbers}
-use Rattle.hart_values.specs.AddressBytes.{broadcast}
+use Rattle.hart_values.specs.address.DeviceNumbers.{DeviceNumbers}
+use Rattle.hart_values.specs.address.AddressBytes.{broadcast}
 use Rattle.hart_values.specs.declared.address.Address.TheVariants.{Unique}
-use Rattle.hart_frame.specs.Message.{IsPreambleCount}
+use Rattle.hart_frame.specs.wire.Message.{IsPreambleCount}
 use Rattle.hart_commands.specs.declared.identity.IdentityContent.{IdentityContent}
 use Rattle.hart_device.specs.declared.identity_parts.IdentityParts.{IdentityParts}
 use Rattle.hart_device.specs.declared.fault.DeviceFault.{DeviceFault}

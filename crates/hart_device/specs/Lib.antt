@@ -1,14 +1,7 @@
 pub mod Identity
 pub mod Process
-pub mod Values
+pub mod registers
 pub mod Device
-pub mod Status
-pub mod Variables
-pub mod Content
-pub mod Answer
-pub mod Garbled
-pub mod Delivery
-pub mod Ranges
-pub mod Image
-pub mod ImageParts
+pub mod answer
+pub mod image
 pub mod Bench

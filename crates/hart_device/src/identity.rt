@@ -1,5 +1,5 @@
 ghost use Rattle.std.specs.Prelude.{◌≡◌, ◌<◌, ◌^◌, ◌↔◌, IsOk, IfOk, IfErr, IsTrue};
-ghost use Rattle.hart_frame.specs.Message.{IsPreambleCount};
+ghost use Rattle.hart_frame.specs.wire.Message.{IsPreambleCount};
 ghost use Rattle.hart_device.specs.Identity.{AreIdentityParts, AreInRange, IsIdentityFault, own_numbers, identity_content, three_bytes};
 
 use crate::{DeviceFault, IdentityParts};

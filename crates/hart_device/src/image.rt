@@ -2,21 +2,23 @@
 ghost use Rattle.std.specs.Prelude.{◌≡◌, ◌<◌, ◌^◌, ◌↔◌, ◌⊎◌, [], ◌∷◌, ◌++◌, false, IsOk, IfOk, IfErr, IfSome, IfNone, length, slice_index};
 ghost use Rattle.hart_commands.specs.Registers.{AreValid};
 ghost use Rattle.hart_device.specs.Identity.{two_bytes};
-ghost use Rattle.hart_device.specs.Ranges.{contents_in};
-ghost use Rattle.hart_device.specs.Values.{values_of};
-ghost use Rattle.hart_device.specs.Image.{HasBadRegister, IsImage, IsImageOf, IsImageFault, flags_of, image_of, registers_of_version_1};
+ghost use Rattle.hart_device.specs.registers.Ranges.{contents_in};
+ghost use Rattle.hart_device.specs.registers.Values.{values_of};
+ghost use Rattle.hart_device.specs.image.Image.{HasBadRegister, IsImage, IsImageOf, IsImageFault, flags_of, image_of, registers_of_version_1};
 ghost use Rattle.hart_device.specs.Device.{for_both};
-ghost use Rattle.hart_device.specs.ImageParts.{state_with};
+ghost use Rattle.hart_device.specs.image.ImageParts.{state_with};
 ghost use Rattle.hart_device.specs.declared.identity_parts.IdentityParts.{IdentityParts};
 
-use crate::flags::Flags;
-use crate::image_registers::ImageRegisters;
+use crate::image::flags::Flags;
 use crate::laws::images_have_no_fault;
-use crate::ranges::{ARRAY_LEN, ranges_fill_the_array};
-use crate::values::values_are_valid;
+use crate::registers::image_registers::ImageRegisters;
+use crate::registers::ranges::{ARRAY_LEN, ranges_fill_the_array};
+use crate::registers::values::values_are_valid;
 use crate::{Device, DeviceFault, Identity, RegisterStore, RegisterValues};
 use hart_commands::{Register, all_registers_are_listed_once};
 use hart_values::{ByteList, EachMaster, MasterId};
+
+mod flags;
 
 /// An image: 86 bytes in version 2, and 54 in version 1, which has no long tag.
 pub type Image = ByteList<86>;

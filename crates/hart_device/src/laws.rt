@@ -4,21 +4,21 @@ ghost use Rattle.std.specs.Prelude.{List, [], ◌∷◌, ◌++◌, Contains, sli
 ghost use Rattle.std.specs.Int.{bit_at};
 ghost use Rattle.hart_values.specs.EachMaster.{of_master, with_master};
 ghost use Rattle.hart_values.specs.declared.master_id.MasterId.{MasterId};
-ghost use Rattle.hart_frame.specs.Character.{Character};
-ghost use Rattle.hart_frame.specs.FrameParts.{FrameParts, reply_parts};
+ghost use Rattle.hart_frame.specs.heard.Character.{Character};
+ghost use Rattle.hart_frame.specs.wire.FrameParts.{FrameParts, reply_parts};
 ghost use Rattle.hart_commands.specs.Registers.{Contents, Overwrite, bytes_in, last_named, overwrite_of, overwritten, registers_of};
 ghost use Rattle.hart_commands.specs.declared.register.Register.{Register};
 ghost use Rattle.hart_commands.specs.declared.request.Request.{Request};
 ghost use Rattle.hart_commands.specs.declared.request.Request.TheVariants.{ResetChanged};
-ghost use Rattle.hart_device.specs.Answer.{after_refusal, answer_of, code_of, effect_of, is_answered, reading_of, state_after};
-ghost use Rattle.hart_device.specs.Delivery.{Brings, Brought};
-ghost use Rattle.hart_device.specs.Garbled.{HasGarbled};
+ghost use Rattle.hart_device.specs.answer.Answer.{after_refusal, answer_of, code_of, effect_of, is_answered, reading_of, state_after};
+ghost use Rattle.hart_device.specs.answer.Delivery.{Brings, Brought};
+ghost use Rattle.hart_device.specs.answer.Garbled.{HasGarbled};
 ghost use Rattle.hart_device.specs.declared.fault.DeviceFault.{DeviceFault};
-ghost use Rattle.hart_device.specs.declared.garbled.GarbledRequest.{GarbledRequest};
+ghost use Rattle.hart_device.specs.declared.answer.garbled.GarbledRequest.{GarbledRequest};
 ghost use Rattle.hart_device.specs.declared.identity_parts.IdentityParts.{IdentityParts};
 ghost use Rattle.hart_device.specs.declared.process.Process.{Process};
 ghost use Rattle.hart_device.specs.Device.{DeviceState, Nothing, Executes, Resets, restarted};
-ghost use Rattle.hart_device.specs.Image.{IsImageOf, IsImageFault};
+ghost use Rattle.hart_device.specs.image.Image.{IsImageOf, IsImageFault};
 
 use hart_commands::all_registers_are_listed_once;
 use hart_frame::{every_list_has_frames, first_starts_are_decided, frames_are_unambiguous};

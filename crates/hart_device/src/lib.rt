@@ -19,33 +19,23 @@
 //! memory.
 #![tactic(auto)]
 
+mod answer;
 pub mod bench;
 mod device;
 mod fault;
-mod field_registers;
-mod flags;
-mod garbled;
 mod identity;
 mod identity_parts;
 mod image;
-mod image_registers;
 mod laws;
 mod process;
-mod process_content;
-mod ranges;
 mod registers;
-mod status;
-mod values;
-mod variables;
 
+pub use answer::garbled::GarbledRequest;
 pub use device::Device;
 pub use fault::DeviceFault;
-pub use field_registers::FieldRegisters;
-pub use garbled::GarbledRequest;
 pub use identity::Identity;
 pub use identity_parts::IdentityParts;
 pub use image::Image;
-pub use image_registers::ImageRegisters;
 pub use laws::{
     answers_give_their_code, bytes_have_one_image_fault, cold_starts_are_shown_once,
     deliveries_bring_one, frames_leave_identity_and_protection, garbled_requests_are_decided,
@@ -55,7 +45,9 @@ pub use laws::{
 };
 pub use process::{OutputValues, Process, ProcessVariable};
 pub use registers::RegisterStore;
-pub use values::RegisterValues;
+pub use registers::field_registers::FieldRegisters;
+pub use registers::image_registers::ImageRegisters;
+pub use registers::values::RegisterValues;
 
 #[cfg(test)]
 mod tests;

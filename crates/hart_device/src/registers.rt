@@ -1,10 +1,15 @@
 ghost use Rattle.std.specs.Prelude.{◌≡◌, length, unwrap_or};
 ghost use Rattle.hart_commands.specs.Registers.{Contents, bytes_in, named_in, size_of};
 ghost use Rattle.hart_commands.specs.declared.register.Register.{Register};
-ghost use Rattle.hart_device.specs.Values.{values_of};
+ghost use Rattle.hart_device.specs.registers.Values.{values_of};
 
 use crate::RegisterValues;
 use hart_commands::{Overwrite, Register};
+
+pub mod field_registers;
+pub mod image_registers;
+pub mod ranges;
+pub mod values;
 
 /// What holds the registers of a device, however it lays them out.
 ///

@@ -1,13 +1,13 @@
 //! Laws over the definitions alone, for the crates above.
 ghost use Rattle.std.specs.Prelude.{◌≡◌, ◌<◌, ◌≤◌, ◌↔◌, List, ℕ, [], ◌∷◌, ◌++◌, length, All};
-ghost use Rattle.hart_frame.specs.FrameParts.{FrameParts};
-ghost use Rattle.hart_frame.specs.Body.{IsBody, BeginsWithBody, CanBecomeBody, HasNoBody};
-ghost use Rattle.hart_frame.specs.Character.{Character, faultless};
-ghost use Rattle.hart_frame.specs.Frames.{AreFrames, IsFirst};
-ghost use Rattle.hart_frame.specs.Message.{IsMessage};
-ghost use Rattle.hart_frame.specs.Place.{IsOpen, StandsIn};
-ghost use Rattle.hart_frame.specs.Refusal.{IsTruncated};
-ghost use Rattle.hart_frame.specs.declared.found.Found.{Found};
+ghost use Rattle.hart_frame.specs.wire.FrameParts.{FrameParts};
+ghost use Rattle.hart_frame.specs.wire.Body.{IsBody, BeginsWithBody, CanBecomeBody, HasNoBody};
+ghost use Rattle.hart_frame.specs.heard.Character.{Character, faultless};
+ghost use Rattle.hart_frame.specs.heard.Frames.{AreFrames, IsFirst};
+ghost use Rattle.hart_frame.specs.wire.Message.{IsMessage};
+ghost use Rattle.hart_frame.specs.heard.Place.{IsOpen, StandsIn};
+ghost use Rattle.hart_frame.specs.wire.Refusal.{IsTruncated};
+ghost use Rattle.hart_frame.specs.declared.heard.found.Found.{Found};
 
 use hart_values::address_bytes_are_unambiguous;
 

@@ -13,54 +13,34 @@
 //! No call of this crate takes memory.
 #![tactic(auto)]
 
-mod body;
-mod buffer;
-mod character;
-mod damage;
-mod delimiter;
-mod delivery;
-mod fault;
-mod first;
-mod found;
-mod frame;
 mod heard;
-mod judge;
-mod kind;
 mod laws;
-mod layout;
-mod message;
-mod parity;
-mod plain;
-mod run;
-mod scanner;
-mod settle;
-mod start;
-mod streamed;
-mod view;
+mod scan;
+mod wire;
 
-pub use body::{Body, decode};
-pub use character::Char;
-pub use damage::{damage_by_example, damaged_messages_have_no_other_frame};
-pub use delivery::{LoneFrame, lone_frame};
-pub use fault::FrameFault;
-pub use first::first_frame;
-pub use found::Found;
-pub use frame::{Expansion, Frame};
 pub use hart_values::Payload;
-pub use kind::FrameKind;
+pub use heard::character::Char;
+pub use heard::damage::{damage_by_example, damaged_messages_have_no_other_frame};
+pub use heard::delivery::{LoneFrame, lone_frame};
+pub use heard::first::first_frame;
+pub use heard::found::Found;
+pub use heard::start::{first_start, first_starts_are_decided};
 pub use laws::{
     bodies_are_unambiguous, every_list_has_frames, frames_are_unambiguous,
     messages_have_their_frame_alone, open_places_can_begin_a_frame,
     truncated_bytes_can_become_a_body,
 };
-pub use message::{LEAST_PREAMBLES, MOST_PREAMBLES, Message, encode};
-pub use parity::check_byte;
-pub use scanner::Scanner;
-pub use start::{first_start, first_starts_are_decided};
-pub use streamed::{
+pub use scan::scanner::Scanner;
+pub use scan::streamed::{
     any_chunking_gives_the_same_frames, frames_are_streamed, held_frames_are_given,
 };
-pub use view::{FoundView, FrameView};
+pub use scan::view::{FoundView, FrameView};
+pub use wire::body::{Body, decode};
+pub use wire::fault::FrameFault;
+pub use wire::frame::{Expansion, Frame};
+pub use wire::kind::FrameKind;
+pub use wire::message::{LEAST_PREAMBLES, MOST_PREAMBLES, Message, encode};
+pub use wire::parity::check_byte;
 
 #[cfg(test)]
 mod tests;

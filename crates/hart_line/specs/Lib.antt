@@ -1,3 +1,4 @@
-pub mod Script
-pub mod Line
-pub mod Room
+pub mod Filling
+pub mod script
+pub mod world
+pub mod line

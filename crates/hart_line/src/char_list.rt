@@ -11,7 +11,7 @@ pub struct CharList {
 
 impl Model for CharList {
     ghost use Rattle.std.specs.Prelude.{List};
-    ghost use Rattle.hart_frame.specs.Character.{Character};
+    ghost use Rattle.hart_frame.specs.heard.Character.{Character};
 
     ghost Value = { List Character };
 

@@ -1,5 +1,5 @@
 ghost use Rattle.std.specs.Prelude.{◌≡◌, ◌+◌, ◌-◌, ◌^◌, ◌<◌, ◌≤◌, [], ◌∷◌, ◌++◌, IfErr, IfOk, IsOk, OnOk, length, slice_set};
-ghost use Rattle.hart_line.specs.Room.{AreSmall};
+ghost use Rattle.hart_line.specs.Filling.{AreSmall};
 
 use crate::memory::{NoRoom, reserved};
 use std::alloc::Global;
@@ -14,7 +14,7 @@ pub struct Filling<T> {
 
 impl<T> Model for Filling<T> {
     ghost use Rattle.std.specs.Prelude.{◌≤◌, vec_capacity};
-    ghost use Rattle.hart_line.specs.Room.{Filled};
+    ghost use Rattle.hart_line.specs.Filling.{Filled};
 
     ghost Value = { Filled T };
 

@@ -35,7 +35,7 @@ pub use laws::{
     texts_have_one_script, words_have_one_value,
 };
 pub use line::report::{Outcome, Outcomes, Party, Report, Spoken, SpokenList};
-pub use line::runs::run;
+pub use line::run::run;
 pub use memory::{NoRoom, reserved};
 pub use script::items::{LeadingItem, leading_item};
 pub use script::read_script;

@@ -5,16 +5,16 @@ ghost use Rattle.hart_values.specs.declared.master_id.MasterId.{MasterId};
 ghost use Rattle.hart_values.specs.EachMaster.{of_master};
 ghost use Rattle.hart_values.specs.declared.each_master.EachMaster.{EachMaster};
 ghost use Rattle.hart_commands.specs.RequestData.{IsRequest};
-ghost use Rattle.hart_frame.specs.Message.{IsPreambleCount};
-ghost use Rattle.hart_line.specs.Line.Leg.{IsSent, IsUndetectedIn, Returns};
-ghost use Rattle.hart_line.specs.Line.LineRoom.{HasRoomFor, LeavesRoom};
-ghost use Rattle.hart_line.specs.Line.Masters.{AreHeld, AreInTurn, Sends};
-ghost use Rattle.hart_line.specs.Line.LineState.{MarksWithin, Stands, Stepped};
-ghost use Rattle.hart_line.specs.Line.Faults.{HasUndetected};
-ghost use Rattle.hart_line.specs.Line.Promises.{AreWellMade};
-ghost use Rattle.hart_line.specs.Line.Spoken.{SpokenFrame, Speaks, frame_if, master_preambles, party_of, spoken_by};
-ghost use Rattle.hart_line.specs.Line.Step.{submission_fault, submitted};
-ghost use Rattle.hart_line.specs.Line.World.{InHand, Start, World};
+ghost use Rattle.hart_frame.specs.wire.Message.{IsPreambleCount};
+ghost use Rattle.hart_line.specs.line.Leg.{IsSent, IsUndetectedIn, Returns};
+ghost use Rattle.hart_line.specs.line.Room.{HasRoomFor, LeavesRoom};
+ghost use Rattle.hart_line.specs.line.Masters.{AreHeld, AreInTurn, Sends};
+ghost use Rattle.hart_line.specs.line.Line.{Stands, Stepped};
+ghost use Rattle.hart_line.specs.world.Faults.{HasUndetected};
+ghost use Rattle.hart_line.specs.world.Promises.{AreWellMade};
+ghost use Rattle.hart_line.specs.world.Spoken.{SpokenFrame, Speaks, frame_if, master_preambles, party_of, spoken_by};
+ghost use Rattle.hart_line.specs.world.Step.{submission_fault, submitted};
+ghost use Rattle.hart_line.specs.world.World.{InHand, Start, World, MarksWithin};
 ghost use Rattle.hart_line.specs.declared.event.LineEvent.TheVariants.{Noise, Submit, Turn};
 ghost use Rattle.hart_line.specs.declared.line.report.Party.TheVariants as parties;
 
@@ -34,7 +34,7 @@ pub mod leg;
 pub mod masters;
 pub mod report;
 pub mod room;
-pub mod runs;
+pub mod run;
 pub mod undetected;
 
 /// The number of preamble bytes that a master puts before a request.
@@ -54,7 +54,7 @@ pub struct Line<S: RegisterStore> {
 
 impl<S: RegisterStore> Model for Line<S> {
     ghost use Rattle.hart_commands.specs.RequestData.{IsRequest};
-    ghost use Rattle.hart_line.specs.Line.LineState.{LineState};
+    ghost use Rattle.hart_line.specs.line.Line.{LineState};
 
     ghost Value = { LineState };
 

@@ -1,6 +1,6 @@
 //! The one place where memory is asked for.
 ghost use Rattle.std.specs.Prelude.{◌≡◌, ◌<◌, ◌^◌, [], IfErr, IfOk, IsOk, OnOk, vec_capacity};
-ghost use Rattle.hart_line.specs.Room.{AreSmall};
+ghost use Rattle.hart_line.specs.Filling.{AreSmall};
 
 use std::alloc::Global;
 

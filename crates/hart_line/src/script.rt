@@ -1,6 +1,6 @@
 //! Scripts: texts of lines that say events.
 ghost use Rattle.std.specs.Prelude.{IfOk, IfErr};
-ghost use Rattle.hart_line.specs.Script.Rows.{IsScript, IsScriptFault};
+ghost use Rattle.hart_line.specs.script.Rows.{IsScript, IsScriptFault};
 
 use crate::script::lines::{count_lines, without_return};
 use crate::script::rows::read_line;

@@ -3,11 +3,11 @@
 use Rattle.std.specs.Prelude.{◌≡◌, List, [], ◌∷◌, Some}
 use Rattle.hart_values.specs.declared.master_id.MasterId.{MasterId}
 use Rattle.hart_values.specs.declared.address.Address.{Address}
-use Rattle.hart_frame.specs.declared.kind.FrameKind.TheVariants.{Ack}
-use Rattle.hart_frame.specs.declared.found.Found.{Found}
-use Rattle.hart_frame.specs.Character.{Character}
-use Rattle.hart_frame.specs.FrameParts.{FrameParts}
-use Rattle.hart_frame.specs.Frames.{AreFrames}
+use Rattle.hart_frame.specs.declared.wire.kind.FrameKind.TheVariants.{Ack}
+use Rattle.hart_frame.specs.declared.heard.found.Found.{Found}
+use Rattle.hart_frame.specs.heard.Character.{Character}
+use Rattle.hart_frame.specs.wire.FrameParts.{FrameParts}
+use Rattle.hart_frame.specs.heard.Frames.{AreFrames}
 use Rattle.hart_commands.specs.RequestData.{command_of}
 use Rattle.hart_commands.specs.ReplyData.{reply_reading}
 use Rattle.hart_commands.specs.declared.request.Request.{Request}

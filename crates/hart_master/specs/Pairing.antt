@@ -1,6 +1,6 @@
 -- Which requests are sent to which addresses (own profile).
 use Rattle.std.specs.Prelude.{◌==◌, ◌||◌, not, Bool}
-use Rattle.hart_values.specs.AddressBytes.{is_broadcast}
+use Rattle.hart_values.specs.address.AddressBytes.{is_broadcast}
 use Rattle.hart_values.specs.declared.address.Address.{Address}
 use Rattle.hart_values.specs.declared.address.Address.TheVariants.{Polling, Unique}
 use Rattle.hart_commands.specs.RequestData.{command_of}

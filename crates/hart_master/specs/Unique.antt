@@ -6,7 +6,7 @@ use Rattle.hart_commands.specs.declared.content.ReplyContent.{ReplyContent}
 use Rattle.hart_commands.specs.declared.content.ReplyContent.TheVariants.{Identity}
 use Rattle.hart_commands.specs.declared.identity.IdentityContent.{IdentityContent}
 use Rattle.hart_commands.specs.declared.reply.Reply.{Reply}
-use Rattle.hart_values.specs.AddressBytes.{is_broadcast}
+use Rattle.hart_values.specs.address.AddressBytes.{is_broadcast}
 
 -- The address of an identity has the lower 14 bits of the expanded device type and the device id, each with the most significant
 -- byte first.

@@ -2,10 +2,10 @@
 ghost use Rattle.std.specs.Prelude.{◌≡◌, ◌≤◌, ◌⊎◌, ◌∷◌, [], List, slice_index};
 ghost use Rattle.hart_values.specs.declared.master_id.MasterId.{MasterId};
 ghost use Rattle.hart_values.specs.declared.address.Address.{Address};
-ghost use Rattle.hart_frame.specs.Character.{Character};
-ghost use Rattle.hart_frame.specs.FrameParts.{FrameParts};
-ghost use Rattle.hart_frame.specs.Frames.{AreFrames};
-ghost use Rattle.hart_frame.specs.declared.found.Found.{Found};
+ghost use Rattle.hart_frame.specs.heard.Character.{Character};
+ghost use Rattle.hart_frame.specs.wire.FrameParts.{FrameParts};
+ghost use Rattle.hart_frame.specs.heard.Frames.{AreFrames};
+ghost use Rattle.hart_frame.specs.declared.heard.found.Found.{Found};
 ghost use Rattle.hart_commands.specs.declared.reply.Reply.{Reply};
 ghost use Rattle.hart_commands.specs.declared.request.Request.{Request};
 ghost use Rattle.hart_master.specs.Acceptance.{IsAccepted, IsReplyTo};

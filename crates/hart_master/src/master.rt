@@ -1,5 +1,5 @@
 ghost use Rattle.std.specs.Prelude.{◌≡◌, ◌≤◌, ◌<◌, ◌↔◌, ◌+◌, ℕ, IsTrue, IsOk, IsSome, IfOk, IfErr, IfSome, None};
-ghost use Rattle.hart_frame.specs.FrameParts.{request_parts};
+ghost use Rattle.hart_frame.specs.wire.FrameParts.{request_parts};
 ghost use Rattle.hart_commands.specs.RequestData.{command_of, request_data};
 ghost use Rattle.hart_commands.specs.declared.reply.Reply.{Reply};
 ghost use Rattle.hart_master.specs.declared.hand.Hand.TheVariants as hands;

@@ -1,6 +1,5 @@
-pub mod DeviceNumbers
-pub mod AddressBytes
-pub mod Packing
-pub mod Calendar
-pub mod StatusBytes
+pub mod address
+pub mod packed_text
+pub mod hart_date
+pub mod status
 pub mod EachMaster

@@ -1,7 +1,11 @@
 ghost use Rattle.std.specs.Prelude.{◌≡◌, ◌<◌, ◌%◌, ◌^◌, ◌↔◌, ◌⊎◌, length, Bool, Some, IsTrue, IsOk, IsSome, IfOk, IfErr, IfSome};
 
-use crate::first_byte::{join_first_byte, split_first_byte};
+use crate::address::first_byte::{join_first_byte, split_first_byte};
 use crate::{ByteList, MasterId, PollingAddress, UniqueAddress, ValueFault};
+
+pub mod first_byte;
+pub mod polling_address;
+pub mod unique_address;
 
 /// The bytes of an address in a message: one or five.
 pub type AddressBytes = ByteList<5>;
@@ -16,7 +20,7 @@ pub enum Address {
 }
 
 impl Address {
-    ghost use Rattle.hart_values.specs.AddressBytes.{IsAddressBytes, broadcast, is_broadcast};
+    ghost use Rattle.hart_values.specs.address.AddressBytes.{IsAddressBytes, broadcast, is_broadcast};
 
     /// The address with this polling address.
     ///

@@ -1,9 +1,11 @@
 ghost use Rattle.std.specs.Prelude.{◌≡◌, ◌≢◌, ◌↔◌, IsOk, IfOk, IfErr, MatchBool};
-ghost use Rattle.hart_values.specs.Calendar.{IsDateBytes, not_set};
+ghost use Rattle.hart_values.specs.hart_date.Calendar.{IsDateBytes, not_set};
 
 use crate::ValueFault;
-use crate::calendar::is_calendar_day;
+use crate::hart_date::calendar::is_calendar_day;
 use std::marker::Model;
+
+mod calendar;
 
 /// The bytes of the date that is not set.
 const NOT_SET: [u8; 3] = [0; 3];
@@ -18,7 +20,7 @@ pub struct HartDate {
 
 impl Model for HartDate {
     ghost use Rattle.std.specs.Prelude.{List, ℕ};
-    ghost use Rattle.hart_values.specs.Calendar.{IsDateBytes};
+    ghost use Rattle.hart_values.specs.hart_date.Calendar.{IsDateBytes};
 
     ghost Value = { List ℕ };
 

@@ -1,8 +1,8 @@
 //! Laws over the definitions alone, for the crates above.
 ghost use Rattle.std.specs.Prelude.{◌≡◌, ◌↔◌, Bool, true, false, List, ℕ};
-ghost use Rattle.hart_values.specs.AddressBytes.{IsAddressBytes};
-ghost use Rattle.hart_values.specs.Calendar.{IsDateBytes, is_date};
-ghost use Rattle.hart_values.specs.Packing.{IsPacked};
+ghost use Rattle.hart_values.specs.address.AddressBytes.{IsAddressBytes};
+ghost use Rattle.hart_values.specs.hart_date.Calendar.{IsDateBytes, is_date};
+ghost use Rattle.hart_values.specs.packed_text.Packing.{IsPacked};
 ghost use Rattle.hart_values.specs.declared.master_id.MasterId.{MasterId};
 ghost use Rattle.hart_values.specs.declared.address.Address.{Address};
 

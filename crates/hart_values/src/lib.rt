@@ -23,28 +23,20 @@
 mod address;
 mod bits32;
 mod byte_list;
-mod calendar;
-mod comm_faults;
-mod device_status;
 mod each_master;
 mod fault;
-mod first_byte;
 mod hart_date;
 mod laws;
 mod loop_mode;
 mod master_id;
 mod packed_text;
-mod packing;
-mod polling_address;
-mod response_code;
 mod status;
-mod unique_address;
 
+pub use address::polling_address::PollingAddress;
+pub use address::unique_address::UniqueAddress;
 pub use address::{Address, AddressBytes};
 pub use bits32::Bits32;
 pub use byte_list::{ByteList, Payload};
-pub use comm_faults::CommFaults;
-pub use device_status::DeviceStatus;
 pub use each_master::EachMaster;
 pub use fault::ValueFault;
 pub use hart_date::HartDate;
@@ -54,10 +46,10 @@ pub use laws::{
 pub use loop_mode::LoopMode;
 pub use master_id::MasterId;
 pub use packed_text::PackedText;
-pub use polling_address::PollingAddress;
-pub use response_code::ResponseCode;
 pub use status::Status;
-pub use unique_address::UniqueAddress;
+pub use status::comm_faults::CommFaults;
+pub use status::device_status::DeviceStatus;
+pub use status::response_code::ResponseCode;
 
 #[cfg(test)]
 mod tests;

@@ -1,9 +1,11 @@
 ghost use Rattle.std.specs.Prelude.{◌≡◌, ◌*◌, ◌/◌, ◌↔◌, length, All, IsOk, IfOk, IfErr, OnOk, OnErr};
-ghost use Rattle.hart_values.specs.Packing.{IsCharacter, IsPacked, IsPackedSize, IsTextFault};
+ghost use Rattle.hart_values.specs.packed_text.Packing.{IsCharacter, IsPacked, IsPackedSize, IsTextFault};
 
 use crate::ValueFault;
-use crate::packing::{first_bad_character, pack, unpack};
+use crate::packed_text::packing::{first_bad_character, pack, unpack};
 use std::marker::Model;
+
+mod packing;
 
 /// A text of 8, 16 or 32 characters, four for each three of its `N` bytes (HCF_SPEC-127).
 ///
@@ -15,7 +17,7 @@ pub struct PackedText<const N: usize> {
 
 impl<const N: usize> Model for PackedText<N> {
     ghost use Rattle.std.specs.Prelude.{◌≡◌, List, ℕ, length};
-    ghost use Rattle.hart_values.specs.Packing.{IsPackedSize};
+    ghost use Rattle.hart_values.specs.packed_text.Packing.{IsPackedSize};
 
     ghost Value = { List ℕ };
 

@@ -2,6 +2,10 @@ ghost use Rattle.std.specs.Prelude.{◌≡◌, ℕ, slice_index};
 
 use crate::{CommFaults, DeviceStatus, ResponseCode};
 
+pub mod comm_faults;
+pub mod device_status;
+pub mod response_code;
+
 /// The bit of the first status byte that distinguishes communication faults from a response code.
 const FAULTS_BIT: u8 = 0x80;
 
@@ -15,7 +19,7 @@ pub enum Status {
 }
 
 impl Status {
-    ghost use Rattle.hart_values.specs.StatusBytes.{IsStatusBytes};
+    ghost use Rattle.hart_values.specs.status.StatusBytes.{IsStatusBytes};
 
     /// The status that two bytes hold.
     pub fn read(bytes: [u8; 2]) -> Self

@@ -1,4 +1,4 @@
-ghost use Rattle.hart_frame.specs.Message.{IsPreambleCount};
+ghost use Rattle.hart_frame.specs.wire.Message.{IsPreambleCount};
 
 use super::*;
 use crate::stream::fakes::Trickle;

@@ -3,9 +3,9 @@
 ghost use Rattle.std.specs.Prelude.{◌≡◌, ◌∷◌, [], ℕ, IfErr, IfOk, List, None, Some, codes, false, map, string_bytes};
 ghost use Rattle.clap.specs.Words.{HasKind, app_of, fault_of, first_of, found_of, new_app, new_rule, rows_of, rule_of, subcommand_rows_of};
 ghost use Rattle.clap.specs.Words.{with_rule, with_subcommand};
-ghost use Rattle.hart_line.specs.Script.Words.{Finds};
-ghost use Rattle.hart_cli.specs.CommandLine.{Calls, GivesCall, GivesWords, encode_app, hart_app, image_app, image_rule};
-ghost use Rattle.hart_cli.specs.CommandLine.{encode_with_required_words, hart_alone, preambles_rule, reading_app, required_rule};
+ghost use Rattle.hart_line.specs.script.Words.{Finds};
+ghost use Rattle.hart_cli.specs.program.CommandLine.{Calls, GivesCall, GivesWords, encode_app, hart_app, image_app, image_rule};
+ghost use Rattle.hart_cli.specs.program.CommandLine.{encode_with_required_words, hart_alone, preambles_rule, reading_app, required_rule};
 ghost use Rattle.hart_cli.specs.declared.program.command_line.Call.{Call};
 ghost use Rattle.hart_cli.specs.declared.program.command_line.Call.TheVariants.{Answer, Dump, Encode, Sim};
 

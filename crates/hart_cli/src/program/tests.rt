@@ -1,8 +1,8 @@
 //! `program` over streams that are kept in memory.
 
 use super::{DONE, FAULT, NO_CALL, program};
-use crate::plain::Plain;
 use crate::stream::fakes::{After, Tape, Trickle};
+use crate::stream::plain::Plain;
 use crate::stream::{Sink, Source};
 use std::alloc::{AllocError, Global};
 use std::process::Abort;

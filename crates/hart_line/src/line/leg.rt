@@ -1,10 +1,10 @@
 //! What arrives in a leg of the line, and what the device answers.
 ghost use Rattle.std.specs.Prelude.{◌≡◌, ◌↔◌, IfErr, IfOk, IsTrue, Option, Some};
 ghost use Rattle.std.specs.Option.{option_copied};
-ghost use Rattle.hart_line.specs.Line.Damage.{Arrives, IsUndetected};
-ghost use Rattle.hart_device.specs.Answer.{answer_of, state_after};
-ghost use Rattle.hart_line.specs.Line.Leg.{AnswersAmong, AnswersIn, ArrivesAmong, IsSent, IsUndetectedAmong};
-ghost use Rattle.hart_line.specs.Line.Spoken.{SpokenFrame, frame_if};
+ghost use Rattle.hart_line.specs.world.Damage.{Arrives, IsUndetected};
+ghost use Rattle.hart_device.specs.answer.Answer.{answer_of, state_after};
+ghost use Rattle.hart_line.specs.line.Leg.{AnswersAmong, AnswersIn, ArrivesAmong, IsSent, IsUndetectedAmong};
+ghost use Rattle.hart_line.specs.world.Spoken.{SpokenFrame, frame_if};
 ghost use Rattle.hart_line.specs.declared.fault.Leg.TheVariants.{Up};
 
 use crate::line::undetected::Undetected;

@@ -5,10 +5,10 @@ ghost use Rattle.hart_values.specs.declared.master_id.MasterId.{MasterId};
 ghost use Rattle.hart_values.specs.declared.each_master.EachMaster.{EachMaster};
 ghost use Rattle.hart_values.specs.EachMaster.{of_master, with_master};
 ghost use Rattle.hart_commands.specs.RequestData.{IsRequest};
-ghost use Rattle.hart_line.specs.Line.Masters.{AreHeld, AreInTurn, Awaits, Concludes, Hears, Holds, Sends, Submits};
-ghost use Rattle.hart_line.specs.Line.Spoken.{frame_if};
-ghost use Rattle.hart_line.specs.Line.Step.{hand_left, outcome_of, submission_fault};
-ghost use Rattle.hart_line.specs.Line.World.{InHand};
+ghost use Rattle.hart_line.specs.line.Masters.{AreHeld, AreInTurn, Awaits, Concludes, Hears, Holds, Sends, Submits};
+ghost use Rattle.hart_line.specs.world.Spoken.{frame_if};
+ghost use Rattle.hart_line.specs.world.Step.{hand_left, outcome_of, submission_fault};
+ghost use Rattle.hart_line.specs.world.World.{InHand};
 
 use crate::{Filling, Outcome};
 use hart_commands::Request;

@@ -1,6 +1,6 @@
 ghost use Rattle.std.specs.Prelude.{◌≡◌, ◌+◌, ◌<◌, ◌≤◌, length};
 ghost use Rattle.std.specs.Option.{option_copied};
-ghost use Rattle.hart_line.specs.Line.Spoken.{Speaks, spoken_by};
+ghost use Rattle.hart_line.specs.world.Spoken.{Speaks, spoken_by};
 
 use crate::Filling;
 use hart_commands::Reply;

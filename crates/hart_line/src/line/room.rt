@@ -1,6 +1,6 @@
 //! The room that a script needs.
 ghost use Rattle.std.specs.Prelude.{◌≡◌, ◌≤◌, ◌*◌, [], IfErr, IfOk, count_by, length};
-ghost use Rattle.hart_line.specs.Line.Needs.{IsNeededBy, is_noise, is_submission, is_turn, most_spoken};
+ghost use Rattle.hart_line.specs.world.Needs.{IsNeededBy, is_noise, is_submission, is_turn, most_spoken};
 
 use crate::{Filling, LineEvent, NoRoom, Outcome, Spoken};
 use std::alloc::Global;

@@ -1,7 +1,7 @@
 //! Hex items, each of which gives a received character.
 ghost use Rattle.std.specs.Prelude.{◌≡◌, ◌↔◌, [], ◌∷◌, IsTrue, MatchOption, slice_index};
-ghost use Rattle.hart_line.specs.Script.Items.{AreDigits, BeginsAsItem, byte_of, IsItemsWord, NoItemBegins};
-ghost use Rattle.hart_line.specs.Script.Rows.{ReadsWords};
+ghost use Rattle.hart_line.specs.script.Items.{AreDigits, BeginsAsItem, byte_of, IsItemsWord, NoItemBegins};
+ghost use Rattle.hart_line.specs.script.Rows.{ReadsWords};
 
 use crate::script::rows::RowFault;
 use crate::{CharList, Filling};

@@ -2,7 +2,7 @@
 ghost use Rattle.std.specs.Prelude.{◌≡◌, ◌≢◌, ◌≤◌, ◌==◌, [], ◌∷◌, count_by, length, not, MatchOption};
 ghost use Rattle.std.specs.List.{position_or_len};
 ghost use Rattle.std.specs.Str.Lines.{strip_carriage_return};
-ghost use Rattle.hart_line.specs.Script.Lines.{is_blank, lines_of, words_of};
+ghost use Rattle.hart_line.specs.script.Lines.{is_blank, lines_of, words_of};
 
 /// The number of lines of a text.
 pub fn count_lines(text: &[u8]) -> usize

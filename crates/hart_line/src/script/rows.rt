@@ -1,8 +1,8 @@
 //! The rows of the table of events, and the line that says none.
 ghost use Rattle.std.specs.Prelude.{◌≡◌, ◌≢◌, ◌<◌, [], ◌∷◌, codes, length, MatchOption};
-ghost use Rattle.hart_line.specs.Script.Lines.{words_of};
-ghost use Rattle.hart_line.specs.Script.Rows.{AreDataWords, AreRequestWords, IsEvent, IsLeg, ReadsWords, SaysLine, fault_at_line};
-ghost use Rattle.hart_line.specs.Script.Words.{Finds};
+ghost use Rattle.hart_line.specs.script.Lines.{words_of};
+ghost use Rattle.hart_line.specs.script.Rows.{AreDataWords, AreRequestWords, IsEvent, IsLeg, ReadsWords, SaysLine, fault_at_line};
+ghost use Rattle.hart_line.specs.script.Words.{Finds};
 
 use crate::script::items::read_items;
 use crate::script::lines::{next_word, only_word};

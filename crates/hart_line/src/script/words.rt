@@ -1,7 +1,7 @@
 //! The words of messages to send.
 
-ghost use Rattle.hart_line.specs.Script.Words.{Finds, IsAddressWord, IsCommandWord, IsDataWord, IsWho};
-ghost use Rattle.hart_line.specs.Script.Words.{IsDecimal, IsDeviceWord, IsPollingWord};
+ghost use Rattle.hart_line.specs.script.Words.{Finds, IsAddressWord, IsCommandWord, IsDataWord, IsWho};
+ghost use Rattle.hart_line.specs.script.Words.{IsDecimal, IsDeviceWord, IsPollingWord};
 
 use hart_frame::Payload;
 use hart_values::{Address, MasterId, PollingAddress, UniqueAddress};

@@ -1,5 +1,5 @@
 use Rattle.std.proofs.Common.{None, Some}
-use Rattle.hart_cli.proofs.AnswerLemmas.{IsTextFor-heard}
+use Rattle.hart_cli.proofs.lemmas.Answer.{IsTextFor-heard}
 use Rattle.hart_cli.proofs.answer.answer_line.Goals as goal
 
 pub returns-in-Some : goal.returns-in-Some

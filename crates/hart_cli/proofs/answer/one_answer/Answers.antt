@@ -1,4 +1,4 @@
-use Rattle.hart_cli.proofs.AnswerLemmas.{IsAnswer-one}
+use Rattle.hart_cli.proofs.lemmas.Answer.{IsAnswer-one}
 use Rattle.hart_cli.proofs.answer.one_answer.Goals as goal
 
 pub returns : goal.returns

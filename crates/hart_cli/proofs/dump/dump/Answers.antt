@@ -1,6 +1,6 @@
 use Rattle.hart_cli.specs.declared.fault.CliFault.TheVariants.{Write}
-use Rattle.hart_cli.proofs.AnswerLemmas.{made_of}
-use Rattle.hart_cli.proofs.DumpLemmas.{dump_ends, dump_ends_with, dump_stops, dump_stops_at_end}
+use Rattle.hart_cli.proofs.lemmas.Answer.{made_of}
+use Rattle.hart_cli.proofs.lemmas.dump.Dump.{dump_ends, dump_ends_with, dump_stops, dump_stops_at_end}
 use Rattle.hart_cli.proofs.dump.dump.Goals as goal
 
 pub returns-in_err-fault : goal.returns-in_err-fault

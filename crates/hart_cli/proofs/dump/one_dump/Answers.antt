@@ -1,4 +1,4 @@
-use Rattle.hart_cli.proofs.DumpLemmas.{IsDump-one}
+use Rattle.hart_cli.proofs.lemmas.dump.Dump.{IsDump-one}
 use Rattle.hart_cli.proofs.dump.one_dump.Goals as goal
 
 pub returns : goal.returns

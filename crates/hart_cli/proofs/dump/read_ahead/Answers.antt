@@ -1,6 +1,6 @@
 use Rattle.std.proofs.Common.{◌∙◌, arith}
 use Rattle.std.proofs.lemmas.List.{length-take-le}
-use Rattle.hart_cli.proofs.InputLemmas.{not_ended}
+use Rattle.hart_cli.proofs.lemmas.Input.{not_ended}
 use Rattle.hart_cli.proofs.dump.read_ahead.Goals as goal
 
 pub returns-else-eq-clause-reads : goal.returns-else-eq-clause-reads

@@ -1,16 +1,16 @@
 use Rattle.std.proofs.Common.{◌≡◌, ◌+◌, ◌++◌, ◌-◌, List, ℕ, [], Option, take, drop, length, refl, sym, ap, ◌∙◌, subst, arith}
 use Rattle.std.proofs.lemmas.List.{take_rest}
 use Rattle.std.proofs.KnownBytes.{Appends-nil, Consumes-nil}
-use Rattle.hart_frame.specs.Scanner.{Scan}
-use Rattle.hart_frame.specs.Streamed.{IsHistory, begin}
+use Rattle.hart_frame.specs.scan.Scanner.{Scan}
+use Rattle.hart_frame.specs.scan.Streamed.{IsHistory, begin}
 use Rattle.hart_cli.specs.declared.input.InputEnd.{InputEnd}
-use Rattle.hart_cli.specs.Dump.{ended_text}
-use Rattle.hart_cli.specs.Input.{ending_of}
-use Rattle.hart_cli.specs.Items.{ReadsUpTo, nothing}
-use Rattle.hart_cli.proofs.InTimeLemmas.{in_time_at_first}
-use Rattle.hart_cli.proofs.InputCharsLemmas.{may_begin-nil}
-use Rattle.hart_cli.proofs.ItemsLemmas.{NoPieceBegins-nil, ReadsUpTo-few}
-use Rattle.hart_cli.proofs.ScanInputLemmas.{IsDue, input_stops, reads_on, scanned_step, stopped, stopped_before, stopped_within}
+use Rattle.hart_cli.specs.dump.Dump.{ended_text}
+use Rattle.hart_cli.specs.input.Input.{ending_of}
+use Rattle.hart_cli.specs.text.Items.{ReadsUpTo, nothing}
+use Rattle.hart_cli.proofs.lemmas.dump.InTime.{in_time_at_first}
+use Rattle.hart_cli.proofs.lemmas.text.InputChars.{may_begin-nil}
+use Rattle.hart_cli.proofs.lemmas.text.Items.{NoPieceBegins-nil, ReadsUpTo-few}
+use Rattle.hart_cli.proofs.lemmas.dump.ScanInput.{IsDue, input_stops, reads_on, scanned_step, stopped, stopped_before, stopped_within}
 use Rattle.hart_cli.proofs.dump.scan_input.Goals as goal
 
 pub loop-ahead-init : goal.loop-ahead-init

@@ -1,9 +1,9 @@
 use Rattle.std.proofs.Common.{◌≡◌, ◌≤◌, ◌+◌, ◌-◌, List, [], ℕ, false, IsTrue, length}
-use Rattle.hart_frame.specs.Character.{Character}
-use Rattle.hart_cli.specs.Dump.{WroteInTime}
-use Rattle.hart_cli.specs.FrameLines.{WritesSoFar}
-use Rattle.hart_cli.specs.Input.{ReadsWell, input_limit}
-use Rattle.hart_cli.specs.Items.{MayBegin, NoPieceBegins, ReadsUpTo}
+use Rattle.hart_frame.specs.heard.Character.{Character}
+use Rattle.hart_cli.specs.dump.Dump.{WroteInTime}
+use Rattle.hart_cli.specs.dump.FrameLines.{WritesSoFar}
+use Rattle.hart_cli.specs.input.Input.{ReadsWell, input_limit}
+use Rattle.hart_cli.specs.text.Items.{MayBegin, NoPieceBegins, ReadsUpTo}
 use Rattle.hart_cli.specs.declared.input.TheConstants.{PORTION_LEN}
 use Rattle.hart_cli.proofs.dump.scan_input.Given as goal
 

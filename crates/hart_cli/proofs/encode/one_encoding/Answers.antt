@@ -1,4 +1,4 @@
-use Rattle.hart_cli.proofs.EncodeLemmas.{IsEncoding-one}
+use Rattle.hart_cli.proofs.lemmas.Encode.{IsEncoding-one}
 use Rattle.hart_cli.proofs.encode.one_encoding.Goals as goal
 
 pub returns : goal.returns

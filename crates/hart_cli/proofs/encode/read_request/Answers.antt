@@ -1,4 +1,4 @@
-use Rattle.hart_cli.specs.Encode.IsFirstBad.{bad_who, bad_address, bad_command, bad_data}
+use Rattle.hart_cli.specs.encode.Encode.IsFirstBad.{bad_who, bad_address, bad_command, bad_data}
 use Rattle.hart_cli.proofs.encode.read_request.Goals as goal
 
 pub returns-in_default : goal.returns-in_default

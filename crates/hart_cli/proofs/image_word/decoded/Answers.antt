@@ -1,7 +1,7 @@
 use Rattle.std.proofs.Common.{Err, ◌/◌, ◌∙◌, ap, inl, length, ℕ, List}
 use Rattle.std.proofs.lemmas.List.{length-replicate}
 use Rattle.hex.specs.declared.error.FromHexError.{FromHexError}
-use Rattle.hart_cli.proofs.ImageWordLemmas.{bad_hex_given, fails_no_other_way}
+use Rattle.hart_cli.proofs.lemmas.ImageWord.{bad_hex_given, fails_no_other_way}
 use Rattle.hart_cli.proofs.image_word.decoded.Goals as goal
 
 pub returns-in-Err-InvalidHexCharacter-clause-fault : goal.returns-in-Err-InvalidHexCharacter-clause-fault

@@ -1,4 +1,4 @@
-use Rattle.hart_cli.proofs.ImageWordLemmas.{HasImageFault-one, IsDeviceOf-faultless, IsDeviceOf-one}
+use Rattle.hart_cli.proofs.lemmas.ImageWord.{HasImageFault-one, IsDeviceOf-faultless, IsDeviceOf-one}
 use Rattle.hart_cli.proofs.image_word.one_device.Goals as goal
 
 pub returns-clause-one : goal.returns-clause-one

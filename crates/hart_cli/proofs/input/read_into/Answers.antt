@@ -1,7 +1,7 @@
 use Rattle.std.proofs.Common.{◌-◌, ℕ, List, ap, sym, subst, arith}
-use Rattle.hart_line.specs.Room.{Filled}
-use Rattle.hart_cli.specs.Input.{Reads, input_limit}
-use Rattle.hart_cli.proofs.InputLemmas.{portion_last}
+use Rattle.hart_line.specs.Filling.{Filled}
+use Rattle.hart_cli.specs.input.Input.{Reads, input_limit}
+use Rattle.hart_cli.proofs.lemmas.Input.{portion_last}
 use Rattle.hart_cli.proofs.input.read_into.Goals as goal
 
 pub returns-in-Some-clause-reads : goal.returns-in-Some-clause-reads

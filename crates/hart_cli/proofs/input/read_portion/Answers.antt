@@ -1,7 +1,7 @@
 use Rattle.std.proofs.Common.{◌≡◌, ◌≤◌, ◌+◌, ℕ, suc, List, [], ◌∷◌, ◌++◌, length, take, drop, get_or, sym, ap, ◌∙◌, subst, arith, take-suc}
 use Rattle.std.proofs.lemmas.List.{length-append, length-take-le, take-append-le}
-use Rattle.hart_cli.specs.Input.{ReadsBeyond, ReadsWell}
-use Rattle.hart_cli.specs.Stream.{Stream}
+use Rattle.hart_cli.specs.input.Input.{ReadsBeyond, ReadsWell}
+use Rattle.hart_cli.specs.stream.Stream.{Stream}
 use Rattle.hart_cli.proofs.input.read_portion.Goals as goal
 
 -- a read that went past the room

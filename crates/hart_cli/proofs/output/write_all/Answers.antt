@@ -1,5 +1,5 @@
 use Rattle.std.proofs.Common.{refl, ◌∙◌}
-use Rattle.hart_cli.proofs.KnownBytesLemmas.{AppendsUpTo-more}
+use Rattle.hart_cli.proofs.lemmas.text.KnownBytes.{AppendsUpTo-more}
 use Rattle.hart_cli.proofs.output.write_all.Goals as goal
 
 pub loop-rest-preserved : goal.loop-rest-preserved

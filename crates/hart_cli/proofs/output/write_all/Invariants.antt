@@ -1,5 +1,5 @@
 use Rattle.std.proofs.Common.{◌≡◌, length}
-use Rattle.hart_cli.proofs.KnownBytesLemmas.{AppendsUpTo}
+use Rattle.hart_cli.proofs.lemmas.text.KnownBytes.{AppendsUpTo}
 use Rattle.hart_cli.proofs.output.write_all.Given as goal
 
 abbrev pub invariant-loop-rest : goal.invariant-loop-rest

@@ -1,4 +1,4 @@
-use Rattle.hart_cli.proofs.SimLemmas.{HasLineFault-one, IsSimulation-faultless, IsSimulation-one}
+use Rattle.hart_cli.proofs.lemmas.sim.Sim.{HasLineFault-one, IsSimulation-faultless, IsSimulation-one}
 use Rattle.hart_cli.proofs.sim.one_simulation.Goals as goal
 
 pub returns-clause-one_text : goal.returns-clause-one_text

@@ -1,5 +1,5 @@
-use Rattle.hart_cli.proofs.AnswerLemmas.{made_of}
-use Rattle.hart_cli.proofs.SimLemmas.{given_of_input}
+use Rattle.hart_cli.proofs.lemmas.Answer.{made_of}
+use Rattle.hart_cli.proofs.lemmas.sim.Sim.{given_of_input}
 use Rattle.hart_cli.proofs.sim.simulate_with.Goals as goal
 
 pub returns-in_err-text : goal.returns-in_err-text

@@ -1,7 +1,7 @@
 use Rattle.std.proofs.Common.{ap}
 use Rattle.std.proofs.lemmas.Result.{err_from_is_err_and}
 use Rattle.hart_master.specs.Master.{MasterState}
-use Rattle.hart_cli.proofs.SimLemmas.{IsSimulation-run, IsSimulationFault-run, same_start}
+use Rattle.hart_cli.proofs.lemmas.sim.Sim.{IsSimulation-run, IsSimulationFault-run, same_start}
 use Rattle.hart_cli.proofs.sim.simulation.Goals as goal
 
 pub returns-in_err-report-clause-fault : goal.returns-in_err-report-clause-fault

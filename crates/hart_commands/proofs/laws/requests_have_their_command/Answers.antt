@@ -1,4 +1,4 @@
-use Rattle.hart_commands.proofs.RequestMade.{read-asked}
+use Rattle.hart_commands.proofs.lemmas.RequestMade.{read-asked}
 use Rattle.hart_commands.proofs.laws.requests_have_their_command.Goals as goal
 
 pub returns : goal.returns

@@ -1,4 +1,4 @@
-use Rattle.hart_commands.proofs.RequestLemmas.{written_is_read}
+use Rattle.hart_commands.proofs.lemmas.Request.{written_is_read}
 use Rattle.hart_commands.proofs.laws.written_data_are_read_again.Goals as goal
 
 pub returns : goal.returns

@@ -1,5 +1,5 @@
-use Rattle.hart_commands.proofs.ReplyLemmas.{written_is_read}
-use Rattle.hart_commands.proofs.WellMade.{read-to_command}
+use Rattle.hart_commands.proofs.lemmas.Reply.{written_is_read}
+use Rattle.hart_commands.proofs.lemmas.WellMade.{read-to_command}
 use Rattle.hart_commands.proofs.laws.written_payloads_are_read_again.Goals as goal
 
 pub returns-clause-again : goal.returns-clause-again

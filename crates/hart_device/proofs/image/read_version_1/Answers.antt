@@ -3,10 +3,10 @@ use borrow.Rule.Slice.PartMut.{put_mid}
 use Rattle.std.proofs.lemmas.Grind.{common_steps}
 use Rattle.hart_commands.specs.declared.register.Register.{Register}
 use Rattle.hart_commands.specs.declared.register.Register.TheVariants.{LongTag}
-use Rattle.hart_device.specs.Image.{registers_of_version_1}
-use Rattle.hart_device.specs.Ranges.{standing_for}
-use Rattle.hart_device.proofs.ImageLemmas.{bad_field, listed_differs, read_is}
-use Rattle.hart_device.proofs.ReadLemmas.{holds_prefix, kept_or, refused_or, stands_before}
+use Rattle.hart_device.specs.image.Image.{registers_of_version_1}
+use Rattle.hart_device.specs.registers.Ranges.{standing_for}
+use Rattle.hart_device.proofs.lemmas.image.Image.{bad_field, listed_differs, read_is}
+use Rattle.hart_device.proofs.lemmas.image.Read.{holds_prefix, kept_or, refused_or, stands_before}
 use Rattle.hart_device.proofs.image.read_version_1.Goals as goal
 
 pub returns-then-rest-clause-refused : goal.returns-then-rest-clause-refused

@@ -2,9 +2,9 @@ use Rattle.std.proofs.Common.{refl, ◌∙◌, ◌≡◌, length, arith}
 use Rattle.std.proofs.lemmas.Grind.{common_steps}
 use Rattle.hart_commands.specs.Registers.{registers}
 use Rattle.hart_commands.specs.declared.register.Register.TheVariants.{LongTag}
-use Rattle.hart_device.specs.Ranges.{array_length}
-use Rattle.hart_device.proofs.ImageLemmas.{bad_field, before_others, read_is}
-use Rattle.hart_device.proofs.ReadLemmas.{kept_or, refused_or}
+use Rattle.hart_device.specs.registers.Ranges.{array_length}
+use Rattle.hart_device.proofs.lemmas.image.Image.{bad_field, before_others, read_is}
+use Rattle.hart_device.proofs.lemmas.image.Read.{kept_or, refused_or}
 use Rattle.hart_device.proofs.image.read_version_2.Goals as goal
 
 pub returns-then-rest-clause-refused : goal.returns-then-rest-clause-refused

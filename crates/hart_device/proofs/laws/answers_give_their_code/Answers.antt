@@ -1,5 +1,5 @@
-use Rattle.hart_device.specs.Answer.{is_answered, reply_of}
-use Rattle.hart_device.proofs.EffectLemmas.{answered_if, none_if}
+use Rattle.hart_device.specs.answer.Answer.{is_answered, reply_of}
+use Rattle.hart_device.proofs.lemmas.answer.Effect.{answered_if, none_if}
 use Rattle.hart_device.proofs.laws.answers_give_their_code.Goals as goal
 
 pub returns-clause-answered : goal.returns-clause-answered

@@ -1,4 +1,4 @@
-use Rattle.hart_device.proofs.DeliveryLemmas.{Brings-found, Brings-one}
+use Rattle.hart_device.proofs.lemmas.answer.Delivery.{Brings-found, Brings-one}
 use Rattle.hart_device.proofs.laws.deliveries_bring_one.Goals as goal
 
 pub returns : goal.returns

@@ -1,5 +1,5 @@
-use Rattle.hart_device.specs.Answer.{effect_of, is_answered}
-use Rattle.hart_device.proofs.EffectLemmas.{identity_stays, protection_stays}
+use Rattle.hart_device.specs.answer.Answer.{effect_of, is_answered}
+use Rattle.hart_device.proofs.lemmas.answer.Effect.{identity_stays, protection_stays}
 use Rattle.hart_device.proofs.laws.frames_leave_identity_and_protection.Goals as goal
 
 pub returns-clause-identity : goal.returns-clause-identity

@@ -1,5 +1,5 @@
-use Rattle.hart_device.proofs.GarbledFound.{garbled_decided}
-use Rattle.hart_device.proofs.GarbledLemmas.{HasGarbled-one}
+use Rattle.hart_device.proofs.lemmas.answer.GarbledFound.{garbled_decided}
+use Rattle.hart_device.proofs.lemmas.answer.Garbled.{HasGarbled-one}
 use Rattle.hart_device.proofs.laws.garbled_requests_are_decided.Goals as goal
 
 pub returns : goal.returns

@@ -1,4 +1,4 @@
-use Rattle.hart_device.proofs.ImageLemmas.{no_fault}
+use Rattle.hart_device.proofs.lemmas.image.Image.{no_fault}
 use Rattle.hart_device.proofs.laws.images_have_no_fault.Goals as goal
 
 pub returns : goal.returns

@@ -1,6 +1,6 @@
 use Rattle.std.proofs.Common.{◌≡◌, Option, None, Some, refl, ap, ◌∙◌, sym, unwrap_or}
 use Rattle.hart_commands.specs.Registers.{bytes_in, named_in, overwritten}
-use Rattle.hart_device.proofs.RegistersLemmas.{same_bytes, bytes_in-overwritten}
+use Rattle.hart_device.proofs.lemmas.registers.Registers.{same_bytes, bytes_in-overwritten}
 use Rattle.hart_device.proofs.laws.overwrites_absorb.Goals as goal
 
 absorbs : {A : Type 0} (a b : Option A) (d : A) → unwrap_or a (unwrap_or b (unwrap_or a d)) ≡ unwrap_or a (unwrap_or b d)

@@ -1,6 +1,6 @@
-use Rattle.hart_device.specs.Answer.{asked_effect, code_of, effect_of, is_answered, reading_of}
-use Rattle.hart_device.proofs.ColdStartLemmas.{stays, without_effect}
-use Rattle.hart_device.proofs.EffectLemmas.{refused}
+use Rattle.hart_device.specs.answer.Answer.{asked_effect, code_of, effect_of, is_answered, reading_of}
+use Rattle.hart_device.proofs.lemmas.answer.ColdStart.{stays, without_effect}
+use Rattle.hart_device.proofs.lemmas.answer.Effect.{refused}
 use Rattle.hart_device.proofs.laws.refused_commands_change_nothing.Goals as goal
 
 pub returns-clause-refused : goal.returns-clause-refused

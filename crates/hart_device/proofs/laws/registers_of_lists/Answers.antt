@@ -1,4 +1,4 @@
-use Rattle.hart_device.proofs.RegistersLemmas.{registers_of-cons, registers_of-append, registers_of-again, bytes_in-registers_of}
+use Rattle.hart_device.proofs.lemmas.registers.Registers.{registers_of-cons, registers_of-append, registers_of-again, bytes_in-registers_of}
 use Rattle.hart_device.proofs.laws.registers_of_lists.Goals as goal
 
 pub returns-clause-first : goal.returns-clause-first

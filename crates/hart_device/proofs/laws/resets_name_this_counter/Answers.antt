@@ -1,4 +1,4 @@
-use Rattle.hart_device.proofs.EffectLemmas.{resets_only}
+use Rattle.hart_device.proofs.lemmas.answer.Effect.{resets_only}
 use Rattle.hart_device.proofs.laws.resets_name_this_counter.Goals as goal
 
 pub returns-clause-only : goal.returns-clause-only

@@ -1,5 +1,5 @@
-use Rattle.hart_device.specs.Answer.{code_of, is_answered, reading_of}
-use Rattle.hart_device.proofs.EffectLemmas.{effect_executes_only}
+use Rattle.hart_device.specs.answer.Answer.{code_of, is_answered, reading_of}
+use Rattle.hart_device.proofs.lemmas.answer.Effect.{effect_executes_only}
 use Rattle.hart_device.proofs.laws.writes_execute_their_overwrite.Goals as goal
 
 pub returns-clause-only : goal.returns-clause-only

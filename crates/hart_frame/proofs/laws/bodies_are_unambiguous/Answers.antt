@@ -1,6 +1,6 @@
 use Rattle.std.proofs.Common.{[], ◌++◌, refl, sym}
 use Rattle.std.proofs.lemmas.List.{append-nil}
-use Rattle.hart_frame.proofs.UnambiguousBodies.{same_bodies, IsBody-one, BeginsWithBody-one, BeginsWithBody-append}
+use Rattle.hart_frame.proofs.lemmas.wire.UnambiguousBodies.{same_bodies, IsBody-one, BeginsWithBody-one, BeginsWithBody-append}
 use Rattle.hart_frame.proofs.laws.bodies_are_unambiguous.Goals as goal
 
 pub returns : goal.returns

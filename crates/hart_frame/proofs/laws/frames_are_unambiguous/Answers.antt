@@ -1,4 +1,4 @@
-use Rattle.hart_frame.proofs.UnambiguousFrames.{IsFirst-one, AreFrames-one}
+use Rattle.hart_frame.proofs.lemmas.heard.UnambiguousFrames.{IsFirst-one, AreFrames-one}
 use Rattle.hart_frame.proofs.laws.frames_are_unambiguous.Goals as goal
 
 pub returns-clause-one_first : goal.returns-clause-one_first

@@ -1,6 +1,6 @@
-use Rattle.hart_line.specs.Line.World.{first_world}
-use Rattle.hart_line.proofs.OfLine.RunLemmas.{Laws, fault_one, no_fault, run_one}
-use Rattle.hart_line.proofs.OfLine.DetectedLemmas.{WorldLaws, run_exists}
+use Rattle.hart_line.specs.world.World.{first_world}
+use Rattle.hart_line.proofs.lemmas.world.Leads.{Laws, fault_one, no_fault, run_one}
+use Rattle.hart_line.proofs.lemmas.world.Detected.{WorldLaws, run_exists}
 use Rattle.hart_line.proofs.laws.scripts_have_one_last_world.Goals as goal
 
 pub returns-clause-one_world : goal.returns-clause-one_world

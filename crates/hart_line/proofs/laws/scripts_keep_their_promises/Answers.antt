@@ -1,11 +1,11 @@
-use Rattle.hart_line.proofs.OfLine.AnsweredLemmas.{answered_last}
-use Rattle.hart_line.proofs.OfLine.CountLemmas.{executed_at_most}
-use Rattle.hart_line.proofs.OfLine.LastLemmas.{registers_last}
-use Rattle.hart_line.proofs.OfLine.ResetLemmas.{refused_last, unseen}
-use Rattle.hart_line.proofs.OfLine.RunLemmas.{Laws}
-use Rattle.hart_line.proofs.OfLine.DetectedLemmas.{fault_not_detectable}
-use Rattle.hart_line.proofs.OfLine.StateLemmas.{state-first}
-use Rattle.hart_line.proofs.OfLine.WrittenLemmas.{WriteLaws, answered_executed, step_stays, turn_executed}
+use Rattle.hart_line.proofs.lemmas.world.Answered.{answered_last}
+use Rattle.hart_line.proofs.lemmas.world.Count.{executed_at_most}
+use Rattle.hart_line.proofs.lemmas.world.Last.{registers_last}
+use Rattle.hart_line.proofs.lemmas.world.Reset.{refused_last, unseen}
+use Rattle.hart_line.proofs.lemmas.world.Leads.{Laws}
+use Rattle.hart_line.proofs.lemmas.world.Detected.{fault_not_detectable}
+use Rattle.hart_line.proofs.lemmas.world.State.{state-first}
+use Rattle.hart_line.proofs.lemmas.world.Written.{WriteLaws, answered_executed, step_stays, turn_executed}
 use Rattle.std.proofs.Common.{refl}
 use Rattle.hart_line.proofs.laws.scripts_keep_their_promises.Goals as goal
 

@@ -1,4 +1,4 @@
-use Rattle.hart_line.proofs.OfScript.ScriptLemmas.{IsScript-one, first_bad_one, not_script_and_bad}
+use Rattle.hart_line.proofs.lemmas.script.Script.{IsScript-one, first_bad_one, not_script_and_bad}
 use Rattle.hart_line.proofs.laws.texts_have_one_script.Goals as goal
 
 pub returns : goal.returns

@@ -1,4 +1,4 @@
-use Rattle.hart_line.proofs.OfScript.UnambiguousWords.{IsAddressWord-one, IsCommandWord-one, IsDataWord-one, IsWho-one}
+use Rattle.hart_line.proofs.lemmas.script.UnambiguousWords.{IsAddressWord-one, IsCommandWord-one, IsDataWord-one, IsWho-one}
 use Rattle.hart_line.proofs.laws.words_have_one_value.Goals as goal
 
 pub returns : goal.returns

@@ -1,6 +1,6 @@
 use Rattle.std.specs.Option.{option_copied}
 use Rattle.std.proofs.lemmas.Result.{IfErr-weaker, IfOk-weaker, err_from_is_err_and}
-use Rattle.hart_line.proofs.OfLine.ReturnLemmas.{err_both, returns_of, undetected_of}
+use Rattle.hart_line.proofs.lemmas.line.Return.{err_both, returns_of, undetected_of}
 use Rattle.hart_line.proofs.line.returned_in.Goals as goal
 
 pub returns-in_err-is_answered-clause-undetected : goal.returns-in_err-is_answered-clause-undetected

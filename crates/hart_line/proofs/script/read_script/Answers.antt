@@ -5,10 +5,10 @@ use Rattle.std.proofs.lemmas.Iterator.Consumers.{YieldsList-at, YieldsList-end, 
 use Rattle.std.proofs.lemmas.Iterator.Splits.{YieldsList-from_slice_split}
 use Rattle.std.proofs.lemmas.List.{length-map, length_push}
 use Rattle.std.proofs.lemmas.Result.{err_from_is_err_and}
-use Rattle.hart_line.specs.Room.{Filled}
-use Rattle.hart_line.specs.Script.Rows.{none}
+use Rattle.hart_line.specs.Filling.{Filled}
+use Rattle.hart_line.specs.script.Rows.{none}
 use Rattle.hart_line.specs.declared.event.LineEvent.{LineEvent}
-use Rattle.hart_line.proofs.OfScript.ScriptLemmas.{first_bad_line, line_fault, line_said, line_skipped, parts_of, whole_script}
+use Rattle.hart_line.proofs.lemmas.script.Script.{first_bad_line, line_fault, line_said, line_skipped, parts_of, whole_script}
 use Rattle.hart_line.proofs.script.read_script.Goals as goal
 
 pub loop-part-init : goal.loop-part-init

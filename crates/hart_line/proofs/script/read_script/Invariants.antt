@@ -1,6 +1,6 @@
 use Rattle.std.proofs.Common.{◌≡◌, ◌≤◌, length, take}
-use Rattle.hart_line.specs.Script.Rows.{AreEvents}
-use Rattle.hart_line.proofs.OfScript.ScriptLemmas.{parts_of, said_by}
+use Rattle.hart_line.specs.script.Rows.{AreEvents}
+use Rattle.hart_line.proofs.lemmas.script.Script.{parts_of, said_by}
 use Rattle.hart_line.proofs.script.read_script.Given as goal
 
 abbrev pub invariant-loop-part : goal.invariant-loop-part

@@ -1,4 +1,4 @@
-use Rattle.hart_master.proofs.DecidedLemmas.{reply_decided}
+use Rattle.hart_master.proofs.lemmas.Decided.{reply_decided}
 use Rattle.hart_master.proofs.laws.replies_are_decided.Goals as goal
 
 pub returns-clause-decided : goal.returns-clause-decided

@@ -1,4 +1,4 @@
-use Rattle.hart_values.proofs.AddressLemmas.{IsAddressBytes-one, IsAddressBytes-one_list}
+use Rattle.hart_values.proofs.lemmas.address.Address.{IsAddressBytes-one, IsAddressBytes-one_list}
 use Rattle.hart_values.proofs.laws.address_bytes_are_unambiguous.Goals as goal
 
 pub returns : goal.returns

@@ -1,4 +1,4 @@
-use Rattle.hart_values.proofs.PackingLemmas.{IsPacked-one_list, IsPacked-one_text}
+use Rattle.hart_values.proofs.lemmas.packed_text.Packing.{IsPacked-one_list, IsPacked-one_text}
 use Rattle.hart_values.proofs.laws.packed_text_and_bytes_determine_each_other.Goals as goal
 
 pub returns : goal.returns

@@ -1,6 +1,6 @@
 use Rattle.std.proofs.Common.{rules}
 use Rattle.hart_cli.specs.declared.program.command_line.Call.TheVariants.{Answer, Dump, Encode, Sim}
-use Rattle.hart_cli.proofs.CommandLineLemmas.{given_call, nameless, other_name, wordless}
+use Rattle.hart_cli.proofs.lemmas.program.CommandLine.{given_call, nameless, other_name, wordless}
 use Rattle.hart_cli.proofs.program.command_line.call_of.Goals as goal
 
 pub returns-in-answer : goal.returns-in-answer

@@ -1,7 +1,7 @@
 use Rattle.std.proofs.Common.{ap, codes, ◌∙◌}
 use Rattle.std.proofs.lemmas.Result.{IfOk-weaker}
 use Rattle.clap.specs.Words.{App, new_rule, with_rule}
-use Rattle.hart_cli.specs.CommandLine.{preambles_rule}
+use Rattle.hart_cli.specs.program.CommandLine.{preambles_rule}
 use Rattle.hart_cli.proofs.program.command_line.encode_command.Goals as goal
 
 pub returns : goal.returns

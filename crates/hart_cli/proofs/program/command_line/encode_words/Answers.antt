@@ -6,8 +6,8 @@ use Rattle.std.specs.Str.Parse.{IsNumeral, ParsesUnsigned, digits_value, without
 use Rattle.clap.proofs.WalkLemmas.{first_value-rows}
 use Rattle.clap.specs.Words.{Text, first_of, first_value, found_of, rows_of}
 use Rattle.clap.specs.declared.parser.matches.Found.{Found}
-use Rattle.hart_cli.specs.CommandLine.{GivesWords}
-use Rattle.hart_cli.specs.MessageWords.{MessageWords}
+use Rattle.hart_cli.specs.program.CommandLine.{GivesWords}
+use Rattle.hart_cli.specs.encode.MessageWords.{MessageWords}
 use Rattle.hart_cli.proofs.program.command_line.encode_words.Goals as goal
 
 -- what `get_str` gives is the word

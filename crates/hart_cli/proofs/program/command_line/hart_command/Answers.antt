@@ -2,7 +2,7 @@ use Rattle.std.proofs.Common.{ap, ap₂, refl, ◌∙◌}
 use Rattle.std.proofs.lemmas.Result.{IfOk-weaker}
 use Rattle.clap.specs.Simple.{app_of_fields}
 use Rattle.clap.specs.Words.{App, with_subcommand}
-use Rattle.hart_cli.proofs.SubcommandLemmas.{without_globals}
+use Rattle.hart_cli.proofs.lemmas.program.Subcommand.{without_globals}
 use Rattle.hart_cli.proofs.program.command_line.hart_command.Goals as goal
 
 pub returns : goal.returns

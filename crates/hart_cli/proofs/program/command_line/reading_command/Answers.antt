@@ -1,8 +1,8 @@
 use Rattle.std.proofs.Common.{ap, ap₂, codes, refl, ◌∙◌}
 use Rattle.std.proofs.lemmas.Result.{IfOk-weaker}
 use Rattle.clap.specs.Words.{App, with_subcommand}
-use Rattle.hart_cli.specs.CommandLine.{image_app}
-use Rattle.hart_cli.proofs.SubcommandLemmas.{without_globals}
+use Rattle.hart_cli.specs.program.CommandLine.{image_app}
+use Rattle.hart_cli.proofs.lemmas.program.Subcommand.{without_globals}
 use Rattle.hart_cli.proofs.program.command_line.reading_command.Goals as goal
 
 pub returns : goal.returns

@@ -1,6 +1,6 @@
 use Rattle.std.proofs.Common.{map, string_bytes}
 use Rattle.std.proofs.lemmas.Result.{err_from_is_err_and}
-use Rattle.hart_cli.proofs.CommandLineLemmas.{calls_given, gives_fault, meets_call}
+use Rattle.hart_cli.proofs.lemmas.program.CommandLine.{calls_given, gives_fault, meets_call}
 use Rattle.hart_cli.proofs.program.command_line.requested_call.Goals as goal
 
 pub returns-in_err-matches-clause-refused : goal.returns-in_err-matches-clause-refused

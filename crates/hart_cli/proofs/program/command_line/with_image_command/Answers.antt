@@ -1,7 +1,7 @@
 use Rattle.std.proofs.Common.{ap, ap₂, refl, ◌∙◌}
 use Rattle.std.proofs.lemmas.Result.{IfOk-weaker}
 use Rattle.clap.specs.Words.{App, app_of, with_rule, with_subcommand}
-use Rattle.hart_cli.proofs.SubcommandLemmas.{without_globals}
+use Rattle.hart_cli.proofs.lemmas.program.Subcommand.{without_globals}
 use Rattle.hart_cli.proofs.program.command_line.with_image_command.Goals as goal
 
 pub returns : goal.returns

@@ -1,5 +1,5 @@
-use Rattle.hart_cli.proofs.CommandLineLemmas.{answer_alone, answer_with_image, dump_alone, encode_alone, encode_with_20}
-use Rattle.hart_cli.proofs.CommandLineLemmas.{sim_alone, sim_with_image}
+use Rattle.hart_cli.proofs.lemmas.program.CommandLine.{answer_alone, answer_with_image, dump_alone, encode_alone, encode_with_20}
+use Rattle.hart_cli.proofs.lemmas.program.CommandLine.{sim_alone, sim_with_image}
 use Rattle.hart_cli.proofs.program.command_line.words_are_calls.Goals as goal
 
 pub returns-clause-answer : goal.returns-clause-answer

@@ -1,7 +1,7 @@
 use Rattle.std.proofs.Common.{◌≡◌, sym}
 use Rattle.hart_commands.specs.Registers.{overwritten}
-use Rattle.hart_device.proofs.EffectLemmas.{write_executes}
-use Rattle.hart_device.proofs.RegistersLemmas.{contents_determined}
+use Rattle.hart_device.proofs.lemmas.answer.Effect.{write_executes}
+use Rattle.hart_device.proofs.lemmas.registers.Registers.{contents_determined}
 use Rattle.hart_device.proofs.device.Device.execute.Goals as goal
 
 pub returns-in-Some : goal.returns-in-Some

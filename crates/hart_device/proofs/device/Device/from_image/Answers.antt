@@ -1,6 +1,6 @@
 use Rattle.std.proofs.Common.{ap, refl, Result, Ok, Err, IsOk, IsErr}
 use Rattle.hart_device.specs.Device.{DeviceState}
-use Rattle.hart_device.specs.Image.{IsImageOf}
+use Rattle.hart_device.specs.image.Image.{IsImageOf}
 use Rattle.hart_device.proofs.device.Device.from_image.Goals as goal
 
 not_both : {A E : Type 0} (result : Result A E) → IsErr result → IsOk result → ⊥

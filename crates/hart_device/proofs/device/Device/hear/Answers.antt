@@ -1,4 +1,4 @@
-use Rattle.hart_device.proofs.DeliveryLemmas.{answer_without_frame}
+use Rattle.hart_device.proofs.lemmas.answer.Delivery.{answer_without_frame}
 use Rattle.hart_device.proofs.device.Device.hear.Goals as goal
 
 pub returns-in-NoFrame-clause-answer : goal.returns-in-NoFrame-clause-answer

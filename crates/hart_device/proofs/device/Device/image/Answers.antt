@@ -3,7 +3,7 @@ use Rattle.std.specs.List.{flat_map, slice_index_or}
 use Rattle.std.proofs.lemmas.Grind.{common_steps}
 use Rattle.hart_commands.specs.Registers.{Contents, bytes_in, registers}
 use Rattle.hart_commands.specs.declared.register.Register.TheVariants.{Polling}
-use Rattle.hart_device.proofs.RangeLemmas.{next_size, next_written}
+use Rattle.hart_device.proofs.lemmas.registers.Range.{next_size, next_written}
 use Rattle.hart_device.proofs.device.Device.image.Goals as goal
 
 pub returns-clause-written : goal.returns-clause-written

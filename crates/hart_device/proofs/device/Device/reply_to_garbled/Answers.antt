@@ -1,8 +1,8 @@
 use Rattle.std.proofs.Common.{◌≡◌, Option, MatchOption, sym, subst}
-use Rattle.hart_frame.specs.FrameParts.{FrameParts}
+use Rattle.hart_frame.specs.wire.FrameParts.{FrameParts}
 use Rattle.hart_device.specs.Device.{DeviceState}
-use Rattle.hart_device.specs.Garbled.{HasGarbled, garbled_reply}
-use Rattle.hart_device.specs.declared.garbled.GarbledRequest.{GarbledRequest}
+use Rattle.hart_device.specs.answer.Garbled.{HasGarbled, garbled_reply}
+use Rattle.hart_device.specs.declared.answer.garbled.GarbledRequest.{GarbledRequest}
 use Rattle.hart_device.proofs.device.Device.reply_to_garbled.Goals as goal
 
 pub returns-in_err-request : goal.returns-in_err-request

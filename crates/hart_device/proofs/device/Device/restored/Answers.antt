@@ -1,6 +1,6 @@
 use Rattle.std.proofs.Common.{◌≡◌}
-use Rattle.hart_device.specs.Values.{values_of}
-use Rattle.hart_device.proofs.RegistersLemmas.{same_contents}
+use Rattle.hart_device.specs.registers.Values.{values_of}
+use Rattle.hart_device.proofs.lemmas.registers.Registers.{same_contents}
 use Rattle.hart_device.proofs.device.Device.restored.Goals as goal
 
 pub returns : goal.returns

@@ -1,10 +1,10 @@
 use Rattle.std.proofs.Common.{None, refl}
-use Rattle.hart_line.specs.Line.Step.{replied}
-use Rattle.hart_line.specs.Line.World.{state_of}
+use Rattle.hart_line.specs.world.Step.{replied}
+use Rattle.hart_line.specs.world.World.{state_of}
 use Rattle.hart_line.specs.declared.event.Heard.TheVariants.{Chars}
-use Rattle.hart_line.proofs.OfLine.ArrivalLemmas.{delivery_identity}
-use Rattle.hart_line.proofs.OfLine.LegLemmas.{reaches_in}
-use Rattle.hart_line.proofs.OfLine.TurnLemmas.{replied_stands}
+use Rattle.hart_line.proofs.lemmas.world.Arrival.{delivery_identity}
+use Rattle.hart_line.proofs.lemmas.line.Leg.{reaches_in}
+use Rattle.hart_line.proofs.lemmas.line.Turn.{replied_stands}
 use Rattle.hart_line.proofs.line.Line.hear_noise.Goals as goal
 
 pub returns-clause-stepped : goal.returns-clause-stepped

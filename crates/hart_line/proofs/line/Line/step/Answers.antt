@@ -1,5 +1,5 @@
 use Rattle.std.proofs.Common.{refl}
-use Rattle.hart_line.proofs.OfLine.EventLemmas.{protected_stands, restarted_stands}
+use Rattle.hart_line.proofs.lemmas.line.Event.{protected_stands, restarted_stands}
 use Rattle.hart_line.proofs.line.Line.step.Goals as goal
 
 pub returns-in-Protect-clause-stepped : goal.returns-in-Protect-clause-stepped

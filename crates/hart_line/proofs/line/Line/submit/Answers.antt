@@ -1,4 +1,4 @@
-use Rattle.hart_line.proofs.OfLine.EventLemmas.{submitted_stands}
+use Rattle.hart_line.proofs.lemmas.line.Event.{submitted_stands}
 use Rattle.hart_line.proofs.line.Line.submit.Goals as goal
 
 pub returns-clause-stands : goal.returns-clause-stands

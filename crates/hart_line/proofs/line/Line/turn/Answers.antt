@@ -2,13 +2,13 @@ use Rattle.std.proofs.Common.{List, None, refl, subst, sym}
 use Rattle.std.proofs.lemmas.Result.{err_from_is_err_and}
 use Rattle.std.specs.Option.{option_copied}
 use Rattle.hart_values.specs.EachMaster.{of_master}
-use Rattle.hart_line.specs.Line.Leg.{IsSent}
-use Rattle.hart_line.specs.Line.Spoken.{AreSpoken}
-use Rattle.hart_line.specs.Line.Step.{sent_by}
+use Rattle.hart_line.specs.line.Leg.{IsSent}
+use Rattle.hart_line.specs.world.Spoken.{AreSpoken}
+use Rattle.hart_line.specs.world.Step.{sent_by}
 use Rattle.hart_line.specs.declared.line.report.Spoken.{Spoken}
-use Rattle.hart_line.proofs.OfLine.LegLemmas.{said_by, sent_said}
-use Rattle.hart_line.proofs.OfLine.ReturnLemmas.{undetected_in_turn}
-use Rattle.hart_line.proofs.OfLine.TurnLemmas.{silent_turn, turned_stands}
+use Rattle.hart_line.proofs.lemmas.line.Leg.{said_by, sent_said}
+use Rattle.hart_line.proofs.lemmas.line.Return.{undetected_in_turn}
+use Rattle.hart_line.proofs.lemmas.line.Turn.{silent_turn, turned_stands}
 use Rattle.hart_line.proofs.line.Line.turn.Goals as goal
 
 pub returns-in_err-returned-clause-stopped : goal.returns-in_err-returned-clause-stopped

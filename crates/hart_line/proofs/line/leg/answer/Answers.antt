@@ -1,6 +1,6 @@
 use Rattle.std.proofs.Common.{◌≡◌, Bool, true, false, Option, None, Some, IsSome, IfSome, IsTrue, ap, refl}
-use Rattle.hart_frame.specs.FrameParts.{FrameParts}
-use Rattle.hart_line.specs.Line.Spoken.{frame_if}
+use Rattle.hart_frame.specs.wire.FrameParts.{FrameParts}
+use Rattle.hart_line.specs.world.Spoken.{frame_if}
 use Rattle.hart_line.proofs.line.leg.answer.Goals as goal
 
 -- a frame that is written if there is an answer is the answer

@@ -1,7 +1,7 @@
 use Rattle.std.proofs.Common.{None, Some}
 use Rattle.std.specs.Option.{option_copied}
-use Rattle.hart_device.specs.Delivery.{OneFrame}
-use Rattle.hart_line.proofs.OfLine.LegLemmas.{among_frame, answered_among}
+use Rattle.hart_device.specs.answer.Delivery.{OneFrame}
+use Rattle.hart_line.proofs.lemmas.line.Leg.{among_frame, answered_among}
 use Rattle.hart_line.proofs.line.leg.answer_among.Goals as goal
 
 pub returns-in-Some-clause-answers : goal.returns-in-Some-clause-answers

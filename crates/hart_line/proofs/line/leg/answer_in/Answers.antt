@@ -1,8 +1,8 @@
 use Rattle.std.proofs.Common.{Result, Ok, Err, IfOk, refl}
 use Rattle.std.specs.Option.{option_copied}
-use Rattle.hart_device.specs.Delivery.{NoMessage, OneFrame}
+use Rattle.hart_device.specs.answer.Delivery.{NoMessage, OneFrame}
 use Rattle.hart_line.specs.declared.event.Heard.TheVariants.{Lost}
-use Rattle.hart_line.proofs.OfLine.LegLemmas.{answers_in, clean_reaches, nothing_reaches, silence_reaches}
+use Rattle.hart_line.proofs.lemmas.line.Leg.{answers_in, clean_reaches, nothing_reaches, silence_reaches}
 use Rattle.hart_line.proofs.line.leg.answer_in.Goals as goal
 
 pub returns-in-Some-clause-answers : goal.returns-in-Some-clause-answers

@@ -1,5 +1,5 @@
 use Rattle.std.specs.Option.{option_copied}
-use Rattle.hart_line.proofs.OfLine.LegLemmas.{clean_arrives}
+use Rattle.hart_line.proofs.lemmas.line.Leg.{clean_arrives}
 use Rattle.hart_line.proofs.line.leg.arrived_in.Goals as goal
 
 pub returns-in-Clean-clause-arrives : goal.returns-in-Clean-clause-arrives

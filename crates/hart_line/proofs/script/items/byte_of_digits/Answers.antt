@@ -1,4 +1,4 @@
-use Rattle.hart_line.proofs.OfScript.DigitsLemmas.{decode_pairs-none, decode_pairs-some}
+use Rattle.hart_line.proofs.lemmas.script.Digits.{decode_pairs-none, decode_pairs-some}
 use Rattle.hart_line.proofs.script.items.byte_of_digits.Goals as goal
 
 pub returns-in_err-byte : goal.returns-in_err-byte

@@ -1,7 +1,7 @@
 use Rattle.std.proofs.Common.{◌≡◌, ◌≢◌, ◌≤◌, ℕ, List, length, [], ◌∷◌, get_or, refl, sym, ap, ◌∙◌, subst, arith}
 use Rattle.std.proofs.lemmas.Bool.{iff_false}
-use Rattle.hart_frame.specs.Character.{AreFaultBits, Character}
-use Rattle.hart_line.specs.Script.Items.{AreDigits, BeginsAsItem, byte_of, Faulty, NoItemBegins, Plain}
+use Rattle.hart_frame.specs.heard.Character.{AreFaultBits, Character}
+use Rattle.hart_line.specs.script.Items.{AreDigits, BeginsAsItem, byte_of, Faulty, NoItemBegins, Plain}
 use Rattle.hart_line.proofs.script.items.leading_item.Goals as goal
 
 -- an item without fault bits begins a text

@@ -1,9 +1,9 @@
 use Rattle.std.proofs.Common.{arith, ap, refl}
 use Rattle.std.proofs.lemmas.List.{length_push}
-use Rattle.hart_frame.specs.Character.{Character}
-use Rattle.hart_line.specs.Room.{Filled}
-use Rattle.hart_line.specs.Script.Items.{nothing}
-use Rattle.hart_line.proofs.OfScript.ItemsLemmas.{item_read, no_items}
+use Rattle.hart_frame.specs.heard.Character.{Character}
+use Rattle.hart_line.specs.Filling.{Filled}
+use Rattle.hart_line.specs.script.Items.{nothing}
+use Rattle.hart_line.proofs.lemmas.script.Items.{item_read, no_items}
 use Rattle.hart_line.proofs.script.items.read_items.Goals as goal
 
 pub loop-lead-init : goal.loop-lead-init

@@ -1,5 +1,5 @@
 use Rattle.std.proofs.Common.{◌≡◌, ◌-◌, ◌*◌, ◌/◌, ◌≤◌, length, drop}
-use Rattle.hart_line.specs.Script.Items.{BeginsWithItems}
+use Rattle.hart_line.specs.script.Items.{BeginsWithItems}
 use Rattle.hart_line.proofs.script.items.read_items.Given as goal
 
 abbrev pub invariant-loop-lead : goal.invariant-loop-lead

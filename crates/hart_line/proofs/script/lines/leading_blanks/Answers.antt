@@ -1,8 +1,8 @@
 use Rattle.std.proofs.Common.{not, rules, tests}
 use Rattle.std.proofs.lemmas.Iterator.{YieldsList-from_slice}
 use Rattle.std.proofs.lemmas.Iterator.Search.{position_from_yields_List}
-use Rattle.hart_line.specs.Script.Lines.{is_blank}
-use Rattle.hart_line.proofs.OfScript.LinesLemmas.{place_or_length, position_within}
+use Rattle.hart_line.specs.script.Lines.{is_blank}
+use Rattle.hart_line.proofs.lemmas.script.Lines.{place_or_length, position_within}
 use Rattle.hart_line.proofs.script.lines.leading_blanks.Goals as goal
 
 pub returns-clause-place : goal.returns-clause-place

@@ -2,7 +2,7 @@ use Rattle.std.proofs.Common.{sym, arith, ◌∙◌}
 use Rattle.std.proofs.lemmas.Bool.{eqb-true}
 use Rattle.std.proofs.lemmas.Bool.Decides.{nat_tests}
 use Rattle.std.proofs.lemmas.List.{take_rest}
-use Rattle.hart_line.proofs.OfScript.LinesLemmas.{word_first, word_none}
+use Rattle.hart_line.proofs.lemmas.script.Lines.{word_first, word_none}
 use Rattle.hart_line.proofs.script.lines.next_word.Goals as goal
 
 pub returns-then-is_empty : goal.returns-then-is_empty

@@ -1,8 +1,8 @@
 use Rattle.std.proofs.Common.{◌≡◌, ◌∷◌, codes, arith, rules}
 use Rattle.std.proofs.lemmas.Slice.Eq.{text_from_reads}
-use Rattle.hart_line.specs.Script.Lines.{words_of}
-use Rattle.hart_line.specs.Script.Rows.{IsEvent}
-use Rattle.hart_line.proofs.OfScript.RowsLemmas.{found_read, other_word}
+use Rattle.hart_line.specs.script.Lines.{words_of}
+use Rattle.hart_line.specs.script.Rows.{IsEvent}
+use Rattle.hart_line.proofs.lemmas.script.Rows.{found_read, other_word}
 use Rattle.hart_line.proofs.script.rows.read_event.Goals as goal
 
 pub returns-in-submit : goal.returns-in-submit

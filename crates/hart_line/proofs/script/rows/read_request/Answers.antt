@@ -1,5 +1,5 @@
 use Rattle.std.proofs.Common.{sym}
-use Rattle.hart_line.proofs.OfScript.RowsLemmas.{request_found}
+use Rattle.hart_line.proofs.lemmas.script.Rows.{request_found}
 use Rattle.hart_line.proofs.script.rows.read_request.Goals as goal
 
 pub returns : goal.returns

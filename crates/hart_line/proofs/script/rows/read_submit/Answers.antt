@@ -1,5 +1,5 @@
 use Rattle.std.proofs.Common.{◌∷◌, codes, length, ap, arith}
-use Rattle.hart_line.proofs.OfScript.RowsLemmas.{only_submit, row_request}
+use Rattle.hart_line.proofs.lemmas.script.Rows.{only_submit, row_request}
 use Rattle.hart_line.proofs.script.rows.read_submit.Goals as goal
 
 pub returns-in_err-who : goal.returns-in_err-who

@@ -1,7 +1,7 @@
 use Rattle.std.proofs.Common.{◌∷◌, codes, arith, refl}
 use Rattle.std.proofs.lemmas.Result.{err_from_is_err_and}
-use Rattle.hart_line.specs.Script.Lines.{words_of}
-use Rattle.hart_line.proofs.OfScript.RowsLemmas.{leg_fault, turn_legs}
+use Rattle.hart_line.specs.script.Lines.{words_of}
+use Rattle.hart_line.proofs.lemmas.script.Rows.{leg_fault, turn_legs}
 use Rattle.hart_line.proofs.script.rows.read_turn.Goals as goal
 
 pub returns-in_err-read_leg : goal.returns-in_err-read_leg

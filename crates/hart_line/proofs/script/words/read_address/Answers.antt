@@ -1,7 +1,7 @@
 use Rattle.std.proofs.Common.{◌≡◌, ℕ, List, Option, Some, codes, inr, refl, rules, subst, sym}
-use Rattle.hart_values.specs.AddressBytes.{broadcast}
+use Rattle.hart_values.specs.address.AddressBytes.{broadcast}
 use Rattle.hart_values.specs.declared.address.Address.{Address}
-use Rattle.hart_line.specs.Script.Words.{Finds, IsAddressWord}
+use Rattle.hart_line.specs.script.Words.{Finds, IsAddressWord}
 use Rattle.hart_line.proofs.script.words.read_address.Goals as goal
 
 -- the broadcast address is found in the word `all`

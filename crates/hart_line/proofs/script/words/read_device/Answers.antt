@@ -1,6 +1,6 @@
 use Rattle.std.proofs.Common.{arith, rules, sym, ◌∙◌}
 use Rattle.hex.proofs.HexLemmas.{decode_of-ok, decode_sized-twice}
-use Rattle.hart_line.proofs.OfScript.WordsLemmas.{IsDeviceWord-from_bytes, ok_none, ok_some}
+use Rattle.hart_line.proofs.lemmas.script.Words.{IsDeviceWord-from_bytes, ok_none, ok_some}
 use Rattle.hart_line.proofs.script.words.read_device.Goals as goal
 
 pub returns-in_err-bytes : goal.returns-in_err-bytes

@@ -1,5 +1,5 @@
-use Rattle.hart_master.proofs.AcceptanceLemmas.{no_other}
-use Rattle.hart_master.proofs.HeardLemmas.{frame_brings, brings_frame, heard_of_frame}
+use Rattle.hart_master.proofs.lemmas.Acceptance.{no_other}
+use Rattle.hart_master.proofs.lemmas.Heard.{frame_brings, brings_frame, heard_of_frame}
 use Rattle.hart_master.proofs.master.Master.hear.Goals as goal
 
 pub returns-in-Alone-clause-event : goal.returns-in-Alone-clause-event

@@ -1,5 +1,5 @@
 use Rattle.hart_values.specs.declared.master_id.MasterId.TheVariants.{Primary, Secondary}
-use Rattle.hart_line.proofs.OfLine.MastersLemmas.{concludes_more}
+use Rattle.hart_line.proofs.lemmas.line.Masters.{concludes_more}
 use Rattle.hart_line.proofs.line.masters.Masters.conclude.Goals as goal
 
 pub returns-in-Primary-clause-concludes : goal.returns-in-Primary-clause-concludes

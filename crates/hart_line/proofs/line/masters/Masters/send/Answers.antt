@@ -1,5 +1,5 @@
 use Rattle.hart_values.specs.declared.master_id.MasterId.TheVariants.{Primary, Secondary}
-use Rattle.hart_line.proofs.OfLine.MastersLemmas.{sends_more}
+use Rattle.hart_line.proofs.lemmas.line.Masters.{sends_more}
 use Rattle.hart_line.proofs.line.masters.Masters.send.Goals as goal
 
 pub returns-in-Primary : goal.returns-in-Primary

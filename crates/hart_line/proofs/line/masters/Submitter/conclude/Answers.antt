@@ -1,5 +1,5 @@
 use Rattle.std.proofs.Common.{◌∙◌, ap, None, Some}
-use Rattle.hart_line.specs.Room.{Filled}
+use Rattle.hart_line.specs.Filling.{Filled}
 use Rattle.hart_line.specs.declared.line.report.Outcome.{Outcome}
 use Rattle.hart_line.proofs.line.masters.Submitter.conclude.Goals as goal
 use Rattle.hart_line.proofs.line.masters.Submitter.conclude.Goals.{in-Some, in-None}

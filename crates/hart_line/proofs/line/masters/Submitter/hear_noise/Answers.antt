@@ -1,5 +1,5 @@
 use Rattle.std.proofs.Common.{◌≡◌}
-use Rattle.hart_line.proofs.OfLine.MastersLemmas.{nothing_brought}
+use Rattle.hart_line.proofs.lemmas.line.Masters.{nothing_brought}
 use Rattle.hart_line.proofs.line.masters.Submitter.hear_noise.Goals as goal
 
 pub returns : goal.returns

@@ -1,6 +1,6 @@
 use Rattle.std.proofs.Common.{◌≡◌, Err}
 use Rattle.hart_master.specs.Master.{result_submitted}
-use Rattle.hart_line.proofs.OfLine.MastersLemmas.{refused_submits}
+use Rattle.hart_line.proofs.lemmas.line.Masters.{refused_submits}
 use Rattle.hart_line.proofs.line.masters.Submitter.submit.Goals as goal
 
 pub returns-in-Err-clause-submits : goal.returns-in-Err-clause-submits

@@ -1,0 +1,39 @@
+-- Words have one text at most.
+use Rattle.std.proofs.Common.{◌≡◌, ℕ, Bool, List, sym, ◌∙◌}
+use Rattle.hart_values.specs.declared.address.Address.{Address}
+use Rattle.hart_values.specs.declared.master_id.MasterId.{MasterId}
+use Rattle.hart_frame.specs.declared.wire.kind.FrameKind.{FrameKind}
+use Rattle.hart_frame.specs.wire.FrameParts.{FrameParts}
+use Rattle.hart_cli.specs.encode.Encode.{IsEncoding, IsRequestOf}
+use Rattle.hart_cli.specs.encode.MessageWords.{MessageWords}
+use Rattle.hart_line.specs.script.Words.{IsAddressWord, IsCommandWord, IsDataWord, IsWho}
+use Rattle.hart_cli.proofs.lemmas.text.MessageLine.{IsMessageLine-one, OneBody}
+
+-- the law of words: each word has one value
+pub record OneValue : Type 0 where
+  pub who : (word : List ℕ) (m n : MasterId) → IsWho word m → IsWho word n → m ≡ n
+  pub address : (word : List ℕ) (m n : Address) → IsAddressWord word m → IsAddressWord word n → m ≡ n
+  pub command : (word : List ℕ) (m n : ℕ) → IsCommandWord word m → IsCommandWord word n → m ≡ n
+  pub payload : (word xs ys : List ℕ) → IsDataWord word xs → IsDataWord word ys → xs ≡ ys
+
+-- four words have one request
+IsRequestOf-one : OneValue → (words : MessageWords) (f g : FrameParts) → IsRequestOf words f → IsRequestOf words g → f ≡ g
+IsRequestOf-one one words f g p q =
+    let master = one.who words.who f.master g.master p.master q.master in
+    let address = one.address words.address f.address g.address p.address q.address in
+    let payload = one.payload words.payload f.payload g.payload p.payload q.payload in
+    let command : f.command ≡ g.command = one.command words.command f.command g.command p.command q.command in
+    let kind : f.kind ≡ g.kind = p.kind ∙ sym q.kind in
+    let burst : f.burst ≡ g.burst = p.burst ∙ sym q.burst in
+    let expansion : f.expansion ≡ g.expansion = p.expansion ∙ sym q.expansion in
+    let of : FrameKind → MasterId → Bool → Address → List ℕ → ℕ → List ℕ → FrameParts =
+    λ k m b a x c d. record { kind = k; master = m; burst = b; address = a; expansion = x; command = c; payload = d } in
+    let same : of f.kind f.master f.burst f.address f.expansion f.command f.payload
+    ≡ of g.kind g.master g.burst g.address g.expansion g.command g.payload = cc in
+    same
+
+-- words have one text
+pub IsEncoding-one : OneValue → OneBody → (words : MessageWords) (xs ys : List ℕ) → IsEncoding words xs → IsEncoding words ys → xs ≡ ys
+IsEncoding-one one law words xs ys p q =
+    let frames = IsRequestOf-one one words p.frame q.frame p.request q.request in
+    IsMessageLine-one law p.frame q.frame words.preambles xs ys frames p.line q.line

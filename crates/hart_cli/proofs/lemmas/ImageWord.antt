@@ -1,0 +1,179 @@
+-- The device of a call, and the fault of its image, are one.
+use Rattle.std.proofs.Common.{◌≡◌, ◌≢◌, ℕ, ◌+◌, ◌<◌, true, List, [], ◌∷◌, length, take, slice_index, Option, Some, None, ap, subst, sym}
+use Rattle.std.proofs.Common.{◌∙◌, inl, inr, arith, refl, false, ◌/◌, ◌%◌, Result, Ok, Err}
+use Rattle.std.specs.Prelude.{MatchResult}
+use Rattle.std.specs.List.{AllPass}
+use Rattle.std.proofs.lemmas.List.{get_or-take, length-take}
+use Rattle.std.proofs.lemmas.List.Elements.{All-get_or}
+use Rattle.std.proofs.lemmas.Bool.{cases_eq, cases_order}
+use Rattle.hex.specs.Hex.{decode_of, decode_sized, is_hex_digit}
+use Rattle.hex.specs.declared.error.FromHexError.{FromHexError}
+use Rattle.hex.specs.declared.error.FromHexError.TheVariants.{InvalidHexCharacter, OddLength}
+use Rattle.hex.proofs.HexLemmas.{decode_of-err, decode_of-even, decode_of-odd, decode_of-ok, decode_of-same}
+use Rattle.hex.proofs.HexLemmas.{decode_pairs-err, decode_sized-odd, decode_sized-twice}
+use Rattle.hart_device.specs.Device.{DeviceState}
+use Rattle.hart_device.specs.image.Image.{IsImageOf, IsImageFault}
+use Rattle.hart_device.specs.declared.fault.DeviceFault.{DeviceFault}
+use Rattle.hart_device.specs.declared.fault.DeviceFault.TheVariants.{BadField, BadLength, BadVersion}
+use Rattle.hart_cli.specs.declared.fault.CliFault.{CliFault}
+use Rattle.hart_cli.specs.declared.fault.CliFault.TheVariants.{BadHex, Image}
+use Rattle.hart_cli.specs.ImageWord.{HasImageFault, IsBadHexWord, IsDeviceOf, IsImageWord}
+
+-- the laws of images: an image is of one state, and has no fault
+abbrev pub OneState : Type 0
+OneState =
+    (state other : DeviceState) (image : List ℕ) → IsImageOf state image → IsImageOf other image → state.identity ≡ other.identity
+    → state.cold_start ≡ other.cold_start → state ≡ other
+
+abbrev pub NoImageFault : Type 0
+NoImageFault = (state : DeviceState) (image : List ℕ) (fault : DeviceFault) → IsImageOf state image → IsImageFault image fault → ⊥
+
+-- a call has one device
+pub IsDeviceOf-one : OneState → (image : Option (List ℕ)) (device other : DeviceState) → IsDeviceOf image device
+    → IsDeviceOf image other → device ≡ other
+IsDeviceOf-one states None device other p q = p ∙ sym q
+IsDeviceOf-one states (Some word) device other p q =
+    let same = decode_of-same word p.2 q.2 p.3 q.3 in
+    let of : IsImageOf device q.2 = subst (λ (image : List ℕ). IsImageOf device image) same p.4 in
+    states device other q.2 of q.4 (p.0 ∙ sym q.0) (p.1 ∙ sym q.1)
+
+-- an element of the first ones, all of which are digits, is a digit
+digit_before : (word : List ℕ) (place n : ℕ) → place < n → n < length word → AllPass is_hex_digit (take n word)
+    → is_hex_digit (slice_index word place) ≡ true
+digit_before word place n before below digits =
+    let long = length-take n word in
+    let digit = All-get_or (λ c. is_hex_digit c ≡ true) (take n word) place 0 (omega (arith, long)) digits in
+    ap is_hex_digit (sym (get_or-take n word place 0 before)) ∙ digit
+
+-- a word is bad hex at one place
+IsBadHexWord-one : (word : List ℕ) (place other : ℕ) → IsBadHexWord word place → IsBadHexWord word other → place ≡ other
+IsBadHexWord-one word _ _ (IsBadHexWord.odd p) (IsBadHexWord.odd q) = refl
+IsBadHexWord-one word _ other (IsBadHexWord.odd p) (IsBadHexWord.no_digit _ even below none digits) = absurd (omega (arith, p, even))
+IsBadHexWord-one word place _ (IsBadHexWord.no_digit _ even below none digits) (IsBadHexWord.odd q) = absurd (omega (arith, q, even))
+IsBadHexWord-one word place other (IsBadHexWord.no_digit _ even below none digits) (IsBadHexWord.no_digit _ _ within other_none all) =
+    elim (cases_order place other) [
+      | inl same ↦ same
+      | inr (inl before) ↦ cc (digit_before word place other before within all, none)
+      | inr (inr after) ↦ cc (digit_before word other place after below digits, other_none)
+    ]
+
+-- a word that is bad hex is that of no image
+bad_is_no_word : (word : List ℕ) (place : ℕ) (bytes : List ℕ) → IsBadHexWord word place → IsImageWord word bytes → ⊥
+bad_is_no_word word _ bytes (IsBadHexWord.odd is) writes =
+    let ok = decode_of-ok word bytes writes in
+    omega (arith, is, ok.0)
+bad_is_no_word word place bytes (IsBadHexWord.no_digit _ even below none digits) writes =
+    let ok = decode_of-ok word bytes writes in
+    let digit = All-get_or (λ c. is_hex_digit c ≡ true) word place 0 below ok.1 in
+    cc (none, digit)
+
+-- a word decodes into room for half as many bytes as if there were more
+half_sized : (word : List ℕ) → decode_sized word (length word / 2) ≡ decode_of word
+half_sized word =
+    elim (cases_eq (length word % 2) 1) [
+      | inl odd ↦ decode_sized-odd word (length word / 2) odd ∙ sym (decode_of-odd word odd)
+      | inr even ↦ decode_sized-twice word (length word / 2) (omega (arith, even))
+    ]
+
+-- the place that an error gives
+abbrev pub place_of : List ℕ → FromHexError → ℕ
+place_of word (InvalidHexCharacter c index) = index
+place_of word _ = length word
+
+-- a word whose decoding gives its first byte that is no digit is bad hex there
+bad_at : (word : List ℕ) (e : FromHexError) (k : ℕ) → e ≡ InvalidHexCharacter (slice_index word k) (0 + k) → length word % 2 ≡ 0
+    → k < length word → is_hex_digit (slice_index word k) ≡ false → AllPass is_hex_digit (take k word)
+    → IsBadHexWord word (place_of word e)
+bad_at word e k given even below none digits =
+    let same : 0 + k ≡ k = omega arith in
+    let at = subst (λ n. IsBadHexWord word n) (sym same) (IsBadHexWord.no_digit k even below none digits) in
+    subst (λ (f : FromHexError). IsBadHexWord word (place_of word f)) (sym given) at
+
+-- a word that does not decode is bad hex
+bad_hex : (word : List ℕ) (e : FromHexError) → decode_of word ≡ Err e → IsBadHexWord word (place_of word e)
+bad_hex word e refused =
+    elim (cases_eq (length word % 2) 1) [
+      | inl odd ↦
+          let is : Err OddLength ≡ Err e = sym (decode_of-odd word odd) ∙ refused in
+          let same : OddLength ≡ e = cc is in
+          subst (λ (f : FromHexError). IsBadHexWord word (place_of word f)) same (IsBadHexWord.odd odd)
+      | inr even ↦
+          let is_even : length word % 2 ≡ 0 = omega (arith, even) in
+          let err = decode_pairs-err 0 word e is_even (sym (decode_of-even word is_even) ∙ refused) in
+          bad_at word e err.0 err.1 is_even err.2 err.3 err.4
+    ]
+
+-- what decoding into that room answers
+refused_is : (decoded : Result (List ℕ) FromHexError) (r : Result Unit FromHexError) (out : List ℕ) (e : FromHexError)
+    → MatchResult decoded (λ bytes. (r ≡ Ok tt) × (out ≡ bytes)) (λ f. r ≡ Err f) → r ≡ Err e → decoded ≡ Err e
+refused_is (Ok bytes) r out e given is = cc (given.0, is)
+refused_is (Err f) r out e given is =
+    let same : f ≡ e = cc (given, is) in
+    ap (λ (g : FromHexError). Err g) same
+
+-- so is a word whose decoding into that room fails
+pub bad_hex_given : (word : List ℕ) (room : ℕ) (r : Result Unit FromHexError) (out : List ℕ) (e : FromHexError) → room ≡ length word / 2
+    → MatchResult (decode_sized word room) (λ bytes. (r ≡ Ok tt) × (out ≡ bytes)) (λ f. r ≡ Err f) → r ≡ Err e
+    → IsBadHexWord word (place_of word e)
+bad_hex_given word room r out e half given is =
+    let sized : decode_sized word room ≡ decode_of word = rw half (half_sized word) in
+    bad_hex word e (sym sized ∙ refused_is (decode_sized word room) r out e given is)
+
+-- and decoding into that room fails in these two ways alone
+pub fails_no_other_way : (word : List ℕ) (room : ℕ) (r : Result Unit FromHexError) (out : List ℕ) (e : FromHexError)
+    → room ≡ length word / 2 → MatchResult (decode_sized word room) (λ bytes. (r ≡ Ok tt) × (out ≡ bytes)) (λ f. r ≡ Err f) → r ≡ Err e
+    → e ≢ OddLength → ((c index : ℕ) → e ≢ InvalidHexCharacter c index) → ⊥
+fails_no_other_way word room r out e half given is even digits =
+    let sized : decode_sized word room ≡ decode_of word = rw half (half_sized word) in
+    elim (decode_of-err word e (sym sized ∙ refused_is (decode_sized word room) r out e given is)) [
+      | inl err ↦ even err.1
+      | inr err ↦ digits _ _ err.1
+    ]
+
+-- bytes have one fault of an image
+IsImageFault-one : (image : List ℕ) (fault other : DeviceFault) → IsImageFault image fault → IsImageFault image other → fault ≡ other
+IsImageFault-one [] BadLength BadLength p q = refl
+IsImageFault-one [] BadLength _ p q = absurd q
+IsImageFault-one [] _ other p q = absurd p
+IsImageFault-one (version ∷ rest) BadVersion BadVersion p q = refl
+IsImageFault-one (version ∷ rest) BadVersion BadLength p q = cc (p, q.1)
+IsImageFault-one (version ∷ rest) BadVersion BadField p q = cc (p, q.1)
+IsImageFault-one (version ∷ rest) BadVersion _ p q = absurd q
+IsImageFault-one (version ∷ rest) BadLength BadVersion p q = cc (q, p.1)
+IsImageFault-one (version ∷ rest) BadLength BadLength p q = refl
+IsImageFault-one (version ∷ rest) BadLength BadField p q =
+    let same : q.0 ≡ p.0 = cc (sym q.1 ∙ p.1) in
+    absurd (p.2 (rw same at q.2))
+IsImageFault-one (version ∷ rest) BadLength _ p q = absurd q
+IsImageFault-one (version ∷ rest) BadField BadVersion p q = cc (q, p.1)
+IsImageFault-one (version ∷ rest) BadField BadLength p q =
+    let same : p.0 ≡ q.0 = cc (sym p.1 ∙ q.1) in
+    absurd (q.2 (rw same at p.2))
+IsImageFault-one (version ∷ rest) BadField BadField p q = refl
+IsImageFault-one (version ∷ rest) BadField _ p q = absurd q
+IsImageFault-one (version ∷ rest) _ other p q = absurd p
+
+-- an image has one fault
+pub HasImageFault-one : (image : Option (List ℕ)) (fault other : CliFault) → HasImageFault image fault → HasImageFault image other
+    → fault ≡ other
+HasImageFault-one (Some word) (BadHex place) (BadHex other) p q = ap (λ (n : ℕ). BadHex n) (IsBadHexWord-one word place other p q)
+HasImageFault-one (Some word) (BadHex place) (Image other) p q = absurd (bad_is_no_word word place q.0 p q.1)
+HasImageFault-one (Some word) (BadHex place) _ p q = absurd q
+HasImageFault-one (Some word) (Image fault) (BadHex place) p q = absurd (bad_is_no_word word place p.0 q p.1)
+HasImageFault-one (Some word) (Image fault) (Image other) p q =
+    let same = decode_of-same word p.0 q.0 p.1 q.1 in
+    let is : IsImageFault q.0 fault = subst (λ (image : List ℕ). IsImageFault image fault) same p.2 in
+    ap (λ (f : DeviceFault). Image f) (IsImageFault-one q.0 fault other is q.2)
+HasImageFault-one (Some word) (Image fault) _ p q = absurd q
+HasImageFault-one (Some word) _ other p q = absurd p
+HasImageFault-one None fault other p q = absurd p
+
+-- an image with a device has no fault
+pub IsDeviceOf-faultless : NoImageFault → (image : Option (List ℕ)) (device : DeviceState) (fault : CliFault) → IsDeviceOf image device
+    → HasImageFault image fault → ⊥
+IsDeviceOf-faultless images (Some word) device (BadHex place) p q = bad_is_no_word word place p.2 q p.3
+IsDeviceOf-faultless images (Some word) device (Image fault) p q =
+    let same = decode_of-same word p.2 q.0 p.3 q.1 in
+    images device q.0 fault (subst (λ (image : List ℕ). IsImageOf device image) same p.4) q.2
+IsDeviceOf-faultless images (Some word) device _ p q = absurd q
+IsDeviceOf-faultless images None device fault p q = absurd q

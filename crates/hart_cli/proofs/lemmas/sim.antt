@@ -1,0 +1,2 @@
+-- `hart sim`.
+pub mod Sim

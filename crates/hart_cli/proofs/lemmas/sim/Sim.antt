@@ -1,0 +1,225 @@
+-- The text of `hart sim`: how it grows, and that an input has one at most.
+use Rattle.std.proofs.Common.{◌≡◌, ℕ, ◌+◌, ◌<◌, List, [], ◌∷◌, ◌++◌, length, take, drop, get_or, min, inl, inr, refl, sym, ap, ap₂, ◌∙◌}
+use Rattle.std.proofs.Common.{subst, arith, Err, ◌≤◌, add-zero, length-append, length-take}
+use Rattle.std.proofs.lemmas.Grind.{flat_map-append}
+use Rattle.std.proofs.lemmas.List.{flat_map_more, take-append-drop, take_more}
+use Rattle.std.proofs.KnownBytes.{Keeps-refl}
+use Rattle.std.specs.List.{enumerate_from, flat_map}
+use Rattle.hart_device.specs.Bench.{bench_process}
+use Rattle.hart_device.specs.Device.{DeviceState}
+use Rattle.hart_device.specs.declared.process.Process.{Process}
+use Rattle.hart_line.specs.world.Promises.{start_from}
+use Rattle.hart_line.specs.world.Faults.{IsFault}
+use Rattle.hart_line.specs.world.Needs.{IsNeededBy}
+use Rattle.hart_line.specs.script.Rows.{HasFirstBadLine, IsScript}
+use Rattle.hart_master.specs.Master.{MasterState}
+use Rattle.hart_line.specs.world.Spoken.{AreSpoken, SpokenFrame}
+use Rattle.hart_line.specs.world.Step.{IsLast}
+use Rattle.hart_line.specs.world.World.{Start, World, state_of}
+use Rattle.hart_line.specs.declared.event.LineEvent.{LineEvent}
+use Rattle.hart_line.specs.declared.fault.Leg.{Leg}
+use Rattle.hart_line.specs.declared.fault.LineFault.{LineFault}
+use Rattle.hart_line.specs.declared.fault.LineFault.TheVariants as line_faults
+use Rattle.hart_line.specs.declared.line.report.Outcome.{Outcome}
+use Rattle.hart_line.specs.declared.line.report.Party.{Party}
+use Rattle.hart_line.specs.declared.line.report.Spoken.{Spoken}
+use Rattle.hart_cli.specs.FaultText.{call_fault}
+use Rattle.hart_cli.specs.sim.Sim.{HasLineFault, IsSimulation, IsSimulationFault, IsWorldText, start_with}
+use Rattle.hart_cli.specs.sim.Text.{outcome_line, sim_text}
+use Rattle.hart_cli.specs.input.Input.{Reads}
+use Rattle.hart_cli.specs.stream.Stream.{Stream}
+use Rattle.hart_cli.specs.input.WholeInput.{WholeOutcome}
+use Rattle.hart_cli.specs.declared.fault.CliFault.{CliFault}
+use Rattle.hart_cli.specs.declared.fault.CliFault.TheVariants as faults
+use Rattle.hart_cli.specs.declared.input.InputEnd.TheVariants.{Ended}
+use Rattle.hart_cli.proofs.lemmas.text.MessageLine.{OneBody}
+
+-- the things of a list that goes on are numbered on
+numbered_on : {X : Type 0} (n : ℕ) (xs more : List X)
+    → enumerate_from n (xs ++ more) ≡ enumerate_from n xs ++ enumerate_from (n + length xs) more
+numbered_on n [] more = ap (λ (k : ℕ). enumerate_from k more) (sym (add-zero n))
+numbered_on n (x ∷ xs) more =
+    let same : n + 1 + length xs ≡ n + length (x ∷ xs) = omega arith in
+    ap (λ zs. (n, x) ∷ zs) (numbered_on (n + 1) xs more ∙ ap (λ (k : ℕ). enumerate_from (n + 1) xs ++ enumerate_from k more) same)
+
+-- the line of one more submission
+pub outcomes_more : (text before line : List ℕ) (outcomes : List Outcome) (i : ℕ) (d : Outcome) → i < length outcomes
+    → text ≡ before ++ flat_map outcome_line (enumerate_from 1 (take i outcomes))
+    → line ≡ outcome_line (i + 1, get_or outcomes i d)
+    → text ++ line ≡ before ++ flat_map outcome_line (enumerate_from 1 (take (i + 1) outcomes))
+outcomes_more text before line outcomes i d below text_is line_is =
+    let number : 1 + length (take i outcomes) ≡ i + 1 = omega (arith, length-take i outcomes) in
+    let more : enumerate_from 1 (take (i + 1) outcomes) ≡ enumerate_from 1 (take i outcomes) ++ (i + 1, get_or outcomes i d) ∷ [] =
+    ap (λ (xs : List Outcome). enumerate_from 1 xs) (take_more outcomes i d below)
+    ∙ numbered_on 1 (take i outcomes) (get_or outcomes i d ∷ [])
+    ∙ ap (λ (k : ℕ). enumerate_from 1 (take i outcomes) ++ (k, get_or outcomes i d) ∷ []) number in
+    rw (text_is, line_is, more)
+    (flat_map_more outcome_line before (enumerate_from 1 (take i outcomes)) (i + 1, get_or outcomes i d))
+
+-- the lines of the first submissions are no longer than those of all
+pub outcomes_fit : (outcomes : List Outcome) (i : ℕ) → length (flat_map outcome_line (enumerate_from 1 (take i outcomes)))
+    ≤ length (flat_map outcome_line (enumerate_from 1 outcomes))
+outcomes_fit outcomes i =
+    let first = enumerate_from 1 (take i outcomes) in
+    let rest = enumerate_from (1 + length (take i outcomes)) (drop i outcomes) in
+    let all = ap (λ (xs : List Outcome). enumerate_from 1 xs) (sym (take-append-drop i outcomes))
+    ∙ numbered_on 1 (take i outcomes) (drop i outcomes) in
+    let long = ap (λ (xs : List (ℕ × Outcome)). length (flat_map outcome_line xs)) all
+    ∙ ap (λ (xs : List ℕ). length xs) (flat_map-append outcome_line first rest)
+    ∙ length-append (flat_map outcome_line first) (flat_map outcome_line rest) in
+    omega (arith, long)
+
+-- the length of the lines up to one more submission, if it is not above the greatest number
+pub outcomes_longer : (len most : ℕ) (line : List ℕ) (outcomes : List Outcome) (i : ℕ) (d : Outcome) → i < length outcomes
+    → len ≡ min (length (flat_map outcome_line (enumerate_from 1 (take i outcomes)))) most
+    → line ≡ outcome_line (i + 1, get_or outcomes i d)
+    → min (len + length line) most ≡ min (length (flat_map outcome_line (enumerate_from 1 (take (i + 1) outcomes)))) most
+outcomes_longer len most line outcomes i d below len_is line_is =
+    let before = flat_map outcome_line (enumerate_from 1 (take i outcomes)) in
+    let more = outcomes_more before [] line outcomes i d below refl line_is in
+    let long = sym (length-append before line) ∙ ap (λ (xs : List ℕ). length xs) more in
+    rw (sym long, len_is) (omega arith)
+
+-- a script starts with the device
+pub same_start : (device : DeviceState) (process : Process) (primary secondary : MasterState) → process ≡ bench_process
+    → primary.retries ≡ 3 → secondary.retries ≡ 3 → start_from device process primary secondary ≡ start_with device
+same_start device process primary secondary is_process is_primary is_secondary = rw (is_process, is_primary, is_secondary) refl
+
+-- the text of a script that was carried out
+pub IsSimulation-run : (first : DeviceState) (input text : List ℕ) (start : Start) (read events : List LineEvent) (device : DeviceState)
+    (outcomes : List Outcome) (spoken : List Spoken) → start ≡ start_with first → IsScript input read → events ≡ read
+    → (world : World) × IsLast start events world
+    → ((world : World) → IsLast start events world → device ≡ state_of start.device world)
+    → ((world : World) → IsLast start events world → outcomes ≡ world.outcomes)
+    → ((world : World) → IsLast start events world → AreSpoken world.spoken spoken)
+    → text ≡ sim_text spoken outcomes device → IsSimulation first input text
+IsSimulation-run first input text start read events device outcomes spoken same script same_events last devices results said text_is =
+    let world = last.0 in
+    let Leads : List LineEvent → Type 0 = λ es. IsLast start es world in
+    let Begins : Start → Type 0 = λ s. IsLast s read world in
+    let given = ap₂ (λ (os : List Outcome) (d : DeviceState). sim_text spoken os d) (results world last.1)
+    (devices world last.1 ∙ ap (λ (s : Start). state_of s.device world) same) in
+    record {
+      events = read;
+      script = script;
+      world = world;
+      last = subst Begins same (subst Leads same_events last.1);
+      world_text = record { spoken = spoken; are_spoken = said world last.1; gives = text_is ∙ given };
+    }
+
+-- the fault of a script that was not carried out
+pub IsSimulationFault-run : (device : DeviceState) (input : List ℕ) (start : Start) (read events : List LineEvent) (fault : LineFault)
+    → start ≡ start_with device → IsScript input read → events ≡ read → IsFault start events fault
+    → IsSimulationFault device input (call_fault fault)
+IsSimulationFault-run device input start read events (line_faults.Undetected number leg) same script same_events is_fault =
+    let At : List LineEvent → Type 0 = λ es. IsFault start es (line_faults.Undetected number leg) in
+    let From : Start → Type 0 = λ s. IsFault s read (line_faults.Undetected number leg) in
+    record { events = read; script = script; is_fault = subst From same (subst At same_events is_fault) }
+IsSimulationFault-run device input start read events (line_faults.BadLine number) same script same_events is_fault = absurd is_fault
+IsSimulationFault-run device input start read events (line_faults.Memory none) same script same_events is_fault =
+    let Needs : List LineEvent → Type 0 = λ es. IsNeededBy es none.items in
+    inr (inl (read, script, subst Needs same_events is_fault))
+
+-- the fault of an input that ended
+pub given_of_input : (device : DeviceState) (reader reader_after writer : Stream) (input : List ℕ) (fault : CliFault)
+    → Reads reader reader_after input Ended → IsSimulationFault device input fault
+    → WholeOutcome (IsSimulation device) (IsSimulationFault device) reader reader_after writer writer (Err fault)
+given_of_input device reader reader_after writer input (faults.Line fault) read is =
+    (record { input = input; whole = read; holds = is }, (Keeps-refl writer.bytes, refl))
+given_of_input device reader reader_after writer input (faults.Memory none) read is =
+    (inr (record { input = input; whole = read; holds = is }), (Keeps-refl writer.bytes, refl))
+given_of_input device reader reader_after writer input _ read is = absurd is
+
+-- the law of scripts: a text is one at most
+abbrev pub OneScript : Type 0
+OneScript = (text : List ℕ) (xs ys : List LineEvent) → IsScript text xs → IsScript text ys → xs ≡ ys
+
+-- the law of worlds: a script has one last world at most
+abbrev pub OneLastWorld : Type 0
+OneLastWorld =
+    (start : Start) (events : List LineEvent) (one other : World) → IsLast start events one → IsLast start events other → one ≡ other
+
+same_spoken : (x y : Spoken) → x.party ≡ y.party → x.preambles ≡ y.preambles → x.bytes ≡ y.bytes → x ≡ y
+same_spoken x y party preambles bytes =
+    ap₂ (λ (p : Party × ℕ) (b : List ℕ). record { party = p.0; preambles = p.1; bytes = b })
+    (ap₂ (λ (p : Party) (n : ℕ). (p, n)) party preambles) bytes
+
+-- frames are spoken in one way
+AreSpoken-one : OneBody → (frames : List SpokenFrame) (xs ys : List Spoken) → AreSpoken frames xs → AreSpoken frames ys → xs ≡ ys
+AreSpoken-one bodies [] [] [] p q = refl
+AreSpoken-one bodies [] [] (y ∷ ys) p q = absurd q
+AreSpoken-one bodies [] (x ∷ xs) ys p q = absurd p
+AreSpoken-one bodies (said ∷ frames) [] ys p q = absurd p
+AreSpoken-one bodies (said ∷ frames) (x ∷ xs) [] p q = absurd q
+AreSpoken-one bodies (said ∷ frames) (x ∷ xs) (y ∷ ys) p q =
+    let first = same_spoken x y (p.0.party ∙ sym q.0.party) (p.0.preambles ∙ sym q.0.preambles)
+    (bodies said.frame x.bytes y.bytes p.0.body q.0.body) in
+    ap₂ (λ (z : Spoken) (zs : List Spoken). z ∷ zs) first (AreSpoken-one bodies frames xs ys p.1 q.1)
+
+-- a world has one text
+IsWorldText-one : OneBody → (start : Start) (world : World) (xs ys : List ℕ) → IsWorldText start world xs → IsWorldText start world ys
+    → xs ≡ ys
+IsWorldText-one bodies start world xs ys p q =
+    let spoken = AreSpoken-one bodies world.spoken p.spoken q.spoken p.are_spoken q.are_spoken in
+    p.gives ∙ ap (λ (frames : List Spoken). sim_text frames world.outcomes (state_of start.device world)) spoken ∙ sym q.gives
+
+-- an input has one text
+pub IsSimulation-one : OneScript → OneLastWorld → OneBody → (device : DeviceState) (input xs ys : List ℕ)
+    → IsSimulation device input xs → IsSimulation device input ys → xs ≡ ys
+IsSimulation-one scripts worlds bodies device input xs ys p q =
+    let start = start_with device in
+    let Leads : List LineEvent → Type 0 = λ events. IsLast start events p.world in
+    let led = subst Leads (scripts input p.events q.events p.script q.script) p.last in
+    let Says : World → Type 0 = λ world. IsWorldText start world xs in
+    IsWorldText-one bodies start q.world xs ys (subst Says (worlds start q.events p.world q.world led q.last) p.world_text)
+    q.world_text
+
+-- the law of bad lines: a script has none
+abbrev pub NoBadLine : Type 0
+NoBadLine = (text : List ℕ) (events : List LineEvent) (number : ℕ) → IsScript text events → HasFirstBadLine text number → ⊥
+
+-- the law of damage: a script with a last world has none that is undetected
+abbrev pub NoFault : Type 0
+NoFault =
+    (start : Start) (events : List LineEvent) (world : World) (number : ℕ) (leg : Leg) → IsLast start events world
+    → IsFault start events (line_faults.Undetected number leg) → ⊥
+
+-- an input with a text has no fault
+pub IsSimulation-faultless : OneScript → NoBadLine → NoFault → (device : DeviceState) (input text : List ℕ) (fault : LineFault)
+    → IsSimulation device input text → HasLineFault device input fault → ⊥
+IsSimulation-faultless scripts lines worlds device input text (line_faults.BadLine number) p bad =
+    lines input p.events number p.script bad
+IsSimulation-faultless scripts lines worlds device input text (line_faults.Undetected number leg) p damage =
+    let Leads : List LineEvent → Type 0 = λ events. IsLast (start_with device) events p.world in
+    worlds (start_with device) damage.events p.world number leg
+    (subst Leads (scripts input p.events damage.events p.script damage.script) p.last) damage.is_fault
+IsSimulation-faultless scripts lines worlds device input text (line_faults.Memory none) p bad = bad
+
+-- the laws of faults: a text has one first bad line at most, and a script one first leg whose damage is undetected
+abbrev pub OneBadLine : Type 0
+OneBadLine = (text : List ℕ) (number other : ℕ) → HasFirstBadLine text number → HasFirstBadLine text other → number ≡ other
+
+abbrev pub OneFault : Type 0
+OneFault =
+    (start : Start) (events : List LineEvent) (number other : ℕ) (leg another : Leg)
+    → IsFault start events (line_faults.Undetected number leg) → IsFault start events (line_faults.Undetected other another)
+    → (number ≡ other) × (leg ≡ another)
+
+-- an input has one fault
+pub HasLineFault-one : OneScript → OneBadLine → NoBadLine → OneFault → (device : DeviceState) (input : List ℕ)
+    (fault other : LineFault) → HasLineFault device input fault → HasLineFault device input other → fault ≡ other
+HasLineFault-one scripts bad_lines lines legs device input (line_faults.BadLine number) (line_faults.BadLine other) p q =
+    ap (λ (n : ℕ). line_faults.BadLine n) (bad_lines input number other p q)
+HasLineFault-one scripts bad_lines lines legs device input (line_faults.BadLine number) (line_faults.Undetected other leg) p q =
+    absurd (lines input q.events number q.script p)
+HasLineFault-one scripts bad_lines lines legs device input (line_faults.Undetected number leg) (line_faults.BadLine other) p q =
+    absurd (lines input p.events other p.script q)
+HasLineFault-one scripts bad_lines lines legs device input (line_faults.Undetected number leg) (line_faults.Undetected other another)
+    p q =
+    let At : List LineEvent → Type 0 = λ events. IsFault (start_with device) events (line_faults.Undetected number leg) in
+    let same = legs (start_with device) q.events number other leg another
+    (subst At (scripts input p.events q.events p.script q.script) p.is_fault) q.is_fault in
+    ap₂ (λ (n : ℕ) (l : Leg). line_faults.Undetected n l) same.0 same.1
+HasLineFault-one scripts bad_lines lines legs device input (line_faults.Memory none) other p q = absurd p
+HasLineFault-one scripts bad_lines lines legs device input (line_faults.BadLine number) (line_faults.Memory none) p q = absurd q
+HasLineFault-one scripts bad_lines lines legs device input (line_faults.Undetected number leg) (line_faults.Memory none) p q = absurd q

@@ -1,0 +1,8 @@
+-- Texts: hex items, and lines of words and bytes.
+pub mod InputChars
+pub mod Hex
+pub mod Items
+pub mod KnownBytes
+pub mod Words
+pub mod MessageLine
+pub mod Faultless

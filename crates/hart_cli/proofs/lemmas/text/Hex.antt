@@ -1,0 +1,86 @@
+-- Upper case hex, and one more byte in a line of it.
+use Rattle.std.proofs.Common.{◌≡◌, ℕ, zero, suc, ◌<◌, ◌≤◌, ◌+◌, ◌*◌, ◌/◌, ◌%◌, List, [], ◌∷◌, ◌++◌, length, take, map, get_or, refl, sym}
+use Rattle.std.proofs.Common.{ap}
+use Rattle.std.proofs.Common.{ap₂, ◌∙◌, append_assoc, arith, length-append, slice_index}
+use Rattle.std.proofs.Math.ListN.{get_or-map}
+use Rattle.std.specs.Char.{to_ascii_uppercase}
+use Rattle.std.specs.List.{join_with_byte}
+use Rattle.std.proofs.lemmas.List.{append-nil, map_more, take_at}
+use Rattle.hart_cli.specs.text.Hex.{hex_items}
+use Rattle.hex.proofs.HexLemmas.{length-encode_with}
+use Rattle.hex.specs.Hex.{encode_lower, encode_upper, encode_with, lower_digits, upper_digits}
+
+-- a digit in upper case
+upper_digit : (n : ℕ) → to_ascii_uppercase (get_or lower_digits n 0) ≡ get_or upper_digits n 0
+upper_digit n = sym (get_or-map to_ascii_uppercase lower_digits n 0)
+
+-- lower case digits in upper case
+pub upper-encode_lower : (bytes : List ℕ) → map to_ascii_uppercase (encode_lower bytes) ≡ encode_upper bytes
+unfolding encode_with
+upper-encode_lower [] = refl
+upper-encode_lower (byte ∷ bytes) =
+    ap₂ (λ (digit : ℕ) (digits : List ℕ). digit ∷ digits) (upper_digit (byte / 16))
+    (ap₂ (λ (digit : ℕ) (digits : List ℕ). digit ∷ digits) (upper_digit (byte % 16)) (upper-encode_lower bytes))
+
+-- one more part after the last of one or more
+join_with_byte-push : (c : ℕ) (x : List ℕ) (xs : List (List ℕ)) (y : List ℕ)
+    → join_with_byte c ((x ∷ xs) ++ y ∷ []) ≡ join_with_byte c (x ∷ xs) ++ c ∷ y
+join_with_byte-push c x [] y = refl
+join_with_byte-push c x (z ∷ zs) y =
+    ap (λ (ws : List ℕ). x ++ c ∷ ws) (join_with_byte-push c z zs y) ∙ sym (append_assoc x (c ∷ join_with_byte c (z ∷ zs)) (c ∷ y))
+
+-- the first byte
+pub hex_items-first : (bytes line digits : List ℕ) (i d : ℕ) → i ≤ 0 → i < length bytes → line ≡ hex_items (take i bytes)
+    → digits ≡ encode_upper (get_or bytes i d ∷ []) → line ++ digits ≡ hex_items (take (i + 1) bytes)
+hex_items-first [] line digits i d z h e f = absurd (omega arith)
+hex_items-first (x ∷ xs) line digits zero d z h e f = rw (e, f) refl
+hex_items-first (x ∷ xs) line digits (suc i) d z h e f = absurd (omega arith)
+
+-- a further byte, after a space
+pub hex_items-more : (bytes line digits : List ℕ) (i d : ℕ) → 0 < i → i < length bytes → line ≡ hex_items (take i bytes) ++ 32 ∷ []
+    → digits ≡ encode_upper (get_or bytes i d ∷ []) → line ++ digits ≡ hex_items (take (i + 1) bytes)
+hex_items-more [] line digits i d z h e f = absurd (omega arith)
+hex_items-more (x ∷ xs) line digits zero d z h e f = absurd (omega arith)
+hex_items-more (x ∷ xs) line digits (suc i) d z h e f =
+    let parts = map (λ (byte : ℕ). encode_upper (byte ∷ [])) (take i xs) in
+    ap (λ (us : List ℕ). us ++ digits) e ∙ append_assoc (hex_items (x ∷ take i xs)) (32 ∷ []) digits
+    ∙ ap (λ (us : List ℕ). hex_items (x ∷ take i xs) ++ 32 ∷ us) f
+    ∙ sym (join_with_byte-push 32 (encode_upper (x ∷ [])) parts (encode_upper (get_or xs i d ∷ [])))
+    ∙ sym (ap (λ (ps : List (List ℕ)). join_with_byte 32 ps) (map_more (λ (byte : ℕ). encode_upper (byte ∷ [])) (x ∷ xs) (suc i) d h))
+
+-- the digits of bytes and of more bytes
+encode_upper-append : (bytes more : List ℕ) → encode_upper (bytes ++ more) ≡ encode_upper bytes ++ encode_upper more
+unfolding encode_with
+encode_upper-append [] more = refl
+encode_upper-append (byte ∷ bytes) more =
+    ap (λ (digits : List ℕ). slice_index upper_digits (byte / 16) ∷ slice_index upper_digits (byte % 16) ∷ digits)
+    (encode_upper-append bytes more)
+
+-- no bytes have no digits
+pub encode_upper-none : (line : List ℕ) → line ≡ line ++ encode_upper []
+unfolding encode_with
+encode_upper-none line = sym (append-nil line)
+
+-- the digits of a chunk, and then those of the rest
+pub encode_upper-chunk : (whole line line' digits back rest chunk rest' : List ℕ) → line ++ encode_upper rest ≡ whole
+    → rest ≡ chunk ++ rest' → digits ≡ encode_upper chunk → line' ≡ line ++ take (2 * length chunk) (digits ++ back)
+    → line' ++ encode_upper rest' ≡ whole
+encode_upper-chunk whole line line' digits back rest chunk rest' so_far parts is_digits is_line =
+    let first : take (2 * length chunk) (digits ++ back) ≡ encode_upper chunk =
+    rw is_digits (take_at (encode_upper chunk) back _ (length-encode_with upper_digits chunk)) in
+    ap (λ (xs : List ℕ). xs ++ encode_upper rest') (is_line ∙ ap (λ (xs : List ℕ). line ++ xs) first)
+    ∙ append_assoc line (encode_upper chunk) (encode_upper rest')
+    ∙ ap (λ (xs : List ℕ). line ++ xs) (sym (encode_upper-append chunk rest') ∙ ap (λ (xs : List ℕ). encode_upper xs) (sym parts))
+    ∙ so_far
+
+-- the lengths of two lines with their digits still to come
+pub encode_upper-lengths : (line other bytes others : List ℕ) → line ++ encode_upper bytes ≡ other ++ encode_upper others
+    → length line + 2 * length bytes ≡ length other + 2 * length others
+encode_upper-lengths line other bytes others same = omega (
+  arith,
+  ap length same,
+  length-append line (encode_upper bytes),
+  length-append other (encode_upper others),
+  length-encode_with upper_digits bytes,
+  length-encode_with upper_digits others,
+)

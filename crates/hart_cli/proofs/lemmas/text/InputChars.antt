@@ -1,0 +1,79 @@
+-- An input has one list of characters.
+use Rattle.std.proofs.Common.{◌≡◌, ℕ, ◌+◌, List, [], ◌∷◌, ◌++◌, length, inl, Option, Some, refl, sym, ap, subst, arith}
+use Rattle.std.proofs.lemmas.List.{append-nil, length-append}
+use Rattle.hart_frame.specs.heard.Character.{Character}
+use Rattle.hart_cli.specs.input.Input.{Ending}
+use Rattle.hart_cli.specs.text.InputChars.{all, bad_hex, decided_bad_hex, failure, HasChars, limit}
+use Rattle.hart_cli.specs.text.Items.{closed, HasBadHex, IsDecidedBadHexAt, MayBegin, ReadsSoFarAs, ReadsUpTo, Separator}
+use Rattle.hart_cli.specs.declared.fault.CliFault.{CliFault}
+use Rattle.hart_cli.specs.declared.fault.CliFault.TheVariants as faults
+use Rattle.hart_cli.proofs.lemmas.text.Items.{NoPieceBegins-nil, one_reading, ReadsUpTo-more}
+
+-- bad hex is at one place, after the same characters
+one_place : (text : List ℕ) (xs ys : List Character) (p q : ℕ) → HasBadHex text xs p → HasBadHex text ys q → (xs ≡ ys) × (p ≡ q)
+one_place text xs ys p q h k =
+    let same = one_reading text xs h.rest ys k.rest h.reads k.reads h.no_piece k.no_piece in
+    let long = ap (λ (us : List ℕ). length us) same.1 in
+    let n = h.begins in
+    let m = k.begins in
+    (same.0, omega arith)
+
+-- what has bad hex does not read to its end
+not_both : (text : List ℕ) (xs ys : List Character) (p : ℕ) → ReadsUpTo text xs [] → HasBadHex text ys p → ⊥
+not_both text xs ys p h k =
+    let same = one_reading text xs [] ys k.rest h k.reads NoPieceBegins-nil k.no_piece in
+    k.more (sym same.1)
+
+-- what has bad hex whatever follows has it as it stands
+as_it_stands : (text : List ℕ) (chars : List Character) (place : ℕ) → IsDecidedBadHexAt text chars place → HasBadHex text chars place
+as_it_stands text chars place h = subst (λ (us : List ℕ). HasBadHex us chars place) (append-nil text) (h [])
+
+-- bad hex is decided at one place
+one_decided : (text : List ℕ) (xs ys : List Character) (p q : ℕ) → IsDecidedBadHexAt text xs p → IsDecidedBadHexAt text ys q
+    → (xs ≡ ys) × (p ≡ q)
+one_decided text xs ys p q h k = one_place text xs ys p q (as_it_stands text xs p h) (as_it_stands text ys q k)
+
+-- a text reads so far as one list of characters
+one_so_far : (text : List ℕ) (xs ys : List Character) → ReadsSoFarAs text xs → ReadsSoFarAs text ys → xs ≡ ys
+one_so_far text xs ys h k = (one_reading text xs h.rest ys k.rest h.reads k.reads h.no_piece k.no_piece).0
+
+-- an input has one list of characters and one fault
+pub one_input : (text : List ℕ) (ending : Ending) (xs ys : List Character) (f g : Option CliFault)
+    → HasChars text ending xs f → HasChars text ending ys g → (xs ≡ ys) × (f ≡ g)
+one_input text _ _ _ _ _ (all xs h) (all ys k) = ((one_reading (closed text) xs [] ys [] h k NoPieceBegins-nil NoPieceBegins-nil).0, refl)
+one_input text _ _ _ _ _ (all xs h) (bad_hex ys q k) = absurd (not_both (closed text) xs ys q h k)
+one_input text _ _ _ _ _ (bad_hex xs p h) (all ys k) = absurd (not_both (closed text) ys xs p k h)
+one_input text _ _ _ _ _ (bad_hex xs p h) (bad_hex ys q k) =
+    let same = one_place (closed text) xs ys p q h k in (same.0, ap (λ (n : ℕ). Some (faults.BadHex n)) same.1)
+one_input text _ _ _ _ _ (decided_bad_hex xs p h) (decided_bad_hex ys q k) =
+    let same = one_decided text xs ys p q h k in (same.0, ap (λ (n : ℕ). Some (faults.BadHex n)) same.1)
+one_input text _ _ _ _ _ (failure xs h) (failure ys k) = (one_so_far text xs ys h k, refl)
+one_input text _ _ _ _ _ (limit xs h) (limit ys k) = (one_so_far text xs ys h k, refl)
+
+-- a piece may begin at the end
+pub may_begin-nil : MayBegin []
+may_begin-nil = record {
+  more = 32 ∷ [];
+  piece = Separator 32;
+  tail = [];
+  begins = record { valid = inl refl; spelled = refl; whole = tt };
+}
+
+-- what stands before the end of nothing is nothing
+append_nil_left : (xs ys : List ℕ) → xs ++ ys ≡ [] → xs ≡ []
+append_nil_left [] ys e = refl
+append_nil_left (x ∷ xs) ys e = cc e
+
+-- bad hex is decided if no piece may begin in the rest
+pub decided_rest : (text : List ℕ) (chars : List Character) (rest : List ℕ) (place : ℕ) → ReadsUpTo text chars rest
+    → place + length rest ≡ length text → (MayBegin rest → ⊥) → IsDecidedBadHexAt text chars place
+decided_rest text chars rest place r e n = λ more.
+    let all = length-append text more in
+    let after = length-append rest more in
+    record {
+      rest = rest ++ more;
+      reads = ReadsUpTo-more text chars rest more r;
+      begins = omega (arith, all, after, e);
+      more = λ none. n (subst MayBegin (sym (append_nil_left rest more none)) may_begin-nil);
+      no_piece = λ p tail h. n (record { more = more; piece = p; tail = tail; begins = h });
+    }

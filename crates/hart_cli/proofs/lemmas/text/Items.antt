@@ -1,0 +1,235 @@
+-- Texts of items: a text reads in one way, and what follows a text leaves what was read.
+use Rattle.std.proofs.Common.{◌≡◌, ℕ, ◌+◌, ◌<◌, ◌≤◌, ◌-◌, inl, inr, true, List, [], ◌∷◌, ◌++◌, length, take, drop, Option, refl, sym, ap}
+use Rattle.std.proofs.Common.{◌∙◌, ◌*◌, Some, subst, arith}
+use Rattle.std.proofs.lemmas.List.{append-nil, append_assoc, drop-drop, length-append, length-drop, take_rest}
+use Rattle.hart_frame.specs.heard.Character.{Character}
+use Rattle.hart_cli.specs.text.Items.{BeginsAs, BeginsWith, IsSeparator, IsWholeBefore, Item, meaning, NoPieceBegins, nothing}
+use Rattle.hart_cli.specs.text.Items.{Piece, piece, ReadsUpTo, Separator, spelling}
+use Rattle.hart_line.specs.script.Items.{Faulty, Plain, item_meaning}
+use Rattle.std.proofs.Math.Seq.{drop-append_seam}
+use Rattle.std.specs.Option.{option_to_list}
+use Rattle.hex.specs.Hex.{is_hex_digit}
+
+-- a separator is no digit
+separator_is_no_digit : (byte : ℕ) → IsSeparator byte → is_hex_digit byte ≡ true → ⊥
+separator_is_no_digit byte (inl e) d = let n : is_hex_digit 32 ≡ true = subst (λ (x : ℕ). is_hex_digit x ≡ true) e d in cc n
+separator_is_no_digit byte (inr (inl e)) d = let n : is_hex_digit 9 ≡ true = subst (λ (x : ℕ). is_hex_digit x ≡ true) e d in cc n
+separator_is_no_digit byte (inr (inr (inl e))) d = let n : is_hex_digit 13 ≡ true = subst (λ (x : ℕ). is_hex_digit x ≡ true) e d in cc n
+separator_is_no_digit byte (inr (inr (inr e))) d = let n : is_hex_digit 10 ≡ true = subst (λ (x : ℕ). is_hex_digit x ≡ true) e d in cc n
+
+-- a separator is not the high digit of an item
+separator_is_no_high : (a h : ℕ) → IsSeparator a → is_hex_digit h ≡ true → a ≡ h → ⊥
+separator_is_no_high a h s d e = separator_is_no_digit a s (subst (λ (x : ℕ). is_hex_digit x ≡ true) (sym e) d)
+
+-- an item is not whole before a `!`
+not_whole : (tail more : List ℕ) (high low : ℕ) → IsWholeBefore tail (Item (Plain high low)) → tail ≡ 33 ∷ more → ⊥
+not_whole [] more high low w e = cc e
+not_whole (x ∷ xs) more high low w e = w.1 (cc e)
+
+-- two pieces that begin one text are one piece
+pub same_piece : (text : List ℕ) (p q : Piece) (s t : List ℕ) → BeginsWith text p s → BeginsWith text q t → (p ≡ q) × (s ≡ t)
+same_piece text (Separator a) (Separator b) s t h k = let e = sym h.spelled ∙ k.spelled in (cc, cc)
+same_piece text (Separator a) (Item (Plain x y)) s t h k =
+    let e = sym h.spelled ∙ k.spelled in absurd (separator_is_no_high a x h.valid k.valid.0 (cc))
+same_piece text (Separator a) (Item (Faulty x y v w)) s t h k =
+    let e = sym h.spelled ∙ k.spelled in absurd (separator_is_no_high a x h.valid k.valid.0.0 (cc))
+same_piece text (Item (Plain x y)) (Separator a) s t h k =
+    let e = sym k.spelled ∙ h.spelled in absurd (separator_is_no_high a x k.valid h.valid.0 (cc))
+same_piece text (Item (Faulty x y v w)) (Separator a) s t h k =
+    let e = sym k.spelled ∙ h.spelled in absurd (separator_is_no_high a x k.valid h.valid.0.0 (cc))
+same_piece text (Item (Plain x y)) (Item (Plain x' y')) s t h k = let e = sym h.spelled ∙ k.spelled in (cc, cc)
+same_piece text (Item (Plain x y)) (Item (Faulty x' y' v w)) s t h k =
+    let e = sym h.spelled ∙ k.spelled in absurd (not_whole s (v ∷ w ∷ t) x y h.whole (cc))
+same_piece text (Item (Faulty x' y' v w)) (Item (Plain x y)) s t h k =
+    let e = sym k.spelled ∙ h.spelled in absurd (not_whole t (v ∷ w ∷ s) x y k.whole (cc))
+same_piece text (Item (Faulty x y v w)) (Item (Faulty x' y' v' w')) s t h k = let e = sym h.spelled ∙ k.spelled in (cc, cc)
+
+-- a whole piece stays whole, whatever follows
+whole_before_more : (tail more : List ℕ) (p : Piece) → IsWholeBefore tail p → IsWholeBefore (tail ++ more) p
+whole_before_more tail more (Separator a) w = tt
+whole_before_more [] more (Item (Plain x y)) w = absurd (w.0 refl)
+whole_before_more (n ∷ tail) more (Item (Plain x y)) w = (λ e. cc e, w.1)
+whole_before_more [] more (Item (Faulty x y v z)) w = absurd (w.0 refl)
+whole_before_more (n ∷ tail) more (Item (Faulty x y v z)) w = (λ e. cc e, tt)
+
+-- a text begins with its piece, whatever follows
+BeginsWith-more : (text tail more : List ℕ) (p : Piece) → BeginsWith text p tail → BeginsWith (text ++ more) p (tail ++ more)
+BeginsWith-more text tail more p h = record {
+  valid = h.valid;
+  spelled = ap (λ (xs : List ℕ). xs ++ more) h.spelled ∙ append_assoc (spelling p) tail more;
+  whole = whole_before_more tail more p h.whole;
+}
+
+-- a text reads up to its rest, whatever follows
+pub ReadsUpTo-more : (text : List ℕ) (chars : List Character) (rest more : List ℕ) → ReadsUpTo text chars rest
+    → ReadsUpTo (text ++ more) chars (rest ++ more)
+ReadsUpTo-more _ _ _ more (nothing rest) = nothing (rest ++ more)
+ReadsUpTo-more _ _ _ more (piece text first tail chars rest h r) =
+    piece (text ++ more) first (tail ++ more) chars (rest ++ more) (BeginsWith-more text tail more first h)
+    (ReadsUpTo-more tail chars rest more r)
+
+-- a text reads up to its rest and on
+pub ReadsUpTo-on : (text : List ℕ) (xs : List Character) (rest : List ℕ) (ys : List Character) (last : List ℕ) → ReadsUpTo text xs rest
+    → ReadsUpTo rest ys last → ReadsUpTo text (xs ++ ys) last
+ReadsUpTo-on _ _ _ ys last (nothing rest) k = k
+ReadsUpTo-on _ _ _ ys last (piece text first tail chars rest h r) k =
+    subst (λ (zs : List Character). ReadsUpTo text zs last) (sym (append_assoc (meaning first) chars ys))
+    (piece text first tail (chars ++ ys) last h (ReadsUpTo-on tail chars rest ys last r k))
+
+-- a text reads up to its rest and one piece on
+pub ReadsUpTo-piece : (text : List ℕ) (chars : List Character) (rest : List ℕ) (p : Piece) (tail : List ℕ) → ReadsUpTo text chars rest
+    → BeginsWith rest p tail → ReadsUpTo text (chars ++ meaning p) tail
+ReadsUpTo-piece text chars rest p tail r h =
+    ReadsUpTo-on text chars rest (meaning p) tail r
+    (subst (λ (zs : List Character). ReadsUpTo rest zs tail) (append-nil (meaning p)) (piece rest p tail [] tail h (nothing tail)))
+
+-- a text that reads as characters reads as the first of them
+pub ReadsUpTo-part : (text : List ℕ) (all xs ys : List Character) (rest : List ℕ) → ReadsUpTo text all rest → all ≡ xs ++ ys
+    → (middle : List ℕ) × ReadsUpTo text xs middle
+ReadsUpTo-part text all [] ys rest h e = (text, nothing text)
+ReadsUpTo-part _ _ (x ∷ xs) ys _ (nothing rest) e = cc e
+ReadsUpTo-part _ _ (x ∷ xs) ys _ (piece text (Separator byte) tail chars rest b r) e =
+    let part = ReadsUpTo-part tail chars (x ∷ xs) ys rest r e in
+    (part.0, piece text (Separator byte) tail (x ∷ xs) part.0 b part.1)
+ReadsUpTo-part _ _ (x ∷ xs) ys _ (piece text (Item item) tail chars rest b r) e =
+    let same : item_meaning item ≡ x = cc in
+    let after : chars ≡ xs ++ ys = cc in
+    let part = ReadsUpTo-part tail chars xs ys rest r after in
+    let Of : Character → Type 0 = λ c. ReadsUpTo text (c ∷ xs) part.0 in
+    (part.0, subst Of same (piece text (Item item) tail xs part.0 b part.1))
+
+-- a text is read on from a place
+pub read_on : (text : List ℕ) (chars more : List Character) (place len : ℕ) → ReadsUpTo text chars (drop place text)
+    → ReadsUpTo (take (length text - place) (drop place text)) more (drop len (take (length text - place) (drop place text)))
+    → ReadsUpTo text (chars ++ more) (drop (place + len) text)
+read_on text chars more place len r h =
+    let rest : take (length text - place) (drop place text) ≡ drop place text = take_rest text place in
+    let Of : List ℕ → Type 0 = λ xs. ReadsUpTo xs more (drop len xs) in
+    let To : List ℕ → Type 0 = λ xs. ReadsUpTo text (chars ++ more) xs in
+    subst To (drop-drop len place text)
+    (ReadsUpTo-on text chars (drop place text) more (drop len (drop place text)) r (subst Of rest h))
+
+-- a reading goes on after a shorter one
+record GoesOn (xs : List Character) (rest : List ℕ) (ys : List Character) (last : List ℕ) : Type 0 where
+  between : List Character
+  reads : ReadsUpTo rest between last
+  chars : ys ≡ xs ++ between
+
+-- a reading up to where no piece begins goes on after each other one
+goes_on : (text : List ℕ) (xs : List Character) (rest : List ℕ) (ys : List Character) (last : List ℕ) → ReadsUpTo text xs rest
+    → ReadsUpTo text ys last → NoPieceBegins last → GoesOn xs rest ys last
+goes_on _ _ _ ys last (nothing rest) k n = record { between = ys; reads = k; chars = refl }
+goes_on _ _ _ _ _ (piece text p s cs rest h r) (nothing last) n = absurd (n p s h)
+goes_on _ _ _ _ _ (piece text p s cs rest h r) (piece _ q t ds last k l) n =
+    let same = same_piece text p q s t h k in
+    let on = goes_on s cs rest ds last r (subst (λ (us : List ℕ). ReadsUpTo us ds last) (sym same.1) l) n in
+    record {
+      between = on.between;
+      reads = on.reads;
+      chars = ap (λ (u : Piece). meaning u ++ ds) (sym same.0) ∙ ap (λ (us : List Character). meaning p ++ us) on.chars
+          ∙ sym (append_assoc (meaning p) cs on.between);
+    }
+
+-- nothing is read if no piece begins
+pub stays : (rest : List ℕ) (chars : List Character) (last : List ℕ) → ReadsUpTo rest chars last → NoPieceBegins rest
+    → (chars ≡ []) × (rest ≡ last)
+stays _ _ _ (nothing last) n = (refl, refl)
+stays _ _ _ (piece rest p tail cs last h r) n = absurd (n p tail h)
+
+-- a text reads in one way up to where no piece begins
+pub one_reading : (text : List ℕ) (xs : List Character) (rest : List ℕ) (ys : List Character) (last : List ℕ) → ReadsUpTo text xs rest
+    → ReadsUpTo text ys last → NoPieceBegins rest → NoPieceBegins last → (xs ≡ ys) × (rest ≡ last)
+one_reading text xs rest ys last h k n m =
+    let on = goes_on text xs rest ys last h k m in
+    let still = stays rest on.between last on.reads n in
+    (sym (on.chars ∙ ap (λ (us : List Character). xs ++ us) still.0 ∙ append-nil xs), still.1)
+
+-- what is left is no longer than the text
+pub ReadsUpTo-length : (text : List ℕ) (chars : List Character) (rest : List ℕ) → ReadsUpTo text chars rest → length rest ≤ length text
+ReadsUpTo-length _ _ _ (nothing rest) = omega arith
+ReadsUpTo-length _ _ _ (piece text p tail cs rest h r) =
+    let le = ReadsUpTo-length tail cs rest r in
+    let long = ap (λ (us : List ℕ). length us) h.spelled ∙ length-append (spelling p) tail in
+    omega arith
+
+-- a piece has a length
+spelling-length : (p : Piece) → 0 < length (spelling p)
+spelling-length (Separator a) = omega arith
+spelling-length (Item (Plain x y)) = omega arith
+spelling-length (Item (Faulty x y v w)) = omega arith
+
+-- no piece begins at the end
+pub NoPieceBegins-nil : NoPieceBegins []
+NoPieceBegins-nil (Separator a) tail h = cc (h.spelled)
+NoPieceBegins-nil (Item (Plain x y)) tail h = cc (h.spelled)
+NoPieceBegins-nil (Item (Faulty x y v w)) tail h = cc (h.spelled)
+
+-- something has a length
+some_length : (xs : List ℕ) → (xs ≡ [] → ⊥) → 0 < length xs
+some_length [] some = absurd (some refl)
+some_length (x ∷ xs) some = omega arith
+
+-- a piece takes two bytes at least for a character that it means
+few_meant : (p : Piece) → 2 * length (meaning p) ≤ length (spelling p)
+few_meant (Separator a) = omega arith
+few_meant (Item (Plain x y)) = omega arith
+few_meant (Item (Faulty x y v w)) = omega arith
+
+pub few_read : (text : List ℕ) (char : Option Character) (len : ℕ) → BeginsAs text char len → 2 * length (option_to_list char) ≤ len
+few_read text char len b =
+    let few = few_meant b.piece in
+    let means = ap (λ (xs : List Character). length xs) b.means in
+    omega (arith, few, means, b.long)
+
+-- a byte stands after an item
+item_inside : (text tail : List ℕ) (p : Piece) (x : Character) → BeginsWith text p tail → meaning p ≡ x ∷ []
+    → length (spelling p) < length text
+item_inside text tail (Separator a) x h e = cc e
+item_inside text tail (Item (Plain high low)) x h e =
+    let long = ap (λ (us : List ℕ). length us) h.spelled in
+    let after = some_length tail h.whole.0 in
+    omega (arith, long, after)
+item_inside text tail (Item (Faulty high low fault_high fault_low)) x h e =
+    let long = ap (λ (us : List ℕ). length us) h.spelled in
+    let after = some_length tail h.whole.0 in
+    omega (arith, long, after)
+
+pub char_inside : (text : List ℕ) (char : Option Character) (x : Character) (len : ℕ) → BeginsAs text char len → char ≡ Some x
+    → (2 ≤ len) × (len < length text)
+char_inside text char x len b is =
+    let few = few_read text char len b in
+    let one = ap (λ (c : Option Character). length (option_to_list c)) is in
+    let inside = item_inside text b.tail b.piece x b.begins (b.means ∙ ap (λ (c : Option Character). option_to_list c) is) in
+    (omega (arith, few, one), omega (arith, inside, b.long))
+
+-- a text is read one piece further
+pub piece_read : (text : List ℕ) (chars new : List Character) (place : ℕ) (char : Option Character) (len : ℕ) → place ≤ length text
+    → ReadsUpTo text chars (drop place text) → BeginsAs (take (length text - place) (drop place text)) char len
+    → new ≡ chars ++ option_to_list char → (0 < len) × (place + len ≤ length text) × ReadsUpTo text new (drop (place + len) text)
+piece_read text chars new place char len within r b e =
+    let rest : take (length text - place) (drop place text) ≡ drop place text = take_rest text place in
+    let h : BeginsWith (drop place text) b.piece b.tail = subst (λ (xs : List ℕ). BeginsWith xs b.piece b.tail) rest b.begins in
+    let left = length-drop place text in
+    let long = ap (λ (xs : List ℕ). length xs) h.spelled ∙ length-append (spelling b.piece) b.tail in
+    let some = spelling-length b.piece in
+    let size = b.long in
+    let tail : drop (place + len) text ≡ b.tail =
+    ap (λ (n : ℕ). drop (place + n) text) (sym size) ∙ sym (drop-drop (length (spelling b.piece)) place text)
+    ∙ ap (λ (xs : List ℕ). drop (length (spelling b.piece)) xs) h.spelled ∙ drop-append_seam (spelling b.piece) b.tail in (
+      omega arith,
+      omega arith,
+      subst (λ (xs : List ℕ). ReadsUpTo text new xs) (sym tail)
+          (subst (λ (zs : List Character). ReadsUpTo text zs b.tail) (ap (λ (zs : List Character). chars ++ zs) b.means ∙ sym e)
+          (ReadsUpTo-piece text chars (drop place text) b.piece b.tail r h)),
+    )
+
+-- a text has no more characters than bytes before its rest
+pub ReadsUpTo-few : (text : List ℕ) (chars : List Character) (rest : List ℕ) → ReadsUpTo text chars rest
+    → length chars + length rest ≤ length text
+ReadsUpTo-few _ _ _ (nothing rest) = omega arith
+ReadsUpTo-few _ _ _ (piece text p tail chars rest h r) =
+    let few = ReadsUpTo-few tail chars rest r in
+    let one = few_meant p in
+    let long = ap (λ (us : List ℕ). length us) h.spelled ∙ length-append (spelling p) tail in
+    let all = length-append (meaning p) chars in
+    omega (arith, few, one, long, all)

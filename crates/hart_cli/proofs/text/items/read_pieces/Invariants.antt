@@ -1,0 +1,14 @@
+use Rattle.std.proofs.Common.{◌≡◌, ◌-◌, ◌≤◌, ◌*◌, length, drop}
+use Rattle.hart_cli.specs.text.Items.{ReadsUpTo}
+use Rattle.hart_cli.proofs.text.items.read_pieces.Given as goal
+
+abbrev pub invariant-loop-lead : goal.invariant-loop-lead
+invariant-loop-lead l = record {
+  within : l.place ≤ length l.text;
+  reads : ReadsUpTo l.text l.chars.items (drop l.place l.text);
+  few : 2 * length l.chars.items ≤ l.place;
+  same_room : l.chars.room ≡ l.initial.chars.room;
+}
+
+abbrev pub decreases-loop-lead : goal.decreases-loop-lead
+decreases-loop-lead l = length l.text - l.place

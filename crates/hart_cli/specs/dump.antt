@@ -1,0 +1,4 @@
+-- `hart dump`.
+pub mod Text
+pub mod Dump
+pub mod FrameLines

@@ -1,0 +1,54 @@
+-- The lines of `hart dump` (own profile).
+use Rattle.std.specs.Prelude.{ℕ, ◌/◌, ◌%◌, ◌==◌, ◌&&◌, Bool, true, false, if◌then◌else◌, List, [], ◌∷◌, codes, decimal}
+use Rattle.std.specs.List.{flat_map}
+use Rattle.hex.specs.Hex.{encode_upper}
+use Rattle.hart_values.specs.address.DeviceNumbers.{DeviceNumbers}
+use Rattle.hart_values.specs.declared.address.Address.{Address}
+use Rattle.hart_values.specs.declared.address.Address.TheVariants.{Polling, Unique}
+use Rattle.hart_values.specs.declared.master_id.MasterId.{MasterId}
+use Rattle.hart_values.specs.declared.master_id.MasterId.TheVariants.{Primary, Secondary}
+use Rattle.hart_frame.specs.declared.wire.kind.FrameKind.{FrameKind}
+use Rattle.hart_frame.specs.declared.wire.kind.FrameKind.TheVariants.{Stx, Ack}
+use Rattle.hart_frame.specs.declared.heard.found.Found.{Found}
+use Rattle.hart_cli.specs.text.Words.{bytes_word, line_of}
+
+-- The word of a kind of frame is `STX` for an STX and `ACK` for an ACK.
+abbrev pub kind_word : FrameKind → List ℕ
+kind_word Stx = codes "STX"
+kind_word Ack = codes "ACK"
+
+-- The word of a master is P for the primary and S for the secondary.
+abbrev pub master_word : MasterId → List ℕ
+master_word Primary = codes "P"
+master_word Secondary = codes "S"
+
+-- The word of a burst bit is 1 if it is set, and 0 if it is not.
+abbrev pub burst_word : Bool → List ℕ
+burst_word false = codes "0"
+burst_word true = codes "1"
+
+-- The ten digits of a device are four of its expanded type, whose upper two bits are zero, and six of its id.
+abbrev pub device_digits : DeviceNumbers → List ℕ
+device_digits numbers = encode_upper (
+    numbers.expanded_type / 256 ∷ numbers.expanded_type % 256
+    ∷ numbers.device_id / 65536 ∷ numbers.device_id / 256 % 256 ∷ numbers.device_id % 256 ∷ []
+    )
+
+-- The word of an address is `@` and a polling address in decimal, the ten digits of a device, or `all` for broadcast.
+abbrev pub address_word : Address → List ℕ
+address_word (Polling number) = 64 ∷ decimal number
+address_word (Unique numbers) =
+    if numbers.expanded_type == 0 && numbers.device_id == 0 then codes "all" else device_digits numbers
+
+-- The line of a frame has these nine words.
+abbrev pub dump_line : Found → List ℕ
+dump_line found = line_of (
+    decimal found.start ∷ decimal found.stop
+    ∷ kind_word found.frame.kind ∷ master_word found.frame.master ∷ burst_word found.frame.burst
+    ∷ address_word found.frame.address ∷ bytes_word found.frame.expansion
+    ∷ decimal found.frame.command ∷ bytes_word found.frame.payload ∷ []
+    )
+
+-- The text of frames is a line for each.
+abbrev pub dump_text : List Found → List ℕ
+dump_text frames = flat_map dump_line frames

@@ -1,0 +1,3 @@
+-- `hart encode`.
+pub mod MessageWords
+pub mod Encode

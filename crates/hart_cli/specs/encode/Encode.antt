@@ -1,0 +1,57 @@
+-- What `hart encode` writes for its words (own profile).
+use Rattle.std.specs.Prelude.{◌≡◌, ℕ, false, List, [], Result, Ok, Err}
+use Rattle.hart_values.specs.declared.address.Address.{Address}
+use Rattle.hart_values.specs.declared.master_id.MasterId.{MasterId}
+use Rattle.hart_frame.specs.declared.wire.kind.FrameKind.TheVariants.{Stx}
+use Rattle.hart_frame.specs.wire.FrameParts.{FrameParts}
+use Rattle.hart_cli.specs.declared.fault.CliFault.{CliFault}
+use Rattle.hart_cli.specs.declared.fault.CliFault.TheVariants.{BadWord, Write}
+use Rattle.hart_cli.specs.text.MessageLine.{IsMessageLine}
+use Rattle.hart_cli.specs.encode.MessageWords.{MessageWords}
+use Rattle.hart_cli.specs.stream.Stream.{FailsToWrite, Stream, WritesAll, WritesNothing}
+use Rattle.hart_line.specs.script.Words.{IsAddressWord, IsCommandWord, IsDataWord, HasNoValue, IsWho}
+
+-- The request of four words has what each of them writes, and is an STX with burst bit 0 and no expansion bytes.
+pub record IsRequestOf (words : MessageWords) (frame : FrameParts) : Type 0 where
+  pub master : IsWho words.who frame.master
+  pub address : IsAddressWord words.address frame.address
+  pub command : IsCommandWord words.command frame.command
+  pub payload : IsDataWord words.payload frame.payload
+  pub kind : frame.kind ≡ Stx
+  pub burst : frame.burst ≡ false
+  pub expansion : frame.expansion ≡ []
+
+-- The text of the words is the line of their request's message, with their number of preamble bytes.
+pub record IsEncoding (words : MessageWords) (text : List ℕ) : Type 0 where
+  pub frame : FrameParts
+  pub request : IsRequestOf words frame
+  pub line : IsMessageLine frame words.preambles text
+
+-- The first bad word, which writes no value, has this number: 1 is WHO, 2 ADDRESS, 3 COMMAND and 4 DATA.
+pub data IsFirstBad (words : MessageWords) : ℕ → Type 0 where
+  bad_who : HasNoValue (IsWho words.who) → IsFirstBad words 1
+  bad_address : (master : MasterId) → IsWho words.who master → HasNoValue (IsAddressWord words.address) → IsFirstBad words 2
+  bad_command : (master : MasterId) (address : Address) → IsWho words.who master → IsAddressWord words.address address
+      → HasNoValue (IsCommandWord words.command) → IsFirstBad words 3
+  bad_data : (master : MasterId) (address : Address) (command : ℕ) → IsWho words.who master
+      → IsAddressWord words.address address → IsCommandWord words.command command → HasNoValue (IsDataWord words.payload)
+      → IsFirstBad words 4
+
+-- A call of `encode_text` wrote the text of its words at `Ok`, a prefix of it if a write failed, and nothing if it gave
+-- the first bad word.
+abbrev pub EncodeOutcome : MessageWords → Stream → Stream → Result (Unit {0}) CliFault → Type 0
+EncodeOutcome words writer writer_after (Ok done) =
+    (text : List ℕ) × IsEncoding words text × WritesAll writer writer_after text
+EncodeOutcome words writer writer_after (Err Write) =
+    (text : List ℕ) × IsEncoding words text × FailsToWrite writer writer_after text
+EncodeOutcome words writer writer_after (Err (BadWord number)) =
+    IsFirstBad words number × WritesNothing writer writer_after
+EncodeOutcome words writer writer_after (Err _) = ⊥
+
+-- For private calls alone: what reading the words answers.
+
+-- Reading the words gives the frame that they ask for, or says which is the first bad one.
+abbrev pub RequestOutcome : MessageWords → Result FrameParts CliFault → Type 0
+RequestOutcome words (Ok frame) = IsRequestOf words frame
+RequestOutcome words (Err (BadWord number)) = IsFirstBad words number
+RequestOutcome words (Err _) = ⊥

@@ -1,0 +1,3 @@
+-- Reading an input.
+pub mod Input
+pub mod WholeInput

@@ -1,0 +1,80 @@
+-- What is read of an input, and how it comes to its end (own profile).
+use Rattle.std.specs.Prelude.{◌≡◌, ◌≢◌, ◌⊎◌, ℕ, ◌+◌, ◌≤◌, List, [], ◌∷◌, ◌++◌, length, Option, None, Some}
+use Rattle.std.specs.Io.KnownBytes.{Consumes, IsAtEnd}
+use Rattle.hart_line.specs.declared.memory.NoRoom.{NoRoom}
+use Rattle.hart_cli.specs.stream.Stream.{Stream, count_after_failure}
+use Rattle.hart_cli.specs.declared.fault.CliFault.{CliFault}
+use Rattle.hart_cli.specs.declared.fault.CliFault.TheVariants as faults
+use Rattle.hart_cli.specs.declared.input.InputEnd.{InputEnd}
+use Rattle.hart_cli.specs.declared.input.InputEnd.TheVariants.{Ended, Failed, TooLong}
+
+-- An input has at most 1,048,576 bytes.
+abbrev pub input_limit : ℕ
+input_limit = 1048576
+
+-- One read gives at most so many bytes.
+abbrev pub most_at_once : ℕ
+most_at_once = 16384
+
+-- The bytes were taken from the reader, no others were lost, and no read failed.
+abbrev pub ReadsWell : Stream → Stream → List ℕ → Type 0
+ReadsWell old new bytes = Consumes old.bytes new.bytes bytes × (new.failures ≡ old.failures)
+
+-- A read failed after these bytes were taken from the reader.
+abbrev pub ReadFails : Stream → Stream → List ℕ → Type 0
+ReadFails old new bytes = Consumes old.bytes new.bytes bytes × (new.failures ≡ count_after_failure old.failures)
+
+-- One byte more than these was taken from the reader.
+pub record ReadsBeyond (old new : Stream) (bytes : List ℕ) : Type 0 where
+  pub beyond : ℕ
+  pub read : ReadsWell old new (bytes ++ beyond ∷ [])
+
+-- One byte more than the limit was taken: the text is those within it.
+abbrev pub ReadsPastLimit : Stream → Stream → List ℕ → Type 0
+ReadsPastLimit old new text = ReadsBeyond old new text × (length text ≡ input_limit)
+
+-- An input gave this text before it ended, before a read failed, or before it went past the limit.
+abbrev pub Reads : Stream → Stream → List ℕ → InputEnd → Type 0
+Reads old new text Ended = ReadsWell old new text × IsAtEnd new.bytes × (length text ≤ input_limit)
+Reads old new text Failed = ReadFails old new text × (length text ≤ input_limit)
+Reads old new text TooLong = ReadsPastLimit old new text
+
+-- A call reads an input to its end, or leaves it before.
+pub data Ending : Type 0 where
+  Left : Ending
+  CameTo : (end : InputEnd) → Ending
+
+-- An input gave this text before it came to its end or was left. If it was left it may have had more to read, and perhaps one byte
+-- past the limit was read with the last of the text.
+abbrev pub ReadsTo : Stream → Stream → List ℕ → Ending → Type 0
+ReadsTo old new text Left = (ReadsWell old new text × (length text ≤ input_limit)) ⊎ ReadsPastLimit old new text
+ReadsTo old new text (CameTo end) = Reads old new text end
+
+-- An input has room for as many bytes as it may have, and for one that makes its last item whole.
+abbrev pub input_room : ℕ
+input_room = input_limit + 1
+
+-- Room for an input was refused, and nothing was read.
+abbrev pub LacksInputRoom : Stream → Stream → NoRoom → Type 0
+LacksInputRoom old new none = (none.items ≡ input_room) × (new ≡ old)
+
+-- Reading a whole input comes to this fault: a read failed, there were more bytes than the limit, or room for it was refused.
+abbrev pub IsReadingFault : Stream → Stream → CliFault → Type 0
+IsReadingFault old new faults.Read = (text : List ℕ) × Reads old new text Failed
+IsReadingFault old new faults.TooLong = (text : List ℕ) × Reads old new text TooLong
+IsReadingFault old new (faults.Memory none) = LacksInputRoom old new none
+IsReadingFault old new _ = ⊥
+
+-- For private calls alone: what one read gives of an input.
+
+-- The input came to this end, or was left.
+abbrev pub ending_of : Option InputEnd → Ending
+ending_of None = Left
+ending_of (Some end) = CameTo end
+
+-- With so much room left within the limit, one read gave these bytes of it, and the input came to its end with them, or may go on.
+abbrev pub ReadsPortion : Stream → Stream → List ℕ → ℕ → Option InputEnd → Type 0
+ReadsPortion old new bytes room None = ReadsWell old new bytes × (bytes ≢ []) × (length bytes ≤ room)
+ReadsPortion old new bytes room (Some Ended) = ReadsWell old new bytes × IsAtEnd new.bytes × (bytes ≡ [])
+ReadsPortion old new bytes room (Some Failed) = ReadFails old new bytes × (bytes ≡ [])
+ReadsPortion old new bytes room (Some TooLong) = ReadsBeyond old new bytes × (length bytes ≡ room)

@@ -1,0 +1,3 @@
+-- The program: which call the words make, and how it ends.
+pub mod CommandLine
+pub mod Program

@@ -1,0 +1,38 @@
+-- What the program does with the call that its words make (own profile).
+use Rattle.std.specs.Prelude.{◌≡◌, ℕ, IfErr, List, Result, Ok, Err}
+use Rattle.clap.specs.Words.{Text}
+use Rattle.hart_cli.specs.Answer.{AnswerOutcome}
+use Rattle.hart_cli.specs.program.CommandLine.{Calls}
+use Rattle.hart_cli.specs.dump.Dump.{DumpOutcome}
+use Rattle.hart_cli.specs.encode.Encode.{EncodeOutcome}
+use Rattle.hart_cli.specs.FaultText.{fault_line}
+use Rattle.hart_cli.specs.sim.Sim.{SimOutcome}
+use Rattle.hart_cli.specs.stream.Stream.{Stream, WritesUnlessFailed}
+use Rattle.hart_cli.specs.declared.fault.CliFault.{CliFault}
+use Rattle.hart_cli.specs.declared.program.command_line.Call.{Call}
+use Rattle.hart_cli.specs.declared.program.command_line.Call.TheVariants.{Answer, Dump, Encode, Sim}
+
+-- A call with this result had the outcome of its own kind on the reader and the writer; that of `encode` leaves the reader.
+abbrev pub CallOutcome : Call → Stream → Stream → Stream → Stream → Result (Unit {0}) CliFault → Type 0
+CallOutcome (Answer image) reader reader_after writer writer_after result =
+    AnswerOutcome image reader reader_after writer writer_after result
+CallOutcome Dump reader reader_after writer writer_after result =
+    DumpOutcome reader reader_after writer writer_after result
+CallOutcome (Sim image) reader reader_after writer writer_after result =
+    SimOutcome image reader reader_after writer writer_after result
+CallOutcome (Encode words) reader reader_after writer writer_after result =
+    (reader_after ≡ reader) × EncodeOutcome words writer writer_after result
+
+-- The status is 0 after a call that did its work, and 1 after a fault.
+abbrev pub status_of : Result (Unit {0}) CliFault → ℕ
+status_of (Ok done) = 0
+status_of (Err fault) = 1
+
+-- The program made the call that the words make, ended with the status of its result, and reported its fault, if any.
+pub record Ran (words : List Text) (reader reader_after writer writer_after errors errors_after : Stream) (status : ℕ) : Type 0 where
+  pub call : Call
+  pub calls : Calls call words
+  pub result : Result (Unit {0}) CliFault
+  pub outcome : CallOutcome call reader reader_after writer writer_after result
+  pub ends : status ≡ status_of result
+  pub reports : IfErr result (λ fault. WritesUnlessFailed errors errors_after (fault_line fault))

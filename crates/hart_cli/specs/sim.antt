@@ -1,0 +1,3 @@
+-- `hart sim`.
+pub mod Text
+pub mod Sim

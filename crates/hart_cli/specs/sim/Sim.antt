@@ -1,0 +1,80 @@
+-- What `hart sim` writes for what it reads (own profile).
+use Rattle.std.specs.Prelude.{◌≡◌, ◌⊎◌, ℕ, ◌^◌, ◌-◌, List, Option, length, min}
+use Rattle.hart_device.specs.Bench.{bench_process}
+use Rattle.hart_device.specs.Device.{DeviceState}
+use Rattle.hart_line.specs.world.Faults.{IsFault}
+use Rattle.hart_line.specs.world.Needs.{IsNeededBy}
+use Rattle.hart_line.specs.script.Rows.{HasFirstBadLine, IsNeededByText, IsScript}
+use Rattle.hart_line.specs.world.Spoken.{AreSpoken}
+use Rattle.hart_line.specs.world.Step.{IsLast}
+use Rattle.hart_line.specs.world.World.{Start, World, state_of}
+use Rattle.hart_line.specs.declared.event.LineEvent.{LineEvent}
+use Rattle.hart_line.specs.declared.fault.LineFault.{LineFault}
+use Rattle.hart_line.specs.declared.fault.LineFault.TheVariants as line_faults
+use Rattle.hart_line.specs.declared.line.report.Spoken.{Spoken}
+use Rattle.hart_cli.specs.declared.fault.CliFault.{CliFault}
+use Rattle.hart_cli.specs.declared.fault.CliFault.TheVariants.{Line, Memory}
+use Rattle.hart_cli.specs.ImageWord.{OutcomeWith, Outcomes}
+use Rattle.hart_cli.specs.sim.Text.{sim_text}
+use Rattle.hart_cli.specs.input.WholeInput.{WholeOutcome}
+
+-- A script starts with a device, the process values of the bench device, and two masters that have nothing in hand and send a
+-- request again three times at most.
+abbrev pub start_with : DeviceState → Start
+start_with device = record {
+  device = device;
+  process = bench_process;
+  retries = record { primary = 3; secondary = 3 };
+}
+
+-- The text of a world gives the frames that were spoken, what became of each submission, and the counter and the image of the
+-- device as it is then.
+pub record IsWorldText (start : Start) (world : World) (text : List ℕ) : Type 0 where
+  pub spoken : List Spoken
+  pub are_spoken : AreSpoken world.spoken spoken
+  pub gives : text ≡ sim_text spoken world.outcomes (state_of start.device world)
+
+-- The text for an input is the text of the last world of its script.
+pub record IsSimulation (device : DeviceState) (input text : List ℕ) : Type 0 where
+  pub events : List LineEvent
+  pub script : IsScript input events
+  pub world : World
+  pub last : IsLast (start_with device) events world
+  pub world_text : IsWorldText (start_with device) world text
+
+-- An input is a script whose events have this fault.
+pub record IsScriptWithFault (device : DeviceState) (input : List ℕ) (fault : LineFault) : Type 0 where
+  pub events : List LineEvent
+  pub script : IsScript input events
+  pub is_fault : IsFault (start_with device) events fault
+
+-- The fault of an input is its first bad line or, if no line is bad, the first leg whose damage is undetected; refused memory is
+-- no fault of an input.
+abbrev pub HasLineFault : DeviceState → List ℕ → LineFault → Type 0
+HasLineFault device input (line_faults.BadLine number) = HasFirstBadLine input number
+HasLineFault device input (line_faults.Undetected number leg) = IsScriptWithFault device input (line_faults.Undetected number leg)
+HasLineFault device input (line_faults.Memory none) = ⊥
+
+-- A text to write needs room for as many bytes as it has, or for the greatest number of them.
+abbrev pub IsNeededByWriting : List ℕ → ℕ → Type 0
+IsNeededByWriting text items = items ≡ min (length text) (2 ^ 64 - 1)
+
+-- Room for so many items is needed to read an input as a script, to carry this out, or to make the text for it.
+abbrev pub IsNeededForSimulation : DeviceState → List ℕ → ℕ → Type 0
+IsNeededForSimulation device input items =
+    IsNeededByText input items
+    ⊎ ((events : List LineEvent) × IsScript input events × IsNeededBy events items)
+    ⊎ ((text : List ℕ) × IsSimulation device input text × IsNeededByWriting text items)
+
+-- An input that is not carried out has this fault, of its lines or its events; or memory is refused for as many items as it needs
+-- room for, which is no fault of an input.
+abbrev pub IsSimulationFault : DeviceState → List ℕ → CliFault → Type 0
+IsSimulationFault device input (Line fault) = HasLineFault device input fault
+IsSimulationFault device input (Memory none) = IsNeededForSimulation device input none.items
+IsSimulationFault device input _ = ⊥
+
+-- A call of `simulate` gave the reason why it has no device, if it has none. Otherwise it wrote the text for its whole input at
+-- `Ok`, a prefix of it if a write failed, and nothing if a read failed, if the input was too long or had a fault of its lines or
+-- events, or if memory was refused; it gives no other fault.
+abbrev pub SimOutcome : Option (List ℕ) → Outcomes
+SimOutcome = OutcomeWith (λ device. WholeOutcome (IsSimulation device) (IsSimulationFault device))

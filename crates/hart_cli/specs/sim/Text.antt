@@ -1,0 +1,61 @@
+-- The text of `hart sim` (own profile).
+use Rattle.std.specs.Prelude.{ℕ, List, [], ◌∷◌, ◌++◌, codes, decimal}
+use Rattle.std.specs.List.{enumerate_from, flat_map}
+use Rattle.hex.specs.Hex.{encode_upper}
+use Rattle.hart_commands.specs.ReplyData.{content_bytes}
+use Rattle.hart_device.specs.Device.{DeviceState}
+use Rattle.hart_device.specs.image.Image.{image_of}
+use Rattle.hart_master.specs.declared.fault.MasterFault.{MasterFault}
+use Rattle.hart_master.specs.declared.fault.MasterFault.TheVariants.{OutOfRange, Pending, WrongAddress}
+use Rattle.hart_line.specs.declared.line.report.Outcome.{Outcome}
+use Rattle.hart_line.specs.declared.line.report.Outcome.TheVariants.{Answered, NoReply, Refused, Unfinished}
+use Rattle.hart_line.specs.declared.line.report.Party.{Party}
+use Rattle.hart_line.specs.declared.line.report.Party.TheVariants.{Device, Primary, Secondary}
+use Rattle.hart_line.specs.declared.line.report.Spoken.{Spoken}
+use Rattle.hart_cli.specs.text.Words.{bytes_word, line_of}
+
+-- The word of a party is P for the primary master, S for the secondary and D for the device.
+abbrev pub party_word : Party → List ℕ
+party_word Primary = codes "P"
+party_word Secondary = codes "S"
+party_word Device = codes "D"
+
+-- The line of a spoken frame has the word of its party, the number of its preamble bytes in decimal, and its body in upper case hex.
+abbrev pub spoken_line : Spoken → List ℕ
+spoken_line spoken =
+    line_of (party_word spoken.party ∷ decimal spoken.preambles ∷ encode_upper spoken.bytes ∷ [])
+
+-- Each fault of a master has its number.
+abbrev pub master_fault_number : MasterFault → ℕ
+master_fault_number OutOfRange = 1
+master_fault_number Pending = 2
+master_fault_number WrongAddress = 3
+
+-- A submission that was answered has the word `answered`, the number of its sendings, and the response code, the device status and
+-- the data of the reply in upper case hex. One without a reply has `noreply`, and an unfinished one `unfinished`, with the number of
+-- its sendings. A refused one has `refused` and the number of the fault. Numbers are in decimal.
+abbrev pub outcome_words : Outcome → List (List ℕ)
+outcome_words (Answered reply sendings) =
+    codes "answered" ∷ decimal sendings ∷ encode_upper (reply.code ∷ []) ∷ encode_upper (reply.status.0 ∷ [])
+    ∷ bytes_word (content_bytes reply.content) ∷ []
+outcome_words (NoReply sendings) = codes "noreply" ∷ decimal sendings ∷ []
+outcome_words (Unfinished sendings) = codes "unfinished" ∷ decimal sendings ∷ []
+outcome_words (Refused fault) = codes "refused" ∷ decimal (master_fault_number fault) ∷ []
+
+-- The line of a submission has its number in decimal and the words of what became of it.
+abbrev pub outcome_line : ℕ × Outcome → List ℕ
+outcome_line numbered = line_of (decimal numbered.0 ∷ outcome_words numbered.1)
+
+-- The line of the counter has its value in decimal.
+abbrev pub counter_line : DeviceState → List ℕ
+counter_line device = line_of (codes "counter" ∷ decimal device.counter ∷ [])
+
+-- The line of the image has its bytes in upper case hex.
+abbrev pub image_line : DeviceState → List ℕ
+image_line device = line_of (codes "image" ∷ encode_upper (image_of device) ∷ [])
+
+-- The text is a line for each spoken frame, in order, then one for each submission, numbered from 1, then that of the counter and
+-- that of the image.
+abbrev pub sim_text : List Spoken → List Outcome → DeviceState → List ℕ
+sim_text spoken outcomes device =
+    flat_map spoken_line spoken ++ flat_map outcome_line (enumerate_from 1 outcomes) ++ counter_line device ++ image_line device

@@ -1,0 +1,3 @@
+-- Readers and writers.
+pub mod Stream
+pub mod Plain

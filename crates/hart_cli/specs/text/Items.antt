@@ -1,0 +1,101 @@
+-- Texts of hex items with separators (own profile): pieces end to end, each a separator or an item.
+use Rattle.std.specs.Prelude.{◌≡◌, ◌≢◌, ℕ, ◌+◌, ◌⊎◌, List, [], ◌∷◌, ◌++◌, length, Option, ⊤}
+use Rattle.std.specs.Option.{option_to_list}
+use Rattle.hart_frame.specs.heard.Character.{Character}
+use Rattle.hart_line.specs.script.Items as items
+use Rattle.hart_line.specs.script.Items.{EndsBefore, item_meaning, item_spelling, IsValidItem}
+
+-- A piece of a text is a separator or an item.
+pub data Piece : Type 0 where
+  Separator : (byte : ℕ) → Piece
+  Item : (item : items.Item) → Piece
+
+-- A piece is spelled by these bytes.
+abbrev pub spelling : Piece → List ℕ
+spelling (Separator byte) = byte ∷ []
+spelling (Item item) = item_spelling item
+
+-- A separator is a space, a tab, a carriage return or a line feed.
+abbrev pub IsSeparator : ℕ → Type 0
+IsSeparator byte = (byte ≡ 32) ⊎ (byte ≡ 9) ⊎ (byte ≡ 13) ⊎ (byte ≡ 10)
+
+-- A separator is one of the four, and an item has its digits and its fault bits.
+abbrev pub IsValid : Piece → Type 0
+IsValid (Separator byte) = IsSeparator byte
+IsValid (Item item) = IsValidItem item
+
+-- A separator means no character, and an item its own.
+abbrev pub meaning : Piece → List Character
+meaning (Separator byte) = []
+meaning (Item item) = item_meaning item ∷ []
+
+-- A separator is whole whatever follows it, and an item if a further byte follows it and the item ends before it.
+abbrev pub IsWholeBefore : List ℕ → Piece → Type 0
+IsWholeBefore tail (Separator byte) = ⊤
+IsWholeBefore tail (Item item) = (tail ≢ []) × EndsBefore tail item
+
+-- A text begins with a valid piece, which is whole before the rest of the text.
+pub record BeginsWith (text : List ℕ) (piece : Piece) (tail : List ℕ) : Type 0 where
+  pub valid : IsValid piece
+  pub spelled : text ≡ spelling piece ++ tail
+  pub whole : IsWholeBefore tail piece
+
+-- A text reads as characters up to a rest of it, if pieces stand end to end before that rest.
+pub data ReadsUpTo : List ℕ → List Character → List ℕ → Type 0 where
+  nothing : (rest : List ℕ) → ReadsUpTo rest [] rest
+  piece : (text : List ℕ) (first : Piece) (tail : List ℕ) (chars : List Character) (rest : List ℕ)
+      → BeginsWith text first tail → ReadsUpTo tail chars rest → ReadsUpTo text (meaning first ++ chars) rest
+
+-- No piece stands at the beginning of a text.
+abbrev pub NoPieceBegins : List ℕ → Type 0
+NoPieceBegins text = (piece : Piece) (tail : List ℕ) → BeginsWith text piece tail → ⊥
+
+-- A piece begins a text once the right bytes follow it.
+pub record MayBegin (text : List ℕ) : Type 0 where
+  pub more : List ℕ
+  pub piece : Piece
+  pub tail : List ℕ
+  pub begins : BeginsWith (text ++ more) piece tail
+
+-- A text has bad hex at a place, after these characters, if it reads as them up to there, and what begins there is
+-- neither its end nor a piece.
+pub record HasBadHex (text : List ℕ) (chars : List Character) (place : ℕ) : Type 0 where
+  pub rest : List ℕ
+  pub reads : ReadsUpTo text chars rest
+  pub begins : place + length rest ≡ length text
+  pub more : rest ≢ []
+  pub no_piece : NoPieceBegins rest
+
+-- The end of an input makes its last item whole, as a space after it would.
+abbrev pub closed : List ℕ → List ℕ
+closed text = text ++ 32 ∷ []
+
+-- A whole input reads as characters.
+abbrev pub ReadsAs : List ℕ → List Character → Type 0
+ReadsAs text chars = ReadsUpTo (closed text) chars []
+
+-- A whole input has bad hex at a place.
+abbrev pub IsBadHexAt : List ℕ → List Character → ℕ → Type 0
+IsBadHexAt text chars place = HasBadHex (closed text) chars place
+
+-- While an input may go on, bad hex in it is decided if it is bad whatever follows.
+abbrev pub IsDecidedBadHexAt : List ℕ → List Character → ℕ → Type 0
+IsDecidedBadHexAt text chars place = (more : List ℕ) → HasBadHex (text ++ more) chars place
+
+-- While an input may go on, it reads so far as the characters up to a rest, perhaps empty, at whose beginning no whole piece
+-- stands yet, though one would if the right bytes followed.
+pub record ReadsSoFarAs (text : List ℕ) (chars : List Character) : Type 0 where
+  pub rest : List ℕ
+  pub reads : ReadsUpTo text chars rest
+  pub no_piece : NoPieceBegins rest
+  pub open_end : MayBegin rest
+
+-- For private calls alone: what reading one piece answers.
+
+-- A text begins with a piece of this length, which means this character or none.
+pub record BeginsAs (text : List ℕ) (char : Option Character) (len : ℕ) : Type 0 where
+  pub piece : Piece
+  pub tail : List ℕ
+  pub begins : BeginsWith text piece tail
+  pub long : length (spelling piece) ≡ len
+  pub means : meaning piece ≡ option_to_list char

@@ -1,0 +1,116 @@
+//! The line that `hart dump` writes for a frame.
+ghost use Rattle.std.specs.Prelude.{◌≡◌, ◌∷◌, [], ◌++◌, ◌+◌, ◌≤◌, decimal, length};
+ghost use Rattle.hart_frame.specs.scan.View.{found_of};
+ghost use Rattle.hart_cli.specs.dump.Text.{address_word, burst_word, device_digits, dump_line, kind_word, master_word};
+
+use crate::text::hex::push_hex;
+use crate::text::words::{push_bytes, push_word};
+use hart_frame::{FoundView, FrameKind};
+use hart_values::{Address, ByteList, MasterId, UniqueAddress};
+use itoa::Buffer;
+
+/// Adds the line of a frame: its two places, then its parts, one space between two of them, and a line feed.
+pub fn push_frame_line<const N: usize>(lines: &mut ByteList<N>, found: &FoundView<'_>)
+    requires { length lines.old + 583 ≤ N }
+    ensures { lines.new ≡ lines.old ++ dump_line (found_of found.now) }
+{
+    let frame = &found.frame;
+    push_places(lines, found.start, found.stop);
+    push_head(lines, frame.kind(), frame.master(), frame.burst());
+    push_address(lines, frame.address());
+    push_bytes(lines, frame.expansion());
+    lines.push(b' ');
+    push_word(lines, Buffer::new().format(frame.command()));
+    push_bytes(lines, frame.payload());
+    lines.push(b'\n');
+}
+
+/// Adds the words of two places, each with a space after it.
+fn push_places<const N: usize>(lines: &mut ByteList<N>, start: u64, stop: u64)
+    requires { length lines.old + 42 ≤ N }
+    ensures words { lines.new ≡ lines.old ++ (decimal start ++ 32 ∷ []) ++ decimal stop ++ 32 ∷ [] }
+    ensures len { length lines.new ≤ length lines.old + 42 }
+{
+    push_word(lines, Buffer::new().format(start));
+    push_word(lines, Buffer::new().format(stop));
+}
+
+/// Adds the words of a kind of frame, of a master and of a burst bit, each with a space after it.
+fn push_head<const N: usize>(
+    lines: &mut ByteList<N>,
+    kind: FrameKind,
+    master: MasterId,
+    burst: bool,
+)
+    requires { length lines.old + 8 ≤ N }
+    ensures words { lines.new ≡
+        lines.old ++ (kind_word kind ++ 32 ∷ []) ++ (master_word master ++ 32 ∷ []) ++ burst_word burst ++ 32 ∷ [] }
+    ensures len { length lines.new ≤ length lines.old + 8 }
+{
+    push_word(lines, kind_word(kind));
+    push_word(lines, master_word(master));
+    push_word(lines, burst_word(burst));
+}
+
+/// The word of a frame's kind.
+fn kind_word(kind: FrameKind) -> &'static str
+    ensures word { result.now ≡ kind_word kind }
+    ensures short { length result.now ≤ 3 }
+{
+    match kind {
+        FrameKind::Stx => "STX",
+        FrameKind::Ack => "ACK",
+    }
+}
+
+/// The word of a master.
+fn master_word(master: MasterId) -> &'static str
+    ensures word { result.now ≡ master_word master }
+    ensures short { length result.now ≤ 1 }
+{
+    match master {
+        MasterId::Primary => "P",
+        MasterId::Secondary => "S",
+    }
+}
+
+/// The word of a burst bit.
+fn burst_word(burst: bool) -> &'static str
+    ensures word { result.now ≡ burst_word burst }
+    ensures short { length result.now ≤ 1 }
+{
+    if burst { "1" } else { "0" }
+}
+
+/// Adds the word of an address and the space after it.
+fn push_address<const N: usize>(line: &mut ByteList<N>, address: Address)
+    requires { length line.old + 11 ≤ N }
+    ensures word { line.new ≡ line.old ++ address_word address ++ 32 ∷ [] }
+    ensures len { length line.new ≤ length line.old + 11 }
+{
+    match address {
+        Address::Polling(polling) => {
+            line.push(b'@');
+            push_word(line, Buffer::new().format(polling.number()));
+        }
+        Address::Unique(device) => {
+            if address.is_broadcast() {
+                push_word(line, "all");
+            } else {
+                push_device(line, device);
+            }
+        }
+    }
+}
+
+/// Adds the ten digits of a device and the space after them.
+fn push_device<const N: usize>(line: &mut ByteList<N>, device: UniqueAddress)
+    requires { length line.old + 11 ≤ N }
+    ensures word { line.new ≡ line.old ++ device_digits device ++ 32 ∷ [] }
+    ensures len { length line.new ≤ length line.old + 11 }
+{
+    let [type_high, type_low] = device.expanded_type().to_be_bytes();
+    let [_, id_high, id_middle, id_low] = device.device_id().to_be_bytes();
+    push_hex(line, &[type_high, type_low, id_high, id_middle, id_low]);
+    line.push(b' ');
+}

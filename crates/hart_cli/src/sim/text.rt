@@ -1,0 +1,199 @@
+//! The text that `hart sim` writes.
+ghost use Rattle.std.specs.Prelude.{◌≡◌, ◌≤◌, ◌<◌, ◌+◌, ◌∷◌, [], ◌++◌, IfErr, IfOk, decimal, length, min};
+ghost use Rattle.std.specs.List.{enumerate_from, flat_map, join_with_byte};
+ghost use Rattle.hart_line.specs.declared.line.report.Outcome.TheVariants.{Answered};
+ghost use Rattle.hart_cli.specs.sim.Text.{counter_line, master_fault_number, image_line, outcome_line, outcome_words, party_word};
+ghost use Rattle.hart_cli.specs.sim.Sim.{IsNeededByWriting};
+ghost use Rattle.hart_cli.specs.sim.Text.{sim_text, spoken_line};
+
+use crate::text::hex::push_hex;
+use crate::text::words::{TextLine, push_bytes, push_word};
+use hart_commands::Reply;
+use hart_device::{Device, RegisterStore};
+use hart_line::{Filling, NoRoom, Outcome, Party, Report, Spoken};
+use hart_master::MasterFault;
+use hart_values::Payload;
+use itoa::Buffer;
+use std::alloc::Global;
+
+/// A payload of a reply begins with its two status bytes.
+const STATUS_LEN: usize = 2;
+
+/// The text of a report: a line for each spoken frame, one for each submission, numbered from 1, and those of the
+/// counter and the image of the device.
+///
+/// # Errors
+///
+/// [`NoRoom`] for its length, or for the greatest number of bytes if it is longer than that.
+pub fn sim_text<S: RegisterStore>(alloc: Global, report: &Report<S>) -> Result<Vec<u8>, NoRoom>
+    ensures text { IfOk result (λ text. text.items ≡ sim_text report.now.spoken report.now.outcomes report.now.device) }
+    ensures refused { IfErr result (λ none.
+        IsNeededByWriting (sim_text report.now.spoken report.now.outcomes report.now.device) none.items) }
+{
+    let spoken = report.spoken.as_slice();
+    let outcomes = report.outcomes.as_slice();
+    let last_lines = device_lines(&report.device);
+    let len = spoken_len(spoken)
+        .saturating_add(outcomes_len(outcomes))
+        .saturating_add(last_lines.len());
+    let mut text = Filling::with_room(alloc, len)?;
+    push_spoken(&mut text, spoken);
+    push_outcomes(&mut text, outcomes);
+    text.extend(last_lines.as_slice());
+    Ok(text.finish())
+}
+
+/// The length of the lines of spoken frames, or the greatest number if they are longer than that.
+fn spoken_len(spoken: &[Spoken]) -> usize
+    ensures { result ≡ min (length (flat_map spoken_line spoken.now)) usize.MAX }
+{
+    let mut len = 0usize;
+    for frame in spoken {
+        len = len.saturating_add(spoken_line_len(frame));
+    }
+    len
+}
+
+/// The length of the line of a spoken frame.
+fn spoken_line_len(frame: &Spoken) -> usize
+    ensures { result ≡ length (spoken_line frame.now) }
+{
+    let words = party_word(frame.party).len() + Buffer::new().format(frame.preambles).len();
+    words + 2 * frame.bytes.len() + 3
+}
+
+/// The length of the lines of submissions, or the greatest number if they are longer than that.
+fn outcomes_len(outcomes: &[Outcome]) -> usize
+    ensures { result ≡ min (length (flat_map outcome_line (enumerate_from 1 outcomes.now))) usize.MAX }
+{
+    let mut len = 0usize;
+    let mut line = TextLine::new();
+    for (index, outcome) in outcomes.iter().enumerate() {
+        make_outcome_line(&mut line, index + 1, outcome);
+        len = len.saturating_add(line.len());
+    }
+    len
+}
+
+/// Adds a line for each spoken frame, for which there is room.
+fn push_spoken(text: &mut Filling<u8>, spoken: &[Spoken])
+    requires { length text.old.items + length (flat_map spoken_line spoken.now) ≤ text.old.room }
+    ensures { text.new ≡ record text.old { items = text.old.items ++ flat_map spoken_line spoken.now } }
+{
+    let mut line = TextLine::new();
+    for frame in spoken {
+        make_spoken_line(&mut line, frame);
+        text.extend(line.as_slice());
+    }
+}
+
+/// Adds a line for each submission, for which there is room.
+fn push_outcomes(text: &mut Filling<u8>, outcomes: &[Outcome])
+    requires { length text.old.items + length (flat_map outcome_line (enumerate_from 1 outcomes.now)) ≤ text.old.room }
+    ensures { text.new ≡ record text.old { items = text.old.items ++ flat_map outcome_line (enumerate_from 1 outcomes.now) } }
+{
+    let mut line = TextLine::new();
+    for (index, outcome) in outcomes.iter().enumerate() {
+        make_outcome_line(&mut line, index + 1, outcome);
+        text.extend(line.as_slice());
+    }
+}
+
+/// Makes a line, whatever it holds, that of a spoken frame.
+fn make_spoken_line(line: &mut TextLine, frame: &Spoken)
+    ensures { line.new ≡ spoken_line frame.now }
+{
+    line.clear();
+    push_word(line, party_word(frame.party));
+    push_word(line, Buffer::new().format(frame.preambles));
+    push_hex(line, frame.bytes.as_slice());
+    line.push(b'\n');
+}
+
+/// The word of a party.
+fn party_word(party: Party) -> &'static str
+    ensures word { result.now ≡ party_word party }
+    ensures short { length result.now ≤ 1 }
+{
+    match party {
+        Party::Primary => "P",
+        Party::Secondary => "S",
+        Party::Device => "D",
+    }
+}
+
+/// Makes a line that of the submission with this number.
+fn make_outcome_line(line: &mut TextLine, number: usize, outcome: &Outcome)
+    ensures { line.new ≡ outcome_line (number, outcome.now) }
+{
+    line.clear();
+    push_word(line, Buffer::new().format(number));
+    push_outcome(line, outcome);
+    line.push(b'\n');
+}
+
+/// Adds the words of what became of a submission, to a line that has at most its number, of 20 digits, and a space.
+fn push_outcome(line: &mut TextLine, outcome: &Outcome)
+    requires { length line.old ≤ 21 }
+    ensures words { line.new ≡ line.old ++ join_with_byte 32 (outcome_words outcome.now) }
+    ensures room { length line.new < 583 }
+{
+    match outcome {
+        Outcome::Answered { reply, sendings } => push_answered(line, reply, *sendings),
+        Outcome::NoReply { sendings } => push_count(line, "noreply", *sendings),
+        Outcome::Unfinished { sendings } => push_count(line, "unfinished", *sendings),
+        Outcome::Refused(fault) => push_count(line, "refused", master_fault_number(*fault)),
+    }
+}
+
+/// Adds the words of a submission that was answered, to such a line.
+fn push_answered(line: &mut TextLine, reply: &Reply, sendings: u8)
+    requires { length line.old ≤ 21 }
+    ensures words { line.new ≡ line.old ++ join_with_byte 32 (outcome_words (Answered reply.now sendings)) }
+    ensures room { length line.new < 583 }
+{
+    push_word(line, "answered");
+    push_word(line, Buffer::new().format(sendings));
+    push_hex(line, &[reply.code.value()]);
+    line.push(b' ');
+    push_hex(line, &[reply.status.0]);
+    line.push(b' ');
+    let mut payload = Payload::new();
+    reply.write(&mut payload);
+    push_bytes(line, &payload.as_slice()[STATUS_LEN..]);
+}
+
+/// Adds a word and a number.
+fn push_count(line: &mut TextLine, word: &str, number: u8)
+    requires { length line.old + length word.now ≤ 575 }
+    ensures words { line.new ≡ line.old ++ join_with_byte 32 (word.now ∷ decimal number ∷ []) }
+    ensures room { length line.new < 583 }
+{
+    push_word(line, word);
+    line.extend_from_slice(Buffer::new().format(number).as_bytes());
+}
+
+/// The number of the fault for which a master refuses a submission.
+fn master_fault_number(fault: MasterFault) -> u8
+    ensures { result ≡ master_fault_number fault }
+{
+    match fault {
+        MasterFault::OutOfRange => 1,
+        MasterFault::Pending => 2,
+        MasterFault::WrongAddress => 3,
+    }
+}
+
+/// The lines of the counter and of the image.
+fn device_lines<S: RegisterStore>(device: &Device<S>) -> TextLine
+    ensures { result ≡ counter_line device.now ++ image_line device.now }
+{
+    let mut lines = TextLine::new();
+    push_word(&mut lines, "counter");
+    lines.extend_from_slice(Buffer::new().format(device.counter()).as_bytes());
+    lines.push(b'\n');
+    push_word(&mut lines, "image");
+    push_hex(&mut lines, device.image().as_slice());
+    lines.push(b'\n');
+    lines
+}

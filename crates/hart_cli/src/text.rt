@@ -1,0 +1,7 @@
+//! Texts: hex items, and lines of words and bytes.
+
+pub mod faultless;
+pub mod hex;
+pub mod items;
+pub mod message_line;
+pub mod words;

@@ -1,0 +1,61 @@
+//! Bytes as hex text, in buffers of a fixed size.
+
+ghost use Rattle.std.specs.Prelude.{◌≡◌, ◌+◌, ◌*◌, ◌≤◌, ◌∷◌, [], ◌++◌, length};
+ghost use Rattle.hex.specs.Hex.{encode_upper};
+ghost use Rattle.hart_cli.specs.text.Hex.{hex_line};
+
+use hart_values::ByteList;
+
+/// The line of a message, which has at most 287 bytes: two digits for each, and a space or the line feed after them.
+pub type HexLine = ByteList<861>;
+
+/// The most bytes whose digits are made at once.
+const CHUNK_LEN: usize = 32;
+
+/// Adds the bytes in upper case hex, two digits for each.
+pub fn push_hex<const N: usize>(line: &mut ByteList<N>, bytes: &[u8])
+    requires { length line.old + 2 * length bytes.now ≤ N }
+    ensures hex { line.new ≡ line.old ++ encode_upper bytes.now }
+    ensures len { length line.new ≡ length line.old + 2 * length bytes.now }
+{
+    let mut digits = [0; 2 * CHUNK_LEN];
+    for chunk in bytes.chunks(CHUNK_LEN) {
+        let len = 2 * chunk.len();
+        write_digits(chunk, &mut digits[..len]);
+        line.extend_from_slice(&digits[..len]);
+    }
+}
+
+/// Writes the digits of the bytes in upper case hex.
+fn write_digits(bytes: &[u8], digits: &mut [u8])
+    requires { length digits.old ≡ 2 * length bytes.now }
+    ensures { digits.new ≡ encode_upper bytes.now }
+{
+    hex::encode_to_slice(bytes, digits).unwrap();
+    digits.make_ascii_uppercase();
+}
+
+/// The two digits of a byte in upper case hex.
+fn digits_of(byte: u8) -> [u8; 2]
+    ensures { result ≡ encode_upper (byte ∷ []) }
+{
+    let mut digits = [0; 2];
+    write_digits(&[byte], &mut digits);
+    digits
+}
+
+/// The bytes in upper case hex as one line.
+pub fn hex_line(bytes: &[u8]) -> HexLine
+    requires { length bytes.now ≤ 287 }
+    ensures { result ≡ hex_line bytes.now }
+{
+    let mut line = HexLine::new();
+    for (index, byte) in bytes.iter().enumerate() {
+        if index > 0 {
+            line.push(b' ');
+        }
+        line.extend_from_slice(&digits_of(*byte));
+    }
+    line.push(b'\n');
+    line
+}

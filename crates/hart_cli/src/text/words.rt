@@ -1,0 +1,37 @@
+//! Lines of words, in buffers of a fixed size.
+ghost use Rattle.std.specs.Prelude.{◌≡◌, ◌∷◌, [], ◌++◌, ◌+◌, ◌*◌, ◌<◌, ◌≤◌, length, max};
+ghost use Rattle.hart_cli.specs.text.Words.{bytes_word};
+
+use crate::text::hex::push_hex;
+use hart_values::ByteList;
+
+/// The most bytes of a line, which the longest line of a frame has: two places of 20 digits, the three words of kind, master and
+/// burst bit, 10 digits of an address, 6 of the expansion bytes, 3 of the command and 510 of the payload, eight spaces and a
+/// line feed.
+pub const TEXT_LINE_LEN: usize = 583;
+
+/// A line by itself.
+pub type TextLine = ByteList<TEXT_LINE_LEN>;
+
+/// Adds a word and the space after it.
+pub fn push_word<const N: usize>(line: &mut ByteList<N>, word: &str)
+    requires { length line.old + length word.now < N }
+    ensures word { line.new ≡ line.old ++ word.now ++ 32 ∷ [] }
+    ensures len { length line.new ≡ length line.old + length word.now + 1 }
+{
+    line.extend_from_slice(word.as_bytes());
+    line.push(b' ');
+}
+
+/// Adds the word of some bytes.
+pub fn push_bytes<const N: usize>(line: &mut ByteList<N>, bytes: &[u8])
+    requires { length line.old + 2 * length bytes.now < N }
+    ensures word { line.new ≡ line.old ++ bytes_word bytes.now }
+    ensures len { length line.new ≤ length line.old + max 1 (2 * length bytes.now) }
+{
+    if bytes.is_empty() {
+        line.push(b'-');
+    } else {
+        push_hex(line, bytes);
+    }
+}

@@ -1,0 +1,8 @@
+-- Lemmas, in the rooms of the code and the definitions.
+pub mod Test
+pub mod Request
+pub mod Chunk
+pub mod Parts
+pub mod Reply
+pub mod WellMade
+pub mod RequestMade

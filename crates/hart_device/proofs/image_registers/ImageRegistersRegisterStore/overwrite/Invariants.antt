@@ -1,6 +1,0 @@
-use Rattle.hart_commands.specs.Registers.{named_in}
-use Rattle.hart_device.proofs.WritingLemmas.{AreWrittenBefore}
-use Rattle.hart_device.proofs.image_registers.ImageRegistersRegisterStore.overwrite.Given as goal
-
-abbrev pub invariant-loop-register : goal.invariant-loop-register
-invariant-loop-register l = AreWrittenBefore l.register-index (named_in l.overwrite) l.initial.self.bytes l.self.bytes

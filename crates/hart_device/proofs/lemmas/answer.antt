@@ -1,0 +1,7 @@
+-- The answer: who is answered, with what, and what it does to the device.
+pub mod Effect
+pub mod ColdStart
+pub mod Garbled
+pub mod GarbledFound
+pub mod Delivery
+pub mod Faults

@@ -1,0 +1,141 @@
+-- What a command does to a device.
+use Rattle.std.proofs.Common.{◌≡◌, ◌≢◌, ℕ, List, ap, ◌∙◌, refl, sym, subst, arith, slice_get}
+use Rattle.std.proofs.Common.{Bool, true, false, ◌==◌, ◌&&◌, ◌||◌, if◌then◌else◌}
+use Rattle.std.proofs.Common.{Option, None, Some, IfSome, Ok, Err}
+use Rattle.std.proofs.lemmas.Bool.{eqb-true}
+use Rattle.std.proofs.lemmas.Bool.Decides.{nat_tests}
+use Rattle.hart_commands.specs.RequestCode.{counter_code, is_write, judged}
+use Rattle.hart_commands.specs.RequestData.{Reading}
+use Rattle.hart_values.specs.declared.master_id.MasterId.{MasterId}
+use Rattle.hart_frame.specs.wire.FrameParts.{FrameParts, reply_parts}
+use Rattle.hart_commands.specs.ReplyData.{reply_payload}
+use Rattle.hart_commands.specs.declared.reply.Reply.{Reply}
+use Rattle.hart_commands.specs.Registers.{Overwrite, overwrite_of}
+use Rattle.hart_commands.specs.declared.request.Request.{Request}
+use Rattle.hart_commands.specs.declared.request.Request.TheVariants.{ResetChanged}
+use Rattle.hart_device.specs.answer.Answer.{asked_effect, code_of, effect_of, executed, is_answered, reading_of}
+use Rattle.hart_device.specs.Device.{DeviceState, Effect, Nothing, Executes, Resets, after, after_reply}
+
+pub refused : (answered : Bool) (code : ℕ) (effect : Effect) → code ≢ 0
+    → (if answered && (code == 0) then effect else Nothing) ≡ Nothing
+refused answered code effect not_zero = grind (arith, nat_tests)
+
+executed_only : (named : Option Overwrite) (overwrite : Overwrite) → executed named ≡ Executes overwrite → named ≡ Some overwrite
+executed_only None overwrite is = cc
+executed_only (Some x) overwrite is = cc
+
+-- Only a write executes an overwrite, and that is its own.
+executes_only : (reading : Reading) (overwrite : Overwrite) → asked_effect reading ≡ Executes overwrite
+    → (request : Request) × (reading ≡ Ok request) × (overwrite_of request ≡ Some overwrite)
+executes_only (Err code) overwrite is = cc
+executes_only (Ok (ResetChanged counter)) overwrite is = cc
+executes_only (Ok request) overwrite is = (request, refl, executed_only (overwrite_of request) overwrite is)
+
+-- A write executes its overwrite.
+pub write_executes : (request : Request) (overwrite : Overwrite) → overwrite_of request ≡ Some overwrite
+    → asked_effect (Ok request) ≡ Executes overwrite
+write_executes (ResetChanged counter) overwrite is = cc
+write_executes request overwrite is = ap executed is
+
+-- If the effect of an answer is one, the answer has code 0 and that is what was asked.
+executes_if : (answered zero : Bool) (effect : Effect) (overwrite : Overwrite)
+    → (if answered && zero then effect else Nothing) ≡ Executes overwrite
+    → (answered ≡ true) × (zero ≡ true) × (effect ≡ Executes overwrite)
+executes_if true true effect overwrite is = (refl, refl, is)
+executes_if true false effect overwrite is = cc
+executes_if false zero effect overwrite is = cc
+
+pub effect_executes_only : (answered : Bool) (code : ℕ) (reading : Reading) (overwrite : Overwrite)
+    → (if answered && (code == 0) then asked_effect reading else Nothing) ≡ Executes overwrite
+    → (answered ≡ true) × (code ≡ 0) × (request : Request) × (reading ≡ Ok request) × (overwrite_of request ≡ Some overwrite)
+effect_executes_only answered code reading overwrite is =
+    let parts = executes_if answered (code == 0) (asked_effect reading) overwrite is in
+    let zero : code ≡ 0 = eqb-true code 0 parts.1 in
+    let write = executes_only reading overwrite parts.2 in
+    (parts.0, zero, write.0, write.1, write.2)
+
+resets_if : (answered zero : Bool) (effect : Effect) → (if answered && zero then effect else Nothing) ≡ Resets
+    → (answered ≡ true) × (zero ≡ true) × (effect ≡ Resets)
+resets_if true true effect is = (refl, refl, is)
+resets_if true false effect is = cc
+resets_if false zero effect is = cc
+
+executed_resets : (named : Option Overwrite) → executed named ≡ Resets → ⊥
+executed_resets None is = cc
+executed_resets (Some x) is = cc
+
+asked_resets : (reading : Reading) → asked_effect reading ≡ Resets → (counter : Option ℕ) × (reading ≡ Ok (ResetChanged counter))
+asked_resets (Err code) is = cc
+asked_resets (Ok (ResetChanged counter)) is = (counter, refl)
+asked_resets (Ok request) is = absurd (executed_resets (overwrite_of request) is)
+
+-- Code 0 is what the data and the counter say.
+judged_zero : (code : ℕ) (first protected : Bool) → (if first then code else if protected then 7 else code) ≡ 0 → code ≡ 0
+judged_zero code true protected is = is
+judged_zero code false true is = absurd (omega arith)
+judged_zero code false false is = is
+
+same_counter : (given counter : ℕ) (same : Bool) → (given == counter) ≡ same → ◌≡◌ {A = ℕ} (if same then 0 else 9) 0 → given ≡ counter
+same_counter given counter true test is = eqb-true given counter test
+same_counter given counter false test is = absurd (omega arith)
+
+named_counter : (named : Option ℕ) (counter : ℕ) → counter_code (ResetChanged named) counter ≡ 0
+    → IfSome named (λ n. n ≡ counter)
+named_counter None counter is = tt
+named_counter (Some given) counter is = same_counter given counter (given == counter) refl is
+
+pub resets_only : (state : DeviceState) (frame : FrameParts) → effect_of state frame ≡ Resets
+    → (is_answered state frame ≡ true) × (code_of state frame ≡ 0)
+    × (counter : Option ℕ) × (reading_of frame ≡ Ok (ResetChanged counter)) × IfSome counter (λ n. n ≡ state.counter)
+resets_only state frame is =
+    let code = code_of state frame in
+    let parts = resets_if (is_answered state frame) (code == 0) (asked_effect (reading_of frame)) is in
+    let zero : code ≡ 0 = eqb-true code 0 parts.1 in
+    let asked = asked_resets (reading_of frame) parts.2 in
+    let judged_code = judged (reading_of frame) state.counter in
+    let good : judged_code ≡ 0 =
+    judged_zero judged_code ((judged_code == 64) || (judged_code == 5)) (state.protected && is_write frame.command) zero in
+    let named : counter_code (ResetChanged asked.0) state.counter ≡ 0 =
+    ap (λ reading. judged reading state.counter) (sym asked.1) ∙ good in
+    (parts.0, zero, asked.0, asked.1, named_counter asked.0 state.counter named)
+
+-- No effect changes who the device is, or whether it is protected.
+after_identity : (master : MasterId) (effect : Effect) (state : DeviceState) → (after master effect state).identity ≡ state.identity
+after_identity master Nothing state = refl
+after_identity master (Executes overwrite) state = refl
+after_identity master Resets state = refl
+
+after_protected : (master : MasterId) (effect : Effect) (state : DeviceState) → (after master effect state).protected ≡ state.protected
+after_protected master Nothing state = refl
+after_protected master (Executes overwrite) state = refl
+after_protected master Resets state = refl
+
+pub identity_stays : (answered : Bool) (master : MasterId) (effect : Effect) (state : DeviceState)
+    → (if answered then after_reply master (after master effect state) else state).identity ≡ state.identity
+identity_stays true master effect state = after_identity master effect state
+identity_stays false master effect state = refl
+
+pub protection_stays : (answered : Bool) (master : MasterId) (effect : Effect) (state : DeviceState)
+    → (if answered then after_reply master (after master effect state) else state).protected ≡ state.protected
+protection_stays true master effect state = after_protected master effect state
+protection_stays false master effect state = refl
+
+-- What is answered if a test holds is the reply, and the test holds.
+pub some_if : {A : Type 0} (holds : Bool) (answer reply : A) → (if holds then Some answer else None) ≡ Some reply
+    → (holds ≡ true) × (answer ≡ reply)
+some_if true answer reply is = (refl, cc)
+some_if false answer reply is = cc
+
+pub none_if : {A : Type 0} (holds : Bool) (answer : A) → (if holds then Some answer else None) ≡ None → holds ≡ false
+none_if true answer is = cc
+none_if false answer is = refl
+
+-- A reply's payload begins with its code.
+pub answered_if : (holds : Bool) (frame reply : FrameParts) (answer : Reply)
+    → (if holds then Some (reply_parts frame (reply_payload answer)) else None) ≡ Some reply
+    → (holds ≡ true) × (reply ≡ reply_parts frame reply.payload) × (slice_get reply.payload 0 ≡ Some answer.code)
+answered_if holds frame reply answer is =
+    let parts = some_if holds (reply_parts frame (reply_payload answer)) reply is in
+    let payload : reply_payload answer ≡ reply.payload = ap (λ (f : FrameParts). f.payload) parts.1 in
+    let P : List ℕ → Type 0 = λ bytes. slice_get bytes 0 ≡ Some answer.code in
+    (parts.0, sym parts.1 ∙ ap (reply_parts frame) payload, subst P payload refl)

@@ -1,0 +1,3 @@
+-- The image of a device.
+pub mod Image
+pub mod Read

@@ -1,0 +1,323 @@
+-- What an image says, and that it says one thing.
+use Rattle.std.proofs.Common.{◌≡◌, ◌≢◌, ℕ, zero, suc, ◌+◌, ◌-◌, ◌*◌, ◌/◌, ◌%◌, ◌^◌, ◌<◌, ◌≤◌, ◌⊎◌, inl, inr, refl, sym, ap, ◌∙◌, subst}
+use Rattle.std.proofs.Common.{arith, Bool, true, false, ◌==◌, if◌then◌else◌, Some, None, List, [], ◌∷◌, ◌++◌, length, drop, replicate}
+use Rattle.std.proofs.Common.{slice_index}
+use Rattle.std.specs.List.{Contains, flat_map, slice_index_or, sum_by}
+use Rattle.std.proofs.lemmas.Bool.Decides.{nat_tests}
+use Rattle.std.proofs.lemmas.Grind.{common_steps, elements}
+use Rattle.std.proofs.lemmas.List.{drop_at, take-append-le}
+use Rattle.std.proofs.lemmas.Slice.{between_is}
+use Rattle.hart_values.specs.packed_text.Packing.{IsPacked}
+use Rattle.hart_values.specs.declared.each_master.EachMaster.{EachMaster}
+use Rattle.hart_commands.specs.Registers.{AreValid, Contents, bytes_in, registers, size_of}
+use Rattle.hart_commands.specs.declared.register.Register.{Register}
+use Rattle.hart_commands.specs.declared.register.Register.TheVariants.{Polling, Mode, Message, Tag, Descriptor, Date, Assembly, LongTag}
+use Rattle.hart_device.specs.declared.fault.DeviceFault.{DeviceFault}
+use Rattle.hart_device.specs.declared.fault.DeviceFault.TheVariants.{BadField, BadLength, BadVersion, BroadcastAddress, OutOfRange}
+use Rattle.hart_device.specs.Device.{DeviceState}
+use Rattle.hart_device.specs.Identity.{two_bytes}
+use Rattle.hart_device.specs.image.Image.{HasBadField, HasBadRegister, IsImageOf, IsImageFault, IsLongTagOf, flags_of, image_ending, image_bytes}
+use Rattle.hart_device.specs.image.Image.{image_length, registers_of_version, registers_of_version_1}
+use Rattle.hart_device.specs.image.ImageParts.{state_with}
+use Rattle.hart_device.specs.registers.Ranges.{contents_in, end_of, standing_for, start_of}
+use Rattle.hart_device.specs.registers.Values.{values_of}
+use Rattle.hart_device.specs.declared.identity_parts.IdentityParts.{IdentityParts}
+use Rattle.hart_device.specs.declared.image.ImageParts.{ImageParts}
+use Rattle.hart_device.proofs.lemmas.registers.Range.{end_to_end, length_written, written}
+use Rattle.hart_device.proofs.lemmas.registers.Registers.{bytes_in-contents_by, same_contents}
+
+-- Version 1 is known, with all registers but the long tag, and version 2, with all.
+known_version : (version : ℕ) (held : List Register) → registers_of_version version ≡ Some held
+    → ((version ≡ 1) × (held ≡ registers_of_version_1)) ⊎ ((version ≡ 2) × (held ≡ registers))
+known_version version held known = by_test (version == 1) refl known
+  where
+    by_second : (is_two : Bool) → (version == 2) ≡ is_two → (if is_two then Some registers else None) ≡ Some held
+        → ((version ≡ 1) × (held ≡ registers_of_version_1)) ⊎ ((version ≡ 2) × (held ≡ registers))
+    by_second true test is = inr (grind (arith, nat_tests, test), cc)
+    by_second false test is = cc
+
+    by_test : (is_one : Bool) → (version == 1) ≡ is_one
+        → (if is_one then Some registers_of_version_1 else if version == 2 then Some registers else None) ≡ Some held
+        → ((version ≡ 1) × (held ≡ registers_of_version_1)) ⊎ ((version ≡ 2) × (held ≡ registers))
+    by_test true test is = inl (grind (arith, nat_tests, test), cc)
+    by_test false test is = by_second (version == 2) refl is
+
+-- A version has one list of registers.
+one_list : (version : ℕ) (listed other : List Register) → registers_of_version version ≡ Some listed
+    → registers_of_version version ≡ Some other → listed ≡ other
+one_list version listed other known same = let both = sym known ∙ same in cc
+
+-- The registers of a version stand end to end.
+ends_of : (version : ℕ) (held : List Register) → registers_of_version version ≡ Some held → end_to_end 0 held ≡ true
+ends_of version held known = by_version (known_version version held known)
+  where
+    by_version : ((version ≡ 1) × (held ≡ registers_of_version_1)) ⊎ ((version ≡ 2) × (held ≡ registers)) → end_to_end 0 held ≡ true
+    by_version (inl one) = rw one.1 refl
+    by_version (inr two) = rw two.1 refl
+
+-- The long tag is not among the registers of version 1.
+no_long_tag : Contains registers_of_version_1 LongTag → ⊥
+no_long_tag (zero, within, is) = cc
+no_long_tag (suc zero, within, is) = cc
+no_long_tag (suc (suc zero), within, is) = cc
+no_long_tag (suc (suc (suc zero)), within, is) = cc
+no_long_tag (suc (suc (suc (suc zero))), within, is) = cc
+no_long_tag (suc (suc (suc (suc (suc zero)))), within, is) = cc
+no_long_tag (suc (suc (suc (suc (suc (suc zero))))), within, is) = cc
+no_long_tag (suc (suc (suc (suc (suc (suc (suc k)))))), within, is) = absurd (omega (arith, within))
+
+-- So a register of version 1 is not the long tag.
+pub listed_differs : (register : Register) → Contains registers_of_version_1 register → register ≢ LongTag
+listed_differs register listed same = no_long_tag (subst (λ r. Contains registers_of_version_1 r) same listed)
+
+-- A register that a version has not is the long tag.
+listed_or_not : (version : ℕ) (held : List Register) → registers_of_version version ≡ Some held
+    → ((register : Register) → Contains registers register) → (register : Register)
+    → Contains held register ⊎ ((register ≡ LongTag) × (Contains held LongTag → ⊥) × Contains held Tag)
+listed_or_not version held known every register = by_version (known_version version held known) register
+  where
+    in_first : (r : Register)
+        → Contains registers_of_version_1 r
+        ⊎ ((r ≡ LongTag) × (Contains registers_of_version_1 LongTag → ⊥) × Contains registers_of_version_1 Tag)
+    in_first LongTag = inr (refl, no_long_tag, (3, omega arith, refl))
+    in_first Polling = inl (0, omega arith, refl)
+    in_first Mode = inl (1, omega arith, refl)
+    in_first Message = inl (2, omega arith, refl)
+    in_first Tag = inl (3, omega arith, refl)
+    in_first Descriptor = inl (4, omega arith, refl)
+    in_first Date = inl (5, omega arith, refl)
+    in_first Assembly = inl (6, omega arith, refl)
+
+    by_version : ((version ≡ 1) × (held ≡ registers_of_version_1)) ⊎ ((version ≡ 2) × (held ≡ registers)) → (r : Register)
+        → Contains held r ⊎ ((r ≡ LongTag) × (Contains held LongTag → ⊥) × Contains held Tag)
+    by_version (inl one) r =
+        subst (λ (xs : List Register). Contains xs r ⊎ ((r ≡ LongTag) × (Contains xs LongTag → ⊥) × Contains xs Tag))
+        (sym one.1) (in_first r)
+    by_version (inr two) r = inl (rw two.1 (every r))
+
+-- What an image of a version says of its device.
+said : (state : DeviceState) (version : ℕ) (rest : List ℕ) (held : List Register) → registers_of_version version ≡ Some held
+    → IsImageOf state (version ∷ rest)
+    → (rest ≡ flat_map (bytes_in state.contents) held ++ image_ending state)
+    × ((Contains held LongTag → ⊥) → IsLongTagOf state.contents.tag state.contents.long_tag)
+said state version rest held known is =
+    let first : version ≡ is.version = ap (λ xs. slice_index xs 0) is.written in
+    let list : is.listed ≡ held = one_list is.version is.listed held is.known (rw (← first) known) in (
+      ap (drop 1) is.written ∙ ap (λ listed. flat_map (bytes_in state.contents) listed ++ image_ending state) list,
+      subst (λ (listed : List Register). (Contains listed LongTag → ⊥) → IsLongTagOf state.contents.tag state.contents.long_tag)
+          list is.long_tag,
+    )
+
+-- A state has one image of each version.
+pub one_image : (state : DeviceState) (image other : List ℕ) (is : IsImageOf state image) (other_is : IsImageOf state other)
+    → is.version ≡ other_is.version → image ≡ other
+one_image state image other is other_is same =
+    let list : is.listed ≡ other_is.listed =
+    one_list is.version is.listed other_is.listed is.known (rw same other_is.known) in
+    is.written ∙ (λ i. image_bytes (same i) (list i) state) ∙ sym other_is.written
+
+-- The flags are below 8.
+pub flags_of-le : (changed : EachMaster Bool) (protected : Bool) → flags_of changed protected ≤ 7
+flags_of-le changed protected = grind arith
+
+-- As many bytes as its registers have stand before the ending of an image.
+pub held_len : (state : DeviceState) → AreValid state.contents → (held : List Register)
+    → length (flat_map (bytes_in state.contents) held) ≡ sum_by size_of held
+held_len state valid = length_written (bytes_in state.contents) (λ r. (valid r).0)
+
+-- What stands for a register in an image that has it is what it holds.
+pub held_in_image : (state : DeviceState) → AreValid state.contents → (held : List Register) → end_to_end 0 held ≡ true
+    → (register : Register) → Contains held register
+    → standing_for register (flat_map (bytes_in state.contents) held ++ image_ending state) ≡ bytes_in state.contents register
+held_in_image state valid held ends register listed =
+    let same : slice_index_or held listed.0 register ≡ register = listed.2 in
+    subst (λ (r : Register). standing_for r (flat_map (bytes_in state.contents) held ++ image_ending state) ≡ bytes_in state.contents r)
+    same (written (bytes_in state.contents) [] (image_ending state) held ends (λ r. (valid r).0) listed.0 register listed.1)
+
+-- What was read of the registers in an array, and of the bytes that end an image, is what the image says.
+pub read_is : (version : ℕ) (held : List Register) → registers_of_version version ≡ Some held
+    → (parts : ImageParts) (array prefix end : List ℕ) → flat_map (λ register. standing_for register array) held ≡ prefix
+    → ((Contains held LongTag → ⊥) → IsLongTagOf (standing_for Tag array) (standing_for LongTag array))
+    → values_of parts.values ≡ contents_in array → AreValid (values_of parts.values) × (parts.counter < 2 ^ 16)
+    → two_bytes parts.counter ++ flags_of parts.flags.changed parts.flags.protected ∷ [] ≡ end
+    → (identity : IdentityParts) → IsImageOf (state_with identity parts) (version ∷ (prefix ++ end))
+read_is version held known parts array prefix end fill long_tag contents valid ends identity = record {
+  contents = valid.0;
+  counter = valid.1;
+  version = version;
+  listed = held;
+  known = known;
+  long_tag = subst (λ (c : Contents). (Contains held LongTag → ⊥) → IsLongTagOf c.tag c.long_tag) (sym contents) long_tag;
+  written = ap (λ xs. version ∷ xs) (ap (λ xs. prefix ++ xs) (sym ends)
+      ∙ ap (λ xs. xs ++ image_ending (state_with identity parts)) (sym fill)
+      ∙ ap (λ (bytes : Register → List ℕ). flat_map bytes held ++ image_ending (state_with identity parts))
+      (λ i register. sym (bytes_in-contents_by (λ r. standing_for r array) register) i)
+      ∙ ap (λ (c : Contents). flat_map (bytes_in c) held ++ image_ending (state_with identity parts)) (sym contents));
+}
+
+-- The flags are the last byte of an image.
+pub last_is : (version : ℕ) (prefix end : List ℕ) → length end ≡ 3
+    → slice_index (version ∷ (prefix ++ end)) (length (version ∷ (prefix ++ end)) - 1) ≡ slice_index end 2
+last_is version prefix end three =
+    let last : length (version ∷ (prefix ++ end)) - 1 ≡ suc (length prefix + 2) = grind (arith, common_steps) in
+    let flags : slice_index (version ∷ (prefix ++ end)) (suc (length prefix + 2)) ≡ slice_index end 2 =
+    grind (arith, common_steps, elements) in
+    rw last flags
+
+-- What stands for a register before the end of some bytes stands for it also if others follow them.
+pub before_others : (register : Register) (prefix others : List ℕ) → end_of register ≤ length prefix
+    → standing_for register (prefix ++ others) ≡ standing_for register prefix
+before_others register prefix others fits =
+    between_is (prefix ++ others) (start_of register) (end_of register)
+    ∙ ap (drop (start_of register)) (take-append-le (end_of register) prefix others fits)
+    ∙ sym (between_is prefix (start_of register) (end_of register))
+
+-- A register that is bad in the array, or bad flags in the bytes that end an image, are a bad field.
+pub bad_field : (version : ℕ) (held : List Register) (array prefix end : List ℕ) → length end ≡ 3
+    → ((register : Register) → Contains registers_of_version_1 register → Contains held register)
+    → ((register : Register) → Contains registers_of_version_1 register
+    → standing_for register (prefix ++ end) ≡ standing_for register array)
+    → HasBadRegister registers_of_version_1 array ⊎ (7 < slice_index end 2) → HasBadField held (version ∷ (prefix ++ end))
+bad_field version held array prefix end three has whole (inl (register, there, bad)) =
+    inl (register, has register there, λ valid. bad (rw (← whole register there) valid))
+bad_field version held array prefix end three has whole (inr above) = inr (rw (last_is version prefix end three) above)
+
+-- An image has no fault.
+pub no_fault : (state : DeviceState) (image : List ℕ) (fault : DeviceFault) → IsImageOf state image → IsImageFault image fault → ⊥
+no_fault state [] fault is faulty = let none = is.written in cc
+no_fault state (version ∷ rest) BadVersion is faulty =
+    let first : version ≡ is.version = ap (λ xs. slice_index xs 0) is.written in
+    let unknown : registers_of_version is.version ≡ None = subst (λ v. registers_of_version v ≡ None) first faulty in
+    let no = sym unknown ∙ is.known in
+    cc
+no_fault state (version ∷ rest) BadLength is (held, known, wrong) =
+    let len = held_len state is.contents held in
+    let says = said state version rest held known is in
+    let all : length rest ≡ sum_by size_of held + 3 = ap (λ (xs : List ℕ). length xs) says.0 ∙ (grind (arith, common_steps)) in
+    wrong (omega (arith, all))
+no_fault state (version ∷ rest) BadField is (held, known, len, inl (register, there, bad)) =
+    let after = (said state version rest held known is).0 in
+    bad (rw (after, held_in_image state is.contents held (ends_of version held known) register there) (is.contents register))
+no_fault state (version ∷ rest) BadField is (held, known, len, inr above) =
+    let after : rest ≡ flat_map (bytes_in state.contents) held ++ image_ending state = (said state version rest held known is).0 in
+    let last = last_is version (flat_map (bytes_in state.contents) held) (image_ending state) refl in
+    let flags : 7 < flags_of state.changed state.protected =
+    subst (λ n. 7 < n) last (subst (λ (xs : List ℕ). 7 < slice_index (version ∷ xs) (length (version ∷ xs) - 1)) after above) in
+    absurd (omega (arith, flags, flags_of-le state.changed state.protected))
+no_fault state (version ∷ rest) _ is faulty = faulty
+
+-- No bytes have the fault of a bad length alone.
+length_of_none : (fault : DeviceFault) → IsImageFault [] fault → fault ≡ BadLength
+length_of_none BadLength faulty = refl
+length_of_none BroadcastAddress faulty = absurd faulty
+length_of_none OutOfRange faulty = absurd faulty
+length_of_none BadVersion faulty = absurd faulty
+length_of_none BadField faulty = absurd faulty
+
+-- Bytes have one fault.
+pub one_fault : (image : List ℕ) (fault other : DeviceFault) → IsImageFault image fault → IsImageFault image other → fault ≡ other
+one_fault [] fault other p q = length_of_none fault p ∙ sym (length_of_none other q)
+one_fault (version ∷ rest) BadVersion BadVersion p q = refl
+one_fault (version ∷ rest) BadLength BadLength p q = refl
+one_fault (version ∷ rest) BadField BadField p q = refl
+one_fault (version ∷ rest) BadVersion BadLength unknown (listed, known, wrong) = let no = sym unknown ∙ known in cc
+one_fault (version ∷ rest) BadVersion BadField unknown (listed, known, len, bad) = let no = sym unknown ∙ known in cc
+one_fault (version ∷ rest) BadLength BadVersion (listed, known, wrong) unknown = let no = sym unknown ∙ known in cc
+one_fault (version ∷ rest) BadField BadVersion (listed, known, len, bad) unknown = let no = sym unknown ∙ known in cc
+one_fault (version ∷ rest) BadLength BadField (listed, known, wrong) (other, same, len, bad) =
+    absurd (wrong (len ∙ ap image_length (one_list version other listed same known)))
+one_fault (version ∷ rest) BadField BadLength (listed, known, len, bad) (other, same, wrong) =
+    absurd (wrong (len ∙ ap image_length (one_list version listed other known same)))
+one_fault (version ∷ rest) BroadcastAddress other p q = absurd p
+one_fault (version ∷ rest) OutOfRange other p q = absurd p
+one_fault (version ∷ rest) BadVersion BroadcastAddress p q = absurd q
+one_fault (version ∷ rest) BadVersion OutOfRange p q = absurd q
+one_fault (version ∷ rest) BadLength BroadcastAddress p q = absurd q
+one_fault (version ∷ rest) BadLength OutOfRange p q = absurd q
+one_fault (version ∷ rest) BadField BroadcastAddress p q = absurd q
+one_fault (version ∷ rest) BadField OutOfRange p q = absurd q
+
+bit_of : (holds : Bool) (bit : ℕ) → ((if holds then bit else 0) ≡ bit * (if holds then 1 else 0)) × ((if holds then 1 else 0) ≤ 1)
+bit_of true bit = (omega arith, omega arith)
+bit_of false bit = (omega arith, omega arith)
+
+same_by_bit : (holds other : Bool) → ◌≡◌ {A = ℕ} (if holds then 1 else 0) (if other then 1 else 0) → holds ≡ other
+same_by_bit true true same = refl
+same_by_bit false false same = refl
+same_by_bit true false same = absurd (omega (arith, same))
+same_by_bit false true same = absurd (omega (arith, same))
+
+-- Flags determine what they are of.
+flags_determine : (a b c x y z : Bool)
+    → ◌≡◌ {A = ℕ} ((if a then 1 else 0) + (if b then 2 else 0) + (if c then 4 else 0))
+    ((if x then 1 else 0) + (if y then 2 else 0) + (if z then 4 else 0))
+    → (a ≡ x) × (b ≡ y) × (c ≡ z)
+flags_determine a b c x y z same = (
+  same_by_bit a x (omega (arith, same, bit_of a 1, bit_of b 2, bit_of c 4, bit_of x 1, bit_of y 2, bit_of z 4)),
+  same_by_bit b y (omega (arith, same, bit_of a 1, bit_of b 2, bit_of c 4, bit_of x 1, bit_of y 2, bit_of z 4)),
+  same_by_bit c z (omega (arith, same, bit_of a 1, bit_of b 2, bit_of c 4, bit_of x 1, bit_of y 2, bit_of z 4)),
+)
+
+-- A state is determined by its parts.
+same_state : (state other : DeviceState) → state.identity ≡ other.identity → state.contents ≡ other.contents
+    → state.counter ≡ other.counter → state.changed ≡ other.changed → state.protected ≡ other.protected
+    → state.cold_start ≡ other.cold_start → state ≡ other
+same_state state other identity contents counter changed protected cold_start = λ i. record {
+  identity = identity i;
+  contents = contents i;
+  counter = counter i;
+  changed = changed i;
+  protected = protected i;
+  cold_start = cold_start i;
+}
+
+-- Contents are determined by what an image says of them.
+one_contents : (state other : DeviceState) (held : List Register)
+    → ((text others bytes : List ℕ) → IsPacked text bytes → IsPacked others bytes → text ≡ others)
+    → ((register : Register) → Contains held register ⊎ ((register ≡ LongTag) × (Contains held LongTag → ⊥) × Contains held Tag))
+    → ((register : Register) → Contains held register → bytes_in state.contents register ≡ bytes_in other.contents register)
+    → ((Contains held LongTag → ⊥) → IsLongTagOf state.contents.tag state.contents.long_tag)
+    → ((Contains held LongTag → ⊥) → IsLongTagOf other.contents.tag other.contents.long_tag)
+    → state.contents ≡ other.contents
+one_contents state other held one_text listed same long_tag other_long_tag =
+    same_contents state.contents other.contents (λ register. by_listed register (listed register))
+  where
+    one_long_tag : (tag a b : List ℕ) → IsLongTagOf tag a → IsLongTagOf tag b → a ≡ b
+    one_long_tag tag a b (text, packed, is) (others, other_packed, other_is) =
+        is ∙ ap (λ xs. xs ++ replicate 24 0x20) (one_text text others tag packed other_packed) ∙ sym other_is
+
+    by_listed : (register : Register) → Contains held register ⊎ ((register ≡ LongTag) × (Contains held LongTag → ⊥) × Contains held Tag)
+        → bytes_in state.contents register ≡ bytes_in other.contents register
+    by_listed register (inl there) = same register there
+    by_listed register (inr (is, not, tag)) =
+        let mine = subst (λ (t : List ℕ). IsLongTagOf t state.contents.long_tag) (same Tag tag) (long_tag not) in
+        rw is (one_long_tag other.contents.tag state.contents.long_tag other.contents.long_tag mine (other_long_tag not))
+
+-- An image is of one state.
+pub one_state : (state other : DeviceState) (image : List ℕ) → ((register : Register) → Contains registers register)
+    → ((text others bytes : List ℕ) → IsPacked text bytes → IsPacked others bytes → text ≡ others)
+    → IsImageOf state image → IsImageOf other image → state.identity ≡ other.identity → state.cold_start ≡ other.cold_start → state ≡ other
+one_state state other [] every one_text is other_is identity cold_start = let none = is.written in cc
+one_state state other (version ∷ rest) every one_text is other_is identity cold_start =
+    let held = is.listed in
+    let first : is.version ≡ version = ap (λ xs. slice_index xs 0) (sym is.written) in
+    let known : registers_of_version version ≡ Some held = rw (← first) is.known in
+    let says = said state version rest held known is in
+    let other_says = said other version rest held known other_is in
+    let same : flat_map (bytes_in state.contents) held ++ image_ending state
+    ≡ flat_map (bytes_in other.contents) held ++ image_ending other =
+    sym says.0 ∙ other_says.0 in
+    let table = ends_of version held known in
+    let contents : state.contents ≡ other.contents =
+    one_contents state other held one_text (listed_or_not version held known every) (λ register there.
+    sym (held_in_image state is.contents held table register there) ∙ ap (standing_for register) same
+    ∙ held_in_image other other_is.contents held table register there) says.1 other_says.1 in
+    let ends : image_ending state ≡ image_ending other =
+    sym (drop_at _ (image_ending state) (sum_by size_of held) (held_len state is.contents held)) ∙ ap (drop (sum_by size_of held)) same
+    ∙ drop_at _ (image_ending other) (sum_by size_of held) (held_len other other_is.contents held) in
+    let high : state.counter / 256 ≡ other.counter / 256 = ap (λ xs. slice_index xs 0) ends in
+    let low : state.counter % 256 ≡ other.counter % 256 = ap (λ xs. slice_index xs 1) ends in
+    let bits = flags_determine state.changed.primary state.changed.secondary state.protected
+    other.changed.primary other.changed.secondary other.protected (ap (λ xs. slice_index xs 2) ends) in
+    same_state state other identity contents (omega (arith, high, low)) (λ i. record { primary = bits.0 i; secondary = bits.1 i }) bits.2
+    cold_start

@@ -1,0 +1,48 @@
+-- What an image of version 1 says, whose registers are read of an array of them all.
+use Rattle.std.proofs.Common.{◌≡◌, ◌≢◌, ◌≤◌, ℕ, List, [], ◌++◌, length, refl, sym, ◌∙◌, arith}
+use Rattle.std.proofs.Common.{Option, None, Some, IfSome, IfNone, IfOk, IfErr}
+use Rattle.std.specs.List.{flat_map}
+use Rattle.std.specs.Option.{ok_or}
+use Rattle.hart_commands.specs.declared.register.Register.{Register}
+use Rattle.hart_commands.specs.declared.register.Register.TheVariants.{Polling, Mode, Message, Tag, Descriptor, Date, Assembly, LongTag}
+use Rattle.hart_device.specs.image.Image.{registers_of_version_1}
+use Rattle.hart_device.specs.registers.Ranges.{end_of, standing_for}
+use Rattle.hart_device.proofs.lemmas.image.Image.{before_others}
+use Rattle.hart_device.proofs.lemmas.registers.Range.{filled}
+
+pub refused_or : {A E Bad : Type 0} (P : E → Type 0) (read : Option A) (fault : E) → IfNone read Bad → (Bad → P fault)
+    → IfErr (ok_or read fault) P
+refused_or P None fault bad gives = gives bad
+refused_or P (Some x) fault bad gives = tt
+
+pub kept_or : {A E : Type 0} (P Q R S : A → Type 0) (read : Option A) (fault : E) → IfSome read P → IfSome read Q → IfSome read R
+    → ((x : A) → P x → Q x → R x → S x) → IfOk (ok_or read fault) S
+kept_or P Q R S None fault p q r gives = tt
+kept_or P Q R S (Some x) fault p q r gives = gives x p q r
+
+-- Every register but the long tag ends before the long tag.
+before_long_tag : (register : Register) → register ≢ LongTag → end_of register ≤ 50
+before_long_tag Polling differ = omega arith
+before_long_tag Mode differ = omega arith
+before_long_tag Message differ = omega arith
+before_long_tag Tag differ = omega arith
+before_long_tag Descriptor differ = omega arith
+before_long_tag Date differ = omega arith
+before_long_tag Assembly differ = omega arith
+before_long_tag LongTag differ = absurd (differ refl)
+
+-- So it stands in the 50 bytes that the registers of version 1 have, whatever follows.
+pub stands_before : (prefix others : List ℕ) → length prefix ≡ 50 → (register : Register) → register ≢ LongTag
+    → standing_for register (prefix ++ others) ≡ standing_for register prefix
+stands_before prefix others len register differ =
+    let fits = before_long_tag register differ in
+    before_others register prefix others (omega (arith, fits, len))
+
+-- An array that holds the same for all of them holds those bytes.
+pub holds_prefix : (array prefix : List ℕ) → length prefix ≡ 50
+    → ((register : Register) → register ≢ LongTag → standing_for register array ≡ standing_for register prefix)
+    → flat_map (λ register. standing_for register array) registers_of_version_1 ≡ prefix
+holds_prefix array prefix len same =
+    (λ i. same Polling (λ e. cc) i ++ (same Mode (λ e. cc) i ++ (same Message (λ e. cc) i ++ (same Tag (λ e. cc) i
+    ++ (same Descriptor (λ e. cc) i ++ (same Date (λ e. cc) i ++ (same Assembly (λ e. cc) i ++ [])))))))
+    ∙ filled prefix 0 registers_of_version_1 refl (sym len)

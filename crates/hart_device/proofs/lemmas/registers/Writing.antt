@@ -1,0 +1,88 @@
+-- Writing registers into an array, one after another.
+use Rattle.std.proofs.Common.{◌≡◌, ◌≢◌, ℕ, ◌+◌, ◌-◌, ◌<◌, ◌≤◌, ◌⊎◌, inl, inr, ap, ◌∙◌, sym, subst, arith}
+use Rattle.std.proofs.Common.{List, length, take, drop, nat_lt, if◌then◌else◌, Option, None, unwrap_or, Bool, true, false, ◌==◌, refl}
+use Rattle.std.specs.List.{AllPairs, Contains, slice_index_or, slice_range}
+use Rattle.std.proofs.lemmas.Bool.{eqb-true}
+use Rattle.std.proofs.lemmas.Bool.Decides.{nat_tests}
+use Rattle.std.proofs.lemmas.List.{get_or_default}
+use Rattle.std.proofs.lemmas.Slice.{between_is, take-put_mid_below, drop-put_mid}
+use borrow.Rule.Slice.PartMut.{put_mid}
+use Rattle.hart_commands.specs.Registers.{registers}
+use Rattle.hart_commands.specs.declared.register.Register.{Register}
+use Rattle.hart_commands.specs.declared.register.Register.TheVariants.{Polling}
+use Rattle.hart_device.specs.registers.Ranges.{standing_for}
+
+-- What is written in a range stays out of every range that lies apart from it.
+pub kept_apart : (array bytes : List ℕ) (start end other_start other_end : ℕ) → start ≤ end → end ≤ length array
+    → length bytes ≡ end - start → other_start ≤ other_end → (end ≤ other_start) ⊎ (other_end ≤ start)
+    → slice_range (put_mid start (end - start) array bytes) other_start other_end ≡ slice_range array other_start other_end
+kept_apart array bytes start end from to order fits size other (inl after) =
+    ap (take (to - from)) (drop-put_mid start (end - start) array bytes from (omega arith) (omega arith) size)
+kept_apart array bytes start end from to order fits size other (inr before) =
+    rw (between_is (put_mid start (end - start) array bytes) from to, between_is array from to)
+    (ap (drop from) (take-put_mid_below start (end - start) array bytes to before (omega arith)))
+
+-- The register at a place of the list.
+abbrev pub register_at : ℕ → Register
+register_at place = slice_index_or registers place Polling
+
+-- A register holds what it is given, if anything, and otherwise what it held.
+abbrev pub given_to : (Register → Option (List ℕ)) → List ℕ → Register → List ℕ
+given_to given old register = unwrap_or (given register) (standing_for register old)
+
+-- The registers before a place of the list have been written, and the others not yet.
+abbrev pub AreWrittenBefore : ℕ → (Register → Option (List ℕ)) → List ℕ → List ℕ → Type 0
+AreWrittenBefore place given old now = (k : ℕ) → k < length registers
+    → standing_for (register_at k) now
+    ≡ (if nat_lt k place then given_to given old (register_at k) else standing_for (register_at k) old)
+
+-- Registers at two places of the list are not the same.
+places_differ : AllPairs (λ register other. register ≢ other) registers → (j k : ℕ) → j < length registers → k < length registers → j ≢ k
+    → register_at j ≢ register_at k
+places_differ once j k j_within k_within differ = by_order (nat_lt j k) refl
+  where
+    by_order : (less : Bool) → nat_lt j k ≡ less → register_at j ≢ register_at k
+    by_order true test = once j k Polling (grind (arith, nat_tests, test)) k_within
+    by_order false test =
+        let after : k < j = grind (arith, nat_tests, test, differ) in
+        λ same. once k j Polling after j_within (sym same)
+
+-- After one more of them is written, one more stands written.
+pub one_more : (given : Register → Option (List ℕ)) (old now new : List ℕ) (place : ℕ) → place < length registers
+    → AllPairs (λ register other. register ≢ other) registers
+    → standing_for (register_at place) new ≡ given_to given old (register_at place)
+    → ((other : Register) → other ≢ register_at place → standing_for other new ≡ standing_for other now)
+    → AreWrittenBefore place given old now → AreWrittenBefore (place + 1) given old new
+one_more given old now new place within once written others before k k_within = by_place (k == place) refl
+  where
+    by_place : (same : Bool) → (k == place) ≡ same → standing_for (register_at k) new
+        ≡ (if nat_lt k (place + 1) then given_to given old (register_at k) else standing_for (register_at k) old)
+    by_place true same =
+        let is : k ≡ place = eqb-true k place same in
+        let less : nat_lt k (place + 1) ≡ true = grind (arith, nat_tests, is) in
+        rw less (subst (λ n. standing_for (register_at n) new ≡ given_to given old (register_at n)) (sym is) written)
+    by_place false same =
+        let differ : k ≢ place = λ is. absurd (grind (arith, nat_tests, is, same)) in
+        let test : nat_lt k (place + 1) ≡ nat_lt k place = grind (arith, nat_tests, differ) in
+        rw test (others (register_at k) (places_differ once k place k_within within differ) ∙ before k k_within)
+
+-- So it does also if it is given nothing.
+pub none_more : (given : Register → Option (List ℕ)) (old now : List ℕ) (place : ℕ) → place < length registers
+    → AllPairs (λ register other. register ≢ other) registers → given (register_at place) ≡ None
+    → AreWrittenBefore place given old now → AreWrittenBefore (place + 1) given old now
+none_more given old now place within once none before =
+    let here = before place within in
+    let held : standing_for (register_at place) now ≡ standing_for (register_at place) old = grind (arith, nat_tests, here) in
+    one_more given old now now place within once (rw none held) (λ other differ. refl) before
+
+-- All of them have been written at the end of the list.
+pub all_written : (given : Register → Option (List ℕ)) (old now : List ℕ) (place : ℕ) → length registers ≤ place
+    → ((register : Register) → Contains registers register) → AreWrittenBefore place given old now
+    → (register : Register) → standing_for register now ≡ given_to given old register
+all_written given old now place end every before register =
+    let listed = every register in
+    let same : register_at listed.0 ≡ register = get_or_default registers listed.0 Polling register listed.1 ∙ listed.2 in
+    let held = before listed.0 listed.1 in
+    let is : standing_for (register_at listed.0) now ≡ given_to given old (register_at listed.0) =
+    grind (arith, nat_tests, held) in
+    subst (λ (r : Register). standing_for r now ≡ given_to given old r) same is

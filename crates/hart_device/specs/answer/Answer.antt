@@ -1,0 +1,129 @@
+-- What a device answers to a frame, and what the frame does to it (HCF_SPEC-081, HCF_SPEC-127; who is answered, and the order of
+-- refusals, are of the own profile).
+use Rattle.std.specs.Prelude.{ℕ, ◌==◌, ◌&&◌, ◌||◌, not, if◌then◌else◌, Bool, true, false, length, slice_index}
+use Rattle.std.specs.Prelude.{Option, Some, None, Ok, Err}
+use Rattle.std.specs.Str.{bytes_eq}
+use Rattle.hart_values.specs.address.AddressBytes.{is_broadcast}
+use Rattle.hart_values.specs.address.DeviceNumbers.{DeviceNumbers}
+use Rattle.hart_values.specs.EachMaster.{with_master}
+use Rattle.hart_values.specs.declared.address.Address.{Address}
+use Rattle.hart_values.specs.declared.address.Address.TheVariants.{Polling, Unique}
+use Rattle.hart_frame.specs.wire.FrameParts.{FrameParts, reply_parts}
+use Rattle.hart_frame.specs.declared.wire.kind.FrameKind.{FrameKind}
+use Rattle.hart_frame.specs.declared.wire.kind.FrameKind.TheVariants.{Stx, Ack}
+use Rattle.hart_commands.specs.declared.reply.Reply.{Reply}
+use Rattle.hart_commands.specs.declared.content.ReplyContent.{ReplyContent}
+use Rattle.hart_commands.specs.declared.content.ReplyContent.TheVariants.{Refused}
+use Rattle.hart_commands.specs.declared.request.Request.TheVariants.{IdentifyByTag, IdentifyByLongTag, ResetChanged}
+use Rattle.hart_commands.specs.Registers.{Overwrite, overwrite_of}
+use Rattle.hart_commands.specs.ReplyData.{reply_payload}
+use Rattle.hart_commands.specs.RequestCode.{request_code}
+use Rattle.hart_commands.specs.RequestData.{Reading, request_reading}
+use Rattle.hart_device.specs.declared.process.Process.{Process}
+use Rattle.hart_device.specs.answer.Content.{reply_content}
+use Rattle.hart_device.specs.Device.{DeviceState, Effect, Nothing, Executes, Resets, after, after_reply}
+use Rattle.hart_device.specs.Identity.{own_numbers}
+use Rattle.hart_device.specs.answer.Status.{device_status}
+
+-- A request is an STX; an ACK is a device's reply.
+abbrev pub is_request : FrameKind → Bool
+is_request Stx = true
+is_request Ack = false
+
+-- Two unique addresses are the same if both of their numbers are.
+abbrev pub same_numbers : DeviceNumbers → DeviceNumbers → Bool
+same_numbers a b = (a.expanded_type == b.expanded_type) && (a.device_id == b.device_id)
+
+-- Command 0 is asked at the polling address that the device has, every command at its own unique address, and Commands 11 and 21 at
+-- the broadcast address.
+abbrev pub is_paired : DeviceState → Address → ℕ → Bool
+is_paired state (Polling number) command = (command == 0) && (slice_index state.contents.polling 0 == number)
+is_paired state (Unique numbers) command =
+    same_numbers numbers (own_numbers state.identity) || (((command == 11) || (command == 21)) && is_broadcast (Unique numbers))
+
+-- A frame is for the device if it is a request without expansion bytes whose address and command are paired so; the burst bit
+-- is not looked at.
+abbrev pub is_addressed : DeviceState → FrameParts → Bool
+is_addressed state frame =
+    is_request frame.kind && (length frame.expansion == 0) && is_paired state frame.address frame.command
+
+-- What the data bytes of a frame ask, or the code with which they are refused.
+abbrev pub reading_of : FrameParts → Reading
+reading_of frame = request_reading frame.command frame.payload
+
+-- The response code of a frame is that of its request, for this device's protection and counter.
+abbrev pub code_of : DeviceState → FrameParts → ℕ
+code_of state frame = request_code frame.command (reading_of frame) state.protected state.counter
+
+-- Command 11 names another device if its tag is not the bytes of the register Tag, and Command 21 if its long tag is not those of the
+-- register LongTag; every other request names none.
+abbrev pub names_another : DeviceState → Reading → Bool
+names_another state (Ok (IdentifyByTag tag)) = not (bytes_eq state.contents.tag tag)
+names_another state (Ok (IdentifyByLongTag long_tag)) = not (bytes_eq state.contents.long_tag long_tag)
+names_another state _ = false
+
+-- A frame that is read so and has this code is answered if it is for the device, names no other device by its tag or long tag, and
+-- did not come by broadcast with another code than 0.
+abbrev pub is_answered_with : DeviceState → FrameParts → Reading → ℕ → Bool
+is_answered_with state frame reading code =
+    is_addressed state frame && not (names_another state reading) && not (is_broadcast frame.address && not (code == 0))
+
+-- A frame is answered, with what its data are read as and the code that it has in this state.
+abbrev pub is_answered : DeviceState → FrameParts → Bool
+is_answered state frame = is_answered_with state frame (reading_of frame) (code_of state frame)
+
+-- An overwrite is executed; no overwrite is no effect.
+abbrev pub executed : Option Overwrite → Effect
+executed None = Nothing
+executed (Some overwrite) = Executes overwrite
+
+-- What a request does with code 0: Command 38 resets, a configuration write executes its overwrite, and every other request, as
+-- bad data, has no effect.
+abbrev pub asked_effect : Reading → Effect
+asked_effect (Ok (ResetChanged counter)) = Resets
+asked_effect (Ok request) = executed (overwrite_of request)
+asked_effect (Err code) = Nothing
+
+-- A frame that is not answered has no effect, and a refused one has none.
+abbrev pub effect_of : DeviceState → FrameParts → Effect
+effect_of state frame =
+    if is_answered state frame && (code_of state frame == 0) then asked_effect (reading_of frame) else Nothing
+
+-- The state of the device after the command of a frame; the reply is about this state.
+abbrev pub after_command : DeviceState → FrameParts → DeviceState
+after_command state frame = after frame.master (effect_of state frame) state
+
+-- After a frame that it answers the device is in the state after the command and then the reply; after any other its state stays.
+abbrev pub state_after : DeviceState → FrameParts → DeviceState
+state_after state frame = if is_answered state frame then after_reply frame.master (after_command state frame) else state
+
+-- What a frame that has no effect leaves of a device is all but the cold start bit of its master. That is clear if the frame was
+-- answered, since the reply has shown it, and otherwise as it was.
+abbrev pub after_refusal : DeviceState → FrameParts → DeviceState
+after_refusal state frame = record state {
+  cold_start = if is_answered state frame then with_master frame.master false state.cold_start else state.cold_start;
+}
+
+-- With code 0 a reply says what was asked, and with another code nothing.
+abbrev pub content_with : DeviceState → Process → Reading → ℕ → ReplyContent
+content_with state process (Ok request) code = if code == 0 then reply_content state process request else Refused
+content_with state process (Err refusal) code = Refused
+
+-- The reply to a frame that is read so and has this code, by a device that is in this state after the command.
+abbrev pub reply_with : DeviceState → Process → FrameParts → Reading → ℕ → Reply
+reply_with state process frame reading code = record {
+  command = frame.command;
+  code = code;
+  status = record { 0 = device_status state process frame.master };
+  content = content_with state process reading code;
+}
+
+-- What the device replies to a frame that it answers: the status and the data are those of the state after the command. So a reply shows
+-- the cold start bit that it clears.
+abbrev pub reply_of : DeviceState → Process → FrameParts → Reply
+reply_of state process frame = reply_with (after_command state frame) process frame (reading_of frame) (code_of state frame)
+
+-- The device's answer to a frame: silence, or an ACK with its reply.
+abbrev pub answer_of : DeviceState → Process → FrameParts → Option FrameParts
+answer_of state process frame =
+    if is_answered state frame then Some (reply_parts frame (reply_payload (reply_of state process frame))) else None

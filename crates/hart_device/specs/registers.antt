@@ -1,0 +1,3 @@
+-- The registers, and the stores that hold them.
+pub mod Values
+pub mod Ranges

@@ -1,0 +1,223 @@
+//! What a device answers to what it hears, and what that does to it.
+ghost use Rattle.std.specs.Prelude.{◌≡◌, ◌≤◌, ◌==◌, if◌then◌else◌, length, IsSome, IsTrue, IfSome, MatchOption, None, Ok, ◌↔◌};
+ghost use Rattle.hart_commands.specs.ReplyData.{reply_payload};
+ghost use Rattle.hart_device.specs.Device.{Nothing, after};
+ghost use Rattle.hart_device.specs.answer.Answer.{answer_of, asked_effect, is_addressed, is_answered, is_answered_with, is_paired, names_another};
+ghost use Rattle.hart_device.specs.answer.Answer.{reply_of, reply_with, state_after};
+ghost use Rattle.hart_device.specs.answer.Delivery.{Brings, Brought, answer_to, state_after_delivery};
+ghost use Rattle.hart_device.specs.answer.Garbled.{HasGarbled, garbled_reply};
+ghost use Rattle.hart_device.specs.declared.answer.garbled.GarbledRequest.{GarbledRequest};
+
+use crate::answer::garbled::garbled_in;
+use crate::laws::garbled_requests_are_decided;
+use crate::{Device, Process, RegisterStore};
+use hart_commands::{
+    Register, Reply, Request, overwrites_are_valid, request_code, requests_are_well_made, writes_of,
+};
+use hart_frame::{Char, Frame, FrameKind, LoneFrame, Payload, lone_frame};
+use hart_values::{Address, EachMaster, MasterId, ResponseCode};
+
+mod content;
+pub mod garbled;
+mod process_content;
+pub mod status;
+mod variables;
+
+/// The command by which a master finds the device at a polling address.
+const IDENTIFY: u8 = 0;
+
+/// The command by which a master finds the device of a tag.
+const IDENTIFY_BY_TAG: u8 = 11;
+
+/// The command by which a master finds the device of a long tag.
+const IDENTIFY_BY_LONG_TAG: u8 = 21;
+
+impl<S: RegisterStore> Device<S> {
+    /// What the device answers to a delivery, which is what it heard at once: what it answers to the frame of a delivery with
+    /// exactly one, and to a garbled request in a delivery without a frame a communication-fault reply, which changes nothing.
+    /// To any other delivery it is silent, `None`, and stays as it is.
+    pub fn hear(&mut self, delivery: &[Char], process: &Process) -> Option<Frame>
+        ensures answer { (brought : Brought) → Brings self.old.identity delivery.now brought
+            → result ≡ answer_to self.old process.now brought }
+        ensures state { (brought : Brought) → Brings self.old.identity delivery.now brought
+            → self.new ≡ state_after_delivery self.old brought }
+    {
+        // No-op: by its contract the garbled request that is found is the only one.
+        garbled_requests_are_decided();
+        match lone_frame(delivery) {
+            LoneFrame::Alone(found) => self.receive(&found.frame, process),
+            // Nothing is carried out of a garbled request.
+            LoneFrame::NoFrame => self.reply_to_garbled(delivery),
+            LoneFrame::Several => None,
+        }
+    }
+
+    /// The communication-fault reply to the garbled request of a delivery, or `None` if it has none. It is for a delivery without a
+    /// frame: a whole request has the form of a garbled one.
+    pub fn reply_to_garbled(&self, delivery: &[Char]) -> Option<Frame>
+        ensures reply { MatchOption result ((request : GarbledRequest) → HasGarbled self.now.identity delivery.now request → ⊥)
+            (λ reply. (request : GarbledRequest) × HasGarbled self.now.identity delivery.now request
+            × (reply ≡ garbled_reply self.now.identity request)) }
+    {
+        let request = garbled_in(&self.identity, delivery)?;
+        Some(request.reply(&self.identity))
+    }
+
+    /// What the device answers to a frame, or silence, `None`, which changes nothing.
+    ///
+    /// The reply is about the state after the command. It shows the master its cold start bit, and clears it, whatever its response
+    /// code; a command with another code than 0 changes nothing else.
+    pub fn receive(&mut self, frame: &Frame, process: &Process) -> Option<Frame>
+        ensures answer { result ≡ answer_of self.old process.now frame.now }
+        ensures state { self.new ≡ state_after self.old frame.now }
+    {
+        let mut payload = Payload::new();
+        if self.answer_into(frame, process, &mut payload) {
+            Some(frame.reply(payload))
+        } else {
+            None
+        }
+    }
+
+    /// Answers a frame as [`Device::receive`] does, with the answer written over `reply`, and says whether there is one. If
+    /// there is none, `reply` is as it was.
+    pub fn receive_into(&mut self, frame: &Frame, process: &Process, reply: &mut Frame) -> bool
+        ensures answers { IsTrue result ↔ IsSome (answer_of self.old process.now frame.now) }
+        ensures answer { IfSome (answer_of self.old process.now frame.now) (λ answer. reply.new ≡ answer) }
+        ensures silent { answer_of self.old process.now frame.now ≡ None → reply.new ≡ reply.old }
+        ensures state { self.new ≡ state_after self.old frame.now }
+    {
+        let mut payload = Payload::new();
+        let answers = self.answer_into(frame, process, &mut payload);
+        if answers {
+            reply.set_reply(frame, &payload);
+        }
+        answers
+    }
+
+    /// Whether the device answers a frame, which it carries out; the payload of the answer is then in `payload`.
+    fn answer_into(&mut self, frame: &Frame, process: &Process, payload: &mut Payload) -> bool
+        ensures answers { result ≡ is_answered self.old frame.now }
+        ensures written { IsTrue result → payload.new ≡ reply_payload (reply_of self.old process.now frame.now) }
+        ensures two { IsTrue result → 2 ≤ length payload.new }
+        ensures state { self.new ≡ state_after self.old frame.now }
+    {
+        let reading = Request::read(frame.command(), frame.payload());
+        let code = request_code(frame.command(), &reading, self.protected, self.counter);
+        if !self.answers(frame, &reading, code) {
+            return false;
+        }
+        self.carry_out(frame.master(), &reading, code);
+        self.write_payload(frame, process, &reading, code, payload);
+        self.cold_start.set(frame.master(), false);
+        true
+    }
+
+    /// Whether the device answers a frame that is read so and has this code.
+    fn answers(
+        &self,
+        frame: &Frame,
+        reading: &Result<Request, ResponseCode>,
+        code: ResponseCode,
+    ) -> bool
+        ensures { result ≡ is_answered_with self.now frame.now reading.now code }
+    {
+        self.is_addressed(frame)
+            && !self.names_another(reading)
+            && !(frame.address().is_broadcast() && code != ResponseCode::SUCCESS)
+    }
+
+    /// Whether the frame is a request without expansion bytes, whose address and command are paired.
+    fn is_addressed(&self, frame: &Frame) -> bool
+        ensures { result ≡ is_addressed self.now frame.now }
+    {
+        frame.kind() == FrameKind::Stx
+            && frame.expansion().is_empty()
+            && self.is_paired(frame.address(), frame.command())
+    }
+
+    /// Whether the device is asked this command at this address.
+    fn is_paired(&self, address: Address, command: u8) -> bool
+        ensures { result ≡ is_paired self.now address command }
+    {
+        match address {
+            Address::Polling(polling) => {
+                command == IDENTIFY && self.byte(Register::Polling) == polling.number()
+            }
+            Address::Unique(unique) => {
+                unique == self.identity.unique_address()
+                    || ((command == IDENTIFY_BY_TAG || command == IDENTIFY_BY_LONG_TAG)
+                        && address.is_broadcast())
+            }
+        }
+    }
+
+    /// Whether Command 11 names a tag, or Command 21 a long tag, that is not the device's.
+    fn names_another(&self, reading: &Result<Request, ResponseCode>) -> bool
+        ensures { result ≡ names_another self.now reading.now }
+    {
+        match reading {
+            Ok(Request::IdentifyByTag(tag)) => self.registers.get(Register::Tag) != tag.as_bytes(),
+            Ok(Request::IdentifyByLongTag(long_tag)) => {
+                self.registers.get(Register::LongTag) != long_tag.as_slice()
+            }
+            _ => false,
+        }
+    }
+
+    /// Does what data ask that are read so and have this code.
+    fn carry_out(
+        &mut self,
+        master: MasterId,
+        reading: &Result<Request, ResponseCode>,
+        code: ResponseCode,
+    )
+        ensures { self.new ≡ after master (if code == 0 then asked_effect reading.now else Nothing) self.old }
+    {
+        if code == ResponseCode::SUCCESS
+            && let Ok(request) = reading
+        {
+            self.execute(master, request);
+        }
+    }
+
+    /// Does what a request asks with code 0.
+    fn execute(&mut self, master: MasterId, request: &Request)
+        ensures { self.new ≡ after master (asked_effect (Ok request.now)) self.old }
+    {
+        if let Some(overwrite) = writes_of(request) {
+            // No-ops: their contracts say that the registers go on holding valid bytes.
+            requests_are_well_made(request);
+            overwrites_are_valid();
+            self.registers.overwrite(&overwrite);
+            self.counter = self.counter.wrapping_add(1);
+            self.changed = EachMaster {
+                primary: true,
+                secondary: true,
+            };
+        } else if let Request::ResetChanged(_) = request {
+            self.changed.set(master, false);
+        }
+    }
+
+    /// Replaces `payload` by that of the reply to a frame that is read so and has this code.
+    fn write_payload(
+        &self,
+        frame: &Frame,
+        process: &Process,
+        reading: &Result<Request, ResponseCode>,
+        code: ResponseCode,
+        payload: &mut Payload,
+    )
+        ensures written { payload.new ≡ reply_payload (reply_with self.now process.now frame.now reading.now code) }
+        ensures two { 2 ≤ length payload.new }
+    {
+        let reply = Reply {
+            command: frame.command(),
+            code,
+            status: self.status(process, frame.master()),
+            content: self.content(process, reading, code),
+        };
+        reply.write(payload);
+    }
+}

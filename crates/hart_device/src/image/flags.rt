@@ -1,0 +1,52 @@
+//! The flags of an image.
+ghost use Rattle.std.specs.Prelude.{◌≡◌, ◌≤◌, ◌↔◌, IsSome, IfSome};
+ghost use Rattle.hart_device.specs.image.Image.{flags_of};
+
+use crate::answer::status::bit_if;
+use hart_values::EachMaster;
+
+/// The primary master's configuration-changed bit.
+const PRIMARY_CHANGED: u8 = 1;
+
+/// The secondary master's configuration-changed bit.
+const SECONDARY_CHANGED: u8 = 2;
+
+/// The bit that says that the device is write protected.
+const PROTECTED: u8 = 4;
+
+/// What the flags of an image say.
+#[derive(Clone, Copy)]
+pub(crate) struct Flags {
+    /// For each master its configuration-changed bit.
+    pub changed: EachMaster<bool>,
+    /// Whether the device is write protected.
+    pub protected: bool,
+}
+
+impl Flags {
+    /// What a byte says, or `None` if it is above 7.
+    pub fn from_byte(byte: u8) -> Option<Self>
+        ensures accepted { IsSome result ↔ (byte ≤ 7) }
+        ensures kept { IfSome result (λ flags. flags_of flags.changed flags.protected ≡ byte) }
+    {
+        if byte > PRIMARY_CHANGED | SECONDARY_CHANGED | PROTECTED {
+            return None;
+        }
+        Some(Flags {
+            changed: EachMaster {
+                primary: byte & PRIMARY_CHANGED != 0,
+                secondary: byte & SECONDARY_CHANGED != 0,
+            },
+            protected: byte & PROTECTED != 0,
+        })
+    }
+
+    /// The byte that says so.
+    pub fn byte(&self) -> u8
+        ensures value { result ≡ flags_of self.now.changed self.now.protected }
+    {
+        bit_if(self.changed.primary, PRIMARY_CHANGED)
+            | bit_if(self.changed.secondary, SECONDARY_CHANGED)
+            | bit_if(self.protected, PROTECTED)
+    }
+}

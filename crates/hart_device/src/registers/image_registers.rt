@@ -1,0 +1,130 @@
+ghost use Rattle.std.specs.Prelude.{◌≡◌, ◌≢◌, ◌↔◌, IsSome, IfSome, IfNone, [], ◌∷◌, length};
+ghost use Rattle.hart_commands.specs.Registers.{IsValidIn, size_of};
+ghost use Rattle.hart_commands.specs.RequestData.{mode_byte};
+ghost use Rattle.hart_commands.specs.declared.register.Register.{Register};
+ghost use Rattle.hart_commands.specs.declared.register.Register.TheVariants.{Polling, Mode, Tag, LongTag};
+ghost use Rattle.hart_device.specs.image.Image.{HasBadRegister, IsLongTagOf, registers_of_version_1};
+ghost use Rattle.hart_device.specs.registers.Ranges.{contents_in, standing_for};
+ghost use Rattle.hart_device.specs.registers.Values.{values_of};
+
+use crate::registers::bytes_of;
+use crate::registers::ranges::{ARRAY_LEN, range_of, ranges_fill_the_array};
+use crate::{RegisterStore, RegisterValues};
+use hart_commands::{Overwrite, Register, all_registers_are_listed_once};
+use hart_values::{HartDate, LoopMode, PackedText, PollingAddress};
+
+/// Registers that lie one after the other in one array, in the order of an image.
+#[derive(Clone, Copy, Debug, PartialEq, Eq)]
+pub struct ImageRegisters {
+    pub(crate) bytes: [u8; ARRAY_LEN],
+}
+
+impl RegisterStore for ImageRegisters {
+    ghost contents = { λ store. contents_in store.bytes };
+
+    fn with(values: &RegisterValues) -> Self {
+        // No-op: its contract says that each register is written once.
+        all_registers_are_listed_once();
+        let mut store = ImageRegisters {
+            bytes: [0; ARRAY_LEN],
+        };
+        for register in Register::ALL {
+            store.write(register, values.get(register));
+        }
+        store
+    }
+
+    fn get(&self, register: Register) -> &[u8] {
+        let range = range_of(register);
+        &self.bytes[range.start..range.end]
+    }
+
+    fn overwrite(&mut self, overwrite: &Overwrite) {
+        // No-op: its contract says that each register is written once.
+        all_registers_are_listed_once();
+        for register in Register::ALL {
+            if let Some(bytes) = overwrite.get(register) {
+                self.write(register, bytes);
+            }
+        }
+    }
+}
+
+impl ImageRegisters {
+    /// The values of the registers, or `None` if one of them holds bytes that are not valid in it. That is never the long tag, of which any
+    /// bytes are valid.
+    pub(crate) fn values(&self) -> Option<RegisterValues>
+        ensures kept { IfSome result (λ values. values_of values ≡ contents_in self.now.bytes) }
+        ensures refused { IfNone result (HasBadRegister registers_of_version_1 self.now.bytes) }
+    {
+        let polling = polling_in(self.get(Register::Polling))?;
+        let mode = mode_in(self.get(Register::Mode))?;
+        let date = HartDate::from_bytes(bytes_of(self, Register::Date)).ok()?;
+        Some(RegisterValues {
+            polling,
+            mode,
+            message: PackedText::from_bytes(bytes_of(self, Register::Message)),
+            tag: PackedText::from_bytes(bytes_of(self, Register::Tag)),
+            descriptor: PackedText::from_bytes(bytes_of(self, Register::Descriptor)),
+            date,
+            assembly: bytes_of(self, Register::Assembly),
+            long_tag: bytes_of(self, Register::LongTag),
+        })
+    }
+
+    /// Gives the long tag the text of the tag and 24 spaces.
+    pub(crate) fn set_long_tag(&mut self)
+        ensures set { IsLongTagOf (standing_for Tag self.new.bytes) (standing_for LongTag self.new.bytes) }
+        ensures others { (other : Register) → other ≢ LongTag
+            → standing_for other self.new.bytes ≡ standing_for other self.old.bytes }
+    {
+        let tag = PackedText::from_bytes(bytes_of(self, Register::Tag));
+        self.write(Register::LongTag, &long_tag_of(&tag));
+    }
+
+    /// Gives a register other bytes.
+    fn write(&mut self, register: Register, bytes: &[u8])
+        requires { length bytes.now ≡ size_of register }
+        ensures written { standing_for register self.new.bytes ≡ bytes.now }
+        ensures others { (other : Register) → other ≢ register
+            → standing_for other self.new.bytes ≡ standing_for other self.old.bytes }
+    {
+        // No-op: its contract says that the ranges lie apart.
+        ranges_fill_the_array();
+        let range = range_of(register);
+        self.bytes[range.start..range.end].copy_from_slice(bytes);
+    }
+}
+
+/// The text of a tag and 24 spaces.
+fn long_tag_of(tag: &PackedText<6>) -> [u8; 32]
+    ensures { IsLongTagOf tag.now result }
+{
+    let mut text = [0; 8];
+    tag.write_text(&mut text).unwrap();
+    let mut long_tag = [b' '; 32];
+    long_tag[..8].copy_from_slice(&text);
+    long_tag
+}
+
+/// The polling address in the byte of its register, if that is valid.
+fn polling_in(bytes: &[u8]) -> Option<PollingAddress>
+    requires { length bytes.now ≡ size_of Polling }
+    ensures valid { IsSome result ↔ IsValidIn Polling bytes.now }
+    ensures kept { IfSome result (λ address. address ∷ [] ≡ bytes.now) }
+{
+    PollingAddress::new(bytes[0]).ok()
+}
+
+/// The loop current mode in the byte of its register, if that is valid.
+fn mode_in(bytes: &[u8]) -> Option<LoopMode>
+    requires { length bytes.now ≡ size_of Mode }
+    ensures valid { IsSome result ↔ IsValidIn Mode bytes.now }
+    ensures kept { IfSome result (λ mode. mode_byte mode ∷ [] ≡ bytes.now) }
+{
+    match bytes[0] {
+        0 => Some(LoopMode::Disabled),
+        1 => Some(LoopMode::Enabled),
+        _ => None,
+    }
+}

@@ -1,0 +1,57 @@
+use Rattle.std.proofs.Common.{◌≡◌, ◌<◌, ◌⊎◌, inl, inr, ℕ, suc, zero, refl, bit_and, arith, sym, ap, ◌∙◌}
+use Rattle.std.specs.Int.{bit_at}
+use Rattle.std.proofs.lemmas.Nat.Bits.{bit_at_and, bit_at-lt, bit_at-zero, same_from_bits_below}
+use Rattle.std.proofs.lemmas.Nat.{and_le_l}
+use Rattle.std.proofs.lemmas.Bool.{false≢true}
+use Rattle.hart_frame.specs.heard.Character.{IsFaultBit, AreFaultBits}
+use Rattle.hart_frame.proofs.heard.character.Char.new.Goals as goal
+
+-- the bits that are not set in 141 are the fault bits
+fault_bit : (bit : ℕ) → bit < 8 → bit_at 141 bit ≡ 0 → IsFaultBit bit
+fault_bit zero below e = absurd (omega arith)
+fault_bit (suc zero) below e = inr (inr (inr refl))
+fault_bit (suc (suc zero)) below e = absurd (omega arith)
+fault_bit (suc (suc (suc zero))) below e = absurd (omega arith)
+fault_bit (suc (suc (suc (suc zero)))) below e = inr (inr (inl refl))
+fault_bit (suc (suc (suc (suc (suc zero))))) below e = inr (inl refl)
+fault_bit (suc (suc (suc (suc (suc (suc zero)))))) below e = inl refl
+fault_bit (suc (suc (suc (suc (suc (suc (suc zero))))))) below e = absurd (omega arith)
+fault_bit (suc (suc (suc (suc (suc (suc (suc (suc bit)))))))) below e = absurd (omega arith)
+
+-- and no fault bit is set in it
+not_set : (bit : ℕ) → IsFaultBit bit → bit_at 141 bit ≡ 0
+not_set bit (inl e) = ap (bit_at 141) e
+not_set bit (inr (inl e)) = ap (bit_at 141) e
+not_set bit (inr (inr (inl e))) = ap (bit_at 141) e
+not_set bit (inr (inr (inr e))) = ap (bit_at 141) e
+
+-- a byte with none of the other bits is fault bits
+AreFaultBits-from : (faults : ℕ) → faults < 256 → bit_and faults 141 ≡ 0 → AreFaultBits faults
+AreFaultBits-from faults small none = record {
+  byte = small;
+  only = λ bit below set.
+      let joined = sym (bit_at_and faults 141 bit) ∙ ap (λ n. bit_at n bit) none ∙ bit_at-zero bit in
+      fault_bit bit below (omega (arith, joined, set));
+}
+
+-- and fault bits have none of the others
+none_other : (faults : ℕ) → AreFaultBits faults → bit_and faults 141 ≡ 0
+none_other faults are =
+    same_from_bits_below 8 (bit_and faults 141) 0 (omega (arith, and_le_l faults 141, are.byte)) (omega arith) (λ bit below.
+    let joined = bit_at_and faults 141 bit in
+    let small = bit_at-lt faults bit in
+    let cases : (bit_at faults bit ≡ 0) ⊎ (bit_at faults bit ≡ 1) = grind (arith, small) in
+    elim cases [
+      | inl clear ↦ omega (arith, joined, clear, bit_at-zero bit)
+      | inr set ↦ omega (arith, joined, not_set bit (are.only bit below set), bit_at-zero bit)
+    ])
+
+pub returns-then-faults-ne0-clause-accepted : goal.returns-then-faults-ne0-clause-accepted
+returns-then-faults-ne0-clause-accepted c =
+    (λ is. absurd (false≢true is), λ are. absurd (c.if-faults-ne0.true (none_other c.args.faults are)))
+
+pub invariant_of-result : goal.invariant_of-result
+invariant_of-result c = AreFaultBits-from c.args.faults (omega (arith, c.ranges.faults)) c.if-faults-ne0.false
+
+pub returns-clause-accepted : goal.returns-clause-accepted
+returns-clause-accepted c = (λ _. AreFaultBits-from c.args.faults (omega (arith, c.ranges.faults)) c.if-faults-ne0.false, λ _. refl)

@@ -1,0 +1,45 @@
+use Rattle.std.proofs.Common.{ℕ, [], ◌∷◌, subst, sym, ◌∙◌}
+use Rattle.hart_frame.specs.heard.Frames.{AreFrames, HasNoFrame, IsFirst}
+use Rattle.hart_frame.specs.declared.heard.found.Found.{Found}
+use Rattle.hart_frame.proofs.lemmas.heard.Delivery.{no_frame, one_frame, only_said, second_none, second_some, several_frames}
+use Rattle.hart_frame.proofs.heard.delivery.lone_frame.Goals as goal
+
+pub returns-in_default-clause-lone : goal.returns-in_default-clause-lone
+returns-in_default-clause-lone c = no_frame c.args.delivery.now c.in_default.ensures.first
+
+pub returns-in_default-clause-only : goal.returns-in_default-clause-only
+returns-in_default-clause-only c =
+    only_said c.frames_are_unambiguous.ensures.one_list c.args.delivery.now _ (returns-in_default-clause-lone c)
+
+pub returns-then-is_some-clause-lone : goal.returns-then-is_some-clause-lone
+returns-then-is_some-clause-lone c =
+    let delivery = c.args.delivery.now in
+    let first = c.in-Some.ensures.first in
+    let second = second_some delivery c.in-Some.first.stop c.first_places-2.result (sym c.is_some.ensures ∙ c.if-is_some.true)
+    c.first_places-2.ensures.first in
+    let later = c.every_list_has_frames.ensures delivery second.0.stop in
+    let First : ℕ → Type 0 = λ from. IsFirst second.0 delivery from in (
+      first.0,
+      second.0,
+      later.0,
+      several_frames delivery first.0 second.0 later.0 first.2 (subst First (sym first.1.1) second.1) later.1,
+    )
+
+pub returns-then-is_some-clause-only : goal.returns-then-is_some-clause-only
+returns-then-is_some-clause-only c =
+    only_said c.frames_are_unambiguous.ensures.one_list c.args.delivery.now _ (returns-then-is_some-clause-lone c)
+
+pub returns-clause-lone : goal.returns-clause-lone
+returns-clause-lone c =
+    let delivery = c.args.delivery.now in
+    let first = c.in-Some.ensures.first in
+    let none = second_none delivery c.in-Some.first.stop c.first_places-2.result (sym c.is_some.ensures ∙ c.if-is_some.false)
+    c.first_places-2.ensures.first in
+    let None : ℕ → Type 0 = λ from. HasNoFrame delivery from in
+    let Frames : Found → Type 0 = λ found. AreFrames delivery 0 (found ∷ []) in
+    subst Frames (sym (c.found_at.ensures first.0 first.1 first.2.stands))
+    (one_frame delivery first.0 first.2 (subst None (sym first.1.1) none))
+
+pub returns-clause-only : goal.returns-clause-only
+returns-clause-only c =
+    only_said c.frames_are_unambiguous.ensures.one_list c.args.delivery.now _ (returns-clause-lone c)

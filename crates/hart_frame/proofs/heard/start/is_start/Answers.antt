@@ -1,0 +1,63 @@
+use Rattle.std.proofs.Common.{◌≡◌, ◌≢◌, ◌&&◌, not, nat_eq, ℕ, ◌-◌, ◌<◌, List, length, Bool, true, false, Option, None, Some, IfSome, refl}
+use Rattle.std.proofs.Common.{sym, ap, ◌∙◌, arith, get_or}
+use Rattle.std.proofs.lemmas.Bool.{false≢true}
+use Rattle.std.proofs.lemmas.List.{get_or_default}
+use Rattle.std.proofs.lemmas.Bool.Decides.{nat_tests}
+use Rattle.hart_frame.specs.heard.Character.{Character}
+use Rattle.hart_frame.proofs.lemmas.heard.Place.{preamble}
+use Rattle.hart_frame.proofs.lemmas.heard.Start.{is_start_from, starts_at}
+use Rattle.hart_frame.proofs.heard.start.is_start.Goals as goal
+
+-- the test that characters are not the same
+abbrev differ : Character → Character → Bool
+differ a b = not (nat_eq a.byte b.byte && nat_eq a.faults b.faults)
+
+differ-no : (a b : Character) → differ a b ≡ false → a ≡ b
+differ-no a b e =
+    let bytes : a.byte ≡ b.byte = grind (arith, nat_tests) in
+    let faults : a.faults ≡ b.faults = grind (arith, nat_tests) in
+    let of : ℕ → ℕ → Character = λ byte faults. record { byte = byte; faults = faults } in
+    let all : of a.byte a.faults ≡ of b.byte b.faults = cc in
+    all
+
+differ-same : (a : Character) → differ a a ≡ false
+differ-same a = grind (arith, nat_tests)
+
+differ-yes : (a b : Character) → differ a b ≡ true → a ≢ b
+differ-yes a b e same = let no = ap (differ a) same in false≢true (sym (differ-same a) ∙ no ∙ e)
+
+differ-not : (a b : Character) (answer : Bool) → differ a b ≡ answer → a ≢ b → answer ≡ true
+differ-not a b true e other = refl
+differ-not a b false e other = absurd (other (differ-no a b e))
+
+-- what is known of a value that is there
+of_some : (found : Option Character) (x y : Character) → found ≡ Some x → IfSome found (λ character. character ≡ y) → x ≡ y
+of_some None x y is known = cc
+of_some (Some z) x y is known = let same : z ≡ x = cc in sym same ∙ known
+
+-- an element is read with any default
+get_or-other : (chars : List Character) (i : ℕ) (x d : Character) → i < length chars → x ≡ get_or chars i x → get_or chars i d ≡ x
+get_or-other chars i x d within is = get_or_default chars i d x within ∙ sym is
+
+pub returns : goal.returns
+returns c =
+    let chars = c.args.chars.now in
+    let place = c.args.place in
+    let third = c.index-chars-place-3.result in
+    let is_preamble = of_some c.new.result c.unwrap-preamble.result preamble c.unwrap-preamble.ensures c.new.ensures.kept in
+    let one = differ-no c.index-chars-place.result c.unwrap-preamble.result (sym c.ne.ensures ∙ c.if-ne.false) ∙ is_preamble in
+    let two = differ-no c.index-chars-place-2.result c.unwrap-preamble.result (sym c.ne-else-ne.ensures ∙ c.if-ne-2.false)
+    ∙ is_preamble in (
+      (λ yes. is_start_from chars place third (record {
+        after_two = c.requires.after_two;
+        within = c.requires.within;
+        one = get_or-other chars (place - 2) c.index-chars-place.result third (omega (arith, c.requires)) c.index-chars-place.is ∙ one;
+        two = get_or-other chars (place - 1) c.index-chars-place-2.result third (omega (arith, c.requires)) c.index-chars-place-2.is ∙ two;
+        other = λ same. differ-yes third c.unwrap-preamble.result (sym c.ne-2.ensures ∙ yes)
+            (c.index-chars-place-3.is ∙ same ∙ sym is_preamble);
+      })),
+      λ is.
+          let at = starts_at chars place third is in
+          differ-not third c.unwrap-preamble.result c.ne-2.result (sym c.ne-2.ensures)
+          (λ same. at.other (sym c.index-chars-place-3.is ∙ same ∙ is_preamble)),
+    )

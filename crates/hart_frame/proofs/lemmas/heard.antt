@@ -1,0 +1,12 @@
+-- What was heard: characters, and where frames stand in them.
+pub mod Body
+pub mod Place
+pub mod UnambiguousFrames
+pub mod FramesFound
+pub mod Open
+pub mod Message
+pub mod Delivery
+pub mod Damage
+pub mod Example
+pub mod Prefix
+pub mod Start

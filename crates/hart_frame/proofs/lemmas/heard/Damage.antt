@@ -1,0 +1,295 @@
+-- What damage of a message leaves of its frame: the place of the delimiter is the only one where a body can stand.
+use Rattle.std.proofs.Common.{◌≡◌, ◌≢◌, ℕ, zero, suc, ◌+◌, ◌<◌, ◌≤◌, ◌⊎◌, inl, inr, List, [], ◌∷◌, ◌++◌, length, drop, get_or, replicate}
+use Rattle.std.proofs.Common.{refl, sym, ap, ◌∙◌, arith, append_assoc, length-append, subst}
+use Rattle.std.specs.List.{AllZip}
+use Rattle.std.proofs.lemmas.List.{append-nil, drop_at, drop-append-le, get_or-append-add, get_or_append_left, get_or-replicate}
+use Rattle.std.proofs.lemmas.List.{length-replicate, nil_from_length}
+use Rattle.hart_frame.specs.wire.FrameParts.{FrameParts}
+use Rattle.hart_frame.specs.wire.Body.{BeginsWithBody, IsBody}
+use Rattle.hart_frame.specs.heard.Character.{Character, faultless}
+use Rattle.hart_frame.specs.heard.Damage.{HasNoTwoPreambles, IsCheckDamage, IsHeardOrMarked, IsMarkedDamage, after_delimiter}
+use Rattle.hart_frame.specs.wire.Delimiter.{delimiter_of}
+use Rattle.hart_frame.specs.heard.Frames.{AreFrames, HasNoFrame, IsFirst, none, first}
+use Rattle.hart_frame.specs.wire.Layout.{body_length, delimiter_in}
+use Rattle.hart_frame.specs.wire.Parity.{HasEvenParity}
+use Rattle.hart_frame.specs.heard.Place.{StandsIn}
+use Rattle.hart_frame.specs.declared.heard.found.Found.{Found}
+use Rattle.hart_frame.proofs.lemmas.wire.UnambiguousBodies.{BeginsWithBody-append}
+use Rattle.hart_frame.proofs.lemmas.heard.FramesFound.{AreFrames-found}
+use Rattle.hart_frame.proofs.lemmas.heard.Place.{HasNoFrame-end, preamble}
+use Rattle.hart_frame.proofs.lemmas.wire.Refusal.{IsDelimiter-of, Says, says}
+
+-- a faultless character
+abbrev pub clear : ℕ → Character
+clear byte = record { byte = byte; faults = 0 }
+
+-- CHARACTERS THAT ARE HEARD OR MARKED
+-- bytes are heard one by one, each as it is or marked
+abbrev AreHeardOrMarked : List ℕ → List Character → Type 0
+AreHeardOrMarked bytes chars = AllZip IsHeardOrMarked bytes chars
+
+-- faultless characters are heard
+heard_faultless : (bytes : List ℕ) → AreHeardOrMarked bytes (faultless bytes)
+heard_faultless [] = tt
+heard_faultless (byte ∷ bytes) = (inl refl, heard_faultless bytes)
+
+-- as many characters are heard as bytes were sent
+pub length-heard : (bytes : List ℕ) (chars : List Character) → AreHeardOrMarked bytes chars → length chars ≡ length bytes
+length-heard [] [] heard = refl
+length-heard [] (character ∷ others) heard = absurd heard
+length-heard (byte ∷ bytes) [] heard = absurd heard
+length-heard (byte ∷ bytes) (character ∷ others) heard = ap suc (length-heard bytes others heard.1)
+
+-- what follows the first bytes is heard after them
+heard-drop : (sent bytes : List ℕ) (chars : List Character) → AreHeardOrMarked (sent ++ bytes) chars
+    → AreHeardOrMarked bytes (drop (length sent) chars)
+heard-drop [] bytes chars heard = heard
+heard-drop (byte ∷ sent) bytes [] heard = absurd heard
+heard-drop (byte ∷ sent) bytes (character ∷ others) heard = heard-drop sent bytes others heard.1
+
+-- a faultless character is heard as it was sent
+pub clear_is : (sent byte : ℕ) → IsHeardOrMarked sent (clear byte) → byte ≡ sent
+clear_is sent byte (inl same) = ap (λ (c : Character). c.byte) same
+clear_is sent byte (inr marked) = absurd (marked.some refl)
+
+-- so at each place
+clear_at : (bytes : List ℕ) (chars : List Character) (place byte : ℕ) → AreHeardOrMarked bytes chars → place < length bytes
+    → get_or chars place preamble ≡ clear byte → get_or bytes place 0 ≡ byte
+clear_at [] [] place byte heard within is = absurd (omega (arith, within))
+clear_at [] (character ∷ others) place byte heard within is = absurd heard
+clear_at (sent ∷ bytes) [] place byte heard within is = absurd heard
+clear_at (sent ∷ bytes) (character ∷ others) zero byte heard within is =
+    sym (clear_is sent byte (subst (IsHeardOrMarked sent) is heard.0))
+clear_at (sent ∷ bytes) (character ∷ others) (suc place) byte heard within is =
+    clear_at bytes others place byte heard.1 (omega (arith, within)) is
+
+-- bytes that are heard without faults begin what was sent
+record BeginsWith (bytes prefix : List ℕ) : Type 0 where
+  pub rest : List ℕ
+  pub parts : bytes ≡ prefix ++ rest
+
+begins_sent : (bytes prefix : List ℕ) (more : List Character) → AreHeardOrMarked bytes (faultless prefix ++ more) → BeginsWith bytes prefix
+begins_sent bytes [] more heard = record { rest = bytes; parts = refl }
+begins_sent [] (byte ∷ prefix) more heard = absurd heard
+begins_sent (sent ∷ bytes) (byte ∷ prefix) more heard =
+    let others = begins_sent bytes prefix more heard.1 in
+    let same = clear_is sent byte heard.0 in
+    record { rest = others.rest; parts = ap (λ (b : ℕ). b ∷ bytes) (sym same) ∙ ap (λ (bs : List ℕ). byte ∷ bs) others.parts }
+
+-- WHERE A FRAME CAN STAND
+-- a body gives its delimiter and its length
+says_of : (f : FrameParts) (body : List ℕ) → IsBody f body → Says body f (length body)
+says_of f body is =
+    let Begins : List ℕ → Type 0 = λ xs. BeginsWithBody xs f (length body) in
+    says body f (length body) (subst Begins (append-nil body) (BeginsWithBody-append f body [] is))
+
+-- a delimiter is no preamble byte
+delimiter_of-other : (f : FrameParts) (body : List ℕ) → IsBody f body → delimiter_of f ≡ 255 → ⊥
+delimiter_of-other f body is same = omega (arith, same, (IsDelimiter-of f is.checked_part.expansion_fits).0)
+
+-- a list that a frame stands in, from its two preamble bytes on
+parts : (chars : List Character) (found : Found) (from : ℕ) (stands : StandsIn found chars from)
+    → chars ≡ stands.prefix ++ (faultless (255 ∷ 255 ∷ []) ++ (faultless stands.body ++ stands.rest))
+parts chars found from stands = stands.split ∙ append_assoc stands.prefix (faultless (255 ∷ 255 ∷ stands.body)) stands.rest
+
+-- the characters there, counted from the first of the two
+part_at : (chars : List Character) (found : Found) (from count place : ℕ) (stands : StandsIn found chars from)
+    → place ≡ length stands.prefix + count
+    → get_or chars place preamble ≡ get_or (faultless (255 ∷ 255 ∷ []) ++ (faultless stands.body ++ stands.rest)) count preamble
+part_at chars found from count place stands is =
+    ap (λ (n : ℕ). get_or chars n preamble) is
+    ∙ ap (λ (cs : List Character). get_or cs (length stands.prefix + count) preamble) (parts chars found from stands)
+    ∙ get_or-append-add stands.prefix (faultless (255 ∷ 255 ∷ []) ++ (faultless stands.body ++ stands.rest)) count preamble
+
+-- the body there begins with its delimiter
+first_at : (f : FrameParts) (body : List ℕ) (rest : List Character) → IsBody f body
+    → get_or (faultless body ++ rest) 0 preamble ≡ clear (delimiter_of f)
+first_at f body rest is =
+    ap (λ (xs : List ℕ). get_or (faultless xs ++ rest) 0 preamble)
+    (is.parts ∙ ap (λ (xs : List ℕ). xs ++ is.check ∷ []) is.checked_part.parts)
+
+-- what was sent: so many preamble bytes, and bytes that begin with no preamble byte; and what was heard of it
+record IsHeard (left : ℕ) (body : List ℕ) (chars : List Character) : Type 0 where
+  pub some : 0 < length body
+  pub delimiter : delimiter_in body ≢ 255
+  pub heard : AreHeardOrMarked (replicate left 255 ++ body) chars
+  pub no_two_preambles : HasNoTwoPreambles (after_delimiter left chars)
+
+-- no faultless FF is at the delimiter's place
+delimiter_at : (left : ℕ) (body : List ℕ) (chars : List Character) → IsHeard left body chars
+    → get_or chars left preamble ≡ clear 255 → ⊥
+delimiter_at left body chars is at =
+    let sent : List ℕ = replicate left 255 in
+    let long : length sent ≡ left = length-replicate left 255 in
+    let place : left ≡ length sent + 0 = omega (arith, long) in
+    let here : get_or (sent ++ body) left 0 ≡ get_or body 0 0 =
+    ap (λ (n : ℕ). get_or (sent ++ body) n 0) place ∙ get_or-append-add sent body 0 0 in
+    is.delimiter (sym here ∙ clear_at (sent ++ body) chars left 255 is.heard
+    (omega (arith, long, length-append sent body, is.some)) at)
+
+-- and none but FF before it
+preamble_at : (left : ℕ) (body : List ℕ) (chars : List Character) (place byte : ℕ) → IsHeard left body chars → place < left
+    → get_or chars place preamble ≡ clear byte → byte ≡ 255
+preamble_at left body chars place byte is before at =
+    let sent : List ℕ = replicate left 255 in
+    let long : length sent ≡ left = length-replicate left 255 in
+    sym (clear_at (sent ++ body) chars place byte is.heard (omega (arith, long, length-append sent body, before)) at)
+    ∙ get_or_append_left sent body 0 place (omega (arith, long, before))
+    ∙ get_or-replicate left place 255 0 before
+
+-- no frame stands after the delimiter
+not_after : (left : ℕ) (body : List ℕ) (chars : List Character) (found : Found) (from : ℕ) → IsHeard left body chars
+    → (stands : StandsIn found chars from) → left < length stands.prefix → ⊥
+not_after left body chars found from is stands after =
+    let pair : List Character = faultless (255 ∷ 255 ∷ []) in
+    let rest : List Character = faultless stands.body ++ stands.rest in
+    is.no_two_preambles (drop (left + 1) stands.prefix) rest
+    (ap (drop (left + 1)) (parts chars found from stands) ∙ drop-append-le (left + 1) stands.prefix (pair ++ rest) (omega (arith, after))
+    ∙ sym (append_assoc (drop (left + 1) stands.prefix) pair rest))
+
+-- nor before it
+not_before : (left : ℕ) (body : List ℕ) (chars : List Character) (found : Found) (from : ℕ) → IsHeard left body chars
+    → (stands : StandsIn found chars from) → length stands.prefix + 2 < left → ⊥
+not_before left body chars found from is stands before =
+    delimiter_of-other found.frame stands.body stands.is_body
+    (preamble_at left body chars (length stands.prefix + 2) (delimiter_of found.frame) is before
+    (part_at chars found from 2 (length stands.prefix + 2) stands refl
+    ∙ first_at found.frame stands.body stands.rest stands.is_body))
+
+-- so a frame starts at the delimiter
+start_is : (left : ℕ) (body : List ℕ) (chars : List Character) (found : Found) (from : ℕ) → IsHeard left body chars
+    → (stands : StandsIn found chars from) → length stands.prefix + 2 ≡ left
+start_is left body chars found from is stands =
+    let p = length stands.prefix in
+    let cases : (p + 2 ≡ left) ⊎ ((p + 2 < left) ⊎ ((left < p) ⊎ ((left ≡ p + 0) ⊎ (left ≡ p + 1)))) = grind arith in
+    elim cases [
+      | inl here ↦ here
+      | inr (inl before) ↦ absurd (not_before left body chars found from is stands before)
+      | inr (inr (inl after)) ↦ absurd (not_after left body chars found from is stands after)
+      | inr (inr (inr (inl at_first))) ↦ absurd (delimiter_at left body chars is (part_at chars found from 0 left stands at_first))
+      | inr (inr (inr (inr at_second))) ↦ absurd (delimiter_at left body chars is (part_at chars found from 1 left stands at_second))
+    ]
+
+-- and its body begins what was sent
+begins_body : (left : ℕ) (body : List ℕ) (chars : List Character) (found : Found) (from : ℕ) → IsHeard left body chars
+    → (stands : StandsIn found chars from) → BeginsWith body stands.body
+begins_body left body chars found from is stands =
+    let pair : List Character = faultless (255 ∷ 255 ∷ []) in
+    let rest : List Character = faultless stands.body ++ stands.rest in
+    let prefix_len : length (stands.prefix ++ pair) ≡ left =
+    omega (arith, length-append stands.prefix pair, start_is left body chars found from is stands) in
+    let heard : AreHeardOrMarked body (drop left chars) =
+    subst (λ n. AreHeardOrMarked body (drop n chars)) (length-replicate left 255) (heard-drop (replicate left 255) body chars is.heard) in
+    let after : drop left chars ≡ rest =
+    ap (drop left) (parts chars found from stands ∙ sym (append_assoc stands.prefix pair rest))
+    ∙ drop_at (stands.prefix ++ pair) rest left prefix_len in
+    begins_sent body stands.body stands.rest (subst (AreHeardOrMarked body) after heard)
+
+-- MARKED DAMAGE
+-- what keeps bodies unambiguous
+pub record BodyLaws : Type 0 where
+  pub one_frame : (f g : FrameParts) (bytes : List ℕ) → IsBody f bytes → IsBody g bytes → f ≡ g
+  pub no_proper_prefix : (f g : FrameParts) (bytes rest : List ℕ) → IsBody f bytes → IsBody g (bytes ++ rest) → rest ≡ []
+
+-- the message's own frame, in its place
+abbrev own : FrameParts → ℕ → List Character → Found
+own frame left chars = record { start = left; stop = length chars; frame = frame }
+
+-- what marked damage is heard of
+marked_heard : (frame : FrameParts) (preambles : ℕ) (chars : List Character) (damage : IsMarkedDamage frame preambles chars)
+    → IsHeard damage.left damage.body chars
+marked_heard frame preambles chars damage =
+    let said = says_of frame damage.body damage.is_body in
+    record {
+      some = omega (arith, said.whole);
+      delimiter = λ same. delimiter_of-other frame damage.body damage.is_body (sym said.delimiter ∙ same);
+      heard = damage.heard;
+      no_two_preambles = damage.no_two_preambles;
+    }
+
+-- found frames are the same if their parts are
+same_found : (found : Found) (frame : FrameParts) (start stop : ℕ) → found.start ≡ start → found.stop ≡ stop → found.frame ≡ frame
+    → found ≡ record { start = start; stop = stop; frame = frame }
+same_found found frame start stop starts stops frames =
+    let of : ℕ → ℕ → FrameParts → Found = λ s t f. record { start = s; stop = t; frame = f } in
+    let all : of found.start found.stop found.frame ≡ of start stop frame = cc in
+    all
+
+-- a frame that stands there is the message's own
+marked_own : BodyLaws → (frame : FrameParts) (preambles : ℕ) (chars : List Character) (damage : IsMarkedDamage frame preambles chars)
+    → (found : Found) (from : ℕ) → StandsIn found chars from → found ≡ own frame damage.left chars
+marked_own laws frame preambles chars damage found from stands =
+    let left = damage.left in
+    let body = damage.body in
+    let is = marked_heard frame preambles chars damage in
+    let begins = begins_body left body chars found from is stands in
+    let Body : List ℕ → Type 0 = λ xs. IsBody frame xs in
+    let ended = laws.no_proper_prefix found.frame frame stands.body begins.rest stands.is_body (subst Body begins.parts damage.is_body) in
+    let same : body ≡ stands.body =
+    begins.parts ∙ ap (λ (xs : List ℕ). stands.body ++ xs) ended ∙ append-nil stands.body in
+    let frames = laws.one_frame found.frame frame stands.body stands.is_body (subst Body same damage.is_body) in
+    let start = start_is left body chars found from is stands in
+    let long = length-heard (replicate left 255 ++ body) chars damage.heard in
+    same_found found frame left (length chars) (stands.start ∙ start)
+    (omega (arith, stands.stop, start, long, length-append (replicate left 255) body, length-replicate {A = ℕ} left 255, ap length same))
+    frames
+
+-- if each frame that stands is one that ends the list, the list has none or that one alone
+none_or_own : (chars : List Character) (from : ℕ) (one : Found) → ((found : Found) → StandsIn found chars from → found ≡ one)
+    → length chars ≤ one.stop → (frames : List Found) → AreFrames chars from frames
+    → AreFrames chars from [] ⊎ AreFrames chars from (one ∷ [])
+none_or_own chars from one alone end frames (none place empty) = inl (none place empty)
+none_or_own chars from one alone end frames (first place found later is_first others) =
+    let First : Found → Type 0 = λ f. IsFirst f chars place in
+    inr (first place one [] (subst First (alone found is_first.stands) is_first) (none one.stop (HasNoFrame-end chars one.stop end)))
+
+pub AreFrames-marked : BodyLaws → (frame : FrameParts) (preambles : ℕ) (chars : List Character)
+    → (damage : IsMarkedDamage frame preambles chars)
+    → AreFrames chars 0 [] ⊎ AreFrames chars 0 (own frame damage.left chars ∷ [])
+AreFrames-marked laws frame preambles chars damage =
+    let found = AreFrames-found chars 0 in
+    none_or_own chars 0 (own frame damage.left chars)
+    (λ other stands. marked_own laws frame preambles chars damage other 0 stands) (omega arith) found.0 found.1
+
+-- CHECK DAMAGE
+-- what check damage is heard of
+check_heard : (frame : FrameParts) (preambles : ℕ) (chars : List Character) (damage : IsCheckDamage frame preambles chars)
+    → IsHeard damage.left damage.bytes chars
+check_heard frame preambles chars damage =
+    let said = says_of frame damage.body damage.is_body in
+    let Heard : List Character → Type 0 = λ cs. AreHeardOrMarked (replicate damage.left 255 ++ damage.bytes) cs in
+    record {
+      some = omega (arith, said.whole, damage.replaces.same_length);
+      delimiter = λ same.
+          delimiter_of-other frame damage.body damage.is_body (sym said.delimiter ∙ sym damage.replaces.same_delimiter ∙ same);
+      heard = subst Heard (sym damage.heard) (heard_faultless (replicate damage.left 255 ++ damage.bytes));
+      no_two_preambles = damage.no_two_preambles;
+    }
+
+-- the bytes that are heard give the length of the body that was sent
+check_length : (frame : FrameParts) (preambles : ℕ) (chars : List Character) (damage : IsCheckDamage frame preambles chars)
+    → body_length damage.bytes ≡ length damage.bytes
+check_length frame preambles chars damage =
+    let said = says_of frame damage.body damage.is_body in
+    let replaces = damage.replaces in
+    omega (arith, said.whole, replaces.same_length, replaces.same_byte_count, replaces.same_delimiter)
+
+-- so a frame that stands there has all of them, and their parity is not even
+check_none : (frame : FrameParts) (preambles : ℕ) (chars : List Character) (damage : IsCheckDamage frame preambles chars)
+    → HasNoFrame chars 0
+check_none frame preambles chars damage found stands =
+    let bytes = damage.bytes in
+    let begins = begins_body damage.left bytes chars found 0 (check_heard frame preambles chars damage) stands in
+    let said = says (stands.body ++ begins.rest) found.frame (length stands.body)
+    (BeginsWithBody-append found.frame stands.body begins.rest stands.is_body) in
+    let lengths : length bytes ≡ length stands.body + length begins.rest = ap length begins.parts ∙ length-append stands.body begins.rest in
+    let body_lengths : body_length bytes ≡ body_length (stands.body ++ begins.rest) = ap body_length begins.parts in
+    let ended = nil_from_length begins.rest
+    (omega (arith, lengths, body_lengths, said.whole, check_length frame preambles chars damage)) in
+    let same : stands.body ≡ bytes =
+    sym (begins.parts ∙ ap (λ (xs : List ℕ). stands.body ++ xs) ended ∙ append-nil stands.body) in
+    damage.parity (subst HasEvenParity same stands.is_body.parity)
+
+pub AreFrames-check : (frame : FrameParts) (preambles : ℕ) (chars : List Character) → IsCheckDamage frame preambles chars
+    → AreFrames chars 0 []
+AreFrames-check frame preambles chars damage = none 0 (check_none frame preambles chars damage)

@@ -1,0 +1,48 @@
+-- The frames of a delivery, by the first of them.
+use Rattle.std.proofs.Common.{◌≡◌, ℕ, List, [], ◌∷◌, ap, Option, None, Some, true, false}
+use Rattle.std.specs.Option.{MatchOption, is_some}
+use Rattle.hart_frame.specs.heard.Character.{Character}
+use Rattle.hart_frame.specs.heard.Delivery.{IsLone, lone_of}
+use Rattle.hart_frame.specs.heard.Frames.{AreFrames, HasNoFrame, IsFirst, none, first}
+use Rattle.hart_frame.specs.declared.heard.delivery.LoneFrame.{LoneFrame}
+use Rattle.hart_frame.specs.declared.heard.delivery.LoneFrame.TheVariants.{NoFrame, Alone, Several}
+use Rattle.hart_frame.specs.heard.Found.{HasFirstAt}
+use Rattle.hart_frame.specs.declared.heard.found.Found.{Found}
+use Rattle.hart_frame.specs.declared.heard.found.FramePlaces.{FramePlaces}
+
+-- a list of characters has one list of frames
+abbrev pub OneList : Type 0
+OneList = (chars : List Character) (from : ℕ) (xs ys : List Found) → AreFrames chars from xs → AreFrames chars from ys → xs ≡ ys
+
+-- what is said of some frames is said of all that a delivery has
+pub only_said : OneList → (delivery : List Character) (said : LoneFrame) → IsLone delivery said
+    → (frames : List Found) → AreFrames delivery 0 frames → said ≡ lone_of frames
+only_said one_list delivery NoFrame are frames others = ap lone_of (one_list delivery 0 [] frames are others)
+only_said one_list delivery (Alone found) are frames others = ap lone_of (one_list delivery 0 (found ∷ []) frames are others)
+only_said one_list delivery Several (found, other, more, are) frames others =
+    ap lone_of (one_list delivery 0 (found ∷ other ∷ more) frames are others)
+
+pub no_frame : (delivery : List Character) → HasNoFrame delivery 0 → AreFrames delivery 0 []
+no_frame delivery no_first = none 0 no_first
+
+pub one_frame : (delivery : List Character) (found : Found) → IsFirst found delivery 0 → HasNoFrame delivery found.stop
+    → AreFrames delivery 0 (found ∷ [])
+one_frame delivery found is_first no_second = first 0 found [] is_first (none found.stop no_second)
+
+-- places of a second frame are known, or that there is none
+pub second_none : (delivery : List Character) (from : ℕ) (second : Option FramePlaces) → is_some second ≡ false
+    → MatchOption second (HasNoFrame delivery from) (λ places. HasFirstAt places delivery from) → HasNoFrame delivery from
+second_none delivery from None is said = said
+second_none delivery from (Some places) is said = absurd cc
+
+pub second_some : (delivery : List Character) (from : ℕ) (second : Option FramePlaces) → is_some second ≡ true
+    → MatchOption second (HasNoFrame delivery from) (λ places. HasFirstAt places delivery from)
+    → (found : Found) × IsFirst found delivery from
+second_some delivery from None is said = absurd cc
+second_some delivery from (Some places) is said = (said.0, said.2)
+
+-- after a second frame come the frames of what follows it
+pub several_frames : (delivery : List Character) (found second : Found) (later : List Found) → IsFirst found delivery 0
+    → IsFirst second delivery found.stop → AreFrames delivery second.stop later → AreFrames delivery 0 (found ∷ second ∷ later)
+several_frames delivery found second later is_first is_second others =
+    first 0 found (second ∷ later) is_first (first found.stop second later is_second others)

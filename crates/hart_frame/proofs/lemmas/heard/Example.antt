@@ -1,0 +1,168 @@
+-- The request that shows what damage is.
+use Rattle.std.proofs.Common.{◌≡◌, ℕ, zero, suc, ◌<◌, inl, inr, List, [], ◌∷◌, ◌++◌, length, drop, get_or, replicate, refl, ap, ◌∙◌, arith}
+use Rattle.std.proofs.Common.{length-append, subst}
+use Rattle.std.specs.Int.{bit_at}
+use Rattle.std.specs.List.{AllByRecursion, AllZip}
+use Rattle.std.proofs.lemmas.List.{drop_at, length-replicate}
+use Rattle.std.proofs.lemmas.List.Elements.{All-from_recursion}
+use Rattle.hart_frame.specs.wire.Body.{IsBody}
+use Rattle.hart_frame.specs.heard.Character.{Character, IsFaultBit, faultless}
+use Rattle.hart_frame.specs.heard.Damage.{HasNoTwoPreambles, IsCheckDamage, IsHeardOrMarked, IsMarkedDamage, after_delimiter}
+use Rattle.hart_frame.specs.heard.DamageExamples.{faulty_address, identity_request, other_address, other_request, preamble_in_body}
+use Rattle.hart_frame.specs.wire.FrameParts.{FrameParts}
+use Rattle.hart_frame.specs.wire.Parity.{HasEvenParity}
+use Rattle.hart_frame.proofs.lemmas.wire.Body.{IsBody-push}
+use Rattle.hart_frame.proofs.lemmas.heard.Damage.{clear_is, length-heard}
+use Rattle.hart_frame.proofs.lemmas.heard.Body.{faultless-one}
+use Rattle.hart_frame.proofs.lemmas.wire.Parity.{IsCheckByte-fold, even-check}
+use Rattle.hart_frame.proofs.lemmas.heard.Place.{preamble}
+
+-- the body that is sent
+abbrev request_body : List ℕ
+request_body = 2 ∷ 128 ∷ 0 ∷ 0 ∷ 130 ∷ []
+
+abbrev IsByte : ℕ → Type 0
+IsByte byte = byte < 256
+
+bytes_fit : (bytes : List ℕ) → AllByRecursion IsByte bytes → (i : ℕ) → get_or bytes i 0 < 256
+bytes_fit [] fit i = omega arith
+bytes_fit (byte ∷ bytes) fit zero = fit.0
+bytes_fit (byte ∷ bytes) fit (suc i) = bytes_fit bytes fit.1 i
+
+checked_fits : AllByRecursion IsByte (2 ∷ 128 ∷ 0 ∷ 0 ∷ [])
+checked_fits = (omega arith, (omega arith, (omega arith, (omega arith, tt))))
+
+request_is : IsBody identity_request request_body
+request_is =
+    let checked : List ℕ = 2 ∷ 128 ∷ 0 ∷ 0 ∷ [] in
+    IsBody-push identity_request checked 130
+    (record { address = 128 ∷ []; address_bytes = (omega arith, refl); parts = refl; expansion_fits = omega arith; payload_fits = tt })
+    (All-from_recursion IsByte checked checked_fits)
+    (IsCheckByte-fold checked 130 (bytes_fit checked checked_fits) refl)
+
+-- characters of which none is FF have no two in a row
+abbrev IsOther : Character → Type 0
+IsOther character = character.byte < 255
+
+none_in_row : (chars : List Character) → AllByRecursion IsOther chars → HasNoTwoPreambles chars
+none_in_row [] others [] rest same = cc
+none_in_row [] others (character ∷ prefix) rest same = cc
+none_in_row (character ∷ chars) others [] rest same =
+    let byte : character.byte ≡ 255 = ap (λ (cs : List Character). (get_or cs 0 preamble).byte) same in
+    omega (arith, byte, others.0)
+none_in_row (character ∷ chars) others (other ∷ prefix) rest same =
+    none_in_row chars others.1 prefix rest (ap (drop 1) same)
+
+-- a vertical parity fault
+parity_bit : (bit : ℕ) → bit < 8 → bit_at 64 bit ≡ 1 → IsFaultBit bit
+parity_bit zero below set = absurd (omega arith)
+parity_bit (suc zero) below set = absurd (omega arith)
+parity_bit (suc (suc zero)) below set = absurd (omega arith)
+parity_bit (suc (suc (suc zero))) below set = absurd (omega arith)
+parity_bit (suc (suc (suc (suc zero)))) below set = absurd (omega arith)
+parity_bit (suc (suc (suc (suc (suc zero))))) below set = absurd (omega arith)
+parity_bit (suc (suc (suc (suc (suc (suc zero)))))) below set = inl refl
+parity_bit (suc (suc (suc (suc (suc (suc (suc zero))))))) below set = absurd (omega arith)
+parity_bit (suc (suc (suc (suc (suc (suc (suc (suc bit)))))))) below set = absurd (omega arith)
+
+pub faulty_is_marked : IsMarkedDamage identity_request 5 faulty_address
+faulty_is_marked = record {
+  left = 2;
+  left_within = omega arith;
+  body = request_body;
+  is_body = request_is;
+  heard = (
+    inl refl,
+    (
+      inl refl,
+      (
+        inl refl,
+        (
+          inr (record {
+            byte = omega arith;
+            fault_bits = record { byte = omega arith; only = parity_bit };
+            some = λ none. omega (arith, none);
+          }),
+          (inl refl, (inl refl, (inl refl, tt))),
+        ),
+      ),
+    ),
+  );
+  no_two_preambles = none_in_row _ (omega arith, (omega arith, (omega arith, (omega arith, tt))));
+}
+
+-- the bytes with another address
+abbrev other_bytes : ℕ → List ℕ
+other_bytes check = 2 ∷ 129 ∷ 0 ∷ 0 ∷ check ∷ []
+
+other_fits : (check : ℕ) → check < 256 → AllByRecursion IsByte (other_bytes check)
+other_fits check fits = (omega arith, (omega arith, (omega arith, (omega arith, (fits, tt)))))
+
+pub other_is_check : IsCheckDamage identity_request 5 other_address
+other_is_check = record {
+  left = 2;
+  left_within = omega arith;
+  body = request_body;
+  is_body = request_is;
+  bytes = other_bytes 130;
+  replaces = record {
+    same_length = refl;
+    same_delimiter = refl;
+    same_byte_count = refl;
+    bytes_fit = All-from_recursion IsByte (other_bytes 130) (other_fits 130 (omega arith));
+  };
+  heard = refl;
+  parity = λ even. omega (arith, even.even 0 (omega arith));
+  no_two_preambles = none_in_row _ (omega arith, (omega arith, (omega arith, (omega arith, tt))));
+}
+
+-- a frame has one body
+abbrev pub OneBody : Type 0
+OneBody = (f : FrameParts) (bytes others : List ℕ) → IsBody f bytes → IsBody f others → bytes ≡ others
+
+pub other_is_not_marked : OneBody → IsMarkedDamage identity_request 5 other_address → ⊥
+other_is_not_marked one_body damage =
+    let sent : ℕ → List ℕ → List ℕ = λ left body. replicate left 255 ++ body in
+    let body = one_body identity_request damage.body request_body damage.is_body request_is in
+    let long = length-heard (sent damage.left damage.body) other_address damage.heard in
+    let both = length-append (replicate damage.left 255) damage.body in
+    let left : damage.left ≡ 2 = omega (arith, long, both, length-replicate {A = ℕ} damage.left 255, ap length body) in
+    let same : sent damage.left damage.body ≡ sent 2 request_body =
+    ap (λ (n : ℕ). sent n damage.body) left ∙ ap (sent 2) body in
+    let heard : AllZip IsHeardOrMarked (sent 2 request_body) other_address =
+    subst (λ bytes. AllZip IsHeardOrMarked bytes other_address) same damage.heard in
+    omega (arith, clear_is 128 129 heard.1.1.1.0)
+
+-- of what is as long as these two preamble bytes are left
+two_left : OneBody → (row : List ℕ) → length row ≡ 7 → (damage : IsCheckDamage identity_request 5 (faultless row)) → damage.left ≡ 2
+two_left one_body row seven damage =
+    let prefix : List ℕ = replicate damage.left 255 in
+    let same : row ≡ prefix ++ damage.bytes = faultless-one row (prefix ++ damage.bytes) damage.heard in
+    let prefix_len : length prefix ≡ damage.left = length-replicate damage.left 255 in
+    let body = one_body identity_request damage.body request_body damage.is_body request_is in
+    omega (
+      arith,
+      seven,
+      prefix_len,
+      ap length same,
+      length-append prefix damage.bytes,
+      damage.replaces.same_length,
+      ap length body,
+    )
+
+pub request_is_not_check : OneBody → IsCheckDamage identity_request 5 other_request → ⊥
+request_is_not_check one_body damage =
+    let row : List ℕ = 255 ∷ 255 ∷ other_bytes 131 in
+    let prefix : List ℕ = replicate damage.left 255 in
+    let two : length prefix ≡ 2 = length-replicate damage.left 255 ∙ two_left one_body row refl damage in
+    let bytes : other_bytes 131 ≡ damage.bytes =
+    ap (drop 2) (faultless-one row (prefix ++ damage.bytes) damage.heard) ∙ drop_at prefix damage.bytes 2 two in
+    let check = IsCheckByte-fold (other_bytes 131) 0 (bytes_fit (other_bytes 131) (other_fits 131 (omega arith))) refl in
+    damage.parity (subst HasEvenParity bytes (even-check (other_bytes 131) check))
+
+pub preamble_is_not_check : OneBody → IsCheckDamage identity_request 5 preamble_in_body → ⊥
+preamble_is_not_check one_body damage =
+    let row : List ℕ = 255 ∷ 255 ∷ 2 ∷ 255 ∷ 255 ∷ 0 ∷ 130 ∷ [] in
+    let after : after_delimiter damage.left (faultless row) ≡ faultless (255 ∷ 255 ∷ 0 ∷ 130 ∷ []) =
+    ap (λ (n : ℕ). after_delimiter n (faultless row)) (two_left one_body row refl damage) in
+    damage.no_two_preambles [] (faultless (0 ∷ 130 ∷ [])) after

@@ -1,0 +1,240 @@
+-- Every list of characters has its frames.
+use Rattle.std.proofs.Common.{◌≡◌, ◌≢◌, ℕ, zero, suc, ◌+◌, ◌<◌, ◌≤◌, ◌⊎◌, inl, inr, List, [], ◌∷◌, ◌++◌, length, take, drop, refl, sym, ap}
+use Rattle.std.proofs.Common.{◌∙◌, arith, subst}
+use Rattle.std.proofs.lemmas.List.{take-append-drop, take-map, take_rest, length-take-le, length-map}
+use Rattle.std.specs.List.{All}
+use Rattle.hart_frame.specs.wire.FrameParts.{FrameParts}
+use Rattle.hart_frame.specs.wire.Body.{IsBody, BeginsWithBody}
+use Rattle.hart_frame.specs.heard.Character.{Character, faultless}
+use Rattle.hart_frame.specs.heard.Body.{bytes_of, BeginsWithHeard}
+use Rattle.hart_frame.specs.wire.Layout.{body_length}
+use Rattle.hart_frame.specs.wire.Parity.{IsCheckByte}
+use Rattle.hart_frame.specs.wire.Refusal.{HasGoodByteCount}
+use Rattle.hart_frame.specs.heard.Place.{StandsIn}
+use Rattle.hart_frame.specs.heard.Frames.{AreFrames, HasNoFrame, IsFirst}
+use Rattle.hart_frame.specs.declared.heard.found.Found.{Found}
+use Rattle.hart_frame.proofs.lemmas.wire.BodiesFound.{body_decided, even_body}
+use Rattle.hart_frame.proofs.lemmas.heard.Body.{BeginsWithBody-heard, bytes_of-faultless, faultless_made, made_of_bytes, take-heard}
+use Rattle.hart_frame.proofs.lemmas.wire.Refusal.{says}
+use Rattle.hart_frame.proofs.lemmas.heard.Place.{preamble, StandsIn-at, StandsIn-heard, StandsIn-hears, StandsIn-from, StandsIn-within}
+use Rattle.hart_frame.proofs.lemmas.heard.Place.{HasNoFrame-end, start-later}
+
+-- the first of faultless characters has no fault, and the others are faultless
+pub record FaultlessFirst (first : Character) (others : List Character) : Type 0 where
+  pub faults : first.faults ≡ 0
+  pub rest : List ℕ
+  pub others_are : others ≡ faultless rest
+
+faultless_first : (first : Character) (others : List Character) (bytes : List ℕ) → first ∷ others ≡ faultless bytes
+    → FaultlessFirst first others
+faultless_first first others [] same = absurd cc
+faultless_first first others (byte ∷ bytes) same =
+    let here : first ≡ record { byte = byte; faults = 0 } = cc in
+    record {
+      faults = ap (λ (character : Character). character.faults) here;
+      rest = bytes;
+      others_are = cc;
+    }
+
+pub record Faultless (chars : List Character) : Type 0 where
+  pub bytes : List ℕ
+  pub are : chars ≡ faultless bytes
+
+-- whether characters are faultless
+faultless_decided : (chars : List Character) → Faultless chars ⊎ (Faultless chars → ⊥)
+faultless_decided [] = inl (record { bytes = []; are = refl })
+faultless_decided (first ∷ others) =
+    let cases : (first.faults ≡ 0) ⊎ (0 < first.faults) = grind arith in
+    elim cases [
+      | inr faulty ↦ inr (λ all. let split = faultless_first first others all.bytes all.are in omega (arith, split.faults, faulty))
+      | inl clear ↦ elim (faultless_decided others) [
+        | inl rest ↦ inl (record { bytes = first.byte ∷ rest.bytes; are = faultless_made first others rest.bytes clear rest.are })
+        | inr damaged ↦ inr (λ all.
+            let split = faultless_first first others all.bytes all.are in
+            damaged (record { bytes = split.rest; are = split.others_are }))
+      ]
+    ]
+
+-- characters begin with some body that is heard
+pub record HeardAhead (chars : List Character) : Type 0 where
+  pub frame : FrameParts
+  pub len : ℕ
+  pub begins : BeginsWithHeard chars frame len
+
+abbrev pub NothingHeard : List Character → Type 0
+NothingHeard chars = (f : FrameParts) (len : ℕ) → BeginsWithHeard chars f len → ⊥
+
+heard_whole : (chars : List Character) (f : FrameParts) (len : ℕ) → BeginsWithBody (bytes_of chars) f len → Faultless (take len chars)
+    → BeginsWithHeard chars f len
+heard_whole chars f len begins all =
+    let bytes : all.bytes ≡ take len (bytes_of chars) =
+    sym (bytes_of-faultless all.bytes) ∙ ap bytes_of (sym all.are) ∙ sym (take-map (λ (character : Character). character.byte) len chars) in
+    let Is : List ℕ → Type 0 = λ xs. IsBody f xs in
+    record {
+      body = all.bytes;
+      rest = drop len chars;
+      split = sym (take-append-drop len chars) ∙ ap (λ (xs : List Character). xs ++ drop len chars) all.are;
+      is_body = subst Is (sym bytes) begins.body;
+      whole = sym (ap length bytes ∙ length-take-le len (bytes_of chars) begins.within);
+    }
+
+damaged_body : (chars : List Character) (f : FrameParts) (len : ℕ) → BeginsWithBody (bytes_of chars) f len
+    → (Faultless (take len chars) → ⊥)
+    → NothingHeard chars
+damaged_body chars f len begins damaged g other heard =
+    let also = BeginsWithBody-heard chars g other heard in
+    let same : len ≡ other = omega (arith, (says (bytes_of chars) f len begins).whole, (says (bytes_of chars) g other also).whole) in
+    damaged (record { bytes = heard.body; are = ap (λ (n : ℕ). take n chars) same ∙ take-heard chars g other heard })
+
+-- characters without faults up to a check byte of even parity are heard as a body
+pub even_heard : (chars part : List Character) (len check : ℕ) → HasGoodByteCount (bytes_of chars) → len ≡ body_length (bytes_of chars)
+    → len ≤ length chars → part ≡ take len chars → All (λ character. character.faults ≡ 0) part → IsCheckByte (bytes_of part) check
+    → All (λ byte. byte < 256) (bytes_of part) → check ≡ 0 → (frame : FrameParts) × BeginsWithHeard chars frame len
+even_heard chars part len check good is within taken clear folded fit even =
+    let byte : Character → ℕ = λ character. character.byte in
+    let bytes : bytes_of part ≡ take len (bytes_of chars) = ap bytes_of taken ∙ sym (take-map byte len chars) in
+    let Fits : List ℕ → Type 0 = λ xs. All (λ (x : ℕ). x < 256) xs in
+    let IsFolded : List ℕ → Type 0 = λ xs. IsCheckByte xs 0 in
+    let Is : ℕ → Type 0 = λ c. IsCheckByte (bytes_of part) c in
+    let body = even_body (bytes_of chars) len is (good, omega (arith, length-map chars byte, is, within)) (subst Fits bytes fit)
+    (subst IsFolded bytes (subst Is even folded)) in
+    let all : Faultless (take len chars) = record {
+      bytes = bytes_of part;
+      are = sym taken ∙ made_of_bytes part clear;
+    } in
+    (body.0, heard_whole chars body.0 len body.1 all)
+
+heard_decided : (chars : List Character) → HeardAhead chars ⊎ NothingHeard chars
+heard_decided chars = elim (body_decided (bytes_of chars)) [
+  | inr none ↦ inr (λ f len heard. none f len (BeginsWithBody-heard chars f len heard))
+  | inl ahead ↦ elim (faultless_decided (take ahead.len chars)) [
+    | inl all ↦ inl (record { frame = ahead.frame; len = ahead.len; begins = heard_whole chars ahead.frame ahead.len ahead.begins all })
+    | inr damaged ↦ inr (damaged_body chars ahead.frame ahead.len ahead.begins damaged)
+  ]
+]
+
+-- a frame stands right at a place
+pub record Here (chars : List Character) (place : ℕ) : Type 0 where
+  pub found : Found
+  pub stands : StandsIn found chars place
+  pub start : found.start ≡ place + 2
+
+abbrev pub NothingHere : List Character → ℕ → Type 0
+NothingHere chars place = (found : Found) → StandsIn found chars place → found.start ≡ place + 2 → ⊥
+
+-- two equal prefixes of two have equal parts
+pub record SamePair (x y : Character) (rest : List Character) (a b : Character) (more : List Character) : Type 0 where
+  pub first : x ≡ a
+  pub second : y ≡ b
+
+same_pair : (x y : Character) (rest : List Character) (a b : Character) (more : List Character) → x ∷ y ∷ rest ≡ a ∷ b ∷ more
+    → SamePair x y rest a b more
+same_pair x y rest a b more same = record { first = cc; second = cc }
+
+-- whether a character is a faultless preamble byte
+preamble_decided : (x : Character) → (x ≡ preamble) ⊎ (x ≡ preamble → ⊥)
+preamble_decided x =
+    let bytes : (x.byte ≡ 255) ⊎ (x.byte ≢ 255) = grind arith in
+    let faults : (x.faults ≡ 0) ⊎ (x.faults ≢ 0) = grind arith in
+    elim bytes [
+      | inr other ↦ inr (λ is. other (ap (λ (c : Character). c.byte) is))
+      | inl preamble_byte ↦ elim faults [
+        | inr faulty ↦ inr (λ is. faulty (ap (λ (c : Character). c.faults) is))
+        | inl clear ↦ inl (
+            let of : ℕ → ℕ → Character = λ b f. record { byte = b; faults = f } in
+            let all : of x.byte x.faults ≡ of 255 0 = cc in
+            all)
+      ]
+    ]
+
+-- what is heard after two preamble bytes stands there
+here_heard : (chars : List Character) (x y : Character) (rest : List Character) (place : ℕ) → place ≤ length chars
+    → x ∷ y ∷ rest ≡ drop place chars → x ≡ preamble → y ≡ preamble → HeardAhead rest → Here chars place
+here_heard chars x y rest place within is first second ahead =
+    let Heard : List Character → Type 0 = λ cs. BeginsWithHeard cs ahead.frame ahead.len in
+    let after = take_rest (x ∷ y ∷ rest) 2 in
+    record {
+      found = record { start = place + 2; stop = place + 2 + ahead.len; frame = ahead.frame };
+      stands = StandsIn-heard chars (x ∷ y ∷ rest) place x y ahead.frame ahead.len within is (omega arith) refl refl first second
+          (subst Heard (sym after) ahead.begins);
+      start = refl;
+    }
+
+nothing_here : (chars : List Character) (x y : Character) (rest : List Character) (place : ℕ) → x ∷ y ∷ rest ≡ drop place chars
+    → NothingHeard rest → NothingHere chars place
+nothing_here chars x y rest place is none found stands start =
+    let Heard : List Character → Type 0 = λ cs. BeginsWithHeard cs found.frame (length stands.body) in
+    none found.frame (length stands.body)
+    (subst Heard (take_rest (x ∷ y ∷ rest) 2) (StandsIn-hears chars (x ∷ y ∷ rest) place place found stands start is))
+
+-- whether a frame stands right at a place
+here_decided : (chars tail : List Character) (place : ℕ) → place ≤ length chars → tail ≡ drop place chars
+    → Here chars place ⊎ NothingHere chars place
+here_decided chars [] place within is =
+    inr (λ found stands start. let at = is ∙ StandsIn-at chars place place found stands start in absurd cc)
+here_decided chars (x ∷ []) place within is =
+    inr (λ found stands start. let at = is ∙ StandsIn-at chars place place found stands start in absurd cc)
+here_decided chars (x ∷ y ∷ rest) place within is = elim (preamble_decided x) [
+  | inr other ↦ inr (λ found stands start.
+      other (same_pair x y rest preamble preamble _ (is ∙ StandsIn-at chars place place found stands start)).first)
+  | inl first ↦ elim (preamble_decided y) [
+    | inr other ↦ inr (λ found stands start.
+        other (same_pair x y rest preamble preamble _ (is ∙ StandsIn-at chars place place found stands start)).second)
+    | inl second ↦ elim (heard_decided rest) [
+      | inl ahead ↦ inl (here_heard chars x y rest place within is first second ahead)
+      | inr none ↦ inr (nothing_here chars x y rest place is none)
+    ]
+  ]
+]
+
+-- a list has a first frame from a place on
+pub record HasFirst (chars : List Character) (from : ℕ) : Type 0 where
+  pub found : Found
+  pub is_first : IsFirst found chars from
+
+-- no frame stands before a place
+abbrev pub NoneBefore : List Character → ℕ → ℕ → Type 0
+NoneBefore chars from place = (found : Found) → StandsIn found chars from → place + 2 ≤ found.start
+
+past_end : (chars : List Character) (from place : ℕ) → length chars ≤ place → NoneBefore chars from place → HasNoFrame chars from
+past_end chars from place end none found stands =
+    let within = StandsIn-within found chars from stands in
+    omega (arith, end, none found stands, within.some, within.within)
+
+search : (chars : List Character) (from fuel place : ℕ) → from ≤ place → length chars ≤ place + fuel → NoneBefore chars from place
+    → HasFirst chars from ⊎ HasNoFrame chars from
+search chars from zero place after enough none = inr (past_end chars from place (omega (arith, enough)) none)
+search chars from (suc fuel) place after enough none =
+    let cases : (place ≤ length chars) ⊎ (length chars < place) = grind arith in
+    elim cases [
+      | inr past ↦ inr (past_end chars from place (omega (arith, past)) none)
+      | inl within ↦ elim (here_decided chars (drop place chars) place within refl) [
+        | inl here ↦ inl (record {
+          found = here.found;
+          is_first = record {
+            stands = StandsIn-from here.found chars place from here.stands (omega (arith, after, here.start));
+            least = λ other stands. omega (arith, here.start, none other stands);
+          };
+        })
+        | inr nothing ↦ search chars from fuel (place + 1) (omega (arith, after)) (omega (arith, enough))
+            (λ found stands. start-later found chars from place stands (none found stands) (nothing found))
+      ]
+    ]
+
+-- whether a frame stands in a list from a place on
+first_decided : (chars : List Character) (from : ℕ) → HasFirst chars from ⊎ HasNoFrame chars from
+first_decided chars from =
+    search chars from (length chars) from (omega arith) (omega arith) (λ found stands. (StandsIn-within found chars from stands).after)
+
+frames_found : (chars : List Character) (fuel from : ℕ) → length chars ≤ from + fuel → (frames : List Found) × AreFrames chars from frames
+frames_found chars zero from enough = ([], AreFrames.none from (HasNoFrame-end chars from (omega (arith, enough))))
+frames_found chars (suc fuel) from enough = elim (first_decided chars from) [
+  | inr none ↦ ([], AreFrames.none from none)
+  | inl has ↦
+      let within = StandsIn-within has.found chars from has.is_first.stands in
+      let later = frames_found chars fuel has.found.stop (omega (arith, enough, within.after, within.some)) in
+      (has.found ∷ later.0, AreFrames.first from has.found later.0 has.is_first later.1)
+]
+
+pub AreFrames-found : (chars : List Character) (from : ℕ) → (frames : List Found) × AreFrames chars from frames
+AreFrames-found chars from = frames_found chars (length chars) from (omega arith)

@@ -1,0 +1,103 @@
+-- A message that is heard without faults has its frame alone.
+use Rattle.std.proofs.Common.{◌≡◌, ℕ, ◌+◌, ◌-◌, ◌<◌, ◌≤◌, ◌⊎◌, inl, inr, List, [], ◌∷◌, ◌++◌, length, get_or, replicate, sym, ap, ◌∙◌}
+use Rattle.std.proofs.Common.{arith, append_assoc, length-append}
+use Rattle.std.proofs.Math.ListN.{get_or-append}
+use Rattle.std.proofs.lemmas.List.{append-nil, map-append, length-map, length-replicate, replicate-append-replicate, get_or-replicate}
+use Rattle.std.proofs.lemmas.List.{get_or-append-add}
+use Rattle.hart_frame.specs.wire.FrameParts.{FrameParts}
+use Rattle.hart_frame.specs.wire.Delimiter.{delimiter_of}
+use Rattle.hart_frame.specs.heard.Character.{Character, faultless}
+use Rattle.hart_frame.specs.heard.Body.{bytes_of}
+use Rattle.hart_frame.specs.wire.Message.{IsMessage}
+use Rattle.hart_frame.specs.heard.Place.{StandsIn}
+use Rattle.hart_frame.specs.heard.Frames.{AreFrames}
+use Rattle.hart_frame.specs.declared.heard.found.Found.{Found}
+use Rattle.hart_frame.proofs.lemmas.wire.UnambiguousBodies.{address_type-lt, kind_code-is, spread}
+use Rattle.hart_frame.proofs.lemmas.heard.Body.{bytes_of-faultless}
+use Rattle.hart_frame.proofs.lemmas.heard.Place.{HasNoFrame-end}
+
+-- a delimiter is no preamble byte
+delimiter_of-lt : (f : FrameParts) → length f.expansion ≤ 3 → delimiter_of f < 255
+delimiter_of-lt f few = omega (arith, kind_code-is f.kind, address_type-lt f.address, few)
+
+-- the bytes of a list that a frame stands in
+bytes-split : (bytes : List ℕ) (found : Found) (from : ℕ) (stands : StandsIn found (faultless bytes) from)
+    → bytes ≡ bytes_of stands.prefix ++ (255 ∷ 255 ∷ (stands.body ++ bytes_of stands.rest))
+bytes-split bytes found from stands =
+    let byte_of : Character → ℕ = λ character. character.byte in
+    let marked : List ℕ = 255 ∷ 255 ∷ stands.body in
+    sym (bytes_of-faultless bytes) ∙ ap bytes_of stands.split
+    ∙ map-append byte_of (stands.prefix ++ faultless marked) stands.rest
+    ∙ ap (λ (xs : List ℕ). xs ++ bytes_of stands.rest) (map-append byte_of stands.prefix (faultless marked))
+    ∙ append_assoc (bytes_of stands.prefix) (bytes_of (faultless marked)) (bytes_of stands.rest)
+    ∙ ap (λ (xs : List ℕ). bytes_of stands.prefix ++ (xs ++ bytes_of stands.rest)) (bytes_of-faultless marked)
+
+-- a frame starts with its delimiter
+starts : (bytes : List ℕ) (found : Found) (from : ℕ) → StandsIn found (faultless bytes) from
+    → get_or bytes found.start 0 ≡ delimiter_of found.frame
+starts bytes found from stands =
+    let prefix : List ℕ = bytes_of stands.prefix in
+    let prefix_len : length prefix ≡ length stands.prefix = length-map stands.prefix (λ (character : Character). character.byte) in
+    let place : found.start ≡ length prefix + 2 = omega (arith, stands.start, prefix_len) in
+    ap (λ (n : ℕ). get_or bytes n 0) place
+    ∙ ap (λ (xs : List ℕ). get_or xs (length prefix + 2) 0) (bytes-split bytes found from stands)
+    ∙ get_or-append-add prefix (255 ∷ 255 ∷ (stands.body ++ bytes_of stands.rest)) 2 0
+    ∙ ap (λ (xs : List ℕ). get_or xs 0 0) (spread found.frame stands.body (bytes_of stands.rest) stands.is_body)
+
+-- so none starts among the preamble bytes
+starts-after : (bytes body : List ℕ) (preambles : ℕ) (found : Found) (from : ℕ) → bytes ≡ replicate preambles 255 ++ body
+    → StandsIn found (faultless bytes) from → preambles ≤ found.start
+starts-after bytes body preambles found from parts stands =
+    let cases : (preambles ≤ found.start) ⊎ (found.start < preambles) = grind arith in
+    elim cases [
+      | inl after ↦ after
+      | inr among ↦
+          let prefix : List ℕ = replicate preambles 255 in
+          let long : length prefix ≡ preambles = length-replicate preambles 255 in
+          let here : get_or bytes found.start 0 ≡ 255 =
+          ap (λ (xs : List ℕ). get_or xs found.start 0) parts
+          ∙ get_or-append prefix body 0 found.start (omega (arith, among, long))
+          ∙ get_or-replicate preambles found.start 255 0 among in
+          let low = delimiter_of-lt found.frame stands.is_body.checked_part.expansion_fits in
+          absurd (omega (arith, here, low, starts bytes found from stands))
+    ]
+
+-- the frame of a message, and where it stands in what is heard
+abbrev found_in : FrameParts → ℕ → List ℕ → Found
+found_in f preambles bytes = record { start = preambles; stop = length bytes; frame = f }
+
+stands_in : (f : FrameParts) (preambles more : ℕ) (bytes : List ℕ) → preambles ≡ more + 2 → IsMessage f preambles bytes
+    → StandsIn (found_in f preambles bytes) (faultless bytes) 0
+stands_in f preambles more bytes two message =
+    let character_of : ℕ → Character = λ byte. record { byte = byte; faults = 0 } in
+    let prefix : List ℕ = replicate more 255 in
+    let marked : List ℕ = 255 ∷ 255 ∷ message.body in
+    let whole : bytes ≡ prefix ++ marked =
+    message.parts ∙ ap (λ (n : ℕ). replicate n 255 ++ message.body) two
+    ∙ ap (λ (xs : List ℕ). xs ++ message.body) (sym (replicate-append-replicate more 2 255))
+    ∙ append_assoc prefix (255 ∷ 255 ∷ []) message.body in
+    let prefix_len : length (faultless prefix) ≡ more = length-map prefix character_of ∙ length-replicate more 255 in
+    let len : length bytes ≡ more + 2 + length message.body =
+    ap length whole ∙ length-append prefix marked ∙ (let long = length-replicate {A = ℕ} more 255 in omega (arith, long)) in
+    record {
+      prefix = faultless prefix;
+      body = message.body;
+      rest = [];
+      split = ap faultless whole ∙ map-append character_of prefix marked ∙ sym (append-nil (faultless prefix ++ faultless marked));
+      is_body = message.is_body;
+      after = omega arith;
+      start = omega (arith, two, prefix_len);
+      stop = omega (arith, len, prefix_len);
+    }
+
+pub AreFrames-message : (f : FrameParts) (preambles : ℕ) (bytes : List ℕ) → 2 ≤ preambles → IsMessage f preambles bytes
+    → AreFrames (faultless bytes) 0 (found_in f preambles bytes ∷ [])
+AreFrames-message f preambles bytes two message =
+    let len : length (faultless bytes) ≡ length bytes = length-map bytes (λ (byte : ℕ). record { byte = byte; faults = 0 }) in
+    AreFrames.first 0 (found_in f preambles bytes) [] (record {
+      stands = stands_in f preambles (preambles - 2) bytes (omega (arith, two)) message;
+      least = λ other stands. starts-after bytes message.body preambles other 0 message.parts stands;
+    }) (AreFrames.none (length bytes) (HasNoFrame-end (faultless bytes) (length bytes) (omega (arith, len))))
+
+pub AreFrames-nothing : AreFrames [] 0 []
+AreFrames-nothing = AreFrames.none 0 (HasNoFrame-end [] 0 (omega arith))

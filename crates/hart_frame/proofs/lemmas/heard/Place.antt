@@ -1,0 +1,173 @@
+-- Where a frame stands, and where the body begins that is heard there.
+use Rattle.std.proofs.Common.{◌≡◌, ℕ, ◌+◌, ◌-◌, ◌<◌, ◌≤◌, ◌⊎◌, inl, inr, List, [], ◌∷◌, ◌++◌, length, take, drop, get_or, refl, sym, ap}
+use Rattle.std.proofs.Common.{◌∙◌, arith, subst, append_assoc, length-append, length-drop}
+use Rattle.std.proofs.lemmas.List.{append-nil, take-append-drop, length-take-le, take_rest, take_at, drop_at, length-map}
+use Rattle.std.specs.List.{slice_range}
+use Rattle.hart_frame.specs.wire.FrameParts.{FrameParts}
+use Rattle.hart_frame.specs.heard.Character.{Character, faultless}
+use Rattle.hart_frame.specs.heard.Body.{BeginsWithHeard}
+use Rattle.hart_frame.specs.heard.Place.{StandsIn}
+use Rattle.hart_frame.specs.heard.Frames.{HasNoFrame}
+use Rattle.hart_frame.specs.heard.Found.{IsPlacedAs}
+use Rattle.hart_frame.specs.declared.heard.found.Found.{Found}
+use Rattle.hart_frame.specs.declared.heard.found.FramePlaces.{FramePlaces}
+use Rattle.hart_frame.proofs.lemmas.wire.Refusal.{IsBody-short}
+
+-- a faultless preamble byte
+abbrev pub preamble : Character
+preamble = record { byte = 255; faults = 0 }
+
+-- equal parts join to equal lists
+joined : (x y : Character) (rest more : List Character) → x ≡ preamble → y ≡ preamble → rest ≡ more
+    → x ∷ y ∷ rest ≡ preamble ∷ preamble ∷ more
+joined x y rest more first second back = cc
+
+-- a body that is heard after two preamble bytes stands there
+pub StandsIn-heard : (chars tail : List Character) (place : ℕ) (first second : Character) (f : FrameParts) (len : ℕ)
+    → place ≤ length chars → tail ≡ drop place chars → 2 ≤ length tail → first ≡ get_or tail 0 first → second ≡ get_or tail 1 second
+    → first ≡ preamble → second ≡ preamble → BeginsWithHeard (take (length tail - 2) (drop 2 tail)) f len
+    → StandsIn (record { start = place + 2; stop = place + 2 + len; frame = f }) chars place
+StandsIn-heard chars [] place first second f len within is long x_is y_is x_pre y_pre heard = absurd (omega arith)
+StandsIn-heard chars (x ∷ []) place first second f len within is long x_is y_is x_pre y_pre heard = absurd (omega arith)
+StandsIn-heard chars (x ∷ y ∷ rest) place first second f len within is long x_is y_is x_pre y_pre heard =
+    let after = take_rest (x ∷ y ∷ rest) 2 in
+    let parts = joined x y rest (faultless heard.body ++ heard.rest) (sym x_is ∙ x_pre) (sym y_is ∙ y_pre) (sym after ∙ heard.split) in
+    let prefix_len = length-take-le place chars within in
+    record {
+      prefix = take place chars;
+      body = heard.body;
+      rest = heard.rest;
+      split = sym (take-append-drop place chars) ∙ ap (λ (xs : List Character). take place chars ++ xs) (sym is ∙ parts)
+          ∙ sym (append_assoc (take place chars) (faultless (255 ∷ 255 ∷ heard.body)) heard.rest);
+      is_body = heard.is_body;
+      after = omega (arith, prefix_len);
+      start = omega (arith, prefix_len);
+      stop = omega (arith, prefix_len, heard.whole);
+    }
+
+-- what stands at a place begins there
+pub StandsIn-at : (chars : List Character) (place from : ℕ) (found : Found) (stands : StandsIn found chars from)
+    → found.start ≡ place + 2 → drop place chars ≡ faultless (255 ∷ 255 ∷ stands.body) ++ stands.rest
+StandsIn-at chars place from found stands start =
+    let whole : chars ≡ stands.prefix ++ (faultless (255 ∷ 255 ∷ stands.body) ++ stands.rest) =
+    stands.split ∙ append_assoc stands.prefix (faultless (255 ∷ 255 ∷ stands.body)) stands.rest in
+    ap (drop place) whole
+    ∙ drop_at stands.prefix (faultless (255 ∷ 255 ∷ stands.body) ++ stands.rest) place (omega (arith, start, stands.start))
+
+-- and is heard there
+pub StandsIn-hears : (chars tail : List Character) (place from : ℕ) (found : Found) (stands : StandsIn found chars from)
+    → found.start ≡ place + 2 → tail ≡ drop place chars
+    → BeginsWithHeard (take (length tail - 2) (drop 2 tail)) found.frame (length stands.body)
+StandsIn-hears chars tail place from found stands start is = record {
+  body = stands.body;
+  rest = stands.rest;
+  split = take_rest tail 2 ∙ ap (drop 2) (is ∙ StandsIn-at chars place from found stands start);
+  is_body = stands.is_body;
+  whole = refl;
+}
+
+-- and alone from its start to its stop
+pub StandsIn-body : (found : Found) (chars : List Character) (from : ℕ) (stands : StandsIn found chars from)
+    → BeginsWithHeard (slice_range chars found.start found.stop) found.frame (length stands.body)
+StandsIn-body found chars from stands =
+    let two : List Character = faultless (255 ∷ 255 ∷ []) in
+    let after : List Character = faultless stands.body ++ stands.rest in
+    let whole : chars ≡ (stands.prefix ++ two) ++ after =
+    stands.split ∙ append_assoc stands.prefix (faultless (255 ∷ 255 ∷ stands.body)) stands.rest
+    ∙ sym (append_assoc stands.prefix two after) in
+    let dropped : drop found.start chars ≡ after =
+    ap (drop found.start) whole
+    ∙ drop_at (stands.prefix ++ two) after found.start (omega (arith, length-append stands.prefix two, stands.start)) in
+    let body_len : length (faultless stands.body) ≡ length stands.body =
+    length-map stands.body (λ (byte : ℕ). record { byte = byte; faults = 0 }) in
+    record {
+      body = stands.body;
+      rest = [];
+      split = ap (take (found.stop - found.start)) dropped
+          ∙ take_at (faultless stands.body) stands.rest (found.stop - found.start) (omega (arith, body_len, stands.start, stands.stop))
+          ∙ sym (append-nil (faultless stands.body));
+      is_body = stands.is_body;
+      whole = refl;
+    }
+
+-- what stands after a place stands in the list from that place on
+pub StandsIn-from : (found : Found) (chars : List Character) (place from : ℕ) → StandsIn found chars place → from + 2 ≤ found.start
+    → StandsIn found chars from
+StandsIn-from found chars place from stands after = record {
+  prefix = stands.prefix;
+  body = stands.body;
+  rest = stands.rest;
+  split = stands.split;
+  is_body = stands.is_body;
+  after = omega (arith, after, stands.start);
+  start = stands.start;
+  stop = stands.stop;
+}
+
+-- a frame that does not stand right at a place stands later
+pub start-later : (found : Found) (chars : List Character) (from place : ℕ) → StandsIn found chars from → place + 2 ≤ found.start
+    → (StandsIn found chars place → found.start ≡ place + 2 → ⊥) → place + 1 + 2 ≤ found.start
+start-later found chars from place stands after not_here =
+    let cases : (found.start ≡ place + 2) ⊎ (place + 1 + 2 ≤ found.start) = grind arith in
+    elim cases [
+      | inl here ↦ absurd (not_here (StandsIn-from found chars from place stands after) here)
+      | inr later ↦ later
+    ]
+
+-- a frame lies within the list
+pub record LiesWithin (found : Found) (chars : List Character) (from : ℕ) : Type 0 where
+  pub after : from + 2 ≤ found.start
+  pub some : found.start < found.stop
+  pub within : found.stop ≤ length chars
+
+pub StandsIn-within : (found : Found) (chars : List Character) (from : ℕ) → StandsIn found chars from → LiesWithin found chars from
+StandsIn-within found chars from stands =
+    let all = ap length stands.split in
+    let rest = length-append (stands.prefix ++ faultless (255 ∷ 255 ∷ stands.body)) stands.rest in
+    let prefix = length-append stands.prefix (faultless (255 ∷ 255 ∷ stands.body)) in
+    let body : length (faultless stands.body) ≡ length stands.body =
+    length-map stands.body (λ (byte : ℕ). record { byte = byte; faults = 0 }) in
+    let some = ap length stands.is_body.parts ∙ length-append stands.is_body.checked (stands.is_body.check ∷ []) in
+    record {
+      after = omega (arith, stands.after, stands.start);
+      some = omega (arith, stands.start, stands.stop, some);
+      within = omega (arith, stands.stop, all, rest, prefix, body);
+    }
+
+-- it is known by its places and its frame
+pub record HeardAt (places : FramePlaces) (chars : List Character) (found : Found) : Type 0 where
+  pub len : ℕ
+  pub heard : BeginsWithHeard (slice_range chars places.start places.stop) found.frame len
+  pub few : length (slice_range chars places.start places.stop) ≤ 267
+
+pub heard_at : (places : FramePlaces) (chars : List Character) (found : Found) → IsPlacedAs found places → StandsIn found chars 0
+    → HeardAt places chars found
+heard_at places chars found placed stands =
+    let body = StandsIn-body found chars 0 stands in
+    let Heard : ℕ → ℕ → Type 0 = λ start stop. BeginsWithHeard (slice_range chars start stop) found.frame (length stands.body) in
+    let Few : ℕ → ℕ → Type 0 = λ start stop. length (slice_range chars start stop) ≤ 267 in
+    let lies = StandsIn-within found chars 0 stands in
+    let short = IsBody-short found.frame stands.body stands.is_body in
+    let long = length-take-le (found.stop - found.start) (drop found.start chars)
+    (omega (arith, length-drop found.start chars, lies.some, lies.within)) in
+    let few : Few found.start found.stop = omega (arith, long, short, stands.start, stands.stop) in
+    record {
+      len = length stands.body;
+      heard = subst (Heard places.start) placed.1 (subst (λ (n : ℕ). Heard n found.stop) placed.0 body);
+      few = subst (Few places.start) placed.1 (subst (λ (n : ℕ). Few n found.stop) placed.0 few);
+    }
+
+pub found_is : (found : Found) (places : FramePlaces) (frame : FrameParts) → IsPlacedAs found places → frame ≡ found.frame
+    → record { start = places.start; stop = places.stop; frame = frame } ≡ found
+found_is found places frame placed same =
+    let of : ℕ → ℕ → FrameParts → Found = λ start stop f. record { start = start; stop = stop; frame = f } in
+    let start = placed.0 in
+    let stop = placed.1 in
+    let all : of places.start places.stop frame ≡ of found.start found.stop found.frame = cc in
+    all
+
+-- none stands from the end of the list on
+pub HasNoFrame-end : (chars : List Character) (from : ℕ) → length chars ≤ from → HasNoFrame chars from
+HasNoFrame-end chars from end found stands =
+    let lies = StandsIn-within found chars from stands in
+    omega (arith, end, lies.after, lies.some, lies.within)

@@ -1,0 +1,134 @@
+-- Where a body may start in a list of characters.
+use Rattle.std.proofs.Common.{◌≡◌, ◌≢◌, ℕ, zero, suc, ◌+◌, ◌-◌, ◌<◌, ◌≤◌, ◌⊎◌, inl, inr, List, [], ◌∷◌, ◌++◌, length, take, drop, get_or}
+use Rattle.std.proofs.Common.{sym, subst, ap, ◌∙◌, arith, length-append, drop-cons, append_assoc}
+use Rattle.std.proofs.lemmas.List.{get_or-append-add, length-take-le, take-append-drop}
+use Rattle.hart_frame.specs.heard.Character.{Character}
+use Rattle.hart_frame.specs.heard.Start.{HasNoStart, IsFirstStart, IsStart}
+use Rattle.hart_frame.proofs.lemmas.heard.Place.{preamble}
+
+-- two first starts are the same place
+pub IsFirstStart-one : (place other : ℕ) (chars : List Character) → IsFirstStart place chars → IsFirstStart other chars → place ≡ other
+IsFirstStart-one place other chars p q = omega (arith, p.least other q.start, q.least place p.start)
+
+-- the three characters that a start is known by, whatever is read past the end
+pub record StartsAt (chars : List Character) (place : ℕ) (d : Character) : Type 0 where
+  pub after_two : 2 ≤ place
+  pub within : place < length chars
+  pub one : get_or chars (place - 2) d ≡ preamble
+  pub two : get_or chars (place - 1) d ≡ preamble
+  pub other : get_or chars place d ≢ preamble
+
+pub starts_at : (chars : List Character) (place : ℕ) (d : Character) → IsStart place chars → StartsAt chars place d
+starts_at chars place d is =
+    let others : List Character = preamble ∷ preamble ∷ is.first ∷ is.rest in
+    let whole : chars ≡ is.prefix ++ others = is.split ∙ append_assoc is.prefix (preamble ∷ preamble ∷ []) (is.first ∷ is.rest) in
+    let all = ap length whole ∙ length-append is.prefix others in
+    let reads : (n : ℕ) → get_or chars (length is.prefix + n) d ≡ get_or others n d =
+    λ n. ap (λ (xs : List Character). get_or xs (length is.prefix + n) d) whole ∙ get_or-append-add is.prefix others n d in
+    let at : ℕ → Character = λ n. get_or chars n d in
+    let first : at place ≡ is.first = ap at is.place_is ∙ reads 2 in
+    record {
+      after_two = omega (arith, is.place_is);
+      within = omega (arith, is.place_is, all);
+      one = ap at (let e : place - 2 ≡ length is.prefix + 0 = omega (arith, is.place_is) in e) ∙ reads 0;
+      two = ap at (let e : place - 1 ≡ length is.prefix + 1 = omega (arith, is.place_is) in e) ∙ reads 1;
+      other = λ same. is.other (sym first ∙ same);
+    }
+
+pub is_start_from : (chars : List Character) (place : ℕ) (d : Character) → StartsAt chars place d → IsStart place chars
+is_start_from chars place d at =
+    let k : ℕ = place - 2 in
+    let before = length-take-le k chars (omega (arith, at.after_two, at.within)) in
+    let Suffix : List Character → Type 0 = λ xs. chars ≡ take k chars ++ xs in
+    let second : get_or chars (suc k) d ≡ preamble =
+    ap (λ n. get_or chars n d) (let e : suc k ≡ place - 1 = omega (arith, at.after_two) in e) ∙ at.two in
+    let third : get_or chars (suc (suc k)) d ≡ get_or chars place d =
+    ap (λ n. get_or chars n d) (let e : suc (suc k) ≡ place = omega (arith, at.after_two) in e) in
+    let last : List Character = drop (suc (suc (suc k))) chars in
+    let dropped : drop k chars ≡ preamble ∷ preamble ∷ get_or chars place d ∷ last =
+    drop-cons chars k d (omega (arith, at.after_two, at.within))
+    ∙ ap (λ (x : Character). x ∷ drop (suc k) chars) at.one
+    ∙ ap (λ (xs : List Character). preamble ∷ xs) (drop-cons chars (suc k) d (omega (arith, at.after_two, at.within)))
+    ∙ ap (λ (x : Character). preamble ∷ x ∷ drop (suc (suc k)) chars) second
+    ∙ ap (λ (xs : List Character). preamble ∷ preamble ∷ xs) (drop-cons chars (suc (suc k)) d (omega (arith, at.after_two, at.within)))
+    ∙ ap (λ (x : Character). preamble ∷ preamble ∷ x ∷ last) third in
+    record {
+      prefix = take k chars;
+      first = get_or chars place d;
+      rest = last;
+      split = sym (take-append-drop k chars) ∙ ap (λ (xs : List Character). take k chars ++ xs) dropped
+          ∙ sym (append_assoc (take k chars) (preamble ∷ preamble ∷ []) (get_or chars place d ∷ last));
+      place_is = omega (arith, at.after_two, before);
+      other = at.other;
+    }
+
+-- characters are the same or not
+same_or_other : (a b : Character) → (a ≡ b) ⊎ (a ≢ b)
+same_or_other a b =
+    let bytes : (a.byte ≡ b.byte) ⊎ (a.byte ≢ b.byte) = grind arith in
+    let faults : (a.faults ≡ b.faults) ⊎ (a.faults ≢ b.faults) = grind arith in
+    elim bytes [
+      | inr other ↦ inr (λ is. other (ap (λ (c : Character). c.byte) is))
+      | inl same_byte ↦ elim faults [
+        | inr other ↦ inr (λ is. other (ap (λ (c : Character). c.faults) is))
+        | inl same_faults ↦ inl (
+            let of : ℕ → ℕ → Character = λ byte faults. record { byte = byte; faults = faults } in
+            let all : of a.byte a.faults ≡ of b.byte b.faults = cc in
+            all)
+      ]
+    ]
+
+-- whether a body may start at a place
+start_decided : (chars : List Character) (place : ℕ) → 2 ≤ place → place < length chars → IsStart place chars ⊎ (IsStart place chars → ⊥)
+start_decided chars place after within =
+    let no : (StartsAt chars place preamble → ⊥) → IsStart place chars → ⊥ = λ never is. never (starts_at chars place preamble is) in
+    elim (same_or_other (get_or chars (place - 2) preamble) preamble) [
+      | inr not_one ↦ inr (no (λ at. not_one at.one))
+      | inl one ↦ elim (same_or_other (get_or chars (place - 1) preamble) preamble) [
+        | inr not_two ↦ inr (no (λ at. not_two at.two))
+        | inl two ↦ elim (same_or_other (get_or chars place preamble) preamble) [
+          | inl three ↦ inr (no (λ at. at.other three))
+          | inr other ↦ inl (is_start_from chars place preamble
+              (record { after_two = after; within = within; one = one; two = two; other = other }))
+        ]
+      ]
+    ]
+
+-- no start lies before a place
+abbrev pub NoneBefore : List Character → ℕ → Type 0
+NoneBefore chars place = (other : ℕ) → IsStart other chars → place ≤ other
+
+-- a start before which none lies is the first, and if there is none before the end there is none
+pub no_start : (chars : List Character) (place : ℕ) → NoneBefore chars place → length chars ≤ place → HasNoStart chars
+no_start chars place none end other is = omega (arith, none other is, (starts_at chars other preamble is).within, end)
+
+-- if there is none at a place either, there is none up to the next
+pub none_before_next : (chars : List Character) (place : ℕ) → NoneBefore chars place → (IsStart place chars → ⊥)
+    → NoneBefore chars (place + 1)
+none_before_next chars place none not_here other is =
+    let cases : (other ≡ place) ⊎ (place + 1 ≤ other) = let later = none other is in grind arith in
+    elim cases [
+      | inr later ↦ later
+      | inl here ↦ absurd (not_here (subst (λ (n : ℕ). IsStart n chars) here is))
+    ]
+
+pub none_before_two : (chars : List Character) → NoneBefore chars 2
+none_before_two chars other is = (starts_at chars other preamble is).after_two
+
+search : (chars : List Character) (fuel place : ℕ) → 2 ≤ place → length chars ≤ place + fuel → NoneBefore chars place
+    → ((first : ℕ) × IsFirstStart first chars) ⊎ HasNoStart chars
+search chars zero place after enough none = inr (no_start chars place none (omega (arith, enough)))
+search chars (suc fuel) place after enough none =
+    let cases : (place < length chars) ⊎ (length chars ≤ place) = grind arith in
+    elim cases [
+      | inr past ↦ inr (no_start chars place none past)
+      | inl within ↦ elim (start_decided chars place after within) [
+        | inl here ↦ inl (place, record { start = here; least = none })
+        | inr not_here ↦ search chars fuel (place + 1) (omega (arith, after)) (omega (arith, enough))
+            (none_before_next chars place none not_here)
+      ]
+    ]
+
+-- a list has a first start or none
+pub first_start_decided : (chars : List Character) → ((first : ℕ) × IsFirstStart first chars) ⊎ HasNoStart chars
+first_start_decided chars = search chars (length chars) 2 (omega arith) (omega arith) (none_before_two chars)

@@ -1,0 +1,129 @@
+-- The frames given since a scanner was new are the first of what was pushed, and all of them after the finish.
+use Rattle.std.proofs.Common.{◌≡◌, ◌+◌, false, ℕ, IsTrue, List, [], ◌∷◌, ◌++◌, length, refl, sym, ap, ◌∙◌, subst, append_assoc, arith}
+use Rattle.std.proofs.Common.{length-append}
+use Rattle.std.proofs.lemmas.List.{append-nil}
+use Rattle.std.proofs.lemmas.Bool.{false≢true}
+use Rattle.hart_frame.specs.heard.Character.{Character, faultless}
+use Rattle.hart_frame.specs.heard.Frames.{AreFrames}
+use Rattle.hart_frame.specs.scan.Scanner.{Scan, CanHear, MovesPast, finishing, hearing, new_scan}
+use Rattle.hart_frame.specs.scan.Streamed.{IsHistory, IsWholeHistory, begin, push, push_run, give, wait, finish}
+use Rattle.hart_frame.specs.declared.heard.found.Found.{Found}
+use Rattle.hart_frame.proofs.lemmas.heard.FramesFound.{AreFrames-found}
+use Rattle.hart_frame.proofs.lemmas.scan.Undecided.{stands_held}
+
+-- the frames given so far are right for the characters pushed so far if, whatever is still to come, the frames of all are those,
+-- then the frames from the first character on that the scanner holds
+record IsStreamed (past : List Character) (scan : Scan) (given : List Found) : Type 0 where
+  pub hears : (more : List Character) → (IsTrue scan.finished → more ≡ []) → CanHear scan more (past ++ more)
+  pub frames : (more : List Character) (later : List Found) → (IsTrue scan.finished → more ≡ [])
+      → AreFrames (past ++ more) scan.first later → AreFrames (past ++ more) 0 (given ++ later)
+
+streamed_new : IsStreamed [] new_scan []
+streamed_new = record {
+  hears = λ more ended. record { prefix = []; split = refl; place = refl; ended = ended };
+  frames = λ more later ended frames. frames;
+}
+
+streamed_pushed : (past : List Character) (scan : Scan) (given : List Found) (cs : List Character) → scan.finished ≡ false
+    → IsStreamed past scan given → IsStreamed (past ++ cs) (hearing scan cs) given
+streamed_pushed past scan given cs going streamed =
+    let never : (more : List Character) → IsTrue scan.finished → more ≡ [] = λ more is. absurd (false≢true (sym going ∙ is)) in
+    record {
+      hears = λ more ended.
+          let before = streamed.hears (cs ++ more) (never (cs ++ more)) in
+          record {
+            prefix = before.prefix;
+            split = append_assoc past cs more ∙ before.split
+                ∙ ap (λ (ds : List Character). before.prefix ++ ds) (sym (append_assoc scan.held cs more));
+            place = before.place;
+            ended = ended;
+          };
+      frames = λ more later ended frames.
+          let From : List Character → Type 0 = λ ds. AreFrames ds scan.first later in
+          let All : List Character → Type 0 = λ ds. AreFrames ds 0 (given ++ later) in
+          let same = append_assoc past cs more in
+          subst All (sym same) (streamed.frames (cs ++ more) later (never (cs ++ more)) (subst From same frames));
+    }
+
+streamed_finished : (past : List Character) (scan : Scan) (given : List Found) → IsStreamed past scan given
+    → IsStreamed past (finishing scan) given
+streamed_finished past scan given streamed = record {
+  hears = λ more ended.
+      let before = streamed.hears more (λ _. ended refl) in
+      record { prefix = before.prefix; split = before.split; place = before.place; ended = ended };
+  frames = λ more later ended frames. streamed.frames more later (λ _. ended refl) frames;
+}
+
+streamed_taken : (past : List Character) (old new : Scan) (given found : List Found) → IsStreamed past old given
+    → MovesPast old new found → new.finished ≡ old.finished → IsStreamed past new (given ++ found)
+streamed_taken past old new given found streamed moves finished =
+    let ended_old : (more : List Character) → (IsTrue new.finished → more ≡ []) → IsTrue old.finished → more ≡ [] =
+    λ more ended is. ended (finished ∙ is) in
+    record {
+      hears = λ more ended. moves.heard more (past ++ more) (streamed.hears more (ended_old more ended));
+      frames = λ more later ended frames.
+          let All : List Found → Type 0 = λ fs. AreFrames (past ++ more) 0 fs in
+          let hears = streamed.hears more (ended_old more ended) in
+          let from = moves.frames more (past ++ more) later hears frames in
+          subst All (sym (append_assoc given found later)) (streamed.frames more (found ++ later) (ended_old more ended) from);
+    }
+
+-- a run that was heard at once
+streamed_run : (past : List Character) (old new : Scan) (given : List Found) (run : List ℕ) → old.finished ≡ false
+    → IsStreamed past old given → MovesPast (hearing old (faultless run)) new [] → new.finished ≡ old.finished
+    → IsStreamed (past ++ faultless run) new given
+streamed_run past old new given run going streamed moves finished =
+    let all = past ++ faultless run in
+    let pushed = streamed_pushed past old given (faultless run) going streamed in
+    let Given : List Found → Type 0 = λ fs. IsStreamed all new fs in
+    subst Given (append-nil given) (streamed_taken all (hearing old (faultless run)) new given [] pushed moves finished)
+
+-- so it is after every history
+streamed : (past : List Character) (scan : Scan) (given : List Found) → IsHistory past scan given → IsStreamed past scan given
+streamed past scan given begin = streamed_new
+streamed past scan given (push before old frames character history going) =
+    streamed_pushed before old frames (character ∷ []) going (streamed before old frames history)
+streamed past scan given (push_run before old new frames run history going moves finished) =
+    streamed_run before old new frames run going (streamed before old frames history) moves finished
+streamed past scan given (give before old new frames found history gave) =
+    streamed_taken before old new frames (found ∷ []) (streamed before old frames history) gave.moves gave.finished
+streamed past scan given (wait before old new frames history waited) =
+    let Given : List Found → Type 0 = λ fs. IsStreamed before new fs in
+    let after = streamed_taken before old new frames [] (streamed before old frames history) waited.moves
+    (waited.unfinished ∙ sym waited.going) in
+    subst Given (append-nil frames) after
+streamed past scan given (finish before old frames history) = streamed_finished before old frames (streamed before old frames history)
+
+-- a list of characters has one list of frames
+abbrev pub OneList : Type 0
+OneList = (chars : List Character) (from : ℕ) (xs ys : List Found) → AreFrames chars from xs → AreFrames chars from ys → xs ≡ ys
+
+-- the frames given so far are the first ones
+pub history_first : OneList → (past more : List Character) (scan : Scan) (given frames : List Found) → IsHistory past scan given
+    → (IsTrue scan.finished → more ≡ []) → AreFrames (past ++ more) 0 frames → (later : List Found) × (frames ≡ given ++ later)
+history_first one past more scan given frames history ended are =
+    let later = AreFrames-found (past ++ more) scan.first in
+    let all = (streamed past scan given history).frames more later.0 ended later.1 in
+    (later.0, one (past ++ more) 0 frames (given ++ later.0) are all)
+
+-- what was pushed was let go or is held
+pub history_length : (past : List Character) (scan : Scan) (given : List Found) → IsHistory past scan given
+    → scan.first + length scan.held ≡ length past
+history_length past scan given history =
+    let hears = (streamed past scan given history).hears [] (λ _. refl) in
+    let before = length-append past ([]) in
+    let held = length-append scan.held ([]) in
+    omega (arith, ap length hears.split, hears.place, before, held, length-append hears.prefix (scan.held ++ []))
+
+-- after the end they are all
+pub history_all : (past : List Character) (given : List Found) → IsWholeHistory past given → AreFrames past 0 given
+history_all past given whole =
+    let last = whole.last in
+    let is = streamed past last given whole.history in
+    let hears = is.hears [] (λ _. refl) in
+    let none : AreFrames (past ++ []) last.first [] =
+    AreFrames.none last.first (λ found stands. whole.ended.none _ (stands_held last (past ++ []) found hears stands)) in
+    let frames = is.frames [] [] (λ _. refl) none in
+    let Of : List Character → Type 0 = λ cs. AreFrames cs 0 (given ++ []) in
+    let Whole : List Found → Type 0 = λ fs. AreFrames past 0 fs in
+    subst Whole (append-nil given) (subst Of (append-nil past) frames)

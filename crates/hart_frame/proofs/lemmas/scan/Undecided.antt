@@ -1,0 +1,217 @@
+-- What a scanner keeps of what it is to decide.
+use Rattle.std.proofs.Common.{◌≡◌, ℕ, ◌+◌, ◌-◌, ◌<◌, ◌≤◌, ◌⊎◌, inl, inr, false, List, [], ◌∷◌, ◌++◌, length, replicate, drop, get_or, refl}
+use Rattle.std.proofs.Common.{sym, ap, ◌∙◌, arith, subst, append_assoc, length-append, length-drop}
+use Rattle.std.proofs.lemmas.List.{append-nil, drop_at, drop-append-le, get_or_at, get_or_append_left, get_or-replicate, length-replicate}
+use Rattle.std.proofs.lemmas.Bool.{false≢true}
+use Rattle.hart_frame.specs.heard.Character.{Character, faultless}
+use Rattle.hart_frame.specs.heard.Place.{StandsIn}
+use Rattle.hart_frame.specs.heard.Frames.{AreFrames, HasNoFrame, IsUndecided, none, first}
+use Rattle.hart_frame.specs.scan.Scanner.{Scan, CanHear, MovesPast, Gives, Waits, GivesNothing}
+use Rattle.hart_frame.specs.scan.Faultless.{HoldsFrame}
+use Rattle.hart_frame.specs.declared.heard.found.Found.{Found}
+use Rattle.hart_frame.proofs.lemmas.heard.FramesFound.{AreFrames-found}
+use Rattle.hart_frame.proofs.lemmas.heard.Place.{preamble, StandsIn-within}
+
+-- a character that is no preamble byte
+abbrev other : Character
+other = record { byte = 0; faults = 0 }
+
+-- what a scanner can have heard
+abbrev sample : Scan → List Character
+sample scan = replicate scan.first other ++ (scan.held ++ [])
+
+hears_sample : (scan : Scan) → CanHear scan [] (sample scan)
+hears_sample scan =
+    record { prefix = replicate scan.first other; split = refl; place = length-replicate scan.first other; ended = λ _. refl }
+
+same_head : (f g : Found) (xs ys : List Found) → f ∷ xs ≡ g ∷ ys → f ≡ g
+same_head f g xs ys same = cc
+
+head_stands : (chars : List Character) (from : ℕ) (frames : List Found) → AreFrames chars from frames
+    → (g : Found) (later : List Found) → frames ≡ g ∷ later → StandsIn g chars from
+head_stands chars from frames (none n empty) g later same = absurd cc
+head_stands chars from frames (first n f more is rest) g later same =
+    let Stands : Found → Type 0 = λ found. StandsIn found chars n in
+    subst Stands (same_head f g more later same) is.stands
+
+-- what stands in a list stands after others
+stands_after : (prefix cs rest : List Character) (found : Found) (n : ℕ) → length prefix ≡ n → StandsIn found cs 0
+    → StandsIn (record { start = n + found.start; stop = n + found.stop; frame = found.frame }) (prefix ++ (cs ++ rest)) n
+stands_after prefix cs rest found n long stands =
+    let body = faultless (255 ∷ 255 ∷ stands.body) in
+    let size = length-append prefix stands.prefix in
+    record {
+      prefix = prefix ++ stands.prefix;
+      body = stands.body;
+      rest = stands.rest ++ rest;
+      split = ap (λ (xs : List Character). prefix ++ (xs ++ rest)) stands.split
+          ∙ ap (λ (xs : List Character). prefix ++ xs) (append_assoc (stands.prefix ++ body) stands.rest rest
+          ∙ append_assoc stands.prefix body (stands.rest ++ rest))
+          ∙ sym (append_assoc prefix stands.prefix (body ++ (stands.rest ++ rest)))
+          ∙ sym (append_assoc (prefix ++ stands.prefix) body (stands.rest ++ rest));
+      is_body = stands.is_body;
+      after = omega (arith, size, long);
+      start = omega (arith, size, long, stands.start);
+      stop = omega (arith, size, long, stands.stop);
+    }
+
+-- and what stands after others stands in the list
+stands_in : (prefix cs : List Character) (found : Found) (n : ℕ) → length prefix ≡ n → StandsIn found (prefix ++ cs) n
+    → StandsIn (record { start = found.start - n; stop = found.stop - n; frame = found.frame }) cs 0
+stands_in prefix cs found n long stands =
+    let body = faultless (255 ∷ 255 ∷ stands.body) in
+    let size = length-drop n stands.prefix in
+    record {
+      prefix = drop n stands.prefix;
+      body = stands.body;
+      rest = stands.rest;
+      split = sym (drop_at prefix cs n long) ∙ ap (drop n) (stands.split ∙ append_assoc stands.prefix body stands.rest)
+          ∙ drop-append-le n stands.prefix (body ++ stands.rest) stands.after
+          ∙ sym (append_assoc (drop n stands.prefix) body stands.rest);
+      is_body = stands.is_body;
+      after = omega arith;
+      start = omega (arith, size, stands.start, stands.after);
+      stop = omega (arith, size, stands.stop, stands.after);
+    }
+
+-- what a scanner holds, stands in all that it heard
+pub held_stands : (s : Scan) (found : Found) → StandsIn found s.held 0
+    → StandsIn (record { start = s.first + found.start; stop = s.first + found.stop; frame = found.frame }) (sample s) s.first
+held_stands s found stands = stands_after (replicate s.first other) s.held [] found s.first (length-replicate s.first other) stands
+
+-- and what stands there from the first character on that it holds, it holds
+pub stands_held : (s : Scan) (chars : List Character) (found : Found) → CanHear s [] chars → StandsIn found chars s.first
+    → StandsIn (record { start = found.start - s.first; stop = found.stop - s.first; frame = found.frame }) s.held 0
+stands_held s chars found hears stands =
+    let Stands : List Character → Type 0 = λ cs. StandsIn found cs s.first in
+    let here = stands_in hears.prefix (s.held ++ []) found s.first hears.place (subst Stands hears.split stands) in
+    let Held : List Character → Type 0 =
+    λ cs. StandsIn (record { start = found.start - s.first; stop = found.stop - s.first; frame = found.frame }) cs 0 in
+    subst Held (append-nil s.held) here
+
+no_frames : (chars : List Character) (from : ℕ) (frames : List Found) → AreFrames chars from frames → frames ≡ [] → HasNoFrame chars from
+no_frames chars from frames (none n empty) same = empty
+no_frames chars from frames (first n g later is rest) same = absurd cc
+
+-- if a frame stands, there is a first
+record HasHead (chars : List Character) (from start : ℕ) (frames : List Found) : Type 0 where
+  pub head : Found
+  pub later : List Found
+  pub parts : frames ≡ head ∷ later
+  pub least : head.start ≤ start
+
+has_head : (chars : List Character) (from : ℕ) (frames : List Found) (found : Found) → StandsIn found chars from
+    → AreFrames chars from frames → HasHead chars from found.start frames
+has_head chars from frames found stands (none n empty) = absurd (empty found stands)
+has_head chars from frames found stands (first n g later is rest) =
+    record { head = g; later = later; parts = refl; least = is.least found stands }
+
+other_preamble : other ≡ preamble → ⊥
+other_preamble same = let bytes : 0 ≡ 255 = ap (λ (c : Character). c.byte) same in absurd (omega (arith, bytes))
+
+-- no preamble byte is among what was let go
+preamble_held : (s : Scan) (prefix rest : List Character) → sample s ≡ prefix ++ preamble ∷ rest → s.first ≤ length prefix
+preamble_held s prefix rest same =
+    let k = length prefix in
+    let cases : (k < s.first) ⊎ (s.first ≤ k) = grind arith in
+    elim cases [
+      | inl early ↦
+          let here : get_or (sample s) k other ≡ other =
+          get_or_append_left (replicate s.first other) (s.held ++ []) other k (omega (arith, early, length-replicate s.first other))
+          ∙ get_or-replicate s.first k other other early in
+          let there : get_or (sample s) k other ≡ preamble =
+          ap (λ (cs : List Character). get_or cs k other) same ∙ get_or_at prefix preamble rest other k refl in
+          absurd (other_preamble (sym here ∙ there))
+      | inr late ↦ late
+    ]
+
+-- what holds no frame after some characters are passed held none before
+pub nothing_before : (s t : Scan) → MovesPast s t [] → HasNoFrame t.held 0 → HasNoFrame s.held 0
+nothing_before s t moves empty found stands =
+    let after = moves.heard [] (sample s) (hears_sample s) in
+    let ends : AreFrames (sample s) t.first [] = AreFrames.none t.first (λ g there. empty _ (stands_held t (sample s) g after there)) in
+    let frames = moves.frames [] (sample s) [] (hears_sample s) ends in
+    no_frames (sample s) s.first [] frames refl _ (held_stands s found stands)
+
+-- what is undecided after some characters are passed was undecided before
+pub undecided_before : (s t : Scan) → MovesPast s t [] → IsUndecided t.held → IsUndecided s.held
+undecided_before s t moves undecided = elim undecided [
+  | inl empty ↦ inl (nothing_before s t moves empty)
+  | inr (place, opened, before) ↦
+      let after = moves.heard [] (sample s) (hears_sample s) in
+      let prefix = after.prefix ++ opened.prefix in
+      let rest = faultless (255 ∷ 255 ∷ opened.bytes) in
+      let all : sample s ≡ prefix ++ rest =
+      after.split ∙ ap (λ (cs : List Character). after.prefix ++ cs) (append-nil t.held ∙ opened.split)
+      ∙ sym (append_assoc after.prefix opened.prefix rest) in
+      let late = preamble_held s prefix (faultless (255 ∷ opened.bytes)) all in
+      let size = length-append after.prefix opened.prefix in
+      let dropped = length-drop s.first prefix in
+      inr (
+        length (drop s.first prefix) + 2,
+        record {
+          prefix = drop s.first prefix;
+          bytes = opened.bytes;
+          split = sym (append-nil s.held)
+              ∙ sym (drop_at (replicate s.first other) (s.held ++ []) s.first (length-replicate s.first other))
+              ∙ ap (drop s.first) all ∙ drop-append-le s.first prefix rest late;
+          start = refl;
+          truncated = opened.truncated;
+        },
+        λ found stands.
+            let later = AreFrames-found (sample s) t.first in
+            let frames = moves.frames [] (sample s) later.0 (hears_sample s) later.1 in
+            let head = has_head (sample s) s.first later.0 _ (held_stands s found stands) frames in
+            let there = head_stands (sample s) t.first later.0 later.1 head.head head.later head.parts in
+            let low = before _ (stands_held t (sample s) head.head after there) in
+            omega (arith, low, head.least, opened.start, size, dropped, after.place, late),
+      )
+]
+
+-- a frame that begins what is held is decided
+frame_decided : (chars : List Character) (found : Found) → StandsIn found chars 0 → found.start ≡ 2 → IsUndecided chars → ⊥
+frame_decided chars found stands start undecided = elim undecided [
+  | inl empty ↦ empty found stands
+  | inr (place, opened, before) ↦ omega (arith, before found stands, start, opened.start)
+]
+
+-- a scanner whose characters begin with a frame gives one
+pub holds_gives : (old new : Scan) → HoldsFrame old → GivesNothing old new → ⊥
+holds_gives old new holds nothing = elim nothing [
+  | inl waits ↦ frame_decided old.held holds.0 holds.1 holds.2 (undecided_before old new waits.moves waits.undecided)
+  | inr ends ↦
+      ends.none holds.0 holds.1
+]
+
+-- nothing is given before the finish
+pub waits_only : (old new : Scan) → old.finished ≡ false → GivesNothing old new → Waits old new
+waits_only old new going nothing = elim nothing [
+  | inl waits ↦ waits
+  | inr ends ↦ absurd (false≢true (sym going ∙ ends.finished))
+]
+
+-- what is moved past is let go, and the rest is held
+pub moves_length : (a b : Scan) (given : List Found) → MovesPast a b given → b.first + length b.held ≡ a.first + length a.held
+moves_length a b given moves =
+    let old = hears_sample a in
+    let new = moves.heard [] (sample a) old in
+    let all = ap length (sym old.split ∙ new.split) in
+    omega (
+      arith,
+      all,
+      old.place,
+      new.place,
+      length-append old.prefix (a.held ++ []),
+      length-append new.prefix (b.held ++ []),
+      length-append a.held ([]),
+      length-append b.held ([]),
+    )
+
+-- a scanner that gives a frame holds less after it
+pub gives_onward : (old new : Scan) (found : Found) → Gives old new found → length new.held < length old.held
+gives_onward old new found gives =
+    let later = AreFrames-found (sample old) new.first in
+    let frames = gives.moves.frames [] (sample old) later.0 (hears_sample old) later.1 in
+    let stands = head_stands (sample old) old.first (found ∷ later.0) frames found later.0 refl in
+    let within = StandsIn-within found (sample old) old.first stands in
+    omega (arith, within.after, within.some, gives.stop, moves_length old new (found ∷ []) gives.moves)

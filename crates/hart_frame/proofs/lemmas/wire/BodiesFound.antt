@@ -1,0 +1,300 @@
+-- Whether bytes begin with a body is decided.
+use Rattle.std.proofs.Common.{◌≡◌, ◌≢◌, ℕ, zero, suc, fold, bit_xor, ◌+◌, ◌-◌, ◌*◌, ◌/◌, ◌%◌, ◌<◌, ◌≤◌, ◌⊎◌, inl, inr, Bool, true, false}
+use Rattle.std.proofs.Common.{List, [], ◌∷◌, length, take, drop, get_or, refl, sym, ap, ◌∙◌, arith, subst}
+use Rattle.std.specs.List.{All, slice_range}
+use Rattle.hart_values.specs.address.AddressBytes.{IsAddressBytes, first_byte}
+use Rattle.hart_values.specs.declared.master_id.MasterId.{MasterId}
+use Rattle.hart_values.specs.declared.master_id.MasterId.TheVariants.{Primary, Secondary}
+use Rattle.hart_values.specs.declared.address.Address.{Address}
+use Rattle.hart_values.specs.declared.address.Address.TheVariants.{Polling, Unique}
+use Rattle.std.proofs.lemmas.List.Elements.{All-from_get_or, All-get_or}
+use Rattle.std.proofs.lemmas.List.{get_or-take, get_or_past, length-take-le}
+use Rattle.std.proofs.lemmas.Grind.{get_or_after_one}
+use Rattle.hart_frame.specs.declared.wire.kind.FrameKind.{FrameKind}
+use Rattle.hart_frame.specs.declared.wire.kind.FrameKind.TheVariants.{Stx, Ack}
+use Rattle.hart_frame.specs.declared.wire.layout.Layout.{Layout}
+use Rattle.hart_frame.specs.wire.FrameParts.{FrameParts, IsLongEnough}
+use Rattle.hart_frame.specs.wire.Delimiter.{kind_code}
+use Rattle.hart_frame.specs.wire.Body.{IsCheckedPart, BeginsWithBody, HasNoBody}
+use Rattle.hart_frame.specs.wire.Layout.{Describes, delimiter_in, address_end, command_place, byte_count_place, byte_count_in, body_length}
+use Rattle.hart_frame.specs.wire.Refusal.{IsDelimiter, IsRefusedWith, HasByteCount, HasGoodByteCount, HasCheckByte}
+use Rattle.hart_frame.specs.wire.Parity.{IsCheckByte}
+use Rattle.hart_frame.specs.declared.wire.fault.FrameFault.{FrameFault}
+use Rattle.hart_frame.specs.declared.wire.fault.FrameFault.TheVariants.{BadDelimiter, Truncated, BadCheck, ShortReply}
+use Rattle.hart_frame.proofs.lemmas.wire.Parity.{IsCheckByte-fold, check-even}
+use Rattle.hart_frame.proofs.lemmas.wire.Body.{BeginsWithBody-prefix}
+use Rattle.hart_frame.proofs.lemmas.wire.Refusal.{says, not_refused}
+use Rattle.hart_frame.proofs.lemmas.wire.Layout.{IsCheckedPart-in, StandsByLayout, length-slice_range}
+
+-- what the first byte of an address holds
+pub record FirstByte (byte : ℕ) : Type 0 where
+  pub master : MasterId
+  pub burst : Bool
+  pub is : byte ≡ first_byte master burst (byte % 64)
+
+first_byte_read : (byte : ℕ) → byte < 256 → FirstByte byte
+first_byte_read byte below =
+    let top : (byte < 128) ⊎ (128 ≤ byte) = grind arith in
+    let next : (byte % 128 < 64) ⊎ (64 ≤ byte % 128) = grind arith in
+    elim top [
+      | inl low ↦ elim next [
+        | inl clear ↦ record { master = Secondary; burst = false; is = omega (arith, below, low, clear) }
+        | inr set ↦ record { master = Secondary; burst = true; is = omega (arith, below, low, set) }
+      ]
+      | inr high ↦ elim next [
+        | inl clear ↦ record { master = Primary; burst = false; is = omega (arith, below, high, clear) }
+        | inr set ↦ record { master = Primary; burst = true; is = omega (arith, below, high, set) }
+      ]
+    ]
+
+-- one byte, or five, hold an address
+pub record HeldAddress (bytes : List ℕ) : Type 0 where
+  pub master : MasterId
+  pub burst : Bool
+  pub address : Address
+  pub is : IsAddressBytes master burst address bytes
+
+one_byte : (byte : ℕ) → byte < 256 → HeldAddress (byte ∷ [])
+one_byte byte below =
+    let first = first_byte_read byte below in
+    record {
+      master = first.master;
+      burst = first.burst;
+      address = Polling (byte % 64);
+      is = (omega arith, ap (λ (b : ℕ). b ∷ []) first.is);
+    }
+
+five_bytes : (a b c d e : ℕ) → All (λ byte. byte < 256) (a ∷ b ∷ c ∷ d ∷ e ∷ []) → HeldAddress (a ∷ b ∷ c ∷ d ∷ e ∷ [])
+five_bytes a b c d e fit =
+    let first = first_byte_read a (fit 0 0 (omega arith)) in
+    record {
+      master = first.master;
+      burst = first.burst;
+      address = Unique (record { expanded_type = 256 * (a % 64) + b; device_id = 65536 * c + 256 * d + e });
+      is = record {
+        type_high = a % 64;
+        type_low = b;
+        id_high = c;
+        id_middle = d;
+        id_low = e;
+        five = ap (λ (x : ℕ). x ∷ b ∷ c ∷ d ∷ e ∷ []) first.is;
+        ranges = (omega arith, fit 1 0 (omega arith), fit 2 0 (omega arith), fit 3 0 (omega arith), fit 4 0 (omega arith));
+        expanded_type = refl;
+        device_id = refl;
+      };
+    }
+
+held_address : (bytes : List ℕ) (form : ℕ) → All (λ byte. byte < 256) bytes → form < 2 → length bytes ≡ 1 + 4 * form → HeldAddress bytes
+held_address [] form fit either long = absurd (omega (arith, long))
+held_address (a ∷ []) form fit either long = one_byte a (fit 0 0 (omega arith))
+held_address (a ∷ b ∷ []) form fit either long = absurd (omega (arith, long))
+held_address (a ∷ b ∷ c ∷ []) form fit either long = absurd (omega (arith, long))
+held_address (a ∷ b ∷ c ∷ d ∷ []) form fit either long = absurd (omega (arith, long))
+held_address (a ∷ b ∷ c ∷ d ∷ e ∷ []) form fit either long = five_bytes a b c d e fit
+held_address (a ∷ b ∷ c ∷ d ∷ e ∷ f ∷ more) form fit either long = absurd (omega (arith, either, long))
+
+-- the kind that a delimiter gives
+pub record HeldKind (byte : ℕ) : Type 0 where
+  pub kind : FrameKind
+  pub is : kind_code kind ≡ byte % 8
+
+held_kind : (byte : ℕ) → IsDelimiter byte → HeldKind byte
+held_kind byte delimiter = elim delimiter.1 [
+  | inl stx ↦ record { kind = Stx; is = sym stx }
+  | inr ack ↦ record { kind = Ack; is = sym ack }
+]
+
+pub long_enough : (kind : FrameKind) (payload : List ℕ) (byte count : ℕ) → kind_code kind ≡ byte % 8 → length payload ≡ count
+    → (byte % 8 ≡ 2) ⊎ (2 ≤ count) → IsLongEnough kind payload
+long_enough Stx payload byte count is long good = tt
+long_enough Ack payload byte count is long good = elim good [
+  | inl stx ↦ absurd (omega (arith, is, stx))
+  | inr enough ↦ omega (arith, long, enough)
+]
+
+-- the first so many bytes fit
+abbrev pub Fit : List ℕ → ℕ → Type 0
+Fit bytes n = (k : ℕ) → k < n → get_or bytes k 0 < 256
+
+-- or one of them does not
+pub record Unfit (bytes : List ℕ) (n : ℕ) : Type 0 where
+  pub place : ℕ
+  pub below : place < n
+  pub large : 256 ≤ get_or bytes place 0
+
+fit_more : (bytes : List ℕ) (n : ℕ) → Fit bytes n → get_or bytes n 0 < 256 → Fit bytes (suc n)
+fit_more bytes n fits small k below =
+    let cases : (k < n) ⊎ (k ≡ n) = grind arith in
+    elim cases [
+      | inl before ↦ fits k before
+      | inr last ↦ rw last small
+    ]
+
+fit_decided : (bytes : List ℕ) (n : ℕ) → Fit bytes n ⊎ Unfit bytes n
+fit_decided bytes zero = inl (λ k below. absurd (omega (arith, below)))
+fit_decided bytes (suc n) = elim (fit_decided bytes n) [
+  | inr unfit ↦ inr (record { place = unfit.place; below = omega (arith, unfit.below); large = unfit.large })
+  | inl fits ↦
+      let cases : (get_or bytes n 0 < 256) ⊎ (256 ≤ get_or bytes n 0) = grind arith in
+      elim cases [
+        | inl small ↦ inl (fit_more bytes n fits small)
+        | inr large ↦ inr (record { place = n; below = omega arith; large = large })
+      ]
+]
+
+fit_range : (bytes : List ℕ) (n i : ℕ) → Fit bytes n → 1 ≤ i → i ≤ n → i ≤ length bytes → All (λ byte. byte < 256) (slice_range bytes 1 i)
+fit_range bytes n i fits some low within =
+    All-from_get_or (λ byte. byte < 256) (slice_range bytes 1 i) 0 (λ k below.
+    let long = length-slice_range bytes 1 i some within in
+    let at = get_or-take (i - 1) (drop 1 bytes) k 0 (omega (arith, below, long)) in
+    let here : get_or (drop 1 bytes) k 0 ≡ get_or bytes (1 + k) 0 = get_or_after_one bytes k 0 in
+    omega (arith, at, here, fits (1 + k) (omega (arith, below, long))))
+
+-- bytes that go on to their check byte hold a frame
+pub record HeldFrame (bytes : List ℕ) : Type 0 where
+  pub frame : FrameParts
+  pub part : IsCheckedPart frame (take (body_length bytes - 1) bytes)
+
+pub held_frame : (bytes : List ℕ) → Fit bytes (body_length bytes) → HasCheckByte bytes → HeldFrame bytes
+held_frame bytes fits whole =
+    let said = held_kind (delimiter_in bytes) whole.0.0.0.1 in
+    let i = address_end bytes in
+    let j = command_place bytes in
+    let n = byte_count_in bytes in
+    let small : delimiter_in bytes < 256 = fits 0 (omega arith) in
+    let range_fit = fit_range bytes (body_length bytes) i fits (omega arith) (omega arith) (omega (arith, whole.1)) in
+    let held = held_address (slice_range bytes 1 i) (delimiter_in bytes / 128) range_fit (omega arith)
+    (length-slice_range bytes 1 i (omega arith) (omega (arith, whole.0.0.1)) ∙ omega arith) in
+    let layout : Layout = record { kind = said.kind; address_end = i; command_place = j; byte_count = n } in
+    let payload = slice_range bytes (j + 2) (j + 2 + n) in
+    let frame : FrameParts = record {
+      kind = said.kind;
+      master = held.master;
+      burst = held.burst;
+      address = held.address;
+      expansion = slice_range bytes i j;
+      command = get_or bytes j 0;
+      payload = payload;
+    } in
+    let describes : Describes layout bytes = record { kind = said.is; address = refl; command = refl; count = refl } in
+    let payload_len = length-slice_range bytes (j + 2) (j + 2 + n) (omega arith) (omega (arith, whole.1)) in
+    let stands : StandsByLayout bytes layout frame = record {
+      kind = refl;
+      address = held.is;
+      expansion = refl;
+      command = refl;
+      payload = refl;
+      payload_fits = long_enough said.kind payload (delimiter_in bytes) n said.is (payload_len ∙ omega arith) whole.0.1;
+    } in
+    record { frame = frame; part = IsCheckedPart-in bytes layout frame describes whole stands }
+
+-- bytes begin with some body
+pub record BodyAhead (bytes : List ℕ) : Type 0 where
+  pub frame : FrameParts
+  pub len : ℕ
+  pub begins : BeginsWithBody bytes frame len
+
+refused_for : (bytes : List ℕ) (fault : FrameFault) → IsRefusedWith bytes fault → HasNoBody bytes
+refused_for bytes fault refused f len begins = not_refused bytes f len fault begins refused
+
+-- bytes up to a check byte of even parity are a body
+pub even_body : (bytes : List ℕ) (len : ℕ) → len ≡ body_length bytes → HasCheckByte bytes → All (λ byte. byte < 256) (take len bytes)
+    → IsCheckByte (take len bytes) 0 → (frame : FrameParts) × BeginsWithBody bytes frame len
+even_body bytes len is whole fit check =
+    let long = length-take-le len bytes (omega (arith, is, whole.1)) in
+    let fits : Fit bytes (body_length bytes) = λ k below.
+    let small : get_or (take len bytes) k 0 < 256 =
+    All-get_or (λ byte. byte < 256) (take len bytes) k 0 (omega (arith, long, is, below)) fit in
+    omega (arith, small, get_or-take len bytes k 0 (omega (arith, is, below))) in
+    let held = held_frame bytes fits whole in
+    let IsPart : ℕ → Type 0 = λ n. IsCheckedPart held.frame (take (n - 1) bytes) in (
+      held.frame,
+      BeginsWithBody-prefix bytes held.frame len (omega (arith, is)) (omega (arith, is, whole.1)) fit (subst IsPart (sym is) held.part)
+          check,
+    )
+
+-- if the bytes fit up to the check byte, it decides
+checked : (bytes : List ℕ) → HasCheckByte bytes → Fit bytes (body_length bytes) → BodyAhead bytes ⊎ HasNoBody bytes
+checked bytes whole fits =
+    let len = body_length bytes in
+    let prefix = take len bytes in
+    let prefix_len = length-take-le len bytes whole.1 in
+    let at : (k : ℕ) → get_or prefix k 0 < 256 = λ k.
+    let cases : (k < len) ⊎ (len ≤ k) = grind arith in
+    elim cases [
+      | inl below ↦ omega (arith, get_or-take len bytes k 0 below, fits k below)
+      | inr past ↦ omega (arith, get_or_past prefix k 0 (omega (arith, prefix_len, past)))
+    ] in
+    let check = fold bit_xor 0 prefix in
+    let is = IsCheckByte-fold prefix check at refl in
+    let fit : All (λ byte. byte < 256) prefix = All-from_get_or (λ byte. byte < 256) prefix 0 (λ k below. at k) in
+    let cases : (check ≡ 0) ⊎ (0 < check) = grind arith in
+    let Is : ℕ → Type 0 = λ c. IsCheckByte prefix c in
+    elim cases [
+      | inl even ↦
+          let body = even_body bytes len refl whole fit (subst Is even is) in
+          inl (record { frame = body.0; len = len; begins = body.1 })
+      | inr odd ↦ inr (refused_for bytes BadCheck (whole, λ parity. omega (arith, check-even prefix check is parity, odd)))
+    ]
+
+-- otherwise one of them does not fit
+unfit : (bytes : List ℕ) → Unfit bytes (body_length bytes) → HasNoBody bytes
+unfit bytes large f len begins =
+    let said = says bytes f len begins in
+    let long = length-take-le len bytes begins.within in
+    let small : get_or (take len bytes) large.place 0 < 256 =
+    All-get_or (λ byte. byte < 256) (take len bytes) large.place 0
+    (omega (arith, long, said.whole, large.below)) begins.body.bytes_fit in
+    omega (arith, small, get_or-take len bytes large.place 0 (omega (arith, said.whole, large.below)), large.large)
+
+counted : (bytes : List ℕ) → HasGoodByteCount bytes → BodyAhead bytes ⊎ HasNoBody bytes
+counted bytes good =
+    let cases : (body_length bytes ≤ length bytes) ⊎ (length bytes < body_length bytes) = grind arith in
+    elim cases [
+      | inr short ↦ inr (refused_for bytes Truncated (inr (inr (good, short))))
+      | inl long ↦ elim (fit_decided bytes (body_length bytes)) [
+        | inl fits ↦ checked bytes (good, long) fits
+        | inr large ↦ inr (unfit bytes large)
+      ]
+    ]
+
+with_byte_count : (bytes : List ℕ) → HasByteCount bytes → BodyAhead bytes ⊎ HasNoBody bytes
+with_byte_count bytes has = elim has.0.1.1 [
+  | inl stx ↦ counted bytes (has, inl stx)
+  | inr ack ↦
+      let cases : (2 ≤ byte_count_in bytes) ⊎ (byte_count_in bytes < 2) = grind arith in
+      elim cases [
+        | inl enough ↦ counted bytes (has, inr enough)
+        | inr few ↦ inr (refused_for bytes ShortReply (has, ack, few))
+      ]
+]
+
+-- whether a byte is a delimiter
+delimiter_decided : (byte : ℕ) → IsDelimiter byte ⊎ (IsDelimiter byte → ⊥)
+delimiter_decided byte =
+    let layers : (byte / 8 % 4 ≡ 0) ⊎ (0 < byte / 8 % 4) = grind arith in
+    let kinds : (byte % 8 ≡ 2) ⊎ (byte % 8 ≡ 6) ⊎ ((byte % 8 ≢ 2) × (byte % 8 ≢ 6)) = grind arith in
+    elim layers [
+      | inr other ↦ inr (λ is. omega (arith, is.0, other))
+      | inl wired ↦ elim kinds [
+        | inl stx ↦ inl (wired, inl stx)
+        | inr (inl ack) ↦ inl (wired, inr ack)
+        | inr (inr neither) ↦ inr (λ is. elim is.1 [ inl stx ↦ neither.0 stx | inr ack ↦ neither.1 ack ])
+      ]
+    ]
+
+-- whether bytes begin with a body
+pub body_decided : (bytes : List ℕ) → BodyAhead bytes ⊎ HasNoBody bytes
+body_decided bytes =
+    let some : (length bytes ≡ 0) ⊎ (0 < length bytes) = grind arith in
+    let long : (byte_count_place bytes < length bytes) ⊎ (length bytes ≤ byte_count_place bytes) = grind arith in
+    elim some [
+      | inl none ↦ inr (refused_for bytes Truncated (inl none))
+      | inr any ↦ elim (delimiter_decided (delimiter_in bytes)) [
+        | inr bad ↦ inr (refused_for bytes BadDelimiter (any, bad))
+        | inl good ↦ elim long [
+          | inl whole ↦ with_byte_count bytes ((any, good), whole)
+          | inr short ↦ inr (refused_for bytes Truncated (inr (inl ((any, good), short))))
+        ]
+      ]
+    ]

@@ -1,0 +1,105 @@
+-- The parts that a layout cuts out of bytes are, joined again, the bytes.
+use Rattle.std.proofs.Common.{◌≡◌, ℕ, suc, ◌+◌, ◌-◌, ◌*◌, ◌/◌, ◌%◌, ◌<◌, ◌≤◌, List, ◌∷◌, ◌++◌, length, take, drop, get_or, sym, ap, ◌∙◌}
+use Rattle.std.proofs.Common.{arith, length-drop}
+use Rattle.std.specs.List.{slice_range}
+use Rattle.std.proofs.Math.Seq.{take-add}
+use Rattle.std.proofs.lemmas.List.{drop-drop, drop_more, length-take-le}
+use Rattle.hart_values.specs.address.AddressBytes.{IsAddressBytes}
+use Rattle.hart_frame.specs.declared.wire.layout.Layout.{Layout}
+use Rattle.hart_frame.specs.wire.FrameParts.{FrameParts, IsLongEnough}
+use Rattle.hart_frame.specs.wire.Delimiter.{delimiter_of, kind_code}
+use Rattle.hart_frame.specs.wire.Layout.{Describes, delimiter_in, body_length}
+use Rattle.hart_frame.specs.wire.Refusal.{HasCheckByte, IsDelimiter}
+use Rattle.hart_frame.specs.wire.Body.{IsCheckedPart}
+use Rattle.hart_frame.proofs.lemmas.wire.UnambiguousBodies.{length-address}
+
+-- a range and the next range are one range
+slice_range-join : (xs : List ℕ) (a b c : ℕ) → a ≤ b → b ≤ c → slice_range xs a b ++ slice_range xs b c ≡ slice_range xs a c
+slice_range-join xs a b c ab bc =
+    let split = take-add (b - a) (c - b) (drop a xs) in
+    let dropped : drop (b - a) (drop a xs) ≡ drop b xs = drop-drop (b - a) a xs ∙ ap (λ n. drop n xs) (omega arith) in
+    let whole : c - a ≡ (b - a) + (c - b) = omega arith in
+    sym (ap (λ n. take n (drop a xs)) whole ∙ split ∙ ap (λ (ys : List ℕ). take (b - a) (drop a xs) ++ take (c - b) ys) dropped)
+
+-- a range is its first element and the rest
+slice_range-first : (xs : List ℕ) (a c : ℕ) → a < c → a < length xs → get_or xs a 0 ∷ slice_range xs (a + 1) c ≡ slice_range xs a c
+slice_range-first xs a c ac within =
+    let rest = drop_more xs a 0 within in
+    let count : c - a ≡ suc (c - (a + 1)) = omega arith in
+    sym (ap (λ n. take n (drop a xs)) count ∙ ap (take (suc (c - (a + 1)))) rest)
+
+-- a prefix of some bytes: one byte, a range, a range, two bytes, and a range
+cut : (xs : List ℕ) (i j k : ℕ) → 1 ≤ i → i ≤ j → j + 2 ≤ k → k ≤ length xs
+    → take k xs ≡ get_or xs 0 0 ∷ slice_range xs 1 i ++ slice_range xs i j ++ get_or xs j 0 ∷ get_or xs (j + 1) 0 ∷ slice_range xs (j + 2) k
+cut xs i j k low middle high within =
+    let first = slice_range-first xs 0 i (omega arith) (omega arith) in
+    let prefix : get_or xs 0 0 ∷ slice_range xs 1 i ++ slice_range xs i j ≡ slice_range xs 0 j =
+    ap (λ (ys : List ℕ). ys ++ slice_range xs i j) first ∙ slice_range-join xs 0 i j (omega arith) middle in
+    let counted = slice_range-first xs (j + 1) k (omega arith) (omega arith) in
+    let places : j + 1 + 1 ≡ j + 2 = omega arith in
+    let last : get_or xs (j + 1) 0 ∷ slice_range xs (j + 2) k ≡ slice_range xs (j + 1) k =
+    ap (λ n. get_or xs (j + 1) 0 ∷ slice_range xs n k) (sym places) ∙ counted in
+    let back : get_or xs j 0 ∷ get_or xs (j + 1) 0 ∷ slice_range xs (j + 2) k ≡ slice_range xs j k =
+    ap (λ (ys : List ℕ). get_or xs j 0 ∷ ys) last ∙ slice_range-first xs j k (omega arith) (omega arith) in
+    let all : slice_range xs 0 k ≡ take k xs = ap (λ n. take n xs) (omega arith) in
+    sym (ap (λ (ys : List ℕ). ys ++ get_or xs j 0 ∷ get_or xs (j + 1) 0 ∷ slice_range xs (j + 2) k) prefix
+    ∙ ap (λ (ys : List ℕ). slice_range xs 0 j ++ ys) back ∙ slice_range-join xs 0 j k (omega arith) (omega arith) ∙ all)
+
+-- what stands in the bytes where the layout says
+pub record StandsByLayout (bytes : List ℕ) (layout : Layout) (frame : FrameParts) : Type 0 where
+  pub kind : frame.kind ≡ layout.kind
+  pub address : IsAddressBytes frame.master frame.burst frame.address (slice_range bytes 1 layout.address_end)
+  pub expansion : frame.expansion ≡ slice_range bytes layout.address_end layout.command_place
+  pub command : frame.command ≡ get_or bytes layout.command_place 0
+  pub payload : frame.payload ≡ slice_range bytes (layout.command_place + 2) (layout.command_place + 2 + layout.byte_count)
+  pub payload_fits : IsLongEnough frame.kind frame.payload
+
+-- how long a range is
+pub length-slice_range : (xs : List ℕ) (a b : ℕ) → a ≤ b → b ≤ length xs → length (slice_range xs a b) ≡ b - a
+length-slice_range xs a b ab within = length-take-le (b - a) (drop a xs) (omega (arith, length-drop a xs))
+
+-- a delimiter that is decoded is made of its parts
+delimiter-parts : (delimiter : ℕ) → IsDelimiter delimiter
+    → delimiter ≡ 128 * (delimiter / 128) + 32 * (delimiter / 32 % 4) + delimiter % 8
+delimiter-parts delimiter taken = omega (arith, taken.0)
+
+-- equal parts join to equal lists
+joined : (address : List ℕ) {d e c f l m : ℕ} {xs ys ps qs : List ℕ} → d ≡ e → xs ≡ ys → c ≡ f → l ≡ m → ps ≡ qs
+    → d ∷ address ++ xs ++ c ∷ l ∷ ps ≡ e ∷ address ++ ys ++ f ∷ m ∷ qs
+joined address {d} {e} {c} {f} {l} {m} {xs} {ys} {ps} {qs} delimiters expansions commands counts payloads =
+    let of : ℕ → List ℕ → ℕ → ℕ → List ℕ → List ℕ = λ d xs c l ps. d ∷ address ++ xs ++ c ∷ l ∷ ps in
+    let all : of d xs c l ps ≡ of e ys f m qs = cc in
+    all
+
+-- what stands in the bytes by their layout is what the check byte covers
+pub IsCheckedPart-in : (bytes : List ℕ) (layout : Layout) (frame : FrameParts) → Describes layout bytes → HasCheckByte bytes
+    → StandsByLayout bytes layout frame → IsCheckedPart frame (take (body_length bytes - 1) bytes)
+IsCheckedPart-in bytes layout frame describes whole stands =
+    let i = layout.address_end in
+    let j = layout.command_place in
+    let n = layout.byte_count in
+    let long : j + 3 + n ≤ length bytes = omega (arith, whole.1, describes.address, describes.command, describes.count) in
+    let expansion_len : length frame.expansion ≡ j - i =
+    ap length stands.expansion ∙ length-slice_range bytes i j (omega (arith, describes.address, describes.command)) (omega arith) in
+    let payload_len : length frame.payload ≡ n =
+    ap length stands.payload ∙ length-slice_range bytes (j + 2) (j + 2 + n) (omega arith) (omega arith) ∙ omega arith in
+    let address_len = length-address _ _ _ _ stands.address in
+    let range_len = length-slice_range bytes 1 i (omega (arith, describes.address)) (omega (arith, describes.address, describes.command)) in
+    let kind : kind_code frame.kind ≡ delimiter_in bytes % 8 = ap kind_code stands.kind ∙ describes.kind in
+    let whole_delimiter = delimiter-parts (delimiter_in bytes) whole.0.0.0.1 in
+    let delimiter : get_or bytes 0 0 ≡ delimiter_of frame =
+    omega (arith, whole_delimiter, kind, expansion_len, address_len, range_len, describes.address, describes.command) in
+    let count : get_or bytes (j + 1) 0 ≡ length frame.payload =
+    ap (λ (place : ℕ). get_or bytes (place + 1) 0) describes.command ∙ sym describes.count ∙ sym payload_len in
+    let prefix : body_length bytes - 1 ≡ j + 2 + n = omega (arith, describes.command, describes.count) in
+    let parts =
+    cut bytes i j (j + 2 + n) (omega (arith, describes.address)) (omega (arith, describes.address, describes.command)) (omega arith)
+    (omega arith) in
+    record {
+      address = slice_range bytes 1 i;
+      address_bytes = stands.address;
+      parts = ap (λ (k : ℕ). take k bytes) prefix ∙ parts
+          ∙ joined (slice_range bytes 1 i) delimiter (sym stands.expansion) (sym stands.command) count (sym stands.payload);
+      expansion_fits = omega (arith, expansion_len, describes.address, describes.command);
+      payload_fits = stands.payload_fits;
+    }

@@ -1,0 +1,156 @@
+-- What begins with a body is not refused.
+use Rattle.std.proofs.Common.{◌≡◌, ℕ, ◌+◌, ◌*◌, ◌/◌, ◌%◌, ◌<◌, ◌≤◌, ◌⊎◌, inl, inr, List, [], ◌∷◌, ◌++◌, length, take, drop, get_or, sym, ap}
+use Rattle.std.proofs.Common.{◌∙◌, arith, append_assoc, length-append, subst, Result, Ok, Err}
+use Rattle.std.specs.Result.{IfOk, IfErr}
+use Rattle.std.proofs.lemmas.List.Elements.{All-get_or}
+use Rattle.std.proofs.lemmas.List.{length-take-le, take-append-drop, get_or_at, take_all}
+use Rattle.hart_frame.specs.declared.wire.kind.FrameKind.{FrameKind}
+use Rattle.hart_frame.specs.declared.wire.kind.FrameKind.TheVariants.{Stx, Ack}
+use Rattle.hart_frame.specs.declared.wire.fault.FrameFault.{FrameFault}
+use Rattle.hart_frame.specs.declared.wire.fault.FrameFault.TheVariants.{TooShortReply, BadPreamble, BadDelimiter, Truncated, BadCheck}
+use Rattle.hart_frame.specs.declared.wire.fault.FrameFault.TheVariants.{ShortReply}
+use Rattle.hart_frame.specs.wire.FrameParts.{FrameParts, IsLongEnough}
+use Rattle.hart_frame.specs.wire.Delimiter.{delimiter_of, kind_code, address_type}
+use Rattle.hart_frame.specs.wire.Parity.{HasEvenParity}
+use Rattle.hart_frame.specs.wire.Layout.{delimiter_in, byte_count_place, byte_count_in, body_length}
+use Rattle.hart_frame.specs.wire.Refusal.{IsRefusedWith, IsDelimiter, HasGoodByteCount}
+use Rattle.hart_frame.specs.wire.Body.{IsBody, IsCheckedPart, BeginsWithBody}
+use Rattle.hart_frame.proofs.lemmas.wire.UnambiguousBodies.{length-address, address_type-lt, kind_code-is, spread}
+
+-- what a list that begins with a frame's body says of it
+pub record Says (bytes : List ℕ) (f : FrameParts) (len : ℕ) : Type 0 where
+  pub delimiter : delimiter_in bytes ≡ delimiter_of f
+  pub place : byte_count_place bytes ≡ 3 + 4 * address_type f.address + length f.expansion
+  pub count : byte_count_in bytes ≡ length f.payload
+  pub whole : len ≡ body_length bytes
+  pub within : len ≤ length bytes
+
+-- how long the checked part is
+length-checked : (f : FrameParts) (checked : List ℕ) (part : IsCheckedPart f checked)
+    → length checked ≡ 4 + 4 * address_type f.address + length f.expansion + length f.payload
+length-checked f checked part =
+    let address = length-address _ _ _ _ part.address_bytes in
+    let parts = ap length part.parts in
+    let all = length-append (delimiter_of f ∷ part.address ++ f.expansion) (f.command ∷ length f.payload ∷ f.payload) in
+    let prefix = length-append (delimiter_of f ∷ part.address) f.expansion in
+    omega (arith, parts, all, prefix, address)
+
+kind_code-either : (byte : ℕ) (kind : FrameKind) → byte % 8 ≡ kind_code kind → (byte % 8 ≡ 2) ⊎ (byte % 8 ≡ 6)
+kind_code-either byte Stx low = inl low
+kind_code-either byte Ack low = inr low
+
+-- the delimiter of a frame with at most 3 expansion bytes is one of this profile
+pub IsDelimiter-of : (f : FrameParts) → length f.expansion ≤ 3 → IsDelimiter (delimiter_of f)
+IsDelimiter-of f few =
+    let kind = kind_code-is f.kind in
+    let form : address_type f.address < 2 = address_type-lt f.address in
+    let low : delimiter_of f % 8 ≡ kind_code f.kind = omega (arith, kind, form, few) in
+    let layer : delimiter_of f / 8 % 4 ≡ 0 = omega (arith, kind, form, few) in
+    (layer, kind_code-either (delimiter_of f) f.kind low)
+
+pub says : (bytes : List ℕ) (f : FrameParts) (len : ℕ) → BeginsWithBody bytes f len → Says bytes f len
+says bytes f len begins =
+    let part = begins.body.checked_part in
+    let rest = drop len bytes in
+    let whole = sym (take-append-drop len bytes) ∙ spread f (take len bytes) rest begins.body in
+    let delimiter : delimiter_in bytes ≡ delimiter_of f = ap (λ (xs : List ℕ). get_or xs 0 0) whole in
+    let few : address_type f.address < 2 = address_type-lt f.address in
+    let kind = kind_code-is f.kind in
+    let place : byte_count_place bytes ≡ 3 + 4 * address_type f.address + length f.expansion =
+    omega (arith, delimiter, few, kind, part.expansion_fits) in
+    let prefix : List ℕ = delimiter_of f ∷ part.address ++ f.expansion ++ f.command ∷ [] in
+    let regrouped : bytes ≡ prefix ++ length f.payload ∷ (f.payload ++ begins.body.check ∷ rest) = whole ∙ simp append_assoc in
+    let address = length-address _ _ _ _ part.address_bytes in
+    let prefix_len : length prefix ≡ byte_count_place bytes =
+    omega (
+      arith,
+      place,
+      address,
+      length-append (delimiter_of f ∷ part.address ++ f.expansion) (f.command ∷ []),
+      length-append (delimiter_of f ∷ part.address) f.expansion,
+    ) in
+    let count : byte_count_in bytes ≡ length f.payload =
+    ap (λ (xs : List ℕ). get_or xs (byte_count_place bytes) 0) regrouped
+    ∙ get_or_at prefix (length f.payload) _ 0 (byte_count_place bytes) prefix_len in
+    let taken_len : length (take len bytes) ≡ len = length-take-le len bytes begins.within in
+    let body_len = ap length begins.body.parts ∙ length-append begins.body.checked (begins.body.check ∷ []) in
+    record {
+      delimiter = delimiter;
+      place = place;
+      count = count;
+      whole = omega (arith, taken_len, body_len, length-checked f begins.body.checked part, place, count);
+      within = begins.within;
+    }
+
+-- a reply has its two status bytes
+not_short : (kind : FrameKind) (payload : List ℕ) → IsLongEnough kind payload → length payload < 2 → kind_code kind ≡ 6 → ⊥
+not_short Stx payload long short ack = omega arith
+not_short Ack payload long short ack = omega arith
+
+-- a list that begins with a body is refused with no fault
+pub not_refused : (bytes : List ℕ) (f : FrameParts) (len : ℕ) (fault : FrameFault)
+    → BeginsWithBody bytes f len → IsRefusedWith bytes fault → ⊥
+not_refused bytes f len TooShortReply begins refused = refused
+not_refused bytes f len BadPreamble begins refused = refused
+not_refused bytes f len BadDelimiter begins refused =
+    refused.1 (subst IsDelimiter (sym (says bytes f len begins).delimiter) (IsDelimiter-of f begins.body.checked_part.expansion_fits))
+not_refused bytes f len Truncated begins refused =
+    let said = says bytes f len begins in
+    elim refused [
+      | inl empty ↦ omega (arith, said, empty)
+      | inr (inl no_count) ↦ omega (arith, said, no_count.1)
+      | inr (inr no_check) ↦ omega (arith, said, no_check.1)
+    ]
+not_refused bytes f len BadCheck begins refused =
+    let said = says bytes f len begins in
+    let HasParity : ℕ → Type 0 = λ n. HasEvenParity (take n bytes) in
+    refused.1 (subst HasParity said.whole begins.body.parity)
+not_refused bytes f len ShortReply begins refused =
+    let said = says bytes f len begins in
+    let kind = kind_code-is f.kind in
+    let few : address_type f.address < 2 = address_type-lt f.address in
+    not_short f.kind f.payload begins.body.checked_part.payload_fits (omega (arith, said.count, refused.2))
+    (omega (arith, said.delimiter, refused.1, kind, few, begins.body.checked_part.expansion_fits))
+
+-- a body has at most 267 bytes
+pub IsBody-short : (f : FrameParts) (body : List ℕ) → IsBody f body → length body ≤ 267
+IsBody-short f body is =
+    let Is : List ℕ → Type 0 = λ bytes. IsBody f bytes in
+    let begins : BeginsWithBody body f (length body) = record {
+      within = omega arith;
+      body = subst Is (sym (take_all (length body) body (omega arith))) is;
+    } in
+    let said = says body f (length body) begins in
+    let few : address_type f.address < 2 = address_type-lt f.address in
+    let count : byte_count_in body < 256 =
+    All-get_or (λ byte. byte < 256) body (byte_count_place body) 0 (omega (arith, said.whole)) is.bytes_fit in
+    omega (arith, said.whole, said.place, few, count, is.checked_part.expansion_fits)
+
+-- a list that begins with a body has a byte count that its kind allows
+count_allowed : (kind : FrameKind) (payload : List ℕ) (byte count : ℕ) → IsLongEnough kind payload → byte % 8 ≡ kind_code kind
+    → count ≡ length payload → (byte % 8 ≡ 2) ⊎ (2 ≤ count)
+count_allowed Stx payload byte count long low same = inl low
+count_allowed Ack payload byte count long low same = inr (omega (arith, long, same))
+
+pub HasGoodByteCount-body : (bytes : List ℕ) (f : FrameParts) (len : ℕ) → BeginsWithBody bytes f len → HasGoodByteCount bytes
+HasGoodByteCount-body bytes f len begins =
+    let said = says bytes f len begins in
+    let part = begins.body.checked_part in
+    let is = subst IsDelimiter (sym said.delimiter) (IsDelimiter-of f part.expansion_fits) in
+    let kind = kind_code-is f.kind in
+    let few : address_type f.address < 2 = address_type-lt f.address in
+    let low : delimiter_in bytes % 8 ≡ kind_code f.kind = omega (arith, said.delimiter, kind, few, part.expansion_fits) in (
+      ((omega (arith, said.whole, said.within), is), omega (arith, said.whole, said.within)),
+      count_allowed f.kind f.payload (delimiter_in bytes) (byte_count_in bytes) part.payload_fits low said.count,
+    )
+
+pub only : ((f g : FrameParts) (bytes : List ℕ) (m n : ℕ) → BeginsWithBody bytes f m → BeginsWithBody bytes g n → (f ≡ g) × (m ≡ n))
+    → (bytes : List ℕ) (result : Result (FrameParts × ℕ) FrameFault)
+    → IfOk result (λ found. BeginsWithBody bytes found.0 found.1) → IfErr result (IsRefusedWith bytes)
+    → (f : FrameParts) (len : ℕ) → BeginsWithBody bytes f len → result ≡ Ok (f, len)
+only law bytes (Ok found) accepts refused f len begins =
+    let same = law found.0 f bytes found.1 len accepts begins in
+    let of : FrameParts → ℕ → Result (FrameParts × ℕ) FrameFault = λ g n. Ok (g, n) in
+    let all : of found.0 found.1 ≡ of f len = cc in
+    all
+only law bytes (Err fault) accepts refused f len begins = absurd (not_refused bytes f len fault begins refused)

@@ -1,0 +1,198 @@
+-- Bytes that end too early are those that can become a body.
+use Rattle.std.proofs.Common.{◌≡◌, ℕ, fold, bit_xor, ◌+◌, ◌-◌, ◌%◌, ◌<◌, ◌≤◌, ◌⊎◌, inl, inr, List, [], ◌∷◌, ◌++◌, length, take, get_or}
+use Rattle.std.proofs.Common.{replicate, refl, sym, ap, ◌∙◌, arith, append_assoc, length-append, subst}
+use Rattle.std.specs.List.{All}
+use Rattle.std.proofs.Math.ListN.{get_or-append}
+use Rattle.std.proofs.lemmas.List.{take_at, take_all, take-append-le, get_or_at, get_or_past, length-replicate}
+use Rattle.std.proofs.lemmas.List.Elements.{All-append, All-replicate, All-push, All-get_or}
+use Rattle.hart_frame.specs.declared.wire.kind.FrameKind.{FrameKind}
+use Rattle.hart_frame.specs.declared.wire.kind.FrameKind.TheVariants.{Stx, Ack}
+use Rattle.hart_frame.specs.wire.FrameParts.{FrameParts, IsLongEnough}
+use Rattle.hart_frame.specs.wire.Delimiter.{delimiter_of, kind_code, address_type}
+use Rattle.hart_frame.specs.wire.Body.{IsBody, IsCheckedPart, BeginsWithBody, HasNoBody, CanBecomeBody}
+use Rattle.hart_frame.specs.wire.Layout.{delimiter_in, byte_count_place, byte_count_in, body_length}
+use Rattle.hart_frame.specs.wire.Parity.{IsCheckByte}
+use Rattle.hart_frame.specs.wire.Refusal.{IsDelimiter, HasDelimiter, HasGoodByteCount, IsTruncated}
+use Rattle.hart_frame.proofs.lemmas.wire.Parity.{IsCheckByte-fold}
+use Rattle.hart_frame.proofs.lemmas.wire.Body.{IsBody-push}
+use Rattle.hart_frame.proofs.lemmas.wire.UnambiguousBodies.{address_type-lt, kind_code-is}
+use Rattle.hart_frame.proofs.lemmas.wire.Refusal.{says, IsDelimiter-of}
+use Rattle.hart_frame.proofs.lemmas.wire.BodiesFound.{held_frame, Fit}
+
+-- every element is a byte
+abbrev AreBytes : List ℕ → Type 0
+AreBytes bytes = All (λ byte. byte < 256) bytes
+
+fits_at : (bytes : List ℕ) → AreBytes bytes → (i : ℕ) → get_or bytes i 0 < 256
+fits_at bytes fit i =
+    let cases : (i < length bytes) ⊎ (length bytes ≤ i) = grind arith in
+    elim cases [
+      | inl below ↦ All-get_or (λ byte. byte < 256) bytes i 0 below fit
+      | inr past ↦ omega (arith, get_or_past bytes i 0 past)
+    ]
+
+-- what follows changes neither the delimiter, nor where the byte count stands, nor the byte count
+delimiter_in-append : (bytes rest : List ℕ) → 0 < length bytes → delimiter_in (bytes ++ rest) ≡ delimiter_in bytes
+delimiter_in-append bytes rest some = get_or-append bytes rest 0 0 some
+
+byte_count_place-append : (bytes rest : List ℕ) → 0 < length bytes → byte_count_place (bytes ++ rest) ≡ byte_count_place bytes
+byte_count_place-append bytes rest some = omega (arith, delimiter_in-append bytes rest some)
+
+byte_count_in-append : (bytes rest : List ℕ) → 0 < length bytes → byte_count_place bytes < length bytes
+    → byte_count_in (bytes ++ rest) ≡ byte_count_in bytes
+byte_count_in-append bytes rest some within =
+    ap (λ (n : ℕ). get_or (bytes ++ rest) n 0) (byte_count_place-append bytes rest some)
+    ∙ get_or-append bytes rest 0 (byte_count_place bytes) within
+
+HasGoodByteCount-append : (bytes rest : List ℕ) → HasGoodByteCount bytes → HasGoodByteCount (bytes ++ rest)
+HasGoodByteCount-append bytes rest good =
+    let some : 0 < length bytes = good.0.0.0 in
+    let delimiter = delimiter_in-append bytes rest some in
+    let place = byte_count_place-append bytes rest some in
+    let count = byte_count_in-append bytes rest some good.0.1 in
+    let long = length-append bytes rest in
+    let is : IsDelimiter (delimiter_in (bytes ++ rest)) = subst IsDelimiter (sym delimiter) good.0.0.1 in
+    let enough : (delimiter_in (bytes ++ rest) % 8 ≡ 2) ⊎ (2 ≤ byte_count_in (bytes ++ rest)) = elim good.1 [
+      | inl stx ↦ inl (ap (λ (d : ℕ). d % 8) delimiter ∙ stx)
+      | inr two ↦ inr (omega (arith, count, two))
+    ] in
+    (((omega (arith, long, some), is), omega (arith, long, place, good.0.1)), enough)
+
+-- what can become a body with some bytes after it can without them
+CanBecomeBody-prefix : (bytes more : List ℕ) → CanBecomeBody (bytes ++ more) → CanBecomeBody bytes
+CanBecomeBody-prefix bytes more can = record {
+  rest = more ++ can.rest;
+  frame = can.frame;
+  count = can.count;
+  begins = let Begins : List ℕ → Type 0 = λ xs. BeginsWithBody xs can.frame can.count in
+      subst Begins (append_assoc bytes more can.rest) can.begins;
+}
+
+-- bytes that lack only their check byte get it
+CanBecomeBody-last : (bytes : List ℕ) → AreBytes bytes → HasGoodByteCount bytes → body_length bytes ≡ length bytes + 1
+    → CanBecomeBody bytes
+CanBecomeBody-last bytes fit good last =
+    let check = fold bit_xor 0 bytes in
+    let is : IsCheckByte bytes check = IsCheckByte-fold bytes check (fits_at bytes fit) refl in
+    let whole : List ℕ = bytes ++ check ∷ [] in
+    let some : 0 < length bytes = good.0.0.0 in
+    let long = length-append bytes (check ∷ []) in
+    let place = byte_count_place-append bytes (check ∷ []) some in
+    let count = byte_count_in-append bytes (check ∷ []) some good.0.1 in
+    let len : body_length whole ≡ length whole = omega (arith, place, count, last, long) in
+    let all_fit : AreBytes whole = All-push (λ byte. byte < 256) bytes check fit is.byte in
+    let fits : Fit whole (body_length whole) = λ k below. fits_at whole all_fit k in
+    let held = held_frame whole fits (HasGoodByteCount-append bytes (check ∷ []) good, omega (arith, len)) in
+    let prefix : take (body_length whole - 1) whole ≡ bytes =
+    take_at bytes (check ∷ []) (body_length whole - 1) (omega (arith, len, long)) in
+    let Checked : List ℕ → Type 0 = λ xs. IsCheckedPart held.frame xs in
+    let body = IsBody-push held.frame bytes check (subst Checked prefix held.part) fit is in
+    let Is : List ℕ → Type 0 = λ xs. IsBody held.frame xs in
+    record {
+      rest = check ∷ [];
+      frame = held.frame;
+      count = length whole;
+      begins = record { within = omega arith; body = subst Is (sym (take_all (length whole) whole (omega arith))) body };
+    }
+
+-- bytes that go on to their byte count get what is left
+CanBecomeBody-counted : (bytes : List ℕ) → AreBytes bytes → HasGoodByteCount bytes → length bytes < body_length bytes
+    → CanBecomeBody bytes
+CanBecomeBody-counted bytes fit good short =
+    let missing = body_length bytes - 1 - length bytes in
+    let zeros : List ℕ = replicate missing 0 in
+    let some : 0 < length bytes = good.0.0.0 in
+    let place = byte_count_place-append bytes zeros some in
+    let count = byte_count_in-append bytes zeros some good.0.1 in
+    let long : length (bytes ++ zeros) ≡ length bytes + missing =
+    length-append bytes zeros ∙ ap (λ (n : ℕ). length bytes + n) (length-replicate missing 0) in
+    let fits = All-append (λ byte. byte < 256) bytes zeros fit (All-replicate (λ byte. byte < 256) missing 0 (omega arith)) in
+    CanBecomeBody-prefix bytes zeros (
+    CanBecomeBody-last (bytes ++ zeros) fits (HasGoodByteCount-append bytes zeros good) (omega (arith, place, count, long, short))
+    )
+
+-- bytes that end before their byte count get one of 2
+CanBecomeBody-begun : (bytes : List ℕ) → AreBytes bytes → HasDelimiter bytes → length bytes ≤ byte_count_place bytes
+    → CanBecomeBody bytes
+CanBecomeBody-begun bytes fit has short =
+    let missing = byte_count_place bytes - length bytes in
+    let zeros : List ℕ = replicate missing 0 in
+    let prefix : List ℕ = bytes ++ zeros in
+    let whole : List ℕ = prefix ++ 2 ∷ [] in
+    let prefix_long : length prefix ≡ byte_count_place bytes =
+    length-append bytes zeros ∙ (let zeros_long = length-replicate {A = ℕ} missing 0 in omega (arith, zeros_long, short)) in
+    let some : 0 < length prefix = omega (arith, prefix_long, has.0, short) in
+    let long = length-append prefix (2 ∷ []) in
+    let delimiter = delimiter_in-append prefix (2 ∷ []) some ∙ delimiter_in-append bytes zeros has.0 in
+    let place : byte_count_place whole ≡ byte_count_place bytes =
+    byte_count_place-append prefix (2 ∷ []) some ∙ byte_count_place-append bytes zeros has.0 in
+    let count : byte_count_in whole ≡ 2 = get_or_at prefix 2 [] 0 (byte_count_place whole) (prefix_long ∙ sym place) in
+    let is : IsDelimiter (delimiter_in whole) = subst IsDelimiter (sym delimiter) has.1 in
+    let good : HasGoodByteCount whole =
+    (((omega (arith, long), is), omega (arith, long, place, prefix_long)), inr (omega (arith, count))) in
+    let prefix_fits = All-append (λ byte. byte < 256) bytes zeros fit (All-replicate (λ byte. byte < 256) missing 0 (omega arith)) in
+    let fits : AreBytes whole = All-push (λ byte. byte < 256) prefix 2 prefix_fits (omega arith) in
+    CanBecomeBody-prefix bytes zeros (
+    CanBecomeBody-prefix prefix (2 ∷ []) (CanBecomeBody-counted whole fits good (omega (arith, long, place, count, prefix_long)))
+    )
+
+-- no bytes get the delimiter of an STX
+CanBecomeBody-none : (bytes : List ℕ) → length bytes ≡ 0 → CanBecomeBody bytes
+CanBecomeBody-none [] none =
+    let stx : List ℕ = 2 ∷ [] in
+    CanBecomeBody-prefix [] stx (
+    CanBecomeBody-begun stx (All-replicate (λ byte. byte < 256) 1 2 (omega arith)) (omega arith, (refl, inl refl)) (omega arith)
+    )
+CanBecomeBody-none (byte ∷ bytes) none = absurd (omega (arith, none))
+
+pub CanBecomeBody-truncated : (bytes : List ℕ) → AreBytes bytes → IsTruncated bytes → CanBecomeBody bytes
+CanBecomeBody-truncated bytes fit truncated = elim truncated [
+  | inl none ↦ CanBecomeBody-none bytes none
+  | inr (inl no_count) ↦ CanBecomeBody-begun bytes fit no_count.0 no_count.1
+  | inr (inr no_check) ↦ CanBecomeBody-counted bytes fit no_check.0 no_check.1
+]
+
+-- the byte count of a frame is none that is refused
+enough : (kind : FrameKind) (payload : List ℕ) (byte count : ℕ) → byte % 8 ≡ kind_code kind → count ≡ length payload
+    → IsLongEnough kind payload → (byte % 8 ≡ 2) ⊎ (2 ≤ count)
+enough Stx payload byte count low is long = inl low
+enough Ack payload byte count low is long = inr (omega (arith, is, long))
+
+pub IsTruncated-becomes : (bytes rest : List ℕ) (f : FrameParts) (len : ℕ) → BeginsWithBody (bytes ++ rest) f len
+    → length bytes < len → IsTruncated bytes
+IsTruncated-becomes bytes rest f len begins short =
+    let said = says (bytes ++ rest) f len begins in
+    let part = begins.body.checked_part in
+    let some : (length bytes ≡ 0) ⊎ (0 < length bytes) = grind arith in
+    let long : (byte_count_place bytes < length bytes) ⊎ (length bytes ≤ byte_count_place bytes) = grind arith in
+    elim some [
+      | inl none ↦ inl none
+      | inr any ↦
+          let same = delimiter_in-append bytes rest any in
+          let place = byte_count_place-append bytes rest any in
+          let of : delimiter_of f ≡ delimiter_in bytes = sym said.delimiter ∙ same in
+          let is : IsDelimiter (delimiter_in bytes) = subst IsDelimiter of (IsDelimiter-of f part.expansion_fits) in
+          elim long [
+            | inr no_count ↦ inr (inl ((any, is), no_count))
+            | inl within ↦
+                let count = byte_count_in-append bytes rest any within in
+                let kind = kind_code-is f.kind in
+                let form : address_type f.address < 2 = address_type-lt f.address in
+                let low : delimiter_in bytes % 8 ≡ kind_code f.kind = omega (arith, of, kind, form, part.expansion_fits) in
+                let good =
+                enough f.kind f.payload (delimiter_in bytes) (byte_count_in bytes) low (sym count ∙ said.count) part.payload_fits in
+                inr (inr ((((any, is), within), good), omega (arith, said.whole, place, count, short)))
+          ]
+    ]
+
+-- what can become a body and is none ends too early
+pub IsTruncated-only : (bytes : List ℕ) → CanBecomeBody bytes → HasNoBody bytes → IsTruncated bytes
+IsTruncated-only bytes can none =
+    let cases : (can.count ≤ length bytes) ⊎ (length bytes < can.count) = grind arith in
+    elim cases [
+      | inr short ↦ IsTruncated-becomes bytes can.rest can.frame can.count can.begins short
+      | inl within ↦
+          let Is : List ℕ → Type 0 = λ xs. IsBody can.frame xs in
+          let same : take can.count (bytes ++ can.rest) ≡ take can.count bytes = take-append-le can.count bytes can.rest within in
+          absurd (none can.frame can.count (record { within = within; body = subst Is same can.begins.body }))
+    ]

@@ -1,0 +1,171 @@
+-- A list of bytes begins with one body at most, and that body has one frame at most.
+use Rattle.std.proofs.Common.{◌≡◌, ℕ, ◌+◌, ◌*◌, ◌<◌, ◌≤◌, Bool, List, [], ◌∷◌, ◌++◌, length, take, drop, refl, sym, ap, ◌∙◌, arith}
+use Rattle.std.proofs.Common.{append_assoc, length-append, subst}
+use Rattle.std.proofs.lemmas.List.{take_at, drop_at, append_cancel_right, take-append-drop, length-take-le}
+use Rattle.std.specs.List.{All}
+use Rattle.std.proofs.lemmas.List.Elements.{All-same, All-drop, All-head}
+use Rattle.hart_values.specs.declared.master_id.MasterId.{MasterId}
+use Rattle.hart_values.specs.declared.address.Address.{Address}
+use Rattle.hart_values.specs.declared.address.Address.TheVariants.{Polling, Unique}
+use Rattle.hart_values.specs.address.AddressBytes.{IsAddressBytes}
+use Rattle.hart_frame.specs.declared.wire.kind.FrameKind.{FrameKind}
+use Rattle.hart_frame.specs.declared.wire.kind.FrameKind.TheVariants.{Stx, Ack}
+use Rattle.hart_frame.specs.wire.FrameParts.{FrameParts}
+use Rattle.hart_frame.specs.wire.Parity.{HasEvenParity}
+use Rattle.hart_frame.specs.wire.Delimiter.{delimiter_of, kind_code, address_type}
+use Rattle.hart_frame.proofs.lemmas.wire.Parity.{check-one}
+use Rattle.hart_frame.specs.wire.Body.{IsBody, BeginsWithBody}
+
+-- address bytes hold one master bit, one burst bit and one address
+abbrev pub OneReading : Type 0
+OneReading = (m n : MasterId) (b c : Bool) (x y : Address) (bytes : List ℕ)
+    → IsAddressBytes m b x bytes → IsAddressBytes n c y bytes → (m ≡ n) × (b ≡ c) × (x ≡ y)
+
+-- prefixes of one length split equal lists alike
+pub record SameParts (prefix other : List ℕ) (back rest : List ℕ) : Type 0 where
+  pub prefixes : prefix ≡ other
+  pub backs : back ≡ rest
+
+same_parts : (prefix other back rest : List ℕ) → length prefix ≡ length other → prefix ++ back ≡ other ++ rest
+    → SameParts prefix other back rest
+same_parts prefix other back rest lengths whole = record {
+  prefixes = sym (take_at prefix back (length prefix) refl) ∙ ap (take (length prefix)) whole
+      ∙ take_at other rest (length prefix) (sym lengths);
+  backs = sym (drop_at prefix back (length prefix) refl) ∙ ap (drop (length prefix)) whole
+      ∙ drop_at other rest (length prefix) (sym lengths);
+}
+
+same_heads : (x y : ℕ) (xs ys : List ℕ) → x ∷ xs ≡ y ∷ ys → x ≡ y
+same_heads x y xs ys e = cc
+
+same_tails : (x y : ℕ) (xs ys : List ℕ) → x ∷ xs ≡ y ∷ ys → xs ≡ ys
+same_tails x y xs ys e = cc
+
+kind_code-one : (k l : FrameKind) → kind_code k ≡ kind_code l → k ≡ l
+kind_code-one Stx Stx e = refl
+kind_code-one Stx Ack e = absurd (omega arith)
+kind_code-one Ack Stx e = absurd (omega arith)
+kind_code-one Ack Ack e = refl
+
+-- a kind's code is 2 or 6
+pub kind_code-is : (k : FrameKind) → (c : ℕ) × (c < 2) × (kind_code k ≡ 4 * c + 2)
+kind_code-is Stx = (0, omega arith, refl)
+kind_code-is Ack = (1, omega arith, refl)
+
+pub address_type-lt : (a : Address) → address_type a < 2
+address_type-lt (Polling number) = omega arith
+address_type-lt (Unique numbers) = omega arith
+
+-- the address type says how long the address bytes are
+pub length-address : (m : MasterId) (b : Bool) (a : Address) (bytes : List ℕ) → IsAddressBytes m b a bytes
+    → length bytes ≡ 1 + 4 * address_type a
+length-address m b (Polling number) bytes is = ap length is.1
+length-address m b (Unique numbers) bytes is = ap length is.five
+
+-- the same kind, address type and number of expansion bytes
+record SameDelimiter (f g : FrameParts) : Type 0 where
+  pub kind : f.kind ≡ g.kind
+  pub form : address_type f.address ≡ address_type g.address
+  pub expansion : length f.expansion ≡ length g.expansion
+
+same_delimiter : (f g : FrameParts) → length f.expansion ≤ 3 → length g.expansion ≤ 3
+    → delimiter_of f ≡ delimiter_of g → SameDelimiter f g
+same_delimiter f g few fewer same =
+    let c = kind_code-is f.kind in
+    let d = kind_code-is g.kind in
+    let kinds : kind_code f.kind ≡ kind_code g.kind = omega (arith, c, d, address_type-lt f.address, address_type-lt g.address) in
+    record {
+      kind = kind_code-one f.kind g.kind kinds;
+      form = omega (arith, c, d, address_type-lt f.address, address_type-lt g.address);
+      expansion = omega (arith, c, d, address_type-lt f.address, address_type-lt g.address);
+    }
+
+-- frames with the same parts are the same
+same_frames : (f g : FrameParts) → f.kind ≡ g.kind → f.master ≡ g.master → f.burst ≡ g.burst → f.address ≡ g.address
+    → f.expansion ≡ g.expansion → f.command ≡ g.command → f.payload ≡ g.payload → f ≡ g
+same_frames f g kinds masters bursts addresses expansions commands payloads =
+    let of : FrameKind → MasterId → Bool → Address → List ℕ → ℕ → List ℕ → FrameParts =
+    λ k m b a e c p. record { kind = k; master = m; burst = b; address = a; expansion = e; command = c; payload = p } in
+    let all : of f.kind f.master f.burst f.address f.expansion f.command f.payload
+    ≡ of g.kind g.master g.burst g.address g.expansion g.command g.payload = cc in
+    all
+
+-- a body and what follows it, part by part
+pub spread : (f : FrameParts) (body rest : List ℕ) (is : IsBody f body)
+    → body ++ rest
+    ≡ delimiter_of f ∷ (is.checked_part.address ++ (f.expansion ++ (f.command ∷ length f.payload ∷ (f.payload ++ (is.check ∷ rest)))))
+spread f body rest is = rw (is.parts, is.checked_part.parts) (simp append_assoc)
+
+-- the same body of the same frame, and the same rest
+pub record SameBodies (f g : FrameParts) (body other rest more : List ℕ) : Type 0 where
+  pub frames : f ≡ g
+  pub bodies : body ≡ other
+  pub rests : rest ≡ more
+
+pub same_bodies : OneReading → (f g : FrameParts) (body other rest more : List ℕ)
+    → IsBody f body → IsBody g other → body ++ rest ≡ other ++ more → SameBodies f g body other rest more
+same_bodies law f g body other rest more p q whole =
+    let a = p.checked_part in
+    let b = q.checked_part in
+    let spreads = sym (spread f body rest p) ∙ whole ∙ spread g other more q in
+    let delimiters = same_delimiter f g a.expansion_fits b.expansion_fits (same_heads _ _ _ _ spreads) in
+    let addresses = same_parts a.address b.address _ _
+    (omega (arith, delimiters.form, length-address _ _ _ _ a.address_bytes, length-address _ _ _ _ b.address_bytes))
+    (same_tails _ _ _ _ spreads) in
+    let expansions = same_parts f.expansion g.expansion _ _ delimiters.expansion addresses.backs in
+    let commands = same_heads _ _ _ _ expansions.backs in
+    let counts = same_tails _ _ _ _ expansions.backs in
+    let payloads = same_parts f.payload g.payload _ _ (same_heads _ _ _ _ counts) (same_tails _ _ _ _ counts) in
+    let rests = same_tails _ _ _ _ payloads.backs in
+    let P : List ℕ → Type 0 = λ xs. IsAddressBytes g.master g.burst g.address xs in
+    let reading = law _ _ _ _ _ _ a.address a.address_bytes (subst P (sym addresses.prefixes) b.address_bytes) in
+    record {
+      frames = same_frames f g delimiters.kind reading.0 reading.1 reading.2 expansions.prefixes commands payloads.prefixes;
+      bodies = append_cancel_right body other rest (whole ∙ ap (λ (t : List ℕ). other ++ t) (sym rests));
+      rests = rests;
+    }
+
+-- an address has one list of bytes, for each master bit and burst bit
+abbrev pub OneList : Type 0
+OneList = (m : MasterId) (b : Bool) (x : Address) (bytes others : List ℕ)
+    → IsAddressBytes m b x bytes → IsAddressBytes m b x others → bytes ≡ others
+
+-- the last of some bytes is a byte
+last_fits : (bytes : List ℕ) (last : ℕ) → All (λ byte. byte < 256) (bytes ++ last ∷ []) → last < 256
+last_fits bytes last fit =
+    let fits : ℕ → Type 0 = λ byte. byte < 256 in
+    All-head fits last []
+    (All-same fits (last ∷ []) _ (sym (drop_at bytes (last ∷ []) (length bytes) refl)) (All-drop fits (length bytes) _ fit))
+
+-- a frame has one body
+pub IsBody-one : OneList → (f : FrameParts) (body other : List ℕ) → IsBody f body → IsBody f other → body ≡ other
+IsBody-one law f body other p q =
+    let a = p.checked_part in
+    let b = q.checked_part in
+    let addresses = law _ _ _ _ _ a.address_bytes b.address_bytes in
+    let checked : p.checked ≡ q.checked =
+    a.parts ∙ ap (λ (xs : List ℕ). delimiter_of f ∷ xs ++ f.expansion ++ f.command ∷ length f.payload ∷ f.payload) addresses
+    ∙ sym b.parts in
+    let moved : other ≡ p.checked ++ q.check ∷ [] = q.parts ∙ ap (λ (xs : List ℕ). xs ++ q.check ∷ []) (sym checked) in
+    let fits : ℕ → Type 0 = λ byte. byte < 256 in
+    let checks = check-one p.checked p.check q.check
+    (last_fits p.checked p.check (All-same fits _ body (sym p.parts) p.bytes_fit))
+    (last_fits p.checked q.check (All-same fits _ other (sym moved) q.bytes_fit))
+    (subst HasEvenParity p.parts p.parity) (subst HasEvenParity moved q.parity) in
+    p.parts ∙ ap (λ (check : ℕ). p.checked ++ check ∷ []) checks ∙ sym moved
+
+-- one prefix of a list at most is a body, of one frame
+pub BeginsWithBody-one : OneReading → (f g : FrameParts) (bytes : List ℕ) (m n : ℕ)
+    → BeginsWithBody bytes f m → BeginsWithBody bytes g n → (f ≡ g) × (m ≡ n)
+BeginsWithBody-one law f g bytes m n p q =
+    let same = same_bodies law f g (take m bytes) (take n bytes) (drop m bytes) (drop n bytes) p.body q.body
+    (take-append-drop m bytes ∙ sym (take-append-drop n bytes)) in
+    let lengths = ap length same.bodies in
+    (same.frames, omega (arith, lengths, length-take-le m bytes p.within, length-take-le n bytes q.within))
+
+-- a body is the prefix of any list that begins with it
+pub BeginsWithBody-append : (f : FrameParts) (body rest : List ℕ) → IsBody f body → BeginsWithBody (body ++ rest) f (length body)
+BeginsWithBody-append f body rest is = record {
+  within = omega (arith, length-append body rest);
+  body = rw (take_at body rest (length body) refl) is;
+}

@@ -1,5 +1,0 @@
-use Rattle.std.proofs.Common.{◌≡◌, replicate}
-use Rattle.hart_frame.proofs.message.push_preamble.Given as goal
-
-abbrev pub invariant-loop : goal.invariant-loop
-invariant-loop l = l.output ≡ replicate l.counter 255

@@ -1,0 +1,12 @@
+use Rattle.std.proofs.Common.{◌+◌, ℕ, List, subst}
+use Rattle.std.specs.List.{slice_range}
+use Rattle.hart_frame.specs.wire.Body.{IsBody}
+use Rattle.hart_frame.specs.scan.View.{parts_of}
+use Rattle.hart_frame.proofs.scan.buffer.Buffer.found.Goals as goal
+
+pub returns-clause-frame : goal.returns-clause-frame
+returns-clause-frame c =
+    let spot = c.args.spot in
+    let body : ℕ → List ℕ = λ n. slice_range c.args.self.now.bytes spot.at (spot.at + (spot.layout.command_place + 3 + n)) in
+    let Is : ℕ → Type 0 = λ n. IsBody (parts_of c.view_in.result) (body n) in
+    subst Is c.from.ensures c.view_in.ensures

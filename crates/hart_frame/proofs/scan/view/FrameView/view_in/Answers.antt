@@ -1,0 +1,51 @@
+use Rattle.std.proofs.Common.{◌≡◌, ◌+◌, ◌-◌, ◌<◌, ◌≤◌, ℕ, take, ap, ◌∙◌, subst, sym, refl, rules, get_or, length, arith}
+use Rattle.std.specs.List.{slice_range}
+use Rattle.std.specs.List.{All}
+use Rattle.std.proofs.lemmas.List.Elements.{All-from_get_or}
+use Rattle.hart_values.specs.address.AddressBytes.{IsAddressBytes}
+use Rattle.hart_values.specs.declared.address.Address.{Address}
+use Rattle.hart_frame.specs.wire.Body.{IsCheckedPart}
+use Rattle.hart_frame.specs.scan.PlainAddress.{address_of}
+use Rattle.hart_frame.proofs.lemmas.wire.Body.{IsBody-whole}
+use Rattle.hart_frame.specs.wire.FrameParts.{FrameParts}
+use Rattle.hart_frame.specs.wire.Layout.{delimiter_in}
+use Rattle.hart_frame.proofs.lemmas.wire.BodiesFound.{long_enough}
+use Rattle.hart_frame.proofs.lemmas.wire.Layout.{IsCheckedPart-in, StandsByLayout, length-slice_range}
+use Rattle.hart_frame.proofs.scan.view.FrameView.view_in.Goals as goal
+
+pub returns : goal.returns
+returns c =
+    let bytes = c.args.bytes.now in
+    let layout = c.args.layout in
+    let whole = c.requires.whole in
+    let read = rw c.unwrap-master.ensures at c.read.ensures.found in
+    let count : c.from.result ≡ layout.byte_count = search rules in
+    let place = layout.command_place + 2 in
+    let payload = slice_range bytes place (place + c.from.result) in
+    let within : place + c.from.result ≤ length bytes = omega (arith, whole, c.requires.described, count) in
+    let payload_len : length payload ≡ layout.byte_count =
+    length-slice_range bytes place (place + c.from.result) (omega arith) within ∙ omega (arith, count) in
+    let frame : FrameParts = record {
+      kind = layout.kind;
+      master = c.unwrap-master.result.0;
+      burst = c.unwrap-master.result.1;
+      address = address_of c.plain_of.result;
+      expansion = slice_range bytes layout.address_end layout.command_place;
+      command = get_or bytes layout.command_place 0;
+      payload = payload;
+    } in
+    let Of : Address → Type 0 = λ a.
+    IsAddressBytes c.unwrap-master.result.0 c.unwrap-master.result.1 a (slice_range bytes 1 layout.address_end) in
+    let stands : StandsByLayout bytes layout frame = record {
+      kind = refl;
+      address = subst Of (sym c.plain_of.ensures) read;
+      expansion = refl;
+      command = refl;
+      payload = ap (λ (n : ℕ). slice_range bytes place (place + n)) count;
+      payload_fits = long_enough layout.kind payload (delimiter_in bytes) layout.byte_count c.requires.described.kind payload_len
+          (rw c.requires.described.count whole.0.1);
+    } in
+    let part = IsCheckedPart-in bytes layout frame c.requires.described c.requires.whole stands in
+    let Part : ℕ → Type 0 = λ n. IsCheckedPart frame (take (n - 1) bytes) in
+    let fits : All (λ byte. byte < 256) bytes = All-from_get_or (λ byte. byte < 256) bytes 0 (λ i _. omega (arith, c.type_inv.bytes i)) in
+    IsBody-whole bytes frame (omega (arith, whole, c.requires.exact)) fits (subst Part c.requires.exact part) c.requires.even

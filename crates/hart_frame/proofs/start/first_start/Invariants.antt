@@ -1,5 +1,0 @@
-use Rattle.hart_frame.proofs.StartLemmas.{NoneBefore}
-use Rattle.hart_frame.proofs.start.first_start.Given as goal
-
-abbrev pub invariant-loop-place : goal.invariant-loop-place
-invariant-loop-place l = record { none : NoneBefore l.chars l.place }

@@ -1,8 +1,0 @@
-use Rattle.hart_frame.proofs.StartLemmas.{IsFirstStart-one, first_start_decided}
-use Rattle.hart_frame.proofs.start.first_starts_are_decided.Goals as goal
-
-pub returns-clause-one : goal.returns-clause-one
-returns-clause-one c = IsFirstStart-one
-
-pub returns-clause-decided : goal.returns-clause-decided
-returns-clause-decided c = first_start_decided

@@ -1,6 +1,0 @@
-use Rattle.hart_frame.proofs.StreamLemmas.{history_all}
-use Rattle.hart_frame.proofs.streamed.any_chunking_gives_the_same_frames.Goals as goal
-
-pub returns : goal.returns
-returns c = λ past given other one two.
-    c.frames_are_unambiguous.ensures.one_list past 0 given other (history_all past given one) (history_all past other two)

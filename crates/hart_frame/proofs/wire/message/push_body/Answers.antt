@@ -1,0 +1,33 @@
+use Rattle.std.proofs.Common.{◌≡◌, ◌++◌, ◌∷◌, ◌-◌, ◌<◌, [], List, ℕ, drop, take, length, arith, append_assoc, length-append, sym, ap, subst}
+use Rattle.std.proofs.Common.{◌∙◌}
+use Rattle.std.proofs.lemmas.List.{drop_at, take_all}
+use Rattle.std.specs.List.{All}
+use Rattle.std.proofs.lemmas.List.Elements.{All-same, All-take, All-drop}
+use Rattle.hart_frame.specs.wire.Parity.{IsCheckByte}
+use Rattle.hart_frame.proofs.lemmas.wire.Body.{IsBody-push}
+use Rattle.hart_frame.proofs.wire.message.push_body.Goals as goal
+
+-- what `&s[n..]` is after a prefix of n elements
+range_from_seam : (s prefix back : List ℕ) (n : ℕ) → s ≡ prefix ++ back → n ≡ length prefix
+    → take (length s - n) (drop n s) ≡ back
+range_from_seam s prefix back n whole at =
+    let rest : drop n s ≡ back = ap (drop n) whole ∙ drop_at prefix back n (sym at) in
+    rw rest (take_all (length s - n) back (rw whole (let parts = length-append prefix back in omega arith)))
+
+pub returns : goal.returns
+returns g c =
+    let checked = c.push_checked_part.ensures.parts.0 in
+    let check = c.check_byte-check.result in
+    let joined : c.push_checked_part.new.output ≡ c.args.output.now ++ checked = c.push_checked_part.ensures.parts.2 in
+    let slice =
+    range_from_seam c.as_slice.result.now c.args.output.now checked c.len-start.result (c.as_slice.ensures.value
+    ∙ joined) c.len-start.ensures.value in
+    let family : List ℕ → Type 0 = λ xs. IsCheckByte xs check in
+    let of_checked : IsCheckByte checked check = subst family slice c.check_byte-check.ensures in
+    let fits : All (λ byte. byte < 256) checked =
+    All-same (λ byte. byte < 256) checked _ (sym slice)
+    (All-take (λ byte. byte < 256) _ _ (All-drop (λ byte. byte < 256) _ _ c.as_slice.ensures.bytes)) in (
+      checked ++ check ∷ [],
+      IsBody-push c.args.frame.now checked check c.push_checked_part.ensures.parts.1 fits of_checked,
+      c.push.ensures ∙ rw joined (rw append_assoc),
+    )

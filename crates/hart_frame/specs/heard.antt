@@ -1,0 +1,10 @@
+-- What was heard: characters, and where frames stand in them.
+pub mod Character
+pub mod Body
+pub mod Place
+pub mod Frames
+pub mod Start
+pub mod Found
+pub mod Delivery
+pub mod Damage
+pub mod DamageExamples

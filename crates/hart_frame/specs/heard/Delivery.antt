@@ -1,0 +1,20 @@
+-- The one frame of a delivery, which is what is heard at once (own profile).
+use Rattle.std.specs.Prelude.{List, [], ◌∷◌}
+use Rattle.hart_frame.specs.heard.Character.{Character}
+use Rattle.hart_frame.specs.heard.Frames.{AreFrames}
+use Rattle.hart_frame.specs.declared.heard.found.Found.{Found}
+use Rattle.hart_frame.specs.declared.heard.delivery.LoneFrame.{LoneFrame}
+use Rattle.hart_frame.specs.declared.heard.delivery.LoneFrame.TheVariants.{NoFrame, Alone, Several}
+
+-- A delivery has one frame alone if its frames are exactly one; otherwise it has none or several.
+abbrev pub lone_of : List Found → LoneFrame
+lone_of [] = NoFrame
+lone_of (found ∷ []) = Alone found
+lone_of (found ∷ other ∷ more) = Several
+
+-- The characters of a delivery have no frame, this frame alone, or several.
+abbrev pub IsLone : List Character → LoneFrame → Type 0
+IsLone delivery NoFrame = AreFrames delivery 0 []
+IsLone delivery (Alone found) = AreFrames delivery 0 (found ∷ [])
+IsLone delivery Several =
+    (found : Found) × (other : Found) × (more : List Found) × AreFrames delivery 0 (found ∷ other ∷ more)

@@ -1,0 +1,26 @@
+-- The frames of what was heard (HCF_SPEC-081; own profile if candidates overlap).
+use Rattle.std.specs.Prelude.{◌≤◌, ◌<◌, ◌⊎◌, ℕ, List, [], ◌∷◌}
+use Rattle.hart_frame.specs.heard.Character.{Character}
+use Rattle.hart_frame.specs.heard.Place.{IsOpen, StandsIn}
+use Rattle.hart_frame.specs.declared.heard.found.Found.{Found}
+
+-- No frame stands in a list of characters from a place on.
+abbrev pub HasNoFrame : List Character → ℕ → Type 0
+HasNoFrame chars from = (found : Found) → StandsIn found chars from → ⊥
+
+-- The first frame of a list from a place on is the one with the least start.
+pub record IsFirst (found : Found) (chars : List Character) (from : ℕ) : Type 0 where
+  pub stands : StandsIn found chars from
+  pub least : (other : Found) → StandsIn other chars from → found.start ≤ other.start
+
+-- The frames of a list from a place on are none if no frame stands from there on, and otherwise the first, then those from
+-- the place after its body on, each with its places in the whole list.
+pub data AreFrames (chars : List Character) : ℕ → List Found → Type 0 where
+  none : (from : ℕ) → HasNoFrame chars from → AreFrames chars from []
+  first : (from : ℕ) (found : Found) (later : List Found) → IsFirst found chars from
+      → AreFrames chars found.stop later → AreFrames chars from (found ∷ later)
+
+-- No frame of a list is decided if none stands in it, or if an open place lies below every place at which one stands.
+abbrev pub IsUndecided : List Character → Type 0
+IsUndecided chars = HasNoFrame chars 0
+    ⊎ ((place : ℕ) × IsOpen place chars × ((found : Found) → StandsIn found chars 0 → place < found.start))

@@ -1,0 +1,27 @@
+-- Where frames stand in what was heard (HCF_SPEC-081).
+use Rattle.std.specs.Prelude.{◌≡◌, ◌≤◌, ◌+◌, ℕ, List, ◌∷◌, ◌++◌, length}
+use Rattle.hart_frame.specs.wire.Body.{IsBody}
+use Rattle.hart_frame.specs.heard.Character.{Character, faultless}
+use Rattle.hart_frame.specs.wire.Refusal.{IsTruncated}
+use Rattle.hart_frame.specs.declared.heard.found.Found.{Found}
+
+-- A frame stands in a list of characters, from a place of the list on, if two faultless preamble bytes FF at or after
+-- that place are followed by a body of it in faultless characters; it starts after the two, and stops after the body.
+pub record StandsIn (found : Found) (chars : List Character) (from : ℕ) : Type 0 where
+  pub prefix : List Character
+  pub body : List ℕ
+  pub rest : List Character
+  pub split : chars ≡ prefix ++ faultless (255 ∷ 255 ∷ body) ++ rest
+  pub is_body : IsBody found.frame body
+  pub after : from ≤ length prefix
+  pub start : found.start ≡ length prefix + 2
+  pub stop : found.stop ≡ length prefix + 2 + length body
+
+-- A place of a list is open if two faultless preamble bytes FF stand right before it, and from it to the end of the list
+-- faultless characters whose bytes end too early for a body.
+pub record IsOpen (place : ℕ) (chars : List Character) : Type 0 where
+  pub prefix : List Character
+  pub bytes : List ℕ
+  pub split : chars ≡ prefix ++ faultless (255 ∷ 255 ∷ bytes)
+  pub start : place ≡ length prefix + 2
+  pub truncated : IsTruncated bytes

@@ -1,0 +1,10 @@
+-- The scanner: how frames are found while they are heard.
+pub mod Scanner
+pub mod Faultless
+pub mod Streamed
+pub mod PlainAddress
+pub mod View
+pub mod Candidate
+pub mod Sums
+pub mod Buffer
+pub mod Decision

@@ -1,0 +1,65 @@
+-- What a scanner promises: the frames of what is heard, each given as soon as it is decided (own profile).
+use Rattle.std.specs.Prelude.{◌≡◌, ℕ, Bool, true, false, IsTrue, ◌⊎◌, List, [], ◌∷◌, ◌++◌, length}
+use Rattle.hart_frame.specs.heard.Character.{Character}
+use Rattle.hart_frame.specs.heard.Frames.{AreFrames, HasNoFrame, IsUndecided}
+use Rattle.hart_frame.specs.declared.heard.found.Found.{Found}
+
+-- A scanner stands for the characters that it holds, with the place of the first of them, or of the next one if it holds none.
+-- It is finished if no more is to come, and drained if it is new, or gave none and heard nothing since, nor the finish.
+pub record Scan : Type 0 where
+  pub first : ℕ
+  pub held : List Character
+  pub finished : Bool
+  pub drained : Bool
+
+-- A new scanner has heard nothing, and is drained.
+abbrev pub new_scan : Scan
+new_scan = record { first = 0; held = []; finished = false; drained = true }
+
+-- A list can be all that a scanner hears if it is as many characters as it let go, then those that it holds, then those still
+-- to come; after the finish none are.
+pub record CanHear (scan : Scan) (more chars : List Character) : Type 0 where
+  pub prefix : List Character
+  pub split : chars ≡ prefix ++ (scan.held ++ more)
+  pub place : length prefix ≡ scan.first
+  pub ended : IsTrue scan.finished → more ≡ []
+
+-- A scanner that has heard more holds that too, and has yet to look at it.
+abbrev pub hearing : Scan → List Character → Scan
+hearing scan chars = record scan { held = scan.held ++ chars; drained = false }
+
+-- A scanner that is given the finish holds what it held, and has yet to look at it again.
+abbrev pub finishing : Scan → Scan
+finishing scan = record scan { finished = true; drained = false }
+
+-- A scanner moves past some frames if, whatever is still to come, they are the next ones, and those after them are the frames
+-- from the first character on that it then holds.
+pub record MovesPast (old new : Scan) (given : List Found) : Type 0 where
+  pub heard : (more chars : List Character) → CanHear old more chars → CanHear new more chars
+  pub frames : (more chars : List Character) (later : List Found) → CanHear old more chars
+      → AreFrames chars new.first later → AreFrames chars old.first (given ++ later)
+
+-- A scanner that gives a frame moves past it, and then holds what comes after its body. More may be given.
+pub record Gives (old new : Scan) (found : Found) : Type 0 where
+  pub moves : MovesPast old new (found ∷ [])
+  pub stop : new.first ≡ found.stop
+  pub finished : new.finished ≡ old.finished
+  pub undrained : (old.drained ≡ false) × (new.drained ≡ false)
+
+-- A scanner that waits moves past none, and nothing is decided in what it then holds.
+pub record Waits (old new : Scan) : Type 0 where
+  pub going : old.finished ≡ false
+  pub moves : MovesPast old new []
+  pub undecided : IsUndecided new.held
+  pub unfinished : new.finished ≡ false
+  pub drained : new.drained ≡ true
+
+-- A finished scanner that ends holds no frame, and is then new.
+pub record Ends (old new : Scan) : Type 0 where
+  pub finished : old.finished ≡ true
+  pub none : HasNoFrame old.held 0
+  pub renewed : new ≡ new_scan
+
+-- A scanner that gives no frame waits, or ends if it is finished.
+abbrev pub GivesNothing : Scan → Scan → Type 0
+GivesNothing old new = Waits old new ⊎ Ends old new

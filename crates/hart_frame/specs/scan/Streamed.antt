@@ -1,0 +1,28 @@
+-- What was done with a scanner since it was new (own profile).
+use Rattle.std.specs.Prelude.{◌≡◌, ℕ, false, List, [], ◌∷◌, ◌++◌}
+use Rattle.hart_frame.specs.heard.Character.{Character, faultless}
+use Rattle.hart_frame.specs.scan.Scanner.{Scan, Ends, Gives, MovesPast, Waits, finishing, hearing, new_scan}
+use Rattle.hart_frame.specs.declared.heard.found.Found.{Found}
+
+-- What was pushed to a scanner since it was new, what it now stands for, and the frames that it gave, call by call: it heard a
+-- character, or a part of a run, or the finish; it gave a frame, or none for now.
+pub data IsHistory : List Character → Scan → List Found → Type 0 where
+  begin : IsHistory [] new_scan []
+  push : (past : List Character) (scan : Scan) (given : List Found) (character : Character) → IsHistory past scan given
+      → scan.finished ≡ false → IsHistory (past ++ character ∷ []) (hearing scan (character ∷ [])) given
+  push_run : (past : List Character) (old new : Scan) (given : List Found) (run : List ℕ) → IsHistory past old given
+      → old.finished ≡ false → MovesPast (hearing old (faultless run)) new [] → new.finished ≡ old.finished
+      → IsHistory (past ++ faultless run) new given
+  give : (past : List Character) (old new : Scan) (given : List Found) (found : Found) → IsHistory past old given
+      → Gives old new found → IsHistory past new (given ++ found ∷ [])
+  wait : (past : List Character) (old new : Scan) (given : List Found) → IsHistory past old given
+      → Waits old new → IsHistory past new given
+  finish : (past : List Character) (scan : Scan) (given : List Found) → IsHistory past scan given
+      → IsHistory past (finishing scan) given
+
+-- These are all the frames given of these characters if a scanner gave them that was then finished, and ended.
+pub record IsWholeHistory (past : List Character) (given : List Found) : Type 0 where
+  pub last : Scan
+  pub after : Scan
+  pub history : IsHistory past last given
+  pub ended : Ends last after

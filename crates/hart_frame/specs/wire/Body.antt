@@ -1,0 +1,43 @@
+-- The body of a message: a frame as bytes, from the delimiter to the check byte (HCF_SPEC-081).
+use Rattle.std.specs.Prelude.{◌≡◌, ℕ, ◌<◌, ◌≤◌, List, [], ◌∷◌, ◌++◌, length, take}
+use Rattle.std.specs.List.{All}
+use Rattle.hart_values.specs.address.AddressBytes.{IsAddressBytes}
+use Rattle.hart_frame.specs.wire.FrameParts.{FrameParts, IsLongEnough}
+use Rattle.hart_frame.specs.wire.Parity.{HasEvenParity}
+use Rattle.hart_frame.specs.wire.Delimiter.{delimiter_of}
+
+-- Before the check byte of a frame's body stand its delimiter, its address bytes, at most 3 expansion bytes, its
+-- command, its byte count and its payload, one after another; an ACK's payload has its two status bytes at least.
+pub record IsCheckedPart (frame : FrameParts) (bytes : List ℕ) : Type 0 where
+  pub address : List ℕ
+  pub address_bytes : IsAddressBytes frame.master frame.burst frame.address address
+  pub parts : bytes ≡ delimiter_of frame ∷ address ++ frame.expansion
+      ++ frame.command ∷ length frame.payload ∷ frame.payload
+  pub expansion_fits : length frame.expansion ≤ 3
+  pub payload_fits : IsLongEnough frame.kind frame.payload
+
+-- A body of a frame is that part and a check byte: all of them are bytes, and in each of the eight bit positions an
+-- even number of them have the bit.
+pub record IsBody (frame : FrameParts) (bytes : List ℕ) : Type 0 where
+  pub checked : List ℕ
+  pub check : ℕ
+  pub checked_part : IsCheckedPart frame checked
+  pub parts : bytes ≡ checked ++ check ∷ []
+  pub bytes_fit : All (λ byte. byte < 256) bytes
+  pub parity : HasEvenParity bytes
+
+-- The first so many bytes of a list are a body of the frame.
+pub record BeginsWithBody (bytes : List ℕ) (frame : FrameParts) (count : ℕ) : Type 0 where
+  pub within : count ≤ length bytes
+  pub body : IsBody frame (take count bytes)
+
+-- A list begins with no body.
+abbrev pub HasNoBody : List ℕ → Type 0
+HasNoBody bytes = (frame : FrameParts) (count : ℕ) → BeginsWithBody bytes frame count → ⊥
+
+-- A list can become a body if, with some bytes after it, it begins with one.
+pub record CanBecomeBody (bytes : List ℕ) : Type 0 where
+  pub rest : List ℕ
+  pub frame : FrameParts
+  pub count : ℕ
+  pub begins : BeginsWithBody (bytes ++ rest) frame count

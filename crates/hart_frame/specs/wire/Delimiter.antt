@@ -1,0 +1,22 @@
+-- The first byte of a body (HCF_SPEC-081).
+use Rattle.std.specs.Prelude.{ℕ, ◌+◌, ◌*◌, length}
+use Rattle.hart_values.specs.declared.address.Address.{Address}
+use Rattle.hart_values.specs.declared.address.Address.TheVariants.{Polling, Unique}
+use Rattle.hart_frame.specs.declared.wire.kind.FrameKind.{FrameKind}
+use Rattle.hart_frame.specs.declared.wire.kind.FrameKind.TheVariants.{Stx, Ack}
+use Rattle.hart_frame.specs.wire.FrameParts.{FrameParts}
+
+-- The kind of frame is 2 for STX and 6 for ACK.
+abbrev pub kind_code : FrameKind → ℕ
+kind_code Stx = 2
+kind_code Ack = 6
+
+-- The address type is 1 for the five bytes of a unique address, and 0 for the one byte of a polling address.
+abbrev pub address_type : Address → ℕ
+address_type (Polling number) = 0
+address_type (Unique numbers) = 1
+
+-- Bit 7 of a delimiter is the address type, bits 6 and 5 are the number of expansion bytes, bits 4 and 3 the physical
+-- layer, which is 0 here, and bits 2 to 0 the kind of frame.
+abbrev pub delimiter_of : FrameParts → ℕ
+delimiter_of frame = 128 * address_type frame.address + 32 * length frame.expansion + kind_code frame.kind

@@ -1,0 +1,44 @@
+-- Why the bytes of a list are not decoded: the first thing that is wrong, from its first byte on (own profile).
+use Rattle.std.specs.Prelude.{◌≡◌, ℕ, ◌/◌, ◌%◌, ◌<◌, ◌≤◌, ◌⊎◌, List, length, take}
+use Rattle.hart_frame.specs.declared.wire.fault.FrameFault.{FrameFault}
+use Rattle.hart_frame.specs.declared.wire.fault.FrameFault.TheVariants.{TooShortReply, BadPreamble, BadDelimiter}
+use Rattle.hart_frame.specs.declared.wire.fault.FrameFault.TheVariants.{Truncated, BadCheck, ShortReply}
+use Rattle.hart_frame.specs.wire.Layout.{delimiter_in, byte_count_place, byte_count_in, body_length}
+use Rattle.hart_frame.specs.wire.Parity.{HasEvenParity}
+
+-- A delimiter of this profile has bits 4 and 3 zero, and in bits 2 to 0 the kind of an STX or of an ACK.
+abbrev pub IsDelimiter : ℕ → Type 0
+IsDelimiter byte = (byte / 8 % 4 ≡ 0) × ((byte % 8 ≡ 2) ⊎ (byte % 8 ≡ 6))
+
+-- A list begins with a delimiter of this profile.
+abbrev pub HasDelimiter : List ℕ → Type 0
+HasDelimiter bytes = (0 < length bytes) × IsDelimiter (delimiter_in bytes)
+
+-- It goes on to its byte count.
+abbrev pub HasByteCount : List ℕ → Type 0
+HasByteCount bytes = HasDelimiter bytes × (byte_count_place bytes < length bytes)
+
+-- Its byte count is at least 2, or its delimiter is an STX's.
+abbrev pub HasGoodByteCount : List ℕ → Type 0
+HasGoodByteCount bytes = HasByteCount bytes × ((delimiter_in bytes % 8 ≡ 2) ⊎ (2 ≤ byte_count_in bytes))
+
+-- It goes on to its check byte.
+abbrev pub HasCheckByte : List ℕ → Type 0
+HasCheckByte bytes = HasGoodByteCount bytes × (body_length bytes ≤ length bytes)
+
+-- A list ends too early if it is empty, or if it stops before its byte count or its check byte with
+-- nothing wrong before.
+abbrev pub IsTruncated : List ℕ → Type 0
+IsTruncated bytes = (length bytes ≡ 0)
+    ⊎ (HasDelimiter bytes × (length bytes ≤ byte_count_place bytes))
+    ⊎ (HasGoodByteCount bytes × (length bytes < body_length bytes))
+
+-- The fault of a list is the first thing that is wrong with it; the faults of making and of sending a frame are
+-- none of a list's.
+abbrev pub IsRefusedWith : List ℕ → FrameFault → Type 0
+IsRefusedWith bytes BadDelimiter = (0 < length bytes) × (IsDelimiter (delimiter_in bytes) → ⊥)
+IsRefusedWith bytes Truncated = IsTruncated bytes
+IsRefusedWith bytes ShortReply = HasByteCount bytes × (delimiter_in bytes % 8 ≡ 6) × (byte_count_in bytes < 2)
+IsRefusedWith bytes BadCheck = HasCheckByte bytes × (HasEvenParity (take (body_length bytes) bytes) → ⊥)
+IsRefusedWith bytes TooShortReply = ⊥
+IsRefusedWith bytes BadPreamble = ⊥

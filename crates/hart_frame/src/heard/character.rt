@@ -1,0 +1,64 @@
+ghost use Rattle.std.specs.Prelude.{◌≡◌, ◌↔◌, IsSome, IfSome, IsTrue};
+
+use std::marker::Model;
+
+/// The bits that are no fault bits.
+const OTHER_BITS: u8 = !0x72;
+
+/// A received character: a byte, and the faults that the receiver noticed at it (HCF_SPEC-081).
+///
+/// The fault bits are hex 40 vertical parity, 20 overrun, 10 framing and 02 buffer overflow. A character without any of
+/// them is faultless.
+#[derive(Clone, Copy, Debug, PartialEq, Eq)]
+pub struct Char {
+    byte: u8,
+    faults: u8,
+}
+
+impl Model for Char {
+    ghost use Rattle.hart_frame.specs.heard.Character.{Character, AreFaultBits};
+
+    ghost Value = { Character };
+
+    ghost view = { λ c. record { byte = c.byte; faults = c.faults } };
+
+    ghost invariant = { λ c. AreFaultBits c.faults };
+
+    ghost inverse = { λ c. record { byte = c.byte; faults = c.faults } };
+}
+
+impl Char {
+    ghost use Rattle.hart_frame.specs.heard.Character.{AreFaultBits};
+
+    /// The character of this byte and these fault bits, or `None` if another bit than the four is set.
+    pub fn new(byte: u8, faults: u8) -> Option<Self>
+        ensures accepted { IsSome result ↔ AreFaultBits faults }
+        ensures kept { IfSome result (λ character. character ≡ record { byte = byte; faults = faults }) }
+    {
+        if faults & OTHER_BITS != 0 {
+            return None;
+        }
+        Some(Char { byte, faults })
+    }
+
+    /// The byte as it was heard.
+    pub fn byte(self) -> u8
+        ensures { result ≡ self.byte }
+    {
+        self.byte
+    }
+
+    /// The fault bits.
+    pub fn faults(self) -> u8
+        ensures { result ≡ self.faults }
+    {
+        self.faults
+    }
+
+    /// Whether no fault bit is set.
+    pub fn is_faultless(self) -> bool
+        ensures { IsTrue result ↔ (self.faults ≡ 0) }
+    {
+        self.faults == 0
+    }
+}

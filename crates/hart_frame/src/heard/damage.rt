@@ -1,0 +1,37 @@
+//! Laws of damage that can be detected, over the definitions alone, for the crates above.
+ghost use Rattle.std.specs.Prelude.{◌⊎◌, List, ℕ, [], ◌∷◌, length};
+ghost use Rattle.hart_frame.specs.heard.Character.{Character};
+ghost use Rattle.hart_frame.specs.heard.Damage.{IsCheckDamage, IsMarkedDamage};
+ghost use Rattle.hart_frame.specs.heard.DamageExamples.{faulty_address, identity_request, other_address, other_request, preamble_in_body};
+ghost use Rattle.hart_frame.specs.wire.FrameParts.{FrameParts};
+ghost use Rattle.hart_frame.specs.heard.Frames.{AreFrames};
+
+use crate::bodies_are_unambiguous;
+
+/// A damaged message is heard with no frame but its own.
+///
+/// With marked damage, of which every changed character has a fault bit, it has no frame, or its own alone, in its place. With
+/// check damage, of which every byte is heard without faults but the parity is not even, it has none. In neither may two faultless
+/// `FF` in a row be heard after the delimiter, since another frame could stand there; and the delimiter and the byte count are not
+/// among the bytes that check damage replaces, since they say how long the body is.
+pub fn damaged_messages_have_no_other_frame()
+    ensures marked { (frame : FrameParts) (preambles : ℕ) (chars : List Character) (damage : IsMarkedDamage frame preambles chars)
+        → AreFrames chars 0 [] ⊎ AreFrames chars 0 (record { start = damage.left; stop = length chars; frame = frame } ∷ []) }
+    ensures check { (frame : FrameParts) (preambles : ℕ) (chars : List Character) → IsCheckDamage frame preambles chars
+        → AreFrames chars 0 [] }
+{
+    // No-op: its contract is used below.
+    bodies_are_unambiguous();
+}
+
+/// What each kind of damage is, by a request that is heard with it, and by what is none.
+pub fn damage_by_example()
+    ensures marked { IsMarkedDamage identity_request 5 faulty_address }
+    ensures not_marked { IsMarkedDamage identity_request 5 other_address → ⊥ }
+    ensures check { IsCheckDamage identity_request 5 other_address }
+    ensures not_check { IsCheckDamage identity_request 5 other_request → ⊥ }
+    ensures not_with_a_preamble { IsCheckDamage identity_request 5 preamble_in_body → ⊥ }
+{
+    // No-op: its contract is used below.
+    bodies_are_unambiguous();
+}

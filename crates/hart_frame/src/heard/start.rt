@@ -1,0 +1,86 @@
+//! Where the body of a message may start.
+ghost use Rattle.std.specs.Prelude.{◌≡◌, ◌<◌, ◌≤◌, ◌⊎◌, ◌↔◌, ℕ, List, length, IsTrue, MatchOption};
+ghost use Rattle.hart_frame.specs.heard.Character.{Character};
+ghost use Rattle.hart_frame.specs.heard.Start.{HasNoStart, IsFirstStart, IsStart};
+
+use crate::Char;
+use crate::wire::message::PREAMBLE;
+
+/// The first place of what was heard at which a body may start, whatever is heard of it, or `None` if there is none: two
+/// faultless preamble bytes `FF` stand right before it, and at it a character other than a faultless `FF`.
+pub fn first_start(chars: &[Char]) -> Option<usize>
+    ensures { MatchOption result (HasNoStart chars.now) (λ place. IsFirstStart place chars.now) }
+{
+    for place in 2..chars.len() {
+        if is_start(chars, place) {
+            return Some(place);
+        }
+    }
+    None
+}
+
+/// Whether a body may start at this place, before which two characters stand.
+fn is_start(chars: &[Char], place: usize) -> bool
+    requires after_two { 2 ≤ place }
+    requires within { place < length chars.now }
+    ensures { IsTrue result ↔ IsStart place chars.now }
+{
+    let preamble = Char::new(PREAMBLE, 0).unwrap();
+    let (first, second, third) = (chars[place - 2], chars[place - 1], chars[place]);
+    if first != preamble || second != preamble {
+        return false;
+    }
+    third != preamble
+}
+
+/// A list of characters has one first start at most, and it has one or none.
+pub fn first_starts_are_decided()
+    ensures one { (place other : ℕ) (chars : List Character)
+        → IsFirstStart place chars → IsFirstStart other chars → place ≡ other }
+    ensures decided { (chars : List Character) → ((place : ℕ) × IsFirstStart place chars) ⊎ HasNoStart chars }
+{}
+
+#[cfg(test)]
+mod tests {
+    use crate::{Char, first_start};
+
+    /// Characters by byte and fault bits, and the first place at which a body may start.
+    type Row<'a> = (&'a [(u8, u8)], Option<usize>);
+
+    const STARTS: &[Row] = &[
+        (&[], None),
+        (&[(0xFF, 0), (0xFF, 0)], None),
+        (&[(0xFF, 0), (0xFF, 0), (0xFF, 0)], None),
+        (&[(0xFF, 0), (0x82, 0), (0x00, 0)], None),
+        (&[(0xFF, 0x40), (0xFF, 0), (0x82, 0)], None),
+        (&[(0xFF, 0), (0xFF, 0), (0xFF, 0x40), (0x82, 0)], Some(2)),
+        (
+            &[
+                (0xFF, 0),
+                (0xFF, 0),
+                (0xFF, 0),
+                (0x00, 0),
+                (0xFF, 0),
+                (0xFF, 0),
+                (0x82, 0),
+            ],
+            Some(3),
+        ),
+    ];
+
+    /// The first place of these characters at which a body may start; `None` if they are no characters, or more than seven.
+    fn start_in(heard: &[(u8, u8)]) -> Option<Option<usize>> {
+        let mut chars = [Char::new(0, 0)?; 7];
+        for (character, (byte, faults)) in chars.iter_mut().zip(heard) {
+            *character = Char::new(*byte, *faults)?;
+        }
+        Some(first_start(chars.get(..heard.len())?))
+    }
+
+    #[test]
+    fn the_first_start_is_found(rt: HostRuntime) {
+        for (row, (heard, place)) in STARTS.iter().enumerate() {
+            assert!(rt; start_in(heard) == Some(*place), "of row {row}");
+        }
+    }
+}

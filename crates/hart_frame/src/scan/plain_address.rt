@@ -1,0 +1,35 @@
+//! Addresses in a view, which may hold no value with a model of its own.
+ghost use Rattle.std.specs.Prelude.{◌≡◌};
+ghost use Rattle.hart_frame.specs.scan.PlainAddress.{address_of, IsInRange};
+
+use hart_values::Address;
+
+/// An address by its numbers.
+#[derive(Clone, Copy)]
+pub(crate) enum PlainAddress {
+    Polling(u8),
+    Unique(u16, u32),
+}
+
+/// The numbers of an address.
+pub(crate) fn plain_of(address: Address) -> PlainAddress
+    ensures { address_of result ≡ address }
+{
+    match address {
+        Address::Polling(polling) => PlainAddress::Polling(polling.number()),
+        Address::Unique(unique) => PlainAddress::Unique(unique.expanded_type(), unique.device_id()),
+    }
+}
+
+/// The address of these numbers.
+pub(crate) fn address_of_plain(plain: PlainAddress) -> Address
+    requires { IsInRange plain }
+    ensures { result ≡ address_of plain }
+{
+    match plain {
+        PlainAddress::Polling(number) => Address::polling(number).unwrap(),
+        PlainAddress::Unique(expanded_type, device_id) => {
+            Address::unique(expanded_type, device_id).unwrap()
+        }
+    }
+}

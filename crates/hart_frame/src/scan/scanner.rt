@@ -1,0 +1,125 @@
+ghost use Rattle.std.specs.Prelude.{◌≡◌, ◌+◌, ◌-◌, ◌<◌, ◌≤◌, ◌^◌, ◌++◌, ◌∷◌, [], false, IsTrue, MatchOption, ℕ, length, take};
+
+use crate::scan::buffer::Buffer;
+use crate::{Char, FoundView};
+use std::marker::Model;
+
+/// Finds the frames of what is heard, character by character, and lends a view of each as soon as it is decided.
+///
+/// It holds at most 269 characters, the two preamble bytes and the body of the longest frame, and takes no memory.
+///
+/// ```rust
+/// let mut scanner = Scanner::new();
+/// for character in chars {
+///     scanner.push(*character);
+///     while let Some(view) = scanner.take() {
+///         // The body of the frame stands at `view.start..view.stop` of what was pushed.
+///     }
+/// }
+/// scanner.finish();
+/// while let Some(view) = scanner.take() {
+///     // Frames after a start that the finish has shown to be false.
+/// }
+/// ```
+#[derive(Drop)]
+pub struct Scanner {
+    buffer: Buffer,
+}
+
+impl Model for Scanner {
+    ghost use Rattle.hart_frame.specs.scan.Scanner.{Scan};
+    ghost use Rattle.hart_frame.specs.scan.Buffer.{IsSound, scan_of};
+
+    ghost Value = { Scan };
+
+    ghost view = { λ s. scan_of s.buffer };
+
+    ghost invariant = { λ s. IsSound s.buffer };
+}
+
+impl Scanner {
+    ghost use Rattle.std.specs.Prelude.{⊤};
+    ghost use mathlib.Core.Option.{none};
+    ghost use denote.Follow.{follows_so};
+    ghost use Rattle.std.specs.Borrow.{sem};
+    ghost use Rattle.hart_frame.specs.contracts.scan.scanner.Scanner.{the_row};
+    ghost use Rattle.hart_frame.specs.scan.View.{found_of};
+    ghost use Rattle.hart_frame.specs.heard.Character.{faultless};
+    ghost use Rattle.hart_frame.specs.heard.Frames.{IsUndecided};
+    ghost use Rattle.hart_frame.specs.scan.Faultless.{StopsAt};
+    ghost use Rattle.hart_frame.specs.scan.Scanner.{Gives, GivesNothing, MovesPast, finishing, hearing, new_scan};
+
+    /// A scanner that has heard nothing.
+    pub fn new() -> Self
+        ensures { result ≡ new_scan }
+    {
+        Scanner {
+            buffer: Buffer::new(),
+        }
+    }
+
+    /// Hears one more character. The scanner has to be drained, and to have been pushed fewer than 2^64 - 1 characters. At most 269
+    /// are then held, whatever was pushed.
+    pub fn push(&mut self, character: Char)
+        requires drained { IsTrue self.old.drained }
+        requires room { self.old.first + length self.old.held < 2 ^ 64 - 1 }
+        ensures heard { self.new ≡ hearing self.old (character ∷ []) }
+        ensures few { length self.new.held ≤ 269 }
+    {
+        self.buffer.push(character);
+    }
+
+    /// Hears the first bytes of a run, without faults, and gives how many: up to the first at which a frame is decided, which
+    /// [`Scanner::take`] then gives, or else all of them. The scanner has to be drained, and to have been pushed so few characters
+    /// that with the run they are fewer than 2^64.
+    ///
+    /// It is what so many calls of [`Scanner::push`] are, if [`Scanner::take`] gives `None` after each of them but the last.
+    /// Bytes that can be no part of a frame are not copied.
+    pub fn push_run(&mut self, run: &[u8]) -> usize
+        requires drained { IsTrue self.old.drained }
+        requires room { self.old.first + length self.old.held + length run.now < 2 ^ 64 }
+        ensures within { result ≤ length run.now }
+        ensures some { 0 < length run.now → 0 < result }
+        ensures moves { MovesPast (hearing self.old (faultless (take result run.now))) self.new [] }
+        ensures before { (count : ℕ) → count < result → IsUndecided (self.old.held ++ faultless (take count run.now)) }
+        ensures stops { StopsAt self.new result (length run.now) }
+        ensures finished { self.new.finished ≡ self.old.finished }
+        ensures pushed { self.new.first + length self.new.held ≡ self.old.first + length self.old.held + result }
+        ensures few { length self.new.held ≤ 269 }
+    {
+        self.buffer.push_run(run)
+    }
+
+    /// The next frame that is decided, or `None` if there is none for now. After the finish `None` is given once no frame is
+    /// left; the scanner is then new, and places begin at 0 again.
+    pub fn take(&mut self) -> Option<FoundView<'_>>
+        ensures* after { sem 𝓛 (follows_so the_row the_row self.entry.ghost_name none (λ _ _. ⊤) (λ after.
+            MatchOption result (GivesNothing self.old after) (λ view. Gives self.old after (found_of view)))) }
+    {
+        let spot = self.buffer.next()?;
+        Some(self.buffer.found(spot))
+    }
+
+    /// Whether nothing is given before the next character, or the finish.
+    pub fn is_drained(&self) -> bool
+        ensures drained { result ≡ self.now.drained }
+        ensures waiting { IsTrue self.now.drained → (self.now.finished ≡ false) × IsUndecided self.now.held }
+    {
+        self.buffer.drained
+    }
+
+    /// Says that nothing more is heard: what is held is decided by the next calls of [`Scanner::take`].
+    pub fn finish(&mut self)
+        ensures { self.new ≡ finishing self.old }
+    {
+        self.buffer.finish();
+    }
+
+    /// The number of characters that were pushed since the scanner was new: those that were let go, and at most 269 that are held.
+    pub fn pushed(&self) -> u64
+        ensures pushed { result ≡ self.now.first + length self.now.held }
+        ensures few { length self.now.held ≤ 269 }
+    {
+        self.buffer.pushed()
+    }
+}

@@ -1,0 +1,10 @@
+//! On the wire: a frame, and the bytes of its body and its message.
+
+pub mod body;
+pub mod delimiter;
+pub mod fault;
+pub mod frame;
+pub mod kind;
+pub mod layout;
+pub mod message;
+pub mod parity;

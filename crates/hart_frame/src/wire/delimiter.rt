@@ -1,0 +1,82 @@
+//! The first byte of a body: bit 7 the address type, bits 6 and 5 the number of expansion bytes, bits 2 to 0 the kind.
+ghost use Rattle.std.specs.Prelude.{◌≡◌, ◌≤◌, ◌+◌, ◌*◌, ◌/◌, ◌%◌, ◌⊎◌, ◌↔◌, IsSome, IfSome, IsTrue};
+ghost use Rattle.hart_frame.specs.wire.Delimiter.{delimiter_of, kind_code};
+ghost use Rattle.hart_frame.specs.wire.Refusal.{IsDelimiter};
+
+use crate::{Frame, FrameKind};
+use hart_values::Address;
+
+const UNIQUE_ADDRESS: u8 = 0x80;
+
+const EXPANSION_BYTE: u8 = 0x20;
+
+const PHYSICAL_LAYER: u8 = 0x08;
+
+const STX: u8 = 0x02;
+
+const ACK: u8 = 0x06;
+
+/// What a delimiter says of the bytes after it.
+#[derive(Clone, Copy)]
+pub(crate) struct Delimiter {
+    pub(crate) kind: FrameKind,
+    /// The number of address bytes: one or five.
+    pub(crate) address_len: usize,
+    /// The number of expansion bytes, at most 3.
+    pub(crate) expansion_len: usize,
+    ghost address_fits: { address_len ≤ 5 },
+    ghost expansion_fits: { expansion_len ≤ 3 },
+}
+
+impl Delimiter {
+    /// The place of the command: after the delimiter, the address bytes and the expansion bytes.
+    pub(crate) fn command_place(self) -> usize
+        ensures { result ≡ 1 + self.address_len + self.expansion_len }
+    {
+        1 + self.address_len + self.expansion_len
+    }
+
+    /// Whether its body can have this byte count: the payload of an ACK has two status bytes at least.
+    pub(crate) fn allows(self, byte_count: u8) -> bool
+        ensures { IsTrue result ↔ ((kind_code self.kind ≡ 2) ⊎ (2 ≤ byte_count)) }
+    {
+        self.kind == FrameKind::Stx || byte_count >= 2
+    }
+}
+
+/// The delimiter of the frame's body.
+pub(crate) fn delimiter_byte(frame: &Frame) -> u8
+    ensures { result ≡ delimiter_of frame.now }
+{
+    let address_type = match frame.address() {
+        Address::Polling(_) => 0,
+        Address::Unique(_) => UNIQUE_ADDRESS,
+    };
+    let kind = match frame.kind() {
+        FrameKind::Stx => STX,
+        FrameKind::Ack => ACK,
+    };
+    address_type + EXPANSION_BYTE * frame.expansion().len() as u8 + kind
+}
+
+/// What the delimiter says, or `None` if it is none of this profile.
+pub(crate) fn read_delimiter(byte: u8) -> Option<Delimiter>
+    ensures known { IsSome result ↔ IsDelimiter byte }
+    ensures kind { IfSome result (λ delimiter. kind_code delimiter.kind ≡ byte % 8) }
+    ensures address { IfSome result (λ delimiter. delimiter.address_len ≡ 1 + 4 * (byte / 128)) }
+    ensures expansion { IfSome result (λ delimiter. delimiter.expansion_len ≡ byte / 32 % 4) }
+{
+    if byte / PHYSICAL_LAYER % 4 != 0 {
+        return None;
+    }
+    let kind = match byte % PHYSICAL_LAYER {
+        STX => FrameKind::Stx,
+        ACK => FrameKind::Ack,
+        _ => return None,
+    };
+    Some(Delimiter {
+        kind,
+        address_len: if byte < UNIQUE_ADDRESS { 1 } else { 5 },
+        expansion_len: usize::from(byte / EXPANSION_BYTE % 4),
+    })
+}

@@ -1,0 +1,45 @@
+//! Frames that are made where another one was, so that none is moved.
+ghost use Rattle.std.specs.Prelude.{◌≡◌, ◌≤◌, length};
+ghost use Rattle.hart_frame.specs.wire.FrameParts.{reply_parts, request_parts};
+
+use crate::{Frame, FrameKind};
+use hart_values::{Address, MasterId, Payload};
+
+impl Frame {
+    /// Makes this frame the one that [`Frame::request`] gives, in place.
+    pub fn set_request(
+        &mut self,
+        master: MasterId,
+        address: Address,
+        command: u8,
+        payload: &Payload,
+    )
+        ensures { self.new ≡ request_parts master address command payload.now }
+    {
+        self.kind = FrameKind::Stx;
+        self.master = master;
+        self.burst = false;
+        self.address = address;
+        self.expansion.clear();
+        self.command = command;
+        self.payload.clear();
+        self.payload.extend_from_slice(payload.as_slice());
+    }
+
+    /// Makes this frame the one that [`Frame::reply`] gives of `request`, in place.
+    ///
+    /// The payload begins with the two status bytes.
+    pub fn set_reply(&mut self, request: &Frame, payload: &Payload)
+        requires { 2 ≤ length payload.now }
+        ensures { self.new ≡ reply_parts request.now payload.now }
+    {
+        self.kind = FrameKind::Ack;
+        self.master = request.master;
+        self.burst = false;
+        self.address = request.address;
+        self.expansion.clear();
+        self.command = request.command;
+        self.payload.clear();
+        self.payload.extend_from_slice(payload.as_slice());
+    }
+}

@@ -1,0 +1,53 @@
+//! Where the parts of a body stand.
+ghost use Rattle.std.specs.Prelude.{◌≡◌, ◌+◌, ◌<◌, ◌^◌, List, ℕ, IfOk, OnOk, IfErr};
+ghost use Rattle.hart_frame.specs.wire.Refusal.{IsRefusedWith, HasGoodByteCount};
+
+use crate::wire::delimiter::read_delimiter;
+use crate::{FrameFault, FrameKind};
+
+/// The parts of a body, as its delimiter and its byte count say.
+#[derive(Clone, Copy)]
+pub(crate) struct Layout {
+    pub(crate) kind: FrameKind,
+    /// The place after the address bytes.
+    pub(crate) address_end: usize,
+    pub(crate) command_place: usize,
+    pub(crate) byte_count: u8,
+}
+
+impl Layout {
+    ghost use Rattle.hart_frame.specs.wire.Layout.{Describes, body_length};
+
+    /// The layout of the body that these bytes may begin with.
+    ///
+    /// # Errors
+    ///
+    /// The first fault, in the order of [`decode`](crate::decode), that the bytes have up to their byte count.
+    pub(crate) fn read(bytes: &[u8]) -> Result<Self, FrameFault>
+        ensures known { OnOk result (HasGoodByteCount bytes.now) }
+        ensures described { IfOk result (λ layout. Describes layout bytes.now) }
+        ensures refused { IfErr result (IsRefusedWith bytes.now) }
+    {
+        let first = bytes.first().ok_or(FrameFault::Truncated)?;
+        let delimiter = read_delimiter(*first).ok_or(FrameFault::BadDelimiter)?;
+        let command_place = delimiter.command_place();
+        let byte_count = *bytes.get(command_place + 1).ok_or(FrameFault::Truncated)?;
+        if !delimiter.allows(byte_count) {
+            return Err(FrameFault::ShortReply);
+        }
+        Ok(Layout {
+            kind: delimiter.kind,
+            address_end: 1 + delimiter.address_len,
+            command_place,
+            byte_count,
+        })
+    }
+
+    /// The length of the body.
+    pub(crate) fn body_len(self) -> usize
+        requires { self.command_place + 3 + self.byte_count < 2 ^ 64 }
+        ensures { (bytes : List ℕ) → Describes self bytes → result ≡ body_length bytes }
+    {
+        self.command_place + 3 + usize::from(self.byte_count)
+    }
+}

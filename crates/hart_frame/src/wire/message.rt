@@ -1,0 +1,76 @@
+ghost use Rattle.std.specs.Prelude.{◌≡◌, ◌+◌, ◌<◌, ◌≤◌, ◌↔◌, ◌++◌, List, ℕ, length, replicate, IsOk, IfErr, OnOk, OnErr};
+ghost use Rattle.hart_frame.specs.wire.Body.{IsBody, IsCheckedPart};
+ghost use Rattle.hart_frame.specs.wire.Message.{IsMessage, IsPreambleCount};
+
+use crate::wire::delimiter::delimiter_byte;
+use crate::{Frame, FrameFault, check_byte};
+use hart_values::ByteList;
+
+/// A message on the line: at most 20 preamble bytes and a body of at most 267 bytes.
+pub type Message = ByteList<287>;
+
+/// The least number of preamble bytes that a sender puts.
+pub const LEAST_PREAMBLES: u8 = 5;
+
+/// The greatest number of preamble bytes that a sender puts.
+pub const MOST_PREAMBLES: u8 = 20;
+
+pub(crate) const PREAMBLE: u8 = 0xFF;
+
+/// Writes the frame as a message: this number of preamble bytes `FF`, and its body. What `output` held is replaced.
+///
+/// # Errors
+///
+/// [`FrameFault::BadPreamble`] if `preambles` is outside [`LEAST_PREAMBLES`] to [`MOST_PREAMBLES`]. The output is then
+/// as it was.
+pub fn encode(frame: &Frame, preambles: u8, output: &mut Message) -> Result<(), FrameFault>
+    ensures accepted { IsOk result ↔ IsPreambleCount preambles }
+    ensures written { OnOk result (IsMessage frame.now preambles output.new) }
+    ensures refused { IfErr result (λ fault. fault ≡ FrameFault.BadPreamble) }
+    ensures unchanged { OnErr result (output.new ≡ output.old) }
+{
+    if preambles < LEAST_PREAMBLES || preambles > MOST_PREAMBLES {
+        return Err(FrameFault::BadPreamble);
+    }
+    output.clear();
+    push_preamble(preambles, output);
+    push_body(frame, output);
+    Ok(())
+}
+
+/// Adds preamble bytes to an empty message.
+fn push_preamble(preambles: u8, output: &mut Message)
+    requires empty { length output.old ≡ 0 }
+    requires room { preambles ≤ MOST_PREAMBLES }
+    ensures { output.new ≡ replicate preambles 255 }
+{
+    for _ in 0..preambles {
+        output.push(PREAMBLE);
+    }
+}
+
+/// Adds the frame's body.
+pub(crate) fn push_body<const N: usize>(frame: &Frame, output: &mut ByteList<N>)
+    requires { length output.old + 267 ≤ N }
+    ensures { (body : List ℕ) × IsBody frame.now body × (output.new ≡ output.old ++ body) }
+{
+    let start = output.len();
+    push_checked_part(frame, output);
+    let check = check_byte(&output.as_slice()[start..]);
+    output.push(check);
+}
+
+/// Adds what stands in the frame's body before the check byte.
+fn push_checked_part<const N: usize>(frame: &Frame, output: &mut ByteList<N>)
+    requires { length output.old + 267 ≤ N }
+    ensures parts { (checked : List ℕ) × IsCheckedPart frame.now checked × (output.new ≡ output.old ++ checked) }
+    ensures room { length output.new < N }
+{
+    let address = frame.address().bytes(frame.master(), frame.burst());
+    output.push(delimiter_byte(frame));
+    output.extend_from_slice(address.as_slice());
+    output.extend_from_slice(frame.expansion());
+    output.push(frame.command());
+    output.push(frame.payload().len() as u8);
+    output.extend_from_slice(frame.payload());
+}

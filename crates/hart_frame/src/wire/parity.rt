@@ -1,0 +1,18 @@
+ghost use Rattle.hart_frame.specs.wire.Parity.{IsCheckByte};
+
+use std::simd::prelude::*;
+
+/// The check byte of some bytes: their exclusive or (HCF_SPEC-081).
+///
+/// After them it makes every bit stand in an even number of bytes, so that the check byte of a whole body is 0.
+pub fn check_byte(bytes: &[u8]) -> u8
+    ensures { IsCheckByte bytes.now result }
+{
+    let (blocks, rest) = bytes.as_chunks::<32>();
+    let mut lanes = u8x32::splat(0);
+    for block in blocks {
+        lanes ^= u8x32::from_array(*block);
+    }
+    let check = lanes.reduce_xor();
+    rest.iter().fold(check, |check, byte| check ^ byte)
+}

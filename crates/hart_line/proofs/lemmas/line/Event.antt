@@ -1,0 +1,59 @@
+-- A submission, the switch of protection and a restart on the line are those of the world.
+use Rattle.std.proofs.Common.{◌≡◌, refl, true, Option, None, Some, [], ◌∷◌, ◌++◌, Bool, length}
+use Rattle.hart_values.specs.declared.address.Address.{Address}
+use Rattle.hart_values.specs.declared.master_id.MasterId.{MasterId}
+use Rattle.hart_values.specs.declared.master_id.MasterId.TheVariants.{Primary, Secondary}
+use Rattle.hart_values.specs.declared.each_master.EachMaster.{EachMaster}
+use Rattle.hart_values.specs.EachMaster.{of_master, with_master}
+use Rattle.hart_commands.specs.declared.request.Request.{Request}
+use Rattle.hart_device.specs.Device.{DeviceState, for_both, restarted}
+use Rattle.hart_master.specs.declared.fault.MasterFault.{MasterFault}
+use Rattle.hart_line.specs.line.Line.{LineState, Stands}
+use Rattle.hart_line.specs.line.Masters.{AreHeld, Submits}
+use Rattle.hart_line.specs.world.Step.{submitted}
+use Rattle.hart_line.specs.world.World.{Start, World}
+use Rattle.hart_line.specs.declared.line.masters.Masters.{Masters}
+use Rattle.hart_line.specs.declared.line.report.Outcome.{Outcome}
+
+with_master-own : {A : Type 0} (who : MasterId) (each : EachMaster A) → with_master who (of_master who each) each ≡ each
+with_master-own Primary each = refl
+with_master-own Secondary each = refl
+
+pub submitted_stands : (start : Start) (world : World) (who : MasterId) (address : Address) (request : Request)
+    (fault : Option MasterFault) (outcome : Outcome) (line : LineState) (masters : Masters) → Stands start world line
+    → Submits (of_master who world.hands) (length line.outcomes) address request fault outcome
+    (λ left. AreHeld start.retries (with_master who left world.hands) masters)
+    → Stands start (submitted world who address request fault)
+    (record line { masters = masters; outcomes = line.outcomes ++ outcome ∷ [] })
+submitted_stands start world who address request None outcome line masters s submits = record {
+  device_is = s.device_is;
+  masters_are = rw s.outcomes_are at submits.1;
+  outcomes_are = rw (s.outcomes_are, submits.0);
+  spoken_are = s.spoken_are;
+}
+submitted_stands start world who address request (Some fault) outcome line masters s submits = record {
+  device_is = s.device_is;
+  masters_are = rw (with_master-own who world.hands) at submits.1;
+  outcomes_are = rw (s.outcomes_are, submits.0);
+  spoken_are = s.spoken_are;
+}
+
+pub protected_stands : (start : Start) (world : World) (on : Bool) (line : LineState) (device : DeviceState) → Stands start world line
+    → device ≡ record line.device { protected = on }
+    → Stands start (record world { protected = on }) (record line { device = device })
+protected_stands start world on line device s is = record {
+  device_is = rw (is, s.device_is);
+  masters_are = s.masters_are;
+  outcomes_are = s.outcomes_are;
+  spoken_are = s.spoken_are;
+}
+
+pub restarted_stands : (start : Start) (world : World) (line : LineState) (device : DeviceState) → Stands start world line
+    → device ≡ restarted line.device
+    → Stands start (record world { cold_start = for_both true }) (record line { device = device })
+restarted_stands start world line device s is = record {
+  device_is = rw (is, s.device_is);
+  masters_are = s.masters_are;
+  outcomes_are = s.outcomes_are;
+  spoken_are = s.spoken_are;
+}

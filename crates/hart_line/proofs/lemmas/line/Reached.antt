@@ -1,0 +1,87 @@
+-- How far a script has come.
+use Rattle.std.proofs.Common.{◌≡◌, ℕ, ◌+◌, ◌≤◌, ◌<◌, sym, refl, subst, List, [], length, take, get_or}
+use Rattle.std.proofs.lemmas.List.{take_all, take_more}
+use Rattle.std.proofs.lemmas.Option.{slice_get-get_or}
+use Rattle.hart_values.specs.declared.master_id.MasterId.TheVariants.{Primary, Secondary}
+use Rattle.hart_device.specs.Device.{DeviceState}
+use Rattle.hart_device.specs.declared.process.Process.{Process}
+use Rattle.hart_master.specs.Master.{MasterState}
+use Rattle.hart_master.specs.declared.hand.Hand.TheVariants.{Empty}
+use Rattle.hart_line.specs.world.Faults.{HasUndetected, IsFault}
+use Rattle.hart_line.specs.line.Line.{LineState, Stands, Stepped}
+use Rattle.hart_line.specs.world.Promises.{start_from}
+use Rattle.hart_line.specs.world.Step.{IsLast}
+use Rattle.hart_line.specs.world.World.{Start, World, first_world, state_of}
+use Rattle.hart_line.specs.declared.event.LineEvent.{LineEvent}
+use Rattle.hart_line.specs.declared.line.report.Outcome.{Outcome}
+use Rattle.hart_line.specs.declared.line.report.Spoken.{Spoken}
+use Rattle.hart_line.specs.declared.fault.Leg.{Leg}
+use Rattle.hart_line.specs.declared.fault.LineFault.TheVariants.{Undetected}
+use Rattle.hart_line.proofs.lemmas.world.Leads.{run_more}
+use Rattle.hart_line.proofs.lemmas.world.Sound.{IsSound, first_sound, step_sound}
+
+-- The line stands for a world that the events lead to.
+pub record IsReached (start : Start) (events : List LineEvent) (line : LineState) : Type 0 where
+  pub world : World
+  pub is_last : IsLast start events world
+  pub stands : Stands start world line
+  pub sound : IsSound world
+
+pub reached_more : (start : Start) (events : List LineEvent) (n : ℕ) (unused : LineEvent) (line line' : LineState) → n < length events
+    → (r : IsReached start (take n events) line) → Stepped start r.world (get_or events n unused) line'
+    → IsReached start (take (n + 1) events) line'
+reached_more start events n unused line line' here r s =
+    record {
+      world = s.next;
+      is_last = rw (take_more events n unused here)
+          (run_more start (take n events) (get_or events n unused) (first_world start) r.world s.next r.is_last s.step);
+      stands = s.stands;
+      sound = step_sound start r.world (get_or events n unused) s.next s.step r.sound;
+    }
+
+-- After the last event the whole script was carried out.
+pub reached_whole : (start : Start) (events : List LineEvent) (n : ℕ) (line : LineState) → length events ≤ n
+    → IsReached start (take n events) line → IsReached start events line
+reached_whole start events n line all r = subst (λ es. IsReached start es line) (take_all n events all) r
+
+-- So it is for what is reported of the line.
+pub reached_report : {start : Start} {events : List LineEvent} {line : LineState} (device : DeviceState) (outcomes : List Outcome)
+    (spoken : List Spoken) → device ≡ line.device → outcomes ≡ line.outcomes → spoken ≡ line.spoken → IsReached start events line
+    → IsReached start events (record line { device = device; outcomes = outcomes; spoken = spoken })
+reached_report device outcomes spoken one two three r = rw (one, two, three) r
+
+pub reached_first : (device : DeviceState) (process : Process) (primary secondary : MasterState) (outcomes_room spoken_room : ℕ)
+    → state_of device (first_world (start_from device process primary secondary)) ≡ device
+    → (primary.id ≡ Primary) × (primary.hand ≡ Empty) → (secondary.id ≡ Secondary) × (secondary.hand ≡ Empty)
+    → IsReached (start_from device process primary secondary) [] (record {
+      device = device;
+      masters = record {
+        primary = record { master = primary; place = 0 };
+        secondary = record { master = secondary; place = 0 };
+      };
+      outcomes = [];
+      spoken = [];
+      outcomes_room = outcomes_room;
+      spoken_room = spoken_room;
+    })
+reached_first device process primary secondary outcomes_room spoken_room first one other = record {
+  world = first_world (start_from device process primary secondary);
+  is_last = refl;
+  stands = record {
+    device_is = sym first;
+    masters_are = record {
+      primary = record { reply_limit = primary.reply_limit; master_is = rw (← one.0, ← one.1) refl; place_is = tt };
+      secondary = record { reply_limit = secondary.reply_limit; master_is = rw (← other.0, ← other.1) refl; place_is = tt };
+    };
+    outcomes_are = refl;
+    spoken_are = tt;
+  };
+  sound = first_sound (start_from device process primary secondary);
+}
+
+-- The event at which a script stops.
+pub fault_at : (start : Start) (events : List LineEvent) (n : ℕ) (unused : LineEvent) (world : World) (leg : Leg) → n < length events
+    → IsLast start (take n events) world → HasUndetected start world (get_or events n unused) leg
+    → IsFault start events (Undetected n leg)
+fault_at start events n unused world leg here last undetected =
+    (world, get_or events n unused, last, slice_get-get_or events n unused here, undetected)

@@ -1,0 +1,13 @@
+-- The world of a script: what has happened on the line.
+pub mod Basics
+pub mod State
+pub mod Arrival
+pub mod Leads
+pub mod Sound
+pub mod Submitted
+pub mod Answered
+pub mod Last
+pub mod Count
+pub mod Written
+pub mod Reset
+pub mod Detected

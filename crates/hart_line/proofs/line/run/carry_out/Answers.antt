@@ -1,0 +1,79 @@
+use Rattle.std.proofs.Common.{◌<◌, arith, rules, refl, subst}
+use Rattle.std.proofs.lemmas.List.{take_all}
+use Rattle.hart_line.specs.world.Promises.{AreWellMade, start_from}
+use Rattle.hart_line.proofs.lemmas.line.Reached.{fault_at, reached_first, reached_more, reached_report, reached_whole}
+use Rattle.hart_line.proofs.lemmas.line.Room.{room_for_next, room_for_others}
+use Rattle.hart_line.proofs.lemmas.world.State.{state-first}
+use Rattle.hart_line.proofs.lemmas.world.Submitted.{made_more}
+use Rattle.hart_line.proofs.lemmas.line.Whole.{of_last}
+use Rattle.hart_line.proofs.line.run.carry_out.Goals as goal
+
+pub loop-index-init : goal.loop-index-init
+loop-index-init g c =
+    let small : c.args.device.counter < 65536 = rw c.counter-counter.ensures at c.counter-counter.type_inv in
+    let start = start_from c.args.device c.args.process.now c.args.primary c.args.secondary in record {
+      reached = rw (c.new-line.ensures, c.requires.room.no_outcomes, c.requires.room.nothing_spoken)
+          (reached_first c.args.device c.args.process.now c.args.primary c.args.secondary _ _
+          (state-first c.registers_of_lists.ensures.none start small) c.requires.primary c.requires.secondary);
+      well_made = search rules;
+      room = rw (c.new-line.ensures, c.requires.room.no_outcomes, c.requires.room.nothing_spoken)
+          (record { outcomes = omega (arith, c.requires.room.outcomes); spoken = omega (arith, c.requires.room.spoken) });
+    }
+
+pub step-requires : goal.step-requires
+step-requires g c = record {
+  room = rw c.index-events-index.is
+      (room_for_next c.args.events.now c.loop-index.index _ _ c.loop-index-test.true c.loop-index.invariant.room);
+}
+
+pub returns-in-Err-clause-fault : goal.returns-in-Err-clause-fault
+returns-in-Err-clause-fault g c =
+    let start = start_from c.args.device c.args.process.now c.args.primary c.args.secondary in
+    let reached = c.loop-index.invariant.reached in
+    rw c.at.ensures (fault_at start c.args.events.now c.loop-index.index _ reached.world c.in-Err.damage.leg c.loop-index-test.true
+    reached.is_last
+    (rw c.index-events-index.is at (c.in-Err.ensures.stopped start reached.world refl reached.stands)))
+
+pub loop-index-preserved : goal.loop-index-preserved
+loop-index-preserved g c =
+    let start = start_from c.args.device c.args.process.now c.args.primary c.args.secondary in
+    let reached = c.loop-index.invariant.reached in record {
+      reached = reached_more start c.args.events.now c.loop-index.index _ _ _ c.loop-index-test.true reached
+          (rw c.index-events-index.is at (c.in_default.ensures.stepped start reached.world refl reached.sound.marks reached.stands));
+      well_made = made_more c.args.events.now c.loop-index.index _ c.loop-index-test.true c.loop-index.invariant.well_made
+          (rw c.index-events-index.is at c.in_default.ensures.well_made);
+      room = room_for_others c.args.events.now c.loop-index.index _ _ _ c.loop-index-test.true c.loop-index.invariant.room
+          (rw c.index-events-index.is at c.in_default.ensures.room);
+    }
+
+pub returns-in-Err-clause-reported : goal.returns-in-Err-clause-reported
+returns-in-Err-clause-reported g c = λ world last. absurd (c.scripts_have_one_last_world.ensures.no_fault
+    (start_from c.args.device c.args.process.now c.args.primary c.args.secondary) c.args.events.now world _ _ last
+    (returns-in-Err-clause-fault g c))
+
+pub returns-in-Err-clause-stopped : goal.returns-in-Err-clause-stopped
+returns-in-Err-clause-stopped g c = λ event leg fault.
+    let same = c.scripts_have_one_last_world.ensures.one_fault
+    (start_from c.args.device c.args.process.now c.args.primary c.args.secondary) c.args.events.now _ _ _ _
+    (returns-in-Err-clause-fault g c) fault in
+    rw (← same.0, ← same.1) refl
+
+pub returns : goal.returns
+returns g c =
+    let start = start_from c.args.device c.args.process.now c.args.primary c.args.secondary in
+    let events = c.args.events.now in
+    let worlds = c.scripts_have_one_last_world.ensures in
+    let report = c.into_report.ensures in
+    let reached = reached_report {start = start} {events = events} _ _ _ report.device report.outcomes report.spoken
+    (reached_whole _ _ _ _ (omega (arith, c.loop-index-test.false)) c.loop-index.invariant.reached) in
+    record {
+      world = (reached.world, reached.is_last);
+      device = of_last worlds.one_world _ reached reached.stands.device_is;
+      outcomes = of_last worlds.one_world _ reached reached.stands.outcomes_are;
+      spoken = of_last worlds.one_world _ reached reached.stands.spoken_are;
+      well_made = subst AreWellMade (take_all c.loop-index.index events (omega (arith, c.loop-index-test.false)))
+          c.loop-index.invariant.well_made;
+      reported = λ world last. refl;
+      stopped = λ event leg fault. absurd (worlds.no_fault start events reached.world event leg reached.is_last fault);
+      fault = tt;
+    }

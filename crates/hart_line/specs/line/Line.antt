@@ -1,0 +1,34 @@
+-- The line as one value, as the world of a script has it, for private calls alone (own profile).
+use Rattle.std.specs.Prelude.{◌≡◌, ℕ, List}
+use Rattle.hart_device.specs.Device.{DeviceState}
+use Rattle.hart_line.specs.line.Masters.{AreHeld}
+use Rattle.hart_line.specs.world.Spoken.{AreSpoken}
+use Rattle.hart_line.specs.world.Step.{Step}
+use Rattle.hart_line.specs.world.World.{Start, World, state_of}
+use Rattle.hart_line.specs.declared.event.LineEvent.{LineEvent}
+use Rattle.hart_line.specs.declared.line.masters.Masters.{Masters}
+use Rattle.hart_line.specs.declared.line.report.Outcome.{Outcome}
+use Rattle.hart_line.specs.declared.line.report.Spoken.{Spoken}
+
+-- A line is a device, its two masters, what became of each submission so far, what was spoken, and for how many outcomes and
+-- spoken frames there is room in all.
+pub record LineState : Type 0 where
+  pub device : DeviceState
+  pub masters : Masters
+  pub outcomes : List Outcome
+  pub spoken : List Spoken
+  pub outcomes_room : ℕ
+  pub spoken_room : ℕ
+
+-- A line stands for a world: its parts are those of the world.
+pub record Stands (start : Start) (world : World) (line : LineState) : Type 0 where
+  pub device_is : line.device ≡ state_of start.device world
+  pub masters_are : AreHeld start.retries world.hands line.masters
+  pub outcomes_are : line.outcomes ≡ world.outcomes
+  pub spoken_are : AreSpoken world.spoken line.spoken
+
+-- An event leads from a world to a next one, and the line stands for that.
+pub record Stepped (start : Start) (world : World) (event : LineEvent) (line : LineState) : Type 0 where
+  pub next : World
+  pub step : Step start world event next
+  pub stands : Stands start next line

@@ -1,0 +1,5 @@
+-- Scripts: texts of lines that say events.
+pub mod Items
+pub mod Words
+pub mod Lines
+pub mod Rows

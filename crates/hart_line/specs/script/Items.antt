@@ -1,0 +1,73 @@
+-- Texts of hex items (own profile): an item is two hex digits, after which a `!` and two more hex digits may give fault bits.
+use Rattle.std.specs.Prelude.{◌≡◌, ◌≢◌, ℕ, ◌+◌, ◌*◌, List, [], ◌∷◌, ◌++◌, length, unwrap_or, IsTrue, ⊤}
+use Rattle.hart_frame.specs.heard.Character.{AreFaultBits, Character}
+use Rattle.hex.specs.Hex.{hex_digit_value, is_hex_digit}
+
+-- An item is a high and a low digit of its byte, alone or with the two digits of its fault bits.
+pub data Item : Type 0 where
+  Plain : (high low : ℕ) → Item
+  Faulty : (high low fault_high fault_low : ℕ) → Item
+
+-- An item is spelled by these bytes, of which 33 is the `!`.
+abbrev pub item_spelling : Item → List ℕ
+item_spelling (Plain high low) = high ∷ low ∷ []
+item_spelling (Faulty high low fault_high fault_low) = high ∷ low ∷ 33 ∷ fault_high ∷ fault_low ∷ []
+
+-- Two bytes are digits if both are hex digits, of either case.
+abbrev pub AreDigits : ℕ → ℕ → Type 0
+AreDigits high low = IsTrue (is_hex_digit high) × IsTrue (is_hex_digit low)
+
+-- A hex digit has this value.
+abbrev pub hex_value : ℕ → ℕ
+hex_value digit = unwrap_or (hex_digit_value digit) 0
+
+-- Two digits write this byte.
+abbrev pub byte_of : ℕ → ℕ → ℕ
+byte_of high low = 16 * hex_value high + hex_value low
+
+-- An item has hex digits, and its fault bits, if it gives them, are not 00 and none but those that there are.
+abbrev pub IsValidItem : Item → Type 0
+IsValidItem (Plain high low) = AreDigits high low
+IsValidItem (Faulty high low fault_high fault_low) =
+    AreDigits high low × AreDigits fault_high fault_low
+    × (byte_of fault_high fault_low ≢ 0) × AreFaultBits (byte_of fault_high fault_low)
+
+-- An item means the character of its byte and its fault bits.
+abbrev pub item_meaning : Item → Character
+item_meaning (Plain high low) = record { byte = byte_of high low; faults = 0 }
+item_meaning (Faulty high low fault_high fault_low) =
+    record { byte = byte_of high low; faults = byte_of fault_high fault_low }
+
+-- An item without fault bits does not end before a `!`, as that would belong to it.
+abbrev pub EndsBefore : List ℕ → Item → Type 0
+EndsBefore tail (Faulty high low fault_high fault_low) = ⊤
+EndsBefore [] (Plain high low) = ⊤
+EndsBefore (next ∷ tail) (Plain high low) = next ≢ 33
+
+-- A text begins with a valid item, which ends before the rest of the text.
+pub record BeginsWithItem (text : List ℕ) (item : Item) (tail : List ℕ) : Type 0 where
+  pub valid : IsValidItem item
+  pub spelled : text ≡ item_spelling item ++ tail
+  pub ends : EndsBefore tail item
+
+-- No item stands at the beginning of a text.
+abbrev pub NoItemBegins : List ℕ → Type 0
+NoItemBegins text = (item : Item) (tail : List ℕ) → BeginsWithItem text item tail → ⊥
+
+-- A text begins with items end to end up to a rest of it, and they mean these characters.
+pub data BeginsWithItems : List ℕ → List Character → List ℕ → Type 0 where
+  nothing : (rest : List ℕ) → BeginsWithItems rest [] rest
+  item : (text : List ℕ) (first : Item) (tail : List ℕ) (chars : List Character) (rest : List ℕ)
+      → BeginsWithItem text first tail → BeginsWithItems tail chars rest → BeginsWithItems text (item_meaning first ∷ chars) rest
+
+-- A word is items end to end, one at least and nothing but items, which mean these characters.
+abbrev pub IsItemsWord : List ℕ → List Character → Type 0
+IsItemsWord word chars = (word ≢ []) × BeginsWithItems word chars []
+
+-- A text begins with an item of this length, which means this character.
+pub record BeginsAsItem (text : List ℕ) (char : Character) (len : ℕ) : Type 0 where
+  pub item : Item
+  pub tail : List ℕ
+  pub begins : BeginsWithItem text item tail
+  pub long : length (item_spelling item) ≡ len
+  pub means : item_meaning item ≡ char

@@ -1,0 +1,62 @@
+-- What arrives of a message that was sent in a leg of the line (HCF_SPEC-081; which damage is detected is of the own profile).
+use Rattle.std.specs.Prelude.{◌≡◌, ◌⊎◌, ℕ, List, [], ◌∷◌, Option, None, Some}
+use Rattle.hart_frame.specs.heard.Character.{Character, faultless}
+use Rattle.hart_frame.specs.heard.Damage.{IsCheckDamage, IsMarkedDamage}
+use Rattle.hart_frame.specs.wire.FrameParts.{FrameParts}
+use Rattle.hart_frame.specs.heard.Frames.{AreFrames}
+use Rattle.hart_frame.specs.wire.Message.{IsMessage}
+use Rattle.hart_frame.specs.declared.heard.found.Found.{Found}
+use Rattle.hart_device.specs.answer.Delivery.{BringsBy, Brought}
+use Rattle.hart_device.specs.declared.identity_parts.IdentityParts.{IdentityParts}
+use Rattle.hart_line.specs.declared.event.Heard.{Heard}
+use Rattle.hart_line.specs.declared.event.Heard.TheVariants.{Clean, Lost, Chars}
+use Rattle.hart_line.specs.world.Spoken.{SpokenFrame, frame_of}
+
+-- In a clean leg the message of what was sent is heard without faults, or nothing if nothing was sent; in a lost leg nothing is
+-- heard; in any other, the characters that are given.
+abbrev pub AreHeard : Heard → Option SpokenFrame → List Character → Type 0
+AreHeard Clean None chars = chars ≡ []
+AreHeard Clean (Some said) chars =
+    (bytes : List ℕ) × IsMessage said.frame said.preambles bytes × (chars ≡ faultless bytes)
+AreHeard Lost sent chars = chars ≡ []
+AreHeard (Chars given) sent chars = chars ≡ given
+
+-- The damage of what was heard is detected if that has no frame, and then nothing arrives; or if it has one frame alone, the one
+-- that was sent, which then arrives. If nothing was sent it has to have none.
+abbrev pub IsDetected : Option FrameParts → List Found → Option FrameParts → Type 0
+IsDetected sent [] arrived = arrived ≡ None
+IsDetected sent (found ∷ []) arrived = (sent ≡ Some found.frame) × (arrived ≡ sent)
+IsDetected sent (found ∷ other ∷ more) arrived = ⊥
+
+-- What arrives in a leg whose damage is detected: a frame or nothing.
+pub record Arrives (heard : Heard) (sent : Option SpokenFrame) (arrived : Option FrameParts) : Type 0 where
+  pub chars : List Character
+  pub are_heard : AreHeard heard sent chars
+  pub frames : List Found
+  pub are_frames : AreFrames chars 0 frames
+  pub detected : IsDetected (frame_of sent) frames arrived
+
+-- What a leg brings the device: its damage is detected, and the characters that are heard bring the device this. A frame that is
+-- brought is then the one that was sent.
+pub record Reaches (identity : IdentityParts) (heard : Heard) (sent : Option SpokenFrame) (brought : Brought) : Type 0 where
+  pub frame : Option FrameParts
+  pub arrives : Arrives heard sent frame
+  pub brings : BringsBy identity arrives.chars arrives.frames brought
+
+-- The damage of a leg is undetected if it is not detected: some frame was heard that is not the one sent, or more than one frame
+-- was heard.
+pub record IsUndetected (heard : Heard) (sent : Option SpokenFrame) : Type 0 where
+  pub chars : List Character
+  pub are_heard : AreHeard heard sent chars
+  pub frames : List Found
+  pub are_frames : AreFrames chars 0 frames
+  pub not_detected : (arrived : Option FrameParts) → IsDetected (frame_of sent) frames arrived → ⊥
+
+-- What is heard in a leg is detectable if the leg is clean or lost, or if something was sent in it and the characters that are given
+-- are marked or check damage of its message. If nothing was sent, nothing is said of given characters.
+abbrev pub IsDetectable : Heard → Option SpokenFrame → Type 0
+IsDetectable Clean sent = Unit {0}
+IsDetectable Lost sent = Unit {0}
+IsDetectable (Chars chars) None = ⊥
+IsDetectable (Chars chars) (Some said) =
+    IsMarkedDamage said.frame said.preambles chars ⊎ IsCheckDamage said.frame said.preambles chars

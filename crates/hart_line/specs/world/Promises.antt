@@ -1,0 +1,171 @@
+-- What is promised of a whole script (own profile).
+use Rattle.std.specs.Prelude.{◌≡◌, ◌≢◌, ◌⊎◌, ℕ, ◌+◌, List, [], ◌∷◌, ◌++◌, map, All, Option, None, Some, IsTrue, Ok, false, true, slice_get}
+use Rattle.hart_values.specs.declared.address.Address.{Address}
+use Rattle.hart_values.specs.declared.master_id.MasterId.{MasterId}
+use Rattle.hart_frame.specs.wire.FrameParts.{FrameParts}
+use Rattle.hart_values.specs.EachMaster.{of_master}
+use Rattle.hart_commands.specs.Registers.{Overwrite, overwrite_of}
+use Rattle.hart_commands.specs.RequestCode.{is_write}
+use Rattle.hart_commands.specs.RequestData.{IsRequest}
+use Rattle.hart_commands.specs.declared.reply.Reply.{Reply}
+use Rattle.hart_commands.specs.declared.request.Request.{Request}
+use Rattle.hart_commands.specs.declared.request.Request.TheVariants.{ResetChanged}
+use Rattle.hart_device.specs.answer.Answer.{answer_of, code_of, effect_of, is_answered, reading_of}
+use Rattle.hart_device.specs.answer.Delivery.{Brought, Garbled, NoMessage, OneFrame}
+use Rattle.hart_device.specs.Device.{DeviceState, Resets}
+use Rattle.hart_device.specs.declared.process.Process.{Process}
+use Rattle.hart_master.specs.Acceptance.{IsReplyTo}
+use Rattle.hart_master.specs.Master.{MasterState}
+use Rattle.hart_line.specs.world.Step.{Run, Step, effect_on, executions_after, spoken_request}
+use Rattle.hart_line.specs.world.World.{InHand, Start, World, first_world, state_of}
+use Rattle.hart_line.specs.declared.event.Heard.{Heard}
+use Rattle.hart_line.specs.declared.event.LineEvent.{LineEvent}
+use Rattle.hart_line.specs.declared.event.LineEvent.TheVariants.{Submit, Turn, Protect, Noise, Restart}
+use Rattle.hart_line.specs.declared.line.report.Outcome.{Outcome}
+use Rattle.hart_line.specs.declared.line.report.Outcome.TheVariants.{Answered, NoReply, Unfinished, Refused}
+
+-- A script starts with a device, the process values that it is handed, and how often each master sends again at most.
+abbrev pub start_from : DeviceState → Process → MasterState → MasterState → Start
+start_from device process primary secondary = record {
+  device = device;
+  process = process;
+  retries = record { primary = primary.retries; secondary = secondary.retries };
+}
+
+-- A submission: a master is asked to send a request to an address.
+pub record Submission : Type 0 where
+  pub who : MasterId
+  pub address : Address
+  pub request : Request
+
+-- The submissions of a script, in order, refused ones too.
+abbrev pub submissions_of : List LineEvent → List Submission
+submissions_of [] = []
+submissions_of (Submit who address request ∷ events) =
+    record { who = who; address = address; request = request } ∷ submissions_of events
+submissions_of (event ∷ events) = submissions_of events
+
+-- The submission of a request that is in a master's hand.
+abbrev pub submission_in : MasterId → InHand → Submission
+submission_in who held = record { who = who; address = held.address; request = held.request }
+
+-- One event of a script: the events before it lead to a world, and it leads from there to the next.
+pub record IsStepOf (start : Start) (from : World) (events : List LineEvent) (before : World) (event : LineEvent) (next : World)
+    : Type 0 where
+  pub prefix : List LineEvent
+  pub suffix : List LineEvent
+  pub split : events ≡ prefix ++ event ∷ suffix
+  pub led : Run start from prefix before
+  pub step : Step start before event next
+
+-- The turn in which a submission was answered, in the events after some world: the request in hand was sent for the last time, and
+-- arrived; the device's answer to it came back, and was accepted as this reply; what the request did entered the executions; and the
+-- request left the hand.
+pub record AnswersLastSendingFrom (start : Start) (from : World) (events : List LineEvent) (number : ℕ) (reply : Reply)
+    (sendings : ℕ) : Type 0 where
+  pub before : World
+  pub next : World
+  pub who : MasterId
+  pub up : Heard
+  pub down : Heard
+  pub turn : IsStepOf start from events before (Turn who up down) next
+  pub held : InHand
+  pub in_hand : of_master who before.hands ≡ Some held
+  pub of_submission : held.submission ≡ number
+  pub sent : sendings ≡ held.sendings + 1
+  pub arrived : turn.step.arrived ≡ OneFrame (spoken_request who held).frame
+  pub answer : FrameParts
+  pub answered : answer_of (state_of start.device before) start.process (spoken_request who held).frame ≡ Some answer
+  pub returned : turn.step.returned ≡ Some answer
+  pub is_reply : IsReplyTo who held.address held.request answer reply
+  pub executions : next.executions
+      ≡ executions_after (effect_of (state_of start.device before) (spoken_request who held).frame) number before.executions
+  pub reached : slice_get next.outcomes number ≡ Some (Answered reply sendings)
+  pub left : of_master who next.hands ≡ None
+
+-- An accepted reply is the device's answer in the turn of its request's last sending; the request in hand in that turn, with its
+-- address, is the one that was submitted under this number to that turn's master.
+pub record AnswersLastSending (start : Start) (events : List LineEvent) (number : ℕ) (reply : Reply) (sendings : ℕ) : Type 0 where
+  pub last_turn : AnswersLastSendingFrom start (first_world start) events number reply sendings
+  pub submitted_as : slice_get (submissions_of events) number ≡ Some (submission_in last_turn.who last_turn.held)
+
+-- The requests that are submitted, in order, refused ones too.
+abbrev pub requests_of : List LineEvent → List Request
+requests_of events = map (λ submission. submission.request) (submissions_of events)
+
+-- Each request that is submitted is well made.
+abbrev pub AreWellMade : List LineEvent → Type 0
+AreWellMade events = All IsRequest (requests_of events)
+
+-- How often a submission was sent, as its outcome says; a refused one, or one that is not there, never was.
+abbrev pub sendings_in : Option Outcome → ℕ
+sendings_in (Some (Answered reply sendings)) = sendings
+sendings_in (Some (NoReply sendings)) = sendings
+sendings_in (Some (Unfinished sendings)) = sendings
+sendings_in (Some (Refused fault)) = 0
+sendings_in None = 0
+
+-- In the turn in which a submission was answered one execution was added, of this submission with the overwrite of its request.
+pub record IsExecutedInItsTurn (start : Start) (events : List LineEvent) (number : ℕ) (request : Request) (reply : Reply) (sendings : ℕ)
+    : Type 0 where
+  pub answered : AnswersLastSending start events number reply sendings
+  pub overwrite : Overwrite
+  pub overwrites : overwrite_of request ≡ Some overwrite
+  pub executed : answered.last_turn.next.executions
+      ≡ answered.last_turn.before.executions ++ record { submission = number; overwrite = overwrite } ∷ []
+
+-- What an event brought the device: a turn what arrived in it. Every other event is taken to bring no message, as none of them can
+-- bring a frame: noise may bring a garbled request, which has no effect.
+abbrev pub arrived_in_step : (start : Start) (before : World) (event : LineEvent) (next : World) → Step start before event next
+    → Brought
+arrived_in_step start before (Submit who address request) next step = NoMessage
+arrived_in_step start before (Turn who up down) next step = step.arrived
+arrived_in_step start before (Protect on) next step = NoMessage
+arrived_in_step start before (Noise chars) next step = NoMessage
+arrived_in_step start before Restart next step = NoMessage
+
+-- What arrived is a write that is not refused: a frame of a configuration write that the device answers with code 0.
+abbrev pub IsUnrefusedWrite : DeviceState → Brought → Type 0
+IsUnrefusedWrite state (OneFrame frame) =
+    IsTrue (is_write frame.command) × (is_answered state frame ≡ true) × (code_of state frame ≡ 0)
+IsUnrefusedWrite state (Garbled request) = ⊥
+IsUnrefusedWrite state NoMessage = ⊥
+
+-- In a turn of this master one execution is added: that of the submission whose request is in its hand, with the overwrite of this
+-- request, which is the one that was submitted under that number to this master, with its address.
+pub record IsExecutedFromHand (start : Start) (events : List LineEvent) (who : MasterId) (before next : World) : Type 0 where
+  pub held : InHand
+  pub in_hand : of_master who before.hands ≡ Some held
+  pub submitted_as : slice_get (submissions_of events) held.submission ≡ Some (submission_in who held)
+  pub overwrite : Overwrite
+  pub overwrites : overwrite_of held.request ≡ Some overwrite
+  pub executed : next.executions ≡ before.executions ++ record { submission = held.submission; overwrite = overwrite } ∷ []
+
+-- A turn in which a frame arrived at the device that it answered with another code than 0, or not at all.
+pub record IsRefusedByDevice (start : Start) (events : List LineEvent) (before next : World) : Type 0 where
+  pub who : MasterId
+  pub up : Heard
+  pub down : Heard
+  pub turn : IsStepOf start (first_world start) events before (Turn who up down) next
+  pub frame : FrameParts
+  pub arrived : turn.step.arrived ≡ OneFrame frame
+  pub refused : (code_of (state_of start.device before) frame ≢ 0) ⊎ (is_answered (state_of start.device before) frame ≡ false)
+
+-- No turn of a master in these events resets its configuration-changed bit.
+abbrev pub HasNoReset : Start → World → List LineEvent → MasterId → Type 0
+HasNoReset start from events who = (before next : World) (up down : Heard)
+    (turn : IsStepOf start from events before (Turn who up down) next)
+    → effect_on (state_of start.device before) turn.step.arrived ≢ Resets
+
+-- The last turn of a script in which a Command 38 of this master was executed with code 0, the world before that turn, and the
+-- counter that the command named, if any.
+pub record IsLastReset (start : Start) (events : List LineEvent) (who : MasterId) (before : World) (given : Option ℕ) : Type 0 where
+  pub next : World
+  pub up : Heard
+  pub down : Heard
+  pub turn : IsStepOf start (first_world start) events before (Turn who up down) next
+  pub frame : FrameParts
+  pub arrived : turn.step.arrived ≡ OneFrame frame
+  pub resets : effect_of (state_of start.device before) frame ≡ Resets
+  pub reading : reading_of frame ≡ Ok (ResetChanged given)
+  pub last : HasNoReset start next turn.suffix who

@@ -1,0 +1,57 @@
+-- What is spoken on the line (HCF_SPEC-081).
+use Rattle.std.specs.Prelude.{◌≡◌, ℕ, Bool, true, false, List, [], ◌∷◌, ◌++◌, Option, None, Some}
+use Rattle.hart_values.specs.declared.master_id.MasterId.{MasterId}
+use Rattle.hart_values.specs.declared.master_id.MasterId.TheVariants.{Primary, Secondary}
+use Rattle.hart_frame.specs.wire.Body.{IsBody}
+use Rattle.hart_frame.specs.wire.FrameParts.{FrameParts}
+use Rattle.hart_line.specs.declared.line.report.Party.{Party}
+use Rattle.hart_line.specs.declared.line.report.Party.TheVariants as parties
+use Rattle.hart_line.specs.declared.line.report.Spoken.{Spoken}
+
+-- A frame is spoken by a party, after so many preamble bytes.
+pub record SpokenFrame : Type 0 where
+  pub party : Party
+  pub preambles : ℕ
+  pub frame : FrameParts
+
+-- A party speaks a frame, if there is one, after so many preamble bytes.
+abbrev pub spoken_by : Party → ℕ → Option FrameParts → Option SpokenFrame
+spoken_by party preambles None = None
+spoken_by party preambles (Some frame) = Some (record { party = party; preambles = preambles; frame = frame })
+
+-- A call says whether there is a frame, and which one it has written.
+abbrev pub frame_if : Bool → FrameParts → Option FrameParts
+frame_if true frame = Some frame
+frame_if false frame = None
+
+-- The frame that was spoken, if one was.
+abbrev pub frame_of : Option SpokenFrame → Option FrameParts
+frame_of None = None
+frame_of (Some said) = Some said.frame
+
+-- A master is a party of the line.
+abbrev pub party_of : MasterId → Party
+party_of Primary = parties.Primary
+party_of Secondary = parties.Secondary
+
+-- Own profile: a master puts 20 preamble bytes before each request.
+abbrev pub master_preambles : ℕ
+master_preambles = 20
+
+-- A spoken frame is put down as its party, the number of its preamble bytes, and the bytes of a body of it.
+pub record IsSpoken (said : SpokenFrame) (spoken : Spoken) : Type 0 where
+  pub party : spoken.party ≡ said.party
+  pub preambles : spoken.preambles ≡ said.preambles
+  pub body : IsBody said.frame spoken.bytes
+
+-- The list of what was spoken grows by this frame, if there is one.
+abbrev pub Speaks : Option SpokenFrame → List Spoken → List Spoken → Type 0
+Speaks None old new = new ≡ old
+Speaks (Some said) old new = (spoken : Spoken) × IsSpoken said spoken × (new ≡ old ++ spoken ∷ [])
+
+-- Spoken frames are put down one by one, in order.
+abbrev pub AreSpoken : List SpokenFrame → List Spoken → Type 0
+AreSpoken [] [] = Unit {0}
+AreSpoken [] (spoken ∷ others) = ⊥
+AreSpoken (said ∷ frames) [] = ⊥
+AreSpoken (said ∷ frames) (spoken ∷ others) = IsSpoken said spoken × AreSpoken frames others

@@ -1,0 +1,175 @@
+-- What an event does to a world, and what a script does (own profile).
+use Rattle.std.specs.Prelude.{◌≡◌, Bool, true, false, ℕ, ◌+◌, nat_le, if◌then◌else◌, List, [], ◌∷◌, ◌++◌, length, slice_set, Option, None}
+use Rattle.std.specs.Prelude.{Some}
+use Rattle.std.specs.Option.{option_to_list}
+use Rattle.hart_values.specs.declared.address.Address.{Address}
+use Rattle.hart_values.specs.declared.master_id.MasterId.{MasterId}
+use Rattle.hart_frame.specs.heard.Character.{Character}
+use Rattle.hart_frame.specs.wire.FrameParts.{FrameParts, request_parts}
+use Rattle.hart_values.specs.EachMaster.{of_master, with_master}
+use Rattle.hart_values.specs.declared.each_master.EachMaster.{EachMaster}
+use Rattle.hart_commands.specs.RequestData.{command_of, request_data}
+use Rattle.hart_commands.specs.declared.reply.Reply.{Reply}
+use Rattle.hart_commands.specs.declared.request.Request.{Request}
+use Rattle.hart_device.specs.answer.Answer.{effect_of, is_answered}
+use Rattle.hart_device.specs.answer.Delivery.{Brought, Garbled, NoMessage, OneFrame, answer_to}
+use Rattle.hart_device.specs.Device.{DeviceState, Effect, Nothing, Executes, Resets, for_both}
+use Rattle.hart_master.specs.Acceptance.{IsReplyTo}
+use Rattle.hart_master.specs.Pairing.{may_ask}
+use Rattle.hart_master.specs.declared.fault.MasterFault.{MasterFault}
+use Rattle.hart_master.specs.declared.fault.MasterFault.TheVariants.{Pending, WrongAddress}
+use Rattle.hart_line.specs.world.Damage.{Arrives, Reaches}
+use Rattle.hart_line.specs.world.Spoken.{SpokenFrame, master_preambles, spoken_by, party_of}
+use Rattle.hart_line.specs.world.World.{Execution, InHand, Start, World, first_world, state_of}
+use Rattle.hart_line.specs.declared.event.Heard.{Heard}
+use Rattle.hart_line.specs.declared.event.Heard.TheVariants.{Chars}
+use Rattle.hart_line.specs.declared.event.LineEvent.{LineEvent}
+use Rattle.hart_line.specs.declared.event.LineEvent.TheVariants.{Submit, Turn, Protect, Noise, Restart}
+use Rattle.hart_line.specs.declared.line.report.Outcome.{Outcome}
+use Rattle.hart_line.specs.declared.line.report.Outcome.TheVariants.{Answered, NoReply, Unfinished, Refused}
+use Rattle.hart_line.specs.declared.line.report.Party.TheVariants.{Device}
+
+-- A submission is refused if a request is in the master's hand, whatever the address, and otherwise if the request may not
+-- be sent to the address.
+abbrev pub submission_fault : Option InHand → Address → Request → Option MasterFault
+submission_fault (Some held) address request = Some Pending
+submission_fault None address request = if may_ask address request then None else Some WrongAddress
+
+-- A submission that is not refused puts its request into the master's hand, not sent yet, and is unfinished; a refused one adds
+-- its outcome, and leaves the hand as it is.
+abbrev pub submitted : World → MasterId → Address → Request → Option MasterFault → World
+submitted world who address request None = record world {
+  hands = with_master who
+      (Some (record { submission = length world.outcomes; address = address; request = request; sendings = 0 })) world.hands;
+  outcomes = world.outcomes ++ Unfinished 0 ∷ [];
+}
+submitted world who address request (Some fault) = record world {
+  outcomes = world.outcomes ++ Refused fault ∷ [];
+}
+
+-- In its turn a master sends the request in its hand: after the preamble bytes of a master an STX with the written data of the
+-- request.
+abbrev pub spoken_request : MasterId → InHand → SpokenFrame
+spoken_request who held = record {
+  party = party_of who;
+  preambles = master_preambles;
+  frame = request_parts who held.address (command_of held.request) (request_data held.request);
+}
+
+-- A master with nothing in its hand sends nothing.
+abbrev pub sent_by : MasterId → Option InHand → Option SpokenFrame
+sent_by who None = None
+sent_by who (Some held) = Some (spoken_request who held)
+
+-- What the device sends back is its answer to what it was brought, after as many preamble bytes as its identity says.
+abbrev pub sent_back : Start → World → Brought → Option SpokenFrame
+sent_back start world arrived = spoken_by Device start.device.identity.response_preambles
+    (answer_to (state_of start.device world) start.process arrived)
+
+-- A frame that arrives has its effect on the device. A garbled request has no effect, and without a message there is none.
+abbrev pub effect_on : DeviceState → Brought → Effect
+effect_on state (OneFrame frame) = effect_of state frame
+effect_on state (Garbled request) = Nothing
+effect_on state NoMessage = Nothing
+
+-- An execution enters the executions, with the number of its submission.
+abbrev pub executions_after : Effect → ℕ → List Execution → List Execution
+executions_after Nothing number executions = executions
+executions_after (Executes overwrite) number executions =
+    executions ++ record { submission = number; overwrite = overwrite } ∷ []
+executions_after Resets number executions = executions
+
+-- A reset sets the mark of its master to the number of executions so far.
+abbrev pub marks_after : Effect → MasterId → ℕ → EachMaster (Option ℕ) → EachMaster (Option ℕ)
+marks_after Nothing who count marks = marks
+marks_after (Executes overwrite) who count marks = marks
+marks_after Resets who count marks = with_master who (Some count) marks
+
+-- If a frame is answered in a master's turn, the reply shows this master's cold start bit and clears it, whatever its response code. A
+-- frame that is not answered, a garbled request and no message leave both masters' bits as they are.
+abbrev pub cold_start_after : DeviceState → MasterId → Brought → EachMaster Bool
+cold_start_after state who (OneFrame frame) = if is_answered state frame then with_master who false state.cold_start else state.cold_start
+cold_start_after state who (Garbled request) = state.cold_start
+cold_start_after state who NoMessage = state.cold_start
+
+-- A master accepts what comes back as the reply that it is to the request in hand; it accepts nothing if it is no such reply,
+-- if nothing comes back, or if nothing is in hand.
+abbrev pub Accepts : MasterId → Option InHand → Option FrameParts → Option Reply → Type 0
+Accepts who None returned accepted = accepted ≡ None
+Accepts who (Some held) None accepted = accepted ≡ None
+Accepts who (Some held) (Some frame) None = (reply : Reply) → IsReplyTo who held.address held.request frame reply → ⊥
+Accepts who (Some held) (Some frame) (Some reply) = IsReplyTo who held.address held.request frame reply
+
+-- A request is answered by the reply that is accepted; without one it is unfinished while it was sent no more often than there
+-- are retries, and otherwise has no reply.
+abbrev pub outcome_of : (retries sendings : ℕ) → Option Reply → Outcome
+outcome_of retries sendings (Some reply) = Answered reply sendings
+outcome_of retries sendings None = if nat_le sendings retries then Unfinished sendings else NoReply sendings
+
+-- An unfinished request stays in hand, with its sendings, and every other leaves it.
+abbrev pub hand_left : InHand → Outcome → Option InHand
+hand_left held (Unfinished sendings) = Some (record held { sendings = sendings })
+hand_left held (Answered reply sendings) = None
+hand_left held (NoReply sendings) = None
+hand_left held (Refused fault) = None
+
+-- The device's answer to what arrived, if any, is spoken, and nothing else changes.
+abbrev pub replied : Start → World → Brought → World
+replied start world arrived = record world { spoken = world.spoken ++ option_to_list (sent_back start world arrived) }
+
+-- A turn of a master, in which this arrived and this reply was accepted: with nothing in hand the device's answer to what arrived
+-- is spoken alone, if any; otherwise the request is spoken, then that answer; the effect enters the executions under the number of
+-- the submission, or sets the master's mark; if the frame is answered, the master's cold start bit is cleared; and the submission gets
+-- its outcome, by which the request stays in hand or leaves it.
+abbrev pub turned : Start → World → MasterId → Option InHand → Brought → Option Reply → World
+turned start world who None arrived accepted = replied start world arrived
+turned start world who (Some held) arrived accepted =
+    let effect = effect_on (state_of start.device world) arrived in
+    let outcome = outcome_of (of_master who start.retries) (held.sendings + 1) accepted in
+    record {
+      executions = executions_after effect held.submission world.executions;
+      marks = marks_after effect who (length world.executions) world.marks;
+      protected = world.protected;
+      cold_start = cold_start_after (state_of start.device world) who arrived;
+      hands = with_master who (hand_left held outcome) world.hands;
+      outcomes = slice_set world.outcomes held.submission outcome;
+      spoken = world.spoken ++ spoken_request who held ∷ option_to_list (sent_back start world arrived);
+    }
+
+-- A turn leads to the next world by what it brings the device, what comes back of the answer to that, and the reply that is
+-- accepted then.
+pub record IsTurn (start : Start) (world : World) (who : MasterId) (up down : Heard) (next : World) : Type 0 where
+  pub arrived : Brought
+  pub arrives : Reaches start.device.identity up (sent_by who (of_master who world.hands)) arrived
+  pub returned : Option FrameParts
+  pub returns : Arrives down (sent_back start world arrived) returned
+  pub accepted : Option Reply
+  pub accepts : Accepts who (of_master who world.hands) returned accepted
+  pub next_is : next ≡ turned start world who (of_master who world.hands) arrived accepted
+
+-- Noise, in which nothing was sent, leads to the next world by what it brings the device, whose answer is spoken, if any. Both
+-- masters hear that without damage; as neither awaits a reply, neither accepts it.
+pub record IsNoise (start : Start) (world : World) (chars : List Character) (next : World) : Type 0 where
+  pub arrived : Brought
+  pub arrives : Reaches start.device.identity (Chars chars) None arrived
+  pub next_is : next ≡ replied start world arrived
+
+-- An event leads from a world to the next: a submission by the fault that refuses it, if any; a turn; the switch of protection,
+-- which changes nothing else; noise; and a restart of the device, which sets both masters' cold start bits and changes nothing else,
+-- so that what the masters have in hand stays. If damage is not detected there is no next world.
+abbrev pub Step : Start → World → LineEvent → World → Type 0
+Step start world (Submit who address request) next =
+    next ≡ submitted world who address request (submission_fault (of_master who world.hands) address request)
+Step start world (Turn who up down) next = IsTurn start world who up down next
+Step start world (Protect on) next = next ≡ record world { protected = on }
+Step start world (Noise chars) next = IsNoise start world chars next
+Step start world Restart next = next ≡ record world { cold_start = for_both true }
+
+-- The events of a script lead from a world to the last one, event by event.
+abbrev pub Run : Start → World → List LineEvent → World → Type 0
+Run start world [] last = last ≡ world
+Run start world (event ∷ events) last = (next : World) × Step start world event next × Run start next events last
+
+-- The last world of a script is the one that its events lead to from the first.
+abbrev pub IsLast : Start → List LineEvent → World → Type 0
+IsLast start events last = Run start (first_world start) events last

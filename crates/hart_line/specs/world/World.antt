@@ -1,0 +1,84 @@
+-- The world of a script (own profile): what has happened on the line, by executions and the numbers of submissions, which a
+-- device and its masters do not know.
+use Rattle.std.specs.Prelude.{◌≡◌, ℕ, ◌≤◌, ◌+◌, ◌%◌, ◌^◌, ◌||◌, nat_lt, Bool, List, [], length, map, Option, None, Some}
+use Rattle.hart_values.specs.declared.address.Address.{Address}
+use Rattle.hart_values.specs.declared.each_master.EachMaster.{EachMaster}
+use Rattle.hart_values.specs.declared.master_id.MasterId.{MasterId}
+use Rattle.hart_values.specs.EachMaster.{of_master}
+use Rattle.hart_commands.specs.Registers.{Overwrite, registers_of}
+use Rattle.hart_commands.specs.declared.request.Request.{Request}
+use Rattle.hart_device.specs.Device.{DeviceState}
+use Rattle.hart_device.specs.declared.process.Process.{Process}
+use Rattle.hart_line.specs.world.Spoken.{SpokenFrame}
+use Rattle.hart_line.specs.declared.line.report.Outcome.{Outcome}
+
+-- An execution of a configuration write has the number of its submission, counted from 0, and the overwrite that was executed.
+pub record Execution : Type 0 where
+  pub submission : ℕ
+  pub overwrite : Overwrite
+
+-- A request in a master's hand has the number of its submission, its address, and how often it was sent.
+pub record InHand : Type 0 where
+  pub submission : ℕ
+  pub address : Address
+  pub request : Request
+  pub sendings : ℕ
+
+-- A world is what was executed, oldest first; for each master its mark, which is how many executions there were when its last
+-- Command 38 was executed, if any was; whether the device is protected; for each master its cold start bit; what each master has in
+-- hand; what became of each submission so far; and what was spoken.
+pub record World : Type 0 where
+  pub executions : List Execution
+  pub marks : EachMaster (Option ℕ)
+  pub protected : Bool
+  pub cold_start : EachMaster Bool
+  pub hands : EachMaster (Option InHand)
+  pub outcomes : List Outcome
+  pub spoken : List SpokenFrame
+
+-- A script starts with a device, with the process values that it is handed, and with how often each master sends again at most.
+pub record Start : Type 0 where
+  pub device : DeviceState
+  pub process : Process
+  pub retries : EachMaster ℕ
+
+-- The world before a script: nothing has happened yet, and protection and cold start bits are those of the device.
+abbrev pub first_world : Start → World
+first_world start = record {
+  executions = [];
+  marks = record { primary = None; secondary = None };
+  protected = start.device.protected;
+  cold_start = start.device.cold_start;
+  hands = record { primary = None; secondary = None };
+  outcomes = [];
+  spoken = [];
+}
+
+-- The overwrites of executions, in the same order.
+abbrev pub overwrites_of : List Execution → List Overwrite
+overwrites_of executions = map (λ execution. execution.overwrite) executions
+
+-- A master's configuration-changed bit is set if its mark is less than the number of executions or, without a mark, if it
+-- was set initially or there are executions.
+abbrev pub is_changed : Bool → Option ℕ → ℕ → Bool
+is_changed initially None count = initially || nat_lt 0 count
+is_changed initially (Some mark) count = nat_lt mark count
+
+-- The device in a world: each register holds the bytes of the newest execution that names it, otherwise its initial bytes; the
+-- counter has grown by the number of executions, 65535 being followed by 0; each configuration-changed bit is as its master's
+-- mark says; protection and the cold start bits are those of the world; the identity stays.
+abbrev pub state_of : DeviceState → World → DeviceState
+state_of initial world = record initial {
+  contents = registers_of (overwrites_of world.executions) initial.contents;
+  counter = (initial.counter + length world.executions) % 2 ^ 16;
+  changed = record {
+    primary = is_changed initial.changed.primary world.marks.primary (length world.executions);
+    secondary = is_changed initial.changed.secondary world.marks.secondary (length world.executions);
+  };
+  protected = world.protected;
+  cold_start = world.cold_start;
+}
+
+-- No mark is greater than the number of executions.
+abbrev pub MarksWithin : World → Type 0
+MarksWithin world = (id : MasterId) (mark : ℕ) → of_master id world.marks ≡ Some mark → mark ≤ length world.executions

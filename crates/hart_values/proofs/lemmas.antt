@@ -1,0 +1,4 @@
+-- Lemmas, in the rooms of the code and the definitions.
+pub mod address
+pub mod packed_text
+pub mod hart_date

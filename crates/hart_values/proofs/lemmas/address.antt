@@ -1,0 +1,2 @@
+-- Addresses.
+pub mod Address

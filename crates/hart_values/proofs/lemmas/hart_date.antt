@@ -1,0 +1,2 @@
+-- Dates.
+pub mod Calendar

@@ -1,0 +1,2 @@
+-- Packed text.
+pub mod Packing

@@ -1,0 +1,3 @@
+-- Addresses.
+pub mod DeviceNumbers
+pub mod AddressBytes

@@ -1,0 +1,2 @@
+-- Status bytes.
+pub mod StatusBytes

@@ -1,0 +1,18 @@
+//! The calendar of the years 1900 to 2155.
+ghost use Rattle.std.specs.Prelude.{◌+◌, ◌↔◌, IsTrue};
+ghost use Rattle.hart_values.specs.hart_date.Calendar.{IsCalendarDay};
+
+use jiff::civil::Date;
+
+/// The year whose byte is 0.
+const FIRST_YEAR: i16 = 1900;
+
+/// Whether the calendar has this day, the year being counted from 1900.
+pub(crate) fn is_calendar_day(day: u8, month: u8, year: u8) -> bool
+    ensures { IsTrue result ↔ IsCalendarDay day month (1900 + year) }
+{
+    match (i8::try_from(month), i8::try_from(day)) {
+        (Ok(month), Ok(day)) => Date::new(FIRST_YEAR + i16::from(year), month, day).is_ok(),
+        _ => false,
+    }
+}
