@@ -5,7 +5,7 @@ use Rattle.hart_frame.specs.wire.FrameParts.{FrameParts}
 use Rattle.hart_device.specs.Bench.{bench_process}
 use Rattle.hart_device.specs.answer.Delivery.{Brings, Brought, answer_to}
 use Rattle.hart_device.specs.Device.{DeviceState}
-use Rattle.hart_cli.specs.ImageWord.{OutcomeWith, Outcomes}
+use Rattle.hart_cli.specs.ImageWord.{OutcomeWith, OutcomeRelation}
 use Rattle.hart_cli.specs.text.InputChars.{IsWholeTextFault}
 use Rattle.hart_cli.specs.text.Items.{ReadsAs}
 use Rattle.hart_cli.specs.text.MessageLine.{IsMessageLine}
@@ -31,5 +31,5 @@ pub record IsAnswer (device : DeviceState) (input text : List ℕ) : Type 0 wher
 -- A call of `answer` gave the reason why it has no device, if it has none. Otherwise it wrote what its device answers to its whole
 -- input at `Ok`, a prefix of it if a write failed, and nothing if it gave the input's fault or if memory for the input or its
 -- characters was refused.
-abbrev pub AnswerOutcome : Option (List ℕ) → Outcomes
+abbrev pub AnswerOutcome : Option (List ℕ) → OutcomeRelation
 AnswerOutcome = OutcomeWith (λ device. WholeOutcome (IsAnswer device) IsWholeTextFault)

@@ -47,8 +47,8 @@ abbrev pub HasNoDevice : Option (List ℕ) → CliFault → Type 0
 HasNoDevice image fault = HasImageFault image fault ⊎ LacksImageRoom image fault
 
 -- What a call may do with a reader and a writer, and answer.
-abbrev pub Outcomes : Type 1
-Outcomes = Stream → Stream → Stream → Stream → Result (Unit {0}) CliFault → Type 0
+abbrev pub OutcomeRelation : Type 1
+OutcomeRelation = Stream → Stream → Stream → Stream → Result (Unit {0}) CliFault → Type 0
 
 -- A call gave the reason why it has no device, and left the reader and the writer as they were.
 pub record GivesNoDevice (image : Option (List ℕ)) (reader reader_after writer writer_after : Stream)
@@ -67,7 +67,7 @@ pub record WentOn (image : Option (List ℕ)) (Did : DeviceState → Type 0) : T
 
 -- A call gave the reason why it has no device and touched neither the reader nor the writer; otherwise it had an outcome that is one
 -- of its device.
-abbrev pub OutcomeWith : (DeviceState → Outcomes) → Option (List ℕ) → Outcomes
+abbrev pub OutcomeWith : (DeviceState → OutcomeRelation) → Option (List ℕ) → OutcomeRelation
 OutcomeWith Outcome image reader reader_after writer writer_after result =
     GivesNoDevice image reader reader_after writer writer_after result
     ⊎ WentOn image (λ device. Outcome device reader reader_after writer writer_after result)

@@ -4,4 +4,4 @@ pub mod InputChars
 pub mod Hex
 pub mod MessageLine
 pub mod Words
-pub mod Faultless
+pub mod Chunk

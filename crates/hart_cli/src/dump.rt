@@ -135,7 +135,7 @@ fn next_step(end: Option<InputEnd>, rest: &[u8], place: usize) -> NextStep
         Some(InputEnd::Ended) => bad_hex,
         _ if !may_begin(rest) => bad_hex,
         None => NextStep::ReadOn,
-        Some(InputEnd::Failed) => NextStep::Stop(Some(CliFault::Read)),
+        Some(InputEnd::ReadFailed) => NextStep::Stop(Some(CliFault::Read)),
         Some(InputEnd::TooLong) => NextStep::Stop(Some(CliFault::TooLong)),
     }
 }

@@ -23,7 +23,7 @@ pub enum InputEnd {
     /// There was nothing more to read.
     Ended,
     /// A read failed.
-    Failed,
+    ReadFailed,
     /// A further byte was there after [`INPUT_LIMIT`] of them.
     TooLong,
 }
@@ -53,7 +53,7 @@ pub fn read_whole<R: Source>(alloc: Global, reader: &mut R) -> Result<Filling<u8
     let mut text = Filling::with_room(alloc, INPUT_ROOM)?;
     match read_into(reader, &mut text) {
         InputEnd::Ended => Ok(text),
-        InputEnd::Failed => Err(CliFault::Read),
+        InputEnd::ReadFailed => Err(CliFault::Read),
         InputEnd::TooLong => Err(CliFault::TooLong),
     }
 }
@@ -90,7 +90,7 @@ pub fn read_portion<R: Source>(reader: &mut R, buffer: &mut [u8], room: usize) -
     match reader.read(&mut buffer[..most]) {
         Err(_) => Portion {
             len: 0,
-            end: Some(InputEnd::Failed),
+            end: Some(InputEnd::ReadFailed),
         },
         Ok(0) => Portion {
             len: 0,

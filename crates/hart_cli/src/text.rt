@@ -1,6 +1,6 @@
 //! Texts: hex items, and lines of words and bytes.
 
-pub mod faultless;
+pub mod chunk;
 pub mod hex;
 pub mod items;
 pub mod message_line;

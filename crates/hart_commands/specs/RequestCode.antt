@@ -13,16 +13,16 @@ abbrev pub counter_code : Request → ℕ → ℕ
 counter_code (ResetChanged (Some given)) counter = if given == counter then 0 else 9
 counter_code _ counter = 0
 
--- What the data are read as is judged: bad data by their code, and a request by the counter that it names.
-abbrev pub judged : Reading → ℕ → ℕ
-judged (Err code) counter = code
-judged (Ok request) counter = counter_code request counter
+-- What the data are read as is data_code: bad data by their code, and a request by the counter that it names.
+abbrev pub data_code : Reading → ℕ → ℕ
+data_code (Err code) counter = code
+data_code (Ok request) counter = counter_code request counter
 
 -- A command that is not in the table is refused first, then too few data bytes, then a write under protection, then what the
 -- data and the counter say; otherwise the code is 0.
 abbrev pub request_code : ℕ → Reading → Bool → ℕ → ℕ
 request_code command reading protected counter =
-    let code = judged reading counter in
+    let code = data_code reading counter in
     if (code == 64) || (code == 5) then code
     else if protected && is_write command then 7
     else code

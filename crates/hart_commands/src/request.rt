@@ -3,7 +3,7 @@ ghost use Rattle.hart_commands.specs.RequestData.{IsRequest, is_known, request_r
 
 use crate::CodeList;
 use crate::laws::requests_are_well_made;
-use crate::request::reading::{needed, read_codes, read_polling, read_reset, read_tag};
+use crate::request::reading::{needed, read_codes, read_reset, read_set_polling, read_tag};
 use hart_values::{HartDate, LoopMode, PackedText, Payload, PollingAddress, ResponseCode};
 
 pub(crate) mod code;
@@ -83,7 +83,7 @@ impl Request {
             1 => Ok(Request::ReadPrimary),
             2 => Ok(Request::ReadCurrent),
             3 => Ok(Request::ReadDynamic),
-            6 => read_polling(bytes),
+            6 => read_set_polling(bytes),
             7 => Ok(Request::ReadPolling),
             8 => Ok(Request::ReadClasses),
             9 => read_codes(bytes),

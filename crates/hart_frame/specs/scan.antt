@@ -1,6 +1,6 @@
 -- The scanner: how frames are found while they are heard.
 pub mod Scanner
-pub mod Faultless
+pub mod Chunk
 pub mod Streamed
 pub mod PlainAddress
 pub mod View

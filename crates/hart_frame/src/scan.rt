@@ -2,8 +2,8 @@
 
 pub mod buffer;
 pub mod candidate;
+pub mod chunk;
 pub mod decision;
-pub mod faultless;
 pub mod plain_address;
 pub mod scanner;
 pub mod streamed;

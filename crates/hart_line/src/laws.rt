@@ -12,7 +12,7 @@ ghost use Rattle.hart_commands.specs.declared.request.Request.{Request};
 ghost use Rattle.hart_line.specs.world.Executions.{last_executions, times_executed};
 ghost use Rattle.hart_line.specs.world.Faults.{AreAllDetected, IsFault, IsNotDetectable};
 ghost use Rattle.hart_line.specs.world.Promises.{AnswersLastSending, AreWellMade, IsExecutedFromHand, IsExecutedInItsTurn, IsLastReset};
-ghost use Rattle.hart_line.specs.world.Promises.{IsRefusedByDevice, IsStepOf, IsUnrefusedWrite, arrived_in_step, requests_of, sendings_in};
+ghost use Rattle.hart_line.specs.world.Promises.{IsRefusedByDevice, IsStepOf, IsUnrefusedWrite, brought_in_step, requests_of, sendings_in};
 ghost use Rattle.hart_line.specs.script.Rows.{HasFirstBadLine, IsScript};
 ghost use Rattle.hart_line.specs.world.Step.{IsLast};
 ghost use Rattle.hart_line.specs.script.Words.{IsAddressWord, IsCommandWord, IsDataWord, IsWho};
@@ -111,10 +111,10 @@ pub fn scripts_keep_their_promises()
     ensures unrefused_writes_are_executed { (start : Start) (events : List LineEvent) → AreWellMade events
         → (before next : World) (who : MasterId) (up down : Heard)
         (turn : IsStepOf start (first_world start) events before (Turn who up down) next)
-        → IsUnrefusedWrite (state_of start.device before) turn.step.arrived → IsExecutedFromHand start events who before next }
+        → IsUnrefusedWrite (state_of start.device before) turn.step.brought → IsExecutedFromHand start events who before next }
     ensures nothing_else_is_executed { (start : Start) (events : List LineEvent) (before next : World) (event : LineEvent)
         (here : IsStepOf start (first_world start) events before event next)
-        → (IsUnrefusedWrite (state_of start.device before) (arrived_in_step start before event next here.step) → ⊥)
+        → (IsUnrefusedWrite (state_of start.device before) (brought_in_step start before event next here.step) → ⊥)
         → next.executions ≡ before.executions }
     ensures executed_in_its_turn { (start : Start) (events : List LineEvent) → AreWellMade events
         → (number : ℕ) (request : Request) (reply : Reply) (sendings : ℕ) → AnswersLastSending start events number reply sendings

@@ -15,7 +15,7 @@ use Rattle.hart_commands.specs.declared.reply.Reply.{Reply}
 
 -- A frame answers a request that a master sends to an address if it is an ACK without expansion bytes, with this master's
 -- bit, this address and the command of the request; the burst bit is not looked at.
-pub record Answers (id : MasterId) (address : Address) (request : Request) (frame : FrameParts) : Type 0 where
+pub record MatchesRequest (id : MasterId) (address : Address) (request : Request) (frame : FrameParts) : Type 0 where
   pub kind : frame.kind ≡ Ack
   pub expansion : frame.expansion ≡ []
   pub receiver : frame.master ≡ id
@@ -24,7 +24,7 @@ pub record Answers (id : MasterId) (address : Address) (request : Request) (fram
 
 -- A frame that answers is the reply that its payload is read as, and none if it is read as none, as with communication faults.
 pub record IsReplyTo (id : MasterId) (address : Address) (request : Request) (frame : FrameParts) (reply : Reply) : Type 0 where
-  pub answers : Answers id address request frame
+  pub answers : MatchesRequest id address request frame
   pub read : reply_reading frame.command frame.payload ≡ Some reply
 
 -- A delivery is accepted as a reply if its frames are one alone, and this one is that reply.

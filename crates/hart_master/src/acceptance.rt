@@ -1,7 +1,7 @@
 //! The reply to a request that a frame is.
 ghost use Rattle.std.specs.Prelude.{◌≡◌, ◌↔◌, IsTrue, IfSome};
 ghost use Rattle.hart_commands.specs.declared.reply.Reply.{Reply};
-ghost use Rattle.hart_master.specs.Acceptance.{Answers, IsReplyTo};
+ghost use Rattle.hart_master.specs.Acceptance.{MatchesRequest, IsReplyTo};
 
 use crate::hand::Transaction;
 use hart_commands::Reply;
@@ -9,12 +9,16 @@ use hart_frame::{Frame, FrameKind};
 use hart_values::MasterId;
 
 /// The reply that a frame is to what this master asks, or `None` if it is none.
-pub(crate) fn reply_in(id: MasterId, transaction: &Transaction, frame: &Frame) -> Option<Reply>
+pub(crate) fn accepted_reply(
+    id: MasterId,
+    transaction: &Transaction,
+    frame: &Frame,
+) -> Option<Reply>
     ensures is_reply { IfSome result (IsReplyTo id transaction.now.address transaction.now.request frame.now) }
     ensures known { (reply : Reply) → IsReplyTo id transaction.now.address transaction.now.request frame.now reply
         → result ≡ Some reply }
 {
-    if answers(id, transaction, frame) {
+    if matches_request(id, transaction, frame) {
         Reply::read(frame.command(), frame.payload())
     } else {
         None
@@ -22,8 +26,8 @@ pub(crate) fn reply_in(id: MasterId, transaction: &Transaction, frame: &Frame) -
 }
 
 /// Whether a frame answers what this master asks.
-fn answers(id: MasterId, transaction: &Transaction, frame: &Frame) -> bool
-    ensures { IsTrue result ↔ Answers id transaction.now.address transaction.now.request frame.now }
+fn matches_request(id: MasterId, transaction: &Transaction, frame: &Frame) -> bool
+    ensures { IsTrue result ↔ MatchesRequest id transaction.now.address transaction.now.request frame.now }
 {
     frame.kind() == FrameKind::Ack
         && frame.expansion().is_empty()

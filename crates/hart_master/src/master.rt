@@ -6,7 +6,7 @@ ghost use Rattle.hart_master.specs.declared.hand.Hand.TheVariants as hands;
 ghost use Rattle.hart_master.specs.Master.{sendings_of, result_submitted, hand_submitted, frame_sent, hand_sent};
 ghost use Rattle.hart_master.specs.Master.{DeliveryBrings, FrameBrings, IsHeard, hand_heard, event_ticked, hand_ticked};
 
-use crate::acceptance::reply_in;
+use crate::acceptance::accepted_reply;
 use crate::hand::{Hand, Transaction};
 use crate::pairing::may_ask;
 use crate::{MasterEvent, MasterFault, Rejected};
@@ -215,7 +215,7 @@ impl Master {
         let Hand::Awaiting(transaction, _) = &self.hand else {
             return MasterEvent::Nothing;
         };
-        let Some(reply) = reply_in(self.id, transaction, frame) else {
+        let Some(reply) = accepted_reply(self.id, transaction, frame) else {
             return MasterEvent::Nothing;
         };
         let sendings = transaction.sendings;

@@ -6,7 +6,7 @@ use Rattle.std.proofs.KnownBytes.{Consumes-trans}
 use Rattle.std.specs.Option.{option_eq}
 use Rattle.hart_cli.specs.contracts.input.InputEndPartialEq.TheImpl.{eq-value}
 use Rattle.hart_cli.specs.declared.input.InputEnd.{InputEnd}
-use Rattle.hart_cli.specs.declared.input.InputEnd.TheVariants.{Ended, Failed, TooLong}
+use Rattle.hart_cli.specs.declared.input.InputEnd.TheVariants.{Ended, ReadFailed, TooLong}
 use Rattle.hart_cli.specs.dump.Dump.{ended_text}
 use Rattle.hart_cli.specs.input.Input.{Reads, ReadsPortion, ReadsWell, ending_of, input_limit}
 use Rattle.hart_cli.specs.stream.Stream.{Stream, count_after_failure}
@@ -37,7 +37,7 @@ portion_last a b c text bytes room Ended h full k =
     let long = length-append text bytes in
     let none = ap (λ (xs : List ℕ). length xs) k.2 in
     (ReadsWell-on a b c text bytes h k.0, k.1, omega (arith, long, none, full))
-portion_last a b c text bytes room Failed h full k =
+portion_last a b c text bytes room ReadFailed h full k =
     let long = length-append text bytes in
     let none = ap (λ (xs : List ℕ). length xs) k.1 in
     ((Consumes-trans a.bytes b.bytes c.bytes text bytes h.0 k.0.0, k.0.1 ∙ ap count_after_failure h.1), omega (arith, long, none, full))
@@ -57,5 +57,5 @@ pub not_ended : (text : List ℕ) (end : Option InputEnd) → false ≡ option_e
     → text ≡ ended_text text (ending_of end)
 not_ended text None n = refl
 not_ended text (Some Ended) n = cc n
-not_ended text (Some Failed) n = refl
+not_ended text (Some ReadFailed) n = refl
 not_ended text (Some TooLong) n = refl

@@ -5,4 +5,4 @@ pub mod Items
 pub mod KnownBytes
 pub mod Words
 pub mod MessageLine
-pub mod Faultless
+pub mod Chunk

@@ -105,8 +105,8 @@ IsNextStep None rest place (Stop fault) = (MayBegin rest → ⊥) × (fault ≡ 
 IsNextStep (Some ends.Ended) rest place ReadOn = ⊥
 IsNextStep (Some ends.Ended) rest place (Stop None) = rest ≡ []
 IsNextStep (Some ends.Ended) rest place (Stop (Some fault)) = (rest ≢ []) × (fault ≡ faults.BadHex place)
-IsNextStep (Some ends.Failed) rest place ReadOn = ⊥
-IsNextStep (Some ends.Failed) rest place (Stop fault) =
+IsNextStep (Some ends.ReadFailed) rest place ReadOn = ⊥
+IsNextStep (Some ends.ReadFailed) rest place (Stop fault) =
     (MayBegin rest × (fault ≡ Some faults.Read)) ⊎ ((MayBegin rest → ⊥) × (fault ≡ Some (faults.BadHex place)))
 IsNextStep (Some ends.TooLong) rest place ReadOn = ⊥
 IsNextStep (Some ends.TooLong) rest place (Stop fault) =

@@ -6,7 +6,7 @@ use Rattle.hart_cli.specs.stream.Stream.{Stream, count_after_failure}
 use Rattle.hart_cli.specs.declared.fault.CliFault.{CliFault}
 use Rattle.hart_cli.specs.declared.fault.CliFault.TheVariants as faults
 use Rattle.hart_cli.specs.declared.input.InputEnd.{InputEnd}
-use Rattle.hart_cli.specs.declared.input.InputEnd.TheVariants.{Ended, Failed, TooLong}
+use Rattle.hart_cli.specs.declared.input.InputEnd.TheVariants.{Ended, ReadFailed, TooLong}
 
 -- An input has at most 1,048,576 bytes.
 abbrev pub input_limit : ℕ
@@ -36,7 +36,7 @@ ReadsPastLimit old new text = ReadsBeyond old new text × (length text ≡ input
 -- An input gave this text before it ended, before a read failed, or before it went past the limit.
 abbrev pub Reads : Stream → Stream → List ℕ → InputEnd → Type 0
 Reads old new text Ended = ReadsWell old new text × IsAtEnd new.bytes × (length text ≤ input_limit)
-Reads old new text Failed = ReadFails old new text × (length text ≤ input_limit)
+Reads old new text ReadFailed = ReadFails old new text × (length text ≤ input_limit)
 Reads old new text TooLong = ReadsPastLimit old new text
 
 -- A call reads an input to its end, or leaves it before.
@@ -60,7 +60,7 @@ LacksInputRoom old new none = (none.items ≡ input_room) × (new ≡ old)
 
 -- Reading a whole input comes to this fault: a read failed, there were more bytes than the limit, or room for it was refused.
 abbrev pub IsReadingFault : Stream → Stream → CliFault → Type 0
-IsReadingFault old new faults.Read = (text : List ℕ) × Reads old new text Failed
+IsReadingFault old new faults.Read = (text : List ℕ) × Reads old new text ReadFailed
 IsReadingFault old new faults.TooLong = (text : List ℕ) × Reads old new text TooLong
 IsReadingFault old new (faults.Memory none) = LacksInputRoom old new none
 IsReadingFault old new _ = ⊥
@@ -76,5 +76,5 @@ ending_of (Some end) = CameTo end
 abbrev pub ReadsPortion : Stream → Stream → List ℕ → ℕ → Option InputEnd → Type 0
 ReadsPortion old new bytes room None = ReadsWell old new bytes × (bytes ≢ []) × (length bytes ≤ room)
 ReadsPortion old new bytes room (Some Ended) = ReadsWell old new bytes × IsAtEnd new.bytes × (bytes ≡ [])
-ReadsPortion old new bytes room (Some Failed) = ReadFails old new bytes × (bytes ≡ [])
+ReadsPortion old new bytes room (Some ReadFailed) = ReadFails old new bytes × (bytes ≡ [])
 ReadsPortion old new bytes room (Some TooLong) = ReadsBeyond old new bytes × (length bytes ≡ room)

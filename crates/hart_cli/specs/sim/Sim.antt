@@ -14,7 +14,7 @@ use Rattle.hart_line.specs.declared.fault.LineFault.TheVariants as line_faults
 use Rattle.hart_line.specs.declared.line.report.Spoken.{Spoken}
 use Rattle.hart_cli.specs.declared.fault.CliFault.{CliFault}
 use Rattle.hart_cli.specs.declared.fault.CliFault.TheVariants.{Line, Memory}
-use Rattle.hart_cli.specs.ImageWord.{OutcomeWith, Outcomes}
+use Rattle.hart_cli.specs.ImageWord.{OutcomeWith, OutcomeRelation}
 use Rattle.hart_cli.specs.sim.Text.{sim_text}
 use Rattle.hart_cli.specs.input.WholeInput.{WholeOutcome}
 
@@ -76,5 +76,5 @@ IsSimulationFault device input _ = ⊥
 -- A call of `simulate` gave the reason why it has no device, if it has none. Otherwise it wrote the text for its whole input at
 -- `Ok`, a prefix of it if a write failed, and nothing if a read failed, if the input was too long or had a fault of its lines or
 -- events, or if memory was refused; it gives no other fault.
-abbrev pub SimOutcome : Option (List ℕ) → Outcomes
+abbrev pub SimOutcome : Option (List ℕ) → OutcomeRelation
 SimOutcome = OutcomeWith (λ device. WholeOutcome (IsSimulation device) (IsSimulationFault device))

@@ -17,7 +17,7 @@ pub data HasChars (text : List ℕ) : Ending → List Character → Option CliFa
       → HasChars text (CameTo ends.Ended) chars (Some (faults.BadHex place))
   decided_bad_hex : (chars : List Character) (place : ℕ) → IsDecidedBadHexAt text chars place
       → HasChars text Left chars (Some (faults.BadHex place))
-  failure : (chars : List Character) → ReadsSoFarAs text chars → HasChars text (CameTo ends.Failed) chars (Some faults.Read)
+  failure : (chars : List Character) → ReadsSoFarAs text chars → HasChars text (CameTo ends.ReadFailed) chars (Some faults.Read)
   limit : (chars : List Character) → ReadsSoFarAs text chars → HasChars text (CameTo ends.TooLong) chars (Some faults.TooLong)
 
 -- The only fault of an input that was read to its end is bad hex, at its place, or refused memory for half as many characters as it

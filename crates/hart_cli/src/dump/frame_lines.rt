@@ -12,7 +12,7 @@ ghost use Rattle.hart_cli.specs.stream.Stream.{FailsToWrite, Stream};
 use crate::dump::text::push_frame_line;
 use crate::output::write_all;
 use crate::stream::{Failed, Sink};
-use crate::text::faultless::{Run, read_run};
+use crate::text::chunk::{Chunk, read_chunk};
 use crate::text::items::leading_piece;
 use crate::text::words::TEXT_LINE_LEN;
 use hart_frame::{Char, FoundView, Scanner, held_frames_are_given};
@@ -61,11 +61,11 @@ impl FrameLines {
         ensures going { IfOk result (λ _. self.new.scanner.finished ≡ false) }
     {
         let mut place = 0;
-        let mut run = Run::new();
+        let mut chunk = Chunk::new();
         loop {
-            run.clear();
-            place += read_run(&text[place..], &mut run);
-            self.scan_run(run.as_slice(), writer)?;
+            chunk.clear();
+            place += read_chunk(&text[place..], &mut chunk);
+            self.scan_chunk(chunk.as_slice(), writer)?;
             let Some(lead) = leading_piece(&text[place..]) else {
                 return Ok(place);
             };
@@ -81,20 +81,20 @@ impl FrameLines {
     /// # Errors
     ///
     /// `Failed` at the first write that fails.
-    fn scan_run<W: Sink>(&mut self, run: &[u8], writer: &mut W) -> Result<(), Failed>
+    fn scan_chunk<W: Sink>(&mut self, chunk: &[u8], writer: &mut W) -> Result<(), Failed>
         requires drained { IsTrue self.old.scanner.drained }
         requires going { self.old.scanner.finished ≡ false }
-        requires room { self.old.scanner.first + length self.old.scanner.held + length run.now < 2 ^ 64 }
-        ensures scans { Scans (W.stream writer.old) (W.stream writer.new) self.old self.new (faultless run.now) result }
+        requires room { self.old.scanner.first + length self.old.scanner.held + length chunk.now < 2 ^ 64 }
+        ensures scans { Scans (W.stream writer.old) (W.stream writer.new) self.old self.new (faultless chunk.now) result }
         ensures drained { IfOk result (λ _. IsTrue self.new.scanner.drained) }
         ensures going { IfOk result (λ _. self.new.scanner.finished ≡ false) }
         ensures pushed { IfOk result (λ _. self.new.scanner.first + length self.new.scanner.held
-            ≡ self.old.scanner.first + length self.old.scanner.held + length run.now) }
+            ≡ self.old.scanner.first + length self.old.scanner.held + length chunk.now) }
     {
         let mut taken = 0;
-        while taken < run.len() {
-            taken += self.scanner.push_run(&run[taken..]);
-            self.give_frames(writer)?;
+        while taken < chunk.len() {
+            taken += self.scanner.push_bytes(&chunk[taken..]);
+            self.take_frames(writer)?;
         }
         Ok(())
     }
@@ -115,7 +115,7 @@ impl FrameLines {
             ≡ self.old.scanner.first + length self.old.scanner.held + 1) }
     {
         self.scanner.push(char);
-        self.give_frames(writer)
+        self.take_frames(writer)
     }
 
     /// Says that nothing more is heard, and writes all lines that are not yet written.
@@ -130,7 +130,7 @@ impl FrameLines {
             (λ _. BreaksOff start earlier (W.stream writer.new) chars) }
     {
         self.scanner.finish();
-        self.give_frames(writer)?;
+        self.take_frames(writer)?;
         write_all(writer, self.lines.as_slice())
     }
 
@@ -161,7 +161,7 @@ impl FrameLines {
     /// # Errors
     ///
     /// `Failed` at the first write that fails.
-    fn give_frames<W: Sink>(&mut self, writer: &mut W) -> Result<(), Failed>
+    fn take_frames<W: Sink>(&mut self, writer: &mut W) -> Result<(), Failed>
         ensures gives { (start : Stream) (earlier : List ℕ) (chars : List Character)
             → WritesSoFar start earlier (W.stream writer.old) self.old chars
             → MatchResult result (λ _. GivesAll start earlier (W.stream writer.new) self.new self.old.scanner.finished chars)

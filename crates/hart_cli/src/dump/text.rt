@@ -4,7 +4,7 @@ ghost use Rattle.hart_frame.specs.scan.View.{found_of};
 ghost use Rattle.hart_cli.specs.dump.Text.{address_word, burst_word, device_digits, dump_line, kind_word, master_word};
 
 use crate::text::hex::push_hex;
-use crate::text::words::{push_bytes, push_word};
+use crate::text::words::{push_hex_word, push_word};
 use hart_frame::{FoundView, FrameKind};
 use hart_values::{Address, ByteList, MasterId, UniqueAddress};
 use itoa::Buffer;
@@ -18,10 +18,10 @@ pub fn push_frame_line<const N: usize>(lines: &mut ByteList<N>, found: &FoundVie
     push_places(lines, found.start, found.stop);
     push_head(lines, frame.kind(), frame.master(), frame.burst());
     push_address(lines, frame.address());
-    push_bytes(lines, frame.expansion());
+    push_hex_word(lines, frame.expansion());
     lines.push(b' ');
     push_word(lines, Buffer::new().format(frame.command()));
-    push_bytes(lines, frame.payload());
+    push_hex_word(lines, frame.payload());
     lines.push(b'\n');
 }
 

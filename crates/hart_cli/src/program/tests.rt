@@ -28,14 +28,14 @@ const IDENTIFY: &str = "FF FF 02 80 00 00 82";
 
 /// What a run of `program` leaves.
 #[derive(Drop)]
-struct Run {
+struct ProgramRun {
     status: u8,
     reads: usize,
     output: Trickle,
     errors: Trickle,
 }
 
-impl Run {
+impl ProgramRun {
     /// Whether this was the status, and this was written.
     fn gave(&self, status: u8, output: &str, errors: &str) -> bool {
         self.status == status
@@ -67,11 +67,11 @@ fn run_program(
     mut reader: Tape<'_>,
     output_room: Option<usize>,
     error_room: Option<usize>,
-) -> Result<Run, AllocError> {
+) -> Result<ProgramRun, AllocError> {
     let mut output = Trickle::new(alloc, output_room, 1);
     let mut errors = Trickle::new(alloc, error_room, 1);
     let status = status_of(alloc, words, &mut reader, &mut output, &mut errors)?;
-    Ok(Run {
+    Ok(ProgramRun {
         status,
         reads: reader.reads(),
         output,
@@ -80,7 +80,7 @@ fn run_program(
 }
 
 /// Runs `program` on these words and this input, which is read a byte at a time.
-fn run_on(alloc: Global, words: &[&str], input: &str) -> Result<Run, AllocError> {
+fn run_on(alloc: Global, words: &[&str], input: &str) -> Result<ProgramRun, AllocError> {
     let reader = Tape::new(input.as_bytes(), After::End, 1);
     run_program(alloc, words, reader, None, None)
 }

@@ -7,7 +7,7 @@ ghost use Rattle.hart_cli.specs.sim.Sim.{IsNeededByWriting};
 ghost use Rattle.hart_cli.specs.sim.Text.{sim_text, spoken_line};
 
 use crate::text::hex::push_hex;
-use crate::text::words::{TextLine, push_bytes, push_word};
+use crate::text::words::{TextLine, push_hex_word, push_word};
 use hart_commands::Reply;
 use hart_device::{Device, RegisterStore};
 use hart_line::{Filling, NoRoom, Outcome, Party, Report, Spoken};
@@ -160,7 +160,7 @@ fn push_answered(line: &mut TextLine, reply: &Reply, sendings: u8)
     line.push(b' ');
     let mut payload = Payload::new();
     reply.write(&mut payload);
-    push_bytes(line, &payload.as_slice()[STATUS_LEN..]);
+    push_hex_word(line, &payload.as_slice()[STATUS_LEN..]);
 }
 
 /// Adds a word and a number.

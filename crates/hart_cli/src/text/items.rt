@@ -60,7 +60,7 @@ fn read_pieces(text: &[u8], chars: &mut Filling<Char>) -> usize
 
 /// What a piece means, and its length.
 #[derive(Drop)]
-pub struct Lead {
+pub struct LeadingPiece {
     /// The character of an item; a separator has none.
     pub char: Option<Char>,
     /// The number of its bytes.
@@ -68,19 +68,19 @@ pub struct Lead {
 }
 
 /// The piece that begins a text, or `None` if none does.
-pub fn leading_piece(text: &[u8]) -> Option<Lead>
+pub fn leading_piece(text: &[u8]) -> Option<LeadingPiece>
     ensures { MatchOption result (NoPieceBegins text.now) (λ lead. BeginsAs text.now lead.char lead.len) }
 {
     let first = text.first()?;
     if is_separator(*first) {
-        return Some(Lead { char: None, len: 1 });
+        return Some(LeadingPiece { char: None, len: 1 });
     }
     let item = leading_item(text)?;
     if item.len == text.len() {
         // What follows an item makes it whole.
         return None;
     }
-    Some(Lead {
+    Some(LeadingPiece {
         char: Some(item.char),
         len: item.len,
     })

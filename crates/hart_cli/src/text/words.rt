@@ -24,7 +24,7 @@ pub fn push_word<const N: usize>(line: &mut ByteList<N>, word: &str)
 }
 
 /// Adds the word of some bytes.
-pub fn push_bytes<const N: usize>(line: &mut ByteList<N>, bytes: &[u8])
+pub fn push_hex_word<const N: usize>(line: &mut ByteList<N>, bytes: &[u8])
     requires { length line.old + 2 * length bytes.now < N }
     ensures word { line.new ≡ line.old ++ bytes_word bytes.now }
     ensures len { length line.new ≤ length line.old + max 1 (2 * length bytes.now) }

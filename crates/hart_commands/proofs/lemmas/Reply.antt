@@ -21,7 +21,8 @@ use Rattle.hart_commands.specs.ReplyData.{IsReply, IsContent, IsContentOf, havin
 use Rattle.hart_commands.specs.ReplyData.{variables_reading, tag_reading, content_reading, content_bytes, reply_reading, reply_payload}
 use Rattle.hart_commands.proofs.lemmas.Test.{below, above, apart, same}
 use Rattle.hart_commands.proofs.lemmas.Chunk.{chunks-flat_map, length-flat_map}
-use Rattle.hart_commands.proofs.lemmas.Parts.{four, identity-back, sensor-back, output-back, unit_value-back, unit_value-size, variable-back}
+use Rattle.hart_commands.proofs.lemmas.Parts.{four, identity-back, sensor-back, output-back, unit_value-back, unit_value-size}
+use Rattle.hart_commands.proofs.lemmas.Parts.{variable-back}
 use Rattle.hart_commands.proofs.lemmas.Parts.{variable-size}
 use Rattle.hart_commands.proofs.lemmas.Request.{HasParts, parts-append}
 

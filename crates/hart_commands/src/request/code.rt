@@ -1,6 +1,6 @@
 //! The response code of a request (HCF_SPEC-127; the order is of the own profile).
 ghost use Rattle.std.specs.Prelude.{◌≡◌};
-ghost use Rattle.hart_commands.specs.RequestCode.{counter_code, judged, request_code};
+ghost use Rattle.hart_commands.specs.RequestCode.{counter_code, data_code, request_code};
 
 use crate::{Request, is_write};
 use hart_values::ResponseCode;
@@ -15,7 +15,7 @@ pub fn request_code(
 ) -> ResponseCode
     ensures { result ≡ request_code command reading.now protected counter }
 {
-    let code = judged(reading, counter);
+    let code = data_code(reading, counter);
     if matches!(
         code,
         ResponseCode::COMMAND_NOT_IMPLEMENTED | ResponseCode::TOO_FEW_DATA_BYTES
@@ -29,8 +29,8 @@ pub fn request_code(
 }
 
 /// The code that the data and the counter give.
-fn judged(reading: &Result<Request, ResponseCode>, counter: u16) -> ResponseCode
-    ensures { result ≡ judged reading.now counter }
+fn data_code(reading: &Result<Request, ResponseCode>, counter: u16) -> ResponseCode
+    ensures { result ≡ data_code reading.now counter }
 {
     match reading {
         Ok(request) => counter_code(request, counter),

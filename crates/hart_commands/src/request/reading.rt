@@ -19,7 +19,7 @@ pub fn needed<const N: usize>(all: &[u8]) -> Result<[u8; N], ResponseCode>
 }
 
 /// Command 6: a polling address and, from today's masters, a loop current mode.
-pub fn read_polling(bytes: &[u8]) -> Result<Request, ResponseCode>
+pub fn read_set_polling(bytes: &[u8]) -> Result<Request, ResponseCode>
     ensures { result ≡ polling_reading bytes.now }
 {
     let Some(address) = bytes.first() else {

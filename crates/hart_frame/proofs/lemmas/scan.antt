@@ -5,5 +5,5 @@ pub mod Scan
 pub mod Step
 pub mod Undecided
 pub mod Stream
-pub mod Faultless
+pub mod Chunk
 pub mod Fill

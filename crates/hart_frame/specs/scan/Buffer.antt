@@ -8,10 +8,10 @@ use Rattle.hart_frame.specs.wire.Layout.{layout_length}
 use Rattle.hart_frame.specs.wire.Parity.{HasEvenParity}
 use Rattle.hart_frame.specs.scan.Scanner.{Scan}
 use Rattle.hart_frame.specs.scan.Sums.{AreSums}
-use Rattle.hart_frame.specs.scan.Candidate.{IsVerdict}
+use Rattle.hart_frame.specs.scan.Candidate.{IsCandidate}
 use Rattle.hart_frame.specs.declared.scan.buffer.Buffer.{Buffer}
 use Rattle.hart_frame.specs.declared.wire.layout.Layout.{Layout}
-use Rattle.hart_frame.specs.declared.scan.candidate.Verdict.TheVariants.{Open, Whole}
+use Rattle.hart_frame.specs.declared.scan.candidate.Candidate.TheVariants.{Open, Whole}
 
 -- The faultless bytes that are held are a part of the array.
 abbrev pub held_bytes : Buffer → List ℕ
@@ -29,7 +29,7 @@ scan_of b = record {
 -- What is held is open until the array is filled up to a place.
 abbrev pub IsOpenBefore : Buffer → Type 0
 IsOpenBefore b =
-    (count : ℕ) × (b.due ≡ b.from + 2 + count) × (count ≤ 267) × IsVerdict (held_bytes b) (Open count)
+    (count : ℕ) × (b.due ≡ b.from + 2 + count) × (count ≤ 267) × IsCandidate (held_bytes b) (Open count)
 
 -- The bytes that a layout describes, after the two preamble bytes that the held bytes begin with.
 abbrev pub first_body : Buffer → Layout → List ℕ
@@ -37,7 +37,7 @@ first_body b layout = slice_range b.bytes (b.from + 2) (b.from + 2 + layout_leng
 
 -- From one place of an array to another there are two preamble bytes, a body of even parity, and maybe more.
 pub record IsWholeAt (bytes : List ℕ) (from to : ℕ) (layout : Layout) : Type 0 where
-  pub verdict : IsVerdict (slice_range bytes from to) (Whole layout)
+  pub candidate : IsCandidate (slice_range bytes from to) (Whole layout)
   pub even : HasEvenParity (slice_range bytes (from + 2) (from + 2 + layout_length layout))
   pub fits : All (λ byte. byte < 256) (slice_range bytes (from + 2) (from + 2 + layout_length layout))
 

@@ -1,4 +1,4 @@
--- What a look makes of a scanner's buffer (own profile). For private calls alone.
+-- What a peek makes of a scanner's buffer (own profile). For private calls alone.
 use Rattle.std.specs.Prelude.{◌≡◌, ◌≤◌, ◌+◌, ℕ, false, List, []}
 use Rattle.std.specs.List.{slice_range}
 use Rattle.hart_frame.specs.wire.FrameParts.{FrameParts}
@@ -10,22 +10,22 @@ use Rattle.hart_frame.specs.scan.Scanner.{Gives, MovesPast, Waits}
 use Rattle.hart_frame.specs.scan.Buffer.{BeginsWithWhole, scan_of}
 use Rattle.hart_frame.specs.declared.wire.layout.Layout.{Layout}
 use Rattle.hart_frame.specs.declared.scan.buffer.Buffer.{Buffer}
-use Rattle.hart_frame.specs.declared.scan.buffer.Spot.{Spot}
+use Rattle.hart_frame.specs.declared.scan.buffer.Span.{Span}
 use Rattle.hart_frame.specs.declared.scan.decision.Step.{Step}
 use Rattle.hart_frame.specs.declared.scan.decision.Step.TheVariants.{Dropped, Waiting, Stands}
 
--- The bytes of the body at a spot of the array.
-abbrev pub body_at : Buffer → Spot → List ℕ
-body_at b spot = slice_range b.bytes spot.at (spot.at + layout_length spot.layout)
+-- The bytes of the body at a span of the array.
+abbrev pub body_at : Buffer → Span → List ℕ
+body_at b span = slice_range b.bytes span.at (span.at + layout_length span.layout)
 
--- A body of even parity lies at the spot, and the frame of it is given.
-pub record GivesSpot (old new : Buffer) (spot : Spot) : Type 0 where
-  pub within : spot.at + layout_length spot.layout ≤ 1024
-  pub described : Describes spot.layout (body_at new spot)
-  pub whole : HasCheckByte (body_at new spot)
-  pub even : HasEvenParity (body_at new spot)
-  pub given : (frame : FrameParts) → IsBody frame (body_at new spot)
-      → Gives (scan_of old) (scan_of new) (record { start = spot.start; stop = spot.stop; frame = frame })
+-- A body of even parity lies at the span, and the frame of it is given.
+pub record GivesSpan (old new : Buffer) (span : Span) : Type 0 where
+  pub within : span.at + layout_length span.layout ≤ 1024
+  pub described : Describes span.layout (body_at new span)
+  pub whole : HasCheckByte (body_at new span)
+  pub even : HasEvenParity (body_at new span)
+  pub given : (frame : FrameParts) → IsBody frame (body_at new span)
+      → Gives (scan_of old) (scan_of new) (record { start = span.start; stop = span.stop; frame = frame })
 
 -- Bytes with which no frame begins were let go, and what is held then begins with two preamble bytes and a body of even parity.
 pub record HoldsWhole (old new : Buffer) (layout : Layout) : Type 0 where

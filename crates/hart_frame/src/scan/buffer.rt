@@ -9,9 +9,9 @@ ghost use Rattle.hart_frame.specs.wire.Refusal.{HasCheckByte};
 ghost use Rattle.hart_frame.specs.scan.Scanner.{MovesPast, finishing, hearing, new_scan};
 ghost use Rattle.hart_frame.specs.scan.Decision.{body_at};
 ghost use Rattle.hart_frame.specs.scan.Sums.{AreSums};
-ghost use Rattle.hart_frame.specs.scan.Candidate.{IsVerdict};
+ghost use Rattle.hart_frame.specs.scan.Candidate.{IsCandidate};
 ghost use Rattle.hart_frame.specs.scan.View.{parts_of};
-ghost use Rattle.hart_frame.specs.declared.scan.candidate.Verdict.TheVariants.{Open};
+ghost use Rattle.hart_frame.specs.declared.scan.candidate.Candidate.TheVariants.{Open};
 
 use crate::Char;
 use crate::scan::view::{FoundView, FrameView};
@@ -47,7 +47,7 @@ pub(crate) struct Buffer {
 
 /// Where the body of a frame lies in the array, and where it stands in what is heard.
 #[derive(Clone, Copy)]
-pub(crate) struct Spot {
+pub(crate) struct Span {
     pub(crate) at: usize,
     pub(crate) layout: Layout,
     pub(crate) start: u64,
@@ -153,7 +153,7 @@ impl Buffer {
     }
 
     /// Lets go of two preamble bytes and the body after them, and gives the place of that body.
-    pub(crate) fn give(&mut self, layout: Layout) -> Spot
+    pub(crate) fn release(&mut self, layout: Layout) -> Span
         requires sound { IsSound self.old }
         requires busy { self.old.drained ≡ false }
         requires within { self.old.from + 2 + layout_length layout ≤ self.old.to }
@@ -164,7 +164,7 @@ impl Buffer {
           due = 0;
           seen = None;
         } }
-        ensures spot { result ≡ record {
+        ensures span { result ≡ record {
           at = self.old.from + 2;
           layout = layout;
           start = self.old.first + 2;
@@ -179,7 +179,7 @@ impl Buffer {
         self.first = stop;
         self.due = 0;
         self.seen = None;
-        Spot {
+        Span {
             at,
             layout,
             start,
@@ -187,23 +187,23 @@ impl Buffer {
         }
     }
 
-    /// The frame at a spot.
-    pub(crate) fn found(&self, spot: Spot) -> FoundView<'_>
+    /// The frame at a span.
+    pub(crate) fn found(&self, span: Span) -> FoundView<'_>
         requires bytes { length self.now.bytes ≡ 1024 }
-        requires within { spot.at + layout_length spot.layout ≤ 1024 }
-        requires described { Describes spot.layout (body_at self.now spot) }
-        requires whole { HasCheckByte (body_at self.now spot) }
-        requires even { HasEvenParity (body_at self.now spot) }
-        ensures frame { IsBody (parts_of result.frame) (body_at self.now spot) }
-        ensures start { result.start ≡ spot.start }
-        ensures stop { result.stop ≡ spot.stop }
+        requires within { span.at + layout_length span.layout ≤ 1024 }
+        requires described { Describes span.layout (body_at self.now span) }
+        requires whole { HasCheckByte (body_at self.now span) }
+        requires even { HasEvenParity (body_at self.now span) }
+        ensures frame { IsBody (parts_of result.frame) (body_at self.now span) }
+        ensures start { result.start ≡ span.start }
+        ensures stop { result.stop ≡ span.stop }
     {
-        let len = spot.layout.command_place + 3 + usize::from(spot.layout.byte_count);
-        let body = &self.bytes[spot.at..spot.at + len];
+        let len = span.layout.command_place + 3 + usize::from(span.layout.byte_count);
+        let body = &self.bytes[span.at..span.at + len];
         FoundView {
-            start: spot.start,
-            stop: spot.stop,
-            frame: FrameView::view_in(spot.layout, body),
+            start: span.start,
+            stop: span.stop,
+            frame: FrameView::view_in(span.layout, body),
         }
     }
 
@@ -214,7 +214,7 @@ impl Buffer {
         requires unseen { self.old.seen ≡ None }
         requires unended { IsEnded self.old → ⊥ }
         requires count { count ≤ 267 }
-        requires waiting { IsVerdict (held_bytes self.old) (Open count) }
+        requires waiting { IsCandidate (held_bytes self.old) (Open count) }
         ensures sound { IsSound self.new }
         ensures waits { scan_of self.new ≡ record (scan_of self.old) { drained = true } }
     {

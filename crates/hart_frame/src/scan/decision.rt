@@ -2,10 +2,10 @@
 ghost use Rattle.std.specs.Prelude.{◌≡◌, ◌<◌, MatchOption, None, false};
 ghost use Rattle.hart_frame.specs.scan.Buffer.{IsSound, scan_of};
 ghost use Rattle.hart_frame.specs.scan.Scanner.{GivesNothing};
-ghost use Rattle.hart_frame.specs.scan.Decision.{GivesSpot, HoldsWhole, IsStep};
+ghost use Rattle.hart_frame.specs.scan.Decision.{GivesSpan, HoldsWhole, IsStep};
 
-use crate::scan::buffer::{Buffer, Spot};
-use crate::scan::candidate::{Verdict, judge};
+use crate::scan::buffer::{Buffer, Span};
+use crate::scan::candidate::{Candidate, candidate_in};
 use crate::wire::layout::Layout;
 
 /// What became of the first byte that is held.
@@ -21,17 +21,17 @@ pub(crate) enum Step {
 
 impl Buffer {
     /// The next frame that is decided.
-    pub(crate) fn next(&mut self) -> Option<Spot>
+    pub(crate) fn next(&mut self) -> Option<Span>
         requires sound { IsSound self.old }
         ensures sound { IsSound self.new }
-        ensures given { MatchOption result (GivesNothing (scan_of self.old) (scan_of self.new)) (GivesSpot self.old self.new) }
+        ensures given { MatchOption result (GivesNothing (scan_of self.old) (scan_of self.new)) (GivesSpan self.old self.new) }
     {
-        let layout = self.look()?;
-        Some(self.give(layout))
+        let layout = self.peek()?;
+        Some(self.release(layout))
     }
 
     /// The layout of the frame with which the held bytes begin, once that is decided.
-    pub(crate) fn look(&mut self) -> Option<Layout>
+    pub(crate) fn peek(&mut self) -> Option<Layout>
         requires sound { IsSound self.old }
         ensures sound { IsSound self.new }
         ensures seen { MatchOption result (GivesNothing (scan_of self.old) (scan_of self.new)) (HoldsWhole self.old self.new) }
@@ -46,11 +46,11 @@ impl Buffer {
             self.drained = true;
             return None;
         }
-        self.settle()
+        self.decide()
     }
 
     /// The same, after all bytes are let go with which no frame begins.
-    fn settle(&mut self) -> Option<Layout>
+    fn decide(&mut self) -> Option<Layout>
         requires sound { IsSound self.old }
         requires busy { self.old.drained ≡ false }
         requires unseen { self.old.seen ≡ None }
@@ -71,7 +71,7 @@ impl Buffer {
         None
     }
 
-    /// Judges the first byte that is held.
+    /// Decides about the first byte that is held.
     fn step(&mut self) -> Step
         requires sound { IsSound self.old }
         requires busy { self.old.drained ≡ false }
@@ -80,12 +80,12 @@ impl Buffer {
         ensures sound { IsSound self.new }
         ensures step { IsStep self.old self.new result }
     {
-        match judge(&self.bytes[self.from..self.to]) {
-            Verdict::Open(count) if !self.is_ended() => {
+        match candidate_in(&self.bytes[self.from..self.to]) {
+            Candidate::Open(count) if !self.is_ended() => {
                 self.wait(count);
                 Step::Waiting
             }
-            Verdict::Whole(layout) if self.is_even(layout) => Step::Stands(layout),
+            Candidate::Whole(layout) if self.is_even(layout) => Step::Stands(layout),
             _ => {
                 self.drop_first();
                 Step::Dropped

@@ -46,7 +46,7 @@ impl Scanner {
     ghost use Rattle.hart_frame.specs.scan.View.{found_of};
     ghost use Rattle.hart_frame.specs.heard.Character.{faultless};
     ghost use Rattle.hart_frame.specs.heard.Frames.{IsUndecided};
-    ghost use Rattle.hart_frame.specs.scan.Faultless.{StopsAt};
+    ghost use Rattle.hart_frame.specs.scan.Chunk.{StopsAt};
     ghost use Rattle.hart_frame.specs.scan.Scanner.{Gives, GivesNothing, MovesPast, finishing, hearing, new_scan};
 
     /// A scanner that has heard nothing.
@@ -69,25 +69,25 @@ impl Scanner {
         self.buffer.push(character);
     }
 
-    /// Hears the first bytes of a run, without faults, and gives how many: up to the first at which a frame is decided, which
+    /// Hears the first bytes of a chunk, without faults, and gives how many: up to the first at which a frame is decided, which
     /// [`Scanner::take`] then gives, or else all of them. The scanner has to be drained, and to have been pushed so few characters
-    /// that with the run they are fewer than 2^64.
+    /// that with the chunk they are fewer than 2^64.
     ///
     /// It is what so many calls of [`Scanner::push`] are, if [`Scanner::take`] gives `None` after each of them but the last.
     /// Bytes that can be no part of a frame are not copied.
-    pub fn push_run(&mut self, run: &[u8]) -> usize
+    pub fn push_bytes(&mut self, chunk: &[u8]) -> usize
         requires drained { IsTrue self.old.drained }
-        requires room { self.old.first + length self.old.held + length run.now < 2 ^ 64 }
-        ensures within { result ≤ length run.now }
-        ensures some { 0 < length run.now → 0 < result }
-        ensures moves { MovesPast (hearing self.old (faultless (take result run.now))) self.new [] }
-        ensures before { (count : ℕ) → count < result → IsUndecided (self.old.held ++ faultless (take count run.now)) }
-        ensures stops { StopsAt self.new result (length run.now) }
+        requires room { self.old.first + length self.old.held + length chunk.now < 2 ^ 64 }
+        ensures within { result ≤ length chunk.now }
+        ensures some { 0 < length chunk.now → 0 < result }
+        ensures moves { MovesPast (hearing self.old (faultless (take result chunk.now))) self.new [] }
+        ensures before { (count : ℕ) → count < result → IsUndecided (self.old.held ++ faultless (take count chunk.now)) }
+        ensures stops { StopsAt self.new result (length chunk.now) }
         ensures finished { self.new.finished ≡ self.old.finished }
         ensures pushed { self.new.first + length self.new.held ≡ self.old.first + length self.old.held + result }
         ensures few { length self.new.held ≤ 269 }
     {
-        self.buffer.push_run(run)
+        self.buffer.push_bytes(chunk)
     }
 
     /// The next frame that is decided, or `None` if there is none for now. After the finish `None` is given once no frame is
@@ -96,8 +96,8 @@ impl Scanner {
         ensures* after { sem 𝓛 (follows_so the_row the_row self.entry.ghost_name none (λ _ _. ⊤) (λ after.
             MatchOption result (GivesNothing self.old after) (λ view. Gives self.old after (found_of view)))) }
     {
-        let spot = self.buffer.next()?;
-        Some(self.buffer.found(spot))
+        let span = self.buffer.next()?;
+        Some(self.buffer.found(span))
     }
 
     /// Whether nothing is given before the next character, or the finish.

@@ -2,7 +2,7 @@
 ghost use Rattle.std.specs.Prelude.{◌≡◌, ◌+◌, ◌<◌, ◌++◌, [], List, IsTrue, length};
 ghost use Rattle.hart_frame.specs.heard.Character.{Character};
 ghost use Rattle.hart_frame.specs.heard.Frames.{AreFrames};
-ghost use Rattle.hart_frame.specs.scan.Faultless.{HoldsFrame};
+ghost use Rattle.hart_frame.specs.scan.Chunk.{HoldsFrame};
 ghost use Rattle.hart_frame.specs.scan.Scanner.{Gives, GivesNothing, Scan};
 ghost use Rattle.hart_frame.specs.scan.Streamed.{IsHistory, IsWholeHistory};
 ghost use Rattle.hart_frame.specs.declared.heard.found.Found.{Found};

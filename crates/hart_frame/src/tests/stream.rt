@@ -103,7 +103,7 @@ const NOISE: &[(Parts, Option<(usize, Read)>)] = &[
     (&[(FALSE, 2000)], None),
 ];
 
-/// Runs are pushed with so many characters at most.
+/// Chunks are pushed with so many characters at most.
 const RUNS: &[usize] = &[1, 2, 3, 7, 100, MOST_RUN];
 
 const MOST_RUN: usize = 1000;
@@ -177,8 +177,8 @@ fn push(scanner: &mut Scanner, character: Char) -> Option<()> {
     Some(())
 }
 
-/// As `by_character`, by runs of so many characters at most. Characters with faults are pushed alone.
-fn by_runs(chars: &[Char], size: usize) -> Option<usize> {
+/// As `by_character`, by chunks of so many characters at most. Characters with faults are pushed alone.
+fn by_chunks(chars: &[Char], size: usize) -> Option<usize> {
     let mut scanner = Scanner::new();
     let mut heard: usize = 0;
     let mut stop = 0;
@@ -188,7 +188,7 @@ fn by_runs(chars: &[Char], size: usize) -> Option<usize> {
             break;
         };
         heard = if next.is_faultless() {
-            heard.checked_add(push_run(&mut scanner, rest, size)?)?
+            heard.checked_add(push_bytes(&mut scanner, rest, size)?)?
         } else {
             push(&mut scanner, *next)?;
             heard.checked_add(1)?
@@ -202,7 +202,7 @@ fn by_runs(chars: &[Char], size: usize) -> Option<usize> {
 }
 
 /// Pushes the first faultless characters, so many at most, if the scanner is drained, and gives how many it heard.
-fn push_run(scanner: &mut Scanner, chars: &[Char], size: usize) -> Option<usize> {
+fn push_bytes(scanner: &mut Scanner, chars: &[Char], size: usize) -> Option<usize> {
     let mut bytes = [0; MOST_RUN];
     let mut count: usize = 0;
     for (place, character) in bytes.iter_mut().zip(chars.iter().take(size)) {
@@ -215,12 +215,15 @@ fn push_run(scanner: &mut Scanner, chars: &[Char], size: usize) -> Option<usize>
     if !scanner.is_drained() || scanner.pushed() >= MOST_PUSHED {
         return None;
     }
-    Some(scanner.push_run(bytes.get(..count)?))
+    Some(scanner.push_bytes(bytes.get(..count)?))
 }
 
-/// Whether the last frame of a list stops there, character by character and by runs of every size.
+/// Whether the last frame of a list stops there, character by character and by chunks of every size.
 fn stops_every_way_at(chars: &[Char], stop: usize) -> bool {
-    by_character(chars) == Some(stop) && RUNS.iter().all(|size| by_runs(chars, *size) == Some(stop))
+    by_character(chars) == Some(stop)
+        && RUNS
+            .iter()
+            .all(|size| by_chunks(chars, *size) == Some(stop))
 }
 
 #[test]
@@ -281,10 +284,10 @@ fn bytes_of(alloc: Global, chars: &[Char]) -> Result<Vec<u8>, Fail> {
     Ok(bytes)
 }
 
-/// As `by_character`, by one run of all the characters, of which none has a fault.
+/// As `by_character`, by one chunk of all the characters, of which none has a fault.
 fn at_once(chars: &[Char], bytes: &[u8]) -> Option<usize> {
     let mut scanner = Scanner::new();
-    if scanner.push_run(bytes) != bytes.len() {
+    if scanner.push_bytes(bytes) != bytes.len() {
         return None;
     }
     last_taken(&mut scanner, chars, 0)

@@ -19,8 +19,8 @@ use Rattle.hart_line.specs.declared.fault.LineFault.TheVariants.{BadLine, Memory
 -- nothing else has any.
 abbrev pub HasUndetected : Start → World → LineEvent → Leg → Type 0
 HasUndetected start world (Turn who up down) legs.Up = IsUndetected up (sent_by who (of_master who world.hands))
-HasUndetected start world (Turn who up down) legs.Down = (arrived : Brought)
-    × Reaches start.device.identity up (sent_by who (of_master who world.hands)) arrived × IsUndetected down (sent_back start world arrived)
+HasUndetected start world (Turn who up down) legs.Down = (brought : Brought)
+    × Reaches start.device.identity up (sent_by who (of_master who world.hands)) brought × IsUndetected down (sent_back start world brought)
 HasUndetected start world (Noise chars) legs.Noise = IsUndetected (Chars chars) None
 HasUndetected start world _ _ = ⊥
 
@@ -35,8 +35,8 @@ IsFault start events (BadLine line) = ⊥
 -- What is heard in a leg of a turn is detectable, by what is sent in that leg. Of noise nothing is said, since nobody sends it.
 abbrev pub HasDetectable : Start → World → LineEvent → Leg → Type 0
 HasDetectable start world (Turn who up down) legs.Up = IsDetectable up (sent_by who (of_master who world.hands))
-HasDetectable start world (Turn who up down) legs.Down = (arrived : Brought)
-    × Reaches start.device.identity up (sent_by who (of_master who world.hands)) arrived × IsDetectable down (sent_back start world arrived)
+HasDetectable start world (Turn who up down) legs.Down = (brought : Brought)
+    × Reaches start.device.identity up (sent_by who (of_master who world.hands)) brought × IsDetectable down (sent_back start world brought)
 HasDetectable start world _ _ = ⊥
 
 -- Undetected damage is in no leg in which what is heard is detectable.
@@ -49,8 +49,8 @@ IsNotDetectable start events (BadLine line) = Unit {0}
 -- The damage of each leg of an event is detected: in a turn that of what goes up and then, whatever that brings the device, that of
 -- what comes down; in noise, which nobody sent, no frame arrives.
 abbrev pub LegsAreDetected : Start → World → LineEvent → Type 0
-LegsAreDetected start world (Turn who up down) = (arrived : Option FrameParts)
-    × Arrives up (sent_by who (of_master who world.hands)) arrived
+LegsAreDetected start world (Turn who up down) = (brought : Option FrameParts)
+    × Arrives up (sent_by who (of_master who world.hands)) brought
     × ((brought : Brought) → Reaches start.device.identity up (sent_by who (of_master who world.hands)) brought
     → (returned : Option FrameParts) × Arrives down (sent_back start world brought) returned)
 LegsAreDetected start world (Noise chars) = Arrives (Chars chars) None None

@@ -16,7 +16,7 @@ use Rattle.hart_device.specs.Device.{DeviceState, Resets}
 use Rattle.hart_device.specs.declared.process.Process.{Process}
 use Rattle.hart_master.specs.Acceptance.{IsReplyTo}
 use Rattle.hart_master.specs.Master.{MasterState}
-use Rattle.hart_line.specs.world.Step.{Run, Step, effect_on, executions_after, spoken_request}
+use Rattle.hart_line.specs.world.Step.{LeadsTo, Step, effect_on, executions_after, spoken_request}
 use Rattle.hart_line.specs.world.World.{InHand, Start, World, first_world, state_of}
 use Rattle.hart_line.specs.declared.event.Heard.{Heard}
 use Rattle.hart_line.specs.declared.event.LineEvent.{LineEvent}
@@ -55,11 +55,11 @@ pub record IsStepOf (start : Start) (from : World) (events : List LineEvent) (be
   pub prefix : List LineEvent
   pub suffix : List LineEvent
   pub split : events ≡ prefix ++ event ∷ suffix
-  pub led : Run start from prefix before
+  pub led : LeadsTo start from prefix before
   pub step : Step start before event next
 
 -- The turn in which a submission was answered, in the events after some world: the request in hand was sent for the last time, and
--- arrived; the device's answer to it came back, and was accepted as this reply; what the request did entered the executions; and the
+-- brought; the device's answer to it came back, and was accepted as this reply; what the request did entered the executions; and the
 -- request left the hand.
 pub record AnswersLastSendingFrom (start : Start) (from : World) (events : List LineEvent) (number : ℕ) (reply : Reply)
     (sendings : ℕ) : Type 0 where
@@ -73,7 +73,7 @@ pub record AnswersLastSendingFrom (start : Start) (from : World) (events : List 
   pub in_hand : of_master who before.hands ≡ Some held
   pub of_submission : held.submission ≡ number
   pub sent : sendings ≡ held.sendings + 1
-  pub arrived : turn.step.arrived ≡ OneFrame (spoken_request who held).frame
+  pub brought : turn.step.brought ≡ OneFrame (spoken_request who held).frame
   pub answer : FrameParts
   pub answered : answer_of (state_of start.device before) start.process (spoken_request who held).frame ≡ Some answer
   pub returned : turn.step.returned ≡ Some answer
@@ -114,17 +114,17 @@ pub record IsExecutedInItsTurn (start : Start) (events : List LineEvent) (number
   pub executed : answered.last_turn.next.executions
       ≡ answered.last_turn.before.executions ++ record { submission = number; overwrite = overwrite } ∷ []
 
--- What an event brought the device: a turn what arrived in it. Every other event is taken to bring no message, as none of them can
+-- What an event brought the device: a turn what brought in it. Every other event is taken to bring no message, as none of them can
 -- bring a frame: noise may bring a garbled request, which has no effect.
-abbrev pub arrived_in_step : (start : Start) (before : World) (event : LineEvent) (next : World) → Step start before event next
+abbrev pub brought_in_step : (start : Start) (before : World) (event : LineEvent) (next : World) → Step start before event next
     → Brought
-arrived_in_step start before (Submit who address request) next step = NoMessage
-arrived_in_step start before (Turn who up down) next step = step.arrived
-arrived_in_step start before (Protect on) next step = NoMessage
-arrived_in_step start before (Noise chars) next step = NoMessage
-arrived_in_step start before Restart next step = NoMessage
+brought_in_step start before (Submit who address request) next step = NoMessage
+brought_in_step start before (Turn who up down) next step = step.brought
+brought_in_step start before (Protect on) next step = NoMessage
+brought_in_step start before (Noise chars) next step = NoMessage
+brought_in_step start before Restart next step = NoMessage
 
--- What arrived is a write that is not refused: a frame of a configuration write that the device answers with code 0.
+-- What brought is a write that is not refused: a frame of a configuration write that the device answers with code 0.
 abbrev pub IsUnrefusedWrite : DeviceState → Brought → Type 0
 IsUnrefusedWrite state (OneFrame frame) =
     IsTrue (is_write frame.command) × (is_answered state frame ≡ true) × (code_of state frame ≡ 0)
@@ -141,21 +141,21 @@ pub record IsExecutedFromHand (start : Start) (events : List LineEvent) (who : M
   pub overwrites : overwrite_of held.request ≡ Some overwrite
   pub executed : next.executions ≡ before.executions ++ record { submission = held.submission; overwrite = overwrite } ∷ []
 
--- A turn in which a frame arrived at the device that it answered with another code than 0, or not at all.
+-- A turn in which a frame brought at the device that it answered with another code than 0, or not at all.
 pub record IsRefusedByDevice (start : Start) (events : List LineEvent) (before next : World) : Type 0 where
   pub who : MasterId
   pub up : Heard
   pub down : Heard
   pub turn : IsStepOf start (first_world start) events before (Turn who up down) next
   pub frame : FrameParts
-  pub arrived : turn.step.arrived ≡ OneFrame frame
+  pub brought : turn.step.brought ≡ OneFrame frame
   pub refused : (code_of (state_of start.device before) frame ≢ 0) ⊎ (is_answered (state_of start.device before) frame ≡ false)
 
 -- No turn of a master in these events resets its configuration-changed bit.
 abbrev pub HasNoReset : Start → World → List LineEvent → MasterId → Type 0
 HasNoReset start from events who = (before next : World) (up down : Heard)
     (turn : IsStepOf start from events before (Turn who up down) next)
-    → effect_on (state_of start.device before) turn.step.arrived ≢ Resets
+    → effect_on (state_of start.device before) turn.step.brought ≢ Resets
 
 -- The last turn of a script in which a Command 38 of this master was executed with code 0, the world before that turn, and the
 -- counter that the command named, if any.
@@ -165,7 +165,7 @@ pub record IsLastReset (start : Start) (events : List LineEvent) (who : MasterId
   pub down : Heard
   pub turn : IsStepOf start (first_world start) events before (Turn who up down) next
   pub frame : FrameParts
-  pub arrived : turn.step.arrived ≡ OneFrame frame
+  pub brought : turn.step.brought ≡ OneFrame frame
   pub resets : effect_of (state_of start.device before) frame ≡ Resets
   pub reading : reading_of frame ≡ Ok (ResetChanged given)
   pub last : HasNoReset start next turn.suffix who

@@ -63,8 +63,8 @@ sent_by who (Some held) = Some (spoken_request who held)
 
 -- What the device sends back is its answer to what it was brought, after as many preamble bytes as its identity says.
 abbrev pub sent_back : Start → World → Brought → Option SpokenFrame
-sent_back start world arrived = spoken_by Device start.device.identity.response_preambles
-    (answer_to (state_of start.device world) start.process arrived)
+sent_back start world brought = spoken_by Device start.device.identity.response_preambles
+    (answer_to (state_of start.device world) start.process brought)
 
 -- A frame that arrives has its effect on the device. A garbled request has no effect, and without a message there is none.
 abbrev pub effect_on : DeviceState → Brought → Effect
@@ -113,46 +113,46 @@ hand_left held (Answered reply sendings) = None
 hand_left held (NoReply sendings) = None
 hand_left held (Refused fault) = None
 
--- The device's answer to what arrived, if any, is spoken, and nothing else changes.
+-- The device's answer to what brought, if any, is spoken, and nothing else changes.
 abbrev pub replied : Start → World → Brought → World
-replied start world arrived = record world { spoken = world.spoken ++ option_to_list (sent_back start world arrived) }
+replied start world brought = record world { spoken = world.spoken ++ option_to_list (sent_back start world brought) }
 
--- A turn of a master, in which this arrived and this reply was accepted: with nothing in hand the device's answer to what arrived
+-- A turn of a master, in which this brought and this reply was accepted: with nothing in hand the device's answer to what brought
 -- is spoken alone, if any; otherwise the request is spoken, then that answer; the effect enters the executions under the number of
 -- the submission, or sets the master's mark; if the frame is answered, the master's cold start bit is cleared; and the submission gets
 -- its outcome, by which the request stays in hand or leaves it.
 abbrev pub turned : Start → World → MasterId → Option InHand → Brought → Option Reply → World
-turned start world who None arrived accepted = replied start world arrived
-turned start world who (Some held) arrived accepted =
-    let effect = effect_on (state_of start.device world) arrived in
+turned start world who None brought accepted = replied start world brought
+turned start world who (Some held) brought accepted =
+    let effect = effect_on (state_of start.device world) brought in
     let outcome = outcome_of (of_master who start.retries) (held.sendings + 1) accepted in
     record {
       executions = executions_after effect held.submission world.executions;
       marks = marks_after effect who (length world.executions) world.marks;
       protected = world.protected;
-      cold_start = cold_start_after (state_of start.device world) who arrived;
+      cold_start = cold_start_after (state_of start.device world) who brought;
       hands = with_master who (hand_left held outcome) world.hands;
       outcomes = slice_set world.outcomes held.submission outcome;
-      spoken = world.spoken ++ spoken_request who held ∷ option_to_list (sent_back start world arrived);
+      spoken = world.spoken ++ spoken_request who held ∷ option_to_list (sent_back start world brought);
     }
 
 -- A turn leads to the next world by what it brings the device, what comes back of the answer to that, and the reply that is
 -- accepted then.
 pub record IsTurn (start : Start) (world : World) (who : MasterId) (up down : Heard) (next : World) : Type 0 where
-  pub arrived : Brought
-  pub arrives : Reaches start.device.identity up (sent_by who (of_master who world.hands)) arrived
+  pub brought : Brought
+  pub arrives : Reaches start.device.identity up (sent_by who (of_master who world.hands)) brought
   pub returned : Option FrameParts
-  pub returns : Arrives down (sent_back start world arrived) returned
+  pub returns : Arrives down (sent_back start world brought) returned
   pub accepted : Option Reply
   pub accepts : Accepts who (of_master who world.hands) returned accepted
-  pub next_is : next ≡ turned start world who (of_master who world.hands) arrived accepted
+  pub next_is : next ≡ turned start world who (of_master who world.hands) brought accepted
 
 -- Noise, in which nothing was sent, leads to the next world by what it brings the device, whose answer is spoken, if any. Both
 -- masters hear that without damage; as neither awaits a reply, neither accepts it.
 pub record IsNoise (start : Start) (world : World) (chars : List Character) (next : World) : Type 0 where
-  pub arrived : Brought
-  pub arrives : Reaches start.device.identity (Chars chars) None arrived
-  pub next_is : next ≡ replied start world arrived
+  pub brought : Brought
+  pub arrives : Reaches start.device.identity (Chars chars) None brought
+  pub next_is : next ≡ replied start world brought
 
 -- An event leads from a world to the next: a submission by the fault that refuses it, if any; a turn; the switch of protection,
 -- which changes nothing else; noise; and a restart of the device, which sets both masters' cold start bits and changes nothing else,
@@ -166,10 +166,10 @@ Step start world (Noise chars) next = IsNoise start world chars next
 Step start world Restart next = next ≡ record world { cold_start = for_both true }
 
 -- The events of a script lead from a world to the last one, event by event.
-abbrev pub Run : Start → World → List LineEvent → World → Type 0
-Run start world [] last = last ≡ world
-Run start world (event ∷ events) last = (next : World) × Step start world event next × Run start next events last
+abbrev pub LeadsTo : Start → World → List LineEvent → World → Type 0
+LeadsTo start world [] last = last ≡ world
+LeadsTo start world (event ∷ events) last = (next : World) × Step start world event next × LeadsTo start next events last
 
 -- The last world of a script is the one that its events lead to from the first.
 abbrev pub IsLast : Start → List LineEvent → World → Type 0
-IsLast start events last = Run start (first_world start) events last
+IsLast start events last = LeadsTo start (first_world start) events last

@@ -15,7 +15,7 @@ ghost use Rattle.hart_line.specs.world.Executions.{last_executions, times_execut
 ghost use Rattle.hart_line.specs.world.Faults.{IsFault, IsNotDetectable};
 ghost use Rattle.hart_line.specs.line.Room.{IsRoomFor};
 ghost use Rattle.hart_line.specs.world.Promises.{AnswersLastSending, AreWellMade, IsExecutedFromHand, IsExecutedInItsTurn, IsLastReset};
-ghost use Rattle.hart_line.specs.world.Promises.{IsRefusedByDevice, IsStepOf, IsUnrefusedWrite, arrived_in_step, requests_of, sendings_in};
+ghost use Rattle.hart_line.specs.world.Promises.{IsRefusedByDevice, IsStepOf, IsUnrefusedWrite, brought_in_step, requests_of, sendings_in};
 ghost use Rattle.hart_line.specs.world.Promises.{start_from};
 ghost use Rattle.hart_line.specs.world.Spoken.{AreSpoken};
 ghost use Rattle.hart_line.specs.world.Step.{IsLast};
@@ -30,7 +30,7 @@ ghost use Rattle.hart_line.specs.declared.line.report.Outcome.TheVariants.{Answe
 use crate::laws::{scripts_have_one_last_world, scripts_keep_their_promises};
 use crate::line::Line;
 use crate::line::room::ScriptRoom;
-use crate::line::undetected::Stop;
+use crate::line::undetected::UndetectedAt;
 use crate::{LineEvent, LineFault, Report};
 use hart_device::{Device, Process, RegisterStore, registers_of_lists};
 use hart_master::Master;
@@ -98,10 +98,10 @@ pub fn run<S: RegisterStore + Drop>(
     ensures unrefused_writes_are_executed { let start = start_from device process.now primary secondary in
         IfOk result (λ _. (before next : World) (who : MasterId) (up down : Heard)
         (turn : IsStepOf start (first_world start) events.now before (Turn who up down) next)
-        → IsUnrefusedWrite (state_of device before) turn.step.arrived → IsExecutedFromHand start events.now who before next) }
+        → IsUnrefusedWrite (state_of device before) turn.step.brought → IsExecutedFromHand start events.now who before next) }
     ensures nothing_else_is_executed { let start = start_from device process.now primary secondary in
         IfOk result (λ _. (before next : World) (event : LineEvent) (here : IsStepOf start (first_world start) events.now before event next)
-        → (IsUnrefusedWrite (state_of device before) (arrived_in_step start before event next here.step) → ⊥)
+        → (IsUnrefusedWrite (state_of device before) (brought_in_step start before event next here.step) → ⊥)
         → next.executions ≡ before.executions) }
     ensures executed_in_its_turn { let start = start_from device process.now primary secondary in
         IfOk result (λ report. (number : ℕ) (request : Request) (reply : Reply) (sendings : ℕ)
@@ -144,7 +144,7 @@ fn carry_out<S: RegisterStore + Drop>(
     secondary: Master,
     events: &[LineEvent],
     process: &Process,
-) -> Result<Report<S>, Stop>
+) -> Result<Report<S>, UndetectedAt>
     requires room { IsRoomFor events.now room }
     requires primary { (primary.id ≡ Primary) × (primary.hand ≡ Empty) }
     requires secondary { (secondary.id ≡ Secondary) × (secondary.hand ≡ Empty) }

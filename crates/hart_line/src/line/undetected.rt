@@ -11,10 +11,10 @@ pub struct Undetected {
 
 impl Undetected {
     /// Where a script stops, if this is at the event with this number.
-    pub fn at(self, event: usize) -> Stop
+    pub fn at(self, event: usize) -> UndetectedAt
         ensures { result ≡ record { event = event; leg = self.leg } }
     {
-        Stop {
+        UndetectedAt {
             event,
             leg: self.leg,
         }
@@ -23,19 +23,19 @@ impl Undetected {
 
 /// Where a script stops: at the event with this number, counted from 0, in which the damage of this leg is undetected.
 #[derive(Clone, Copy)]
-pub struct Stop {
+pub struct UndetectedAt {
     pub event: usize,
     pub leg: Leg,
 }
 
-impl From<Stop> for LineFault {
+impl From<UndetectedAt> for LineFault {
     ghost use Rattle.std.specs.Prelude.{◌≡◌};
     ghost use Rattle.hart_line.specs.declared.fault.LineFault.TheVariants.{Undetected};
 
-    ghost from_gives = { λ stop fault. fault ≡ Undetected stop.event stop.leg };
+    ghost from_gives = { λ undetected fault. fault ≡ Undetected undetected.event undetected.leg };
 
-    fn from(stop: Stop) -> LineFault {
-        let Stop { event, leg } = stop;
+    fn from(undetected: UndetectedAt) -> LineFault {
+        let UndetectedAt { event, leg } = undetected;
         LineFault::Undetected { event, leg }
     }
 }

@@ -27,14 +27,14 @@ pub fn read_address(word: &[u8]) -> Option<Address>
     if word == b"all".as_slice() {
         return Address::unique(0, 0).ok();
     }
-    if let Some(polling) = read_polling(word) {
+    if let Some(polling) = read_polling_address(word) {
         return Some(Address::Polling(polling));
     }
     Some(Address::Unique(read_device(word)?))
 }
 
 /// The polling address that is written `@` and one or two digits.
-fn read_polling(word: &[u8]) -> Option<PollingAddress>
+fn read_polling_address(word: &[u8]) -> Option<PollingAddress>
     ensures { Finds (IsPollingWord word.now) result }
 {
     let [b'@', digits @ ..] = word else {

@@ -16,7 +16,7 @@ use Rattle.hart_commands.specs.RequestData.{command_of}
 use Rattle.hart_commands.specs.ReplyData.{reply_reading}
 use Rattle.hart_commands.specs.declared.request.Request.{Request}
 use Rattle.hart_commands.specs.declared.reply.Reply.{Reply}
-use Rattle.hart_master.specs.Acceptance.{Answers, IsReplyTo, IsAccepted}
+use Rattle.hart_master.specs.Acceptance.{MatchesRequest, IsReplyTo, IsAccepted}
 use Rattle.hart_master.proofs.lemmas.Acceptance.{IsAlone, NoOther, IsReplyTo-alone}
 
 -- a fact holds or does not
@@ -72,7 +72,7 @@ address_decided (Unique m) (Unique n) =
 answers_from : (id : MasterId) (address : Address) (request : Request) (frame : FrameParts)
     → Decided (frame.kind ≡ Ack) → Decided (frame.expansion ≡ []) → Decided (frame.master ≡ id)
     → Decided (frame.address ≡ address) → Decided (frame.command ≡ command_of request)
-    → Decided (Answers id address request frame)
+    → Decided (MatchesRequest id address request frame)
 answers_from id address request frame (inl kind) (inl expansion) (inl receiver) (inl sender) (inl command) =
     inl (record { kind = kind; expansion = expansion; receiver = receiver; sender = sender; command = command })
 answers_from id address request frame (inr other) _ _ _ _ = inr (λ answers. other answers.kind)
@@ -82,7 +82,7 @@ answers_from id address request frame _ _ _ (inr other) _ = inr (λ answers. oth
 answers_from id address request frame _ _ _ _ (inr other) = inr (λ answers. other answers.command)
 
 answers_decided : (id : MasterId) (address : Address) (request : Request) (frame : FrameParts)
-    → Decided (Answers id address request frame)
+    → Decided (MatchesRequest id address request frame)
 answers_decided id address request frame =
     answers_from id address request frame (kind_decided frame.kind) (expansion_decided frame.expansion)
     (master_decided frame.master id) (address_decided frame.address address) (number_decided frame.command (command_of request))
@@ -93,7 +93,7 @@ reading_decided (Some reply) = inl (reply, refl)
 
 -- and is a reply or none
 reply_from : (id : MasterId) (address : Address) (request : Request) (frame : FrameParts)
-    → Decided (Answers id address request frame) → OneOrNone (λ reply. reply_reading frame.command frame.payload ≡ Some reply)
+    → Decided (MatchesRequest id address request frame) → OneOrNone (λ reply. reply_reading frame.command frame.payload ≡ Some reply)
     → OneOrNone (IsReplyTo id address request frame)
 reply_from id address request frame (inl answers) (inl one) = inl (one.0, record { answers = answers; read = one.1 })
 reply_from id address request frame (inr other) _ = inr (λ reply is_reply. other is_reply.answers)

@@ -8,7 +8,7 @@ use Rattle.std.proofs.lemmas.List.{append-nil, drop-take, length-replicate, map-
 use Rattle.std.proofs.KnownBytes.{Appends-nil, Appends-trans}
 use Rattle.hart_frame.specs.heard.Character.{Character, faultless}
 use Rattle.hart_frame.specs.scan.Scanner.{Ends, Gives, GivesNothing, MovesPast, Scan, Waits, finishing, hearing}
-use Rattle.hart_frame.specs.scan.Streamed.{IsHistory, give, wait, finish, push, push_run}
+use Rattle.hart_frame.specs.scan.Streamed.{IsHistory, take_view, wait, finish, push, push_bytes}
 use Rattle.hart_frame.specs.declared.heard.found.Found.{Found}
 use Rattle.hart_cli.specs.declared.dump.frame_lines.FrameLines.{FrameLines}
 use Rattle.hart_cli.specs.dump.Text.{dump_line}
@@ -72,7 +72,7 @@ pub one_given : (start : Stream) (earlier : List ℕ) (old new : Stream) (frames
     → KeepsLine old new frames.lines after.lines line → WritesSoFar start earlier new after chars
 one_given start earlier old new frames after found line chars so_far gives is keeps = record {
   given = so_far.given ++ found ∷ [];
-  history = give chars frames.scanner after.scanner so_far.given found so_far.history gives;
+  history = take_view chars frames.scanner after.scanner so_far.given found so_far.history gives;
   written = so_far.written ++ keeps.written;
   split = dump_text-more so_far.given found
       ∙ ap (λ (xs : List ℕ). xs ++ dump_line found) so_far.split
@@ -168,14 +168,14 @@ so_far_pushed start earlier now old new chars character so_far going heard same 
   wrote = so_far.wrote;
 }
 
--- the characters so far, and bytes of a run that are pushed to the scanner
-pub so_far_run : (start : Stream) (earlier : List ℕ) (now : Stream) (old new : FrameLines) (chars : List Character) (run : List ℕ)
+-- the characters so far, and bytes of a chunk that are pushed to the scanner
+pub so_far_chunk : (start : Stream) (earlier : List ℕ) (now : Stream) (old new : FrameLines) (chars : List Character) (chunk : List ℕ)
     → WritesSoFar start earlier now old chars → old.scanner.finished ≡ false
-    → MovesPast (hearing old.scanner (faultless run)) new.scanner []
-    → new.scanner.finished ≡ old.scanner.finished → new.lines ≡ old.lines → WritesSoFar start earlier now new (chars ++ faultless run)
-so_far_run start earlier now old new chars run so_far going moves finished same = record {
+    → MovesPast (hearing old.scanner (faultless chunk)) new.scanner []
+    → new.scanner.finished ≡ old.scanner.finished → new.lines ≡ old.lines → WritesSoFar start earlier now new (chars ++ faultless chunk)
+so_far_chunk start earlier now old new chars chunk so_far going moves finished same = record {
   given = so_far.given;
-  history = push_run chars old.scanner new.scanner so_far.given run so_far.history going moves finished;
+  history = push_bytes chars old.scanner new.scanner so_far.given chunk so_far.history going moves finished;
   written = so_far.written;
   split = so_far.split ∙ ap (λ (xs : List ℕ). earlier ++ (so_far.written ++ xs)) (sym same);
   wrote = so_far.wrote;
@@ -224,22 +224,22 @@ take_parts n m xs =
     ∙ take-append-drop n (take (n + m) xs)
 
 -- the faultless characters of two parts
-pub faultless_parts : (chars : List Character) (run rest : List ℕ) (n m : ℕ) → rest ≡ drop n run
-    → (chars ++ faultless (take n run)) ++ faultless (take m rest) ≡ chars ++ faultless (take (n + m) run)
-faultless_parts chars run rest n m is =
+pub faultless_parts : (chars : List Character) (chunk rest : List ℕ) (n m : ℕ) → rest ≡ drop n chunk
+    → (chars ++ faultless (take n chunk)) ++ faultless (take m rest) ≡ chars ++ faultless (take (n + m) chunk)
+faultless_parts chars chunk rest n m is =
     let make = λ (byte : ℕ). let x : Character = record { byte = byte; faults = 0 } in x in
-    append_assoc chars (faultless (take n run)) (faultless (take m rest))
+    append_assoc chars (faultless (take n chunk)) (faultless (take m rest))
     ∙ ap (λ (xs : List Character). chars ++ xs) (
-    sym (map-append make (take n run) (take m rest))
-    ∙ ap (λ (ys : List ℕ). faultless (take n run ++ take m ys)) is
-    ∙ ap faultless (take_parts n m run)
+    sym (map-append make (take n chunk) (take m rest))
+    ∙ ap (λ (ys : List ℕ). faultless (take n chunk ++ take m ys)) is
+    ∙ ap faultless (take_parts n m chunk)
     )
 
--- the faultless characters of a part of a run, and of the rest
-pub faultless_split : (run : List ℕ) (n : ℕ) → faultless run ≡ faultless (take n run) ++ faultless (drop n run)
-faultless_split run n =
+-- the faultless characters of a part of a chunk, and of the rest
+pub faultless_split : (chunk : List ℕ) (n : ℕ) → faultless chunk ≡ faultless (take n chunk) ++ faultless (drop n chunk)
+faultless_split chunk n =
     let make = λ (byte : ℕ). let x : Character = record { byte = byte; faults = 0 } in x in
-    ap faultless (sym (take-append-drop n run)) ∙ map-append make (take n run) (drop n run)
+    ap faultless (sym (take-append-drop n chunk)) ∙ map-append make (take n chunk) (drop n chunk)
 
 -- all frames are given, and their lines are written, or not all of them
 pub finish_writes : {T E : Type 0} (result : Result T E) (start : Stream) (earlier : List ℕ) (old new : Stream) (frames : FrameLines)

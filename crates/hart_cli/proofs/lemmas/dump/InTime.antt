@@ -8,7 +8,7 @@ use Rattle.std.proofs.KnownBytes.{Appends-nil, Appends-trans}
 use Rattle.hart_frame.specs.heard.Character.{Character, faultless}
 use Rattle.hart_frame.specs.heard.Frames.{AreFrames, HasNoFrame, IsUndecided}
 use Rattle.hart_frame.specs.scan.Scanner.{CanHear, MovesPast, Scan, hearing}
-use Rattle.hart_frame.specs.scan.Streamed.{IsHistory, begin, finish, give, push, push_run, wait}
+use Rattle.hart_frame.specs.scan.Streamed.{IsHistory, begin, finish, push, push_bytes, take_view, wait}
 use Rattle.hart_frame.specs.declared.heard.found.Found.{Found}
 use Rattle.hart_cli.specs.declared.dump.frame_lines.FrameLines.{FrameLines}
 use Rattle.hart_cli.specs.dump.Dump.{AreDecided, WroteInTime}
@@ -79,10 +79,10 @@ passed_so_far : (chars : List Character) (scan : Scan) (given : List Found) → 
 passed_so_far _ _ _ begin going = record { passed = []; split = refl; place = refl; first = λ more later are. are }
 passed_so_far _ _ _ (push past scan given character history on) going =
     passed_more past scan given (character ∷ []) (passed_so_far past scan given history on)
-passed_so_far _ _ _ (push_run past old new given run history on moves same) going =
-    passed_none (past ++ faultless run) (hearing old (faultless run)) new given on
-    (passed_more past old given (faultless run) (passed_so_far past old given history on)) moves
-passed_so_far _ _ _ (give past old new given found history gives) going =
+passed_so_far _ _ _ (push_bytes past old new given chunk history on moves same) going =
+    passed_none (past ++ faultless chunk) (hearing old (faultless chunk)) new given on
+    (passed_more past old given (faultless chunk) (passed_so_far past old given history on)) moves
+passed_so_far _ _ _ (take_view past old new given found history gives) going =
     let on = sym gives.finished ∙ going in
     passed_on past old new given (found ∷ []) on (passed_so_far past old given history on) gives.moves
 passed_so_far _ _ _ (wait past old new given history waits) going =

@@ -11,7 +11,7 @@ use Rattle.hart_cli.specs.declared.fault.CliFault.{CliFault}
 use Rattle.hart_cli.specs.declared.fault.CliFault.TheVariants as faults
 use Rattle.hart_cli.specs.declared.dump.frame_lines.FrameLines.{FrameLines}
 use Rattle.hart_cli.specs.declared.input.InputEnd.{InputEnd}
-use Rattle.hart_cli.specs.declared.input.InputEnd.TheVariants.{Ended, Failed, TooLong}
+use Rattle.hart_cli.specs.declared.input.InputEnd.TheVariants.{Ended, ReadFailed, TooLong}
 use Rattle.hart_cli.specs.declared.stream.Failed as stream
 use Rattle.hart_cli.specs.dump.Dump.{StopsSoon, WroteInTime, ended_text, most_ahead}
 use Rattle.hart_cli.specs.dump.FrameLines.{BreaksOff, IsNextStep, ReadsAhead, ScansAll, ScansInput, ScansPart, ScansText, WritesSoFar}
@@ -29,13 +29,13 @@ use Rattle.hart_cli.proofs.lemmas.text.Items.{ReadsUpTo-length, ReadsUpTo-more, 
 abbrev tail : List ℕ → Ending → List ℕ
 tail bytes Left = bytes
 tail bytes (CameTo Ended) = bytes ++ 32 ∷ []
-tail bytes (CameTo Failed) = bytes
+tail bytes (CameTo ReadFailed) = bytes
 tail bytes (CameTo TooLong) = bytes
 
 ended_tail : (xs bytes : List ℕ) (ending : Ending) → ended_text (xs ++ bytes) ending ≡ xs ++ tail bytes ending
 ended_tail xs bytes Left = refl
 ended_tail xs bytes (CameTo Ended) = append_assoc xs bytes (32 ∷ [])
-ended_tail xs bytes (CameTo Failed) = refl
+ended_tail xs bytes (CameTo ReadFailed) = refl
 ended_tail xs bytes (CameTo TooLong) = refl
 
 -- one read more of an input
@@ -64,14 +64,14 @@ pub record ScannedUpTo (reader reader_after writer writer_after : Stream) (frame
   pub no_piece : NoPieceBegins rest
   pub soon : length rest ≤ most_ahead
   pub well : end ≡ None → ReadsWell reader reader_after input × (length input ≤ input_limit)
-  pub still_open : end ≡ Some Failed → MayBegin rest
+  pub still_open : end ≡ Some ReadFailed → MayBegin rest
   pub so_far : WritesSoFar writer [] writer_after frames chars
   pub in_time : WroteInTime input writer writer_after
 
 -- after a failed read what was open is still open
 open_after_failure : (a b : Stream) (ahead bytes after : List ℕ) (more : List Character) (n room : ℕ) (end : Option InputEnd)
     → ReadsPortion a b bytes room end → after ≡ ahead ++ tail bytes (ending_of end) → NoPieceBegins ahead → MayBegin ahead
-    → ReadsUpTo after more (drop n after) → end ≡ Some Failed → MayBegin (drop n after)
+    → ReadsUpTo after more (drop n after) → end ≡ Some ReadFailed → MayBegin (drop n after)
 open_after_failure a b ahead bytes after more n room end portion is none may reads failed =
     let Portion : Option InputEnd → Type 0 = λ e. ReadsPortion a b bytes room e in
     let nothing = (subst Portion failed portion).1 in
@@ -190,13 +190,13 @@ stopped r r2 w w2 frames (Some Ended) place rest (Some fault) scanned step =
     }))
     (omega (arith, scanned.placed, scanned.soon, long))
     )
-stopped r r2 w w2 frames (Some Failed) place rest fault scanned (inl (may, is)) =
+stopped r r2 w w2 frames (Some ReadFailed) place rest fault scanned (inl (may, is)) =
     let Of : Option CliFault → Type 0 = λ f. ScansAll r r2 w w2 frames f in
     subst Of (sym is) (
-    all_scanned r r2 w w2 frames (Some Failed) place rest (CameTo Failed) (Some faults.Read) scanned scanned.read refl
+    all_scanned r r2 w w2 frames (Some ReadFailed) place rest (CameTo ReadFailed) (Some faults.Read) scanned scanned.read refl
     (HasChars.failure scanned.chars (record { rest = rest; reads = scanned.reads; no_piece = scanned.no_piece; open_end = may })) tt
     )
-stopped r r2 w w2 frames (Some Failed) place rest fault scanned (inr (never, is)) = absurd (never (scanned.still_open refl))
+stopped r r2 w w2 frames (Some ReadFailed) place rest fault scanned (inr (never, is)) = absurd (never (scanned.still_open refl))
 stopped r r2 w w2 frames (Some TooLong) place rest fault scanned (inl (may, is)) =
     let Of : Option CliFault → Type 0 = λ f. ScansAll r r2 w w2 frames f in
     subst Of (sym is) (
@@ -210,7 +210,7 @@ stopped r r2 w w2 frames (Some TooLong) place rest fault scanned (inr (never, is
 pub reads_on : (end : Option InputEnd) (place : ℕ) (rest : List ℕ) → IsNextStep end rest place ReadOn → (end ≡ None) × MayBegin rest
 reads_on None place rest step = (refl, step)
 reads_on (Some Ended) place rest step = absurd step
-reads_on (Some Failed) place rest step = absurd step
+reads_on (Some ReadFailed) place rest step = absurd step
 reads_on (Some TooLong) place rest step = absurd step
 
 -- a write failed while an input was read

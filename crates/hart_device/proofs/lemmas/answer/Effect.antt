@@ -4,7 +4,7 @@ use Rattle.std.proofs.Common.{Bool, true, false, ◌==◌, ◌&&◌, ◌||◌, i
 use Rattle.std.proofs.Common.{Option, None, Some, IfSome, Ok, Err}
 use Rattle.std.proofs.lemmas.Bool.{eqb-true}
 use Rattle.std.proofs.lemmas.Bool.Decides.{nat_tests}
-use Rattle.hart_commands.specs.RequestCode.{counter_code, is_write, judged}
+use Rattle.hart_commands.specs.RequestCode.{counter_code, is_write, data_code}
 use Rattle.hart_commands.specs.RequestData.{Reading}
 use Rattle.hart_values.specs.declared.master_id.MasterId.{MasterId}
 use Rattle.hart_frame.specs.wire.FrameParts.{FrameParts, reply_parts}
@@ -70,10 +70,10 @@ asked_resets (Ok (ResetChanged counter)) is = (counter, refl)
 asked_resets (Ok request) is = absurd (executed_resets (overwrite_of request) is)
 
 -- Code 0 is what the data and the counter say.
-judged_zero : (code : ℕ) (first protected : Bool) → (if first then code else if protected then 7 else code) ≡ 0 → code ≡ 0
-judged_zero code true protected is = is
-judged_zero code false true is = absurd (omega arith)
-judged_zero code false false is = is
+data_code-zero : (code : ℕ) (first protected : Bool) → (if first then code else if protected then 7 else code) ≡ 0 → code ≡ 0
+data_code-zero code true protected is = is
+data_code-zero code false true is = absurd (omega arith)
+data_code-zero code false false is = is
 
 same_counter : (given counter : ℕ) (same : Bool) → (given == counter) ≡ same → ◌≡◌ {A = ℕ} (if same then 0 else 9) 0 → given ≡ counter
 same_counter given counter true test is = eqb-true given counter test
@@ -92,11 +92,11 @@ resets_only state frame is =
     let parts = resets_if (is_answered state frame) (code == 0) (asked_effect (reading_of frame)) is in
     let zero : code ≡ 0 = eqb-true code 0 parts.1 in
     let asked = asked_resets (reading_of frame) parts.2 in
-    let judged_code = judged (reading_of frame) state.counter in
-    let good : judged_code ≡ 0 =
-    judged_zero judged_code ((judged_code == 64) || (judged_code == 5)) (state.protected && is_write frame.command) zero in
+    let read_code = data_code (reading_of frame) state.counter in
+    let good : read_code ≡ 0 =
+    data_code-zero read_code ((read_code == 64) || (read_code == 5)) (state.protected && is_write frame.command) zero in
     let named : counter_code (ResetChanged asked.0) state.counter ≡ 0 =
-    ap (λ reading. judged reading state.counter) (sym asked.1) ∙ good in
+    ap (λ reading. data_code reading state.counter) (sym asked.1) ∙ good in
     (parts.0, zero, asked.0, asked.1, named_counter asked.0 state.counter named)
 
 -- No effect changes who the device is, or whether it is protected.

@@ -16,7 +16,8 @@ use Rattle.hart_device.specs.declared.fault.DeviceFault.{DeviceFault}
 use Rattle.hart_device.specs.declared.fault.DeviceFault.TheVariants.{BadField, BadLength, BadVersion, BroadcastAddress, OutOfRange}
 use Rattle.hart_device.specs.Device.{DeviceState}
 use Rattle.hart_device.specs.Identity.{two_bytes}
-use Rattle.hart_device.specs.image.Image.{HasBadField, HasBadRegister, IsImageOf, IsImageFault, IsLongTagOf, flags_of, image_ending, image_bytes}
+use Rattle.hart_device.specs.image.Image.{HasBadField, HasBadRegister, IsImageOf, IsImageFault, IsLongTagOf, flags_of, image_ending}
+use Rattle.hart_device.specs.image.Image.{image_bytes}
 use Rattle.hart_device.specs.image.Image.{image_length, registers_of_version, registers_of_version_1}
 use Rattle.hart_device.specs.image.ImageParts.{state_with}
 use Rattle.hart_device.specs.registers.Ranges.{contents_in, end_of, standing_for, start_of}
@@ -27,18 +28,18 @@ use Rattle.hart_device.proofs.lemmas.registers.Range.{end_to_end, length_written
 use Rattle.hart_device.proofs.lemmas.registers.Registers.{bytes_in-contents_by, same_contents}
 
 -- Version 1 is known, with all registers but the long tag, and version 2, with all.
-known_version : (version : ℕ) (held : List Register) → registers_of_version version ≡ Some held
-    → ((version ≡ 1) × (held ≡ registers_of_version_1)) ⊎ ((version ≡ 2) × (held ≡ registers))
-known_version version held known = by_test (version == 1) refl known
+known_version : (version : ℕ) (listed : List Register) → registers_of_version version ≡ Some listed
+    → ((version ≡ 1) × (listed ≡ registers_of_version_1)) ⊎ ((version ≡ 2) × (listed ≡ registers))
+known_version version listed known = by_test (version == 1) refl known
   where
-    by_second : (is_two : Bool) → (version == 2) ≡ is_two → (if is_two then Some registers else None) ≡ Some held
-        → ((version ≡ 1) × (held ≡ registers_of_version_1)) ⊎ ((version ≡ 2) × (held ≡ registers))
+    by_second : (is_two : Bool) → (version == 2) ≡ is_two → (if is_two then Some registers else None) ≡ Some listed
+        → ((version ≡ 1) × (listed ≡ registers_of_version_1)) ⊎ ((version ≡ 2) × (listed ≡ registers))
     by_second true test is = inr (grind (arith, nat_tests, test), cc)
     by_second false test is = cc
 
     by_test : (is_one : Bool) → (version == 1) ≡ is_one
-        → (if is_one then Some registers_of_version_1 else if version == 2 then Some registers else None) ≡ Some held
-        → ((version ≡ 1) × (held ≡ registers_of_version_1)) ⊎ ((version ≡ 2) × (held ≡ registers))
+        → (if is_one then Some registers_of_version_1 else if version == 2 then Some registers else None) ≡ Some listed
+        → ((version ≡ 1) × (listed ≡ registers_of_version_1)) ⊎ ((version ≡ 2) × (listed ≡ registers))
     by_test true test is = inl (grind (arith, nat_tests, test), cc)
     by_test false test is = by_second (version == 2) refl is
 
@@ -48,10 +49,10 @@ one_list : (version : ℕ) (listed other : List Register) → registers_of_versi
 one_list version listed other known same = let both = sym known ∙ same in cc
 
 -- The registers of a version stand end to end.
-ends_of : (version : ℕ) (held : List Register) → registers_of_version version ≡ Some held → end_to_end 0 held ≡ true
-ends_of version held known = by_version (known_version version held known)
+ends_of : (version : ℕ) (listed : List Register) → registers_of_version version ≡ Some listed → end_to_end 0 listed ≡ true
+ends_of version listed known = by_version (known_version version listed known)
   where
-    by_version : ((version ≡ 1) × (held ≡ registers_of_version_1)) ⊎ ((version ≡ 2) × (held ≡ registers)) → end_to_end 0 held ≡ true
+    by_version : ((version ≡ 1) × (listed ≡ registers_of_version_1)) ⊎ ((version ≡ 2) × (listed ≡ registers)) → end_to_end 0 listed ≡ true
     by_version (inl one) = rw one.1 refl
     by_version (inr two) = rw two.1 refl
 
@@ -68,13 +69,13 @@ no_long_tag (suc (suc (suc (suc (suc (suc (suc k)))))), within, is) = absurd (om
 
 -- So a register of version 1 is not the long tag.
 pub listed_differs : (register : Register) → Contains registers_of_version_1 register → register ≢ LongTag
-listed_differs register listed same = no_long_tag (subst (λ r. Contains registers_of_version_1 r) same listed)
+listed_differs register is_listed same = no_long_tag (subst (λ r. Contains registers_of_version_1 r) same is_listed)
 
 -- A register that a version has not is the long tag.
-listed_or_not : (version : ℕ) (held : List Register) → registers_of_version version ≡ Some held
+listed_or_not : (version : ℕ) (listed : List Register) → registers_of_version version ≡ Some listed
     → ((register : Register) → Contains registers register) → (register : Register)
-    → Contains held register ⊎ ((register ≡ LongTag) × (Contains held LongTag → ⊥) × Contains held Tag)
-listed_or_not version held known every register = by_version (known_version version held known) register
+    → Contains listed register ⊎ ((register ≡ LongTag) × (Contains listed LongTag → ⊥) × Contains listed Tag)
+listed_or_not version listed known every register = by_version (known_version version listed known) register
   where
     in_first : (r : Register)
         → Contains registers_of_version_1 r
@@ -88,21 +89,21 @@ listed_or_not version held known every register = by_version (known_version vers
     in_first Date = inl (5, omega arith, refl)
     in_first Assembly = inl (6, omega arith, refl)
 
-    by_version : ((version ≡ 1) × (held ≡ registers_of_version_1)) ⊎ ((version ≡ 2) × (held ≡ registers)) → (r : Register)
-        → Contains held r ⊎ ((r ≡ LongTag) × (Contains held LongTag → ⊥) × Contains held Tag)
+    by_version : ((version ≡ 1) × (listed ≡ registers_of_version_1)) ⊎ ((version ≡ 2) × (listed ≡ registers)) → (r : Register)
+        → Contains listed r ⊎ ((r ≡ LongTag) × (Contains listed LongTag → ⊥) × Contains listed Tag)
     by_version (inl one) r =
         subst (λ (xs : List Register). Contains xs r ⊎ ((r ≡ LongTag) × (Contains xs LongTag → ⊥) × Contains xs Tag))
         (sym one.1) (in_first r)
     by_version (inr two) r = inl (rw two.1 (every r))
 
 -- What an image of a version says of its device.
-said : (state : DeviceState) (version : ℕ) (rest : List ℕ) (held : List Register) → registers_of_version version ≡ Some held
+said : (state : DeviceState) (version : ℕ) (rest : List ℕ) (listed : List Register) → registers_of_version version ≡ Some listed
     → IsImageOf state (version ∷ rest)
-    → (rest ≡ flat_map (bytes_in state.contents) held ++ image_ending state)
-    × ((Contains held LongTag → ⊥) → IsLongTagOf state.contents.tag state.contents.long_tag)
-said state version rest held known is =
+    → (rest ≡ flat_map (bytes_in state.contents) listed ++ image_ending state)
+    × ((Contains listed LongTag → ⊥) → IsLongTagOf state.contents.tag state.contents.long_tag)
+said state version rest listed known is =
     let first : version ≡ is.version = ap (λ xs. slice_index xs 0) is.written in
-    let list : is.listed ≡ held = one_list is.version is.listed held is.known (rw (← first) known) in (
+    let list : is.listed ≡ listed = one_list is.version is.listed listed is.known (rw (← first) known) in (
       ap (drop 1) is.written ∙ ap (λ listed. flat_map (bytes_in state.contents) listed ++ image_ending state) list,
       subst (λ (listed : List Register). (Contains listed LongTag → ⊥) → IsLongTagOf state.contents.tag state.contents.long_tag)
           list is.long_tag,
@@ -121,38 +122,38 @@ pub flags_of-le : (changed : EachMaster Bool) (protected : Bool) → flags_of ch
 flags_of-le changed protected = grind arith
 
 -- As many bytes as its registers have stand before the ending of an image.
-pub held_len : (state : DeviceState) → AreValid state.contents → (held : List Register)
-    → length (flat_map (bytes_in state.contents) held) ≡ sum_by size_of held
+pub held_len : (state : DeviceState) → AreValid state.contents → (listed : List Register)
+    → length (flat_map (bytes_in state.contents) listed) ≡ sum_by size_of listed
 held_len state valid = length_written (bytes_in state.contents) (λ r. (valid r).0)
 
 -- What stands for a register in an image that has it is what it holds.
-pub held_in_image : (state : DeviceState) → AreValid state.contents → (held : List Register) → end_to_end 0 held ≡ true
-    → (register : Register) → Contains held register
-    → standing_for register (flat_map (bytes_in state.contents) held ++ image_ending state) ≡ bytes_in state.contents register
-held_in_image state valid held ends register listed =
-    let same : slice_index_or held listed.0 register ≡ register = listed.2 in
-    subst (λ (r : Register). standing_for r (flat_map (bytes_in state.contents) held ++ image_ending state) ≡ bytes_in state.contents r)
-    same (written (bytes_in state.contents) [] (image_ending state) held ends (λ r. (valid r).0) listed.0 register listed.1)
+pub held_in_image : (state : DeviceState) → AreValid state.contents → (listed : List Register) → end_to_end 0 listed ≡ true
+    → (register : Register) → Contains listed register
+    → standing_for register (flat_map (bytes_in state.contents) listed ++ image_ending state) ≡ bytes_in state.contents register
+held_in_image state valid listed ends register is_listed =
+    let same : slice_index_or listed is_listed.0 register ≡ register = is_listed.2 in
+    subst (λ (r : Register). standing_for r (flat_map (bytes_in state.contents) listed ++ image_ending state) ≡ bytes_in state.contents r)
+    same (written (bytes_in state.contents) [] (image_ending state) listed ends (λ r. (valid r).0) is_listed.0 register is_listed.1)
 
 -- What was read of the registers in an array, and of the bytes that end an image, is what the image says.
-pub read_is : (version : ℕ) (held : List Register) → registers_of_version version ≡ Some held
-    → (parts : ImageParts) (array prefix end : List ℕ) → flat_map (λ register. standing_for register array) held ≡ prefix
-    → ((Contains held LongTag → ⊥) → IsLongTagOf (standing_for Tag array) (standing_for LongTag array))
+pub read_is : (version : ℕ) (listed : List Register) → registers_of_version version ≡ Some listed
+    → (parts : ImageParts) (array prefix end : List ℕ) → flat_map (λ register. standing_for register array) listed ≡ prefix
+    → ((Contains listed LongTag → ⊥) → IsLongTagOf (standing_for Tag array) (standing_for LongTag array))
     → values_of parts.values ≡ contents_in array → AreValid (values_of parts.values) × (parts.counter < 2 ^ 16)
     → two_bytes parts.counter ++ flags_of parts.flags.changed parts.flags.protected ∷ [] ≡ end
     → (identity : IdentityParts) → IsImageOf (state_with identity parts) (version ∷ (prefix ++ end))
-read_is version held known parts array prefix end fill long_tag contents valid ends identity = record {
+read_is version listed known parts array prefix end fill long_tag contents valid ends identity = record {
   contents = valid.0;
   counter = valid.1;
   version = version;
-  listed = held;
+  listed = listed;
   known = known;
-  long_tag = subst (λ (c : Contents). (Contains held LongTag → ⊥) → IsLongTagOf c.tag c.long_tag) (sym contents) long_tag;
+  long_tag = subst (λ (c : Contents). (Contains listed LongTag → ⊥) → IsLongTagOf c.tag c.long_tag) (sym contents) long_tag;
   written = ap (λ xs. version ∷ xs) (ap (λ xs. prefix ++ xs) (sym ends)
       ∙ ap (λ xs. xs ++ image_ending (state_with identity parts)) (sym fill)
-      ∙ ap (λ (bytes : Register → List ℕ). flat_map bytes held ++ image_ending (state_with identity parts))
+      ∙ ap (λ (bytes : Register → List ℕ). flat_map bytes listed ++ image_ending (state_with identity parts))
       (λ i register. sym (bytes_in-contents_by (λ r. standing_for r array) register) i)
-      ∙ ap (λ (c : Contents). flat_map (bytes_in c) held ++ image_ending (state_with identity parts)) (sym contents));
+      ∙ ap (λ (c : Contents). flat_map (bytes_in c) listed ++ image_ending (state_with identity parts)) (sym contents));
 }
 
 -- The flags are the last byte of an image.
@@ -173,14 +174,14 @@ before_others register prefix others fits =
     ∙ sym (between_is prefix (start_of register) (end_of register))
 
 -- A register that is bad in the array, or bad flags in the bytes that end an image, are a bad field.
-pub bad_field : (version : ℕ) (held : List Register) (array prefix end : List ℕ) → length end ≡ 3
-    → ((register : Register) → Contains registers_of_version_1 register → Contains held register)
+pub bad_field : (version : ℕ) (listed : List Register) (array prefix end : List ℕ) → length end ≡ 3
+    → ((register : Register) → Contains registers_of_version_1 register → Contains listed register)
     → ((register : Register) → Contains registers_of_version_1 register
     → standing_for register (prefix ++ end) ≡ standing_for register array)
-    → HasBadRegister registers_of_version_1 array ⊎ (7 < slice_index end 2) → HasBadField held (version ∷ (prefix ++ end))
-bad_field version held array prefix end three has whole (inl (register, there, bad)) =
+    → HasBadRegister registers_of_version_1 array ⊎ (7 < slice_index end 2) → HasBadField listed (version ∷ (prefix ++ end))
+bad_field version listed array prefix end three has whole (inl (register, there, bad)) =
     inl (register, has register there, λ valid. bad (rw (← whole register there) valid))
-bad_field version held array prefix end three has whole (inr above) = inr (rw (last_is version prefix end three) above)
+bad_field version listed array prefix end three has whole (inr above) = inr (rw (last_is version prefix end three) above)
 
 -- An image has no fault.
 pub no_fault : (state : DeviceState) (image : List ℕ) (fault : DeviceFault) → IsImageOf state image → IsImageFault image fault → ⊥
@@ -190,17 +191,17 @@ no_fault state (version ∷ rest) BadVersion is faulty =
     let unknown : registers_of_version is.version ≡ None = subst (λ v. registers_of_version v ≡ None) first faulty in
     let no = sym unknown ∙ is.known in
     cc
-no_fault state (version ∷ rest) BadLength is (held, known, wrong) =
-    let len = held_len state is.contents held in
-    let says = said state version rest held known is in
-    let all : length rest ≡ sum_by size_of held + 3 = ap (λ (xs : List ℕ). length xs) says.0 ∙ (grind (arith, common_steps)) in
+no_fault state (version ∷ rest) BadLength is (listed, known, wrong) =
+    let len = held_len state is.contents listed in
+    let says = said state version rest listed known is in
+    let all : length rest ≡ sum_by size_of listed + 3 = ap (λ (xs : List ℕ). length xs) says.0 ∙ (grind (arith, common_steps)) in
     wrong (omega (arith, all))
-no_fault state (version ∷ rest) BadField is (held, known, len, inl (register, there, bad)) =
-    let after = (said state version rest held known is).0 in
-    bad (rw (after, held_in_image state is.contents held (ends_of version held known) register there) (is.contents register))
-no_fault state (version ∷ rest) BadField is (held, known, len, inr above) =
-    let after : rest ≡ flat_map (bytes_in state.contents) held ++ image_ending state = (said state version rest held known is).0 in
-    let last = last_is version (flat_map (bytes_in state.contents) held) (image_ending state) refl in
+no_fault state (version ∷ rest) BadField is (listed, known, len, inl (register, there, bad)) =
+    let after = (said state version rest listed known is).0 in
+    bad (rw (after, held_in_image state is.contents listed (ends_of version listed known) register there) (is.contents register))
+no_fault state (version ∷ rest) BadField is (listed, known, len, inr above) =
+    let after : rest ≡ flat_map (bytes_in state.contents) listed ++ image_ending state = (said state version rest listed known is).0 in
+    let last = last_is version (flat_map (bytes_in state.contents) listed) (image_ending state) refl in
     let flags : 7 < flags_of state.changed state.protected =
     subst (λ n. 7 < n) last (subst (λ (xs : List ℕ). 7 < slice_index (version ∷ xs) (length (version ∷ xs) - 1)) after above) in
     absurd (omega (arith, flags, flags_of-le state.changed state.protected))
@@ -272,21 +273,22 @@ same_state state other identity contents counter changed protected cold_start = 
 }
 
 -- Contents are determined by what an image says of them.
-one_contents : (state other : DeviceState) (held : List Register)
+one_contents : (state other : DeviceState) (listed : List Register)
     → ((text others bytes : List ℕ) → IsPacked text bytes → IsPacked others bytes → text ≡ others)
-    → ((register : Register) → Contains held register ⊎ ((register ≡ LongTag) × (Contains held LongTag → ⊥) × Contains held Tag))
-    → ((register : Register) → Contains held register → bytes_in state.contents register ≡ bytes_in other.contents register)
-    → ((Contains held LongTag → ⊥) → IsLongTagOf state.contents.tag state.contents.long_tag)
-    → ((Contains held LongTag → ⊥) → IsLongTagOf other.contents.tag other.contents.long_tag)
+    → ((register : Register) → Contains listed register ⊎ ((register ≡ LongTag) × (Contains listed LongTag → ⊥) × Contains listed Tag))
+    → ((register : Register) → Contains listed register → bytes_in state.contents register ≡ bytes_in other.contents register)
+    → ((Contains listed LongTag → ⊥) → IsLongTagOf state.contents.tag state.contents.long_tag)
+    → ((Contains listed LongTag → ⊥) → IsLongTagOf other.contents.tag other.contents.long_tag)
     → state.contents ≡ other.contents
-one_contents state other held one_text listed same long_tag other_long_tag =
-    same_contents state.contents other.contents (λ register. by_listed register (listed register))
+one_contents state other listed one_text is_listed same long_tag other_long_tag =
+    same_contents state.contents other.contents (λ register. by_listed register (is_listed register))
   where
     one_long_tag : (tag a b : List ℕ) → IsLongTagOf tag a → IsLongTagOf tag b → a ≡ b
     one_long_tag tag a b (text, packed, is) (others, other_packed, other_is) =
         is ∙ ap (λ xs. xs ++ replicate 24 0x20) (one_text text others tag packed other_packed) ∙ sym other_is
 
-    by_listed : (register : Register) → Contains held register ⊎ ((register ≡ LongTag) × (Contains held LongTag → ⊥) × Contains held Tag)
+    by_listed : (register : Register)
+        → Contains listed register ⊎ ((register ≡ LongTag) × (Contains listed LongTag → ⊥) × Contains listed Tag)
         → bytes_in state.contents register ≡ bytes_in other.contents register
     by_listed register (inl there) = same register there
     by_listed register (inr (is, not, tag)) =
@@ -299,22 +301,23 @@ pub one_state : (state other : DeviceState) (image : List ℕ) → ((register : 
     → IsImageOf state image → IsImageOf other image → state.identity ≡ other.identity → state.cold_start ≡ other.cold_start → state ≡ other
 one_state state other [] every one_text is other_is identity cold_start = let none = is.written in cc
 one_state state other (version ∷ rest) every one_text is other_is identity cold_start =
-    let held = is.listed in
+    let listed = is.listed in
     let first : is.version ≡ version = ap (λ xs. slice_index xs 0) (sym is.written) in
-    let known : registers_of_version version ≡ Some held = rw (← first) is.known in
-    let says = said state version rest held known is in
-    let other_says = said other version rest held known other_is in
-    let same : flat_map (bytes_in state.contents) held ++ image_ending state
-    ≡ flat_map (bytes_in other.contents) held ++ image_ending other =
+    let known : registers_of_version version ≡ Some listed = rw (← first) is.known in
+    let says = said state version rest listed known is in
+    let other_says = said other version rest listed known other_is in
+    let same : flat_map (bytes_in state.contents) listed ++ image_ending state
+    ≡ flat_map (bytes_in other.contents) listed ++ image_ending other =
     sym says.0 ∙ other_says.0 in
-    let table = ends_of version held known in
+    let table = ends_of version listed known in
     let contents : state.contents ≡ other.contents =
-    one_contents state other held one_text (listed_or_not version held known every) (λ register there.
-    sym (held_in_image state is.contents held table register there) ∙ ap (standing_for register) same
-    ∙ held_in_image other other_is.contents held table register there) says.1 other_says.1 in
+    one_contents state other listed one_text (listed_or_not version listed known every) (λ register there.
+    sym (held_in_image state is.contents listed table register there) ∙ ap (standing_for register) same
+    ∙ held_in_image other other_is.contents listed table register there) says.1 other_says.1 in
     let ends : image_ending state ≡ image_ending other =
-    sym (drop_at _ (image_ending state) (sum_by size_of held) (held_len state is.contents held)) ∙ ap (drop (sum_by size_of held)) same
-    ∙ drop_at _ (image_ending other) (sum_by size_of held) (held_len other other_is.contents held) in
+    sym (drop_at _ (image_ending state) (sum_by size_of listed) (held_len state is.contents listed))
+    ∙ ap (drop (sum_by size_of listed)) same
+    ∙ drop_at _ (image_ending other) (sum_by size_of listed) (held_len other other_is.contents listed) in
     let high : state.counter / 256 ≡ other.counter / 256 = ap (λ xs. slice_index xs 0) ends in
     let low : state.counter % 256 ≡ other.counter % 256 = ap (λ xs. slice_index xs 1) ends in
     let bits = flags_determine state.changed.primary state.changed.secondary state.protected

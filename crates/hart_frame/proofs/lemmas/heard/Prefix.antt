@@ -5,12 +5,12 @@ use Rattle.std.proofs.lemmas.List.{get_or_append_left, drop-append-le, take-appe
 use Rattle.hart_frame.specs.declared.wire.fault.FrameFault.{FrameFault}
 use Rattle.hart_frame.specs.declared.wire.fault.FrameFault.TheVariants.{TooShortReply, BadPreamble, BadDelimiter, Truncated, BadCheck}
 use Rattle.hart_frame.specs.declared.wire.fault.FrameFault.TheVariants.{ShortReply}
-use Rattle.hart_frame.specs.declared.scan.candidate.Verdict.TheVariants.{Open}
+use Rattle.hart_frame.specs.declared.scan.candidate.Candidate.TheVariants.{Open}
 use Rattle.hart_frame.specs.wire.Parity.{HasEvenParity}
 use Rattle.hart_frame.specs.wire.Layout.{Describes, delimiter_in, byte_count_place, byte_count_in, body_length}
 use Rattle.hart_frame.specs.declared.wire.layout.Layout.{Layout}
 use Rattle.hart_frame.specs.wire.Refusal.{IsDelimiter, IsRefusedWith, HasDelimiter, HasByteCount, HasGoodByteCount, HasCheckByte}
-use Rattle.hart_frame.specs.scan.Candidate.{IsOpenUntil, IsVerdict, HasPreamble}
+use Rattle.hart_frame.specs.scan.Candidate.{IsOpenUntil, IsCandidate, HasPreamble}
 
 pub delimiter_more : (xs ys : List ℕ) → 0 < length xs → delimiter_in (xs ++ ys) ≡ delimiter_in xs
 delimiter_more xs ys some = get_or_append_left xs ys 0 0 some
@@ -87,8 +87,9 @@ preamble_more xs ys has = (
   get_or_append_left xs ys 0 1 (omega (arith, has.0)) ∙ has.2,
 )
 
-pub open_more : (xs : List ℕ) (y count : ℕ) → IsVerdict xs (Open count) → length xs + 1 < 2 + count → IsVerdict (xs ++ y ∷ []) (Open count)
-open_more xs y count verdict short = elim verdict [
+pub open_more : (xs : List ℕ) (y count : ℕ) → IsCandidate xs (Open count) → length xs + 1 < 2 + count
+    → IsCandidate (xs ++ y ∷ []) (Open count)
+open_more xs y count candidate short = elim candidate [
   | inl one ↦ absurd (omega (arith, one, short))
   | inr (has, until) ↦
       let after : length (drop 2 xs) ≡ length xs - 2 = length-drop 2 xs in
@@ -105,8 +106,8 @@ until_short xs count until = elim until [
   | inr (inr no_check) ↦ omega (arith, no_check)
 ]
 
-pub open_short : (xs : List ℕ) (count : ℕ) → IsVerdict xs (Open count) → length xs < 2 + count
-open_short xs count verdict = elim verdict [
+pub open_short : (xs : List ℕ) (count : ℕ) → IsCandidate xs (Open count) → length xs < 2 + count
+open_short xs count candidate = elim candidate [
   | inl one ↦ omega (arith, one)
   | inr (has, until) ↦
       let after : length (drop 2 xs) ≡ length xs - 2 = length-drop 2 xs in

@@ -9,14 +9,14 @@ use Rattle.std.specs.Option.{IfSome, option_to_list}
 use Rattle.hart_frame.specs.heard.Character.{Character, faultless}
 use Rattle.hart_frame.specs.scan.Scanner.{Scan, hearing}
 use Rattle.hart_frame.specs.scan.Buffer.{BeginsWithWhole, IsSound, IsEnded, held_bytes, scan_of, with_byte}
-use Rattle.hart_frame.specs.scan.Candidate.{IsVerdict}
+use Rattle.hart_frame.specs.scan.Candidate.{IsCandidate}
 use Rattle.std.proofs.lemmas.Bool.{false≢true}
 use Rattle.std.proofs.lemmas.List.{length-take-le, drop-drop, drop_more}
 use Rattle.hart_frame.proofs.lemmas.scan.Sum.{sums_push}
 use Rattle.hart_frame.proofs.lemmas.heard.Prefix.{open_more, open_short}
 use Rattle.hart_frame.specs.declared.scan.buffer.Buffer.{Buffer}
 use Rattle.hart_frame.specs.declared.wire.layout.Layout.{Layout}
-use Rattle.hart_frame.specs.declared.scan.candidate.Verdict.TheVariants.{Open}
+use Rattle.hart_frame.specs.declared.scan.candidate.Candidate.TheVariants.{Open}
 
 -- a range with one more element after it
 pub range_push : (xs : List ℕ) (a n x : ℕ) → a ≤ n → n < length xs → slice_range (set xs n x) a (n + 1) ≡ slice_range xs a n ++ x ∷ []
@@ -71,7 +71,7 @@ sound_push b byte sound drained room =
           let old = sound.waiting (omega (arith, before)) in
           let pushed = range_push b.bytes b.from b.to byte sound.order (omega (arith, facts.3, sound.bytes_len)) in
           let long = length_range b.bytes b.from b.to sound.order (omega (arith, sound.within, sound.bytes_len)) in
-          let Stays : List ℕ → Type 0 = λ xs. IsVerdict xs (Open old.0) in
+          let Stays : List ℕ → Type 0 = λ xs. IsCandidate xs (Open old.0) in
           let short : length (held_bytes b) + 1 < 2 + old.0 = omega (arith, long, before, old.1, sound.order) in
           (old.0, old.1, old.2, subst Stays (sym pushed) (open_more (held_bytes b) byte old.0 old.3 short));
       drained = λ not. absurd (false≢true not);
@@ -121,10 +121,10 @@ held_first b sound some =
 -- the scan of a buffer that is drained or not
 pub sound_waits : (b : Buffer) (count : ℕ) → IsSound b → b.seen ≡ None → b.damaged ≡ None → b.finished ≡ false
     → b.from + 269 ≤ 1024 → count ≤ 267
-    → IsVerdict (held_bytes b) (Open count) → IsSound (record b { due = b.from + 2 + count; drained = true })
-sound_waits b count sound none whole going low few verdict =
+    → IsCandidate (held_bytes b) (Open count) → IsSound (record b { due = b.from + 2 + count; drained = true })
+sound_waits b count sound none whole going low few candidate =
     let long = length_range b.bytes b.from b.to sound.order (omega (arith, sound.within, sound.bytes_len)) in
-    let before : b.to < b.from + 2 + count = omega (arith, open_short (held_bytes b) count verdict, long, sound.order) in
+    let before : b.to < b.from + 2 + count = omega (arith, open_short (held_bytes b) count candidate, long, sound.order) in
     record {
       bytes_len = sound.bytes_len;
       sums_len = sound.sums_len;
@@ -136,7 +136,7 @@ sound_waits b count sound none whole going low few verdict =
       damage = sound.damage;
       few = sound.few;
       places = sound.places;
-      waiting = λ _. (count, refl, few, verdict);
+      waiting = λ _. (count, refl, few, candidate);
       drained = λ _. (whole, going, inr before, omega (arith, before, low, few), none);
     }
 

@@ -12,12 +12,12 @@ use Rattle.hart_frame.specs.heard.Frames.{AreFrames, none, first}
 use Rattle.hart_frame.specs.wire.Refusal.{IsTruncated, IsRefusedWith}
 use Rattle.hart_frame.specs.heard.Frames.{IsUndecided}
 use Rattle.hart_frame.specs.scan.Scanner.{Scan, CanHear, MovesPast}
-use Rattle.hart_frame.specs.scan.Candidate.{NeverBecomeBody, IsOpenUntil, IsVerdict}
+use Rattle.hart_frame.specs.scan.Candidate.{NeverBecomeBody, IsOpenUntil, IsCandidate}
 use Rattle.hart_frame.specs.declared.heard.found.Found.{Found}
 use Rattle.hart_frame.specs.declared.wire.fault.FrameFault.{FrameFault}
 use Rattle.hart_frame.specs.declared.wire.fault.FrameFault.TheVariants.{TooShortReply, BadPreamble, BadDelimiter, Truncated, BadCheck}
 use Rattle.hart_frame.specs.declared.wire.fault.FrameFault.TheVariants.{ShortReply}
-use Rattle.hart_frame.specs.declared.scan.candidate.Verdict.TheVariants.{Never, Open}
+use Rattle.hart_frame.specs.declared.scan.candidate.Candidate.TheVariants.{Never, Open}
 use Rattle.hart_frame.proofs.lemmas.heard.Body.{BeginsWithBody-heard, bytes_of-faultless, faultless-one}
 use Rattle.hart_frame.proofs.lemmas.heard.Prefix.{refused_more}
 use Rattle.hart_frame.proofs.lemmas.heard.Place.{StandsIn-at, StandsIn-from, StandsIn-within, start-later, preamble}
@@ -167,14 +167,14 @@ heads_same : (x y : Character) (xs ys : List Character) → x ∷ xs ≡ y ∷ y
 heads_same x y xs ys same = cc
 
 -- a false start starts nothing, whatever follows
-pub nothing_never : (xs : List ℕ) (tail : List Character) → 0 < length xs → IsVerdict xs Never → NothingStarts (faultless xs ++ tail)
-nothing_never [] tail some verdict f body rest is same = omega (arith, some)
-nothing_never (x ∷ []) tail some verdict f body rest is same = elim verdict [
+pub nothing_never : (xs : List ℕ) (tail : List Character) → 0 < length xs → IsCandidate xs Never → NothingStarts (faultless xs ++ tail)
+nothing_never [] tail some candidate f body rest is same = omega (arith, some)
+nothing_never (x ∷ []) tail some candidate f body rest is same = elim candidate [
   | inl other ↦ other (first_byte_same x 255 _ _ same)
   | inr (inl second) ↦ omega (arith, second)
   | inr (inr never) ↦ omega (arith, some_refused [] never.fault never.decided never.refused)
 ]
-nothing_never (x ∷ y ∷ xs) tail some verdict f body rest is same = elim verdict [
+nothing_never (x ∷ y ∷ xs) tail some candidate f body rest is same = elim candidate [
   | inl other ↦ other (first_byte_same x 255 _ _ same)
   | inr (inl second) ↦ second.1 (first_byte_same y 255 _ _ (tails_same _ _ _ _ same))
   | inr (inr never) ↦ nothing_never_body xs tail never f body rest is (tails_same _ _ _ _ (tails_same _ _ _ _ same))
@@ -243,17 +243,17 @@ no_tail tail more ends same = elim ends [
 ]
 
 -- an open place starts nothing if the end is reached
-pub nothing_open : (xs : List ℕ) (tail : List Character) (count : ℕ) → IsVerdict xs (Open count) → NothingFollows tail
+pub nothing_open : (xs : List ℕ) (tail : List Character) (count : ℕ) → IsCandidate xs (Open count) → NothingFollows tail
     → NothingStarts (faultless xs ++ tail)
-nothing_open [] tail count verdict ends f body rest is same = elim verdict [
+nothing_open [] tail count candidate ends f body rest is same = elim candidate [
   | inl one ↦ omega (arith, one)
   | inr (has, until) ↦ omega (arith, has.0)
 ]
-nothing_open (x ∷ []) tail count verdict ends f body rest is same = elim verdict [
+nothing_open (x ∷ []) tail count candidate ends f body rest is same = elim candidate [
   | inl one ↦ no_tail tail (faultless body ++ rest) ends (tails_same _ _ _ _ same)
   | inr (has, until) ↦ omega (arith, has.0)
 ]
-nothing_open (x ∷ y ∷ xs) tail count verdict ends f body rest is same = elim verdict [
+nothing_open (x ∷ y ∷ xs) tail count candidate ends f body rest is same = elim candidate [
   | inl one ↦ omega (arith, one)
   | inr (has, until) ↦
       let bodies = tails_same _ _ _ _ (tails_same _ _ _ _ same) in
@@ -261,14 +261,14 @@ nothing_open (x ∷ y ∷ xs) tail count verdict ends f body rest is same = elim
 ]
 
 -- what is held is undecided if its first place is open
-pub undecided_open : (xs : List ℕ) (count : ℕ) → IsVerdict xs (Open count) → IsUndecided (faultless xs)
-undecided_open [] count verdict = elim verdict [
+pub undecided_open : (xs : List ℕ) (count : ℕ) → IsCandidate xs (Open count) → IsUndecided (faultless xs)
+undecided_open [] count candidate = elim candidate [
   | inl one ↦ absurd (omega (arith, one))
   | inr (has, until) ↦ absurd (omega (arith, has.0))
 ]
-undecided_open (x ∷ []) count verdict =
+undecided_open (x ∷ []) count candidate =
     inl (λ found stands. let within = StandsIn-within found (faultless (x ∷ [])) 0 stands in omega (arith, within))
-undecided_open (x ∷ y ∷ xs) count verdict = elim verdict [
+undecided_open (x ∷ y ∷ xs) count candidate = elim candidate [
   | inl one ↦ absurd (omega (arith, one))
   | inr (has, until) ↦
       let held : List Character = faultless (x ∷ y ∷ xs) in

@@ -11,15 +11,15 @@ use Rattle.hart_frame.specs.wire.Parity.{HasEvenParity}
 use Rattle.hart_frame.specs.wire.Refusal.{HasCheckByte}
 use Rattle.hart_frame.specs.heard.Frames.{IsUndecided}
 use Rattle.hart_frame.specs.wire.Body.{IsCheckedPart}
-use Rattle.hart_frame.specs.scan.Faultless.{HoldsFrame}
+use Rattle.hart_frame.specs.scan.Chunk.{HoldsFrame}
 use Rattle.hart_frame.specs.scan.Scanner.{Scan, MovesPast, Waits, GivesNothing}
 use Rattle.hart_frame.specs.scan.Buffer.{BeginsWithWhole, IsSound, IsEnded, first_body, held_bytes, scan_of}
-use Rattle.hart_frame.specs.scan.Decision.{GivesSpot, HoldsWhole}
-use Rattle.hart_frame.specs.scan.Candidate.{IsVerdict}
+use Rattle.hart_frame.specs.scan.Decision.{GivesSpan, HoldsWhole}
+use Rattle.hart_frame.specs.scan.Candidate.{IsCandidate}
 use Rattle.hart_frame.specs.declared.scan.buffer.Buffer.{Buffer}
-use Rattle.hart_frame.specs.declared.scan.buffer.Spot.{Spot}
+use Rattle.hart_frame.specs.declared.scan.buffer.Span.{Span}
 use Rattle.hart_frame.specs.declared.wire.layout.Layout.{Layout}
-use Rattle.hart_frame.specs.declared.scan.candidate.Verdict.TheVariants.{Never, Open, Whole}
+use Rattle.hart_frame.specs.declared.scan.candidate.Candidate.TheVariants.{Never, Open, Whole}
 use Rattle.hart_frame.specs.declared.wire.fault.FrameFault.TheVariants.{BadCheck}
 use Rattle.hart_frame.proofs.lemmas.wire.BodiesFound.{held_frame}
 use Rattle.hart_frame.proofs.lemmas.wire.Body.{IsBody-whole}
@@ -27,7 +27,8 @@ use Rattle.hart_frame.proofs.lemmas.scan.Buffer.{held_first, length_held, length
 use Rattle.hart_frame.proofs.lemmas.heard.Prefix.{HasCheckByte-prefix, Describes-prefix, preamble_parts}
 use Rattle.hart_frame.proofs.lemmas.heard.Place.{HasNoFrame-end, preamble}
 use Rattle.hart_frame.proofs.lemmas.scan.Undecided.{nothing_before}
-use Rattle.hart_frame.proofs.lemmas.scan.Scan.{NothingStarts, NothingFollows, nothing_never, nothing_open, moves_drop, moves_none, moves_then}
+use Rattle.hart_frame.proofs.lemmas.scan.Scan.{NothingStarts, NothingFollows, nothing_never, nothing_open, moves_drop, moves_none}
+use Rattle.hart_frame.proofs.lemmas.scan.Scan.{moves_then}
 use Rattle.hart_frame.proofs.lemmas.scan.Scan.{moves_frame, undecided_open, undecided_nothing}
 
 -- a buffer whose first byte was let go
@@ -44,11 +45,11 @@ moves_dropped b sound some nothing =
     moves_drop (scan_of b) (scan_of (dropped b)) gone (held_first b sound some) refl refl
     (λ more ended. subst Nothing (sym (append_assoc (faultless (held_bytes b)) (option_to_list b.damaged) more)) (nothing more ended))
 
-pub moves_never : (b : Buffer) → IsSound b → b.from < b.to → IsVerdict (held_bytes b) Never
+pub moves_never : (b : Buffer) → IsSound b → b.from < b.to → IsCandidate (held_bytes b) Never
     → MovesPast (scan_of b) (scan_of (dropped b)) []
-moves_never b sound some verdict =
+moves_never b sound some candidate =
     let any : 0 < length (held_bytes b) = omega (arith, some, length_held b sound) in
-    moves_dropped b sound some (λ more ended. nothing_never (held_bytes b) (option_to_list b.damaged ++ more) any verdict)
+    moves_dropped b sound some (λ more ended. nothing_never (held_bytes b) (option_to_list b.damaged ++ more) any candidate)
 
 ends_by : (o : Option Character) (finished : Bool) (more : List Character) → IfSome o (λ c. c.faults ≢ 0)
     → (finished ≡ true) ⊎ (o ≢ None) → (IsTrue finished → more ≡ []) → NothingFollows (option_to_list o ++ more)
@@ -58,12 +59,12 @@ ends_by None finished more faulty ended whole = elim ended [
   | inr some ↦ absurd (some refl)
 ]
 
-pub moves_ended : (b : Buffer) (count : ℕ) → IsSound b → b.from < b.to → IsEnded b → IsVerdict (held_bytes b) (Open count)
+pub moves_ended : (b : Buffer) (count : ℕ) → IsSound b → b.from < b.to → IsEnded b → IsCandidate (held_bytes b) (Open count)
     → MovesPast (scan_of b) (scan_of (dropped b)) []
-moves_ended b count sound some ended verdict =
+moves_ended b count sound some ended candidate =
     moves_dropped b sound some (λ more whole.
     let tail = option_to_list b.damaged ++ more in
-    nothing_open (held_bytes b) tail count verdict (ends_by b.damaged b.finished more sound.damage ended whole))
+    nothing_open (held_bytes b) tail count candidate (ends_by b.damaged b.finished more sound.damage ended whole))
 
 -- the body that a layout describes lies in what is held
 pub record LiesIn (b : Buffer) (layout : Layout) : Type 0 where
@@ -77,12 +78,12 @@ drop_range xs a c within all =
     let two : length (slice_range xs a (a + 2)) ≡ 2 = length_range xs a (a + 2) (omega arith) (omega (arith, within, all)) ∙ omega arith in
     ap (drop 2) (range_split xs a (a + 2) c (omega arith) within) ∙ drop_at (slice_range xs a (a + 2)) (slice_range xs (a + 2) c) 2 two
 
-pub lies_in : (b : Buffer) (layout : Layout) → IsSound b → IsVerdict (held_bytes b) (Whole layout) → LiesIn b layout
-lies_in b layout sound verdict =
+pub lies_in : (b : Buffer) (layout : Layout) → IsSound b → IsCandidate (held_bytes b) (Whole layout) → LiesIn b layout
+lies_in b layout sound candidate =
     let stop = b.from + 2 + layout_length layout in
     let after : length (drop 2 (held_bytes b)) ≡ length (held_bytes b) - 2 = length-drop 2 (held_bytes b) in
-    let length_is : layout_length layout ≡ body_length (drop 2 (held_bytes b)) = omega (arith, verdict.1.command, verdict.1.count) in
-    let within : stop ≤ b.to = omega (arith, verdict.2.1, length_is, after, length_held b sound, verdict.0.0) in
+    let length_is : layout_length layout ≡ body_length (drop 2 (held_bytes b)) = omega (arith, candidate.1.command, candidate.1.count) in
+    let within : stop ≤ b.to = omega (arith, candidate.2.1, length_is, after, length_held b sound, candidate.0.0) in
     let room : b.to ≤ length b.bytes = omega (arith, sound.within, sound.bytes_len) in
     record {
       within = within;
@@ -91,17 +92,17 @@ lies_in b layout sound verdict =
       long = length_range b.bytes (b.from + 2) stop (omega arith) (omega (arith, within, room)) ∙ omega arith;
     }
 
-pub moves_odd : (b : Buffer) (layout : Layout) → IsSound b → b.from < b.to → IsVerdict (held_bytes b) (Whole layout)
+pub moves_odd : (b : Buffer) (layout : Layout) → IsSound b → b.from < b.to → IsCandidate (held_bytes b) (Whole layout)
     → (HasEvenParity (first_body b layout) → ⊥) → MovesPast (scan_of b) (scan_of (dropped b)) []
-moves_odd b layout sound some verdict odd =
-    let is = lies_in b layout sound verdict in
+moves_odd b layout sound some candidate odd =
+    let is = lies_in b layout sound candidate in
     let body = first_body b layout in
     let rest = slice_range b.bytes (b.from + 2 + layout_length layout) b.to in
     let n = body_length (drop 2 (held_bytes b)) in
     let taken : take n (drop 2 (held_bytes b)) ≡ body = ap (take n) is.parts ∙ take_at body rest n (is.long ∙ is.length_is) in
     moves_never b sound some (inr (inr (record {
       fault = BadCheck;
-      refused = (verdict.2, λ even. odd (subst HasEvenParity taken even));
+      refused = (candidate.2, λ even. odd (subst HasEvenParity taken even));
       decided = λ is. absurd cc;
     })))
 
@@ -109,50 +110,50 @@ moves_odd b layout sound some verdict odd =
 abbrev pub given : Buffer → Layout → Buffer
 given b layout = record b { from = b.from + 2 + layout_length layout; first = b.first + 2 + layout_length layout; due = 0; seen = None }
 
-abbrev pub spot_of : Buffer → Layout → Spot
-spot_of b layout =
+abbrev pub span_of : Buffer → Layout → Span
+span_of b layout =
     record { at = b.from + 2; layout = layout; start = b.first + 2; stop = b.first + 2 + layout_length layout }
 
 -- two preamble bytes and the body come first of what is held
-pub held_whole : (b : Buffer) (layout : Layout) → IsSound b → IsVerdict (held_bytes b) (Whole layout)
+pub held_whole : (b : Buffer) (layout : Layout) → IsSound b → IsCandidate (held_bytes b) (Whole layout)
     → (scan_of b).held ≡ faultless (255 ∷ 255 ∷ first_body b layout) ++ (scan_of (given b layout)).held
-held_whole b layout sound verdict =
-    let is = lies_in b layout sound verdict in
+held_whole b layout sound candidate =
+    let is = lies_in b layout sound candidate in
     let body = first_body b layout in
     let rest = slice_range b.bytes (b.from + 2 + layout_length layout) b.to in
     let make = λ (byte : ℕ). let c : Character = record { byte = byte; faults = 0 } in c in
     let held : held_bytes b ≡ (255 ∷ 255 ∷ body) ++ rest =
-    preamble_parts (held_bytes b) verdict.0 ∙ ap (λ (xs : List ℕ). 255 ∷ 255 ∷ xs) is.parts in
+    preamble_parts (held_bytes b) candidate.0 ∙ ap (λ (xs : List ℕ). 255 ∷ 255 ∷ xs) is.parts in
     ap (λ (xs : List ℕ). faultless xs ++ option_to_list b.damaged) held
     ∙ ap (λ (cs : List Character). cs ++ option_to_list b.damaged) (map-append make (255 ∷ 255 ∷ body) rest)
     ∙ append_assoc (faultless (255 ∷ 255 ∷ body)) (faultless rest) (option_to_list b.damaged)
 
 -- what the held bytes say of the body, its own bytes say
-pub whole_body : (b : Buffer) (layout : Layout) → IsSound b → IsVerdict (held_bytes b) (Whole layout)
+pub whole_body : (b : Buffer) (layout : Layout) → IsSound b → IsCandidate (held_bytes b) (Whole layout)
     → Describes layout (first_body b layout) × HasCheckByte (first_body b layout)
-whole_body b layout sound verdict =
-    let is = lies_in b layout sound verdict in
+whole_body b layout sound candidate =
+    let is = lies_in b layout sound candidate in
     let body = first_body b layout in
     let rest = slice_range b.bytes (b.from + 2 + layout_length layout) b.to in
     let Has : List ℕ → Type 0 = λ xs. HasCheckByte xs in
     let Of : List ℕ → Type 0 = λ xs. Describes layout xs in
     let same : body_length (drop 2 (held_bytes b)) ≡ body_length (body ++ rest) = ap (λ (xs : List ℕ). body_length xs) is.parts in
-    let whole = HasCheckByte-prefix body rest (subst Has is.parts verdict.2) (omega (arith, is.long, is.length_is, same)) in
-    (Describes-prefix layout body rest (subst Of is.parts verdict.1) whole.0.0.0.1, whole.0)
+    let whole = HasCheckByte-prefix body rest (subst Has is.parts candidate.2) (omega (arith, is.long, is.length_is, same)) in
+    (Describes-prefix layout body rest (subst Of is.parts candidate.1) whole.0.0.0.1, whole.0)
 
-pub gives_spot : (b : Buffer) (layout : Layout) → IsSound b → b.drained ≡ false → BeginsWithWhole b layout
-    → GivesSpot b (given b layout) (spot_of b layout)
-gives_spot b layout sound busy begins =
-    let is = lies_in b layout sound begins.verdict in
+pub gives_span : (b : Buffer) (layout : Layout) → IsSound b → b.drained ≡ false → BeginsWithWhole b layout
+    → GivesSpan b (given b layout) (span_of b layout)
+gives_span b layout sound busy begins =
+    let is = lies_in b layout sound begins.candidate in
     let body = first_body b layout in
-    let whole = whole_body b layout sound begins.verdict in
+    let whole = whole_body b layout sound begins.candidate in
     record {
       within = omega (arith, is.within, sound.within);
       described = whole.0;
       whole = whole.1;
       even = begins.even;
       given = λ frame is_body. record {
-        moves = moves_frame (scan_of b) (scan_of (given b layout)) frame body (held_whole b layout sound begins.verdict) is_body
+        moves = moves_frame (scan_of b) (scan_of (given b layout)) frame body (held_whole b layout sound begins.candidate) is_body
             (omega (arith, is.long)) refl;
         stop = refl;
         finished = refl;
@@ -161,9 +162,9 @@ gives_spot b layout sound busy begins =
     }
 
 -- nothing is given while what is held is open
-pub waits : (b : Buffer) (count : ℕ) (new : Scan) → b.finished ≡ false → b.damaged ≡ None → IsVerdict (held_bytes b) (Open count)
+pub waits : (b : Buffer) (count : ℕ) (new : Scan) → b.finished ≡ false → b.damaged ≡ None → IsCandidate (held_bytes b) (Open count)
     → new ≡ record (scan_of b) { drained = true } → Waits (scan_of b) new
-waits b count new going clear verdict same =
+waits b count new going clear candidate same =
     let none : option_to_list b.damaged ≡ [] = ap (λ (o : Option Character). option_to_list o) clear in
     let held : (scan_of b).held ≡ faultless (held_bytes b) =
     ap (λ (cs : List Character). faultless (held_bytes b) ++ cs) none ∙ append-nil (faultless (held_bytes b)) in
@@ -172,7 +173,7 @@ waits b count new going clear verdict same =
     subst Of (sym same) (record {
       going = going;
       moves = moves_none (scan_of b) (record (scan_of b) { drained = true }) refl refl refl;
-      undecided = subst Undecided (sym held) (undecided_open (held_bytes b) count verdict);
+      undecided = subst Undecided (sym held) (undecided_open (held_bytes b) count candidate);
       unfinished = going;
       drained = refl;
     })
@@ -237,9 +238,9 @@ still b sound clear going cases = inl (record {
 })
 
 -- a frame that is given after some characters were let go
-pub gives_then : (old mid new : Buffer) (spot : Spot) → MovesPast (scan_of old) (scan_of mid) [] → mid.finished ≡ old.finished
-    → mid.drained ≡ old.drained → GivesSpot mid new spot → GivesSpot old new spot
-gives_then old mid new spot moves finished drained gives = record {
+pub gives_then : (old mid new : Buffer) (span : Span) → MovesPast (scan_of old) (scan_of mid) [] → mid.finished ≡ old.finished
+    → mid.drained ≡ old.drained → GivesSpan mid new span → GivesSpan old new span
+gives_then old mid new span moves finished drained gives = record {
   within = gives.within;
   described = gives.described;
   whole = gives.whole;
@@ -276,8 +277,8 @@ gives_nothing_then old mid new moves finished nothing = elim nothing [
 pub holds_frame : (b : Buffer) (layout : Layout) → IsSound b → BeginsWithWhole b layout → HoldsFrame (scan_of b)
 holds_frame b layout sound begins =
     let body = first_body b layout in
-    let whole = whole_body b layout sound begins.verdict in
-    let is = lies_in b layout sound begins.verdict in
+    let whole = whole_body b layout sound begins.candidate in
+    let is = lies_in b layout sound begins.candidate in
     let exact : body_length body ≡ length body = omega (arith, whole.0.command, whole.0.count, is.long) in
     let frame = held_frame body (λ k below. begins.fits k 0 (omega (arith, below, exact))) whole.1 in
     let Part : ℕ → Type 0 = λ k. IsCheckedPart frame.frame (take (k - 1) body) in
@@ -287,7 +288,7 @@ holds_frame b layout sound begins =
         prefix = [];
         body = body;
         rest = (scan_of (given b layout)).held;
-        split = held_whole b layout sound begins.verdict;
+        split = held_whole b layout sound begins.candidate;
         is_body = is_body;
         after = omega arith;
         start = refl;
@@ -296,7 +297,7 @@ holds_frame b layout sound begins =
       refl,
     )
 
--- what a look says that sees a frame, and what one says that sees none
+-- what a peek says that sees a frame, and what one says that sees none
 pub seen_some : (old new : Buffer) (seen : Option Layout) → true ≡ is_some seen
     → MatchOption seen (GivesNothing (scan_of old) (scan_of new)) (HoldsWhole old new) → (layout : Layout) × HoldsWhole old new layout
 seen_some old new None is holds = absurd cc

@@ -7,7 +7,7 @@ use Rattle.hart_frame.specs.heard.Character.{Character, faultless}
 use Rattle.hart_frame.specs.heard.Place.{StandsIn}
 use Rattle.hart_frame.specs.heard.Frames.{AreFrames, HasNoFrame, IsUndecided, none, first}
 use Rattle.hart_frame.specs.scan.Scanner.{Scan, CanHear, MovesPast, Gives, Waits, GivesNothing}
-use Rattle.hart_frame.specs.scan.Faultless.{HoldsFrame}
+use Rattle.hart_frame.specs.scan.Chunk.{HoldsFrame}
 use Rattle.hart_frame.specs.declared.heard.found.Found.{Found}
 use Rattle.hart_frame.proofs.lemmas.heard.FramesFound.{AreFrames-found}
 use Rattle.hart_frame.proofs.lemmas.heard.Place.{preamble, StandsIn-within}

@@ -1,6 +1,6 @@
 use Rattle.hart_line.specs.world.World.{first_world}
-use Rattle.hart_line.proofs.lemmas.world.Leads.{Laws, fault_one, no_fault, run_one}
-use Rattle.hart_line.proofs.lemmas.world.Detected.{WorldLaws, run_exists}
+use Rattle.hart_line.proofs.lemmas.world.Leads.{Laws, fault_one, no_fault, leads_one}
+use Rattle.hart_line.proofs.lemmas.world.Detected.{WorldLaws, leads_exists}
 use Rattle.hart_line.proofs.laws.scripts_have_one_last_world.Goals as goal
 
 pub returns-clause-one_world : goal.returns-clause-one_world
@@ -11,7 +11,7 @@ returns-clause-one_world c = λ start events a b last other.
       one_brought = c.deliveries_bring_one.ensures.one;
       one_reply = c.replies_are_decided.ensures.one_reply;
     } in
-    run_one laws start events (first_world start) a b last other
+    leads_one laws start events (first_world start) a b last other
 
 pub returns-clause-no_fault : goal.returns-clause-no_fault
 returns-clause-no_fault c = λ start events world number leg last fault.
@@ -40,4 +40,4 @@ returns-clause-detected c = λ start events detected.
       brings = c.deliveries_bring_one.ensures.brings;
       decided = c.replies_are_decided.ensures.decided;
     } in
-    run_exists laws start (first_world start) events detected
+    leads_exists laws start (first_world start) events detected

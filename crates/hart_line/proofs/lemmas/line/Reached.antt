@@ -17,7 +17,7 @@ use Rattle.hart_line.specs.declared.line.report.Outcome.{Outcome}
 use Rattle.hart_line.specs.declared.line.report.Spoken.{Spoken}
 use Rattle.hart_line.specs.declared.fault.Leg.{Leg}
 use Rattle.hart_line.specs.declared.fault.LineFault.TheVariants.{Undetected}
-use Rattle.hart_line.proofs.lemmas.world.Leads.{run_more}
+use Rattle.hart_line.proofs.lemmas.world.Leads.{leads_more}
 use Rattle.hart_line.proofs.lemmas.world.Sound.{IsSound, first_sound, step_sound}
 
 -- The line stands for a world that the events lead to.
@@ -34,7 +34,7 @@ reached_more start events n unused line line' here r s =
     record {
       world = s.next;
       is_last = rw (take_more events n unused here)
-          (run_more start (take n events) (get_or events n unused) (first_world start) r.world s.next r.is_last s.step);
+          (leads_more start (take n events) (get_or events n unused) (first_world start) r.world s.next r.is_last s.step);
       stands = s.stands;
       sound = step_sound start r.world (get_or events n unused) s.next s.step r.sound;
     }

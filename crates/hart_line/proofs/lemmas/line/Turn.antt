@@ -27,12 +27,12 @@ use Rattle.hart_line.proofs.lemmas.world.Basics.{of_master-same, some_one}
 use Rattle.hart_line.proofs.lemmas.world.State.{LastLaw, state-after}
 
 -- With nothing in hand, as in noise, the line stands for the world in which the device has replied to what it was brought.
-pub replied_stands : (start : Start) (world : World) (heard : Heard) (arrived : Brought) (device : DeviceState) (masters : Masters)
+pub replied_stands : (start : Start) (world : World) (heard : Heard) (brought : Brought) (device : DeviceState) (masters : Masters)
     (outcomes : List Outcome) (spoken spoken' : List Spoken) (outcomes_room spoken_room : ℕ)
-    → device ≡ state_after_delivery (state_of start.device world) arrived → Reaches start.device.identity heard None arrived
+    → device ≡ state_after_delivery (state_of start.device world) brought → Reaches start.device.identity heard None brought
     → AreHeld start.retries world.hands masters → outcomes ≡ world.outcomes
-    → AreSpoken world.spoken spoken → Speaks (sent_back start world arrived) spoken spoken'
-    → Stands start (replied start world arrived) (record {
+    → AreSpoken world.spoken spoken → Speaks (sent_back start world brought) spoken spoken'
+    → Stands start (replied start world brought) (record {
       device = device;
       masters = masters;
       outcomes = outcomes;
@@ -40,20 +40,20 @@ pub replied_stands : (start : Start) (world : World) (heard : Heard) (arrived : 
       outcomes_room = outcomes_room;
       spoken_room = spoken_room;
     })
-replied_stands start world heard arrived device masters outcomes spoken spoken' outcomes_room spoken_room is reaches held same are
+replied_stands start world heard brought device masters outcomes spoken spoken' outcomes_room spoken_room is reaches held same are
     speaks = record {
-      device_is = is ∙ left_alone (state_of start.device world) arrived (none_reaches start.device.identity heard arrived reaches);
+      device_is = is ∙ left_alone (state_of start.device world) brought (none_reaches start.device.identity heard brought reaches);
       masters_are = held;
       outcomes_are = same;
-      spoken_are = AreSpoken-more world.spoken (sent_back start world arrived) spoken spoken' are speaks;
+      spoken_are = AreSpoken-more world.spoken (sent_back start world brought) spoken spoken' are speaks;
     }
 
 -- With nothing in hand a turn is such a reply.
-pub silent_step : (start : Start) (world : World) (who : MasterId) (up down : Heard) (arrived : Brought) (returned : Option FrameParts)
-    → of_master who world.hands ≡ None → Reaches start.device.identity up None arrived
-    → Arrives down (sent_back start world arrived) returned → Step start world (Turn who up down) (replied start world arrived)
-silent_step start world who up down arrived returned in_hand reaches returns = record {
-  arrived = arrived;
+pub silent_step : (start : Start) (world : World) (who : MasterId) (up down : Heard) (brought : Brought) (returned : Option FrameParts)
+    → of_master who world.hands ≡ None → Reaches start.device.identity up None brought
+    → Arrives down (sent_back start world brought) returned → Step start world (Turn who up down) (replied start world brought)
+silent_step start world who up down brought returned in_hand reaches returns = record {
+  brought = brought;
   arrives = rw in_hand reaches;
   returned = returned;
   returns = returns;
@@ -99,10 +99,10 @@ answer_leaves : (answered zero : Bool) (asked : Effect) (id : MasterId) (state :
 answer_leaves true zero asked id state = reply_leaves id (if zero then asked else Nothing) state
 answer_leaves false zero asked id state = refl
 
-state_after-effect : (state : DeviceState) (id : MasterId) (held : InHand) (arrived : Brought)
-    → (frame_in arrived ≡ None) ⊎ (frame_in arrived ≡ Some (spoken_request id held).frame)
-    → state_after_delivery state arrived
-    ≡ record (after id (effect_on state arrived) state) { cold_start = cold_start_after state id arrived }
+state_after-effect : (state : DeviceState) (id : MasterId) (held : InHand) (brought : Brought)
+    → (frame_in brought ≡ None) ⊎ (frame_in brought ≡ Some (spoken_request id held).frame)
+    → state_after_delivery state brought
+    ≡ record (after id (effect_on state brought) state) { cold_start = cold_start_after state id brought }
 state_after-effect state id held (Garbled request) known = refl
 state_after-effect state id held NoMessage known = refl
 state_after-effect state id held (OneFrame frame) (inl is) = cc
@@ -112,28 +112,28 @@ state_after-effect state id held (OneFrame frame) (inr is) =
 
 -- With a request in hand that is sent, the line stands for the world that the turn leads to.
 pub turned_stands : LastLaw → (start : Start) (world : World) (who : MasterId) (up down : Heard) (held : InHand)
-    (arrived : Brought) (returned : Option FrameParts) (masters : Masters) (outcomes : List Outcome) (spoken mid spoken' : List Spoken)
+    (brought : Brought) (returned : Option FrameParts) (masters : Masters) (outcomes : List Outcome) (spoken mid spoken' : List Spoken)
     (outcomes_room spoken_room : ℕ)
     → MarksWithin world → of_master who world.hands ≡ Some held
-    → Reaches start.device.identity up (Some (spoken_request who held)) arrived → Arrives down (sent_back start world arrived) returned
+    → Reaches start.device.identity up (Some (spoken_request who held)) brought → Arrives down (sent_back start world brought) returned
     → AreSpoken world.spoken spoken → Speaks (Some (spoken_request who held)) spoken mid
-    → Speaks (sent_back start world arrived) mid spoken'
+    → Speaks (sent_back start world brought) mid spoken'
     → Concludes who (of_master who start.retries) held returned world.outcomes outcomes
     (λ left. AreHeld start.retries (with_master who left world.hands) masters)
     → Stepped start world (Turn who up down) (record {
-      device = state_after_delivery (state_of start.device world) arrived;
+      device = state_after_delivery (state_of start.device world) brought;
       masters = masters;
       outcomes = outcomes;
       spoken = spoken';
       outcomes_room = outcomes_room;
       spoken_room = spoken_room;
     })
-turned_stands last start world who up down held arrived returned masters outcomes spoken mid spoken' outcomes_room spoken_room within
+turned_stands last start world who up down held brought returned masters outcomes spoken mid spoken' outcomes_room spoken_room within
     in_hand arrives returns are requested replied concludes =
-    let next = turned start world who (Some held) arrived concludes.accepted in record {
+    let next = turned start world who (Some held) brought concludes.accepted in record {
       next = next;
       step = record {
-        arrived = arrived;
+        brought = brought;
         arrives = rw in_hand arrives;
         returned = returned;
         returns = returns;
@@ -142,14 +142,14 @@ turned_stands last start world who up down held arrived returned masters outcome
         next_is = rw in_hand refl;
       };
       stands = record {
-        device_is = state_after-effect (state_of start.device world) who held arrived
-            (reaches_cases start.device.identity up (Some (spoken_request who held)) arrived arrives)
-            ∙ state-after last start.device world next who held.submission (effect_on (state_of start.device world) arrived)
+        device_is = state_after-effect (state_of start.device world) who held brought
+            (reaches_cases start.device.identity up (Some (spoken_request who held)) brought arrives)
+            ∙ state-after last start.device world next who held.submission (effect_on (state_of start.device world) brought)
             within refl refl refl;
         masters_are = concludes.left;
         outcomes_are = concludes.outcomes_are;
-        spoken_are = rw (append_assoc world.spoken (spoken_request who held ∷ []) (option_to_list (sent_back start world arrived))) at
-            (AreSpoken-more (world.spoken ++ spoken_request who held ∷ []) (sent_back start world arrived) mid spoken'
+        spoken_are = rw (append_assoc world.spoken (spoken_request who held ∷ []) (option_to_list (sent_back start world brought))) at
+            (AreSpoken-more (world.spoken ++ spoken_request who held ∷ []) (sent_back start world brought) mid spoken'
             (AreSpoken-more world.spoken (Some (spoken_request who held)) spoken mid are requested) replied);
       };
     }

@@ -17,7 +17,8 @@ use Rattle.hart_master.specs.declared.fault.MasterFault.{MasterFault}
 use Rattle.hart_line.specs.world.Damage.{Arrives, Reaches}
 use Rattle.hart_line.specs.world.Promises.{AnswersLastSending, AnswersLastSendingFrom, submissions_of}
 use Rattle.hart_line.specs.world.Spoken.{frame_of, spoken_by}
-use Rattle.hart_line.specs.world.Step.{Accepts, IsLast, IsTurn, Run, Step, sent_back, effect_on, executions_after, hand_left, spoken_request}
+use Rattle.hart_line.specs.world.Step.{Accepts, IsLast, IsTurn, LeadsTo, Step, sent_back, effect_on, executions_after, hand_left}
+use Rattle.hart_line.specs.world.Step.{spoken_request}
 use Rattle.hart_line.specs.world.Step.{outcome_of, sent_by, submission_fault, submitted, turned}
 use Rattle.hart_line.specs.world.World.{InHand, Start, World, first_world, state_of}
 use Rattle.hart_line.specs.declared.event.Heard.{Heard}
@@ -73,9 +74,9 @@ frame_of-by : (party : Party) (preambles : ℕ) (frame : Option FrameParts) → 
 frame_of-by party preambles None = refl
 frame_of-by party preambles (Some frame) = refl
 
-pub record AnswersSent (state : DeviceState) (process : Process) (sent : FrameParts) (arrived : Brought) (frame : FrameParts)
+pub record AnswersSent (state : DeviceState) (process : Process) (sent : FrameParts) (brought : Brought) (frame : FrameParts)
     : Type 0 where
-  pub arrived_is : arrived ≡ OneFrame sent
+  pub arrived_is : brought ≡ OneFrame sent
   pub answered : answer_of state process sent ≡ Some frame
 
 -- A frame that says communication faults is no reply.
@@ -83,10 +84,10 @@ abbrev pub FaultsLaw : Type 0
 FaultsLaw = (id : MasterId) (address : Address) (request : Request) (frame : FrameParts) (reply : Reply)
     → 128 ≤ slice_index frame.payload 0 → IsReplyTo id address request frame reply → ⊥
 
-answers_sent : FaultsLaw → (state : DeviceState) (process : Process) (sent : FrameParts) (arrived : Brought) (frame : FrameParts)
-    → (frame_in arrived ≡ None) ⊎ (frame_in arrived ≡ Some sent) → answer_to state process arrived ≡ Some frame
+answers_sent : FaultsLaw → (state : DeviceState) (process : Process) (sent : FrameParts) (brought : Brought) (frame : FrameParts)
+    → (frame_in brought ≡ None) ⊎ (frame_in brought ≡ Some sent) → answer_to state process brought ≡ Some frame
     → (who : MasterId) (held : InHand) (reply : Reply) → IsReplyTo who held.address held.request frame reply
-    → AnswersSent state process sent arrived frame
+    → AnswersSent state process sent brought frame
 answers_sent law state process sent NoMessage frame known answered who held reply is_reply = cc
 answers_sent law state process sent (Garbled request) frame known answered who held reply is_reply =
     let Faulty : FrameParts → Type 0 = λ f. 128 ≤ slice_index f.payload 0 in
@@ -97,17 +98,17 @@ answers_sent law state process sent (OneFrame f) frame (inr is) answered who hel
   answered = rw (some_one is) at answered;
 }
 
-returned_answers : FaultsLaw → (start : Start) (world : World) (down : Heard) (sent : FrameParts) (arrived : Brought)
+returned_answers : FaultsLaw → (start : Start) (world : World) (down : Heard) (sent : FrameParts) (brought : Brought)
     (returned : Option FrameParts) (frame : FrameParts)
-    → (frame_in arrived ≡ None) ⊎ (frame_in arrived ≡ Some sent) → Arrives down (sent_back start world arrived) returned
+    → (frame_in brought ≡ None) ⊎ (frame_in brought ≡ Some sent) → Arrives down (sent_back start world brought) returned
     → returned ≡ Some frame
     → (who : MasterId) (held : InHand) (reply : Reply) → IsReplyTo who held.address held.request frame reply
-    → AnswersSent (state_of start.device world) start.process sent arrived frame
-returned_answers law start world down sent arrived returned frame known back came who held reply is_reply =
-    elim (arrives_cases down (sent_back start world arrived) returned back) [
+    → AnswersSent (state_of start.device world) start.process sent brought frame
+returned_answers law start world down sent brought returned frame known back came who held reply is_reply =
+    elim (arrives_cases down (sent_back start world brought) returned back) [
       | inl none ↦ absurd (apart (sym none ∙ came))
-      | inr is ↦ answers_sent law (state_of start.device world) start.process sent arrived frame known
-          (sym (is ∙ frame_of-by _ _ (answer_to (state_of start.device world) start.process arrived)) ∙ came) who held reply is_reply
+      | inr is ↦ answers_sent law (state_of start.device world) start.process sent brought frame known
+          (sym (is ∙ frame_of-by _ _ (answer_to (state_of start.device world) start.process brought)) ∙ came) who held reply is_reply
     ]
   where
     apart : {A : Type 0} {x : A} → None ≡ Some x → ⊥
@@ -115,10 +116,10 @@ returned_answers law start world down sent arrived returned frame known back cam
 
 turn_answered : FaultsLaw → (start : Start) (world : World) (who : MasterId) (up down : Heard) (next : World) (hand : Option InHand)
     → of_master who world.hands ≡ hand → (t : IsTurn start world who up down next)
-    → Reaches start.device.identity up (sent_by who hand) t.arrived → Accepts who hand t.returned t.accepted
-    → next ≡ turned start world who hand t.arrived t.accepted
+    → Reaches start.device.identity up (sent_by who hand) t.brought → Accepts who hand t.returned t.accepted
+    → next ≡ turned start world who hand t.brought t.accepted
     → (number : ℕ) (reply : Reply) (sendings : ℕ)
-    → slice_get (turned start world who hand t.arrived t.accepted).outcomes number ≡ Some (Answered reply sendings)
+    → slice_get (turned start world who hand t.brought t.accepted).outcomes number ≡ Some (Answered reply sendings)
     → (events : List LineEvent) → (slice_get world.outcomes number ≡ Some (Answered reply sendings))
     ⊎ AnswersLastSendingFrom start world (Turn who up down ∷ events) number reply sendings
 turn_answered law start world who up down next None in_hand t arrives accepts next_is number reply sendings is events = inl is
@@ -129,8 +130,8 @@ turn_answered law start world who up down next (Some held) in_hand t arrives acc
           let outcome = outcome_answered _ (held.sendings + 1) t.accepted reply sendings new.1 in
           let state = state_of start.device world in
           let back = came_back who held t.returned reply (rw outcome.0 at accepts) in
-          let sent = returned_answers law start world down (spoken_request who held).frame t.arrived t.returned back.frame
-          (reaches_cases start.device.identity up (Some (spoken_request who held)) t.arrived arrives) t.returns back.came
+          let sent = returned_answers law start world down (spoken_request who held).frame t.brought t.returned back.frame
+          (reaches_cases start.device.identity up (Some (spoken_request who held)) t.brought arrives) t.returns back.came
           who held reply back.is_reply in
           inr (record {
             before = world;
@@ -143,7 +144,7 @@ turn_answered law start world who up down next (Some held) in_hand t arrives acc
             in_hand = in_hand;
             of_submission = sym new.0;
             sent = outcome.1;
-            arrived = sent.arrived_is;
+            brought = sent.arrived_is;
             answer = back.frame;
             answered = sent.answered;
             returned = back.came;
@@ -203,7 +204,7 @@ later_answered start world next event events number reply sendings step a = reco
   sent = a.sent;
   answer = a.answer;
   answered = a.answered;
-  arrived = a.arrived;
+  brought = a.brought;
   returned = a.returned;
   is_reply = a.is_reply;
   executions = a.executions;
@@ -211,12 +212,12 @@ later_answered start world next event events number reply sendings step a = reco
   left = a.left;
 }
 
-run_answered : FaultsLaw → (start : Start) (events : List LineEvent) (world last : World) → Run start world events last
+leads_answered : FaultsLaw → (start : Start) (events : List LineEvent) (world last : World) → LeadsTo start world events last
     → (number : ℕ) (reply : Reply) (sendings : ℕ) → slice_get last.outcomes number ≡ Some (Answered reply sendings)
     → (slice_get world.outcomes number ≡ Some (Answered reply sendings)) ⊎ AnswersLastSendingFrom start world events number reply sendings
-run_answered law start [] world last run number reply sendings is = inl (rw run at is)
-run_answered law start (event ∷ events) world last run number reply sendings is =
-    elim (run_answered law start events run.0 last run.2 number reply sendings is) [
+leads_answered law start [] world last run number reply sendings is = inl (rw run at is)
+leads_answered law start (event ∷ events) world last run number reply sendings is =
+    elim (leads_answered law start events run.0 last run.2 number reply sendings is) [
       | inl here ↦ step_answered law start world event run.0 run.1 events number reply sendings here
       | inr later ↦ inr (later_answered start world run.0 event events number reply sendings run.1 later)
     ]
@@ -225,7 +226,7 @@ pub answered_last : FaultsLaw → (start : Start) (events : List LineEvent) (las
     → (number : ℕ) (reply : Reply) (sendings : ℕ) → slice_get last.outcomes number ≡ Some (Answered reply sendings)
     → AnswersLastSending start events number reply sendings
 answered_last law start events last run number reply sendings is =
-    elim (run_answered law start events (first_world start) last run number reply sendings is) [
+    elim (leads_answered law start events (first_world start) last run number reply sendings is) [
       | inl before ↦ cc
       | inr answered ↦ (let turn = answered.turn in record {
         last_turn = answered;

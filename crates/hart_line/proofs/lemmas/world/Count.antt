@@ -17,12 +17,12 @@ use Rattle.hart_device.specs.Device.{Effect, Nothing, Executes, Resets}
 use Rattle.hart_master.specs.declared.fault.MasterFault.{MasterFault}
 use Rattle.hart_line.specs.world.Executions.{times_executed}
 use Rattle.hart_line.specs.world.Promises.{sendings_in}
-use Rattle.hart_line.specs.world.Step.{Run, effect_on, executions_after, hand_left, outcome_of, submitted, turned}
+use Rattle.hart_line.specs.world.Step.{LeadsTo, effect_on, executions_after, hand_left, outcome_of, submitted, turned}
 use Rattle.hart_line.specs.world.World.{Execution, InHand, Start, World, first_world, state_of}
 use Rattle.hart_line.specs.declared.event.LineEvent.{LineEvent}
 use Rattle.hart_line.specs.declared.line.report.Outcome.{Outcome}
 use Rattle.hart_line.specs.declared.line.report.Outcome.TheVariants.{Answered, NoReply, Unfinished, Refused}
-use Rattle.hart_line.proofs.lemmas.world.Leads.{Keeps, run_keeps}
+use Rattle.hart_line.proofs.lemmas.world.Leads.{Keeps, leads_keeps}
 use Rattle.hart_line.proofs.lemmas.world.Sound.{hand_left-number, nothing_first, slice_get-append, slice_get-last, with_master-cases}
 
 pub record IsCounted (world : World) : Type 0 where
@@ -146,14 +146,14 @@ counts_by false hand outcomes outcome number before after differs there sent old
     ap sendings_in (slice_get-set_other outcomes hand.submission number outcome (λ same. eqb-false hand.submission number differs
     (sym same))) in omega arith
 
-turned_counted : (start : Start) (world : World) (master : MasterId) (hand : Option InHand) (arrived : Brought)
+turned_counted : (start : Start) (world : World) (master : MasterId) (hand : Option InHand) (brought : Brought)
     (accepted : Option Reply)
-    → of_master master world.hands ≡ hand → IsCounted world → IsCounted (turned start world master hand arrived accepted)
-turned_counted start world master None arrived accepted in_hand c =
+    → of_master master world.hands ≡ hand → IsCounted world → IsCounted (turned start world master hand brought accepted)
+turned_counted start world master None brought accepted in_hand c =
     record { in_hand = c.in_hand; apart = c.apart; counts = c.counts }
-turned_counted start world master (Some hand) arrived accepted in_hand c =
+turned_counted start world master (Some hand) brought accepted in_hand c =
     let outcome = outcome_of (of_master master start.retries) (hand.sendings + 1) accepted in
-    let effect = effect_on (state_of start.device world) arrived in
+    let effect = effect_on (state_of start.device world) brought in
     let there = c.in_hand master hand in_hand in record {
       in_hand = λ id other is. elim (with_master-apart id master (hand_left hand outcome) world.hands other is) [
         | inl left ↦ rw (hand_left-number hand other outcome left) (slice_get-set_same world.outcomes hand.submission _ outcome there
@@ -181,7 +181,7 @@ counted_kept start = record {
   submissions = submitted_counted;
   turns = turned_counted start;
   switches = λ world on c. record { in_hand = c.in_hand; apart = c.apart; counts = c.counts };
-  replies = λ world arrived c. record { in_hand = c.in_hand; apart = c.apart; counts = c.counts };
+  replies = λ world brought c. record { in_hand = c.in_hand; apart = c.apart; counts = c.counts };
   restarts = λ world c. record { in_hand = c.in_hand; apart = c.apart; counts = c.counts };
 }
 
@@ -192,7 +192,7 @@ first_counted start = record {
   counts = λ number. omega arith;
 }
 
-pub executed_at_most : (start : Start) (events : List LineEvent) (last : World) → Run start (first_world start) events last
+pub executed_at_most : (start : Start) (events : List LineEvent) (last : World) → LeadsTo start (first_world start) events last
     → (number : ℕ) → times_executed number last.executions ≤ sendings_in (slice_get last.outcomes number)
 executed_at_most start events last run =
-    (run_keeps start IsCounted (counted_kept start) events (first_world start) last run (first_counted start)).counts
+    (leads_keeps start IsCounted (counted_kept start) events (first_world start) last run (first_counted start)).counts

@@ -18,7 +18,7 @@ use Rattle.hart_device.specs.Device.{for_both}
 use Rattle.hart_line.specs.world.Damage.{Arrives, IsDetectable, IsDetected, IsUndetected, Reaches}
 use Rattle.hart_line.specs.world.Faults.{AreAllDetected, HasDetectable, HasUndetected, IsFault, IsNotDetectable, LegsAreDetected}
 use Rattle.hart_line.specs.world.Spoken.{SpokenFrame, frame_of, spoken_by}
-use Rattle.hart_line.specs.world.Step.{Accepts, Run, Step, replied, sent_back, sent_by, submission_fault, submitted, turned}
+use Rattle.hart_line.specs.world.Step.{Accepts, LeadsTo, Step, replied, sent_back, sent_by, submission_fault, submitted, turned}
 use Rattle.hart_line.specs.world.World.{InHand, Start, World, first_world, state_of}
 use Rattle.hart_line.specs.declared.event.Heard.{Heard}
 use Rattle.hart_line.specs.declared.event.Heard.TheVariants.{Clean, Lost, Chars}
@@ -31,7 +31,7 @@ use Rattle.hart_line.specs.declared.fault.LineFault.TheVariants.{BadLine, Memory
 use Rattle.hart_line.specs.declared.line.report.Party.{Party}
 use Rattle.hart_line.proofs.lemmas.world.Arrival.{MessageLaw}
 use Rattle.hart_line.proofs.lemmas.world.Basics.{some_one}
-use Rattle.hart_line.proofs.lemmas.world.Leads.{Laws, Reaches-one, run_one}
+use Rattle.hart_line.proofs.lemmas.world.Leads.{Laws, Reaches-one, leads_one}
 
 -- DETECTABLE DAMAGE
 pub record DetectedLaws : Type 0 where
@@ -49,7 +49,7 @@ IsLong (Some said) = 2 ≤ said.preambles
 
 -- Characters without a frame are no undetected damage.
 silent : DetectedLaws → (sent : Option FrameParts) (chars other : List Character) (frames : List Found) → chars ≡ other
-    → AreFrames other 0 [] → AreFrames chars 0 frames → ((arrived : Option FrameParts) → IsDetected sent frames arrived → ⊥) → ⊥
+    → AreFrames other 0 [] → AreFrames chars 0 frames → ((brought : Option FrameParts) → IsDetected sent frames brought → ⊥) → ⊥
 silent laws sent chars other frames is empty are not_detected =
     let same = laws.one_list other 0 [] frames empty (rw is at are) in
     not_detected None (subst (λ fs. IsDetected sent fs None) same refl)
@@ -57,7 +57,7 @@ silent laws sent chars other frames is empty are not_detected =
 -- Nor are characters with the frame that was sent alone.
 alone : DetectedLaws → (found : Found) (chars other : List Character) (frames : List Found) → chars ≡ other
     → AreFrames other 0 (found ∷ []) → AreFrames chars 0 frames
-    → ((arrived : Option FrameParts) → IsDetected (Some found.frame) frames arrived → ⊥) → ⊥
+    → ((brought : Option FrameParts) → IsDetected (Some found.frame) frames brought → ⊥) → ⊥
 alone laws found chars other frames is one are not_detected =
     let same = laws.one_list other 0 (found ∷ []) frames one (rw is at are) in
     not_detected (Some found.frame) (subst (λ fs. IsDetected (Some found.frame) fs (Some found.frame)) same (refl, refl))
@@ -98,7 +98,7 @@ leg_detected laws damage start world (Turn who up down) legs.Down enough d u =
     let same = Reaches-one laws start.device.identity up (sent_by who (of_master who world.hands)) d.0 u.0 d.1 u.1 in
     heard_detected damage down (sent_back start world u.0)
     (frame_long _ _ (answer_to (state_of start.device world) start.process u.0) enough)
-    (subst (λ arrived. IsDetectable down (sent_back start world arrived)) same d.2) u.2
+    (subst (λ brought. IsDetectable down (sent_back start world brought)) same d.2) u.2
 leg_detected laws damage start world (Turn who up down) legs.Noise enough d u = d
 leg_detected laws damage start world (Protect on) leg enough d u = d
 leg_detected laws damage start world Restart leg enough d u = d
@@ -107,7 +107,7 @@ leg_detected laws damage start world (Noise chars) leg enough d u = d
 pub fault_not_detectable : Laws → DetectedLaws → (start : Start) (events : List LineEvent) (fault : LineFault)
     → 5 ≤ start.device.identity.response_preambles → IsFault start events fault → IsNotDetectable start events fault
 fault_not_detectable laws damage start events (Undetected number leg) enough f = λ world event last is d.
-    let reached : f.0 ≡ world = run_one laws start (take number events) (first_world start) f.0 world f.2 last in
+    let reached : f.0 ≡ world = leads_one laws start (take number events) (first_world start) f.0 world f.2 last in
     let same : f.1 ≡ event = some_one (sym f.3 ∙ is) in
     leg_detected laws damage start world event leg enough d
     (subst (λ e. HasUndetected start world e leg) same (subst (λ w. HasUndetected start w f.1 leg) reached f.4))
@@ -138,13 +138,13 @@ pub record WorldLaws : Type 0 where
   pub decided : Decided
 
 -- A leg whose damage is detected brings the device one thing.
-reaches_one : WorldLaws → (identity : IdentityParts) (heard : Heard) (sent : Option SpokenFrame) (arrived : Option FrameParts)
-    → Arrives heard sent arrived → (brought : Brought) × Reaches identity heard sent brought
-reaches_one laws identity heard sent arrived a =
+reaches_one : WorldLaws → (identity : IdentityParts) (heard : Heard) (sent : Option SpokenFrame) (brought : Option FrameParts)
+    → Arrives heard sent brought → (brought : Brought) × Reaches identity heard sent brought
+reaches_one laws identity heard sent brought a =
     let b = laws.brings identity a.chars in
     let same = laws.one_list a.chars 0 b.1.frames a.frames b.1.are_frames a.are_frames in
     let brings = subst (λ fs. BringsBy identity a.chars fs b.0) same b.1.by_frames in
-    (b.0, record { frame = arrived; arrives = a; brings = brings })
+    (b.0, record { frame = brought; arrives = a; brings = brings })
 
 step_exists : WorldLaws → (start : Start) (world : World) (event : LineEvent) → LegsAreDetected start world event
     → (next : World) × Step start world event next
@@ -157,7 +157,7 @@ step_exists laws start world (Turn who up down) detected =
     let a = accepted_of laws.decided who hand back.0 in (
       turned start world who hand brought.0 a.accepted,
       record {
-        arrived = brought.0;
+        brought = brought.0;
         arrives = brought.1;
         returned = back.0;
         returns = back.1;
@@ -170,12 +170,12 @@ step_exists laws start world (Protect on) detected = (record world { protected =
 step_exists laws start world Restart detected = (record world { cold_start = for_both true }, refl)
 step_exists laws start world (Noise chars) detected =
     let brought = reaches_one laws start.device.identity (Chars chars) None None detected in
-    (replied start world brought.0, record { arrived = brought.0; arrives = brought.1; next_is = refl })
+    (replied start world brought.0, record { brought = brought.0; arrives = brought.1; next_is = refl })
 
-pub run_exists : WorldLaws → (start : Start) (world : World) (events : List LineEvent) → AreAllDetected start world events
-    → (last : World) × Run start world events last
-run_exists laws start world [] detected = (world, refl)
-run_exists laws start world (event ∷ events) detected =
+pub leads_exists : WorldLaws → (start : Start) (world : World) (events : List LineEvent) → AreAllDetected start world events
+    → (last : World) × LeadsTo start world events last
+leads_exists laws start world [] detected = (world, refl)
+leads_exists laws start world (event ∷ events) detected =
     let step = step_exists laws start world event detected.0 in
-    let rest = run_exists laws start step.0 events (detected.1 step.0 step.1) in
+    let rest = leads_exists laws start step.0 events (detected.1 step.0 step.1) in
     (rest.0, (step.0, step.1, rest.1))

@@ -18,7 +18,8 @@ use Rattle.hart_master.specs.declared.fault.MasterFault.{MasterFault}
 use Rattle.hart_line.specs.world.Spoken.{frame_of}
 use Rattle.hart_line.specs.world.Executions.{has_execution_of, last_executions}
 use Rattle.hart_line.specs.world.Promises.{AreWellMade, requests_of, submissions_of}
-use Rattle.hart_line.specs.world.Step.{IsLast, Run, Step, effect_on, executions_after, spoken_request, sent_by, submission_fault, submitted}
+use Rattle.hart_line.specs.world.Step.{IsLast, LeadsTo, Step, effect_on, executions_after, spoken_request, sent_by, submission_fault}
+use Rattle.hart_line.specs.world.Step.{submitted}
 use Rattle.hart_line.specs.world.Step.{turned}
 use Rattle.hart_line.specs.world.World.{Execution, InHand, Start, World, first_world, overwrites_of, state_of}
 use Rattle.hart_line.specs.declared.event.LineEvent.{LineEvent}
@@ -52,10 +53,10 @@ same_overwrite requests a b same x y =
     some_one (sym x.overwrites ∙ ap overwrite_of request ∙ y.overwrites)
 
 arrived_executes : ExecutesLaw → (state : DeviceState) (who : MasterId) (held : InHand) (requests : List Request)
-    (arrived : Brought) (overwrite : Overwrite)
+    (brought : Brought) (overwrite : Overwrite)
     → slice_get requests held.submission ≡ Some held.request → reading_of (spoken_request who held).frame ≡ Ok held.request
-    → (frame_in arrived ≡ None) ⊎ (frame_in arrived ≡ Some (spoken_request who held).frame)
-    → effect_on state arrived ≡ Executes overwrite
+    → (frame_in brought ≡ None) ⊎ (frame_in brought ≡ Some (spoken_request who held).frame)
+    → effect_on state brought ≡ Executes overwrite
     → IsWriteOf requests (record { submission = held.submission; overwrite = overwrite })
 arrived_executes law state who held requests NoMessage overwrite there reading known is = cc
 arrived_executes law state who held requests (Garbled request) overwrite there reading known is = cc
@@ -95,15 +96,15 @@ effect_writes (Executes overwrite) number requests executions writes all =
 effect_writes Resets number requests executions writes all = all
 
 turned_writes : ExecutesLaw → ReadsLaw → (events : List LineEvent) → AreWellMade events → (start : Start) (world : World) (who : MasterId)
-    (hand : Option InHand) (arrived : Brought) (accepted : Option Reply) (later : List LineEvent)
-    → of_master who world.hands ≡ hand → (frame_in arrived ≡ None) ⊎ (frame_in arrived ≡ frame_of (sent_by who hand))
+    (hand : Option InHand) (brought : Brought) (accepted : Option Reply) (later : List LineEvent)
+    → of_master who world.hands ≡ hand → (frame_in brought ≡ None) ⊎ (frame_in brought ≡ frame_of (sent_by who hand))
     → IsAlong (submissions_of events) world later → AreWrites (requests_of events) world
-    → AreWrites (requests_of events) (turned start world who hand arrived accepted)
-turned_writes law reads events made start world who None arrived accepted later in_hand known a all = all
-turned_writes law reads events made start world who (Some held) arrived accepted later in_hand known a all =
+    → AreWrites (requests_of events) (turned start world who hand brought accepted)
+turned_writes law reads events made start world who None brought accepted later in_hand known a all = all
+turned_writes law reads events made start world who (Some held) brought accepted later in_hand known a all =
     let there = request_there events held.submission _ (a.hands who held in_hand) in
-    effect_writes (effect_on (state_of start.device world) arrived) held.submission (requests_of events) world.executions
-    (λ overwrite is. arrived_executes law (state_of start.device world) who held (requests_of events) arrived overwrite there
+    effect_writes (effect_on (state_of start.device world) brought) held.submission (requests_of events) world.executions
+    (λ overwrite is. arrived_executes law (state_of start.device world) who held (requests_of events) brought overwrite there
     (reads held.request (made_of events held.submission held.request made there)) known is) all
 
 step_writes : ExecutesLaw → ReadsLaw → (events : List LineEvent) → AreWellMade events → (start : Start) (world : World) (event : LineEvent)
@@ -114,19 +115,19 @@ step_writes law reads events made start world (Submit who address request) later
     (submitted_writes (requests_of events) world who address request (submission_fault (of_master who world.hands) address request) all)
 step_writes law reads events made start world (Turn who up down) later next is a all =
     subst (AreWrites (requests_of events)) (sym is.next_is)
-    (turned_writes law reads events made start world who (of_master who world.hands) is.arrived is.accepted (Turn who up down ∷ later) refl
-    (reaches_cases start.device.identity up (sent_by who (of_master who world.hands)) is.arrived is.arrives) a all)
+    (turned_writes law reads events made start world who (of_master who world.hands) is.brought is.accepted (Turn who up down ∷ later) refl
+    (reaches_cases start.device.identity up (sent_by who (of_master who world.hands)) is.brought is.arrives) a all)
 step_writes law reads events made start world (Protect on) later next is a all = subst (AreWrites (requests_of events)) (sym is) all
 step_writes law reads events made start world Restart later next is a all = subst (AreWrites (requests_of events)) (sym is) all
 step_writes law reads events made start world (Noise chars) later next is a all =
     subst (AreWrites (requests_of events)) (sym is.next_is) all
 
-run_writes : ExecutesLaw → ReadsLaw → (events : List LineEvent) → AreWellMade events → (start : Start) (later : List LineEvent)
-    (world last : World) → Run start world later last
+leads_writes : ExecutesLaw → ReadsLaw → (events : List LineEvent) → AreWellMade events → (start : Start) (later : List LineEvent)
+    (world last : World) → LeadsTo start world later last
     → IsAlong (submissions_of events) world later → AreWrites (requests_of events) world → AreWrites (requests_of events) last
-run_writes law reads events made start [] world last run a all = subst (AreWrites (requests_of events)) (sym run) all
-run_writes law reads events made start (event ∷ later) world last run a all =
-    run_writes law reads events made start later run.0 last run.2
+leads_writes law reads events made start [] world last run a all = subst (AreWrites (requests_of events)) (sym run) all
+leads_writes law reads events made start (event ∷ later) world last run a all =
+    leads_writes law reads events made start later run.0 last run.2
     (step_along (submissions_of events) start world event later run.0 run.1 a)
     (step_writes law reads events made start world event later run.0 run.1 a all)
 
@@ -183,4 +184,4 @@ pub registers_last : ExecutesLaw → ReadsLaw → FirstLaw → AgainLaw → (sta
     → (state_of start.device last).contents ≡ registers_of (overwrites_of (last_executions last.executions)) start.device.contents
 registers_last executes reads first_law again start events last run made =
     registers_of-last first_law again (requests_of events) last.executions
-    (run_writes executes reads events made start events (first_world start) last run (first_along start events) tt) start.device.contents
+    (leads_writes executes reads events made start events (first_world start) last run (first_along start events) tt) start.device.contents

@@ -18,7 +18,8 @@ use Rattle.hart_master.specs.declared.fault.MasterFault.{MasterFault}
 use Rattle.hart_device.specs.Device.{for_both}
 use Rattle.hart_line.specs.world.Damage.{AreHeard, Arrives, IsDetected, IsUndetected, Reaches}
 use Rattle.hart_line.specs.world.Spoken.{SpokenFrame, frame_of}
-use Rattle.hart_line.specs.world.Step.{Accepts, IsLast, IsTurn, Run, Step, replied, sent_back, sent_by, submission_fault, submitted, turned}
+use Rattle.hart_line.specs.world.Step.{Accepts, IsLast, IsTurn, LeadsTo, Step, replied, sent_back, sent_by, submission_fault, submitted}
+use Rattle.hart_line.specs.world.Step.{turned}
 use Rattle.hart_line.specs.world.World.{InHand, Start, World, first_world}
 use Rattle.hart_line.specs.declared.event.Heard.{Heard}
 use Rattle.hart_line.specs.declared.event.Heard.TheVariants.{Clean, Lost, Chars}
@@ -34,10 +35,10 @@ use Rattle.hart_line.proofs.lemmas.world.Basics.{some_one}
 pub record Keeps (start : Start) (P : World → Type 0) : Type 0 where
   pub submissions : (world : World) (who : MasterId) (address : Address) (request : Request) (fault : Option MasterFault)
       → P world → P (submitted world who address request fault)
-  pub turns : (world : World) (who : MasterId) (hand : Option InHand) (arrived : Brought) (accepted : Option Reply)
-      → of_master who world.hands ≡ hand → P world → P (turned start world who hand arrived accepted)
+  pub turns : (world : World) (who : MasterId) (hand : Option InHand) (brought : Brought) (accepted : Option Reply)
+      → of_master who world.hands ≡ hand → P world → P (turned start world who hand brought accepted)
   pub switches : (world : World) (on : Bool) → P world → P (record world { protected = on })
-  pub replies : (world : World) (arrived : Brought) → P world → P (replied start world arrived)
+  pub replies : (world : World) (brought : Brought) → P world → P (replied start world brought)
   pub restarts : (world : World) → P world → P (record world { cold_start = for_both true })
 
 pub step_keeps : (start : Start) (P : World → Type 0) → Keeps start P → (world : World) (event : LineEvent) (next : World)
@@ -45,21 +46,21 @@ pub step_keeps : (start : Start) (P : World → Type 0) → Keeps start P → (w
 step_keeps start P keeps world (Submit who address request) next is p = subst P (sym is)
     (keeps.submissions world who address request (submission_fault (of_master who world.hands) address request) p)
 step_keeps start P keeps world (Turn who up down) next is p = subst P (sym is.next_is)
-    (keeps.turns world who (of_master who world.hands) is.arrived is.accepted refl p)
+    (keeps.turns world who (of_master who world.hands) is.brought is.accepted refl p)
 step_keeps start P keeps world (Protect on) next is p = subst P (sym is) (keeps.switches world on p)
-step_keeps start P keeps world (Noise chars) next is p = subst P (sym is.next_is) (keeps.replies world is.arrived p)
+step_keeps start P keeps world (Noise chars) next is p = subst P (sym is.next_is) (keeps.replies world is.brought p)
 step_keeps start P keeps world Restart next is p = subst P (sym is) (keeps.restarts world p)
 
-pub run_keeps : (start : Start) (P : World → Type 0) → Keeps start P → (events : List LineEvent) (world last : World)
-    → Run start world events last → P world → P last
-run_keeps start P keeps [] world last run p = subst P (sym run) p
-run_keeps start P keeps (event ∷ events) world last run p = run_keeps start P keeps events run.0 last run.2
+pub leads_keeps : (start : Start) (P : World → Type 0) → Keeps start P → (events : List LineEvent) (world last : World)
+    → LeadsTo start world events last → P world → P last
+leads_keeps start P keeps [] world last run p = subst P (sym run) p
+leads_keeps start P keeps (event ∷ events) world last run p = leads_keeps start P keeps events run.0 last run.2
     (step_keeps start P keeps world event run.0 run.1 p)
 
-pub run_more : (start : Start) (events : List LineEvent) (event : LineEvent) (world mid next : World)
-    → Run start world events mid → Step start mid event next → Run start world (events ++ event ∷ []) next
-run_more start [] event world mid next run step = (next, subst (λ w. Step start w event next) run step, refl)
-run_more start (e ∷ events) event world mid next run step = (run.0, run.1, run_more start events event run.0 mid next run.2 step)
+pub leads_more : (start : Start) (events : List LineEvent) (event : LineEvent) (world mid next : World)
+    → LeadsTo start world events mid → Step start mid event next → LeadsTo start world (events ++ event ∷ []) next
+leads_more start [] event world mid next run step = (next, subst (λ w. Step start w event next) run step, refl)
+leads_more start (e ∷ events) event world mid next run step = (run.0, run.1, leads_more start events event run.0 mid next run.2 step)
 
 -- What the laws of the crates below say.
 pub record Laws : Type 0 where
@@ -109,11 +110,11 @@ Reaches-one laws identity heard sent a b s t =
     (record { frames = t.arrives.frames; are_frames = t.arrives.are_frames; by_frames = t.brings })
 
 -- Damage that is detected is not undetected.
-pub arrives_detected : Laws → (heard : Heard) (sent : Option SpokenFrame) (arrived : Option FrameParts)
-    → Arrives heard sent arrived → IsUndetected heard sent → ⊥
-arrives_detected laws heard sent arrived a u =
+pub arrives_detected : Laws → (heard : Heard) (sent : Option SpokenFrame) (brought : Option FrameParts)
+    → Arrives heard sent brought → IsUndetected heard sent → ⊥
+arrives_detected laws heard sent brought a u =
     let frames = frames_one laws heard sent a.chars u.chars a.frames u.frames a.are_heard u.are_heard a.are_frames u.are_frames in
-    u.not_detected arrived (rw frames at a.detected)
+    u.not_detected brought (rw frames at a.detected)
 
 Accepts-one : Laws → (who : MasterId) (hand : Option InHand) (returned : Option FrameParts) (a b : Option Reply)
     → Accepts who hand returned a → Accepts who hand returned b → a ≡ b
@@ -129,11 +130,11 @@ IsTurn-one : Laws → (start : Start) (world : World) (who : MasterId) (up down 
     → IsTurn start world who up down a → IsTurn start world who up down b → a ≡ b
 IsTurn-one laws start world who up down a b s t =
     let hand = of_master who world.hands in
-    let arrived = Reaches-one laws start.device.identity up (sent_by who hand) s.arrived t.arrived s.arrives t.arrives in
-    let returned = Arrives-one laws down (sent_back start world t.arrived) s.returned t.returned (rw arrived at s.returns) t.returns in
+    let brought = Reaches-one laws start.device.identity up (sent_by who hand) s.brought t.brought s.arrives t.arrives in
+    let returned = Arrives-one laws down (sent_back start world t.brought) s.returned t.returned (rw brought at s.returns) t.returns in
     let accepted = Accepts-one laws who hand t.returned s.accepted t.accepted (rw returned at s.accepts) t.accepts in
-    s.next_is ∙ ap (λ f. turned start world who hand f s.accepted) arrived
-    ∙ ap (turned start world who hand t.arrived) accepted ∙ sym t.next_is
+    s.next_is ∙ ap (λ f. turned start world who hand f s.accepted) brought
+    ∙ ap (turned start world who hand t.brought) accepted ∙ sym t.next_is
 
 pub step_one : Laws → (start : Start) (world : World) (event : LineEvent) (a b : World)
     → Step start world event a → Step start world event b → a ≡ b
@@ -143,15 +144,16 @@ step_one laws start world (Protect on) a b s t = s ∙ sym t
 step_one laws start world Restart a b s t = s ∙ sym t
 step_one laws start world (Noise chars) a b s t =
     s.next_is ∙ ap (replied start world)
-    (Reaches-one laws start.device.identity (Chars chars) None s.arrived t.arrived s.arrives t.arrives) ∙ sym t.next_is
+    (Reaches-one laws start.device.identity (Chars chars) None s.brought t.brought s.arrives t.arrives) ∙ sym t.next_is
 
 -- A script leads to one world.
-pub run_one : Laws → (start : Start) (events : List LineEvent) (world a b : World) → Run start world events a → Run start world events b
+pub leads_one : Laws → (start : Start) (events : List LineEvent) (world a b : World)
+    → LeadsTo start world events a → LeadsTo start world events b
     → a ≡ b
-run_one laws start [] world a b s t = s ∙ sym t
-run_one laws start (event ∷ events) world a b s t =
-    run_one laws start events t.0 a b
-    (subst (λ w. Run start w events a) (step_one laws start world event s.0 t.0 s.1 t.1) s.2) t.2
+leads_one laws start [] world a b s t = s ∙ sym t
+leads_one laws start (event ∷ events) world a b s t =
+    leads_one laws start events t.0 a b
+    (subst (λ w. LeadsTo start w events a) (step_one laws start world event s.0 t.0 s.1 t.1) s.2) t.2
 
 -- FAULTS
 -- An event that leads on has no undetected damage, and no other has it in two legs.
@@ -161,8 +163,8 @@ step_detected laws start world (Submit who address request) next leg step undete
 step_detected laws start world (Turn who up down) next legs.Up step undetected =
     arrives_detected laws up _ step.arrives.frame step.arrives.arrives undetected
 step_detected laws start world (Turn who up down) next legs.Down step undetected =
-    let arrived = Reaches-one laws start.device.identity up _ step.arrived undetected.0 step.arrives undetected.1 in
-    arrives_detected laws down _ step.returned (rw arrived at step.returns) undetected.2
+    let brought = Reaches-one laws start.device.identity up _ step.brought undetected.0 step.arrives undetected.1 in
+    arrives_detected laws down _ step.returned (rw brought at step.returns) undetected.2
 step_detected laws start world (Turn who up down) next legs.Noise step undetected = undetected
 step_detected laws start world (Protect on) next leg step undetected = undetected
 step_detected laws start world Restart next leg step undetected = undetected
@@ -193,21 +195,21 @@ undetected_one laws start world (Noise chars) legs.Noise legs.Noise u v = refl
 pub record FaultFrom (start : Start) (from : World) (events : List LineEvent) (number : ℕ) (leg : Leg) : Type 0 where
   pub world : World
   pub event : LineEvent
-  pub led : Run start from (take number events) world
+  pub led : LeadsTo start from (take number events) world
   pub here : slice_get events number ≡ Some event
   pub undetected : HasUndetected start world event leg
 
-run_detected : Laws → (start : Start) (from : World) (events : List LineEvent) (last : World) (number : ℕ) (leg : Leg)
-    → Run start from events last → FaultFrom start from events number leg → ⊥
-run_detected laws start from [] last number leg run f = cc (f.here)
-run_detected laws start from (event ∷ events) last zero leg run f =
+leads_detected : Laws → (start : Start) (from : World) (events : List LineEvent) (last : World) (number : ℕ) (leg : Leg)
+    → LeadsTo start from events last → FaultFrom start from events number leg → ⊥
+leads_detected laws start from [] last number leg run f = cc (f.here)
+leads_detected laws start from (event ∷ events) last zero leg run f =
     let same = some_one f.here in
     step_detected laws start from event run.0 leg run.1 (rw (f.led, ← same) at f.undetected)
-run_detected laws start from (event ∷ events) last (suc number) leg run f =
-    run_detected laws start run.0 events last number leg run.2 (record {
+leads_detected laws start from (event ∷ events) last (suc number) leg run f =
+    leads_detected laws start run.0 events last number leg run.2 (record {
       world = f.world;
       event = f.event;
-      led = subst (λ w. Run start w (take number events) f.world) (step_one laws start from event f.led.0 run.0 f.led.1 run.1) f.led.2;
+      led = subst (λ w. LeadsTo start w (take number events) f.world) (step_one laws start from event f.led.0 run.0 f.led.1 run.1) f.led.2;
       here = f.here;
       undetected = f.undetected;
     })
@@ -220,7 +222,7 @@ fault_from start events number leg f =
 pub no_fault : Laws → (start : Start) (events : List LineEvent) (last : World) (number : ℕ) (leg : Leg)
     → IsLast start events last → IsFault start events (Undetected number leg) → ⊥
 no_fault laws start events last number leg run fault =
-    run_detected laws start (first_world start) events last number leg run (fault_from start events number leg fault)
+    leads_detected laws start (first_world start) events last number leg run (fault_from start events number leg fault)
 
 -- Of two faults from one world on, neither comes before the other.
 faults_one : Laws → (start : Start) (from : World) (events : List LineEvent) (number other : ℕ) (leg another : Leg)
@@ -241,7 +243,8 @@ faults_one laws start from (event ∷ events) (suc number) (suc other) leg anoth
     (record {
       world = f.world;
       event = f.event;
-      led = subst (λ w. Run start w (take number events) f.world) (step_one laws start from event f.led.0 g.led.0 f.led.1 g.led.1) f.led.2;
+      led = subst (λ w. LeadsTo start w (take number events) f.world)
+          (step_one laws start from event f.led.0 g.led.0 f.led.1 g.led.1) f.led.2;
       here = f.here;
       undetected = f.undetected;
     })

@@ -19,7 +19,7 @@ use Rattle.hart_device.specs.Device.{DeviceState, Effect, Nothing, Executes, Res
 use Rattle.hart_device.specs.declared.identity_parts.IdentityParts.{IdentityParts}
 use Rattle.hart_line.specs.world.Damage.{Reaches}
 use Rattle.hart_line.specs.world.Promises.{HasNoReset, IsLastReset, IsRefusedByDevice}
-use Rattle.hart_line.specs.world.Step.{IsLast, IsTurn, Run, Step, cold_start_after, effect_on, executions_after, marks_after, sent_by}
+use Rattle.hart_line.specs.world.Step.{IsLast, IsTurn, LeadsTo, Step, cold_start_after, effect_on, executions_after, marks_after, sent_by}
 use Rattle.hart_line.specs.world.Step.{spoken_request, submission_fault, submitted, turned}
 use Rattle.hart_line.specs.world.World.{Execution, InHand, Start, World, first_world, is_changed, overwrites_of, state_of}
 use Rattle.hart_line.specs.declared.event.Heard.{Heard}
@@ -53,9 +53,9 @@ step_grows start world (Submit who address request) next step =
 step_grows start world (Turn who up down) next step =
     subst (λ (w : World). Grows world.executions w.executions) (sym step.next_is) (by_hand (of_master who world.hands))
   where
-    by_hand : (hand : Option InHand) → Grows world.executions (turned start world who hand step.arrived step.accepted).executions
+    by_hand : (hand : Option InHand) → Grows world.executions (turned start world who hand step.brought step.accepted).executions
     by_hand None = grows_same world.executions world.executions refl
-    by_hand (Some held) = effect_grows (effect_on (state_of start.device world) step.arrived) held.submission world.executions
+    by_hand (Some held) = effect_grows (effect_on (state_of start.device world) step.brought) held.submission world.executions
 step_grows start world (Protect on) next step = grows_same _ _ (ap (λ (w : World). w.executions) step)
 step_grows start world Restart next step = grows_same _ _ (ap (λ (w : World). w.executions) step)
 step_grows start world (Noise chars) next step = grows_same _ _ (ap (λ (w : World). w.executions) step.next_is)
@@ -63,11 +63,11 @@ step_grows start world (Noise chars) next step = grows_same _ _ (ap (λ (w : Wor
 grows_on : (a b c : List Execution) → Grows a b → Grows b c → Grows a c
 grows_on a b c g h = record { more = g.more ++ h.more; is = h.is ∙ ap (λ xs. xs ++ h.more) g.is ∙ append_assoc a g.more h.more }
 
-run_grows : (start : Start) (events : List LineEvent) (world last : World) → Run start world events last
+leads_grows : (start : Start) (events : List LineEvent) (world last : World) → LeadsTo start world events last
     → Grows world.executions last.executions
-run_grows start [] world last run = grows_same _ _ (ap (λ (w : World). w.executions) run)
-run_grows start (event ∷ events) world last run =
-    grows_on _ _ _ (step_grows start world event run.0 run.1) (run_grows start events run.0 last run.2)
+leads_grows start [] world last run = grows_same _ _ (ap (λ (w : World). w.executions) run)
+leads_grows start (event ∷ events) world last run =
+    grows_on _ _ _ (step_grows start world event run.0 run.1) (leads_grows start events run.0 last run.2)
 
 -- MARKS STAY WHERE THERE IS NO RESET
 marks_kept : (effect : Effect) (id who : MasterId) (count : ℕ) (marks : EachMaster (Option ℕ)) → (id ≡ who → effect ≢ Resets)
@@ -82,7 +82,7 @@ marks_kept Resets Secondary Secondary count marks apart = absurd (apart refl ref
 -- What a reset is not, at one event.
 abbrev pub IsNoReset : (start : Start) (world : World) (event : LineEvent) (next : World) → MasterId → Step start world event next → Type 0
 IsNoReset start world (Submit who address request) next id step = Unit {0}
-IsNoReset start world (Turn who up down) next id step = id ≡ who → effect_on (state_of start.device world) step.arrived ≢ Resets
+IsNoReset start world (Turn who up down) next id step = id ≡ who → effect_on (state_of start.device world) step.brought ≢ Resets
 IsNoReset start world (Protect on) next id step = Unit {0}
 IsNoReset start world Restart next id step = Unit {0}
 IsNoReset start world (Noise chars) next id step = Unit {0}
@@ -99,10 +99,10 @@ step_kept start world (Turn who up down) next id step quiet =
     ap (λ (w : World). of_master id w.marks) step.next_is ∙ by_hand (of_master who world.hands)
   where
     by_hand : (hand : Option InHand)
-        → of_master id (turned start world who hand step.arrived step.accepted).marks ≡ of_master id world.marks
+        → of_master id (turned start world who hand step.brought step.accepted).marks ≡ of_master id world.marks
     by_hand None = refl
     by_hand (Some held) =
-        marks_kept (effect_on (state_of start.device world) step.arrived) id who (length world.executions) world.marks quiet
+        marks_kept (effect_on (state_of start.device world) step.brought) id who (length world.executions) world.marks quiet
 step_kept start world (Protect on) next id step quiet = ap (λ (w : World). of_master id w.marks) step
 step_kept start world Restart next id step quiet = ap (λ (w : World). of_master id w.marks) step
 step_kept start world (Noise chars) next id step quiet = ap (λ (w : World). of_master id w.marks) step.next_is
@@ -112,7 +112,7 @@ first_quiet : (start : Start) (world : World) (event : LineEvent) (events : List
 first_quiet start world (Submit who address request) events next id step none = tt
 first_quiet start world (Turn who up down) events next id step none = λ same.
     let P : MasterId → Type 0 = λ m. (s : IsTurn start world m up down next) → HasNoReset start world (Turn m up down ∷ events) id
-    → effect_on (state_of start.device world) s.arrived ≢ Resets in
+    → effect_on (state_of start.device world) s.brought ≢ Resets in
     subst P same
     (λ s quiet. quiet world next up down (record { prefix = []; suffix = events; split = refl; led = refl; step = s })) step none
 first_quiet start world (Protect on) events next id step none = tt
@@ -129,27 +129,27 @@ later_quiet start world event events next id step none = λ before after up down
   step = turn.step;
 })
 
-run_kept : (start : Start) (events : List LineEvent) (world last : World) (id : MasterId) → Run start world events last
+leads_kept : (start : Start) (events : List LineEvent) (world last : World) (id : MasterId) → LeadsTo start world events last
     → HasNoReset start world events id → of_master id last.marks ≡ of_master id world.marks
-run_kept start [] world last id run none = ap (λ (w : World). of_master id w.marks) run
-run_kept start (event ∷ events) world last id run none =
-    run_kept start events run.0 last id run.2 (later_quiet start world event events run.0 id run.1 none)
+leads_kept start [] world last id run none = ap (λ (w : World). of_master id w.marks) run
+leads_kept start (event ∷ events) world last id run none =
+    leads_kept start events run.0 last id run.2 (later_quiet start world event events run.0 id run.1 none)
     ∙ step_kept start world event run.0 id run.1 (first_quiet start world event events run.0 id run.1 none)
 
 -- A SCRIPT IN TWO PARTS
-run_back : Laws → (start : Start) (prefix : List LineEvent) (event : LineEvent) (suffix : List LineEvent) (from before next last : World)
-    → Run start from (prefix ++ event ∷ suffix) last → Run start from prefix before → Step start before event next
-    → Run start next suffix last
-run_back laws start [] event suffix from before next last run led step =
-    subst (λ w. Run start w suffix last)
+leads_back : Laws → (start : Start) (prefix : List LineEvent) (event : LineEvent) (suffix : List LineEvent) (from before next last : World)
+    → LeadsTo start from (prefix ++ event ∷ suffix) last → LeadsTo start from prefix before → Step start before event next
+    → LeadsTo start next suffix last
+leads_back laws start [] event suffix from before next last run led step =
+    subst (λ w. LeadsTo start w suffix last)
     (step_one laws start from event run.0 next run.1 (subst (λ w. Step start w event next) led step)) run.2
-run_back laws start (e ∷ prefix) event suffix from before next last run led step =
-    run_back laws start prefix event suffix led.0 before next last
-    (subst (λ w. Run start w (prefix ++ event ∷ suffix) last) (step_one laws start from e run.0 led.0 run.1 led.1) run.2) led.2 step
+leads_back laws start (e ∷ prefix) event suffix from before next last run led step =
+    leads_back laws start prefix event suffix led.0 before next last
+    (subst (λ w. LeadsTo start w (prefix ++ event ∷ suffix) last) (step_one laws start from e run.0 led.0 run.1 led.1) run.2) led.2 step
 
 -- A RESET
 reset_marks : (start : Start) (world : World) (who : MasterId) (up down : Heard) (next : World) (step : IsTurn start world who up down next)
-    → effect_on (state_of start.device world) step.arrived ≡ Resets
+    → effect_on (state_of start.device world) step.brought ≡ Resets
     → (of_master who next.marks ≡ Some (length world.executions)) × (next.executions ≡ world.executions)
 reset_marks start world who up down next step resets =
     rw step.next_is (by_hand (of_master who world.hands) step.arrives)
@@ -162,14 +162,14 @@ reset_marks start world who up down next step resets =
     marked Resets Primary count number marks executions is = (refl, refl)
     marked Resets Secondary count number marks executions is = (refl, refl)
 
-    by_hand : (hand : Option InHand) → Reaches start.device.identity up (sent_by who hand) step.arrived
-        → (of_master who (turned start world who hand step.arrived step.accepted).marks ≡ Some (length world.executions))
-        × ((turned start world who hand step.arrived step.accepted).executions ≡ world.executions)
+    by_hand : (hand : Option InHand) → Reaches start.device.identity up (sent_by who hand) step.brought
+        → (of_master who (turned start world who hand step.brought step.accepted).marks ≡ Some (length world.executions))
+        × ((turned start world who hand step.brought step.accepted).executions ≡ world.executions)
     by_hand None arrives =
-        let none = none_reaches start.device.identity up step.arrived arrives in
-        let quiet : Nothing ≡ Resets = sym (no_effect (state_of start.device world) step.arrived none) ∙ resets in cc
+        let none = none_reaches start.device.identity up step.brought arrives in
+        let quiet : Nothing ≡ Resets = sym (no_effect (state_of start.device world) step.brought none) ∙ resets in cc
     by_hand (Some held) arrives =
-        marked (effect_on (state_of start.device world) step.arrived) who (length world.executions) held.submission world.marks
+        marked (effect_on (state_of start.device world) step.brought) who (length world.executions) held.submission world.marks
         world.executions resets
 
 changed_of : (initial : DeviceState) (world : World) (who : MasterId) (mark : ℕ) → of_master who world.marks ≡ Some mark
@@ -211,14 +211,15 @@ pub unseen : Laws → ResetLaw → (start : Start) (events : List LineEvent) (la
     × ((state_of start.device last).counter ≡ (state_of start.device before).counter)
     × ((state_of start.device last).contents ≡ (state_of start.device before).contents)
 unseen laws law start events last run who before given r clear =
-    let split_run = rw r.turn.split at run in
-    let back = run_back laws start r.turn.prefix _ r.turn.suffix (first_world start) before r.next last split_run r.turn.led r.turn.step in
-    let resets : effect_on (state_of start.device before) r.turn.step.arrived ≡ Resets =
-    ap (effect_on (state_of start.device before)) r.arrived ∙ r.resets in
+    let split_leads = rw r.turn.split at run in
+    let back = leads_back laws start r.turn.prefix _ r.turn.suffix (first_world start) before r.next last split_leads
+    r.turn.led r.turn.step in
+    let resets : effect_on (state_of start.device before) r.turn.step.brought ≡ Resets =
+    ap (effect_on (state_of start.device before)) r.brought ∙ r.resets in
     let here = reset_marks start before who r.up r.down r.next r.turn.step resets in
     let marked : of_master who last.marks ≡ Some (length before.executions) =
-    run_kept start r.turn.suffix r.next last who back r.last ∙ here.0 in
-    let grows = run_grows start r.turn.suffix r.next last back in
+    leads_kept start r.turn.suffix r.next last who back r.last ∙ here.0 in
+    let grows = leads_grows start r.turn.suffix r.next last back in
     let since : last.executions ≡ before.executions ++ grows.more = grows.is ∙ ap (λ xs. xs ++ grows.more) here.1 in
     let bit : nat_lt (length before.executions) (length last.executions) ≡ false =
     sym (changed_of start.device last who (length before.executions) marked) ∙ clear in
@@ -241,11 +242,11 @@ RefusedLaw = (state : DeviceState) (frame : FrameParts) → (code_of state frame
     → effect_of state frame ≡ Nothing
 
 -- A turn without an effect changes no more of the device than cold start bits.
-unmoved : (start : Start) (world : World) (who : MasterId) (held : InHand) (arrived : Brought) (accepted : Option Reply)
-    → effect_on (state_of start.device world) arrived ≡ Nothing
-    → state_of start.device (turned start world who (Some held) arrived accepted)
-    ≡ record (state_of start.device world) { cold_start = cold_start_after (state_of start.device world) who arrived }
-unmoved start world who held arrived accepted nothing = rw nothing refl
+unmoved : (start : Start) (world : World) (who : MasterId) (held : InHand) (brought : Brought) (accepted : Option Reply)
+    → effect_on (state_of start.device world) brought ≡ Nothing
+    → state_of start.device (turned start world who (Some held) brought accepted)
+    ≡ record (state_of start.device world) { cold_start = cold_start_after (state_of start.device world) who brought }
+unmoved start world who held brought accepted nothing = rw nothing refl
 
 -- A frame that arrives in a turn is the one that its master sent.
 frame_arrived : (identity : IdentityParts) (up : Heard) (who : MasterId) (hand : Option InHand) (frame : FrameParts)
@@ -265,17 +266,17 @@ pub refused_step : RefusedLaw → (start : Start) (events : List LineEvent) (bef
     → state_of start.device next ≡ after_refusal (state_of start.device before) r.frame
 refused_step law start events before next r =
     let state = state_of start.device before in
-    let nothing : effect_on state r.turn.step.arrived ≡ Nothing = ap (effect_on state) r.arrived ∙ law state r.frame r.refused in
-    let arrives = rw r.arrived at r.turn.step.arrives in
+    let nothing : effect_on state r.turn.step.brought ≡ Nothing = ap (effect_on state) r.brought ∙ law state r.frame r.refused in
+    let arrives = rw r.brought at r.turn.step.arrives in
     let sent = frame_arrived start.device.identity r.up r.who (of_master r.who before.hands) r.frame arrives in
-    let cold_start : cold_start_after state r.who r.turn.step.arrived
+    let cold_start : cold_start_after state r.who r.turn.step.brought
     ≡ (if is_answered state r.frame then with_master r.frame.master false state.cold_start else state.cold_start) =
-    ap (cold_start_after state r.who) r.arrived
+    ap (cold_start_after state r.who) r.brought
     ∙ ap (λ (who : MasterId). if is_answered state r.frame then with_master who false state.cold_start else state.cold_start)
     (sym sent.2) in
     ap (state_of start.device) (r.turn.step.next_is
-    ∙ ap (λ (hand : Option InHand). turned start before r.who hand r.turn.step.arrived r.turn.step.accepted) sent.1)
-    ∙ unmoved start before r.who sent.0 r.turn.step.arrived r.turn.step.accepted nothing
+    ∙ ap (λ (hand : Option InHand). turned start before r.who hand r.turn.step.brought r.turn.step.accepted) sent.1)
+    ∙ unmoved start before r.who sent.0 r.turn.step.brought r.turn.step.accepted nothing
     ∙ ap (λ (bits : EachMaster Bool). record state { cold_start = bits }) cold_start
 
 pub refused_last : Laws → ((start : Start) (events : List LineEvent) (before next : World)
@@ -284,7 +285,8 @@ pub refused_last : Laws → ((start : Start) (events : List LineEvent) (before n
     (r : IsRefusedByDevice start events before next) → r.turn.suffix ≡ []
     → state_of start.device last ≡ after_refusal (state_of start.device before) r.frame
 refused_last laws stays start events last run before next r end =
-    let split_run = rw r.turn.split at run in
-    let back = run_back laws start r.turn.prefix _ r.turn.suffix (first_world start) before next last split_run r.turn.led r.turn.step in
+    let split_leads = rw r.turn.split at run in
+    let back = leads_back laws start r.turn.prefix _ r.turn.suffix (first_world start) before next last split_leads
+    r.turn.led r.turn.step in
     let same : last ≡ next = rw end at back in
     ap (state_of start.device) same ∙ stays start events before next r

@@ -83,12 +83,12 @@ hand_left-number held left (Answered reply n) is = cc
 hand_left-number held left (NoReply n) is = cc
 hand_left-number held left (Refused fault) is = cc
 
-turned_sound : (start : Start) (world : World) (who : MasterId) (hand : Option InHand) (arrived : Brought)
+turned_sound : (start : Start) (world : World) (who : MasterId) (hand : Option InHand) (brought : Brought)
     (accepted : Option Reply)
-    → of_master who world.hands ≡ hand → IsSound world → IsSound (turned start world who hand arrived accepted)
-turned_sound start world who None arrived accepted in_hand s = record { marks = s.marks; within = s.within }
-turned_sound start world who (Some held) arrived accepted in_hand s =
-    let effect = effect_on (state_of start.device world) arrived in
+    → of_master who world.hands ≡ hand → IsSound world → IsSound (turned start world who hand brought accepted)
+turned_sound start world who None brought accepted in_hand s = record { marks = s.marks; within = s.within }
+turned_sound start world who (Some held) brought accepted in_hand s =
+    let effect = effect_on (state_of start.device world) brought in
     let outcome = outcome_of (of_master who start.retries) (held.sendings + 1) accepted in
     record {
       marks = marks_sound effect who held.submission world.executions world.marks s.marks;
@@ -104,7 +104,7 @@ sound_kept start = record {
   submissions = submitted_sound;
   turns = turned_sound start;
   switches = λ world on s. record { marks = s.marks; within = s.within };
-  replies = λ world arrived s. record { marks = s.marks; within = s.within };
+  replies = λ world brought s. record { marks = s.marks; within = s.within };
   restarts = λ world s. record { marks = s.marks; within = s.within };
 }
 

@@ -14,7 +14,7 @@ use Rattle.hart_commands.specs.declared.reply.Reply.{Reply}
 use Rattle.hart_commands.specs.declared.request.Request.{Request}
 use Rattle.hart_master.specs.declared.fault.MasterFault.{MasterFault}
 use Rattle.hart_line.specs.world.Promises.{AreWellMade, Submission, requests_of, submission_in, submissions_of}
-use Rattle.hart_line.specs.world.Step.{Run, Step, hand_left, outcome_of, submission_fault, submitted, turned}
+use Rattle.hart_line.specs.world.Step.{LeadsTo, Step, hand_left, outcome_of, submission_fault, submitted, turned}
 use Rattle.hart_line.specs.world.World.{InHand, Start, World, first_world}
 use Rattle.hart_line.specs.declared.event.LineEvent.{LineEvent}
 use Rattle.hart_line.specs.declared.event.LineEvent.TheVariants.{Submit, Turn, Protect, Noise, Restart}
@@ -83,12 +83,12 @@ hand_left-submission who held left (NoReply n) is = cc
 hand_left-submission who held left (Refused fault) is = cc
 
 turned_along : (submissions : List Submission) (start : Start) (world : World) (who : MasterId) (hand : Option InHand)
-    (arrived : Brought) (accepted : Option Reply) (events later : List LineEvent) → of_master who world.hands ≡ hand
+    (brought : Brought) (accepted : Option Reply) (events later : List LineEvent) → of_master who world.hands ≡ hand
     → submissions_of events ≡ submissions_of later → IsAlong submissions world events
-    → IsAlong submissions (turned start world who hand arrived accepted) later
-turned_along submissions start world who None arrived accepted events later in_hand same a =
+    → IsAlong submissions (turned start world who hand brought accepted) later
+turned_along submissions start world who None brought accepted events later in_hand same a =
     record { to_come = a.to_come ∙ same; hands = a.hands }
-turned_along submissions start world who (Some held) arrived accepted events later in_hand same a =
+turned_along submissions start world who (Some held) brought accepted events later in_hand same a =
     let outcome = outcome_of (of_master who start.retries) (held.sendings + 1) accepted in record {
       to_come = rw length-set (a.to_come ∙ same);
       hands = λ id other is. elim (with_master-cases id who (hand_left held outcome) world.hands other is) [
@@ -104,18 +104,18 @@ pub step_along : (submissions : List Submission) (start : Start) (world : World)
 step_along submissions start world (Submit who address request) later next step a =
     rw step (submitted_along submissions world who address request (submission_fault (of_master who world.hands) address request) later a)
 step_along submissions start world (Turn who up down) later next step a =
-    rw step.next_is (turned_along submissions start world who (of_master who world.hands) step.arrived step.accepted
+    rw step.next_is (turned_along submissions start world who (of_master who world.hands) step.brought step.accepted
     (Turn who up down ∷ later) later refl refl a)
 step_along submissions start world (Protect on) later next step a = rw step (record { to_come = a.to_come; hands = a.hands })
 step_along submissions start world Restart later next step a = rw step (record { to_come = a.to_come; hands = a.hands })
 step_along submissions start world (Noise chars) later next step a = rw step.next_is (record { to_come = a.to_come; hands = a.hands })
 
-run_along : (submissions : List Submission) (start : Start) (prefix later : List LineEvent) (from before : World)
-    → Run start from prefix before
+leads_along : (submissions : List Submission) (start : Start) (prefix later : List LineEvent) (from before : World)
+    → LeadsTo start from prefix before
     → IsAlong submissions from (prefix ++ later) → IsAlong submissions before later
-run_along submissions start [] later from before run a = rw run a
-run_along submissions start (event ∷ prefix) later from before run a =
-    run_along submissions start prefix later run.0 before run.2 (step_along submissions start from event (prefix ++ later) run.0 run.1 a)
+leads_along submissions start [] later from before run a = rw run a
+leads_along submissions start (event ∷ prefix) later from before run a =
+    leads_along submissions start prefix later run.0 before run.2 (step_along submissions start from event (prefix ++ later) run.0 run.1 a)
 
 pub first_along : (start : Start) (events : List LineEvent) → IsAlong (submissions_of events) (first_world start) events
 first_along start events = record { to_come = refl; hands = λ id held is. nothing_first id is }
@@ -123,11 +123,11 @@ first_along start events = record { to_come = refl; hands = λ id held is. nothi
 -- IN A SCRIPT
 -- In the worlds of a script each request in hand is the one that was submitted under its number, to its master and for its address.
 pub submitted_as : (start : Start) (events prefix : List LineEvent) (event : LineEvent) (suffix : List LineEvent) (before : World)
-    → events ≡ prefix ++ event ∷ suffix → Run start (first_world start) prefix before
+    → events ≡ prefix ++ event ∷ suffix → LeadsTo start (first_world start) prefix before
     → (id : MasterId) (held : InHand) → of_master id before.hands ≡ Some held
     → slice_get (submissions_of events) held.submission ≡ Some (submission_in id held)
 submitted_as start events prefix event suffix before split led =
-    (run_along (submissions_of events) start prefix (event ∷ suffix) (first_world start) before led
+    (leads_along (submissions_of events) start prefix (event ∷ suffix) (first_world start) before led
     (subst (IsAlong (submissions_of events) (first_world start)) split (first_along start events))).hands
 
 -- The request of a submission stands at its number among the requests.

@@ -20,7 +20,7 @@ use Rattle.hart_device.specs.Device.{DeviceState, Effect, Nothing, Executes, Res
 use Rattle.hart_device.specs.declared.process.Process.{Process}
 use Rattle.hart_line.specs.world.Damage.{Reaches}
 use Rattle.hart_line.specs.world.Promises.{AnswersLastSending, AreWellMade, IsExecutedFromHand, IsExecutedInItsTurn, IsStepOf}
-use Rattle.hart_line.specs.world.Promises.{IsUnrefusedWrite, arrived_in_step, requests_of}
+use Rattle.hart_line.specs.world.Promises.{IsUnrefusedWrite, brought_in_step, requests_of}
 use Rattle.hart_line.specs.world.Step.{IsTurn, Step, effect_on, executions_after, spoken_request, sent_by, submission_fault, submitted}
 use Rattle.hart_line.specs.world.Step.{turned}
 use Rattle.hart_line.specs.world.World.{Execution, InHand, Start, World, first_world, state_of}
@@ -86,12 +86,12 @@ named_by request None is none = cc
 named_by request (Some overwrite) is there = record { overwrite = overwrite; is = is }
 
 -- A write that is not refused and arrives in a turn is the frame that was sent.
-record IsSentWrite (state : DeviceState) (sent : FrameParts) (arrived : Brought) : Type 0 where
-  pub arrived_is : arrived ≡ OneFrame sent
+record IsSentWrite (state : DeviceState) (sent : FrameParts) (brought : Brought) : Type 0 where
+  pub arrived_is : brought ≡ OneFrame sent
   pub write : IsUnrefusedWrite state (OneFrame sent)
 
-sent_write : (state : DeviceState) (sent : FrameParts) (arrived : Brought) → (frame_in arrived ≡ None) ⊎ (frame_in arrived ≡ Some sent)
-    → IsUnrefusedWrite state arrived → IsSentWrite state sent arrived
+sent_write : (state : DeviceState) (sent : FrameParts) (brought : Brought) → (frame_in brought ≡ None) ⊎ (frame_in brought ≡ Some sent)
+    → IsUnrefusedWrite state brought → IsSentWrite state sent brought
 sent_write state sent NoMessage known write = absurd write
 sent_write state sent (Garbled request) known write = absurd write
 sent_write state sent (OneFrame frame) (inl none) write = cc
@@ -105,15 +105,15 @@ pub record IsExecuted (number : ℕ) (request : Request) (before next : World) :
   pub overwrites : overwrite_of request ≡ Some overwrite
   pub executed : next.executions ≡ before.executions ++ record { submission = number; overwrite = overwrite } ∷ []
 
-turned_executes : WriteLaws → (start : Start) (before : World) (who : MasterId) (held : InHand) (arrived : Brought)
+turned_executes : WriteLaws → (start : Start) (before : World) (who : MasterId) (held : InHand) (brought : Brought)
     (accepted : Option Reply) → IsRequest held.request
-    → (frame_in arrived ≡ None) ⊎ (frame_in arrived ≡ Some (spoken_request who held).frame)
-    → IsUnrefusedWrite (state_of start.device before) arrived
-    → IsExecuted held.submission held.request before (turned start before who (Some held) arrived accepted)
-turned_executes laws start before who held arrived accepted made known write =
+    → (frame_in brought ≡ None) ⊎ (frame_in brought ≡ Some (spoken_request who held).frame)
+    → IsUnrefusedWrite (state_of start.device before) brought
+    → IsExecuted held.submission held.request before (turned start before who (Some held) brought accepted)
+turned_executes laws start before who held brought accepted made known write =
     let state = state_of start.device before in
     let frame = (spoken_request who held).frame in
-    let sent = sent_write state frame arrived known write in
+    let sent = sent_write state frame brought known write in
     let named = named_by held.request _ refl ((laws.overwritten held.request).0 sent.write.0) in
     let executes : effect_of state frame ≡ Executes named.overwrite =
     laws.executes state frame held.request named.overwrite sent.write.1 sent.write.2 (laws.reads held.request made) named.is in
@@ -125,27 +125,27 @@ turned_executes laws start before who held arrived accepted made known write =
 
 turn_executes : WriteLaws → (start : Start) (before : World) (who : MasterId) (up down : Heard) (next : World)
     (t : IsTurn start before who up down next) (held : InHand) → of_master who before.hands ≡ Some held → IsRequest held.request
-    → IsUnrefusedWrite (state_of start.device before) t.arrived → IsExecuted held.submission held.request before next
+    → IsUnrefusedWrite (state_of start.device before) t.brought → IsExecuted held.submission held.request before next
 turn_executes laws start before who up down next t held in_hand made write =
-    rw (t.next_is, in_hand) (turned_executes laws start before who held t.arrived t.accepted made
-    (reaches_cases start.device.identity up (Some (spoken_request who held)) t.arrived (rw in_hand at t.arrives)) write)
+    rw (t.next_is, in_hand) (turned_executes laws start before who held t.brought t.accepted made
+    (reaches_cases start.device.identity up (Some (spoken_request who held)) t.brought (rw in_hand at t.arrives)) write)
 
 pub turn_executed : WriteLaws → (start : Start) (events : List LineEvent) → AreWellMade events → (who : MasterId) (up down : Heard)
     (before next : World) (t : IsStepOf start (first_world start) events before (Turn who up down) next)
-    → IsUnrefusedWrite (state_of start.device before) t.step.arrived → IsExecutedFromHand start events who before next
+    → IsUnrefusedWrite (state_of start.device before) t.step.brought → IsExecutedFromHand start events who before next
 turn_executed laws start events made who up down before next t write =
     by_hand (of_master who before.hands) refl t.step.arrives
   where
-    unsent : (arrived : Brought) → frame_in arrived ≡ None → IsUnrefusedWrite (state_of start.device before) arrived → ⊥
+    unsent : (brought : Brought) → frame_in brought ≡ None → IsUnrefusedWrite (state_of start.device before) brought → ⊥
     unsent (OneFrame frame) none write = cc
     unsent (Garbled request) none write = write
     unsent NoMessage none write = write
 
     by_hand : (hand : Option InHand) → of_master who before.hands ≡ hand
-        → Reaches start.device.identity up (sent_by who hand) t.step.arrived
+        → Reaches start.device.identity up (sent_by who hand) t.step.brought
         → IsExecutedFromHand start events who before next
     by_hand None in_hand arrives =
-        absurd (unsent t.step.arrived (none_reaches start.device.identity up t.step.arrived arrives) write)
+        absurd (unsent t.step.brought (none_reaches start.device.identity up t.step.brought arrives) write)
     by_hand (Some held) in_hand arrives =
         let there = submitted_as start events t.prefix _ t.suffix before t.split t.led who held in_hand in
         let e = turn_executes laws start before who up down next t.step held in_hand
@@ -174,7 +174,7 @@ answered_executed laws start events made number request reply sendings a submitt
     let same : t.held.request ≡ request = some_one (sym there ∙ submitted) in
     let unrefused : IsUnrefusedWrite state (OneFrame frame) = (rw (← same) at write, coded.0, code) in
     let e = turn_executes laws start t.before t.who t.up t.down t.next t.turn.step t.held t.in_hand
-    (made_of events number t.held.request made there) (subst (IsUnrefusedWrite state) (sym t.arrived) unrefused) in record {
+    (made_of events number t.held.request made there) (subst (IsUnrefusedWrite state) (sym t.brought) unrefused) in record {
       answered = a;
       overwrite = e.overwrite;
       overwrites = ap overwrite_of (sym same) ∙ e.overwrites;
@@ -193,14 +193,14 @@ frame_stays laws state frame number executions (Executes overwrite) is other =
     let command = (laws.command frame.command frame.payload asked.2 asked.3).0 in
     absurd (other (rw command at ((laws.overwritten asked.2).1 named), asked.0, asked.1))
 
-arrived_stays : WriteLaws → (state : DeviceState) (arrived : Brought) (number : ℕ) (executions : List Execution)
-    → (IsUnrefusedWrite state arrived → ⊥) → executions_after (effect_on state arrived) number executions ≡ executions
+arrived_stays : WriteLaws → (state : DeviceState) (brought : Brought) (number : ℕ) (executions : List Execution)
+    → (IsUnrefusedWrite state brought → ⊥) → executions_after (effect_on state brought) number executions ≡ executions
 arrived_stays laws state NoMessage number executions other = refl
 arrived_stays laws state (Garbled request) number executions other = refl
 arrived_stays laws state (OneFrame frame) number executions other = frame_stays laws state frame number executions _ refl other
 
 pub step_stays : WriteLaws → (start : Start) (before : World) (event : LineEvent) (next : World) (step : Step start before event next)
-    → (IsUnrefusedWrite (state_of start.device before) (arrived_in_step start before event next step) → ⊥)
+    → (IsUnrefusedWrite (state_of start.device before) (brought_in_step start before event next step) → ⊥)
     → next.executions ≡ before.executions
 step_stays laws start before (Submit who address request) next step other =
     ap (λ (w : World). w.executions) step ∙ by_fault (submission_fault (of_master who before.hands) address request)
@@ -211,9 +211,9 @@ step_stays laws start before (Submit who address request) next step other =
 step_stays laws start before (Turn who up down) next step other =
     ap (λ (w : World). w.executions) step.next_is ∙ by_hand (of_master who before.hands)
   where
-    by_hand : (hand : Option InHand) → (turned start before who hand step.arrived step.accepted).executions ≡ before.executions
+    by_hand : (hand : Option InHand) → (turned start before who hand step.brought step.accepted).executions ≡ before.executions
     by_hand None = refl
-    by_hand (Some held) = arrived_stays laws (state_of start.device before) step.arrived held.submission before.executions other
+    by_hand (Some held) = arrived_stays laws (state_of start.device before) step.brought held.submission before.executions other
 step_stays laws start before (Protect on) next step other = ap (λ (w : World). w.executions) step
 step_stays laws start before Restart next step other = ap (λ (w : World). w.executions) step
 step_stays laws start before (Noise chars) next step other = ap (λ (w : World). w.executions) step.next_is

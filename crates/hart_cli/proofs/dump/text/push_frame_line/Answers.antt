@@ -9,8 +9,8 @@ returns g c =
     let all = nine_words c.args.lines.now _ _ _ _ _ _ _ _ (decimal c.args.found.now.start) (decimal c.args.found.now.stop)
     (kind_word c.kind.result) (master_word c.master.result) (burst_word c.burst.result) (address_word c.address.result)
     (bytes_word c.expansion.result.now) c.format.result.now (bytes_word c.payload.result.now)
-    c.push_places.ensures.words c.push_head.ensures.words c.push_address.ensures.word c.push_bytes.ensures.word c.push.ensures
-    c.push_word.ensures.word c.push_bytes-2.ensures.word c.push-2.ensures in
+    c.push_places.ensures.words c.push_head.ensures.words c.push_address.ensures.word c.push_hex_word.ensures.word c.push.ensures
+    c.push_word.ensures.word c.push_hex_word-2.ensures.word c.push-2.ensures in
     let command = c.format.ensures.text ∙ ap decimal c.command.ensures in
     rw (
       c.kind.ensures,
@@ -25,8 +25,8 @@ returns g c =
 pub push_word-requires : goal.push_word-requires
 push_word-requires g c = (search rules, omega (arith, simp length-append at (ap length c.push.ensures)))
 
-pub push_bytes-requires-2 : goal.push_bytes-requires-2
-push_bytes-requires-2 g c = (search rules, omega (arith, simp length-append at (ap length c.push.ensures)))
+pub push_hex_word-requires-2 : goal.push_hex_word-requires-2
+push_hex_word-requires-2 g c = (search rules, omega (arith, simp length-append at (ap length c.push.ensures)))
 
 pub push-requires-2 : goal.push-requires-2
 push-requires-2 g c = (search rules, omega (arith, simp length-append at (ap length c.push.ensures)))

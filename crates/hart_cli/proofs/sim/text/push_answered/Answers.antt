@@ -9,8 +9,8 @@ pub returns-clause-words : goal.returns-clause-words
 returns-clause-words c =
     let payload = c.as_slice.result.now in
     let rest = take_all _ (drop 2 payload) (omega (arith, length-drop 2 payload)) in
-    let last : c.push_bytes.new.line ≡ c.push-2.new.self ++ bytes_word (drop 2 payload) =
-    c.push_bytes.ensures.word ∙ ap (λ (bytes : List ℕ). c.push-2.new.self ++ bytes_word bytes) rest in
+    let last : c.push_hex_word.new.line ≡ c.push-2.new.self ++ bytes_word (drop 2 payload) =
+    c.push_hex_word.ensures.word ∙ ap (λ (bytes : List ℕ). c.push-2.new.self ++ bytes_word bytes) rest in
     let all = five_words c.args.line.now _ _ _ _ _ _ _ (codes "answered") c.format.result.now (encode_upper (c.value.result ∷ []))
     (encode_upper (c.args.reply.now.status.0 ∷ [])) (bytes_word (drop 2 payload)) c.push_word.ensures.word
     c.push_word-2.ensures.word c.push_hex.ensures.hex c.push.ensures c.push_hex-2.ensures.hex c.push-2.ensures last in
@@ -19,8 +19,8 @@ returns-clause-words c =
 pub push_hex-requires-2 : goal.push_hex-requires-2
 push_hex-requires-2 c = (omega arith, omega (arith, simp length-append at (ap length c.push.ensures)))
 
-pub push_bytes-requires : goal.push_bytes-requires
-push_bytes-requires c =
+pub push_hex_word-requires : goal.push_hex_word-requires
+push_hex_word-requires c =
     let payload = c.as_slice.result.now in (
       omega arith,
       omega (

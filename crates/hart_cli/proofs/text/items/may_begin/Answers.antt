@@ -5,7 +5,7 @@ use Rattle.hart_frame.specs.heard.Character.{AreFaultBits, IsFaultBit}
 use Rattle.hart_line.specs.script.Items.{AreDigits, byte_of, Faulty, hex_value, Plain}
 use Rattle.hart_cli.specs.text.Items.{BeginsAs, BeginsWith, Item, MayBegin, NoPieceBegins, Piece}
 use Rattle.hart_cli.specs.text.Items.{Separator, spelling}
-use Rattle.hart_cli.specs.declared.text.items.Lead.{Lead}
+use Rattle.hart_cli.specs.declared.text.items.LeadingPiece.{LeadingPiece}
 use Rattle.hex.specs.Hex.{is_hex_digit}
 use Rattle.hart_cli.proofs.text.items.may_begin.Goals as goal
 
@@ -142,7 +142,7 @@ short text n may =
     omega arith
 
 -- a piece was found if and only if one may begin
-found_if : (text text' : List ℕ) (found : Option Lead) (result : Bool) → result ≡ is_some found → text' ≡ text → NoPieceBegins text
+found_if : (text text' : List ℕ) (found : Option LeadingPiece) (result : Bool) → result ≡ is_some found → text' ≡ text → NoPieceBegins text
     → MatchOption found (NoPieceBegins (text' ++ filling text)) (λ lead. BeginsAs (text' ++ filling text) lead.char lead.len)
     → (IsTrue result → MayBegin text) × (MayBegin text → IsTrue result)
 found_if text text' None result e f n h = (

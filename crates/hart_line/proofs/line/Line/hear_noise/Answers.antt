@@ -18,7 +18,7 @@ returns-clause-stepped g c = λ start world process stands.
     let held = c.overhear.ensures start.retries world.hands (c.hear_noise.ensures start.retries world.hands s.masters_are) in
     record {
       next = replied start world a.brought;
-      step = record { arrived = a.brought; arrives = reaches; next_is = refl };
+      step = record { brought = a.brought; arrives = reaches; next_is = refl };
       stands = replied_stands start world (Chars chars) a.brought _ _ _ _ _ _ _ a.answers.after_is reaches held s.outcomes_are
           s.spoken_are speaks;
     }

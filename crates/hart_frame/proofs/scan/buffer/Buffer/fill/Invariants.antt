@@ -10,6 +10,6 @@ invariant-loop-byte l = record {
   sound : IsSound l.self;
   drained : IsTrue l.self.drained;
   counted : l.count ≡ l.byte-index;
-  heard : scan_of l.self ≡ record (hearing (scan_of l.fn.self) (faultless (take l.byte-index l.run))) { drained = true };
-  before : (count : ℕ) → count < l.byte-index → IsUndecided ((scan_of l.fn.self).held ++ faultless (take count l.run));
+  heard : scan_of l.self ≡ record (hearing (scan_of l.fn.self) (faultless (take l.byte-index l.chunk))) { drained = true };
+  before : (count : ℕ) → count < l.byte-index → IsUndecided ((scan_of l.fn.self).held ++ faultless (take count l.chunk));
 }

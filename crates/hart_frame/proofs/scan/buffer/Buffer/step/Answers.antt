@@ -20,12 +20,12 @@ pub returns-in-Open-clause-step : goal.returns-in-Open-clause-step
 returns-in-Open-clause-step c =
     let b = c.args.self.now in
     let going = not_ended b (λ is. false≢true (sym c.if-not-is_ended.true ∙ c.is_ended.ensures.1 is)) in
-    waits b c.in-Open.count (scan_of c.wait.new.self) going.0 going.1 c.in-Open.ensures.verdict c.wait.ensures.waits
+    waits b c.in-Open.count (scan_of c.wait.new.self) going.0 going.1 c.in-Open.ensures.candidate c.wait.ensures.waits
 
 pub returns-in-Whole-clause-step : goal.returns-in-Whole-clause-step
 returns-in-Whole-clause-step c = (
   refl,
-  record { verdict = c.in-Whole.ensures.verdict; even = c.is_even.ensures.even.0 c.if-is_even.true; fits = c.is_even.ensures.fits },
+  record { candidate = c.in-Whole.ensures.candidate; even = c.is_even.ensures.even.0 c.if-is_even.true; fits = c.is_even.ensures.fits },
 )
 
 pub returns-in_default-clause-step : goal.returns-in_default-clause-step
@@ -34,9 +34,9 @@ returns-in_default-clause-step c =
     drops b c.drop_first.new.self c.drop_first.ensures.dropped (elim c.in_default.branch [
       | in_default-via-in-Open+else-not-is_ended w ↦
           moves_ended b w.in-Open.count c.requires.sound c.requires.some (w.is_ended.ensures.0 w.if-not-is_ended.false)
-          w.in-Open.ensures.verdict
+          w.in-Open.ensures.candidate
       | in_default-via-in-Whole+else-is_even w ↦
-          moves_odd b w.in-Whole.layout c.requires.sound c.requires.some w.in-Whole.ensures.verdict
+          moves_odd b w.in-Whole.layout c.requires.sound c.requires.some w.in-Whole.ensures.candidate
           (λ even. false≢true (sym w.if-is_even.false ∙ w.is_even.ensures.even.1 even))
-      | in_default-via-in_default w ↦ moves_never b c.requires.sound c.requires.some w.in_default.ensures.verdict
+      | in_default-via-in_default w ↦ moves_never b c.requires.sound c.requires.some w.in_default.ensures.candidate
     ])

@@ -8,19 +8,19 @@ use Rattle.hart_frame.proofs.scan.scanner.Scanner.take.Goals as goal
 pub returns : goal.returns
 returns c =
     let view = c.found.result in
-    let spot = c.in_ok-spot.spot in
+    let span = c.in_ok-span.span in
     let frame = parts_of view.frame in
-    let gives = c.in_ok-spot.ensures.given.given frame c.found.ensures.frame in
+    let gives = c.in_ok-span.ensures.given.given frame c.found.ensures.frame in
     let of : ℕ → ℕ → Found = λ start stop. record { start = start; stop = stop; frame = frame } in
-    let same : of spot.start spot.stop ≡ of view.start view.stop =
-    ap (λ (n : ℕ). of n spot.stop) (sym c.found.ensures.start) ∙ ap (λ (n : ℕ). of view.start n) (sym c.found.ensures.stop) in
+    let same : of span.start span.stop ≡ of view.start view.stop =
+    ap (λ (n : ℕ). of n span.stop) (sym c.found.ensures.start) ∙ ap (λ (n : ℕ). of view.start n) (sym c.found.ensures.stop) in
     let Of : Found → Type 0 = λ found. Gives (scan_of c.self.inside.buffer) (scan_of c.next.new.self) found in
     let Old : Scan → Type 0 = λ old. Gives old (scan_of c.next.new.self) (found_of view) in
     ((refl, (λ _. tt), subst Old c.self.view_is (subst Of same gives)), record { after = tt })
 
-pub returns-in_err-spot : goal.returns-in_err-spot
-returns-in_err-spot c =
+pub returns-in_err-span : goal.returns-in_err-span
+returns-in_err-span c =
     let Old : Scan → Type 0 = λ old. GivesNothing old (scan_of c.next.new.self) in
-    let nothing = subst Old c.self.view_is c.in_err-spot.ensures.given in
+    let nothing = subst Old c.self.view_is c.in_err-span.ensures.given in
     let is : c.from_residual.result ≡ None = search rules in
     ((refl, (λ _. tt), rw is nothing), record { after = tt })

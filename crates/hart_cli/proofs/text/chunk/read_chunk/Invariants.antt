@@ -1,0 +1,14 @@
+use Rattle.std.proofs.Common.{◌≤◌, ◌-◌, length, drop}
+use Rattle.hart_frame.specs.heard.Character.{faultless}
+use Rattle.hart_cli.specs.text.Items.{ReadsUpTo}
+use Rattle.hart_cli.proofs.text.chunk.read_chunk.Given as goal
+
+abbrev pub invariant-loop-len : goal.invariant-loop-len
+invariant-loop-len l = record {
+  within : l.place ≤ length l.text;
+  reads : ReadsUpTo l.text (faultless l.chunk) (drop l.place l.text);
+  few : length l.chunk ≤ l.place;
+}
+
+abbrev pub decreases-loop-len : goal.decreases-loop-len
+decreases-loop-len l = length l.text - l.place

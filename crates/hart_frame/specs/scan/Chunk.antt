@@ -1,0 +1,16 @@
+-- What a scanner promises of a chunk of faultless bytes that it hears at once (own profile).
+use Rattle.std.specs.Prelude.{◌≡◌, ℕ, true, false, ◌⊎◌}
+use Rattle.hart_frame.specs.heard.Frames.{IsUndecided}
+use Rattle.hart_frame.specs.heard.Place.{StandsIn}
+use Rattle.hart_frame.specs.scan.Scanner.{Scan}
+use Rattle.hart_frame.specs.declared.heard.found.Found.{Found}
+
+-- A scanner holds a frame if what it holds begins with two preamble bytes and the frame's body.
+abbrev pub HoldsFrame : Scan → Type 0
+HoldsFrame scan = (found : Found) × StandsIn found scan.held 0 × (found.start ≡ 2)
+
+-- A scanner stops after so many bytes of a chunk if they are all of it and nothing is decided in what it then holds; or if that
+-- begins with a frame.
+abbrev pub StopsAt : Scan → ℕ → ℕ → Type 0
+StopsAt scan count all =
+    ((scan.drained ≡ true) × IsUndecided scan.held × (count ≡ all)) ⊎ ((scan.drained ≡ false) × HoldsFrame scan)
