@@ -4,7 +4,7 @@ ghost use Rattle.hart_device.specs.Identity.{AreIdentityParts, AreInRange, IsIde
 
 use crate::{DeviceFault, IdentityParts};
 use hart_commands::IdentityContent;
-use hart_frame::{LEAST_PREAMBLES, MOST_PREAMBLES};
+use hart_frame::is_preamble_count;
 use hart_values::{Address, UniqueAddress};
 use std::marker::Model;
 
@@ -111,13 +111,6 @@ fn address_of(parts: &IdentityParts) -> UniqueAddress
     ensures { result ≡ own_numbers parts.now }
 {
     UniqueAddress::new(parts.expanded_device_type, parts.device_id).unwrap()
-}
-
-/// Whether a sender may put this number of preamble bytes.
-fn is_preamble_count(count: u8) -> bool
-    ensures { IsTrue result ↔ IsPreambleCount count }
-{
-    (LEAST_PREAMBLES..=MOST_PREAMBLES).contains(&count)
 }
 
 /// The three bytes of a number of 24 bits, the most significant first.

@@ -2,10 +2,9 @@
 ghost use Rattle.std.specs.Prelude.{◌≡◌, ◌<◌, ◌^◌, ◌↔◌, ◌⊎◌, [], ◌∷◌, ◌++◌, false, IsOk, IfOk, IfErr, IfSome, IfNone, length, slice_index};
 ghost use Rattle.hart_commands.specs.Registers.{AreValid};
 ghost use Rattle.hart_device.specs.Identity.{two_bytes};
-ghost use Rattle.hart_device.specs.registers.Ranges.{contents_in};
+ghost use Rattle.hart_device.specs.registers.Ranges.{HoldsInvalid, contents_in};
 ghost use Rattle.hart_device.specs.registers.Values.{values_of};
-ghost use Rattle.hart_device.specs.image.Image.{HasBadRegister, IsImage, IsImageOf, IsImageFault, flags_of, image_of};
-ghost use Rattle.hart_device.specs.image.Image.{registers_of_version_1};
+ghost use Rattle.hart_device.specs.image.Image.{IsImage, IsImageOf, IsImageFault, flags_of, image_of};
 ghost use Rattle.hart_device.specs.Device.{for_both};
 ghost use Rattle.hart_device.specs.image.ImageParts.{state_with};
 ghost use Rattle.hart_device.specs.declared.identity_parts.IdentityParts.{IdentityParts};
@@ -154,7 +153,7 @@ fn read_parts(registers: &ImageRegisters, ending: &[u8]) -> Option<ImageParts>
     ensures valid { IfSome result (λ parts. AreValid (values_of parts.values) × (parts.counter < 2 ^ 16)) }
     ensures ending { IfSome result (λ parts.
         two_bytes parts.counter ++ flags_of parts.flags.changed parts.flags.protected ∷ [] ≡ ending.now) }
-    ensures refused { IfNone result (HasBadRegister registers_of_version_1 «registers».now.bytes ⊎ (7 < slice_index ending.now 2)) }
+    ensures refused { IfNone result (HoldsInvalid «registers».now.bytes ⊎ (7 < slice_index ending.now 2)) }
 {
     let values = registers.values()?;
     // No-op: its contract says that the values are valid.

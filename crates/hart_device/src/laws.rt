@@ -146,7 +146,7 @@ pub fn images_have_no_fault()
         → IsImageOf state image → IsImageFault image fault → ⊥ }
 {}
 
-/// Bytes that are no image have one fault.
+/// Bytes have one image fault at most.
 pub fn bytes_have_one_image_fault()
     ensures { (image : List ℕ) (fault other : DeviceFault)
         → IsImageFault image fault → IsImageFault image other → fault ≡ other }

@@ -19,7 +19,7 @@ mod scan;
 mod wire;
 
 pub use hart_values::Payload;
-pub use heard::character::Char;
+pub use heard::character::{Char, are_faultless};
 pub use heard::damage::{damage_by_example, damaged_messages_have_no_other_frame};
 pub use heard::delivery::{LoneFrame, lone_frame};
 pub use heard::first::first_frame;
@@ -36,10 +36,11 @@ pub use scan::streamed::{
 };
 pub use scan::view::{FoundView, FrameView};
 pub use wire::body::{Body, decode};
+pub use wire::delimiter::{UNIQUE_COMMAND_PLACE, UNIQUE_REQUEST};
 pub use wire::fault::FrameFault;
 pub use wire::frame::{Expansion, Frame};
 pub use wire::kind::FrameKind;
-pub use wire::message::{LEAST_PREAMBLES, MOST_PREAMBLES, Message, encode};
+pub use wire::message::{LEAST_PREAMBLES, MOST_PREAMBLES, Message, encode, is_preamble_count};
 pub use wire::parity::check_byte;
 
 #[cfg(test)]

@@ -1,7 +1,7 @@
 -- Where each register stands in one array of them all (own profile).
-use Rattle.std.specs.Prelude.{ℕ, ◌+◌, List, slice_range}
+use Rattle.std.specs.Prelude.{◌≢◌, ℕ, ◌+◌, List, slice_range}
 use Rattle.std.specs.List.{sum_by}
-use Rattle.hart_commands.specs.Registers.{Contents, contents_by, registers, size_of}
+use Rattle.hart_commands.specs.Registers.{Contents, IsValidIn, contents_by, registers, size_of}
 use Rattle.hart_commands.specs.declared.register.Register.{Register}
 use Rattle.hart_commands.specs.declared.register.Register.TheVariants.{Polling, Mode, Message, Tag, Descriptor, Date, Assembly, LongTag}
 
@@ -27,6 +27,10 @@ standing_for register array = slice_range array (start_of register) (end_of regi
 -- The contents that an array has.
 abbrev pub contents_in : List ℕ → Contents
 contents_in array = contents_by (λ register. standing_for register array)
+
+-- In an array some register but the long tag, which takes any bytes, would hold bytes that are not valid in it.
+abbrev pub HoldsInvalid : List ℕ → Type 0
+HoldsInvalid array = (register : Register) × (register ≢ LongTag) × ¬ IsValidIn register (standing_for register array)
 
 -- The array has as many bytes as all registers together.
 abbrev pub array_length : ℕ

@@ -1,5 +1,5 @@
 //! Requests that a device heard with faults.
-ghost use Rattle.std.specs.Prelude.{◌≡◌, ◌↔◌, ◌++◌, ℕ, List, All, length, slice_get, Some, IsTrue, IfSome, MatchOption};
+ghost use Rattle.std.specs.Prelude.{◌≡◌, ◌↔◌, ◌++◌, ℕ, List, length, slice_get, Some, IsTrue, IfSome, MatchOption};
 ghost use Rattle.std.specs.Option.{option_map};
 ghost use Rattle.hart_values.specs.declared.address.Address.TheVariants.{Unique};
 ghost use Rattle.hart_values.specs.declared.master_id.MasterId.{MasterId};
@@ -9,14 +9,11 @@ ghost use Rattle.hart_device.specs.Identity.{own_numbers};
 ghost use Rattle.hart_device.specs.declared.answer.garbled.GarbledRequest.{GarbledRequest};
 
 use crate::Identity;
-use hart_frame::{Char, Frame, Payload, first_start, first_starts_are_decided};
+use hart_frame::{
+    Char, Frame, Payload, UNIQUE_COMMAND_PLACE, UNIQUE_REQUEST, are_faultless, first_start,
+    first_starts_are_decided,
+};
 use hart_values::{Address, CommFaults, MasterId, Status, address_bytes_are_unambiguous};
-
-/// The delimiter of a request at a unique address, without expansion bytes.
-const REQUEST: u8 = 0x82;
-
-/// The place of the command, counted from the delimiter: an address of five bytes stands between.
-const COMMAND_PLACE: usize = 6;
 
 /// The communication faults that fault bits of characters say.
 const CHARACTER_FAULTS: u8 = CommFaults::VERTICAL_PARITY
@@ -68,9 +65,9 @@ fn garbled_at(identity: &Identity, chars: &[Char]) -> Option<GarbledRequest>
     // No-op: by this law the garbled request that is found is the only one.
     address_bytes_are_unambiguous();
     let master = asking_master(identity, chars)?;
-    let command = byte_at(chars, COMMAND_PLACE)?;
-    let byte_count = byte_at(chars, COMMAND_PLACE + 1)?;
-    let garbled = chars.get(..COMMAND_PLACE + 3 + usize::from(byte_count))?;
+    let command = byte_at(chars, UNIQUE_COMMAND_PLACE)?;
+    let byte_count = byte_at(chars, UNIQUE_COMMAND_PLACE + 1)?;
+    let garbled = chars.get(..UNIQUE_COMMAND_PLACE + 3 + usize::from(byte_count))?;
     Some(GarbledRequest {
         master,
         command,
@@ -92,7 +89,7 @@ fn asking_master(identity: &Identity, chars: &[Char]) -> Option<MasterId>
 {
     let head = faultless_head(chars)?;
     let (master, _burst, address) = Address::read(&head[1..])?;
-    if head[0] != REQUEST || !is_own(identity, address) {
+    if head[0] != UNIQUE_REQUEST || !is_own(identity, address) {
         return None;
     }
     Some(master)
@@ -109,13 +106,13 @@ fn is_own(identity: &Identity, address: Address) -> bool
 }
 
 /// The bytes of the first characters, as far as an address goes, or `None` if one of them has a fault or is not there.
-fn faultless_head(chars: &[Char]) -> Option<[u8; COMMAND_PLACE]>
+fn faultless_head(chars: &[Char]) -> Option<[u8; UNIQUE_COMMAND_PLACE]>
     ensures six { IfSome result (λ bytes. length bytes ≡ 6) }
     ensures found { IfSome result (λ bytes. (rest : List Character) × (chars.now ≡ faultless bytes ++ rest)) }
     ensures known { (bytes : List ℕ) (rest : List Character) → length bytes ≡ 6 → chars.now ≡ faultless bytes ++ rest
         → result ≡ Some bytes }
 {
-    let head = chars.get(..COMMAND_PLACE)?;
+    let head = chars.get(..UNIQUE_COMMAND_PLACE)?;
     if !are_faultless(head) {
         return None;
     }
@@ -127,13 +124,6 @@ fn faultless_head(chars: &[Char]) -> Option<[u8; COMMAND_PLACE]>
         head[4].byte(),
         head[5].byte(),
     ])
-}
-
-/// Whether no character has a fault.
-fn are_faultless(chars: &[Char]) -> bool
-    ensures { IsTrue result ↔ All (λ character. character.faults ≡ 0) chars.now }
-{
-    chars.iter().all(|character| character.is_faultless())
 }
 
 /// The communication faults of the characters.

@@ -3,8 +3,8 @@ ghost use Rattle.hart_commands.specs.Registers.{IsValidIn, size_of};
 ghost use Rattle.hart_commands.specs.RequestData.{mode_byte};
 ghost use Rattle.hart_commands.specs.declared.register.Register.{Register};
 ghost use Rattle.hart_commands.specs.declared.register.Register.TheVariants.{Polling, Mode, Tag, LongTag};
-ghost use Rattle.hart_device.specs.image.Image.{HasBadRegister, IsLongTagOf, registers_of_version_1};
-ghost use Rattle.hart_device.specs.registers.Ranges.{contents_in, standing_for};
+ghost use Rattle.hart_device.specs.image.Image.{IsLongTagOf};
+ghost use Rattle.hart_device.specs.registers.Ranges.{HoldsInvalid, contents_in, standing_for};
 ghost use Rattle.hart_device.specs.registers.Values.{values_of};
 
 use crate::registers::bytes_of;
@@ -55,7 +55,7 @@ impl ImageRegisters {
     /// bytes are valid.
     pub(crate) fn values(&self) -> Option<RegisterValues>
         ensures kept { IfSome result (λ values. values_of values ≡ contents_in self.now.bytes) }
-        ensures refused { IfNone result (HasBadRegister registers_of_version_1 self.now.bytes) }
+        ensures refused { IfNone result (HoldsInvalid self.now.bytes) }
     {
         let polling = polling_in(self.get(Register::Polling))?;
         let mode = mode_in(self.get(Register::Mode))?;

@@ -7,7 +7,7 @@ ghost use Rattle.hart_frame.specs.wire.Parity.{IsCheckByte};
 ghost use Rattle.hart_frame.specs.wire.Refusal.{HasGoodByteCount};
 
 use crate::wire::delimiter::read_delimiter;
-use crate::{Body, Char, Frame, decode};
+use crate::{Body, Char, Frame, are_faultless, decode};
 
 /// The length of the body that the characters begin with, or `None` if they begin with none. No frame is made.
 pub(crate) fn heard_len(chars: &[Char]) -> Option<usize>
@@ -40,19 +40,8 @@ fn said_len(chars: &[Char]) -> Option<usize>
     ensures said { IfSome result (λ len. len ≡ body_length (bytes_of chars.now)) }
 {
     let delimiter = read_delimiter(chars.first()?.byte())?;
-    let count_place = delimiter.command_place() + 1;
-    let byte_count = chars.get(count_place)?.byte();
-    if !delimiter.allows(byte_count) {
-        return None;
-    }
-    Some(count_place + usize::from(byte_count) + 2)
-}
-
-/// Whether no character has a fault.
-fn are_faultless(chars: &[Char]) -> bool
-    ensures { IsTrue result ↔ All (λ character. character.faults ≡ 0) chars.now }
-{
-    chars.iter().all(|character| character.is_faultless())
+    let byte_count = chars.get(delimiter.byte_count_place())?.byte();
+    Some(delimiter.layout(byte_count)?.body_len())
 }
 
 /// The check byte of the bytes of the characters.

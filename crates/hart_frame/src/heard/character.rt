@@ -1,4 +1,4 @@
-ghost use Rattle.std.specs.Prelude.{◌≡◌, ◌↔◌, IsSome, IfSome, IsTrue};
+ghost use Rattle.std.specs.Prelude.{◌≡◌, ◌↔◌, All, IsSome, IfSome, IsTrue};
 
 use std::marker::Model;
 
@@ -61,4 +61,11 @@ impl Char {
     {
         self.faults == 0
     }
+}
+
+/// Whether no character has a fault.
+pub fn are_faultless(chars: &[Char]) -> bool
+    ensures { IsTrue result ↔ All (λ character. character.faults ≡ 0) chars.now }
+{
+    chars.iter().all(|character| character.is_faultless())
 }

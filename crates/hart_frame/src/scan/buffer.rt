@@ -134,7 +134,7 @@ impl Buffer {
         ensures fits { All (λ byte. byte < 256) (first_body self.now layout) }
     {
         let start = self.from + 2;
-        let len = layout.command_place + 3 + usize::from(layout.byte_count);
+        let len = layout.body_len();
         is_even(&self.bytes, &self.sums, start, len)
     }
 
@@ -173,7 +173,7 @@ impl Buffer {
     {
         let at = self.from + 2;
         let start = self.first + 2;
-        let len = layout.command_place + 3 + usize::from(layout.byte_count);
+        let len = layout.body_len();
         let stop = start + len as u64;
         self.from = at + len;
         self.first = stop;
@@ -198,7 +198,7 @@ impl Buffer {
         ensures start { result.start ≡ span.start }
         ensures stop { result.stop ≡ span.stop }
     {
-        let len = span.layout.command_place + 3 + usize::from(span.layout.byte_count);
+        let len = span.layout.body_len();
         let body = &self.bytes[span.at..span.at + len];
         FoundView {
             start: span.start,

@@ -46,23 +46,15 @@ fn body_candidate(bytes: &[u8]) -> Candidate
     let Some(delimiter) = read_delimiter(*first) else {
         return Candidate::Never;
     };
-    let command_place = delimiter.command_place();
-    let count_place = command_place + 1;
+    let count_place = delimiter.byte_count_place();
     if bytes.len() <= count_place {
         return Candidate::Open(count_place + 1);
     }
-    let byte_count = bytes[count_place];
-    if !delimiter.allows(byte_count) {
+    let Some(layout) = delimiter.layout(bytes[count_place]) else {
         return Candidate::Never;
+    };
+    if bytes.len() < layout.body_len() {
+        return Candidate::Open(layout.body_len());
     }
-    let body_len = count_place + usize::from(byte_count) + 2;
-    if bytes.len() < body_len {
-        return Candidate::Open(body_len);
-    }
-    Candidate::Whole(Layout {
-        kind: delimiter.kind,
-        address_end: 1 + delimiter.address_len,
-        command_place,
-        byte_count,
-    })
+    Candidate::Whole(layout)
 }

@@ -132,14 +132,10 @@ fn other_bytes(chunk: &[u8]) -> usize
     ensures others { All (λ byte. byte ≢ 255) (take result chunk.now) }
     ensures first { result < length chunk.now → slice_index chunk.now result ≡ 255 }
 {
-    let mut count = 0;
-    for byte in chunk {
-        if *byte == PREAMBLE {
-            return count;
-        }
-        count += 1;
-    }
-    count
+    chunk
+        .iter()
+        .position(|byte| *byte == PREAMBLE)
+        .unwrap_or(chunk.len())
 }
 
 /// How many preamble bytes stand before the first other byte.
@@ -148,12 +144,8 @@ fn preamble_bytes(chunk: &[u8]) -> usize
     ensures preambles { All (λ byte. byte ≡ 255) (take result chunk.now) }
     ensures next { result < length chunk.now → slice_index chunk.now result ≢ 255 }
 {
-    let mut count = 0;
-    for byte in chunk {
-        if *byte != PREAMBLE {
-            return count;
-        }
-        count += 1;
-    }
-    count
+    chunk
+        .iter()
+        .position(|byte| *byte != PREAMBLE)
+        .unwrap_or(chunk.len())
 }

@@ -3,6 +3,7 @@ ghost use Rattle.std.specs.Prelude.{◌≡◌, ◌≤◌, ◌+◌, ◌*◌, ◌/
 ghost use Rattle.hart_frame.specs.wire.Delimiter.{delimiter_of, kind_code};
 ghost use Rattle.hart_frame.specs.wire.Refusal.{IsDelimiter};
 
+use crate::wire::layout::Layout;
 use crate::{Frame, FrameKind};
 use hart_values::Address;
 
@@ -15,6 +16,12 @@ const PHYSICAL_LAYER: u8 = 0x08;
 const STX: u8 = 0x02;
 
 const ACK: u8 = 0x06;
+
+/// The delimiter of a request at a unique address, without expansion bytes.
+pub const UNIQUE_REQUEST: u8 = 0x82;
+
+/// The place of the command after that delimiter: an address of five bytes stands between.
+pub const UNIQUE_COMMAND_PLACE: usize = 6;
 
 /// What a delimiter says of the bytes after it.
 #[derive(Clone, Copy)]
@@ -29,18 +36,32 @@ pub(crate) struct Delimiter {
 }
 
 impl Delimiter {
-    /// The place of the command: after the delimiter, the address bytes and the expansion bytes.
-    pub(crate) fn command_place(self) -> usize
-        ensures { result ≡ 1 + self.address_len + self.expansion_len }
+    /// The place of the byte count: after the delimiter, the address bytes, the expansion bytes and the command.
+    pub(crate) fn byte_count_place(self) -> usize
+        ensures { result ≡ 2 + self.address_len + self.expansion_len }
     {
-        1 + self.address_len + self.expansion_len
+        2 + self.address_len + self.expansion_len
     }
 
-    /// Whether its body can have this byte count: the payload of an ACK has two status bytes at least.
-    pub(crate) fn allows(self, byte_count: u8) -> bool
-        ensures { IsTrue result ↔ ((kind_code self.kind ≡ 2) ⊎ (2 ≤ byte_count)) }
+    /// The layout of its body with this byte count, or `None` if it can have none: the payload of an ACK has two status bytes at
+    /// least.
+    pub(crate) fn layout(self, byte_count: u8) -> Option<Layout>
+        ensures allowed { IsSome result ↔ ((kind_code self.kind ≡ 2) ⊎ (2 ≤ byte_count)) }
+        ensures kind { IfSome result (λ layout. layout.kind ≡ self.kind) }
+        ensures address { IfSome result (λ layout. layout.address_end ≡ 1 + self.address_len) }
+        ensures command { IfSome result (λ layout. layout.command_place ≡ 1 + self.address_len + self.expansion_len) }
+        ensures count { IfSome result (λ layout. layout.byte_count ≡ byte_count) }
     {
-        self.kind == FrameKind::Stx || byte_count >= 2
+        if self.kind == FrameKind::Ack && byte_count < 2 {
+            return None;
+        }
+        let address_end = 1 + self.address_len;
+        Some(Layout {
+            kind: self.kind,
+            address_end,
+            command_place: address_end + self.expansion_len,
+            byte_count,
+        })
     }
 }
 

@@ -16,7 +16,7 @@ pub(crate) struct Layout {
 }
 
 impl Layout {
-    ghost use Rattle.hart_frame.specs.wire.Layout.{Describes, body_length};
+    ghost use Rattle.hart_frame.specs.wire.Layout.{Describes, body_length, layout_length};
 
     /// The layout of the body that these bytes may begin with.
     ///
@@ -30,23 +30,17 @@ impl Layout {
     {
         let first = bytes.first().ok_or(FrameFault::Truncated)?;
         let delimiter = read_delimiter(*first).ok_or(FrameFault::BadDelimiter)?;
-        let command_place = delimiter.command_place();
-        let byte_count = *bytes.get(command_place + 1).ok_or(FrameFault::Truncated)?;
-        if !delimiter.allows(byte_count) {
-            return Err(FrameFault::ShortReply);
-        }
-        Ok(Layout {
-            kind: delimiter.kind,
-            address_end: 1 + delimiter.address_len,
-            command_place,
-            byte_count,
-        })
+        let byte_count = *bytes
+            .get(delimiter.byte_count_place())
+            .ok_or(FrameFault::Truncated)?;
+        delimiter.layout(byte_count).ok_or(FrameFault::ShortReply)
     }
 
     /// The length of the body.
     pub(crate) fn body_len(self) -> usize
         requires { self.command_place + 3 + self.byte_count < 2 ^ 64 }
-        ensures { (bytes : List ℕ) → Describes self bytes → result ≡ body_length bytes }
+        ensures len { result ≡ layout_length self }
+        ensures described { (bytes : List ℕ) → Describes self bytes → result ≡ body_length bytes }
     {
         self.command_place + 3 + usize::from(self.byte_count)
     }

@@ -1,4 +1,4 @@
-ghost use Rattle.std.specs.Prelude.{◌≡◌, ◌+◌, ◌<◌, ◌≤◌, ◌↔◌, ◌++◌, List, ℕ, length, replicate, IsOk, IfErr, OnOk, OnErr};
+ghost use Rattle.std.specs.Prelude.{◌≡◌, ◌+◌, ◌<◌, ◌≤◌, ◌↔◌, ◌++◌, List, ℕ, length, replicate, IsOk, IsTrue, IfErr, OnOk, OnErr};
 ghost use Rattle.hart_frame.specs.wire.Body.{IsBody, IsCheckedPart};
 ghost use Rattle.hart_frame.specs.wire.Message.{IsMessage, IsPreambleCount};
 
@@ -17,6 +17,13 @@ pub const MOST_PREAMBLES: u8 = 20;
 
 pub(crate) const PREAMBLE: u8 = 0xFF;
 
+/// Whether a sender may put this number of preamble bytes: [`LEAST_PREAMBLES`] to [`MOST_PREAMBLES`].
+pub fn is_preamble_count(preambles: u8) -> bool
+    ensures { IsTrue result ↔ IsPreambleCount preambles }
+{
+    (LEAST_PREAMBLES..=MOST_PREAMBLES).contains(&preambles)
+}
+
 /// Writes the frame as a message: this number of preamble bytes `FF`, and its body. What `output` held is replaced.
 ///
 /// # Errors
@@ -29,7 +36,7 @@ pub fn encode(frame: &Frame, preambles: u8, output: &mut Message) -> Result<(), 
     ensures refused { IfErr result (λ fault. fault ≡ FrameFault.BadPreamble) }
     ensures unchanged { OnErr result (output.new ≡ output.old) }
 {
-    if preambles < LEAST_PREAMBLES || preambles > MOST_PREAMBLES {
+    if !is_preamble_count(preambles) {
         return Err(FrameFault::BadPreamble);
     }
     output.clear();

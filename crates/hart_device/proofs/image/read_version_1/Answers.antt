@@ -5,7 +5,7 @@ use Rattle.hart_commands.specs.declared.register.Register.{Register}
 use Rattle.hart_commands.specs.declared.register.Register.TheVariants.{LongTag}
 use Rattle.hart_device.specs.image.Image.{registers_of_version_1}
 use Rattle.hart_device.specs.registers.Ranges.{standing_for}
-use Rattle.hart_device.proofs.lemmas.image.Image.{bad_field, listed_differs, read_is}
+use Rattle.hart_device.proofs.lemmas.image.Image.{bad_field, in_version_1, read_is}
 use Rattle.hart_device.proofs.lemmas.image.Read.{holds_prefix, kept_or, refused_or, stands_before}
 use Rattle.hart_device.proofs.image.read_version_1.Goals as goal
 
@@ -33,9 +33,8 @@ returns-clause-refused c =
       refl,
       grind (arith, common_steps, split.front_len, split.back_len, c.if-rest.false),
       bad_field 1 registers_of_version_1 c.set_long_tag.new.self.bytes c.split_at.result.0.now c.split_at.result.1.now
-          (omega (arith, split.back_len, c.if-rest.false)) (λ register there. there)
-          (λ register there.
-          let differ = listed_differs register there in
+          (omega (arith, split.back_len, c.if-rest.false)) in_version_1
+          (λ register differ.
           stands_before c.split_at.result.0.now c.split_at.result.1.now split.front_len register differ ∙ sym (is_read c register differ))
           bad,
     )))

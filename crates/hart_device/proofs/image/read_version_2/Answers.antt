@@ -19,8 +19,8 @@ returns-clause-refused c =
       refl,
       grind (arith, common_steps, split.front_len, split.back_len, c.if-rest.false),
       bad_field 2 registers c.copy_from_slice.new.self c.split_at.result.0.now c.split_at.result.1.now
-          (omega (arith, split.back_len, c.if-rest.false)) (λ register there. c.all_registers_are_listed_once.ensures.every register)
-          (λ register there.
+          (omega (arith, split.back_len, c.if-rest.false)) (λ register differ. c.all_registers_are_listed_once.ensures.every register)
+          (λ register differ.
           let fits = c.ranges_fill_the_array.ensures.within register in
           rw c.copy_from_slice.ensures.after
           (before_others register c.split_at.result.0.now c.split_at.result.1.now (omega (arith, fits, len))))

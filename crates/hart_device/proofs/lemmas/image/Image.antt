@@ -16,11 +16,11 @@ use Rattle.hart_device.specs.declared.fault.DeviceFault.{DeviceFault}
 use Rattle.hart_device.specs.declared.fault.DeviceFault.TheVariants.{BadField, BadLength, BadVersion, BroadcastAddress, OutOfRange}
 use Rattle.hart_device.specs.Device.{DeviceState}
 use Rattle.hart_device.specs.Identity.{two_bytes}
-use Rattle.hart_device.specs.image.Image.{HasBadField, HasBadRegister, IsImageOf, IsImageFault, IsLongTagOf, flags_of, image_ending}
+use Rattle.hart_device.specs.image.Image.{HasBadField, IsImageOf, IsImageFault, IsLongTagOf, flags_of, image_ending}
 use Rattle.hart_device.specs.image.Image.{image_bytes}
 use Rattle.hart_device.specs.image.Image.{image_length, registers_of_version, registers_of_version_1}
 use Rattle.hart_device.specs.image.ImageParts.{state_with}
-use Rattle.hart_device.specs.registers.Ranges.{contents_in, end_of, standing_for, start_of}
+use Rattle.hart_device.specs.registers.Ranges.{HoldsInvalid, contents_in, end_of, standing_for, start_of}
 use Rattle.hart_device.specs.registers.Values.{values_of}
 use Rattle.hart_device.specs.declared.identity_parts.IdentityParts.{IdentityParts}
 use Rattle.hart_device.specs.declared.image.ImageParts.{ImageParts}
@@ -67,9 +67,16 @@ no_long_tag (suc (suc (suc (suc (suc zero)))), within, is) = cc
 no_long_tag (suc (suc (suc (suc (suc (suc zero))))), within, is) = cc
 no_long_tag (suc (suc (suc (suc (suc (suc (suc k)))))), within, is) = absurd (omega (arith, within))
 
--- So a register of version 1 is not the long tag.
-pub listed_differs : (register : Register) → Contains registers_of_version_1 register → register ≢ LongTag
-listed_differs register is_listed same = no_long_tag (subst (λ r. Contains registers_of_version_1 r) same is_listed)
+-- Every other register is.
+pub in_version_1 : (register : Register) → register ≢ LongTag → Contains registers_of_version_1 register
+in_version_1 Polling differs = (0, omega arith, refl)
+in_version_1 Mode differs = (1, omega arith, refl)
+in_version_1 Message differs = (2, omega arith, refl)
+in_version_1 Tag differs = (3, omega arith, refl)
+in_version_1 Descriptor differs = (4, omega arith, refl)
+in_version_1 Date differs = (5, omega arith, refl)
+in_version_1 Assembly differs = (6, omega arith, refl)
+in_version_1 LongTag differs = absurd (differs refl)
 
 -- A register that a version has not is the long tag.
 listed_or_not : (version : ℕ) (listed : List Register) → registers_of_version version ≡ Some listed
@@ -80,14 +87,14 @@ listed_or_not version listed known every register = by_version (known_version ve
     in_first : (r : Register)
         → Contains registers_of_version_1 r
         ⊎ ((r ≡ LongTag) × (Contains registers_of_version_1 LongTag → ⊥) × Contains registers_of_version_1 Tag)
-    in_first LongTag = inr (refl, no_long_tag, (3, omega arith, refl))
-    in_first Polling = inl (0, omega arith, refl)
-    in_first Mode = inl (1, omega arith, refl)
-    in_first Message = inl (2, omega arith, refl)
-    in_first Tag = inl (3, omega arith, refl)
-    in_first Descriptor = inl (4, omega arith, refl)
-    in_first Date = inl (5, omega arith, refl)
-    in_first Assembly = inl (6, omega arith, refl)
+    in_first LongTag = inr (refl, no_long_tag, in_version_1 Tag (λ e. cc))
+    in_first Polling = inl (in_version_1 Polling (λ e. cc))
+    in_first Mode = inl (in_version_1 Mode (λ e. cc))
+    in_first Message = inl (in_version_1 Message (λ e. cc))
+    in_first Tag = inl (in_version_1 Tag (λ e. cc))
+    in_first Descriptor = inl (in_version_1 Descriptor (λ e. cc))
+    in_first Date = inl (in_version_1 Date (λ e. cc))
+    in_first Assembly = inl (in_version_1 Assembly (λ e. cc))
 
     by_version : ((version ≡ 1) × (listed ≡ registers_of_version_1)) ⊎ ((version ≡ 2) × (listed ≡ registers)) → (r : Register)
         → Contains listed r ⊎ ((r ≡ LongTag) × (Contains listed LongTag → ⊥) × Contains listed Tag)
@@ -175,12 +182,11 @@ before_others register prefix others fits =
 
 -- A register that is bad in the array, or bad flags in the bytes that end an image, are a bad field.
 pub bad_field : (version : ℕ) (listed : List Register) (array prefix end : List ℕ) → length end ≡ 3
-    → ((register : Register) → Contains registers_of_version_1 register → Contains listed register)
-    → ((register : Register) → Contains registers_of_version_1 register
-    → standing_for register (prefix ++ end) ≡ standing_for register array)
-    → HasBadRegister registers_of_version_1 array ⊎ (7 < slice_index end 2) → HasBadField listed (version ∷ (prefix ++ end))
-bad_field version listed array prefix end three has whole (inl (register, there, bad)) =
-    inl (register, has register there, λ valid. bad (rw (← whole register there) valid))
+    → ((register : Register) → register ≢ LongTag → Contains listed register)
+    → ((register : Register) → register ≢ LongTag → standing_for register (prefix ++ end) ≡ standing_for register array)
+    → HoldsInvalid array ⊎ (7 < slice_index end 2) → HasBadField listed (version ∷ (prefix ++ end))
+bad_field version listed array prefix end three has whole (inl (register, differs, bad)) =
+    inl (register, has register differs, λ valid. bad (rw (← whole register differs) valid))
 bad_field version listed array prefix end three has whole (inr above) = inr (rw (last_is version prefix end three) above)
 
 -- An image has no fault.

@@ -10,7 +10,7 @@ use Rattle.hart_frame.proofs.wire.body.read_body.Goals as goal
 pub returns-then-check_byte-ne0-clause-refused : goal.returns-then-check_byte-ne0-clause-refused
 returns-then-check_byte-ne0-clause-refused c =
     let bytes = c.args.bytes.now in
-    let len = c.body_len-len.ensures bytes c.in_ok-layout.ensures.described in
+    let len = c.body_len-len.ensures.described bytes c.in_ok-layout.ensures.described in
     let HasParity : ℕ → Type 0 = λ n. HasEvenParity (take n bytes) in (
       (c.in_ok-layout.ensures.known, omega (arith, len, c.if-bytes-len.false)),
       λ even.
@@ -20,7 +20,7 @@ returns-then-check_byte-ne0-clause-refused c =
 pub returns-clause-accepts : goal.returns-clause-accepts
 returns-clause-accepts c =
     let bytes = c.args.bytes.now in
-    let len = c.body_len-len.ensures bytes c.in_ok-layout.ensures.described in
+    let len = c.body_len-len.ensures.described bytes c.in_ok-layout.ensures.described in
     let IsChecked : ℕ → Type 0 = λ n. IsCheckedPart c.frame_in.result (take (n - 1) bytes) in
     let fits : All (λ byte. byte < 256) bytes = All-from_get_or (λ byte. byte < 256) bytes 0 (λ i _. omega (arith, c.type_inv.bytes i)) in
     let IsCheck : ℕ → Type 0 = λ check. IsCheckByte (take c.body_len-len.result bytes) check in

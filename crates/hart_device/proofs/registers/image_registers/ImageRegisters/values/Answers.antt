@@ -11,7 +11,7 @@ none_with {P = P} result is p = subst (λ r. IfNone r P) (sym is) p
 pub returns-in_err-polling-clause-refused : goal.returns-in_err-polling-clause-refused
 returns-in_err-polling-clause-refused c = none_with _ c.from_residual.ensures (
   Polling,
-  (0, omega arith, refl),
+  λ same. cc,
   λ valid.
       none_of _ c.in_err-polling.was (c.polling_in.ensures.valid.1 (rw c.get.ensures.value valid)),
 )
@@ -19,7 +19,7 @@ returns-in_err-polling-clause-refused c = none_with _ c.from_residual.ensures (
 pub returns-in_err-mode-clause-refused : goal.returns-in_err-mode-clause-refused
 returns-in_err-mode-clause-refused c = none_with _ c.from_residual-in_err-mode.ensures (
   Mode,
-  (1, omega arith, refl),
+  λ same. cc,
   λ valid.
       none_of _ c.in_err-mode.was (c.mode_in.ensures.valid.1 (rw c.get-2.ensures.value valid)),
 )
@@ -27,7 +27,7 @@ returns-in_err-mode-clause-refused c = none_with _ c.from_residual-in_err-mode.e
 pub returns-in_err-date-clause-refused : goal.returns-in_err-date-clause-refused
 returns-in_err-date-clause-refused c = none_with _ c.from_residual-in_err-date.ensures (
   Date,
-  (5, omega arith, refl),
+  λ same. cc,
   λ valid.
       none_of _ c.in_err-date.was (c.ok.ensures.variant ∙ c.from_bytes.ensures.accepted.1 (rw c.bytes_of.ensures valid.1)),
 )
