@@ -2,7 +2,7 @@ use Rattle.hart_commands.specs.declared.register.Register.TheVariants.{Polling, 
 use Rattle.hart_commands.specs.declared.request.Request.TheVariants.{SetPolling, WriteMessage, WriteTag, WriteAssembly, WriteLongTag}
 use Rattle.hart_commands.proofs.laws.writes_have_overwrites.Goals as goal
 
--- src/laws.rt:90:1
+-- Every configuration write names a register.
 pub returns-clause-some_register : goal.returns-clause-some_register
 returns-clause-some_register c (SetPolling address mode) write = (Polling, cc)
 returns-clause-some_register c (WriteMessage message) write = (Message, cc)
