@@ -1,6 +1,6 @@
 #!/bin/sh
-# Measures `hart dump` as bench/dump.py does, but on a program that hands each character to the scanner by itself, not in runs.
-# It builds that program in a folder of its own, from a copy of this tree in which a run has no room for an item; it proves
+# Measures `hart dump` as bench/dump.py does, but on a program that hands each character to the scanner by itself, not in chunks.
+# It builds that program in a folder of its own, from a copy of this tree in which a chunk has no room for an item; it proves
 # what that changes, which takes some minutes, and the whole tree if that was never built.
 #
 # Usage: bench/by_character.sh [RUNS]
@@ -9,10 +9,10 @@ root=$(cd "$(dirname "$0")/.." && pwd)
 copy=$(mktemp -d)
 trap 'rm -rf "$copy"' EXIT
 cp -a "$root/Makefile" "$root/HANDLES" "$root/crates.txt" "$root/crates" "$root/tools" "$copy"
-run=$copy/crates/hart_cli/src/run.rt
-sed -i 's/^    if run\.len() > RUN_LEN - ITEMS_AT_ONCE {$/    if true || run.len() > RUN_LEN - ITEMS_AT_ONCE {/' "$run"
-if ! grep -q 'if true ||' "$run"; then
-    echo "$0: the line of run.rt that lets a run take items is not the one that was expected" >&2
+chunk=$copy/crates/hart_cli/src/text/chunk.rt
+sed -i 's/^    if chunk\.len() > CHUNK_LEN - ITEMS_AT_ONCE {$/    if true || chunk.len() > CHUNK_LEN - ITEMS_AT_ONCE {/' "$chunk"
+if ! grep -q 'if true ||' "$chunk"; then
+    echo "$0: the line of chunk.rt that lets a chunk take items is not the one that was expected" >&2
     exit 1
 fi
 make -C "$copy" hart >&2

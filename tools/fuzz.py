@@ -178,7 +178,7 @@ class Fuzz:
         if call.name == "dump" and len(given.text) < LONGEST_TOGETHER and call.model(given).fault == b"":
             self.waiting.append((number, given))
         else:
-            self.judge(call, number, given)
+            self.count_case(call, number, given)
         if len(self.waiting) == HEARD_TOGETHER:
             self.try_waiting()
 
@@ -191,11 +191,11 @@ class Fuzz:
             self.passed += len(waiting)
             return
         for number, given in waiting:
-            self.judge(call, number, given)
+            self.count_case(call, number, given)
         if self.failed == failed:
-            self.judge(call, waiting[-1][0], together)
+            self.count_case(call, waiting[-1][0], together)
 
-    def judge(self, call, number, given):
+    def count_case(self, call, number, given):
         """Counts the case of an input, and prints a difference."""
         differs = self.differs(call, given)
         self.count(not differs)

@@ -19,8 +19,8 @@ is_prefix() {
     head -n "$lines" "$work/wanted" | cmp -s - "$work/output"
 }
 
-# What the run of this status has left in $work, judged.
-judge() {
+# Whether what the run of this status has left in $work is right.
+is_right() {
     if [ "$1" -eq 0 ]; then
         cmp -s "$work/output" "$work/wanted" && [ ! -s "$work/errors" ]
     elif [ "$1" -eq 1 ] || [ "$1" -eq 2 ]; then
@@ -43,7 +43,7 @@ refuse_each() {
         status=0
         REFUSED_GROWTH=$number LD_PRELOAD=$work/refuse_growth.so "$program" "$@" \
             <"$work/input" >"$work/output" 2>"$work/errors" 3>"$work/hit" || status=$?
-        if ! judge "$status"; then
+        if ! is_right "$status"; then
             echo "hart $*, growth $number refused: status $status, $(cat "$work/output" "$work/errors")" >&2
             exit 1
         fi
