@@ -6,6 +6,8 @@ ghost use Rattle.hart_values.specs.packed_text.Packing.{IsPacked};
 ghost use Rattle.hart_values.specs.declared.master_id.MasterId.{MasterId};
 ghost use Rattle.hart_values.specs.declared.address.Address.{Address};
 
+use crate::{CommFaults, DeviceStatus};
+
 /// Bytes hold one master bit, one burst bit and one address, and these have one list of bytes.
 pub fn address_bytes_are_unambiguous()
     ensures one_reading { (m n : MasterId) (b c : Bool) (x y : Address) (bytes : List ℕ)
@@ -26,4 +28,25 @@ pub fn packed_text_and_bytes_determine_each_other()
 pub fn dates_are_decided()
     ensures date { (bytes : List ℕ) → (is_date bytes ≡ true) ↔ IsDateBytes bytes }
     ensures no_date { (bytes : List ℕ) → (is_date bytes ≡ false) ↔ (¬ IsDateBytes bytes) }
+{}
+
+/// The named communication faults are these bits (HCF_SPEC-099).
+pub fn communication_faults_have_their_bits()
+    ensures vertical_parity { CommFaults.VERTICAL_PARITY ≡ 0x40 }
+    ensures overrun { CommFaults.OVERRUN ≡ 0x20 }
+    ensures framing { CommFaults.FRAMING ≡ 0x10 }
+    ensures longitudinal_parity { CommFaults.LONGITUDINAL_PARITY ≡ 0x08 }
+    ensures buffer_overflow { CommFaults.BUFFER_OVERFLOW ≡ 0x02 }
+{}
+
+/// The named states of a device are these bits of its device status (HCF_SPEC-099).
+pub fn device_states_have_their_bits()
+    ensures device_malfunction { DeviceStatus.DEVICE_MALFUNCTION ≡ 0x80 }
+    ensures configuration_changed { DeviceStatus.CONFIGURATION_CHANGED ≡ 0x40 }
+    ensures cold_start { DeviceStatus.COLD_START ≡ 0x20 }
+    ensures more_status_available { DeviceStatus.MORE_STATUS_AVAILABLE ≡ 0x10 }
+    ensures loop_current_fixed { DeviceStatus.LOOP_CURRENT_FIXED ≡ 0x08 }
+    ensures loop_current_saturated { DeviceStatus.LOOP_CURRENT_SATURATED ≡ 0x04 }
+    ensures non_primary_variable_out_of_limits { DeviceStatus.NON_PRIMARY_VARIABLE_OUT_OF_LIMITS ≡ 0x02 }
+    ensures primary_variable_out_of_limits { DeviceStatus.PRIMARY_VARIABLE_OUT_OF_LIMITS ≡ 0x01 }
 {}

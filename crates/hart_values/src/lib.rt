@@ -41,7 +41,8 @@ pub use each_master::EachMaster;
 pub use fault::ValueFault;
 pub use hart_date::HartDate;
 pub use laws::{
-    address_bytes_are_unambiguous, dates_are_decided, packed_text_and_bytes_determine_each_other,
+    address_bytes_are_unambiguous, communication_faults_have_their_bits, dates_are_decided,
+    device_states_have_their_bits, packed_text_and_bytes_determine_each_other,
 };
 pub use loop_mode::LoopMode;
 pub use master_id::MasterId;

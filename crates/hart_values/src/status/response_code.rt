@@ -71,3 +71,20 @@ impl ResponseCode {
         self.value
     }
 }
+
+// Each name has its number: the prover refuses another one.
+const _: () = prove!(ResponseCode::SUCCESS.value == 0);
+
+const _: () = prove!(ResponseCode::INVALID_SELECTION.value == 2);
+
+const _: () = prove!(ResponseCode::TOO_FEW_DATA_BYTES.value == 5);
+
+const _: () = prove!(ResponseCode::IN_WRITE_PROTECT_MODE.value == 7);
+
+const _: () = prove!(ResponseCode::COUNTER_MISMATCH.value == 9);
+
+const _: () = prove!(ResponseCode::INVALID_DATE.value == 9);
+
+const _: () = prove!(ResponseCode::INVALID_MODE.value == 12);
+
+const _: () = prove!(ResponseCode::COMMAND_NOT_IMPLEMENTED.value == 64);
