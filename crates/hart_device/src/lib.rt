@@ -17,6 +17,12 @@
 //! [`overwrites_absorb`], [`frames_leave_identity_and_protection`], [`cold_starts_are_shown_once`] and
 //! [`bytes_have_one_image_fault`] no crate of `hart` cites: they are for whoever proves more of a device. No call of this crate takes
 //! memory.
+//!
+//! At the root stand what a device is and what it is made with. The rooms:
+//!
+//! - `registers`: what holds the registers, and the two stores, a field for each and one array of them all.
+//! - `answer`: who is answered, with what, and what that does to the device.
+//! - `image`: what a device holds, in bytes that are kept while it is stopped.
 #![tactic(auto)]
 
 mod answer;

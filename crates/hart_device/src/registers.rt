@@ -1,3 +1,4 @@
+//! What holds the registers of a device.
 ghost use Rattle.std.specs.Prelude.{◌≡◌, length, unwrap_or};
 ghost use Rattle.hart_commands.specs.Registers.{Contents, bytes_in, named_in, size_of};
 ghost use Rattle.hart_commands.specs.declared.register.Register.{Register};

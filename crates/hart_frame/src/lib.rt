@@ -10,7 +10,11 @@
 //! assert_eq!(rt; (frame.command(), len), (0, 5));
 //! ```
 //!
-//! No call of this crate takes memory.
+//! No call of this crate takes memory. Its rooms, each of which knows those before it and none after it:
+//!
+//! - `wire`: on the wire, a frame and the bytes of its body and its message.
+//! - `heard`: what was heard, as characters, where frames stand in them, and which damage is always detected.
+//! - `scan`: the scanner, how frames are found while they are heard.
 #![tactic(auto)]
 
 mod heard;

@@ -1,3 +1,4 @@
+//! Addresses of a message, and their bytes.
 ghost use Rattle.std.specs.Prelude.{◌≡◌, ◌<◌, ◌%◌, ◌^◌, ◌↔◌, ◌⊎◌, length, Bool, Some, IsTrue, IsOk, IsSome, IfOk, IfErr, IfSome};
 
 use crate::address::first_byte::{join_first_byte, split_first_byte};

@@ -17,7 +17,15 @@
 //! The program `hart` itself calls neither [`Status::read`], nor [`HartDate::is_set`], nor [`PackedText::from_text`]: these are
 //! for whoever shows replies to a person, or writes a text, with this library.
 //!
-//! No call of this crate takes memory.
+//! No call of this crate takes memory. Its rooms, of which none knows another:
+//!
+//! - `address`: polling and unique addresses, and the bytes that they have in a message.
+//! - `packed_text`: texts of which four characters stand in three bytes.
+//! - `hart_date`: dates, and the calendar that says which of them are days.
+//! - `status`: the two status bytes of a reply, as a response code and a device status or as communication faults.
+//!
+//! At the root stand the values of one byte or four that have no rule, lists of bytes, and what is one thing for each of the two
+//! masters.
 #![tactic(auto)]
 
 mod address;

@@ -1,3 +1,4 @@
+//! Packed text: four characters in three bytes.
 ghost use Rattle.std.specs.Prelude.{◌≡◌, ◌*◌, ◌/◌, ◌↔◌, length, All, IsOk, IfOk, IfErr, OnOk, OnErr};
 ghost use Rattle.hart_values.specs.packed_text.Packing.{IsCharacter, IsPacked, IsPackedSize, IsTextFault};
 

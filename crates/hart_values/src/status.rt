@@ -1,3 +1,4 @@
+//! What the two status bytes of a reply say.
 ghost use Rattle.std.specs.Prelude.{◌≡◌, ℕ, slice_index};
 
 use crate::{CommFaults, DeviceStatus, ResponseCode};
