@@ -6,6 +6,7 @@
 #   make refused-growths      refuses each allocation of ./hart in turn, as make check does to the program that it proves
 #   make streams              runs ./hart on streams that fail and for its texts, as make check does
 #   make examples             runs the examples of help and pages on ./hart, as make check does
+#   make held-view            tries that nothing is pushed to a scanner while a view of it is held, as make check does
 #   make fuzz N=..            holds ./hart against a plain model of it on N random inputs; make check does not
 #   make install PREFIX=DIR   puts hart into DIR/bin
 #   make bench                measures hart dump, hart answer and hart sim; it asserts no time
@@ -15,7 +16,7 @@ N ?= 10000
 CLI := crates/hart_cli
 SOURCES := crates.txt $(shell find crates -name out -prune -o \( -name '*.rt' -o -name '*.antt' \) -print)
 
-.PHONY: all check test refused-growths streams examples fuzz bench install clean
+.PHONY: all check test refused-growths streams examples held-view fuzz bench install clean
 
 all: hart
 
@@ -32,6 +33,10 @@ test: hart
 	sh tools/refused-growths.sh
 	sh tools/streams.sh
 	sh tools/examples.sh
+	sh tools/held-view.sh
+
+held-view:
+	sh tools/held-view.sh
 
 refused-growths streams examples: hart
 	sh tools/$@.sh

@@ -39,12 +39,14 @@ ends_with() {
     echo "hart $words: ended with $status, and gave '$(head -n 1 "$work/errors")'"
 }
 
-# Runs hart with the words that follow the text: it has to write just this text, end with 0, and say nothing else.
+# Runs hart with the words that follow the text: it has to write just this text, end with 0, and say nothing else. It reads what is
+# in the file that `heard` names.
+heard=/dev/null
 writes() {
     text=$1
     shift
     status=0
-    "$program" "$@" </dev/null >"$work/output" 2>"$work/errors" || status=$?
+    "$program" "$@" <"$heard" >"$work/output" 2>"$work/errors" || status=$?
     if [ "$status" -ne 0 ] || [ "$(cat "$work/output")" != "$text" ] || [ -s "$work/errors" ]; then
         echo "hart $*: status $status and '$(cat "$work/output" "$work/errors")', but 0 and '$text' are wanted" >&2
         exit 1
@@ -129,3 +131,22 @@ done
 shows help-help help help
 shows version --version
 shows wrong-word frob
+
+# An input has as many bytes as the limit, and not one more.
+head -c 1048576 /dev/zero | tr '\0' ' ' >"$work/full"
+cp "$work/full" "$work/longer"
+printf ' ' >>"$work/longer"
+heard=$work/full
+writes '' dump
+writes '' answer
+writes "$(printf 'counter 1\nimage %s' "$image")" sim --image "$image"
+for word in dump answer sim; do
+    ends_with 1 'input too long' "$work/output" "$word" <"$work/longer"
+done
+
+# However many preamble bytes are heard, they are no frame, and the frame after them is found.
+head -c 100000 /dev/zero | tr '\0' '\377' | od -An -v -tx1 >"$work/preamble"
+heard=$work/preamble
+writes '' dump
+echo '02 80 00 00 82' >>"$work/preamble"
+writes '100000 100005 STX P 0 @0 - 0 -' dump
