@@ -20,7 +20,7 @@ pub fn frames_are_streamed()
     crate::frames_are_unambiguous();
 }
 
-/// In pieces of whatever size the same characters are pushed, all in all the same frames are given.
+/// In chunks of whatever size the same characters are pushed, all in all the same frames are given.
 pub fn any_chunking_gives_the_same_frames()
     ensures { (past : List Character) (given other : List Found) → IsWholeHistory past given → IsWholeHistory past other
         → given ≡ other }

@@ -59,7 +59,7 @@ pub record IsStepOf (start : Start) (from : World) (events : List LineEvent) (be
   pub step : Step start before event next
 
 -- The turn in which a submission was answered, in the events after some world: the request in hand was sent for the last time, and
--- brought; the device's answer to it came back, and was accepted as this reply; what the request did entered the executions; and the
+-- arrived; the device's answer to it came back, and was accepted as this reply; what the request did entered the executions; and the
 -- request left the hand.
 pub record AnswersLastSendingFrom (start : Start) (from : World) (events : List LineEvent) (number : ℕ) (reply : Reply)
     (sendings : ℕ) : Type 0 where
@@ -114,7 +114,7 @@ pub record IsExecutedInItsTurn (start : Start) (events : List LineEvent) (number
   pub executed : answered.last_turn.next.executions
       ≡ answered.last_turn.before.executions ++ record { submission = number; overwrite = overwrite } ∷ []
 
--- What an event brought the device: a turn what brought in it. Every other event is taken to bring no message, as none of them can
+-- What an event brought the device: a turn what its leg up brought. Every other event is taken to bring no message, as none of them can
 -- bring a frame: noise may bring a garbled request, which has no effect.
 abbrev pub brought_in_step : (start : Start) (before : World) (event : LineEvent) (next : World) → Step start before event next
     → Brought
@@ -124,7 +124,7 @@ brought_in_step start before (Protect on) next step = NoMessage
 brought_in_step start before (Noise chars) next step = NoMessage
 brought_in_step start before Restart next step = NoMessage
 
--- What brought is a write that is not refused: a frame of a configuration write that the device answers with code 0.
+-- What was brought is a write that is not refused: a frame of a configuration write that the device answers with code 0.
 abbrev pub IsUnrefusedWrite : DeviceState → Brought → Type 0
 IsUnrefusedWrite state (OneFrame frame) =
     IsTrue (is_write frame.command) × (is_answered state frame ≡ true) × (code_of state frame ≡ 0)
@@ -141,7 +141,7 @@ pub record IsExecutedFromHand (start : Start) (events : List LineEvent) (who : M
   pub overwrites : overwrite_of held.request ≡ Some overwrite
   pub executed : next.executions ≡ before.executions ++ record { submission = held.submission; overwrite = overwrite } ∷ []
 
--- A turn in which a frame brought at the device that it answered with another code than 0, or not at all.
+-- A turn in which a frame arrived at the device that it answered with another code than 0, or not at all.
 pub record IsRefusedByDevice (start : Start) (events : List LineEvent) (before next : World) : Type 0 where
   pub who : MasterId
   pub up : Heard

@@ -113,14 +113,14 @@ hand_left held (Answered reply sendings) = None
 hand_left held (NoReply sendings) = None
 hand_left held (Refused fault) = None
 
--- The device's answer to what brought, if any, is spoken, and nothing else changes.
+-- The device's answer to what it was brought, if any, is spoken, and nothing else changes.
 abbrev pub replied : Start → World → Brought → World
 replied start world brought = record world { spoken = world.spoken ++ option_to_list (sent_back start world brought) }
 
--- A turn of a master, in which this brought and this reply was accepted: with nothing in hand the device's answer to what brought
--- is spoken alone, if any; otherwise the request is spoken, then that answer; the effect enters the executions under the number of
--- the submission, or sets the master's mark; if the frame is answered, the master's cold start bit is cleared; and the submission gets
--- its outcome, by which the request stays in hand or leaves it.
+-- A turn of a master, which brought the device this and in which this reply was accepted: with nothing in hand the device's answer
+-- to what it was brought is spoken alone, if any; otherwise the request is spoken, then that answer; the effect enters the executions
+-- under the number of the submission, or sets the master's mark; if the frame is answered, the master's cold start bit is cleared; and
+-- the submission gets its outcome, by which the request stays in hand or leaves it.
 abbrev pub turned : Start → World → MasterId → Option InHand → Brought → Option Reply → World
 turned start world who None brought accepted = replied start world brought
 turned start world who (Some held) brought accepted =
