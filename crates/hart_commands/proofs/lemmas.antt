@@ -6,3 +6,4 @@ pub mod Parts
 pub mod Reply
 pub mod WellMade
 pub mod RequestMade
+pub mod Laws

@@ -2,3 +2,4 @@
 pub mod registers
 pub mod image
 pub mod answer
+pub mod Laws

@@ -10,11 +10,8 @@ ghost use Rattle.hart_device.specs.answer.Garbled.{HasGarbled, garbled_reply};
 ghost use Rattle.hart_device.specs.declared.answer.garbled.GarbledRequest.{GarbledRequest};
 
 use crate::answer::garbled::garbled_in;
-use crate::laws::garbled_requests_are_decided;
 use crate::{Device, Process, RegisterStore};
-use hart_commands::{
-    Register, Reply, Request, overwrites_are_valid, request_code, requests_are_well_made, writes_of,
-};
+use hart_commands::{Register, Reply, Request, request_code, requests_are_well_made, writes_of};
 use hart_frame::{Char, Frame, FrameKind, LoneFrame, Payload, lone_frame};
 use hart_values::{Address, EachMaster, MasterId, ResponseCode};
 
@@ -43,8 +40,6 @@ impl<S: RegisterStore> Device<S> {
         ensures state { (brought : Brought) → Brings self.old.identity delivery.now brought
             → self.new ≡ state_after_delivery self.old brought }
     {
-        // No-op: by its contract the garbled request that is found is the only one.
-        garbled_requests_are_decided();
         match lone_frame(delivery) {
             LoneFrame::Alone(found) => self.receive(&found.frame, process),
             // Nothing is carried out of a garbled request.
@@ -187,9 +182,8 @@ impl<S: RegisterStore> Device<S> {
         ensures { self.new ≡ after master (asked_effect (Ok request.now)) self.old }
     {
         if let Some(overwrite) = writes_of(request) {
-            // No-ops: their contracts say that the registers go on holding valid bytes.
+            // No-op: its contract says that the bytes which are written are valid.
             requests_are_well_made(request);
-            overwrites_are_valid();
             self.registers.overwrite(&overwrite);
             self.counter = self.counter.wrapping_add(1);
             self.changed = EachMaster {

@@ -10,12 +10,11 @@ ghost use Rattle.hart_device.specs.image.ImageParts.{state_with};
 ghost use Rattle.hart_device.specs.declared.identity_parts.IdentityParts.{IdentityParts};
 
 use crate::image::flags::Flags;
-use crate::laws::images_have_no_fault;
 use crate::registers::image_registers::ImageRegisters;
-use crate::registers::ranges::{ARRAY_LEN, ranges_fill_the_array};
+use crate::registers::ranges::ARRAY_LEN;
 use crate::registers::values::values_are_valid;
 use crate::{Device, DeviceFault, Identity, RegisterStore, RegisterValues};
-use hart_commands::{Register, all_registers_are_listed_once};
+use hart_commands::Register;
 use hart_values::{ByteList, EachMaster, MasterId};
 
 mod flags;
@@ -87,8 +86,6 @@ impl<S: RegisterStore> Device<S> {
         ensures no_cold_start { IfOk result (λ device. device.cold_start ≡ for_both false) }
         ensures refused { IfErr result (IsImageFault image.now) }
     {
-        // No-op: its contract says that bytes with a fault are no image.
-        images_have_no_fault();
         let parts = read_image(image)?;
         Ok(Device::restored(
             identity,
@@ -137,9 +134,6 @@ fn read_version_2(rest: &[u8]) -> Result<ImageParts, DeviceFault>
     if rest.len() != ARRAY_LEN + ENDING_LEN {
         return Err(DeviceFault::BadLength);
     }
-    // No-ops: their contracts say that the list has every register, and that the registers fill the array.
-    all_registers_are_listed_once();
-    ranges_fill_the_array();
     let (array, ending) = rest.split_at(ARRAY_LEN);
     let mut bytes = [0; ARRAY_LEN];
     bytes.copy_from_slice(array);

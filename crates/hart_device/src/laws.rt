@@ -71,11 +71,7 @@ pub fn garbled_requests_are_decided()
         → HasGarbled identity chars request → HasGarbled identity chars other → request ≡ other }
     ensures decided { (identity : IdentityParts) (chars : List Character) → ((request : GarbledRequest) × HasGarbled identity chars request)
         ⊎ ((request : GarbledRequest) → HasGarbled identity chars request → ⊥) }
-{
-    // No-ops: their contracts are used here.
-    address_bytes_are_unambiguous();
-    first_starts_are_decided();
-}
+{}
 
 /// Every delivery brings a device one thing: a frame, a garbled request, or no message.
 pub fn deliveries_bring_one()
@@ -83,12 +79,7 @@ pub fn deliveries_bring_one()
         → (brought : Brought) × Brings identity delivery brought }
     ensures one { (identity : IdentityParts) (delivery : List Character) (brought other : Brought)
         → Brings identity delivery brought → Brings identity delivery other → brought ≡ other }
-{
-    // No-ops: their contracts are used here.
-    every_list_has_frames();
-    frames_are_unambiguous();
-    garbled_requests_are_decided();
-}
+{}
 
 /// No frame changes who the device is, or whether it is protected.
 pub fn frames_leave_identity_and_protection()

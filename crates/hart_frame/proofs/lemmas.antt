@@ -2,3 +2,4 @@
 pub mod wire
 pub mod heard
 pub mod scan
+pub mod Laws

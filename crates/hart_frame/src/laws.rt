@@ -9,8 +9,6 @@ ghost use Rattle.hart_frame.specs.heard.Place.{IsOpen, StandsIn};
 ghost use Rattle.hart_frame.specs.wire.Refusal.{IsTruncated};
 ghost use Rattle.hart_frame.specs.declared.heard.found.Found.{Found};
 
-use hart_values::address_bytes_are_unambiguous;
-
 /// Bodies are unambiguous: at most one prefix of a list of bytes is a body, of at most one frame.
 pub fn bodies_are_unambiguous()
     ensures one_frame { (f g : FrameParts) (bytes : List ℕ) → IsBody f bytes → IsBody g bytes → f ≡ g }
@@ -21,10 +19,7 @@ pub fn bodies_are_unambiguous()
         → BeginsWithBody bytes f m → BeginsWithBody bytes g n → (f ≡ g) × (m ≡ n) }
     ensures whatever_follows { (f : FrameParts) (body rest : List ℕ)
         → IsBody f body → BeginsWithBody (body ++ rest) f (length body) }
-{
-    // No-op: its contract is used below.
-    address_bytes_are_unambiguous();
-}
+{}
 
 /// Bytes are refused as truncated exactly if they begin with no body, and would with some bytes after them.
 pub fn truncated_bytes_can_become_a_body()
@@ -36,10 +31,7 @@ pub fn truncated_bytes_can_become_a_body()
 pub fn open_places_can_begin_a_frame()
     ensures { (place : ℕ) (chars : List Character) → All (λ character. character.byte < 256) chars → IsOpen place chars
         → (more : List Character) × (found : Found) × StandsIn found (chars ++ more) 0 × (found.start ≡ place) }
-{
-    // No-op: its contract is used below.
-    truncated_bytes_can_become_a_body();
-}
+{}
 
 /// Frames are unambiguous: a list has one first frame at most from a place on, and one list of frames.
 pub fn frames_are_unambiguous()
@@ -47,10 +39,7 @@ pub fn frames_are_unambiguous()
         → IsFirst f chars from → IsFirst g chars from → f ≡ g }
     ensures one_list { (chars : List Character) (from : ℕ) (xs ys : List Found)
         → AreFrames chars from xs → AreFrames chars from ys → xs ≡ ys }
-{
-    // No-op: its contract is used below.
-    bodies_are_unambiguous();
-}
+{}
 
 /// Every list of characters has its frames, from each place on.
 pub fn every_list_has_frames()

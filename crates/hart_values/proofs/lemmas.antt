@@ -2,3 +2,4 @@
 pub mod address
 pub mod packed_text
 pub mod hart_date
+pub mod Laws

@@ -11,9 +11,8 @@ ghost use Rattle.hart_device.specs.declared.answer.garbled.GarbledRequest.{Garbl
 use crate::Identity;
 use hart_frame::{
     Char, Frame, Payload, UNIQUE_COMMAND_PLACE, UNIQUE_REQUEST, are_faultless, first_start,
-    first_starts_are_decided,
 };
-use hart_values::{Address, CommFaults, MasterId, Status, address_bytes_are_unambiguous};
+use hart_values::{Address, CommFaults, MasterId, Status};
 
 /// The communication faults that fault bits of characters say.
 const CHARACTER_FAULTS: u8 = CommFaults::VERTICAL_PARITY
@@ -52,8 +51,6 @@ pub(crate) fn garbled_in(identity: &Identity, delivery: &[Char]) -> Option<Garbl
     ensures { MatchOption result ((request : GarbledRequest) → HasGarbled identity.now delivery.now request → ⊥)
         (HasGarbled identity.now delivery.now) }
 {
-    // No-op: by this law the first start that is found is the only one.
-    first_starts_are_decided();
     garbled_at(identity, &delivery[first_start(delivery)?..])
 }
 
@@ -62,8 +59,6 @@ fn garbled_at(identity: &Identity, chars: &[Char]) -> Option<GarbledRequest>
     ensures found { IfSome result (BeginsWithGarbled identity.now chars.now) }
     ensures known { (request : GarbledRequest) → BeginsWithGarbled identity.now chars.now request → result ≡ Some request }
 {
-    // No-op: by this law the garbled request that is found is the only one.
-    address_bytes_are_unambiguous();
     let master = asking_master(identity, chars)?;
     let command = byte_at(chars, UNIQUE_COMMAND_PLACE)?;
     let byte_count = byte_at(chars, UNIQUE_COMMAND_PLACE + 1)?;

@@ -6,8 +6,6 @@ ghost use Rattle.hart_frame.specs.heard.DamageExamples.{faulty_address, identity
 ghost use Rattle.hart_frame.specs.wire.FrameParts.{FrameParts};
 ghost use Rattle.hart_frame.specs.heard.Frames.{AreFrames};
 
-use crate::bodies_are_unambiguous;
-
 /// A damaged message is heard with no frame but its own.
 ///
 /// With marked damage, of which every changed character has a fault bit, it has no frame, or its own alone, in its place. With
@@ -19,10 +17,7 @@ pub fn damaged_messages_have_no_other_frame()
         → AreFrames chars 0 [] ⊎ AreFrames chars 0 (record { start = damage.left; stop = length chars; frame = frame } ∷ []) }
     ensures check { (frame : FrameParts) (preambles : ℕ) (chars : List Character) → IsCheckDamage frame preambles chars
         → AreFrames chars 0 [] }
-{
-    // No-op: its contract is used below.
-    bodies_are_unambiguous();
-}
+{}
 
 /// What each kind of damage is, by a request that is heard with it, and by what is none.
 pub fn damage_by_example()
@@ -31,7 +26,4 @@ pub fn damage_by_example()
     ensures check { IsCheckDamage identity_request 5 other_address }
     ensures not_check { IsCheckDamage identity_request 5 other_request → ⊥ }
     ensures not_with_a_preamble { IsCheckDamage identity_request 5 preamble_in_body → ⊥ }
-{
-    // No-op: its contract is used below.
-    bodies_are_unambiguous();
-}
+{}

@@ -4,7 +4,6 @@ ghost use Rattle.hart_frame.specs.heard.Delivery.{IsLone, lone_of};
 ghost use Rattle.hart_frame.specs.declared.heard.found.Found.{Found};
 
 use crate::heard::first::{first_places, found_at};
-use crate::laws::{every_list_has_frames, frames_are_unambiguous};
 use crate::{Char, Found};
 
 /// Whether a delivery, which is what is heard at once, has one frame alone.
@@ -23,9 +22,6 @@ pub fn lone_frame(delivery: &[Char]) -> LoneFrame
     ensures lone { IsLone delivery.now result }
     ensures only { (frames : List Found) → AreFrames delivery.now 0 frames → result ≡ lone_of frames }
 {
-    // No-ops: by these laws the frames that are found are the only ones.
-    frames_are_unambiguous();
-    every_list_has_frames();
     let Some(first) = first_places(delivery, 0) else {
         return LoneFrame::NoFrame;
     };

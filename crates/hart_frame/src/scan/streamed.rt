@@ -15,19 +15,13 @@ pub fn frames_are_streamed()
     ensures all { (past : List Character) (given : List Found) → IsWholeHistory past given → AreFrames past 0 given }
     ensures pushed { (past : List Character) (scan : Scan) (given : List Found) → IsHistory past scan given
         → scan.first + length scan.held ≡ length past }
-{
-    // No-op: its contract is used below.
-    crate::frames_are_unambiguous();
-}
+{}
 
 /// In chunks of whatever size the same characters are pushed, all in all the same frames are given.
 pub fn any_chunking_gives_the_same_frames()
     ensures { (past : List Character) (given other : List Found) → IsWholeHistory past given → IsWholeHistory past other
         → given ≡ other }
-{
-    // No-op: its contract is used below.
-    crate::frames_are_unambiguous();
-}
+{}
 
 /// A scanner whose characters begin with a frame gives one, and holds less once it gave one.
 pub fn held_frames_are_given()

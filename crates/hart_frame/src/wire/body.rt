@@ -5,7 +5,7 @@ ghost use Rattle.hart_frame.specs.wire.Layout.{Describes, body_length};
 ghost use Rattle.hart_frame.specs.wire.Refusal.{IsRefusedWith, HasCheckByte};
 
 use crate::wire::layout::Layout;
-use crate::{Expansion, Frame, FrameFault, Payload, bodies_are_unambiguous, check_byte};
+use crate::{Expansion, Frame, FrameFault, Payload, check_byte};
 use hart_values::{Address, ByteList};
 
 /// A body of a frame: at most 267 bytes.
@@ -29,8 +29,6 @@ pub fn decode(bytes: &[u8]) -> Result<(Frame, usize), FrameFault>
     ensures only { (frame : FrameParts) (len : ℕ) → BeginsWithBody bytes.now frame len → result ≡ Ok (frame, len) }
     ensures refused { IfErr result (IsRefusedWith bytes.now) }
 {
-    // No-op: its contract says that the frame that is read is the only one.
-    bodies_are_unambiguous();
     read_body(bytes)
 }
 

@@ -3,6 +3,8 @@ use Rattle.std.proofs.lemmas.Grind.{common_steps}
 use Rattle.hart_commands.specs.Registers.{registers}
 use Rattle.hart_commands.specs.declared.register.Register.TheVariants.{LongTag}
 use Rattle.hart_device.specs.registers.Ranges.{array_length}
+use Rattle.hart_commands.proofs.lemmas.Laws.{all_registers_are_listed_once-every}
+use Rattle.hart_device.proofs.lemmas.Laws.{range_within, ranges_fill}
 use Rattle.hart_device.proofs.lemmas.image.Image.{bad_field, before_others, read_is}
 use Rattle.hart_device.proofs.lemmas.image.Read.{kept_or, refused_or}
 use Rattle.hart_device.proofs.image.read_version_2.Goals as goal
@@ -19,9 +21,9 @@ returns-clause-refused c =
       refl,
       grind (arith, common_steps, split.front_len, split.back_len, c.if-rest.false),
       bad_field 2 registers c.copy_from_slice.new.self c.split_at.result.0.now c.split_at.result.1.now
-          (omega (arith, split.back_len, c.if-rest.false)) (λ register differ. c.all_registers_are_listed_once.ensures.every register)
+          (omega (arith, split.back_len, c.if-rest.false)) (λ register differ. all_registers_are_listed_once-every register)
           (λ register differ.
-          let fits = c.ranges_fill_the_array.ensures.within register in
+          let fits = range_within register in
           rw c.copy_from_slice.ensures.after
           (before_others register c.split_at.result.0.now c.split_at.result.1.now (omega (arith, fits, len))))
           bad,
@@ -34,5 +36,5 @@ returns-clause-kept c =
     rw (c.ok_or.ensures.value, c.split_at.ensures.by_index.0)
     (kept_or _ _ _ _ c.read_parts.result _ read.registers read.valid read.ending (λ parts contents valid ends.
     read_is 2 registers refl parts array c.split_at.result.0.now c.split_at.result.1.now
-    (c.ranges_fill_the_array.ensures.fill array c.copy_from_slice.ensures.len ∙ c.copy_from_slice.ensures.after)
-    (λ not_listed. absurd (not_listed (c.all_registers_are_listed_once.ensures.every LongTag))) contents valid ends))
+    (ranges_fill array c.copy_from_slice.ensures.len ∙ c.copy_from_slice.ensures.after)
+    (λ not_listed. absurd (not_listed (all_registers_are_listed_once-every LongTag))) contents valid ends))

@@ -1,8 +1,9 @@
 use Rattle.hart_frame.proofs.lemmas.heard.Open.{open_begins}
+use Rattle.hart_frame.proofs.lemmas.wire.Truncated.{CanBecomeBody-truncated}
 use Rattle.hart_frame.proofs.laws.open_places_can_begin_a_frame.Goals as goal
 
 pub returns : goal.returns
 returns c = λ place chars all opened.
-    let can = open_begins (λ bytes fit truncated. ((c.truncated_bytes_can_become_a_body.ensures bytes fit).0 truncated).0)
+    let can = open_begins CanBecomeBody-truncated
     place chars all opened in
     (can.more, can.found, can.stands, can.start)

@@ -1,5 +1,9 @@
-use Rattle.hart_values.proofs.lemmas.packed_text.Packing.{IsPacked-one_list, IsPacked-one_text}
+use Rattle.hart_values.proofs.lemmas.Laws.{packed_text_and_bytes_determine_each_other-one_list}
+use Rattle.hart_values.proofs.lemmas.Laws.{packed_text_and_bytes_determine_each_other-one_text}
 use Rattle.hart_values.proofs.laws.packed_text_and_bytes_determine_each_other.Goals as goal
 
 pub returns : goal.returns
-returns c = record { one_list = IsPacked-one_list; one_text = IsPacked-one_text }
+returns c = record {
+  one_list = packed_text_and_bytes_determine_each_other-one_list;
+  one_text = packed_text_and_bytes_determine_each_other-one_text;
+}

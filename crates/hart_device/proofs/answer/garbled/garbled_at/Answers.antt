@@ -5,6 +5,7 @@ use Rattle.hart_frame.specs.heard.Character.{Character}
 use Rattle.hart_device.specs.answer.Garbled.{BeginsWithGarbled, communication_faults}
 use Rattle.hart_device.specs.declared.answer.garbled.GarbledRequest.{GarbledRequest}
 use Rattle.hart_device.specs.declared.identity_parts.IdentityParts.{IdentityParts}
+use Rattle.hart_values.proofs.lemmas.Laws.{address_bytes_are_unambiguous-one_reading}
 use Rattle.hart_device.proofs.lemmas.answer.Garbled.{begins_one, from_reads, reads_of}
 use Rattle.hart_device.proofs.answer.garbled.garbled_at.Goals as goal
 
@@ -77,4 +78,4 @@ returns-clause-found c = made c
 
 pub returns-clause-known : goal.returns-clause-known
 returns-clause-known c = λ request begins.
-    ap Some (begins_one c.address_bytes_are_unambiguous.ensures.one_reading _ _ _ request (made c) begins)
+    ap Some (begins_one address_bytes_are_unambiguous-one_reading _ _ _ request (made c) begins)

@@ -5,6 +5,7 @@ use Rattle.hart_frame.specs.heard.Start.{IsFirstStart}
 use Rattle.hart_device.specs.answer.Garbled.{BeginsWithGarbled, HasGarbled}
 use Rattle.hart_device.specs.declared.answer.garbled.GarbledRequest.{GarbledRequest}
 use Rattle.hart_device.specs.declared.identity_parts.IdentityParts.{IdentityParts}
+use Rattle.hart_frame.proofs.lemmas.Laws.{first_starts_are_decided-one}
 use Rattle.hart_device.proofs.lemmas.answer.Garbled.{OneStart}
 use Rattle.hart_device.proofs.answer.garbled.garbled_in.Goals as goal
 
@@ -33,5 +34,5 @@ returns-in_err-first_start c =
 pub returns : goal.returns
 returns c =
     let chars = c.args.delivery.now in
-    at_start c.first_starts_are_decided.ensures.one c.args.identity.now chars _ _ c.garbled_at.result c.in_ok-first_start.ensures
+    at_start first_starts_are_decided-one c.args.identity.now chars _ _ c.garbled_at.result c.in_ok-first_start.ensures
     (take_rest chars _) c.garbled_at.ensures.found c.garbled_at.ensures.known

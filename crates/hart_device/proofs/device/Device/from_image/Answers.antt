@@ -1,6 +1,7 @@
 use Rattle.std.proofs.Common.{ap, refl, Result, Ok, Err, IsOk, IsErr}
 use Rattle.hart_device.specs.Device.{DeviceState}
 use Rattle.hart_device.specs.image.Image.{IsImageOf}
+use Rattle.hart_device.proofs.lemmas.Laws.{images_have_no_fault}
 use Rattle.hart_device.proofs.device.Device.from_image.Goals as goal
 
 not_both : {A E : Type 0} (result : Result A E) → IsErr result → IsOk result → ⊥
@@ -12,7 +13,7 @@ returns-in_err-parts-clause-accepted g c =
     let err = c.from_residual.ensures.0 in (
       (λ ok. absurd (not_both _ err ok)),
       λ image.
-          absurd (c.images_have_no_fault.ensures image.0 c.args.image.now c.in_err-parts.field-0.0 image.1 c.in_err-parts.ensures.refused),
+          absurd (images_have_no_fault image.0 c.args.image.now c.in_err-parts.field-0.0 image.1 c.in_err-parts.ensures.refused),
     )
 
 pub returns : goal.returns

@@ -1,4 +1,4 @@
-use Rattle.std.proofs.Common.{◌+◌, ◌∙◌, sym, arith, refl}
+use Rattle.std.proofs.Common.{arith, refl}
 use Rattle.std.proofs.lemmas.Bool.{false≢true}
 use Rattle.hart_frame.specs.wire.Delimiter.{kind_code}
 use Rattle.hart_frame.proofs.lemmas.heard.Body.{allowed_count, good_count, said_by}

@@ -1,6 +1,7 @@
 use Rattle.std.proofs.Common.{ℕ, [], ◌∷◌, subst, sym, ◌∙◌}
 use Rattle.hart_frame.specs.heard.Frames.{AreFrames, HasNoFrame, IsFirst}
 use Rattle.hart_frame.specs.declared.heard.found.Found.{Found}
+use Rattle.hart_frame.proofs.lemmas.Laws.{every_list_has_frames, frames_are_unambiguous-one_list}
 use Rattle.hart_frame.proofs.lemmas.heard.Delivery.{no_frame, one_frame, only_said, second_none, second_some, several_frames}
 use Rattle.hart_frame.proofs.heard.delivery.lone_frame.Goals as goal
 
@@ -9,7 +10,7 @@ returns-in_default-clause-lone c = no_frame c.args.delivery.now c.in_default.ens
 
 pub returns-in_default-clause-only : goal.returns-in_default-clause-only
 returns-in_default-clause-only c =
-    only_said c.frames_are_unambiguous.ensures.one_list c.args.delivery.now _ (returns-in_default-clause-lone c)
+    only_said frames_are_unambiguous-one_list c.args.delivery.now _ (returns-in_default-clause-lone c)
 
 pub returns-then-is_some-clause-lone : goal.returns-then-is_some-clause-lone
 returns-then-is_some-clause-lone c =
@@ -17,7 +18,7 @@ returns-then-is_some-clause-lone c =
     let first = c.in-Some.ensures.first in
     let second = second_some delivery c.in-Some.first.stop c.first_places-2.result (sym c.is_some.ensures ∙ c.if-is_some.true)
     c.first_places-2.ensures.first in
-    let later = c.every_list_has_frames.ensures delivery second.0.stop in
+    let later = every_list_has_frames delivery second.0.stop in
     let First : ℕ → Type 0 = λ from. IsFirst second.0 delivery from in (
       first.0,
       second.0,
@@ -27,7 +28,7 @@ returns-then-is_some-clause-lone c =
 
 pub returns-then-is_some-clause-only : goal.returns-then-is_some-clause-only
 returns-then-is_some-clause-only c =
-    only_said c.frames_are_unambiguous.ensures.one_list c.args.delivery.now _ (returns-then-is_some-clause-lone c)
+    only_said frames_are_unambiguous-one_list c.args.delivery.now _ (returns-then-is_some-clause-lone c)
 
 pub returns-clause-lone : goal.returns-clause-lone
 returns-clause-lone c =
@@ -42,4 +43,4 @@ returns-clause-lone c =
 
 pub returns-clause-only : goal.returns-clause-only
 returns-clause-only c =
-    only_said c.frames_are_unambiguous.ensures.one_list c.args.delivery.now _ (returns-clause-lone c)
+    only_said frames_are_unambiguous-one_list c.args.delivery.now _ (returns-clause-lone c)

@@ -1,4 +1,4 @@
-use Rattle.std.proofs.Common.{rules, ◌≡◌, ◌∙◌, refl, subst, sym, arith, Option, None, IfNone, IsSome}
+use Rattle.std.proofs.Common.{rules, ◌≡◌, ◌∙◌, subst, sym, Option, None, IfNone, IsSome}
 use Rattle.hart_commands.specs.declared.register.Register.TheVariants.{Polling, Mode, Date}
 use Rattle.hart_device.proofs.registers.image_registers.ImageRegisters.values.Goals as goal
 

@@ -2,6 +2,7 @@ use Rattle.std.proofs.Common.{rules, ◌≡◌, ◌≤◌, ◌-◌, ◌∙◌, a
 use Rattle.std.proofs.lemmas.Slice.{between-put_mid}
 use Rattle.hart_commands.specs.Registers.{size_of}
 use Rattle.hart_device.specs.registers.Ranges.{array_length, end_of, start_of}
+use Rattle.hart_device.proofs.lemmas.Laws.{range_within, ranges_apart}
 use Rattle.hart_device.proofs.lemmas.registers.Writing.{kept_apart}
 use Rattle.hart_device.proofs.registers.image_registers.ImageRegisters.write.Goals as goal
 
@@ -9,7 +10,7 @@ use Rattle.hart_device.proofs.registers.image_registers.ImageRegisters.write.Goa
 within : (c : goal.After-copy_from_slice) → end_of c.args.register ≤ length c.args.self.now.bytes
 within c =
     let len : length c.args.self.now.bytes ≡ array_length = search rules in
-    omega (arith, c.ranges_fill_the_array.ensures.within c.args.register, len)
+    omega (arith, range_within c.args.register, len)
 
 copied : (c : goal.After-copy_from_slice) → length c.copy_from_slice.new.self ≡ end_of c.args.register - start_of c.args.register
 copied c = let size : length c.copy_from_slice.new.self ≡ size_of c.args.register = cc in omega (arith, size)
@@ -27,4 +28,4 @@ returns-clause-others c =
     rw (c.range_of-range.ensures.start, c.range_of-range.ensures.end) (λ other distinct.
     kept_apart c.args.self.now.bytes c.copy_from_slice.new.self (start_of c.args.register) (end_of c.args.register)
     (start_of other) (end_of other) (omega arith) (within c) (copied c) (omega arith)
-    (c.ranges_fill_the_array.ensures.apart c.args.register other distinct))
+    (ranges_apart c.args.register other distinct))

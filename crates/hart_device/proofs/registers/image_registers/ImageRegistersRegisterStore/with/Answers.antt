@@ -2,6 +2,7 @@ use Rattle.std.proofs.Common.{Some, ◌∙◌}
 use Rattle.hart_commands.specs.Registers.{bytes_in}
 use Rattle.hart_device.specs.registers.Ranges.{standing_for}
 use Rattle.hart_device.specs.registers.Values.{values_of}
+use Rattle.hart_commands.proofs.lemmas.Laws.{all_registers_are_listed_once-every, all_registers_are_listed_once-once}
 use Rattle.hart_device.proofs.lemmas.registers.Registers.{bytes_in-contents_by}
 use Rattle.hart_device.proofs.lemmas.registers.Writing.{all_written, one_more}
 use Rattle.hart_device.proofs.registers.image_registers.ImageRegistersRegisterStore.with.Goals as goal
@@ -10,10 +11,10 @@ pub returns : goal.returns
 returns c = λ register.
     bytes_in-contents_by (λ r. standing_for r c.loop-register.store.bytes) register
     ∙ all_written (λ r. Some (bytes_in (values_of c.args.values.now) r)) _ c.loop-register.store.bytes c.loop-register.register-index
-    c.loop-register-test.false c.all_registers_are_listed_once.ensures.every c.loop-register.invariant register
+    c.loop-register-test.false all_registers_are_listed_once-every c.loop-register.invariant register
 
 pub loop-register-preserved : goal.loop-register-preserved
 loop-register-preserved c =
     one_more (λ r. Some (bytes_in (values_of c.args.values.now) r)) _ c.loop-register.store.bytes c.write.new.self.bytes
-    c.loop-register.register-index c.loop-register-test.true c.all_registers_are_listed_once.ensures.once
+    c.loop-register.register-index c.loop-register-test.true all_registers_are_listed_once-once
     (c.write.ensures.written ∙ c.get.ensures.value) c.write.ensures.others c.loop-register.invariant

@@ -1,0 +1,58 @@
+-- The laws of bodies, of frames and of first starts, for the proofs of this crate and of those above.
+use Rattle.std.proofs.Common.{◌≡◌, ◌≤◌, ◌⊎◌, ℕ, List, [], ◌∷◌, ◌++◌, length, refl, sym}
+use Rattle.std.proofs.lemmas.List.{append-nil}
+use Rattle.hart_values.proofs.lemmas.Laws.{address_bytes_are_unambiguous-one_list, address_bytes_are_unambiguous-one_reading}
+use Rattle.hart_frame.specs.heard.Character.{Character, faultless}
+use Rattle.hart_frame.specs.heard.Frames.{AreFrames, IsFirst}
+use Rattle.hart_frame.specs.heard.Start.{HasNoStart, IsFirstStart}
+use Rattle.hart_frame.specs.wire.Body.{BeginsWithBody, IsBody}
+use Rattle.hart_frame.specs.wire.FrameParts.{FrameParts}
+use Rattle.hart_frame.specs.wire.Message.{IsMessage}
+use Rattle.hart_frame.specs.declared.heard.found.Found.{Found}
+use Rattle.hart_frame.proofs.lemmas.heard.FramesFound.{AreFrames-found}
+use Rattle.hart_frame.proofs.lemmas.heard.Message.{AreFrames-message, AreFrames-nothing}
+use Rattle.hart_frame.proofs.lemmas.heard.Start.{IsFirstStart-one, first_start_decided}
+use Rattle.hart_frame.proofs.lemmas.heard.UnambiguousFrames.{AreFrames-one, IsFirst-one}
+use Rattle.hart_frame.proofs.lemmas.wire.UnambiguousBodies.{BeginsWithBody-one, IsBody-one, same_bodies}
+
+pub bodies_are_unambiguous-one_frame : (f g : FrameParts) (bytes : List ℕ) → IsBody f bytes → IsBody g bytes → f ≡ g
+bodies_are_unambiguous-one_frame f g bytes p q =
+    (same_bodies address_bytes_are_unambiguous-one_reading f g bytes bytes [] [] p q refl).frames
+
+pub bodies_are_unambiguous-one_body : (f : FrameParts) (bytes others : List ℕ) → IsBody f bytes → IsBody f others → bytes ≡ others
+bodies_are_unambiguous-one_body = IsBody-one address_bytes_are_unambiguous-one_list
+
+pub bodies_are_unambiguous-no_proper_prefix : (f g : FrameParts) (bytes rest : List ℕ)
+    → IsBody f bytes → IsBody g (bytes ++ rest) → rest ≡ []
+bodies_are_unambiguous-no_proper_prefix f g bytes rest p q =
+    (same_bodies address_bytes_are_unambiguous-one_reading f g bytes (bytes ++ rest) rest [] p q (sym (append-nil (bytes ++ rest)))).rests
+
+pub bodies_are_unambiguous-one_prefix : (f g : FrameParts) (bytes : List ℕ) (m n : ℕ)
+    → BeginsWithBody bytes f m → BeginsWithBody bytes g n → (f ≡ g) × (m ≡ n)
+bodies_are_unambiguous-one_prefix = BeginsWithBody-one address_bytes_are_unambiguous-one_reading
+
+pub frames_are_unambiguous-one_first : (f g : Found) (chars : List Character) (from : ℕ) → IsFirst f chars from → IsFirst g chars from
+    → f ≡ g
+frames_are_unambiguous-one_first = IsFirst-one bodies_are_unambiguous-one_prefix
+
+pub frames_are_unambiguous-one_list : (chars : List Character) (from : ℕ) (xs ys : List Found) → AreFrames chars from xs
+    → AreFrames chars from ys → xs ≡ ys
+frames_are_unambiguous-one_list = AreFrames-one bodies_are_unambiguous-one_prefix
+
+pub every_list_has_frames : (chars : List Character) (from : ℕ) → (frames : List Found) × AreFrames chars from frames
+every_list_has_frames = AreFrames-found
+
+pub messages_have_their_frame_alone-message : (frame : FrameParts) (preambles : ℕ) (bytes : List ℕ) → 2 ≤ preambles
+    → IsMessage frame preambles bytes
+    → AreFrames (faultless bytes) 0 (record { start = preambles; stop = length bytes; frame = frame } ∷ [])
+messages_have_their_frame_alone-message = AreFrames-message
+
+pub messages_have_their_frame_alone-nothing : AreFrames [] 0 []
+messages_have_their_frame_alone-nothing = AreFrames-nothing
+
+pub first_starts_are_decided-one : (place other : ℕ) (chars : List Character) → IsFirstStart place chars → IsFirstStart other chars
+    → place ≡ other
+first_starts_are_decided-one = IsFirstStart-one
+
+pub first_starts_are_decided-decided : (chars : List Character) → ((place : ℕ) × IsFirstStart place chars) ⊎ HasNoStart chars
+first_starts_are_decided-decided = first_start_decided
