@@ -213,10 +213,16 @@ fn every_command_has_room(rt: HostRuntime) -> Result<(), Fail> {
     Ok(())
 }
 
+/// Sizes that no script above asks for, for each of which there is room.
+const ROOMS: &[usize] = &[1, 31, 7_777, 1_048_577];
+
 #[test]
 fn every_length_has_room(rt: HostRuntime) -> Result<(), Fail> {
     for growing in GROWING {
         grow(&rt, rt.alloc(), growing)?;
+    }
+    for room in ROOMS {
+        assert!(rt; reserved::<u64>(rt.alloc(), *room).is_ok(), "for {room}");
     }
     Ok(())
 }

@@ -293,6 +293,12 @@ fn run_on<S: RegisterStore + Drop>(
     ))
 }
 
+/// The fault of a script on the bench device with a store of this kind.
+pub fn fault_of<S: RegisterStore + Drop>(alloc: Global, script: &str) -> Result<LineFault, Fail> {
+    let device = Device::<S>::new(bench::identity(), &bench::register_values());
+    Ok(run_on(alloc, device, 3, script)?.err().ok_or("a report")?)
+}
+
 /// What comes of a script on the bench device, with a primary master that sends so often again.
 pub fn run_of(
     alloc: Global,

@@ -1,6 +1,7 @@
 //! Scripts that stop at undetected damage.
-use super::runs::run_of;
+use super::runs::fault_of;
 use super::*;
+use hart_device::{FieldRegisters, ImageRegisters};
 
 /// A frame in noise.
 const FRAME_IN_NOISE: &str = "noise FFFF0280000083\nprotect on\nnoise FFFF0280000082";
@@ -20,8 +21,17 @@ const WRITTEN_HEARD_UNASKED: &str =
 const OTHER_FAULT_HEARD_UNASKED: &str =
     "turn P FFFF82B7420A1B2C13030123453C FFFF86B7420A1B2C1302C0009F";
 
+/// Another reply than the device's is heard, whose parity is even.
+const ANOTHER_REPLY: &str = "submit P @0 0\nturn P ok FFFF06800002000084";
+
+/// Another request than the master's is heard, whose parity is even.
+const ANOTHER_REQUEST: &str = "submit P 37420A1B2C 19 012345\n\
+    turn P FFFF82B7420A1B2C13030123463E ok";
+
 /// Scripts, each with the number of the event at which it stops, and the leg.
 const UNDETECTED: &[(&str, usize, Leg)] = &[
+    (ANOTHER_REPLY, 1, Leg::Down),
+    (ANOTHER_REQUEST, 1, Leg::Up),
     (FRAME_IN_NOISE, 2, Leg::Noise),
     (WRITTEN_HEARD, 1, Leg::Down),
     (OTHER_FAULT_HEARD, 1, Leg::Down),
@@ -32,12 +42,13 @@ const UNDETECTED: &[(&str, usize, Leg)] = &[
 #[test]
 fn undetected_damage_stops_scripts(rt: HostRuntime) -> Result<(), Fail> {
     for (script, event, leg) in UNDETECTED {
-        let fault = run_of(rt.alloc(), 3, *script)?.err().ok_or("a report")?;
         let want = LineFault::Undetected {
             event: *event,
             leg: *leg,
         };
-        assert!(rt; fault == want, "of {script}");
+        let by_fields = fault_of::<FieldRegisters>(rt.alloc(), *script)?;
+        let by_image = fault_of::<ImageRegisters>(rt.alloc(), *script)?;
+        assert!(rt; by_fields == want && by_image == want, "of {script}");
     }
     Ok(())
 }
