@@ -85,7 +85,7 @@ fn finish<E: Sink>(outcome: Result<(), CliFault>, errors: &mut E) -> u8
         Ok(()) => DONE,
         Err(fault) => {
             // If the line cannot be written, the status alone shows the fault.
-            let _ = write_all(errors, fault.line().as_str().as_bytes());
+            let _ = write_all(errors, fault.text_line().as_str().as_bytes());
             FAULT
         }
     }

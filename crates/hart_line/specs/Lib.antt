@@ -1,3 +1,4 @@
+pub mod FaultText
 pub mod Filling
 pub mod script
 pub mod world

@@ -1,4 +1,7 @@
-use crate::NoRoom;
+ghost use Rattle.std.specs.Prelude.{◌≡◌, ◌≤◌, length, Some};
+ghost use Rattle.hart_line.specs.FaultText.{joined, leg_word, line_fault_text};
+
+use crate::{FaultText, NoRoom};
 use std::fmt;
 use thiserror::Error;
 
@@ -13,13 +16,25 @@ pub enum Leg {
     Noise,
 }
 
-impl fmt::Display for Leg {
-    fn fmt<W: fmt::Write>(&self, f: &mut fmt::Formatter<W>) -> fmt::Result {
-        f.write_str(match self {
+impl Leg {
+    /// The word of the leg.
+    pub fn word(self) -> &'static str
+        ensures word { result.now ≡ leg_word self }
+        ensures short { length result.now ≤ 5 }
+    {
+        match self {
             Leg::Up => "up",
             Leg::Down => "down",
             Leg::Noise => "noise",
-        })
+        }
+    }
+}
+
+impl fmt::Display for Leg {
+    ghost output = { λ leg. Some (leg_word leg) };
+
+    fn fmt<W: fmt::Write>(&self, f: &mut fmt::Formatter<W>) -> fmt::Result {
+        f.write_str(self.word())
     }
 }
 
@@ -28,18 +43,40 @@ impl fmt::Display for Leg {
 pub enum LineFault {
     /// Fault 1: what was heard in this leg of the event with this number, counted from 0, has frames, and they are not just the
     /// one that was sent.
-    #[error("undetected damage at event {event}, {leg}")]
     Undetected { event: usize, leg: Leg },
     /// Fault 2: memory was refused, for so many items.
-    #[error("out of memory")]
     Memory(NoRoom),
     /// Fault 3: the line of the text with this number, counted from 1, says no event.
-    #[error("bad line {number}")]
     BadLine { number: usize },
 }
 
+impl LineFault {
+    /// The text of the fault.
+    pub fn text(self) -> FaultText
+        ensures { joined result ≡ line_fault_text self }
+    {
+        match self {
+            LineFault::Undetected { event, leg } => FaultText {
+                before: "undetected damage at event ",
+                number: Some(event),
+                comma: ", ",
+                word: leg.word(),
+            },
+            LineFault::Memory(_) => FaultText::plain("out of memory"),
+            LineFault::BadLine { number } => FaultText::numbered("bad line ", number),
+        }
+    }
+}
+
+impl fmt::Display for LineFault {
+    ghost output = { λ fault. Some (line_fault_text fault) };
+
+    fn fmt<W: fmt::Write>(&self, f: &mut fmt::Formatter<W>) -> fmt::Result {
+        self.text().fmt(f)
+    }
+}
+
 impl From<NoRoom> for LineFault {
-    ghost use Rattle.std.specs.Prelude.{◌≡◌};
     ghost use Rattle.hart_line.specs.declared.fault.LineFault.TheVariants.{Memory};
 
     ghost from_gives = { λ none fault. fault ≡ Memory none };

@@ -20,6 +20,7 @@
 mod char_list;
 mod event;
 mod fault;
+mod fault_text;
 mod filling;
 mod laws;
 mod line;
@@ -29,6 +30,7 @@ mod script;
 pub use char_list::CharList;
 pub use event::{Heard, LineEvent};
 pub use fault::{Leg, LineFault};
+pub use fault_text::FaultText;
 pub use filling::Filling;
 pub use laws::{
     refused_turns_change_nothing, scripts_have_one_last_world, scripts_keep_their_promises,

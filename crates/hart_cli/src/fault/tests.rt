@@ -1,7 +1,7 @@
 use super::CliFault;
 use hart_device::DeviceFault;
 use hart_line::{Leg, LineFault, reserved};
-use std::alloc::Global;
+use std::alloc::{AllocError, Global};
 use std::test::Fail;
 
 /// Each fault and its line.
@@ -57,10 +57,20 @@ const ROWS: &[(CliFault, &str)] = &[
     (CliFault::BadWord { number: u8::MAX }, "bad word 255\n"),
 ];
 
-/// Whether this is the line of a fault, and its display with a line feed.
+/// What a fault displays, or the fault of a script or of a device that it passes on.
+fn display_of(alloc: Global, fault: CliFault) -> Result<String, AllocError> {
+    match fault {
+        CliFault::Line(fault) => format!(in alloc; "{fault}"),
+        CliFault::Image(fault) => format!(in alloc; "{fault}"),
+        other => format!(in alloc; "{other}"),
+    }
+}
+
+/// Whether this is the line of a fault, and with a line feed its display and that of the fault that it passes on.
 fn is_line_of(alloc: Global, fault: CliFault, line: &str) -> Result<bool, Fail> {
     let display = format!(in alloc; "{fault}\n")?;
-    Ok(fault.line().as_str() == line && display.as_str() == line)
+    let passed_on = format!(in alloc; "{}\n", display_of(alloc, fault)?)?;
+    Ok(fault.text_line().as_str() == line && display.as_str() == line && passed_on.as_str() == line)
 }
 
 #[test]
@@ -76,6 +86,15 @@ fn each_line_is_the_display_and_a_line_feed(rt: HostRuntime) -> Result<(), Fail>
     ] {
         assert!(rt; fault == CliFault::Memory(none));
         assert!(rt; is_line_of(rt.alloc(), fault, "out of memory\n")?);
+    }
+    Ok(())
+}
+
+#[test]
+fn a_leg_is_displayed_by_its_word(rt: HostRuntime) -> Result<(), Fail> {
+    for (leg, word) in [(Leg::Up, "up"), (Leg::Down, "down"), (Leg::Noise, "noise")] {
+        let display = format!(in rt.alloc(); "{leg}")?;
+        assert!(rt; display.as_str() == word, "{word}");
     }
     Ok(())
 }

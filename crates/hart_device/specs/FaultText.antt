@@ -1,0 +1,12 @@
+-- The texts of the faults of a device (own profile).
+use Rattle.std.specs.Prelude.{ℕ, List, codes}
+use Rattle.hart_device.specs.declared.fault.DeviceFault.{DeviceFault}
+use Rattle.hart_device.specs.declared.fault.DeviceFault.TheVariants.{BroadcastAddress, OutOfRange, BadVersion, BadLength, BadField}
+
+-- A fault of a device has this text.
+abbrev pub device_fault_text : DeviceFault → List ℕ
+device_fault_text BroadcastAddress = codes "broadcast address"
+device_fault_text OutOfRange = codes "out of range"
+device_fault_text BadVersion = codes "bad image: version"
+device_fault_text BadLength = codes "bad image: length"
+device_fault_text BadField = codes "bad image: field"

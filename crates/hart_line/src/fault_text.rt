@@ -1,0 +1,64 @@
+ghost use Rattle.std.specs.Prelude.{◌≡◌, ◌+◌, ◌≤◌, ◌++◌, decimal, length};
+
+use std::fmt;
+
+/// The text of a fault, in the parts that it is written of, so that it can be written without memory too.
+#[derive(Clone, Copy, Debug, PartialEq, Eq)]
+pub struct FaultText {
+    /// The whole text, or what stands before its number.
+    pub before: &'static str,
+    /// The number, which is written in decimal.
+    pub number: Option<usize>,
+    /// What stands between the number and the last word.
+    pub comma: &'static str,
+    /// The last word.
+    pub word: &'static str,
+    /// With a number, a text is 54 bytes long at most.
+    pub ghost short: { length before.now + length comma.now + length word.now ≤ 34 },
+}
+
+impl FaultText {
+    ghost use Rattle.hart_line.specs.FaultText.{joined};
+
+    /// The text with no number in it.
+    pub fn plain(text: &'static str) -> FaultText
+        requires { length text.now ≤ 34 }
+        ensures { joined result ≡ text.now }
+    {
+        FaultText {
+            before: text,
+            number: None,
+            comma: "",
+            word: "",
+        }
+    }
+
+    /// The text that ends in a number.
+    pub fn numbered(before: &'static str, number: usize) -> FaultText
+        requires { length before.now ≤ 34 }
+        ensures { joined result ≡ before.now ++ decimal number }
+    {
+        FaultText {
+            before,
+            number: Some(number),
+            comma: "",
+            word: "",
+        }
+    }
+}
+
+impl fmt::Display for FaultText {
+    ghost use Rattle.std.specs.Prelude.{Some};
+    ghost use Rattle.hart_line.specs.FaultText.{joined};
+
+    ghost output = { λ text. Some (joined text) };
+
+    fn fmt<W: fmt::Write>(&self, f: &mut fmt::Formatter<W>) -> fmt::Result {
+        f.write_str(self.before)?;
+        if let Some(number) = self.number {
+            write!(f, "{number}")?;
+        }
+        f.write_str(self.comma)?;
+        f.write_str(self.word)
+    }
+}
