@@ -17,7 +17,6 @@
 //! ```
 #![tactic(auto)]
 
-mod char_list;
 mod event;
 mod fault;
 mod fault_text;
@@ -25,9 +24,9 @@ mod filling;
 mod laws;
 mod line;
 mod memory;
+mod plain_list;
 mod script;
 
-pub use char_list::CharList;
 pub use event::{Heard, LineEvent};
 pub use fault::{Leg, LineFault};
 pub use fault_text::FaultText;
@@ -39,6 +38,7 @@ pub use laws::{
 pub use line::report::{Outcome, Outcomes, Party, Report, Spoken, SpokenList};
 pub use line::run::run;
 pub use memory::{NoRoom, reserved};
+pub use plain_list::{CharList, PlainList};
 pub use script::items::{LeadingItem, leading_item};
 pub use script::read_script;
 pub use script::words::{read_address, read_command, read_data, read_who};

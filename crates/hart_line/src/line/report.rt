@@ -2,12 +2,11 @@ ghost use Rattle.std.specs.Prelude.{◌≡◌, ◌+◌, ◌<◌, ◌≤◌, leng
 ghost use Rattle.std.specs.Option.{option_copied};
 ghost use Rattle.hart_line.specs.world.Spoken.{Speaks, spoken_by};
 
-use crate::Filling;
+use crate::{Filling, PlainList};
 use hart_commands::Reply;
 use hart_device::{Device, RegisterStore};
 use hart_frame::{Body, Frame};
 use hart_master::MasterFault;
-use std::marker::Model;
 
 /// Who speaks on the line.
 #[derive(Clone, Copy, Debug, PartialEq, Eq)]
@@ -45,66 +44,10 @@ pub enum Outcome {
 }
 
 /// What became of each submission, in their order.
-#[derive(Debug, Drop)]
-pub struct Outcomes {
-    outcomes: Vec<Outcome>,
-}
-
-impl Model for Outcomes {
-    ghost use Rattle.std.specs.Prelude.{List};
-    ghost use Rattle.hart_line.specs.declared.line.report.Outcome.{Outcome};
-
-    ghost Value = { List Outcome };
-
-    ghost view = { λ list. list.outcomes.items };
-}
-
-impl Outcomes {
-    /// These outcomes.
-    pub(crate) fn new(outcomes: Vec<Outcome>) -> Self
-        ensures { result ≡ outcomes.items }
-    {
-        Outcomes { outcomes }
-    }
-
-    /// The outcomes, in order.
-    pub fn as_slice(&self) -> &[Outcome]
-        ensures { result.now ≡ self.now }
-    {
-        self.outcomes.as_slice()
-    }
-}
+pub type Outcomes = PlainList<Outcome>;
 
 /// What was spoken, in order.
-#[derive(Debug, Drop)]
-pub struct SpokenList {
-    spoken: Vec<Spoken>,
-}
-
-impl Model for SpokenList {
-    ghost use Rattle.std.specs.Prelude.{List};
-    ghost use Rattle.hart_line.specs.declared.line.report.Spoken.{Spoken};
-
-    ghost Value = { List Spoken };
-
-    ghost view = { λ list. list.spoken.items };
-}
-
-impl SpokenList {
-    /// What was spoken.
-    pub(crate) fn new(spoken: Vec<Spoken>) -> Self
-        ensures { result ≡ spoken.items }
-    {
-        SpokenList { spoken }
-    }
-
-    /// What was spoken, in order.
-    pub fn as_slice(&self) -> &[Spoken]
-        ensures { result.now ≡ self.now }
-    {
-        self.spoken.as_slice()
-    }
-}
+pub type SpokenList = PlainList<Spoken>;
 
 impl Filling<Spoken> {
     /// Adds this frame, which this party speaks after so many preamble bytes; without a frame nothing is spoken.
