@@ -62,19 +62,13 @@ pub fn written_data_are_read_again()
 pub fn written_data_are_their_request()
     ensures { (request : Request) → IsRequest request
         → request_reading (command_of request) (request_data request) ≡ Ok request }
-{
-    // No-op: its contract is used below.
-    dates_are_decided();
-}
+{}
 
 /// What is read of a command and its data is a well-made request of that command.
 pub fn requests_have_their_command()
     ensures { (command : ℕ) (bytes : List ℕ) (request : Request)
         → request_reading command bytes ≡ Ok request → (command_of request ≡ command) × IsRequest request }
-{
-    // No-op: its contract is used below.
-    dates_are_decided();
-}
+{}
 
 /// A command is known exactly if none of its data are refused with code 64.
 pub fn unknown_commands_are_refused()

@@ -2,3 +2,4 @@
 pub mod script
 pub mod line
 pub mod world
+pub mod Laws

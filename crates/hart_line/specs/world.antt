@@ -7,3 +7,4 @@ pub mod Needs
 pub mod Faults
 pub mod Executions
 pub mod Promises
+pub mod Kept

@@ -1,42 +1,18 @@
 //! Laws over the definitions alone, for the crates above.
-ghost use Rattle.std.specs.Prelude.{◌≡◌, ◌≤◌, ◌<◌, ◌+◌, ◌%◌, ◌^◌, List, [], ℕ, Option, Some, IfSome, IsTrue, false, length, slice_get};
+ghost use Rattle.std.specs.Prelude.{◌≡◌, ◌<◌, ◌^◌, List, ℕ};
 ghost use Rattle.hart_values.specs.declared.address.Address.{Address};
 ghost use Rattle.hart_values.specs.declared.master_id.MasterId.{MasterId};
-ghost use Rattle.hart_values.specs.EachMaster.{of_master};
-ghost use Rattle.hart_commands.specs.Registers.{registers_of};
 ghost use Rattle.hart_device.specs.answer.Answer.{after_refusal};
-ghost use Rattle.hart_commands.specs.RequestCode.{is_write};
-ghost use Rattle.hart_commands.specs.RequestData.{command_of};
-ghost use Rattle.hart_commands.specs.declared.reply.Reply.{Reply};
-ghost use Rattle.hart_commands.specs.declared.request.Request.{Request};
-ghost use Rattle.hart_line.specs.world.Executions.{last_executions, times_executed};
-ghost use Rattle.hart_line.specs.world.Faults.{AreAllDetected, IsFault, IsNotDetectable};
-ghost use Rattle.hart_line.specs.world.Promises.{AnswersLastSending, AreWellMade, IsExecutedFromHand, IsExecutedInItsTurn, IsLastReset};
-ghost use Rattle.hart_line.specs.world.Promises.{IsRefusedByDevice, IsStepOf, IsUnrefusedWrite, brought_in_step, requests_of, sendings_in};
 ghost use Rattle.hart_line.specs.script.Rows.{HasFirstBadLine, IsScript};
-ghost use Rattle.hart_line.specs.world.Step.{IsLast};
 ghost use Rattle.hart_line.specs.script.Words.{IsAddressWord, IsCommandWord, IsDataWord, IsWho};
-ghost use Rattle.hart_line.specs.world.World.{Start, World, first_world, overwrites_of, state_of};
-ghost use Rattle.hart_line.specs.declared.event.Heard.{Heard};
+ghost use Rattle.hart_line.specs.world.Faults.{AreAllDetected, IsFault};
+ghost use Rattle.hart_line.specs.world.Kept.{KeepsPromises};
+ghost use Rattle.hart_line.specs.world.Promises.{IsRefusedByDevice};
+ghost use Rattle.hart_line.specs.world.Step.{IsLast};
+ghost use Rattle.hart_line.specs.world.World.{Start, World, first_world, state_of};
 ghost use Rattle.hart_line.specs.declared.event.LineEvent.{LineEvent};
-ghost use Rattle.hart_line.specs.declared.event.LineEvent.TheVariants.{Turn};
 ghost use Rattle.hart_line.specs.declared.fault.Leg.{Leg};
-ghost use Rattle.hart_line.specs.declared.fault.LineFault.{LineFault};
 ghost use Rattle.hart_line.specs.declared.fault.LineFault.TheVariants.{Undetected};
-ghost use Rattle.hart_line.specs.declared.line.report.Outcome.TheVariants.{Answered};
-
-use hart_commands::{
-    requests_have_their_command, writes_have_overwrites, written_data_are_their_request,
-};
-use hart_device::{
-    answers_give_their_code, deliveries_bring_one, refused_commands_change_nothing,
-    registers_of_lists, resets_name_this_counter, writes_execute_their_overwrite,
-};
-use hart_frame::{
-    bodies_are_unambiguous, damaged_messages_have_no_other_frame, frames_are_unambiguous,
-    messages_have_their_frame_alone,
-};
-use hart_master::{communication_faults_are_no_reply, replies_are_decided};
 
 /// A word is that of one master, of one address, of one command and of one list of data at most.
 pub fn words_have_one_value()
@@ -67,13 +43,7 @@ pub fn scripts_have_one_last_world()
     ensures one_fault { (start : Start) (events : List LineEvent) (number other : ℕ) (leg another : Leg)
         → IsFault start events (Undetected number leg) → IsFault start events (Undetected other another)
         → (number ≡ other) × (leg ≡ another) }
-{
-    // No-ops: their contracts are used below.
-    bodies_are_unambiguous();
-    frames_are_unambiguous();
-    deliveries_bring_one();
-    replies_are_decided();
-}
+{}
 
 /// A turn in which the device refuses a command leaves the device as it was but for the cold start bit of the turn's master, which the
 /// reply shows and clears, wherever the turn stands in a script. One in which it does not answer leaves it as it was.
@@ -81,72 +51,11 @@ pub fn refused_turns_change_nothing()
     ensures { (start : Start) (events : List LineEvent) (before next : World)
         (refused : IsRefusedByDevice start events before next)
         → state_of start.device next ≡ after_refusal (state_of start.device before) refused.frame }
-{
-    // No-op: its contract says that a refused command changes nothing.
-    refused_commands_change_nothing();
-}
+{}
 
-/// All that [`run`](crate::run) promises of a script: of its first world, of its turns, of its last world and of its fault. If a
-/// clause asks for well-made requests, each value of [`Request`](hart_commands::Request) is one.
+/// All that [`run`](crate::run) promises of a script: of its first world, which the device stands for, and of its turns, its last
+/// world and its fault. If a promise asks for well-made requests, each value of [`Request`](hart_commands::Request) is one.
 pub fn scripts_keep_their_promises()
-    // The device stands for the first world, and there is one last world at most.
     ensures first_world { (start : Start) → start.device.counter < 2 ^ 16 → state_of start.device (first_world start) ≡ start.device }
-    ensures one_world { (start : Start) (events : List LineEvent) (a b : World)
-        → IsLast start events a → IsLast start events b → a ≡ b }
-    ensures accepted_reply_answers_last_sending { (start : Start) (events : List LineEvent) (world : World) → IsLast start events world
-        → (number : ℕ) (reply : Reply) (sendings : ℕ) → slice_get world.outcomes number ≡ Some (Answered reply sendings)
-        → AnswersLastSending start events number reply sendings }
-    ensures registers_follow_last_executions { (start : Start) (events : List LineEvent) (world : World) → IsLast start events world
-        → AreWellMade events
-        → (state_of start.device world).contents
-        ≡ registers_of (overwrites_of (last_executions world.executions)) start.device.contents }
-    ensures counter_counts_executions { (start : Start) (world : World)
-        → (state_of start.device world).counter ≡ (start.device.counter + length world.executions) % 2 ^ 16 }
-    ensures refused_commands_change_nothing { (start : Start) (events : List LineEvent) (world : World) → IsLast start events world
-        → (before next : World) (refused : IsRefusedByDevice start events before next)
-        → refused.turn.suffix ≡ [] → state_of start.device world ≡ after_refusal (state_of start.device before) refused.frame }
-    ensures refused_turns_change_nothing { (start : Start) (events : List LineEvent) (before next : World)
-        (refused : IsRefusedByDevice start events before next)
-        → state_of start.device next ≡ after_refusal (state_of start.device before) refused.frame }
-    ensures unrefused_writes_are_executed { (start : Start) (events : List LineEvent) → AreWellMade events
-        → (before next : World) (who : MasterId) (up down : Heard)
-        (turn : IsStepOf start (first_world start) events before (Turn who up down) next)
-        → IsUnrefusedWrite (state_of start.device before) turn.step.brought → IsExecutedFromHand start events who before next }
-    ensures nothing_else_is_executed { (start : Start) (events : List LineEvent) (before next : World) (event : LineEvent)
-        (here : IsStepOf start (first_world start) events before event next)
-        → (IsUnrefusedWrite (state_of start.device before) (brought_in_step start before event next here.step) → ⊥)
-        → next.executions ≡ before.executions }
-    ensures executed_in_its_turn { (start : Start) (events : List LineEvent) → AreWellMade events
-        → (number : ℕ) (request : Request) (reply : Reply) (sendings : ℕ) → AnswersLastSending start events number reply sendings
-        → slice_get (requests_of events) number ≡ Some request → IsTrue (is_write (command_of request)) → reply.code ≡ 0
-        → IsExecutedInItsTurn start events number request reply sendings }
-    ensures at_most_once_a_sending { (start : Start) (events : List LineEvent) (world : World) → IsLast start events world
-        → (number : ℕ) → times_executed number world.executions ≤ sendings_in (slice_get world.outcomes number) }
-    ensures no_change_unseen { (start : Start) (events : List LineEvent) (world : World) → IsLast start events world
-        → (who : MasterId) (before : World) (given : Option ℕ) → IsLastReset start events who before given
-        → of_master who (state_of start.device world).changed ≡ false
-        → IfSome given (λ counter. (state_of start.device world).counter ≡ counter)
-        × ((state_of start.device world).counter ≡ (state_of start.device before).counter)
-        × ((state_of start.device world).contents ≡ (state_of start.device before).contents) }
-    ensures detectable_damage_is_detected { (start : Start) (events : List LineEvent) (fault : LineFault)
-        → 5 ≤ start.device.identity.response_preambles → IsFault start events fault → IsNotDetectable start events fault }
-{
-    // No-ops: their contracts are used below.
-    registers_of_lists();
-    writes_execute_their_overwrite();
-    answers_give_their_code();
-    requests_have_their_command();
-    writes_have_overwrites();
-    resets_name_this_counter();
-    refused_commands_change_nothing();
-    refused_turns_change_nothing();
-    written_data_are_their_request();
-    scripts_have_one_last_world();
-    bodies_are_unambiguous();
-    frames_are_unambiguous();
-    deliveries_bring_one();
-    replies_are_decided();
-    communication_faults_are_no_reply();
-    messages_have_their_frame_alone();
-    damaged_messages_have_no_other_frame();
-}
+    ensures kept { (start : Start) (events : List LineEvent) → KeepsPromises start events }
+{}

@@ -24,7 +24,7 @@ use crate::line::room::ScriptRoom;
 use crate::line::undetected::Undetected;
 use crate::{Filling, Heard, Leg, LineEvent, Outcome, Outcomes, Party, Report, Spoken, SpokenList};
 use hart_commands::Request;
-use hart_device::{Device, Process, RegisterStore, registers_of_lists};
+use hart_device::{Device, Process, RegisterStore};
 use hart_frame::{Char, Frame};
 use hart_master::Master;
 use hart_values::{Address, MasterId, Payload};
@@ -174,8 +174,6 @@ impl<S: RegisterStore> Line<S> {
             → Stands start world self.old → HasUndetected start world (Turn who up.now down.now) damage.leg) }
         ensures room { OnOk result (LeavesRoom (Turn who up.now down.now) self.old self.new) }
     {
-        // No-op: its contract says what overwrites leave.
-        registers_of_lists();
         let spoken = &mut self.spoken;
         let request = speak_request(&mut self.masters, spoken, who, &mut self.request);
         let reply = &mut self.reply;

@@ -2,3 +2,4 @@
 pub mod Acceptance
 pub mod Decided
 pub mod Heard
+pub mod Laws

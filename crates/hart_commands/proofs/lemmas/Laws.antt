@@ -1,10 +1,14 @@
--- The laws of registers and of overwrites, for the proofs of the crates above.
-use Rattle.std.proofs.Common.{◌≢◌, AllPairs, Contains, refl, lit<, rules}
-use Rattle.hart_commands.specs.RequestData.{IsRequest}
-use Rattle.hart_commands.specs.Registers.{AreValid, Contents, overwritten, registers}
+-- The laws of requests, of registers and of overwrites, for the proofs of the crates above.
+use Rattle.std.proofs.Common.{◌≡◌, ◌≢◌, ℕ, AllPairs, Contains, IsSome, IsTrue, List, Ok, refl, lit<, rules}
+use Rattle.hart_values.proofs.lemmas.Laws.{dates_are_decided-date}
+use Rattle.hart_commands.specs.RequestCode.{is_write}
+use Rattle.hart_commands.specs.RequestData.{IsRequest, command_of, request_data, request_reading}
+use Rattle.hart_commands.specs.Registers.{AreValid, Contents, overwrite_of, overwritten, registers}
 use Rattle.hart_commands.specs.declared.register.Register.{Register}
 use Rattle.hart_commands.specs.declared.register.Register.TheVariants.{Polling, Mode, Message, Tag, Descriptor, Date, Assembly, LongTag}
 use Rattle.hart_commands.specs.declared.request.Request.{Request}
+use Rattle.hart_commands.proofs.lemmas.Request.{written_is_own}
+use Rattle.hart_commands.proofs.lemmas.RequestMade.{read-asked}
 
 pub all_registers_are_listed_once-every : (register : Register) → Contains registers register
 all_registers_are_listed_once-every Polling = (0, lit< tt, refl)
@@ -21,3 +25,16 @@ all_registers_are_listed_once-once = search rules
 
 pub overwrites_are_valid : (write : Request) (old : Contents) → IsRequest write → AreValid old → AreValid (overwritten write old)
 overwrites_are_valid write old made valid = search rules
+
+pub requests_have_their_command : (command : ℕ) (bytes : List ℕ) (request : Request) → request_reading command bytes ≡ Ok request
+    → (command_of request ≡ command) × IsRequest request
+requests_have_their_command = read-asked (λ bytes. (dates_are_decided-date bytes).0)
+
+pub written_data_are_their_request : (request : Request) → IsRequest request
+    → request_reading (command_of request) (request_data request) ≡ Ok request
+written_data_are_their_request = written_is_own (λ bytes. (dates_are_decided-date bytes).1)
+
+pub writes_have_overwrites-exactly : (request : Request)
+    → (IsTrue (is_write (command_of request)) → IsSome (overwrite_of request))
+    × (IsSome (overwrite_of request) → IsTrue (is_write (command_of request)))
+writes_have_overwrites-exactly request = search rules

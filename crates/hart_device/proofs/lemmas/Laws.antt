@@ -1,13 +1,18 @@
 -- The laws of devices, for the proofs of this crate and of those above.
-use Rattle.std.proofs.Common.{◌≡◌, ◌≢◌, ◌≤◌, ◌⊎◌, rules, ℕ, Contains, List, [], ◌∷◌, ◌++◌, length, sym}
+use Rattle.std.proofs.Common.{◌≡◌, ◌≢◌, ◌≤◌, ◌⊎◌, rules, false, true, ℕ, Contains, List, [], ◌∷◌, ◌++◌, length, refl, sym}
+use Rattle.std.proofs.Common.{IfSome, Ok, Option, Some, slice_get}
 use Rattle.std.specs.List.{flat_map}
 use Rattle.hart_values.proofs.lemmas.Laws.{address_bytes_are_unambiguous-one_list, address_bytes_are_unambiguous-one_reading}
 use Rattle.hart_frame.specs.heard.Character.{Character}
+use Rattle.hart_frame.specs.wire.FrameParts.{FrameParts, reply_parts}
 use Rattle.hart_frame.proofs.lemmas.Laws.{every_list_has_frames, first_starts_are_decided-decided, first_starts_are_decided-one}
 use Rattle.hart_frame.proofs.lemmas.Laws.{frames_are_unambiguous-one_list}
-use Rattle.hart_commands.specs.Registers.{Contents, Overwrite, overwritten, registers, registers_of}
+use Rattle.hart_commands.specs.Registers.{Contents, Overwrite, overwrite_of, overwritten, registers, registers_of}
 use Rattle.hart_commands.specs.declared.register.Register.{Register}
-use Rattle.hart_device.specs.Device.{DeviceState}
+use Rattle.hart_commands.specs.declared.request.Request.{Request}
+use Rattle.hart_commands.specs.declared.request.Request.TheVariants.{ResetChanged}
+use Rattle.hart_device.specs.Device.{DeviceState, Executes, Nothing, Resets}
+use Rattle.hart_device.specs.answer.Answer.{answer_of, asked_effect, code_of, effect_of, is_answered, reading_of, reply_of}
 use Rattle.hart_device.specs.answer.Delivery.{Brings, Brought}
 use Rattle.hart_device.specs.answer.Garbled.{HasGarbled}
 use Rattle.hart_device.specs.image.Image.{IsImageFault, IsImageOf}
@@ -15,7 +20,9 @@ use Rattle.hart_device.specs.registers.Ranges.{array_length, end_of, standing_fo
 use Rattle.hart_device.specs.declared.answer.garbled.GarbledRequest.{GarbledRequest}
 use Rattle.hart_device.specs.declared.fault.DeviceFault.{DeviceFault}
 use Rattle.hart_device.specs.declared.identity_parts.IdentityParts.{IdentityParts}
+use Rattle.hart_device.specs.declared.process.Process.{Process}
 use Rattle.hart_device.proofs.lemmas.answer.Delivery.{Brings-found, Brings-one}
+use Rattle.hart_device.proofs.lemmas.answer.Effect.{answered_if, effect_executes_only, refused, resets_only}
 use Rattle.hart_device.proofs.lemmas.answer.Garbled.{HasGarbled-one}
 use Rattle.hart_device.proofs.lemmas.answer.GarbledFound.{garbled_decided}
 use Rattle.hart_device.proofs.lemmas.image.Image.{no_fault}
@@ -58,6 +65,39 @@ registers_of_lists-again = registers_of-again
 
 pub registers_of_lists-none : (initial : Contents) → registers_of [] initial ≡ initial
 registers_of_lists-none initial = search rules
+
+pub refused_commands_change_nothing-refused : (state : DeviceState) (frame : FrameParts) → code_of state frame ≢ 0
+    → effect_of state frame ≡ Nothing
+refused_commands_change_nothing-refused state frame =
+    refused (is_answered state frame) (code_of state frame) (asked_effect (reading_of frame))
+
+pub refused_commands_change_nothing-silent : (state : DeviceState) (frame : FrameParts) → is_answered state frame ≡ false
+    → effect_of state frame ≡ Nothing
+refused_commands_change_nothing-silent state frame silent = search rules
+
+pub answers_give_their_code-answered : (state : DeviceState) (process : Process) (frame reply : FrameParts)
+    → answer_of state process frame ≡ Some reply
+    → (is_answered state frame ≡ true) × (reply ≡ reply_parts frame reply.payload)
+    × (slice_get reply.payload 0 ≡ Some (code_of state frame))
+answers_give_their_code-answered state process frame reply =
+    answered_if (is_answered state frame) frame reply (reply_of state process frame)
+
+pub writes_execute_their_overwrite-executes : (state : DeviceState) (frame : FrameParts) (request : Request) (overwrite : Overwrite)
+    → is_answered state frame ≡ true → code_of state frame ≡ 0 → reading_of frame ≡ Ok request
+    → overwrite_of request ≡ Some overwrite → effect_of state frame ≡ Executes overwrite
+writes_execute_their_overwrite-executes state frame request overwrite answered zero reading is = search rules
+
+pub writes_execute_their_overwrite-only : (state : DeviceState) (frame : FrameParts) (overwrite : Overwrite)
+    → effect_of state frame ≡ Executes overwrite
+    → (is_answered state frame ≡ true) × (code_of state frame ≡ 0)
+    × (request : Request) × (reading_of frame ≡ Ok request) × (overwrite_of request ≡ Some overwrite)
+writes_execute_their_overwrite-only state frame =
+    effect_executes_only (is_answered state frame) (code_of state frame) (reading_of frame)
+
+pub resets_name_this_counter-only : (state : DeviceState) (frame : FrameParts) → effect_of state frame ≡ Resets
+    → (is_answered state frame ≡ true) × (code_of state frame ≡ 0)
+    × (counter : Option ℕ) × (reading_of frame ≡ Ok (ResetChanged counter)) × IfSome counter (λ n. n ≡ state.counter)
+resets_name_this_counter-only state frame = resets_only state frame
 
 -- The ranges of the registers lie within the array, lie apart, and fill it in the order of the registers.
 pub range_within : (register : Register) → end_of register ≤ array_length

@@ -1,14 +1,16 @@
--- The laws of bodies, of frames and of first starts, for the proofs of this crate and of those above.
+-- The laws of bodies, of frames, of first starts and of damage, for the proofs of this crate and of those above.
 use Rattle.std.proofs.Common.{◌≡◌, ◌≤◌, ◌⊎◌, ℕ, List, [], ◌∷◌, ◌++◌, length, refl, sym}
 use Rattle.std.proofs.lemmas.List.{append-nil}
 use Rattle.hart_values.proofs.lemmas.Laws.{address_bytes_are_unambiguous-one_list, address_bytes_are_unambiguous-one_reading}
 use Rattle.hart_frame.specs.heard.Character.{Character, faultless}
+use Rattle.hart_frame.specs.heard.Damage.{IsCheckDamage, IsMarkedDamage}
 use Rattle.hart_frame.specs.heard.Frames.{AreFrames, IsFirst}
 use Rattle.hart_frame.specs.heard.Start.{HasNoStart, IsFirstStart}
 use Rattle.hart_frame.specs.wire.Body.{BeginsWithBody, IsBody}
 use Rattle.hart_frame.specs.wire.FrameParts.{FrameParts}
 use Rattle.hart_frame.specs.wire.Message.{IsMessage}
 use Rattle.hart_frame.specs.declared.heard.found.Found.{Found}
+use Rattle.hart_frame.proofs.lemmas.heard.Damage.{AreFrames-check, AreFrames-marked}
 use Rattle.hart_frame.proofs.lemmas.heard.FramesFound.{AreFrames-found}
 use Rattle.hart_frame.proofs.lemmas.heard.Message.{AreFrames-message, AreFrames-nothing}
 use Rattle.hart_frame.proofs.lemmas.heard.Start.{IsFirstStart-one, first_start_decided}
@@ -56,3 +58,15 @@ first_starts_are_decided-one = IsFirstStart-one
 
 pub first_starts_are_decided-decided : (chars : List Character) → ((place : ℕ) × IsFirstStart place chars) ⊎ HasNoStart chars
 first_starts_are_decided-decided = first_start_decided
+
+pub damaged_messages_have_no_other_frame-marked : (frame : FrameParts) (preambles : ℕ) (chars : List Character)
+    (damage : IsMarkedDamage frame preambles chars)
+    → AreFrames chars 0 [] ⊎ AreFrames chars 0 (record { start = damage.left; stop = length chars; frame = frame } ∷ [])
+damaged_messages_have_no_other_frame-marked = AreFrames-marked (record {
+  one_frame = bodies_are_unambiguous-one_frame;
+  no_proper_prefix = bodies_are_unambiguous-no_proper_prefix;
+})
+
+pub damaged_messages_have_no_other_frame-check : (frame : FrameParts) (preambles : ℕ) (chars : List Character)
+    → IsCheckDamage frame preambles chars → AreFrames chars 0 []
+damaged_messages_have_no_other_frame-check = AreFrames-check

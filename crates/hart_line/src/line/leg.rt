@@ -10,7 +10,7 @@ ghost use Rattle.hart_line.specs.declared.fault.Leg.TheVariants.{Up};
 use crate::line::undetected::Undetected;
 use crate::{Heard, Leg};
 use hart_device::{Device, Process, RegisterStore};
-use hart_frame::{Char, Frame, LoneFrame, lone_frame, messages_have_their_frame_alone};
+use hart_frame::{Char, Frame, LoneFrame, lone_frame};
 
 /// The frame that arrives in a leg, if any does: the one that was sent.
 ///
@@ -30,8 +30,6 @@ pub fn arrived_in<'a>(
         → IsUndetected heard.now said) }
     ensures leg { IfErr result (λ damage. damage.leg ≡ leg) }
 {
-    // No-op: its contract is used below.
-    messages_have_their_frame_alone();
     match heard {
         Heard::Clean => Ok(sent),
         Heard::Lost => Ok(None),
@@ -78,8 +76,6 @@ pub fn answer_in<S: RegisterStore>(
         → IsUndetected up.now said) }
     ensures leg { IfErr result (λ damage. damage.leg ≡ Up) }
 {
-    // No-op: its contract is used below.
-    messages_have_their_frame_alone();
     match up {
         Heard::Clean => match sent {
             Some(frame) => Ok(answer(device, frame, process, reply)),

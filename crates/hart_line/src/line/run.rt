@@ -27,12 +27,11 @@ ghost use Rattle.hart_line.specs.declared.fault.Leg.{Leg};
 ghost use Rattle.hart_line.specs.declared.fault.LineFault.TheVariants.{Undetected};
 ghost use Rattle.hart_line.specs.declared.line.report.Outcome.TheVariants.{Answered};
 
-use crate::laws::{scripts_have_one_last_world, scripts_keep_their_promises};
 use crate::line::Line;
 use crate::line::room::ScriptRoom;
 use crate::line::undetected::UndetectedAt;
 use crate::{LineEvent, LineFault, Report};
-use hart_device::{Device, Process, RegisterStore, registers_of_lists};
+use hart_device::{Device, Process, RegisterStore};
 use hart_master::Master;
 use std::alloc::Global;
 
@@ -124,8 +123,6 @@ pub fn run<S: RegisterStore + Drop>(
     // No leg that is clean, lost, or marked or check damage of the message that was sent in it stops a script.
     ensures detectable_damage_is_detected { IfErr result (IsNotDetectable (start_from device process.now primary secondary) events.now) }
 {
-    // No-op: its contract is used below.
-    scripts_keep_their_promises();
     // By the contract of this an answer has preamble bytes.
     let _preambles = device.response_preambles();
     let room = ScriptRoom::reserve(alloc, events)?;
@@ -167,9 +164,6 @@ fn carry_out<S: RegisterStore + Drop>(
     ensures fault { let start = start_from device process.now primary secondary in
         IfErr result (λ stop. IsFault start events.now (Undetected stop.event stop.leg)) }
 {
-    // No-ops: their contracts are used below.
-    registers_of_lists();
-    scripts_have_one_last_world();
     // By the contract of this the counter has two bytes.
     let _counter = device.counter();
     let mut line = Line::new(room, device, primary, secondary);

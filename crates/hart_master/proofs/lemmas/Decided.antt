@@ -1,5 +1,6 @@
 -- Whether a delivery is accepted is decided.
-use Rattle.std.proofs.Common.{◌≡◌, ℕ, List, [], ◌∷◌, ap, ◌∙◌, ◌⊎◌, inl, inr, Option, None, Some, refl}
+use Rattle.std.proofs.Common.{◌≡◌, ◌≤◌, ℕ, List, [], ◌∷◌, ap, ◌∙◌, ◌⊎◌, inl, inr, Option, None, Some, refl, nat_lt, true, slice_index, arith}
+use Rattle.std.proofs.lemmas.Bool.{lt-ltb}
 use Rattle.std.proofs.lemmas.Bool.Decides.{eqb_tells}
 use Rattle.hart_values.specs.address.DeviceNumbers.{DeviceNumbers}
 use Rattle.hart_values.specs.declared.master_id.MasterId.{MasterId}
@@ -133,3 +134,11 @@ pub acceptance_decided : OneList
 acceptance_decided law each every id address request chars =
     let frames = every chars 0 in
     decided_by law id address request (each id address request) chars frames.0 frames.1
+
+-- a payload whose first byte is above 127 is read as no reply
+pub never_read : (command : ℕ) (payload : List ℕ) (reply : Reply) → 128 ≤ slice_index payload 0
+    → reply_reading command payload ≡ Some reply → ⊥
+never_read command [] reply above read = absurd (omega (arith, above))
+never_read command (code ∷ []) reply above read = cc
+never_read command (code ∷ status ∷ bytes) reply above read =
+    let is : nat_lt 127 code ≡ true = lt-ltb 127 code (omega (arith, above)) in let none = rw is at read in absurd cc

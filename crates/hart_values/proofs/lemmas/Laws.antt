@@ -1,6 +1,7 @@
--- The laws of addresses and of packed texts, for the proofs of the crates above.
-use Rattle.std.proofs.Common.{◌≡◌, ℕ, Bool, List}
+-- The laws of addresses, of packed texts and of dates, for the proofs of the crates above.
+use Rattle.std.proofs.Common.{◌≡◌, ℕ, Bool, true, List, rules}
 use Rattle.hart_values.specs.address.AddressBytes.{IsAddressBytes}
+use Rattle.hart_values.specs.hart_date.Calendar.{IsDateBytes, is_date}
 use Rattle.hart_values.specs.packed_text.Packing.{IsPacked}
 use Rattle.hart_values.specs.declared.address.Address.{Address}
 use Rattle.hart_values.specs.declared.master_id.MasterId.{MasterId}
@@ -23,3 +24,6 @@ packed_text_and_bytes_determine_each_other-one_list = IsPacked-one_list
 pub packed_text_and_bytes_determine_each_other-one_text : (text others bytes : List ℕ)
     → IsPacked text bytes → IsPacked others bytes → text ≡ others
 packed_text_and_bytes_determine_each_other-one_text = IsPacked-one_text
+
+pub dates_are_decided-date : (bytes : List ℕ) → ((is_date bytes ≡ true) → IsDateBytes bytes) × (IsDateBytes bytes → (is_date bytes ≡ true))
+dates_are_decided-date bytes = search rules

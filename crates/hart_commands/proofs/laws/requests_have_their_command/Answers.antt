@@ -1,5 +1,5 @@
-use Rattle.hart_commands.proofs.lemmas.RequestMade.{read-asked}
+use Rattle.hart_commands.proofs.lemmas.Laws.{requests_have_their_command}
 use Rattle.hart_commands.proofs.laws.requests_have_their_command.Goals as goal
 
 pub returns : goal.returns
-returns c = read-asked (λ bytes. (c.dates_are_decided.ensures.date bytes).0)
+returns c = requests_have_their_command

@@ -3,7 +3,8 @@ use Rattle.std.proofs.lemmas.List.{take_all}
 use Rattle.hart_line.specs.world.Promises.{AreWellMade, start_from}
 use Rattle.hart_line.proofs.lemmas.line.Reached.{fault_at, reached_first, reached_more, reached_report, reached_whole}
 use Rattle.hart_line.proofs.lemmas.line.Room.{room_for_next, room_for_others}
-use Rattle.hart_line.proofs.lemmas.world.State.{state-first}
+use Rattle.hart_line.proofs.lemmas.Laws.{scripts_have_one_last_world-no_fault, scripts_have_one_last_world-one_fault}
+use Rattle.hart_line.proofs.lemmas.Laws.{scripts_have_one_last_world-one_world, scripts_keep_their_promises-first_world}
 use Rattle.hart_line.proofs.lemmas.world.Submitted.{made_more}
 use Rattle.hart_line.proofs.lemmas.line.Whole.{of_last}
 use Rattle.hart_line.proofs.line.run.carry_out.Goals as goal
@@ -14,7 +15,7 @@ loop-index-init g c =
     let start = start_from c.args.device c.args.process.now c.args.primary c.args.secondary in record {
       reached = rw (c.new-line.ensures, c.requires.room.no_outcomes, c.requires.room.nothing_spoken)
           (reached_first c.args.device c.args.process.now c.args.primary c.args.secondary _ _
-          (state-first c.registers_of_lists.ensures.none start small) c.requires.primary c.requires.secondary);
+          (scripts_keep_their_promises-first_world start small) c.requires.primary c.requires.secondary);
       well_made = search rules;
       room = rw (c.new-line.ensures, c.requires.room.no_outcomes, c.requires.room.nothing_spoken)
           (record { outcomes = omega (arith, c.requires.room.outcomes); spoken = omega (arith, c.requires.room.spoken) });
@@ -47,13 +48,13 @@ loop-index-preserved g c =
     }
 
 pub returns-in-Err-clause-reported : goal.returns-in-Err-clause-reported
-returns-in-Err-clause-reported g c = λ world last. absurd (c.scripts_have_one_last_world.ensures.no_fault
+returns-in-Err-clause-reported g c = λ world last. absurd (scripts_have_one_last_world-no_fault
     (start_from c.args.device c.args.process.now c.args.primary c.args.secondary) c.args.events.now world _ _ last
     (returns-in-Err-clause-fault g c))
 
 pub returns-in-Err-clause-stopped : goal.returns-in-Err-clause-stopped
 returns-in-Err-clause-stopped g c = λ event leg fault.
-    let same = c.scripts_have_one_last_world.ensures.one_fault
+    let same = scripts_have_one_last_world-one_fault
     (start_from c.args.device c.args.process.now c.args.primary c.args.secondary) c.args.events.now _ _ _ _
     (returns-in-Err-clause-fault g c) fault in
     rw (← same.0, ← same.1) refl
@@ -62,18 +63,17 @@ pub returns : goal.returns
 returns g c =
     let start = start_from c.args.device c.args.process.now c.args.primary c.args.secondary in
     let events = c.args.events.now in
-    let worlds = c.scripts_have_one_last_world.ensures in
     let report = c.into_report.ensures in
     let reached = reached_report {start = start} {events = events} _ _ _ report.device report.outcomes report.spoken
     (reached_whole _ _ _ _ (omega (arith, c.loop-index-test.false)) c.loop-index.invariant.reached) in
     record {
       world = (reached.world, reached.is_last);
-      device = of_last worlds.one_world _ reached reached.stands.device_is;
-      outcomes = of_last worlds.one_world _ reached reached.stands.outcomes_are;
-      spoken = of_last worlds.one_world _ reached reached.stands.spoken_are;
+      device = of_last scripts_have_one_last_world-one_world _ reached reached.stands.device_is;
+      outcomes = of_last scripts_have_one_last_world-one_world _ reached reached.stands.outcomes_are;
+      spoken = of_last scripts_have_one_last_world-one_world _ reached reached.stands.spoken_are;
       well_made = subst AreWellMade (take_all c.loop-index.index events (omega (arith, c.loop-index-test.false)))
           c.loop-index.invariant.well_made;
       reported = λ world last. refl;
-      stopped = λ event leg fault. absurd (worlds.no_fault start events reached.world event leg reached.is_last fault);
+      stopped = λ event leg fault. absurd (scripts_have_one_last_world-no_fault start events reached.world event leg reached.is_last fault);
       fault = tt;
     }

@@ -6,13 +6,14 @@ use Rattle.hart_commands.specs.declared.reply.Reply.{Reply}
 use Rattle.hart_line.specs.world.Promises.{AnswersLastSending, start_from}
 use Rattle.hart_line.specs.declared.fault.LineFault.TheVariants.{Undetected}
 use Rattle.hart_line.specs.declared.line.report.Outcome.TheVariants.{Answered}
+use Rattle.hart_line.proofs.lemmas.Laws.{scripts_keep_their_promises-kept}
 use Rattle.hart_line.proofs.line.run.run.Goals as goal
 
 pub returns : goal.returns
 returns g c =
     let start = start_from c.args.device c.args.process.now c.args.primary c.args.secondary in
     let events = c.args.events.now in
-    let promises = c.scripts_keep_their_promises.ensures in
+    let promises = scripts_keep_their_promises-kept start events in
     let done = c.in_ok-carry_out.ensures in
     let world = done.world.0 in
     let last = done.world.1 in
@@ -20,7 +21,7 @@ returns g c =
     let answers : (number : ℕ) (reply : Reply) (sendings : ℕ)
     → slice_get c.in_ok-carry_out.field-0.outcomes number ≡ Some (Answered reply sendings)
     → AnswersLastSending start events number reply sendings =
-    λ number reply sendings is. promises.accepted_reply_answers_last_sending start events world last
+    λ number reply sendings is. promises.accepted_reply_answers_last_sending world last
     number reply sendings (rw (done.outcomes world last) at is) in
     record {
       world = done.world;
@@ -30,20 +31,20 @@ returns g c =
       identity = ap (λ (d : DeviceState). d.identity) device_is;
       accepted_reply_answers_last_sending = answers;
       registers_follow_last_executions = λ world last. ap (λ (d : DeviceState). d.contents) (done.device world last)
-          ∙ promises.registers_follow_last_executions start events world last done.well_made;
+          ∙ promises.registers_follow_last_executions world last done.well_made;
       counter_counts_executions = λ world last. ap (λ (d : DeviceState). d.counter) (done.device world last)
-          ∙ promises.counter_counts_executions start world;
+          ∙ promises.counter_counts_executions world;
       refused_commands_change_nothing = λ before next refused end.
-          device_is ∙ promises.refused_commands_change_nothing start events world last before next refused end;
-      refused_turns_change_nothing = promises.refused_turns_change_nothing start events;
-      unrefused_writes_are_executed = promises.unrefused_writes_are_executed start events done.well_made;
-      nothing_else_is_executed = promises.nothing_else_is_executed start events;
+          device_is ∙ promises.refused_commands_change_nothing world last before next refused end;
+      refused_turns_change_nothing = promises.refused_turns_change_nothing;
+      unrefused_writes_are_executed = promises.unrefused_writes_are_executed done.well_made;
+      nothing_else_is_executed = promises.nothing_else_is_executed;
       executed_in_its_turn = λ number request reply sendings submitted write is.
-          promises.executed_in_its_turn start events done.well_made number request reply sendings (answers number reply sendings is)
+          promises.executed_in_its_turn done.well_made number request reply sendings (answers number reply sendings is)
           submitted write;
       at_most_once_a_sending = λ world last number.
-          rw (done.outcomes world last) (promises.at_most_once_a_sending start events world last number);
-      no_change_unseen = λ who before given reset. rw device_is (promises.no_change_unseen start events world last who before given reset);
+          rw (done.outcomes world last) (promises.at_most_once_a_sending world last number);
+      no_change_unseen = λ who before given reset. rw device_is (promises.no_change_unseen world last who before given reset);
       fault = tt;
       detectable_damage_is_detected = tt;
     }
@@ -53,6 +54,6 @@ returns-in_err-carry_out-clause-detectable_damage_is_detected g c =
     let preambles = c.response_preambles-preambles.ensures in
     let enough : 5 ≤ c.args.device.identity.response_preambles = rw preambles.same at preambles.in_range.0 in
     let given = err_from_is_err_and c.from_residual-in_err-carry_out.result c.from_residual-in_err-carry_out.ensures.1 in
-    rw (given.1, given.2) (c.scripts_keep_their_promises.ensures.detectable_damage_is_detected
-    (start_from c.args.device c.args.process.now c.args.primary c.args.secondary) c.args.events.now
+    rw (given.1, given.2) ((scripts_keep_their_promises-kept
+    (start_from c.args.device c.args.process.now c.args.primary c.args.secondary) c.args.events.now).detectable_damage_is_detected
     (Undetected c.in_err-carry_out.field-0.0.event c.in_err-carry_out.field-0.0.leg) enough c.in_err-carry_out.ensures.fault)
