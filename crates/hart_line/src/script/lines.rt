@@ -1,5 +1,5 @@
 //! The lines of a text and the words of a line.
-ghost use Rattle.std.specs.Prelude.{◌≡◌, ◌≢◌, ◌≤◌, ◌==◌, [], ◌∷◌, count_by, length, not, MatchOption};
+ghost use Rattle.std.specs.Prelude.{◌≡◌, ◌≢◌, ◌≤◌, ◌==◌, ◌↔◌, [], ◌∷◌, count_by, length, not, IsTrue, MatchOption};
 ghost use Rattle.std.specs.List.{position_or_len};
 ghost use Rattle.std.specs.Str.Lines.{strip_carriage_return};
 ghost use Rattle.hart_line.specs.script.Lines.{is_blank, lines_of, words_of};
@@ -52,10 +52,14 @@ pub fn only_word(line: &[u8]) -> Option<&[u8]>
     ensures { MatchOption result (length (words_of line.now) ≢ 1) (λ word. words_of line.now ≡ word.now ∷ []) }
 {
     let (word, rest) = next_word(line)?;
-    match next_word(rest) {
-        None => Some(word),
-        Some(_) => None,
-    }
+    has_no_word(rest).then_some(word)
+}
+
+/// Whether a line has no word.
+pub fn has_no_word(line: &[u8]) -> bool
+    ensures { IsTrue result ↔ (words_of line.now ≡ []) }
+{
+    next_word(line).is_none()
 }
 
 /// The number of blanks that a line begins with.

@@ -5,7 +5,7 @@ ghost use Rattle.hart_line.specs.script.Rows.{AreDataWords, AreRequestWords, IsE
 ghost use Rattle.hart_line.specs.script.Words.{Finds};
 
 use crate::script::items::read_items;
-use crate::script::lines::{next_word, only_word};
+use crate::script::lines::{has_no_word, next_word, only_word};
 use crate::script::words::{read_address, read_command, read_data, read_who};
 use crate::{Heard, LineEvent, LineFault, NoRoom};
 use hart_commands::Request;
@@ -104,10 +104,10 @@ fn read_request(command: &[u8], rest: &[u8]) -> Option<Request>
 fn read_payload(rest: &[u8]) -> Option<Payload>
     ensures { Finds (AreDataWords (words_of rest.now)) result }
 {
-    match next_word(rest) {
-        None => Some(Payload::new()),
-        Some(_) => read_data(only_word(rest)?),
+    if has_no_word(rest) {
+        return Some(Payload::new());
     }
+    read_data(only_word(rest)?)
 }
 
 /// The turn that the words after `turn` say.
@@ -130,10 +130,7 @@ fn three_words(line: &[u8]) -> Option<(&[u8], &[u8], &[u8])>
         (λ words. words_of line.now ≡ (words.0).now ∷ (words.1).now ∷ (words.2).now ∷ []) }
 {
     let (first, second, third, rest) = first_three_words(line)?;
-    match next_word(rest) {
-        None => Some((first, second, third)),
-        Some(_) => None,
-    }
+    has_no_word(rest).then_some((first, second, third))
 }
 
 /// The first three words of a line and what follows them, or `None` if it has fewer.
@@ -181,8 +178,5 @@ fn read_noise(alloc: Global, rest: &[u8]) -> Result<LineEvent, RowFault>
 fn read_restart(rest: &[u8]) -> Option<LineEvent>
     ensures { Finds (IsEvent (codes "restart" ∷ words_of rest.now)) result }
 {
-    match next_word(rest) {
-        None => Some(LineEvent::Restart),
-        Some(_) => None,
-    }
+    has_no_word(rest).then_some(LineEvent::Restart)
 }
