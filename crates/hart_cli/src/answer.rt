@@ -94,8 +94,6 @@ fn answer_text(
 fn answer_line(device: &mut Device<ImageRegisters>, delivery: &[Char]) -> HexLine
     ensures { IsTextFor device.old delivery.now result }
 {
-    // No-op: its contract says that a delivery brings something, of which the device speaks.
-    deliveries_bring_one();
     let preambles = device.response_preambles();
     match device.hear(delivery, &bench::process()) {
         Some(reply) => message_line(&reply, preambles),

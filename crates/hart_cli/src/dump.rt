@@ -13,7 +13,7 @@ use crate::fault::CliFault;
 use crate::input::{INPUT_LIMIT, InputEnd, PORTION_LEN, read_portion};
 use crate::stream::{Failed, Sink, Source};
 use crate::text::items::{inputs_are_unambiguous, may_begin};
-use hart_frame::{every_list_has_frames, frames_are_streamed, frames_are_unambiguous};
+use hart_frame::frames_are_unambiguous;
 use hart_values::ByteList;
 use std::alloc::Global;
 
@@ -50,9 +50,6 @@ pub fn dump<R: Source, W: Sink>(
         (W.stream writer.old) (W.stream writer.new)
         result }
 {
-    // No-ops: by these laws what the scanner gives are the frames of the characters.
-    every_list_has_frames();
-    frames_are_streamed();
     let mut frames = FrameLines::new();
     let fault = scan_input(reader, writer, &mut frames)?;
     frames.finish(writer)?;
@@ -90,8 +87,6 @@ fn scan_input<R: Source, W: Sink>(
         (W.stream writer.old) (W.stream writer.new)
         frames.new result }
 {
-    // No-op: its contract says how many characters the scanner was given.
-    frames_are_streamed();
     let mut buffer = [0; PORTION_LEN];
     let mut ahead = Ahead::new();
     let mut place = 0;

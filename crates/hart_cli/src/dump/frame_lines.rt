@@ -15,7 +15,7 @@ use crate::stream::{Failed, Sink};
 use crate::text::chunk::{Chunk, read_chunk};
 use crate::text::items::leading_piece;
 use crate::text::words::TEXT_LINE_LEN;
-use hart_frame::{Char, FoundView, Scanner, held_frames_are_given};
+use hart_frame::{Char, FoundView, Scanner};
 use hart_values::ByteList;
 
 /// The most bytes of lines that are kept.
@@ -170,8 +170,6 @@ impl FrameLines {
             → IsTrue self.new.scanner.drained × (self.new.scanner.finished ≡ false)
             × (self.new.scanner.first + length self.new.scanner.held ≡ self.old.scanner.first + length self.old.scanner.held)) }
     {
-        // No-op: its contract says that a scanner which gives a frame then holds less.
-        held_frames_are_given();
         while let Some(found) = self.scanner.take() {
             keep_line(&mut self.lines, &found, writer)?;
         }

@@ -1,6 +1,7 @@
 use Rattle.std.proofs.Common.{◌≡◌, ◌+◌, ◌++◌, ◌-◌, List, ℕ, [], Option, take, drop, length, refl, sym, ap, ◌∙◌, subst, arith}
 use Rattle.std.proofs.lemmas.List.{take_rest}
 use Rattle.std.proofs.KnownBytes.{Appends-nil, Consumes-nil}
+use Rattle.hart_frame.proofs.lemmas.Laws.{frames_are_streamed-pushed}
 use Rattle.hart_frame.specs.scan.Scanner.{Scan}
 use Rattle.hart_frame.specs.scan.Streamed.{IsHistory, begin}
 use Rattle.hart_cli.specs.declared.input.InputEnd.{InputEnd}
@@ -50,7 +51,7 @@ pub scan_text-requires-clause-room : goal.scan_text-requires-clause-room
 scan_text-requires-clause-room g c =
     let loop = c.loop-ahead.invariant in
     let now = c.in_ok-write.ensures.writes _ _ loop.chars loop.so_far in
-    let pushed = c.frames_are_streamed.ensures.pushed loop.chars c.write.new.self.scanner now.given now.history in
+    let pushed = frames_are_streamed-pushed loop.chars c.write.new.self.scanner now.given now.history in
     let few = ReadsUpTo-few loop.input loop.chars c.loop-ahead.ahead loop.reads in
     omega (arith, pushed, few, loop.within, c.as_slice.ensures.fits)
 

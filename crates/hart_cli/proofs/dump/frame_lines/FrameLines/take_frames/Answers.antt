@@ -1,4 +1,5 @@
 use Rattle.std.proofs.Common.{refl, ◌∙◌}
+use Rattle.hart_frame.proofs.lemmas.Laws.{held_frames_are_given-onward}
 use Rattle.hart_frame.specs.scan.View.{found_of}
 use Rattle.hart_cli.proofs.lemmas.dump.FrameLines.{kept_broken_off, on_failure, one_given, same_pushed, waits_of}
 use Rattle.hart_cli.proofs.dump.frame_lines.FrameLines.take_frames.Goals as goal
@@ -6,7 +7,7 @@ use Rattle.hart_cli.proofs.dump.frame_lines.FrameLines.take_frames.Goals as goal
 pub loop-found-smaller : goal.loop-found-smaller
 loop-found-smaller g c =
     let gives = rw c.in-Some.is at c.take.follows.holds-at-none in
-    c.held_frames_are_given.ensures.onward c.loop-found.self.scanner c.take.follows.lender-at-none (found_of c.in-Some.found) gives
+    held_frames_are_given-onward c.loop-found.self.scanner c.take.follows.lender-at-none (found_of c.in-Some.found) gives
 
 pub loop-found-preserved : goal.loop-found-preserved
 loop-found-preserved g c =
