@@ -1,7 +1,12 @@
 //! `hart`, HART messages on the command line: what a technician types, and what comes back.
 //!
 //! Each call of the program is a module of its own, over any reader and writer; here stand only the arguments and the
-//! standard streams.
+//! standard streams. The rooms:
+//!
+//! - `text`: hex items, and lines of words and bytes.
+//! - `stream`: readers and writers; `input` and `output` read an input and write a text by them.
+//! - `dump`, `answer`, `sim`, `encode`: the calls, each with what it alone needs; `image_word` has the device of two of them.
+//! - `program`: which call the words make, and with which number it ends.
 #![tactic(auto)]
 
 mod answer;

@@ -15,6 +15,13 @@
 //! let report = run(rt.alloc(), device, primary, secondary, events.as_slice(), &bench::process())?;
 //! assert_eq!(rt; report.outcomes.as_slice()[0], Outcome::Unfinished { sendings: 1 });
 //! ```
+//!
+//! At the root stand an event, lists, faults and their texts, and memory. The rooms:
+//!
+//! - `script`: texts of lines that say events.
+//! - `line`: a device and two masters on one line, and what an event does to them.
+//! - `world`, of definitions and lemmas alone: what has happened on the line, as a reader of the script knows it and no party on
+//!   the line does. What a line does stands for it.
 #![tactic(auto)]
 
 mod event;

@@ -14,7 +14,7 @@ use super::help::Page;
 use crate::encode::EncodeWords;
 use crate::image_word::ImageWord;
 use clap::{Arg, ArgMatches, Command, value_parser};
-use hart_frame::{LEAST_PREAMBLES, MOST_PREAMBLES};
+use hart_frame::{LEAST_PREAMBLES, MOST_PREAMBLES, is_preamble_count};
 use std::alloc::{AllocError, Global};
 
 /// The version that `hart --version` shows.
@@ -101,7 +101,7 @@ fn encode_words<'a>(given: &ArgMatches<'a>) -> Option<EncodeWords<'a>>
     ensures { Finds (GivesWords (rows_of (found_of given.now))) result }
 {
     let preambles = given.get_str("preambles")?.parse::<u8>().ok()?;
-    if preambles < LEAST_PREAMBLES || preambles > MOST_PREAMBLES {
+    if !is_preamble_count(preambles) {
         return None;
     }
     Some(EncodeWords {

@@ -8,6 +8,8 @@ use Rattle.clap.specs.Words.{Text, first_of, first_value, found_of, rows_of}
 use Rattle.clap.specs.declared.parser.matches.Found.{Found}
 use Rattle.hart_cli.specs.program.CommandLine.{GivesWords}
 use Rattle.hart_cli.specs.encode.MessageWords.{MessageWords}
+use Rattle.std.proofs.lemmas.Bool.{false≢true}
+use Rattle.hart_frame.specs.wire.Message.{IsPreambleCount}
 use Rattle.hart_cli.proofs.program.command_line.encode_words.Goals as goal
 
 -- what `get_str` gives is the word
@@ -48,9 +50,10 @@ not_parsed t (Err e) o f words read is none word gives =
 
 -- and one that is read as a number below 5 or above 20 writes none
 out_of_range : (t : Text) (n : ℕ) (f : Found) (words : MessageWords) → n ≡ digits_value 10 (without_leading_plus t)
-    → first_of (codes "preambles") (rows_of f) ≡ Some t → GivesWords (rows_of f) words → (n < 5) ⊎ (5 ≤ n × 20 < n) → ⊥
-out_of_range t n f words value word gives (inl low) = omega (arith, value, (number_is t f words word gives).1, gives.count, low)
-out_of_range t n f words value word gives (inr high) = omega (arith, value, (number_is t f words word gives).1, gives.count, high)
+    → first_of (codes "preambles") (rows_of f) ≡ Some t → GivesWords (rows_of f) words → (IsPreambleCount n → ⊥) → ⊥
+out_of_range t n f words value word gives none =
+    let same = (number_is t f words word gives).1 in
+    none (omega (arith, value, same, gives.count), omega (arith, value, same, gives.count))
 
 data_is : (o : Option (Bor Text)) (absent : Bor Text) → absent.now ≡ []
     → unwrap_or (option_map (λ s. s.now) o) [] ≡ (unwrap_or o absent).now
@@ -72,7 +75,7 @@ returns c =
       given = text_is f (codes "preambles") _ _ c.get_str.ensures c.in_ok-get_str.was;
       digits = number.0;
       value = number.1;
-      count = (omega (arith, c.if-preambles-lt-LEAST_PREAMBLES.false), omega (arith, c.if-preambles-gt-MOST_PREAMBLES.false));
+      count = c.is_preamble_count.ensures.0 c.if-not-is_preamble_count.false;
     }
 
 pub returns-in_err-get_str : goal.returns-in_err-get_str
@@ -97,9 +100,10 @@ pub returns-in_err-get_str-4 : goal.returns-in_err-get_str-4
 returns-in_err-get_str-4 c = rw c.from_residual-in_err-get_str-4.ensures (λ words gives.
     no_word (found_of c.args.given.now) (codes "COMMAND") _ c.get_str-4.ensures c.in_err-get_str-4.was words.command gives.command)
 
-pub returns-then-preambles-lt-LEAST_PREAMBLES : goal.returns-then-preambles-lt-LEAST_PREAMBLES
-returns-then-preambles-lt-LEAST_PREAMBLES c = λ words gives.
+pub returns-then-not-is_preamble_count : goal.returns-then-not-is_preamble_count
+returns-then-not-is_preamble_count c = λ words gives.
     let f = found_of c.args.given.now in
     let number = parsed c.in_ok-get_str.field-0.now c.parse.result _ _ c.parse.ensures.value.0 c.ok.ensures.value c.in_ok-preambles.was in
     out_of_range c.in_ok-get_str.field-0.now c.in_ok-preambles.preambles f words number.1
-    (text_is f (codes "preambles") _ _ c.get_str.ensures c.in_ok-get_str.was) gives c.then-preambles-lt-LEAST_PREAMBLES.either
+    (text_is f (codes "preambles") _ _ c.get_str.ensures c.in_ok-get_str.was) gives
+    (λ is. false≢true (sym c.if-not-is_preamble_count.true ∙ c.is_preamble_count.ensures.1 is))
