@@ -9,6 +9,7 @@ use std::process::Abort;
 use std::test::Fail;
 
 mod answer;
+mod device_text;
 mod dump;
 mod encode;
 mod image;
