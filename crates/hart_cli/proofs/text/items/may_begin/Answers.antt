@@ -69,7 +69,7 @@ stands_already (a ∷ b ∷ c ∷ d ∷ f ∷ z ∷ text) more tail (Item (Fault
     let e = h.spelled in
     n (Item (Faulty x y v w)) (z ∷ text) (record { valid = h.valid; spelled = cc; whole = (λ k. cc k, tt) })
 
--- a separator stands at the text' of a text already
+-- a text that is not empty begins with the separator that a longer one begins with
 separator_stands : (a : ℕ) (text more tail : List ℕ) (x : ℕ) → BeginsWith ((a ∷ text) ++ more) (Separator x) tail
     → NoPieceBegins (a ∷ text) → ⊥
 separator_stands a text more tail x h n =
