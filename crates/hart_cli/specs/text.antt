@@ -1,7 +1,7 @@
 -- Texts: hex items, and lines of words and bytes.
 pub mod Items
 pub mod InputChars
-pub mod Hex
+pub mod HexText
 pub mod MessageLine
 pub mod Words
 pub mod Chunk

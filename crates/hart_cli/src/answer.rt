@@ -11,7 +11,7 @@ use crate::image_word::device_of;
 use crate::input::read_whole;
 use crate::output::write_all;
 use crate::stream::{Sink, Source};
-use crate::text::hex::HexLine;
+use crate::text::hex_text::HexLine;
 use crate::text::items::{inputs_are_unambiguous, read_chars};
 use crate::text::message_line::message_line;
 use hart_device::{Device, ImageRegisters, bench, deliveries_bring_one};

@@ -1,6 +1,6 @@
 -- Texts: hex items, and lines of words and bytes.
 pub mod InputChars
-pub mod Hex
+pub mod HexText
 pub mod Items
 pub mod KnownBytes
 pub mod Words

@@ -2,7 +2,7 @@
 use Rattle.std.specs.Prelude.{◌≡◌, ℕ, List}
 use Rattle.hart_frame.specs.wire.FrameParts.{FrameParts}
 use Rattle.hart_frame.specs.wire.Message.{IsMessage}
-use Rattle.hart_cli.specs.text.Hex.{hex_line}
+use Rattle.hart_cli.specs.text.HexText.{hex_line}
 
 -- A text is the line of a frame's message, with so many preamble bytes.
 pub record IsMessageLine (frame : FrameParts) (preambles : ℕ) (text : List ℕ) : Type 0 where

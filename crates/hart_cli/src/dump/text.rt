@@ -3,7 +3,7 @@ ghost use Rattle.std.specs.Prelude.{◌≡◌, ◌∷◌, [], ◌++◌, ◌+◌,
 ghost use Rattle.hart_frame.specs.scan.View.{found_of};
 ghost use Rattle.hart_cli.specs.dump.Text.{address_word, burst_word, device_digits, dump_line, kind_word, master_word};
 
-use crate::text::hex::push_hex;
+use crate::text::hex_text::push_hex;
 use crate::text::words::{push_hex_word, push_word};
 use hart_frame::{FoundView, FrameKind};
 use hart_values::{Address, ByteList, MasterId, UniqueAddress};

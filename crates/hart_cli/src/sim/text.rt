@@ -6,7 +6,7 @@ ghost use Rattle.hart_cli.specs.sim.Text.{counter_line, master_fault_number, ima
 ghost use Rattle.hart_cli.specs.sim.Sim.{IsNeededByWriting};
 ghost use Rattle.hart_cli.specs.sim.Text.{sim_text, spoken_line};
 
-use crate::text::hex::push_hex;
+use crate::text::hex_text::push_hex;
 use crate::text::words::{TextLine, push_hex_word, push_word};
 use hart_commands::Reply;
 use hart_device::{Device, RegisterStore};

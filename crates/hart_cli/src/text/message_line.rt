@@ -3,7 +3,7 @@
 ghost use Rattle.hart_frame.specs.wire.Message.{IsPreambleCount};
 ghost use Rattle.hart_cli.specs.text.MessageLine.{IsMessageLine};
 
-use crate::text::hex::{HexLine, hex_line};
+use crate::text::hex_text::{HexLine, hex_line};
 use hart_frame::{Frame, Message, encode};
 
 /// The line of the frame's message with so many preamble bytes.

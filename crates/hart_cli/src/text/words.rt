@@ -2,7 +2,7 @@
 ghost use Rattle.std.specs.Prelude.{◌≡◌, ◌∷◌, [], ◌++◌, ◌+◌, ◌*◌, ◌<◌, ◌≤◌, length, max};
 ghost use Rattle.hart_cli.specs.text.Words.{bytes_word};
 
-use crate::text::hex::push_hex;
+use crate::text::hex_text::push_hex;
 use hart_values::ByteList;
 
 /// The most bytes of a line, which the longest line of a frame has: two places of 20 digits, the three words of kind, master and

@@ -2,7 +2,7 @@
 use Rattle.std.proofs.Common.{◌≡◌, ℕ, List, ◌++◌, replicate, sym, ap, ◌∙◌, subst}
 use Rattle.hart_frame.specs.wire.FrameParts.{FrameParts}
 use Rattle.hart_frame.specs.wire.Body.{IsBody}
-use Rattle.hart_cli.specs.text.Hex.{hex_line}
+use Rattle.hart_cli.specs.text.HexText.{hex_line}
 use Rattle.hart_cli.specs.text.MessageLine.{IsMessageLine}
 
 -- the law of bodies: a frame has one body

@@ -2,7 +2,7 @@
 
 ghost use Rattle.std.specs.Prelude.{◌≡◌, ◌+◌, ◌*◌, ◌≤◌, ◌∷◌, [], ◌++◌, length};
 ghost use Rattle.hex.specs.Hex.{encode_upper};
-ghost use Rattle.hart_cli.specs.text.Hex.{hex_line};
+ghost use Rattle.hart_cli.specs.text.HexText.{hex_line};
 
 use hart_values::ByteList;
 

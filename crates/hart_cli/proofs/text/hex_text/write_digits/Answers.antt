@@ -1,7 +1,7 @@
 use Rattle.std.proofs.Common.{List, ℕ, ap, ◌∙◌, map}
 use Rattle.std.specs.Char.{to_ascii_uppercase}
-use Rattle.hart_cli.proofs.lemmas.text.Hex.{upper-encode_lower}
-use Rattle.hart_cli.proofs.text.hex.write_digits.Goals as goal
+use Rattle.hart_cli.proofs.lemmas.text.HexText.{upper-encode_lower}
+use Rattle.hart_cli.proofs.text.hex_text.write_digits.Goals as goal
 
 pub returns : goal.returns
 returns c =

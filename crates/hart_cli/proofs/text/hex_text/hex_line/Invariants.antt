@@ -1,6 +1,6 @@
 use Rattle.std.proofs.Common.{◌≡◌, ◌-◌, ◌*◌, ◌≤◌, length, take}
-use Rattle.hart_cli.specs.text.Hex.{hex_items}
-use Rattle.hart_cli.proofs.text.hex.hex_line.Given as goal
+use Rattle.hart_cli.specs.text.HexText.{hex_items}
+use Rattle.hart_cli.proofs.text.hex_text.hex_line.Given as goal
 
 abbrev pub invariant-loop-index : goal.invariant-loop-index
 invariant-loop-index l = record {

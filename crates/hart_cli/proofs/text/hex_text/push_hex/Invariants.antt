@@ -1,7 +1,7 @@
 use Rattle.std.proofs.Common.{◌≡◌, ◌+◌, ◌*◌, ◌++◌, length}
 use Rattle.std.specs.Slice.Iter.{chunks_rest, chunks_size}
 use Rattle.hex.specs.Hex.{encode_upper}
-use Rattle.hart_cli.proofs.text.hex.push_hex.Given as goal
+use Rattle.hart_cli.proofs.text.hex_text.push_hex.Given as goal
 
 abbrev pub invariant-loop-chunk : goal.invariant-loop-chunk
 invariant-loop-chunk g l = record {

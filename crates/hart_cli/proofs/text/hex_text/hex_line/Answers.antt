@@ -1,7 +1,7 @@
 use Rattle.std.proofs.Common.{[], ◌∷◌, ◌++◌, List, ℕ, ap, ◌∙◌, arith, length, length-append}
-use Rattle.hart_cli.proofs.lemmas.text.Hex.{hex_items-first, hex_items-more}
-use Rattle.hart_cli.proofs.text.hex.hex_line.Goals as goal
-use Rattle.hart_cli.proofs.text.hex.hex_line.Goals.{then-index-gt0, else-index-gt0}
+use Rattle.hart_cli.proofs.lemmas.text.HexText.{hex_items-first, hex_items-more}
+use Rattle.hart_cli.proofs.text.hex_text.hex_line.Goals as goal
+use Rattle.hart_cli.proofs.text.hex_text.hex_line.Goals.{then-index-gt0, else-index-gt0}
 
 pub loop-index-preserved : goal.loop-index-preserved
 loop-index-preserved c =

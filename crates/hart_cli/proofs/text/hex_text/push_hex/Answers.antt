@@ -1,7 +1,7 @@
 use Rattle.std.proofs.Common.{arith, rules, ◌∙◌}
 use Rattle.std.proofs.lemmas.List.{nil_from_length}
-use Rattle.hart_cli.proofs.lemmas.text.Hex.{encode_upper-chunk, encode_upper-lengths, encode_upper-none}
-use Rattle.hart_cli.proofs.text.hex.push_hex.Goals as goal
+use Rattle.hart_cli.proofs.lemmas.text.HexText.{encode_upper-chunk, encode_upper-lengths, encode_upper-none}
+use Rattle.hart_cli.proofs.text.hex_text.push_hex.Goals as goal
 
 pub loop-chunk-preserved : goal.loop-chunk-preserved
 loop-chunk-preserved g c =
