@@ -11,6 +11,7 @@ ghost use Rattle.hart_device.specs.declared.answer.garbled.GarbledRequest.{Garbl
 use crate::Identity;
 use hart_frame::{
     Char, Frame, Payload, UNIQUE_COMMAND_PLACE, UNIQUE_REQUEST, are_faultless, first_start,
+    unique_request_len,
 };
 use hart_values::{Address, CommFaults, MasterId, Status};
 
@@ -62,7 +63,7 @@ fn garbled_at(identity: &Identity, chars: &[Char]) -> Option<GarbledRequest>
     let master = asking_master(identity, chars)?;
     let command = byte_at(chars, UNIQUE_COMMAND_PLACE)?;
     let byte_count = byte_at(chars, UNIQUE_COMMAND_PLACE + 1)?;
-    let garbled = chars.get(..UNIQUE_COMMAND_PLACE + 3 + usize::from(byte_count))?;
+    let garbled = chars.get(..unique_request_len(byte_count))?;
     Some(GarbledRequest {
         master,
         command,

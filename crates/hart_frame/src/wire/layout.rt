@@ -2,7 +2,7 @@
 ghost use Rattle.std.specs.Prelude.{◌≡◌, ◌+◌, ◌<◌, ◌^◌, List, ℕ, IfOk, OnOk, IfErr};
 ghost use Rattle.hart_frame.specs.wire.Refusal.{IsRefusedWith, HasGoodByteCount};
 
-use crate::wire::delimiter::read_delimiter;
+use crate::wire::delimiter::{UNIQUE_COMMAND_PLACE, read_delimiter};
 use crate::{FrameFault, FrameKind};
 
 /// The parts of a body, as its delimiter and its byte count say.
@@ -42,6 +42,22 @@ impl Layout {
         ensures len { result ≡ layout_length self }
         ensures described { (bytes : List ℕ) → Describes self bytes → result ≡ body_length bytes }
     {
-        self.command_place + 3 + usize::from(self.byte_count)
+        body_len(self.command_place, self.byte_count)
     }
+}
+
+/// The length of the body of a request at a unique address, without expansion bytes, that has this byte count.
+pub fn unique_request_len(byte_count: u8) -> usize
+    ensures { result ≡ 9 + byte_count }
+{
+    body_len(UNIQUE_COMMAND_PLACE, byte_count)
+}
+
+/// The length of a body whose command stands at this place: after what is before it come the command, the byte count, as many
+/// bytes of a payload, and the check byte.
+fn body_len(command_place: usize, byte_count: u8) -> usize
+    requires { command_place + 3 + byte_count < 2 ^ 64 }
+    ensures { result ≡ command_place + 3 + byte_count }
+{
+    command_place + 3 + usize::from(byte_count)
 }

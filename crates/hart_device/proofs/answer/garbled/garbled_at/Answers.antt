@@ -46,12 +46,12 @@ made c =
     let long : 7 < length chars = omega (arith, lookup.0.1) in
     let command = byte_is chars 6 _ _ (omega (arith, long)) c.byte_at.ensures c.in_ok-command.was in
     let count = byte_is chars 7 _ _ long c.byte_at-2.ensures c.in_ok-byte_count.was in
-    let many : ℕ = 9 + c.from.result - 0 in
+    let many : ℕ = c.unique_request_len.result - 0 in
     let taken : c.in_ok-garbled.garbled.now ≡ take ((get_or chars 7 blank).byte + 9) chars =
-    lookup.0.2 ∙ ap (λ n. take n chars) (let e : many ≡ (get_or chars 7 blank).byte + 9 = omega (arith, count, c.from.ensures) in e) in
+    lookup.0.2 ∙ ap (λ n. take n chars) (let e : many ≡ (get_or chars 7 blank).byte + 9 = omega (arith, count, c.unique_request_len.ensures) in e) in
     from_reads c.args.identity.now chars _ blank (record {
       own = c.in_ok-master.ensures.found;
-      within = omega (arith, count, c.from.ensures, lookup.0.1);
+      within = omega (arith, count, c.unique_request_len.ensures, lookup.0.1);
       command = command;
       faults = c.communication_faults.ensures ∙ ap communication_faults taken;
     })
@@ -71,7 +71,7 @@ returns-in_err-byte_count-clause-known c = λ request begins.
 pub returns-in_err-garbled-clause-known : goal.returns-in_err-garbled-clause-known
 returns-in_err-garbled-clause-known c = λ request begins.
     let fits = counted_in _ _ request _ _ begins c.byte_at-2.ensures c.in_ok-byte_count.was in
-    absurd (omega (arith, fits, c.from.ensures, c.in_err-garbled.ensures.lookup))
+    absurd (omega (arith, fits, c.unique_request_len.ensures, c.in_err-garbled.ensures.lookup))
 
 pub returns-clause-found : goal.returns-clause-found
 returns-clause-found c = made c
