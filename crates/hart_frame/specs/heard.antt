@@ -4,7 +4,6 @@ pub mod Body
 pub mod Place
 pub mod Frames
 pub mod Start
-pub mod Found
 pub mod Delivery
 pub mod Damage
 pub mod DamageExamples

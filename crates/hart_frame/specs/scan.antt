@@ -5,6 +5,7 @@ pub mod Streamed
 pub mod PlainAddress
 pub mod View
 pub mod Candidate
-pub mod Sums
+pub mod Search
 pub mod Buffer
 pub mod Decision
+pub mod First

@@ -25,8 +25,7 @@ mod wire;
 pub use hart_values::Payload;
 pub use heard::character::{Char, are_faultless};
 pub use heard::damage::{damage_by_example, damaged_messages_have_no_other_frame};
-pub use heard::delivery::{LoneFrame, lone_frame};
-pub use heard::first::first_frame;
+pub use heard::delivery::LoneFrame;
 pub use heard::found::Found;
 pub use heard::start::{first_start, first_starts_are_decided};
 pub use laws::{
@@ -34,6 +33,7 @@ pub use laws::{
     messages_have_their_frame_alone, open_places_can_begin_a_frame,
     truncated_bytes_can_become_a_body,
 };
+pub use scan::first::{first_frame, lone_frame};
 pub use scan::scanner::Scanner;
 pub use scan::streamed::{
     any_chunking_gives_the_same_frames, frames_are_streamed, held_frames_are_given,

@@ -1,9 +1,10 @@
 -- The scanner: how frames are found while they are heard.
-pub mod Sum
-pub mod Buffer
 pub mod Scan
-pub mod Step
+pub mod Candidate
+pub mod Search
 pub mod Undecided
 pub mod Stream
+pub mod Buffer
+pub mod Decision
 pub mod Chunk
-pub mod Fill
+pub mod First

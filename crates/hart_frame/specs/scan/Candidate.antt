@@ -1,11 +1,17 @@
--- What the bytes that a scanner holds begin with (HCF_SPEC-081). For private calls alone.
-use Rattle.std.specs.Prelude.{◌≡◌, ◌≢◌, ℕ, ◌+◌, ◌<◌, ◌≤◌, ◌⊎◌, List, length, drop, slice_index}
+-- How the bytes that a scanner looks at begin (HCF_SPEC-081). For private calls alone.
+use Rattle.std.specs.Prelude.{◌≡◌, ◌≢◌, ℕ, ◌+◌, ◌<◌, ◌≤◌, ◌⊎◌, List, [], ◌∷◌, ◌++◌, length, take}
+use Rattle.std.specs.List.{All}
+use Rattle.hart_frame.specs.heard.Character.{Character, faultless}
+use Rattle.hart_frame.specs.wire.FrameParts.{FrameParts}
+use Rattle.hart_frame.specs.wire.Body.{IsBody}
+use Rattle.hart_frame.specs.wire.Layout.{Describes, layout_length}
+use Rattle.hart_frame.specs.wire.Parity.{HasEvenParity}
+use Rattle.hart_frame.specs.wire.Refusal.{HasCheckByte, IsRefusedWith, IsTruncated}
 use Rattle.hart_frame.specs.declared.wire.fault.FrameFault.{FrameFault}
 use Rattle.hart_frame.specs.declared.wire.fault.FrameFault.TheVariants.{Truncated}
+use Rattle.hart_frame.specs.declared.wire.layout.Layout.{Layout}
 use Rattle.hart_frame.specs.declared.scan.candidate.Candidate.{Candidate}
 use Rattle.hart_frame.specs.declared.scan.candidate.Candidate.TheVariants.{Never, Open, Whole}
-use Rattle.hart_frame.specs.wire.Layout.{Describes, byte_count_place, body_length, layout_length}
-use Rattle.hart_frame.specs.wire.Refusal.{IsRefusedWith, HasDelimiter, HasGoodByteCount, HasCheckByte}
 
 -- Bytes never become a body if they are refused, and not because they end too early.
 pub record NeverBecomeBody (bytes : List ℕ) : Type 0 where
@@ -13,34 +19,56 @@ pub record NeverBecomeBody (bytes : List ℕ) : Type 0 where
   pub refused : IsRefusedWith bytes fault
   pub decided : fault ≢ Truncated
 
--- Bytes are open until there are so many if they end too early, and that many have the next part that decides: the
--- delimiter, all up to the byte count, or all up to the check byte.
-abbrev pub IsOpenUntil : List ℕ → ℕ → Type 0
-IsOpenUntil bytes count =
-    ((length bytes ≡ 0) × (count ≡ 1))
-    ⊎ (HasDelimiter bytes × (length bytes ≤ byte_count_place bytes) × (count ≡ byte_count_place bytes + 1))
-    ⊎ (HasGoodByteCount bytes × (length bytes < body_length bytes) × (count ≡ body_length bytes))
+-- Bytes are a whole body by a layout if it describes them, ends where they end, and their parity is even.
+pub record IsWholeBody (layout : Layout) (bytes : List ℕ) : Type 0 where
+  pub described : Describes layout bytes
+  pub checked : HasCheckByte bytes
+  pub exact : layout_length layout ≡ length bytes
+  pub even : HasEvenParity bytes
+  pub fits : All (λ byte. byte < 256) bytes
 
--- The candidate on the bytes after two preamble bytes; of whole ones the layout is given, whatever their parity.
+-- Bytes after two preamble bytes never become a body, as so many of them show, and fewer may still; or all of them may; or the first
+-- of them are a whole one, and fewer may still become one.
 abbrev pub IsBodyCandidate : List ℕ → Candidate → Type 0
-IsBodyCandidate bytes Never = NeverBecomeBody bytes
-IsBodyCandidate bytes (Open count) = IsOpenUntil bytes count
-IsBodyCandidate bytes (Whole layout) = Describes layout bytes × HasCheckByte bytes
+IsBodyCandidate bytes (Never count) = (count ≤ length bytes) × NeverBecomeBody (take count bytes)
+    × ((fewer : ℕ) → fewer < count → IsTruncated (take fewer bytes))
+IsBodyCandidate bytes Open = IsTruncated bytes
+IsBodyCandidate bytes (Whole layout) = (layout_length layout ≤ length bytes) × IsWholeBody layout (take (layout_length layout) bytes)
+    × ((fewer : ℕ) → fewer < layout_length layout → IsTruncated (take fewer bytes))
 
--- Bytes begin with two preamble bytes.
-abbrev pub HasPreamble : List ℕ → Type 0
-HasPreamble held = (2 ≤ length held) × (slice_index held 0 ≡ 255) × (slice_index held 1 ≡ 255)
+-- Characters begin with no frame if two preamble bytes and a body do not come first of them.
+abbrev pub BeginWithNone : List Character → Type 0
+BeginWithNone chars = (frame : FrameParts) (body : List ℕ) (rest : List Character) → IsBody frame body
+    → chars ≡ faultless (255 ∷ 255 ∷ body) ++ rest → ⊥
 
--- The candidate on bytes from their first preamble byte on: a lone one is open, and bytes that begin otherwise never become a frame.
+-- Bytes never begin a frame if they begin with none, whatever is heard after them.
+abbrev pub NeverBegin : List ℕ → Type 0
+NeverBegin bytes = (more : List Character) → BeginWithNone (faultless bytes ++ more)
+
+-- Bytes may begin a frame if they are none, one preamble byte, or two and then bytes that end too early for a body.
+abbrev pub MayBegin : List ℕ → Type 0
+MayBegin bytes = (bytes ≡ []) ⊎ (bytes ≡ 255 ∷ []) ⊎ ((after : List ℕ) × (bytes ≡ 255 ∷ 255 ∷ after) × IsTruncated after)
+
+-- Fewer bytes than so many of a list may begin a frame.
+abbrev pub MayBeginBefore : ℕ → List ℕ → Type 0
+MayBeginBefore count bytes = (fewer : ℕ) → fewer < count → MayBegin (take fewer bytes)
+
+-- Bytes begin with a frame, by a layout, if two preamble bytes and a whole body come first of them.
+pub record IsWhole (layout : Layout) (bytes : List ℕ) : Type 0 where
+  pub body : List ℕ
+  pub rest : List ℕ
+  pub parts : bytes ≡ 255 ∷ 255 ∷ body ++ rest
+  pub whole : IsWholeBody layout body
+
+-- Bytes never begin a frame, as so many of them show, and fewer may still; or all of them may; or they begin with one, and fewer of
+-- them may still begin one.
 abbrev pub IsCandidate : List ℕ → Candidate → Type 0
-IsCandidate held Never =
-    (slice_index held 0 ≢ 255) ⊎ ((1 < length held) × (slice_index held 1 ≢ 255)) ⊎ NeverBecomeBody (drop 2 held)
-IsCandidate held (Open count) =
-    ((length held ≡ 1) × (slice_index held 0 ≡ 255) × (count ≡ 0)) ⊎ (HasPreamble held × IsOpenUntil (drop 2 held) count)
-IsCandidate held (Whole layout) = HasPreamble held × Describes layout (drop 2 held) × HasCheckByte (drop 2 held)
+IsCandidate bytes (Never count) = (count ≤ length bytes) × NeverBegin (take count bytes) × MayBeginBefore count bytes
+IsCandidate bytes Open = MayBegin bytes
+IsCandidate bytes (Whole layout) = IsWhole layout bytes × MayBeginBefore (2 + layout_length layout) bytes
 
--- No candidate is of a body of more than 267 bytes.
-abbrev pub IsShort : Candidate → Type 0
-IsShort Never = Unit {0}
-IsShort (Open count) = count ≤ 267
-IsShort (Whole layout) = layout_length layout ≤ 267
+-- So many bytes at least show that there is no frame, and none is longer than the longest.
+abbrev pub IsShort : ℕ → ℕ → List ℕ → Candidate → Type 0
+IsShort least most bytes (Never count) = (least ≤ count) × (count ≤ most)
+IsShort least most bytes Open = length bytes < most
+IsShort least most bytes (Whole layout) = layout_length layout ≤ 267

@@ -1,8 +1,9 @@
--- What a scanner promises of a chunk of faultless bytes that it hears at once (own profile).
-use Rattle.std.specs.Prelude.{◌≡◌, ℕ, true, false, ◌⊎◌}
+-- What a scanner promises of a chunk that it hears at once (own profile).
+use Rattle.std.specs.Prelude.{◌≡◌, ◌<◌, ◌≤◌, ℕ, true, false, ◌⊎◌, List, [], ◌++◌, length, take}
+use Rattle.hart_frame.specs.heard.Character.{Character}
 use Rattle.hart_frame.specs.heard.Frames.{IsUndecided}
 use Rattle.hart_frame.specs.heard.Place.{StandsIn}
-use Rattle.hart_frame.specs.scan.Scanner.{Scan}
+use Rattle.hart_frame.specs.scan.Scanner.{MovesPast, Scan, hearing}
 use Rattle.hart_frame.specs.declared.heard.found.Found.{Found}
 
 -- A scanner holds a frame if what it holds begins with two preamble bytes and the frame's body.
@@ -14,3 +15,21 @@ HoldsFrame scan = (found : Found) × StandsIn found scan.held 0 × (found.start 
 abbrev pub StopsAt : Scan → ℕ → ℕ → Type 0
 StopsAt scan count all =
     ((scan.drained ≡ true) × IsUndecided scan.held × (count ≡ all)) ⊎ ((scan.drained ≡ false) × HoldsFrame scan)
+
+-- For private calls alone:
+
+-- A scanner hears so many characters of a chunk: at least one of some, up to the first at which a frame is decided, or else all.
+pub record Hears (old new : Scan) (chunk : List Character) (count : ℕ) : Type 0 where
+  pub within : count ≤ length chunk
+  pub some : 0 < length chunk → 0 < count
+  pub moves : MovesPast (hearing old (take count chunk)) new []
+  pub before : (fewer : ℕ) → fewer < count → IsUndecided (old.held ++ take fewer chunk)
+  pub stops : StopsAt new count (length chunk)
+  pub finished : new.finished ≡ old.finished
+
+-- A scanner hears a first part of a chunk so, at least one character.
+pub record HearsPart (old new : Scan) (chunk : List Character) (count : ℕ) : Type 0 where
+  pub part : ℕ
+  pub part_within : part ≤ length chunk
+  pub part_some : 0 < part
+  pub hears : Hears old new (take part chunk) count

@@ -1,43 +1,54 @@
--- What a peek makes of a scanner's buffer (own profile). For private calls alone.
-use Rattle.std.specs.Prelude.{◌≡◌, ◌≤◌, ◌+◌, ℕ, false, List, []}
+-- What is decided of a scanner's buffer (own profile). For private calls alone.
+use Rattle.std.specs.Prelude.{◌≡◌, ◌≤◌, ◌<◌, ◌+◌, ◌⊎◌, ℕ, false, IsTrue, None, MatchOption, List, [], ◌++◌, drop, length}
 use Rattle.std.specs.List.{slice_range}
+use Rattle.std.specs.Option.{option_to_list}
+use Rattle.hart_frame.specs.heard.Character.{Character, faultless}
 use Rattle.hart_frame.specs.wire.FrameParts.{FrameParts}
 use Rattle.hart_frame.specs.wire.Body.{IsBody}
 use Rattle.hart_frame.specs.wire.Layout.{Describes, layout_length}
 use Rattle.hart_frame.specs.wire.Parity.{HasEvenParity}
 use Rattle.hart_frame.specs.wire.Refusal.{HasCheckByte}
-use Rattle.hart_frame.specs.scan.Scanner.{Gives, MovesPast, Waits}
-use Rattle.hart_frame.specs.scan.Buffer.{BeginsWithWhole, scan_of}
+use Rattle.hart_frame.specs.scan.Buffer.{held_bytes, is_drained, scan_of}
+use Rattle.hart_frame.specs.scan.Candidate.{BeginWithNone, IsWhole, MayBegin}
+use Rattle.hart_frame.specs.scan.Scanner.{Gives, MovesPast}
 use Rattle.hart_frame.specs.declared.wire.layout.Layout.{Layout}
 use Rattle.hart_frame.specs.declared.scan.buffer.Buffer.{Buffer}
 use Rattle.hart_frame.specs.declared.scan.buffer.Span.{Span}
-use Rattle.hart_frame.specs.declared.scan.decision.Step.{Step}
-use Rattle.hart_frame.specs.declared.scan.decision.Step.TheVariants.{Dropped, Waiting, Stands}
+use Rattle.hart_frame.specs.declared.scan.search.Sighting.{Sighting}
 
--- The bytes of the body at a span of the array.
+-- The bytes of the body at a span of the list.
 abbrev pub body_at : Buffer → Span → List ℕ
 body_at b span = slice_range b.bytes span.at (span.at + layout_length span.layout)
 
 -- A body of even parity lies at the span, and the frame of it is given.
 pub record GivesSpan (old new : Buffer) (span : Span) : Type 0 where
-  pub within : span.at + layout_length span.layout ≤ 1024
+  pub within : span.at + layout_length span.layout ≤ length new.bytes
   pub described : Describes span.layout (body_at new span)
   pub whole : HasCheckByte (body_at new span)
   pub even : HasEvenParity (body_at new span)
   pub given : (frame : FrameParts) → IsBody frame (body_at new span)
       → Gives (scan_of old) (scan_of new) (record { start = span.start; stop = span.stop; frame = frame })
 
--- Bytes with which no frame begins were let go, and what is held then begins with two preamble bytes and a body of even parity.
+-- Bytes with which no frame begins were let go, and what is held then begins with a frame.
 pub record HoldsWhole (old new : Buffer) (layout : Layout) : Type 0 where
   pub moves : MovesPast (scan_of old) (scan_of new) []
   pub finished : new.finished ≡ old.finished
-  pub busy : old.drained ≡ false
-  pub drained : new.drained ≡ old.drained
-  pub begins : BeginsWithWhole new layout
+  pub busy : is_drained old.state ≡ false
+  pub drained : is_drained new.state ≡ false
+  pub begins : IsWhole layout (held_bytes new)
 
--- What one step makes of a buffer: its first byte is let go, it waits, or a frame stands there and nothing is moved.
-abbrev pub IsStep : Buffer → Buffer → Step → Type 0
-IsStep old new Dropped =
-    MovesPast (scan_of old) (scan_of new) [] × (new ≡ record old { from = old.from + 1; first = old.first + 1; due = 0 })
-IsStep old new Waiting = Waits (scan_of old) (scan_of new)
-IsStep old new (Stands layout) = (new ≡ old) × BeginsWithWhole old layout
+-- With none of the first bytes that are held a frame begins, whatever may still be heard.
+abbrev pub NoneBeginHeld : Buffer → ℕ → Type 0
+NoneBeginHeld b count = (place : ℕ) → place < count → (more : List Character) → (IsTrue b.finished → more ≡ [])
+    → BeginWithNone (faultless (drop place (held_bytes b)) ++ (option_to_list b.damaged ++ more))
+
+-- In what is held from a place on, nothing is found: no byte is held there, or those that are may begin a frame, and more can follow.
+abbrev pub IsHeldOpen : Buffer → ℕ → Type 0
+IsHeldOpen b place = (length (held_bytes b) ≡ place)
+    ⊎ ((length (held_bytes b) < place + 269) × MayBegin (drop place (held_bytes b)) × (b.damaged ≡ None) × (b.finished ≡ false))
+
+-- A place is found in what is held, before which no frame begins: from there on the held bytes begin with a frame, or nothing is found.
+pub record IsHeldSearched (b : Buffer) (found : Sighting) : Type 0 where
+  pub within : found.place ≤ length (held_bytes b)
+  pub none : NoneBeginHeld b found.place
+  pub stands : MatchOption found.layout (IsHeldOpen b found.place) (λ layout. IsWhole layout (drop found.place (held_bytes b)))

@@ -13,6 +13,9 @@ pub data IsHistory : List Character → Scan → List Found → Type 0 where
   push_bytes : (past : List Character) (old new : Scan) (given : List Found) (chunk : List ℕ) → IsHistory past old given
       → old.finished ≡ false → MovesPast (hearing old (faultless chunk)) new [] → new.finished ≡ old.finished
       → IsHistory (past ++ faultless chunk) new given
+  push_chars : (past : List Character) (old new : Scan) (given : List Found) (chunk : List Character) → IsHistory past old given
+      → old.finished ≡ false → MovesPast (hearing old chunk) new [] → new.finished ≡ old.finished
+      → IsHistory (past ++ chunk) new given
   take_view : (past : List Character) (old new : Scan) (given : List Found) (found : Found) → IsHistory past old given
       → Gives old new found → IsHistory past new (given ++ found ∷ [])
   wait : (past : List Character) (old new : Scan) (given : List Found) → IsHistory past old given

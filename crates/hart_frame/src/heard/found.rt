@@ -10,12 +10,3 @@ pub struct Found {
     /// The frame.
     pub frame: Frame,
 }
-
-/// Where a frame stands, without the frame.
-#[derive(Clone, Copy)]
-pub(crate) struct FramePlaces {
-    /// The place of the delimiter.
-    pub(crate) start: usize,
-    /// The place after the check byte.
-    pub(crate) stop: usize,
-}

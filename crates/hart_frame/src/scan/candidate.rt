@@ -1,60 +1,67 @@
-//! What the bytes held by a scanner begin with.
-ghost use Rattle.std.specs.Prelude.{◌<◌, length};
-ghost use Rattle.hart_frame.specs.scan.Candidate.{IsBodyCandidate, IsShort, IsCandidate};
+//! How the bytes that a scanner looks at begin.
+ghost use Rattle.std.specs.Prelude.{◌≡◌, ◌<◌, length, slice_index};
+ghost use Rattle.hart_frame.specs.scan.Candidate.{IsBodyCandidate, IsCandidate, IsShort};
 
+use crate::check_byte;
 use crate::wire::delimiter::read_delimiter;
 use crate::wire::layout::Layout;
 use crate::wire::message::PREAMBLE;
 
-/// Whether bytes begin with a frame, as far as its byte count says.
+/// How bytes begin.
 #[derive(Clone, Copy)]
 pub(crate) enum Candidate {
-    /// They do not, whatever follows.
-    Never,
-    /// It is open until so many bytes stand after the two preamble bytes.
-    Open(usize),
-    /// By this layout its check byte is there. Whether its parity is even is not said.
+    /// With no frame, whatever follows. So many of them show it, and fewer do not.
+    Never(usize),
+    /// With what may still become a frame.
+    Open,
+    /// With a frame, by this layout.
     Whole(Layout),
 }
 
-/// What the bytes begin with.
-pub(crate) fn candidate_in(held: &[u8]) -> Candidate
-    requires { 0 < length held.now }
-    ensures candidate { IsCandidate held.now result }
-    ensures few { IsShort result }
+/// How the bytes begin, of which the first is a preamble byte.
+pub(crate) fn candidate_in(bytes: &[u8]) -> Candidate
+    requires some { 0 < length bytes.now }
+    requires preamble { slice_index bytes.now 0 ≡ 255 }
+    ensures candidate { IsCandidate bytes.now result }
+    ensures few { IsShort 2 269 bytes.now result }
 {
-    if held[0] != PREAMBLE {
-        return Candidate::Never;
+    if bytes.len() == 1 {
+        return Candidate::Open;
     }
-    if held.len() == 1 {
-        return Candidate::Open(0);
+    if bytes[1] != PREAMBLE {
+        return Candidate::Never(2);
     }
-    if held[1] != PREAMBLE {
-        return Candidate::Never;
+    match body_candidate(&bytes[2..]) {
+        Candidate::Never(count) => Candidate::Never(2 + count),
+        Candidate::Open => Candidate::Open,
+        Candidate::Whole(layout) => Candidate::Whole(layout),
     }
-    body_candidate(&held[2..])
 }
 
-/// What the bytes after two preamble bytes begin with.
+/// How the bytes after two preamble bytes begin.
 fn body_candidate(bytes: &[u8]) -> Candidate
     ensures candidate { IsBodyCandidate bytes.now result }
-    ensures few { IsShort result }
+    ensures few { IsShort 0 267 bytes.now result }
 {
     let Some(first) = bytes.first() else {
-        return Candidate::Open(1);
+        return Candidate::Open;
     };
     let Some(delimiter) = read_delimiter(*first) else {
-        return Candidate::Never;
+        return Candidate::Never(1);
     };
     let count_place = delimiter.byte_count_place();
     if bytes.len() <= count_place {
-        return Candidate::Open(count_place + 1);
+        return Candidate::Open;
     }
     let Some(layout) = delimiter.layout(bytes[count_place]) else {
-        return Candidate::Never;
+        return Candidate::Never(count_place + 1);
     };
-    if bytes.len() < layout.body_len() {
-        return Candidate::Open(layout.body_len());
+    let len = layout.body_len();
+    if bytes.len() < len {
+        return Candidate::Open;
+    }
+    if check_byte(&bytes[..len]) != 0 {
+        return Candidate::Never(len);
     }
     Candidate::Whole(layout)
 }

@@ -1,151 +1,145 @@
-//! Chunks of faultless bytes, which a scanner hears at once.
-ghost use Rattle.std.specs.Prelude.{◌≡◌, ◌≢◌, ◌<◌, ◌≤◌, ◌+◌, ◌^◌, ◌++◌, ℕ, [], false, IsTrue, length, slice_index, take};
-ghost use Rattle.std.specs.List.{All};
-ghost use Rattle.hart_frame.specs.scan.Buffer.{IsSound, scan_of};
-ghost use Rattle.hart_frame.specs.heard.Character.{faultless};
-ghost use Rattle.hart_frame.specs.heard.Frames.{IsUndecided};
-ghost use Rattle.hart_frame.specs.scan.Chunk.{StopsAt};
-ghost use Rattle.hart_frame.specs.scan.Scanner.{MovesPast, hearing};
+//! Chunks of characters, which a scanner hears at once.
+ghost use Rattle.std.specs.Prelude.{◌≡◌, ◌≢◌, ◌<◌, ◌≤◌, ◌+◌, ◌^◌, ◌++◌, ◌∷◌, [], List, length, take};
+ghost use Rattle.hart_frame.specs.heard.Character.{Character, faultless};
+ghost use Rattle.hart_frame.specs.scan.Buffer.{IsSound, held_bytes, scan_of, state_of};
+ghost use Rattle.hart_frame.specs.scan.Chunk.{Hears, HearsPart};
+ghost use Rattle.hart_frame.specs.scan.Search.{IsSearched};
+ghost use Rattle.hart_frame.specs.declared.scan.buffer.State.TheVariants.{Drained};
 
-use crate::scan::buffer::Buffer;
-use crate::wire::message::PREAMBLE;
+use crate::Char;
+use crate::scan::buffer::{Buffer, MOST_HELD, ROOM, State};
+use crate::scan::search::{Sighting, search};
+use crate::wire::layout::Layout;
+use hart_values::ByteList;
+
+/// The most faultless characters that are looked at together.
+const STRETCH: usize = 256;
 
 impl Buffer {
-    /// Hears the bytes of a chunk until what is held begins with a frame, or all of them.
+    /// Hears the first bytes of a chunk, up to the first at which a frame is decided, and gives how many.
     pub(crate) fn push_bytes(&mut self, chunk: &[u8]) -> usize
         requires sound { IsSound self.old }
-        requires drained { IsTrue self.old.drained }
+        requires drained { self.old.state ≡ Drained }
         requires room { self.old.first + length (scan_of self.old).held + length chunk.now < 2 ^ 64 }
         ensures sound { IsSound self.new }
-        ensures within { result ≤ length chunk.now }
-        ensures some { 0 < length chunk.now → 0 < result }
-        ensures moves { MovesPast (hearing (scan_of self.old) (faultless (take result chunk.now))) (scan_of self.new) [] }
-        ensures going { self.new.finished ≡ false }
-        ensures stops { StopsAt (scan_of self.new) result (length chunk.now) }
-        ensures before { (count : ℕ) → count < result → IsUndecided ((scan_of self.old).held ++ faultless (take count chunk.now)) }
+        ensures hears { Hears (scan_of self.old) (scan_of self.new) (faultless chunk.now) result }
     {
         let mut taken = 0;
         while taken < chunk.len() {
-            taken += self.hear(&chunk[taken..]);
-            if self.peek().is_some() {
+            taken += self.push_part(&chunk[taken..]);
+            if !self.is_drained() {
                 return taken;
             }
         }
         taken
     }
 
-    /// Hears the bytes of a chunk until something may be decided, or all of them.
-    fn hear(&mut self, chunk: &[u8]) -> usize
+    /// Hears the first bytes of a chunk. They are searched where they lie if nothing is held before them.
+    fn push_part(&mut self, chunk: &[u8]) -> usize
         requires sound { IsSound self.old }
-        requires drained { IsTrue self.old.drained }
-        requires room { self.old.first + length (scan_of self.old).held + length chunk.now < 2 ^ 64 }
+        requires drained { self.old.state ≡ Drained }
         requires some { 0 < length chunk.now }
+        requires room { self.old.first + length (scan_of self.old).held + length chunk.now < 2 ^ 64 }
         ensures sound { IsSound self.new }
-        ensures busy { self.new.drained ≡ false }
-        ensures within { result ≤ length chunk.now }
-        ensures some { 0 < result }
-        ensures moves { MovesPast (hearing (scan_of self.old) (faultless (take result chunk.now))) (scan_of self.new) [] }
-        ensures going { self.new.finished ≡ false }
-        ensures before { (count : ℕ) → count < result → IsUndecided ((scan_of self.old).held ++ faultless (take count chunk.now)) }
+        ensures hears { HearsPart (scan_of self.old) (scan_of self.new) (faultless chunk.now) result }
     {
-        let held = self.to - self.from;
-        if held == 0 && chunk[0] != PREAMBLE {
-            self.skip(chunk)
-        } else if held == 2 && chunk[0] == PREAMBLE {
-            self.skip_preamble(chunk)
-        } else {
-            self.fill(chunk)
+        if self.held().is_empty() {
+            return self.settle(chunk, search(chunk, 0, 1));
         }
+        let part = &chunk[..chunk.len().min(MOST_HELD)];
+        self.settle(part, self.search_joined(part))
     }
 
-    /// Passes over the first bytes of a chunk, with which no frame begins, if none is held.
-    fn skip(&mut self, chunk: &[u8]) -> usize
-        requires sound { IsSound self.old }
-        requires drained { IsTrue self.old.drained }
-        requires room { self.old.first + length (scan_of self.old).held + length chunk.now < 2 ^ 64 }
-        requires empty { self.old.from ≡ self.old.to }
-        requires other { 0 < length chunk.now → slice_index chunk.now 0 ≢ 255 }
-        ensures sound { IsSound self.new }
-        ensures busy { self.new.drained ≡ false }
-        ensures within { result ≤ length chunk.now }
-        ensures some { 0 < length chunk.now → 0 < result }
-        ensures moves { MovesPast (hearing (scan_of self.old) (faultless (take result chunk.now))) (scan_of self.new) [] }
-        ensures going { self.new.finished ≡ false }
-        ensures before { (count : ℕ) → count < result → IsUndecided ((scan_of self.old).held ++ faultless (take count chunk.now)) }
+    /// What is found in the bytes that are held and a part after them.
+    fn search_joined(&self, part: &[u8]) -> Sighting
+        requires sound { IsSound self.now }
+        requires drained { self.now.state ≡ Drained }
+        requires some { 0 < length part.now }
+        requires few { length part.now ≤ 269 }
+        ensures { IsSearched (held_bytes self.now ++ part.now) 0 (length (held_bytes self.now) + 1) result }
     {
-        let count = other_bytes(chunk);
-        self.first += count as u64;
-        self.drained = false;
-        count
+        let held = self.held();
+        let mut joined: ByteList<ROOM> = ByteList::new();
+        joined.extend_from_slice(held);
+        joined.extend_from_slice(part);
+        search(joined.as_slice(), 0, held.len() + 1)
     }
 
-    /// Lets preamble bytes go, as many as a chunk begins with, if two are held: the last two may begin a frame.
-    fn skip_preamble(&mut self, chunk: &[u8]) -> usize
+    /// Hears as much of a part as what was found in the bytes that are held and that part says, and gives how much.
+    fn settle(&mut self, part: &[u8], found: Sighting) -> usize
         requires sound { IsSound self.old }
-        requires drained { IsTrue self.old.drained }
-        requires room { self.old.first + length (scan_of self.old).held + length chunk.now < 2 ^ 64 }
-        requires two { self.old.to ≡ self.old.from + 2 }
-        requires preamble { 0 < length chunk.now → slice_index chunk.now 0 ≡ 255 }
+        requires drained { self.old.state ≡ Drained }
+        requires some { 0 < length part.now }
+        requires room { self.old.first + length (scan_of self.old).held + length part.now < 2 ^ 64 }
+        requires found { IsSearched (held_bytes self.old ++ part.now) 0 (length (held_bytes self.old) + 1) found }
         ensures sound { IsSound self.new }
-        ensures busy { self.new.drained ≡ false }
-        ensures within { result ≤ length chunk.now }
-        ensures some { 0 < length chunk.now → 0 < result }
-        ensures moves { MovesPast (hearing (scan_of self.old) (faultless (take result chunk.now))) (scan_of self.new) [] }
-        ensures going { self.new.finished ≡ false }
-        ensures before { (count : ℕ) → count < result → IsUndecided ((scan_of self.old).held ++ faultless (take count chunk.now)) }
+        ensures hears { Hears (scan_of self.old) (scan_of self.new) (faultless part.now) result }
     {
-        let count = preamble_bytes(chunk);
-        self.first += count as u64;
-        self.drained = false;
-        count
+        let held = self.held().len();
+        self.keep(part, found.place, found.decided);
+        self.state = state_of(found.layout);
+        found.decided - held
     }
 
-    /// Keeps the bytes of a chunk until something may be decided, or all of them.
-    fn fill(&mut self, chunk: &[u8]) -> usize
+    /// Hears the first characters of a chunk, up to the first at which a frame is decided, and gives how many.
+    pub(crate) fn push_chars(&mut self, chunk: &[Char]) -> usize
         requires sound { IsSound self.old }
-        requires drained { IsTrue self.old.drained }
+        requires drained { self.old.state ≡ Drained }
         requires room { self.old.first + length (scan_of self.old).held + length chunk.now < 2 ^ 64 }
-        requires some { 0 < length chunk.now }
         ensures sound { IsSound self.new }
-        ensures within { result ≤ length chunk.now }
-        ensures some { 0 < result }
-        ensures heard { scan_of self.new ≡ hearing (scan_of self.old) (faultless (take result chunk.now)) }
-        ensures before { (count : ℕ) → count < result → IsUndecided ((scan_of self.old).held ++ faultless (take count chunk.now)) }
+        ensures hears { Hears (scan_of self.old) (scan_of self.new) chunk.now result }
     {
-        let mut count = 0;
-        for byte in chunk {
-            self.push_byte(*byte);
-            count += 1;
-            if self.to >= self.due {
-                self.drained = false;
-                return count;
+        let mut taken = 0;
+        while taken < chunk.len() {
+            taken += self.push_stretch(&chunk[taken..]);
+            if !self.is_drained() {
+                return taken;
             }
         }
-        self.drained = false;
-        count
+        taken
+    }
+
+    /// Hears the first characters of a chunk: faultless ones, or one with faults.
+    fn push_stretch(&mut self, chunk: &[Char]) -> usize
+        requires sound { IsSound self.old }
+        requires drained { self.old.state ≡ Drained }
+        requires some { 0 < length chunk.now }
+        requires room { self.old.first + length (scan_of self.old).held + length chunk.now < 2 ^ 64 }
+        ensures sound { IsSound self.new }
+        ensures hears { HearsPart (scan_of self.old) (scan_of self.new) chunk.now result }
+    {
+        let stretch = faultless_stretch(chunk);
+        if !stretch.is_empty() {
+            return self.push_bytes(stretch.as_slice());
+        }
+        self.push(chunk[0]);
+        let _layout = self.peek();
+        1
     }
 }
 
-/// How many bytes stand before the first preamble byte.
-fn other_bytes(chunk: &[u8]) -> usize
-    ensures within { result ≤ length chunk.now }
-    ensures others { All (λ byte. byte ≢ 255) (take result chunk.now) }
-    ensures first { result < length chunk.now → slice_index chunk.now result ≡ 255 }
+/// The state in which a frame stands by this layout, or in which none does.
+fn state_of(layout: Option<Layout>) -> State
+    ensures { result ≡ state_of layout }
 {
-    chunk
-        .iter()
-        .position(|byte| *byte == PREAMBLE)
-        .unwrap_or(chunk.len())
+    match layout {
+        Some(layout) => State::Stands(layout),
+        None => State::Drained,
+    }
 }
 
-/// How many preamble bytes stand before the first other byte.
-fn preamble_bytes(chunk: &[u8]) -> usize
-    ensures within { result ≤ length chunk.now }
-    ensures preambles { All (λ byte. byte ≡ 255) (take result chunk.now) }
-    ensures next { result < length chunk.now → slice_index chunk.now result ≢ 255 }
+/// The bytes of the first characters, up to one with faults, or of as many as fit.
+fn faultless_stretch(chunk: &[Char]) -> ByteList<STRETCH>
+    ensures within { length result ≤ length chunk.now }
+    ensures first { faultless result ≡ take (length result) chunk.now }
+    ensures faulty { (first : Character) (rest : List Character) → chunk.now ≡ first ∷ rest → result ≡ [] → first.faults ≢ 0 }
 {
-    chunk
-        .iter()
-        .position(|byte| *byte != PREAMBLE)
-        .unwrap_or(chunk.len())
+    let mut stretch = ByteList::new();
+    for character in &chunk[..chunk.len().min(STRETCH)] {
+        if !character.is_faultless() {
+            return stretch;
+        }
+        stretch.push(character.byte());
+    }
+    stretch
 }

@@ -1,23 +1,13 @@
 //! What is decided of the characters that a scanner holds.
-ghost use Rattle.std.specs.Prelude.{◌≡◌, ◌<◌, MatchOption, None, false};
+ghost use Rattle.std.specs.Prelude.{◌≡◌, MatchOption};
 ghost use Rattle.hart_frame.specs.scan.Buffer.{IsSound, scan_of};
+ghost use Rattle.hart_frame.specs.scan.Decision.{GivesSpan, HoldsWhole, IsHeldSearched};
 ghost use Rattle.hart_frame.specs.scan.Scanner.{GivesNothing};
-ghost use Rattle.hart_frame.specs.scan.Decision.{GivesSpan, HoldsWhole, IsStep};
+ghost use Rattle.hart_frame.specs.declared.scan.buffer.State.TheVariants.{Busy};
 
-use crate::scan::buffer::{Buffer, Span};
-use crate::scan::candidate::{Candidate, candidate_in};
+use crate::scan::buffer::{Buffer, Span, State};
+use crate::scan::search::{Sighting, search};
 use crate::wire::layout::Layout;
-
-/// What became of the first byte that is held.
-#[derive(Clone, Copy)]
-pub(crate) enum Step {
-    /// It begins no frame, and was let go.
-    Dropped,
-    /// It can still begin one.
-    Waiting,
-    /// It begins one, by this layout.
-    Stands(Layout),
-}
 
 impl Buffer {
     /// The next frame that is decided.
@@ -36,78 +26,48 @@ impl Buffer {
         ensures sound { IsSound self.new }
         ensures seen { MatchOption result (GivesNothing (scan_of self.old) (scan_of self.new)) (HoldsWhole self.old self.new) }
     {
-        if self.drained {
-            return None;
+        match self.state {
+            State::Drained => None,
+            State::Stands(layout) => Some(layout),
+            State::Busy => self.decide(),
         }
-        if let Some(layout) = self.seen {
-            return Some(layout);
-        }
-        if self.to < self.due && !self.is_ended() {
-            self.drained = true;
-            return None;
-        }
-        self.decide()
     }
 
     /// The same, after all bytes are let go with which no frame begins.
     fn decide(&mut self) -> Option<Layout>
         requires sound { IsSound self.old }
-        requires busy { self.old.drained ≡ false }
-        requires unseen { self.old.seen ≡ None }
+        requires busy { self.old.state ≡ Busy }
         ensures sound { IsSound self.new }
         ensures seen { MatchOption result (GivesNothing (scan_of self.old) (scan_of self.new)) (HoldsWhole self.old self.new) }
     {
-        while self.from < self.to {
-            match self.step() {
-                Step::Dropped => {}
-                Step::Waiting => return None,
-                Step::Stands(layout) => {
-                    self.seen = Some(layout);
-                    return Some(layout);
-                }
-            }
+        if self.held().is_empty() {
+            self.end();
+            return None;
         }
-        self.end();
+        let found = self.search_held();
+        self.pass(found.place);
+        if let Some(layout) = found.layout {
+            self.state = State::Stands(layout);
+            return Some(layout);
+        }
+        if self.held().is_empty() {
+            self.end();
+        } else {
+            self.state = State::Drained;
+        }
         None
     }
 
-    /// Decides about the first byte that is held.
-    fn step(&mut self) -> Step
-        requires sound { IsSound self.old }
-        requires busy { self.old.drained ≡ false }
-        requires unseen { self.old.seen ≡ None }
-        requires some { self.old.from < self.old.to }
-        ensures sound { IsSound self.new }
-        ensures step { IsStep self.old self.new result }
+    /// What is found in the bytes that are held. If no byte can follow them, none may begin a frame.
+    fn search_held(&self) -> Sighting
+        requires sound { IsSound self.now }
+        ensures { IsHeldSearched self.now result }
     {
-        match candidate_in(&self.bytes[self.from..self.to]) {
-            Candidate::Open(count) if !self.is_ended() => {
-                self.wait(count);
-                Step::Waiting
-            }
-            Candidate::Whole(layout) if self.is_even(layout) => Step::Stands(layout),
-            _ => {
-                self.drop_first();
-                Step::Dropped
-            }
+        let held = self.held();
+        let mut found = search(held, 0, 0);
+        while self.is_ended() && found.layout.is_none() && found.place < held.len() {
+            found = search(held, found.place + 1, found.place + 1);
         }
-    }
-
-    /// After the last byte that is held. A finished scanner is then new.
-    fn end(&mut self)
-        requires sound { IsSound self.old }
-        requires busy { self.old.drained ≡ false }
-        requires unseen { self.old.seen ≡ None }
-        requires empty { self.old.from ≡ self.old.to }
-        ensures sound { IsSound self.new }
-        ensures given { GivesNothing (scan_of self.old) (scan_of self.new) }
-    {
-        self.drop_damaged();
-        self.drained = true;
-        if !self.finished {
-            return;
-        }
-        self.finished = false;
-        self.first = 0;
+        found
     }
 }

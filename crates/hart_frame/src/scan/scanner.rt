@@ -90,6 +90,22 @@ impl Scanner {
         self.buffer.push_bytes(chunk)
     }
 
+    /// Hears the first characters of a chunk, and gives how many: as [`Scanner::push_bytes`], with or without faults.
+    pub fn push_chars(&mut self, chunk: &[Char]) -> usize
+        requires drained { IsTrue self.old.drained }
+        requires room { self.old.first + length self.old.held + length chunk.now < 2 ^ 64 }
+        ensures within { result ≤ length chunk.now }
+        ensures some { 0 < length chunk.now → 0 < result }
+        ensures moves { MovesPast (hearing self.old (take result chunk.now)) self.new [] }
+        ensures before { (count : ℕ) → count < result → IsUndecided (self.old.held ++ take count chunk.now) }
+        ensures stops { StopsAt self.new result (length chunk.now) }
+        ensures finished { self.new.finished ≡ self.old.finished }
+        ensures pushed { self.new.first + length self.new.held ≡ self.old.first + length self.old.held + result }
+        ensures few { length self.new.held ≤ 269 }
+    {
+        self.buffer.push_chars(chunk)
+    }
+
     /// The next frame that is decided, or `None` if there is none for now. After the finish `None` is given once no frame is
     /// left; the scanner is then new, and places begin at 0 again.
     pub fn take(&mut self) -> Option<FoundView<'_>>
@@ -105,7 +121,7 @@ impl Scanner {
         ensures drained { result ≡ self.now.drained }
         ensures waiting { IsTrue self.now.drained → (self.now.finished ≡ false) × IsUndecided self.now.held }
     {
-        self.buffer.drained
+        self.buffer.is_drained()
     }
 
     /// Says that nothing more is heard: what is held is decided by the next calls of [`Scanner::take`].

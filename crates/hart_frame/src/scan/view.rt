@@ -125,16 +125,18 @@ impl<'a> FrameView<'a> {
         requires even { HasEvenParity bytes.now }
         ensures { IsBody (parts_of result) bytes.now }
     {
-        let payload_place = layout.command_place + 2;
+        let address_end = usize::from(layout.address_end);
+        let command_place = usize::from(layout.command_place);
+        let payload_place = command_place + 2;
         let payload_end = payload_place + usize::from(layout.byte_count);
-        let (master, burst, address) = Address::read(&bytes[1..layout.address_end]).unwrap();
+        let (master, burst, address) = Address::read(&bytes[1..address_end]).unwrap();
         FrameView {
             kind: layout.kind,
             master,
             burst,
             address: plain_of(address),
-            expansion: &bytes[layout.address_end..layout.command_place],
-            command: bytes[layout.command_place],
+            expansion: &bytes[address_end..command_place],
+            command: bytes[command_place],
             payload: &bytes[payload_place..payload_end],
         }
     }

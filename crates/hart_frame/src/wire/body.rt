@@ -54,12 +54,12 @@ fn frame_in(layout: Layout, bytes: &[u8]) -> Frame
     requires whole { HasCheckByte bytes.now }
     ensures parts { IsCheckedPart result (take (body_length bytes.now - 1) bytes.now) }
 {
-    let payload_place = layout.command_place + 2;
+    let address_end = usize::from(layout.address_end);
+    let command_place = usize::from(layout.command_place);
+    let payload_place = command_place + 2;
     let payload_end = payload_place + usize::from(layout.byte_count);
-    let (master, burst, address) = Address::read(&bytes[1..layout.address_end]).unwrap();
-    let expansion = Expansion::from_slice(
-        &bytes[layout.address_end..layout.command_place],
-    ).unwrap();
+    let (master, burst, address) = Address::read(&bytes[1..address_end]).unwrap();
+    let expansion = Expansion::from_slice(&bytes[address_end..command_place]).unwrap();
     let payload = Payload::from_slice(&bytes[payload_place..payload_end]).unwrap();
     Frame::new(
         layout.kind,
@@ -67,7 +67,7 @@ fn frame_in(layout: Layout, bytes: &[u8]) -> Frame
         burst,
         address,
         expansion,
-        bytes[layout.command_place],
+        bytes[command_place],
         payload,
     )
     .unwrap()

@@ -28,9 +28,9 @@ pub const UNIQUE_COMMAND_PLACE: usize = 6;
 pub(crate) struct Delimiter {
     pub(crate) kind: FrameKind,
     /// The number of address bytes: one or five.
-    pub(crate) address_len: usize,
+    pub(crate) address_len: u8,
     /// The number of expansion bytes, at most 3.
-    pub(crate) expansion_len: usize,
+    pub(crate) expansion_len: u8,
     ghost address_fits: { address_len ≤ 5 },
     ghost expansion_fits: { expansion_len ≤ 3 },
 }
@@ -40,7 +40,7 @@ impl Delimiter {
     pub(crate) fn byte_count_place(self) -> usize
         ensures { result ≡ 2 + self.address_len + self.expansion_len }
     {
-        2 + self.address_len + self.expansion_len
+        2 + usize::from(self.address_len) + usize::from(self.expansion_len)
     }
 
     /// The layout of its body with this byte count, or `None` if it can have none: the payload of an ACK has two status bytes at
@@ -98,6 +98,6 @@ pub(crate) fn read_delimiter(byte: u8) -> Option<Delimiter>
     Some(Delimiter {
         kind,
         address_len: if byte < UNIQUE_ADDRESS { 1 } else { 5 },
-        expansion_len: usize::from(byte / EXPANSION_BYTE % 4),
+        expansion_len: byte / EXPANSION_BYTE % 4,
     })
 }

@@ -10,8 +10,8 @@ use crate::{FrameFault, FrameKind};
 pub(crate) struct Layout {
     pub(crate) kind: FrameKind,
     /// The place after the address bytes.
-    pub(crate) address_end: usize,
-    pub(crate) command_place: usize,
+    pub(crate) address_end: u8,
+    pub(crate) command_place: u8,
     pub(crate) byte_count: u8,
 }
 
@@ -38,11 +38,10 @@ impl Layout {
 
     /// The length of the body.
     pub(crate) fn body_len(self) -> usize
-        requires { self.command_place + 3 + self.byte_count < 2 ^ 64 }
         ensures len { result ≡ layout_length self }
         ensures described { (bytes : List ℕ) → Describes self bytes → result ≡ body_length bytes }
     {
-        body_len(self.command_place, self.byte_count)
+        body_len(usize::from(self.command_place), self.byte_count)
     }
 }
 

@@ -6,9 +6,7 @@ use Rattle.hart_frame.specs.heard.Delivery.{IsLone, lone_of}
 use Rattle.hart_frame.specs.heard.Frames.{AreFrames, HasNoFrame, IsFirst, none, first}
 use Rattle.hart_frame.specs.declared.heard.delivery.LoneFrame.{LoneFrame}
 use Rattle.hart_frame.specs.declared.heard.delivery.LoneFrame.TheVariants.{NoFrame, Alone, Several}
-use Rattle.hart_frame.specs.heard.Found.{HasFirstAt}
 use Rattle.hart_frame.specs.declared.heard.found.Found.{Found}
-use Rattle.hart_frame.specs.declared.heard.found.FramePlaces.{FramePlaces}
 
 -- a list of characters has one list of frames
 abbrev pub OneList : Type 0
@@ -29,17 +27,17 @@ pub one_frame : (delivery : List Character) (found : Found) → IsFirst found de
     → AreFrames delivery 0 (found ∷ [])
 one_frame delivery found is_first no_second = first 0 found [] is_first (none found.stop no_second)
 
--- places of a second frame are known, or that there is none
-pub second_none : (delivery : List Character) (from : ℕ) (second : Option FramePlaces) → is_some second ≡ false
-    → MatchOption second (HasNoFrame delivery from) (λ places. HasFirstAt places delivery from) → HasNoFrame delivery from
+-- a second frame is known, or that there is none
+pub second_none : (delivery : List Character) (from : ℕ) (second : Option Found) → is_some second ≡ false
+    → MatchOption second (HasNoFrame delivery from) (λ found. IsFirst found delivery from) → HasNoFrame delivery from
 second_none delivery from None is said = said
-second_none delivery from (Some places) is said = absurd cc
+second_none delivery from (Some found) is said = absurd cc
 
-pub second_some : (delivery : List Character) (from : ℕ) (second : Option FramePlaces) → is_some second ≡ true
-    → MatchOption second (HasNoFrame delivery from) (λ places. HasFirstAt places delivery from)
+pub second_some : (delivery : List Character) (from : ℕ) (second : Option Found) → is_some second ≡ true
+    → MatchOption second (HasNoFrame delivery from) (λ found. IsFirst found delivery from)
     → (found : Found) × IsFirst found delivery from
 second_some delivery from None is said = absurd cc
-second_some delivery from (Some places) is said = (said.0, said.2)
+second_some delivery from (Some found) is said = (found, said)
 
 -- after a second frame come the frames of what follows it
 pub several_frames : (delivery : List Character) (found second : Found) (later : List Found) → IsFirst found delivery 0

@@ -1,20 +1,16 @@
 -- Every list of characters has its frames.
 use Rattle.std.proofs.Common.{◌≡◌, ◌≢◌, ℕ, zero, suc, ◌+◌, ◌<◌, ◌≤◌, ◌⊎◌, inl, inr, List, [], ◌∷◌, ◌++◌, length, take, drop, refl, sym, ap}
 use Rattle.std.proofs.Common.{◌∙◌, arith, subst}
-use Rattle.std.proofs.lemmas.List.{take-append-drop, take-map, take_rest, length-take-le, length-map}
-use Rattle.std.specs.List.{All}
+use Rattle.std.proofs.lemmas.List.{take-append-drop, take-map, take_rest, length-take-le}
 use Rattle.hart_frame.specs.wire.FrameParts.{FrameParts}
 use Rattle.hart_frame.specs.wire.Body.{IsBody, BeginsWithBody}
 use Rattle.hart_frame.specs.heard.Character.{Character, faultless}
 use Rattle.hart_frame.specs.heard.Body.{bytes_of, BeginsWithHeard}
-use Rattle.hart_frame.specs.wire.Layout.{body_length}
-use Rattle.hart_frame.specs.wire.Parity.{IsCheckByte}
-use Rattle.hart_frame.specs.wire.Refusal.{HasGoodByteCount}
 use Rattle.hart_frame.specs.heard.Place.{StandsIn}
 use Rattle.hart_frame.specs.heard.Frames.{AreFrames, HasNoFrame, IsFirst}
 use Rattle.hart_frame.specs.declared.heard.found.Found.{Found}
-use Rattle.hart_frame.proofs.lemmas.wire.BodiesFound.{body_decided, even_body}
-use Rattle.hart_frame.proofs.lemmas.heard.Body.{BeginsWithBody-heard, bytes_of-faultless, faultless_made, made_of_bytes, take-heard}
+use Rattle.hart_frame.proofs.lemmas.wire.BodiesFound.{body_decided}
+use Rattle.hart_frame.proofs.lemmas.heard.Body.{BeginsWithBody-heard, bytes_of-faultless, faultless_made, take-heard}
 use Rattle.hart_frame.proofs.lemmas.wire.Refusal.{says}
 use Rattle.hart_frame.proofs.lemmas.heard.Place.{preamble, StandsIn-at, StandsIn-heard, StandsIn-hears, StandsIn-from, StandsIn-within}
 use Rattle.hart_frame.proofs.lemmas.heard.Place.{HasNoFrame-end, start-later}
@@ -85,24 +81,6 @@ damaged_body chars f len begins damaged g other heard =
     let also = BeginsWithBody-heard chars g other heard in
     let same : len ≡ other = omega (arith, (says (bytes_of chars) f len begins).whole, (says (bytes_of chars) g other also).whole) in
     damaged (record { bytes = heard.body; are = ap (λ (n : ℕ). take n chars) same ∙ take-heard chars g other heard })
-
--- characters without faults up to a check byte of even parity are heard as a body
-pub even_heard : (chars part : List Character) (len check : ℕ) → HasGoodByteCount (bytes_of chars) → len ≡ body_length (bytes_of chars)
-    → len ≤ length chars → part ≡ take len chars → All (λ character. character.faults ≡ 0) part → IsCheckByte (bytes_of part) check
-    → All (λ byte. byte < 256) (bytes_of part) → check ≡ 0 → (frame : FrameParts) × BeginsWithHeard chars frame len
-even_heard chars part len check good is within taken clear folded fit even =
-    let byte : Character → ℕ = λ character. character.byte in
-    let bytes : bytes_of part ≡ take len (bytes_of chars) = ap bytes_of taken ∙ sym (take-map byte len chars) in
-    let Fits : List ℕ → Type 0 = λ xs. All (λ (x : ℕ). x < 256) xs in
-    let IsFolded : List ℕ → Type 0 = λ xs. IsCheckByte xs 0 in
-    let Is : ℕ → Type 0 = λ c. IsCheckByte (bytes_of part) c in
-    let body = even_body (bytes_of chars) len is (good, omega (arith, length-map chars byte, is, within)) (subst Fits bytes fit)
-    (subst IsFolded bytes (subst Is even folded)) in
-    let all : Faultless (take len chars) = record {
-      bytes = bytes_of part;
-      are = sym taken ∙ made_of_bytes part clear;
-    } in
-    (body.0, heard_whole chars body.0 len body.1 all)
 
 heard_decided : (chars : List Character) → HeardAhead chars ⊎ NothingHeard chars
 heard_decided chars = elim (body_decided (bytes_of chars)) [

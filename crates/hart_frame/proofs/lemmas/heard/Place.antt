@@ -1,17 +1,13 @@
 -- Where a frame stands, and where the body begins that is heard there.
 use Rattle.std.proofs.Common.{◌≡◌, ℕ, ◌+◌, ◌-◌, ◌<◌, ◌≤◌, ◌⊎◌, inl, inr, List, [], ◌∷◌, ◌++◌, length, take, drop, get_or, refl, sym, ap}
-use Rattle.std.proofs.Common.{◌∙◌, arith, subst, append_assoc, length-append, length-drop}
-use Rattle.std.proofs.lemmas.List.{append-nil, take-append-drop, length-take-le, take_rest, take_at, drop_at, length-map}
-use Rattle.std.specs.List.{slice_range}
+use Rattle.std.proofs.Common.{◌∙◌, arith, append_assoc, length-append}
+use Rattle.std.proofs.lemmas.List.{take-append-drop, length-take-le, take_rest, drop_at, length-map}
 use Rattle.hart_frame.specs.wire.FrameParts.{FrameParts}
 use Rattle.hart_frame.specs.heard.Character.{Character, faultless}
 use Rattle.hart_frame.specs.heard.Body.{BeginsWithHeard}
 use Rattle.hart_frame.specs.heard.Place.{StandsIn}
 use Rattle.hart_frame.specs.heard.Frames.{HasNoFrame}
-use Rattle.hart_frame.specs.heard.Found.{IsPlacedAs}
 use Rattle.hart_frame.specs.declared.heard.found.Found.{Found}
-use Rattle.hart_frame.specs.declared.heard.found.FramePlaces.{FramePlaces}
-use Rattle.hart_frame.proofs.lemmas.wire.Refusal.{IsBody-short}
 
 -- a faultless preamble byte
 abbrev pub preamble : Character
@@ -66,30 +62,6 @@ StandsIn-hears chars tail place from found stands start is = record {
   whole = refl;
 }
 
--- and alone from its start to its stop
-pub StandsIn-body : (found : Found) (chars : List Character) (from : ℕ) (stands : StandsIn found chars from)
-    → BeginsWithHeard (slice_range chars found.start found.stop) found.frame (length stands.body)
-StandsIn-body found chars from stands =
-    let two : List Character = faultless (255 ∷ 255 ∷ []) in
-    let after : List Character = faultless stands.body ++ stands.rest in
-    let whole : chars ≡ (stands.prefix ++ two) ++ after =
-    stands.split ∙ append_assoc stands.prefix (faultless (255 ∷ 255 ∷ stands.body)) stands.rest
-    ∙ sym (append_assoc stands.prefix two after) in
-    let dropped : drop found.start chars ≡ after =
-    ap (drop found.start) whole
-    ∙ drop_at (stands.prefix ++ two) after found.start (omega (arith, length-append stands.prefix two, stands.start)) in
-    let body_len : length (faultless stands.body) ≡ length stands.body =
-    length-map stands.body (λ (byte : ℕ). record { byte = byte; faults = 0 }) in
-    record {
-      body = stands.body;
-      rest = [];
-      split = ap (take (found.stop - found.start)) dropped
-          ∙ take_at (faultless stands.body) stands.rest (found.stop - found.start) (omega (arith, body_len, stands.start, stands.stop))
-          ∙ sym (append-nil (faultless stands.body));
-      is_body = stands.is_body;
-      whole = refl;
-    }
-
 -- what stands after a place stands in the list from that place on
 pub StandsIn-from : (found : Found) (chars : List Character) (place from : ℕ) → StandsIn found chars place → from + 2 ≤ found.start
     → StandsIn found chars from
@@ -133,38 +105,6 @@ StandsIn-within found chars from stands =
       some = omega (arith, stands.start, stands.stop, some);
       within = omega (arith, stands.stop, all, rest, prefix, body);
     }
-
--- it is known by its places and its frame
-pub record HeardAt (places : FramePlaces) (chars : List Character) (found : Found) : Type 0 where
-  pub len : ℕ
-  pub heard : BeginsWithHeard (slice_range chars places.start places.stop) found.frame len
-  pub few : length (slice_range chars places.start places.stop) ≤ 267
-
-pub heard_at : (places : FramePlaces) (chars : List Character) (found : Found) → IsPlacedAs found places → StandsIn found chars 0
-    → HeardAt places chars found
-heard_at places chars found placed stands =
-    let body = StandsIn-body found chars 0 stands in
-    let Heard : ℕ → ℕ → Type 0 = λ start stop. BeginsWithHeard (slice_range chars start stop) found.frame (length stands.body) in
-    let Few : ℕ → ℕ → Type 0 = λ start stop. length (slice_range chars start stop) ≤ 267 in
-    let lies = StandsIn-within found chars 0 stands in
-    let short = IsBody-short found.frame stands.body stands.is_body in
-    let long = length-take-le (found.stop - found.start) (drop found.start chars)
-    (omega (arith, length-drop found.start chars, lies.some, lies.within)) in
-    let few : Few found.start found.stop = omega (arith, long, short, stands.start, stands.stop) in
-    record {
-      len = length stands.body;
-      heard = subst (Heard places.start) placed.1 (subst (λ (n : ℕ). Heard n found.stop) placed.0 body);
-      few = subst (Few places.start) placed.1 (subst (λ (n : ℕ). Few n found.stop) placed.0 few);
-    }
-
-pub found_is : (found : Found) (places : FramePlaces) (frame : FrameParts) → IsPlacedAs found places → frame ≡ found.frame
-    → record { start = places.start; stop = places.stop; frame = frame } ≡ found
-found_is found places frame placed same =
-    let of : ℕ → ℕ → FrameParts → Found = λ start stop f. record { start = start; stop = stop; frame = f } in
-    let start = placed.0 in
-    let stop = placed.1 in
-    let all : of places.start places.stop frame ≡ of found.start found.stop found.frame = cc in
-    all
 
 -- none stands from the end of the list on
 pub HasNoFrame-end : (chars : List Character) (from : ℕ) → length chars ≤ from → HasNoFrame chars from

@@ -1,196 +1,84 @@
--- A buffer stays sound.
-use Rattle.std.proofs.Common.{◌≡◌, ◌≢◌, ℕ, suc, ◌+◌, ◌-◌, ◌<◌, ◌≤◌, ◌^◌, inl, inr, Bool, true, false, IsTrue, List, [], ◌∷◌, ◌++◌, length}
-use Rattle.std.proofs.Common.{take, drop, get_or, Option, Some, None, refl, sym, ap, ◌∙◌, arith, subst, length-drop, length-set}
-use Rattle.std.specs.List.{slice_range}
-use Rattle.std.proofs.lemmas.List.{drop-set-add, map-append, append-nil}
-use Rattle.std.proofs.Math.Seq.{take-suc-set, take-add}
-use Rattle.std.proofs.Math.ListN.{set}
-use Rattle.std.specs.Option.{IfSome, option_to_list}
+-- A buffer stays sound, and what it stands for then.
+use Rattle.std.proofs.Common.{◌≡◌, ℕ, ◌+◌, ◌-◌, ◌≤◌, inl, true, IsTrue, List, [], ◌++◌, length}
+use Rattle.std.proofs.Common.{take, drop, Option, None, refl, sym, ap, ◌∙◌, arith, subst}
+use Rattle.std.specs.Option.{option_to_list}
+use Rattle.std.proofs.lemmas.List.{append-nil, drop-append-le, drop-drop}
 use Rattle.hart_frame.specs.heard.Character.{Character, faultless}
-use Rattle.hart_frame.specs.scan.Scanner.{Scan, hearing}
-use Rattle.hart_frame.specs.scan.Buffer.{BeginsWithWhole, IsSound, IsEnded, held_bytes, scan_of, with_byte}
-use Rattle.hart_frame.specs.scan.Candidate.{IsCandidate}
-use Rattle.std.proofs.lemmas.Bool.{false≢true}
-use Rattle.std.proofs.lemmas.List.{length-take-le, drop-drop, drop_more}
-use Rattle.hart_frame.proofs.lemmas.scan.Sum.{sums_push}
-use Rattle.hart_frame.proofs.lemmas.heard.Prefix.{open_more, open_short}
+use Rattle.hart_frame.specs.heard.Frames.{IsUndecided}
+use Rattle.hart_frame.specs.scan.Buffer.{IsMeant, IsSound, IsWaiting, held_bytes, is_drained, scan_of}
+use Rattle.hart_frame.specs.scan.Decision.{NoneBeginHeld}
+use Rattle.hart_frame.specs.scan.Scanner.{GivesNothing, Scan, MovesPast, Waits}
 use Rattle.hart_frame.specs.declared.scan.buffer.Buffer.{Buffer}
-use Rattle.hart_frame.specs.declared.wire.layout.Layout.{Layout}
-use Rattle.hart_frame.specs.declared.scan.candidate.Candidate.TheVariants.{Open}
+use Rattle.hart_frame.specs.declared.scan.buffer.State.{State}
+use Rattle.hart_frame.specs.declared.scan.buffer.State.TheVariants.{Busy, Drained, Stands}
+use Rattle.hart_frame.proofs.lemmas.scan.Candidate.{undecided_open}
+use Rattle.hart_frame.proofs.lemmas.scan.Scan.{moves_none, moves_places}
+use Rattle.hart_frame.proofs.lemmas.scan.Search.{take_both}
 
--- a range with one more element after it
-pub range_push : (xs : List ℕ) (a n x : ℕ) → a ≤ n → n < length xs → slice_range (set xs n x) a (n + 1) ≡ slice_range xs a n ++ x ∷ []
-range_push xs a n x order within =
-    let at : n ≡ a + (n - a) = omega arith in
-    let count : n + 1 - a ≡ suc (n - a) = omega arith in
-    let room : n - a < length (drop a xs) = omega (arith, length-drop a xs) in
-    ap (λ (k : ℕ). take k (drop a (set xs n x))) count
-    ∙ ap (λ (k : ℕ). take (suc (n - a)) (drop a (set xs k x))) at
-    ∙ ap (take (suc (n - a))) (drop-set-add a xs (n - a) x)
-    ∙ take-suc-set (drop a xs) (n - a) x room
+-- a buffer that let its first bytes go
+abbrev pub passed : Buffer → ℕ → Buffer
+passed b count = record b { from = b.from + count; first = b.first + count; state = Busy }
 
-pub length_range : (xs : List ℕ) (a b : ℕ) → a ≤ b → b ≤ length xs → length (slice_range xs a b) ≡ b - a
-length_range xs a b ab within = length-take-le (b - a) (drop a xs) (omega (arith, length-drop a xs))
+pub held_passed : (b : Buffer) (count : ℕ) → held_bytes (passed b count) ≡ drop count (held_bytes b)
+held_passed b count = sym (drop-drop count b.from b.bytes)
 
--- what is held is short of 269 characters once the scanner is drained
-pub drained_few : (b : Buffer) → IsSound b → IsTrue b.drained → b.to < b.from + 269
-drained_few b sound drained =
-    elim (sound.drained drained).2 [
-      | inl empty ↦ omega (arith, empty)
-      | inr before ↦ let waiting = sound.waiting before in omega (arith, waiting.1, waiting.2, before)
-    ]
+pub moves_passed : (b : Buffer) (count : ℕ) → count ≤ length (held_bytes b) → NoneBeginHeld b count
+    → MovesPast (scan_of b) (scan_of (passed b count)) []
+moves_passed b count within none =
+    moves_places (scan_of b) (scan_of (passed b count)) (held_bytes b) (option_to_list b.damaged) count refl
+    (ap (λ (xs : List ℕ). faultless xs ++ option_to_list b.damaged) (held_passed b count)) refl refl within none
 
-none_long : (o : Option Character) → o ≡ None → length (option_to_list o) ≡ 0
-none_long o is = ap (λ (p : Option Character). length (option_to_list p)) is
+pub none_long : (o : Option Character) → o ≡ None → option_to_list o ≡ []
+none_long o is = ap (λ (p : Option Character). option_to_list p) is
 
--- of no frame that was seen nothing has to be known
-unseen : (o : Option Layout) (Of : Layout → Type 0) → o ≡ None → IfSome o Of
-unseen o Of none =
-    let Known : Option Layout → Type 0 = λ p. IfSome p Of in
-    subst Known (sym none) tt
+-- what is held without faults
+pub held_clear : (b : Buffer) → b.damaged ≡ None → (scan_of b).held ≡ faultless (held_bytes b)
+held_clear b clear =
+    ap (λ (cs : List Character). faultless (held_bytes b) ++ cs) (none_long b.damaged clear) ∙ append-nil (faultless (held_bytes b))
 
-pub sound_push : (b : Buffer) (byte : ℕ) → IsSound b → IsTrue b.drained → b.first + (b.to - b.from) + 1 < 2 ^ 64
-    → IsSound (with_byte (record b { drained = false }) byte)
-sound_push b byte sound drained room =
-    let facts = sound.drained drained in
-    let few = drained_few b sound drained in
-    let none = none_long b.damaged facts.0 in
-    record {
-      bytes_len = length-set b.bytes b.to byte ∙ sound.bytes_len;
-      sums_len = length-set b.sums (b.to + 1) _ ∙ sound.sums_len;
-      sums = sums_push b.bytes b.sums b.from b.to byte (omega (arith, facts.3, sound.bytes_len)) (omega (arith, facts.3, sound.sums_len))
-          sound.sums;
-      seen = unseen b.seen (λ layout. BeginsWithWhole (with_byte b byte) layout) facts.4;
-      order = omega (arith, sound.order);
-      within = omega (arith, facts.3);
-      due_within = sound.due_within;
-      damage = sound.damage;
-      few = omega (arith, few, none);
-      places = omega (arith, room, none, sound.order);
-      waiting = λ before.
-          let old = sound.waiting (omega (arith, before)) in
-          let pushed = range_push b.bytes b.from b.to byte sound.order (omega (arith, facts.3, sound.bytes_len)) in
-          let long = length_range b.bytes b.from b.to sound.order (omega (arith, sound.within, sound.bytes_len)) in
-          let Stays : List ℕ → Type 0 = λ xs. IsCandidate xs (Open old.0) in
-          let short : length (held_bytes b) + 1 < 2 + old.0 = omega (arith, long, before, old.1, sound.order) in
-          (old.0, old.1, old.2, subst Stays (sym pushed) (open_more (held_bytes b) byte old.0 old.3 short));
-      drained = λ not. absurd (false≢true not);
-    }
+-- what a waiting buffer holds is undecided
+pub undecided_waiting : (b : Buffer) → IsWaiting b → IsUndecided (scan_of b).held
+undecided_waiting b waiting =
+    let Undecided : List Character → Type 0 = λ cs. IsUndecided cs in
+    subst Undecided (sym (held_clear b waiting.clear)) (undecided_open (held_bytes b) waiting.may)
 
-pub scan_push : (b : Buffer) (byte : ℕ) (char : Character) → IsSound b → IsTrue b.drained → char ≡ record { byte = byte; faults = 0 }
-    → scan_of (with_byte (record b { drained = false }) byte)
-    ≡ hearing (scan_of b) (char ∷ [])
-scan_push b byte char sound drained is =
-    let facts = sound.drained drained in
-    let pushed = range_push b.bytes b.from b.to byte sound.order (omega (arith, facts.3, sound.bytes_len)) in
-    let none : option_to_list b.damaged ≡ [] = ap (λ (p : Option Character). option_to_list p) facts.0 in
-    let to_char : ℕ → Character = λ byte. record { byte = byte; faults = 0 } in
-    let parts : faultless (slice_range (set b.bytes b.to byte) b.from (b.to + 1)) ≡ faultless (held_bytes b) ++ char ∷ [] =
-    ap faultless pushed ∙ map-append to_char (held_bytes b) (byte ∷ [])
-    ∙ ap (λ (c : Character). faultless (held_bytes b) ++ c ∷ []) (sym is) in
-    let old : (scan_of b).held ++ char ∷ [] ≡ faultless (held_bytes b) ++ char ∷ [] =
-    ap (λ (cs : List Character). (faultless (held_bytes b) ++ cs) ++ char ∷ []) none
-    ∙ ap (λ (cs : List Character). cs ++ char ∷ []) (append-nil (faultless (held_bytes b))) in
-    let new = faultless (slice_range (set b.bytes b.to byte) b.from (b.to + 1)) in
-    let held : new ++ option_to_list b.damaged ≡ (scan_of b).held ++ char ∷ [] =
-    ap (λ (cs : List Character). new ++ cs) none ∙ append-nil _ ∙ parts ∙ sym old in
-    ap (λ (cs : List Character). let of : Scan = record { first = b.first; held = cs; finished = b.finished; drained = false } in of) held
+-- so nothing is given
+pub waits : (b : Buffer) (new : Scan) → IsWaiting b → new ≡ record (scan_of b) { drained = true } → Waits (scan_of b) new
+waits b new waiting same =
+    let Of : Scan → Type 0 = λ s. Waits (scan_of b) s in
+    subst Of (sym same) (record {
+      going = waiting.going;
+      moves = moves_none (scan_of b) (record (scan_of b) { drained = true }) refl refl refl;
+      undecided = undecided_waiting b waiting;
+      unfinished = waiting.going;
+      drained = refl;
+    })
 
--- what is held lets go its first bytes
-pub range_split : (xs : List ℕ) (a b c : ℕ) → a ≤ b → b ≤ c → slice_range xs a c ≡ slice_range xs a b ++ slice_range xs b c
-range_split xs a b c ab bc =
-    let split = take-add (b - a) (c - b) (drop a xs) in
-    let dropped : drop (b - a) (drop a xs) ≡ drop b xs = drop-drop (b - a) a xs ∙ ap (λ n. drop n xs) (omega arith) in
-    let whole : c - a ≡ (b - a) + (c - b) = omega arith in
-    ap (λ n. take n (drop a xs)) whole ∙ split ∙ ap (λ (ys : List ℕ). take (b - a) (drop a xs) ++ take (c - b) ys) dropped
+-- what is kept of what is held and of a chunk after it
+pub kept_after : (held chunk bytes new : List ℕ) (from place stop count : ℕ) → from ≤ length bytes → drop from bytes ≡ held → count ≡ length held
+    → count ≤ stop → place ≤ length held → new ≡ bytes ++ take (stop - count) chunk
+    → drop (from + place) new ≡ drop place (take stop (held ++ chunk))
+kept_after held chunk bytes new from place stop count within same long after inside is =
+    let part = take (stop - count) chunk in
+    let rest : drop from new ≡ held ++ part =
+    ap (drop from) is ∙ drop-append-le from bytes part within ∙ ap (λ (xs : List ℕ). xs ++ part) same in
+    let both : take stop (held ++ chunk) ≡ held ++ part =
+    take_both held chunk stop (omega (arith, long, after)) ∙ ap (λ (k : ℕ). held ++ take (stop - k) chunk) (sym long) in
+    sym (drop-drop place from new) ∙ ap (drop place) (rest ∙ sym both)
 
-pub range_first : (xs : List ℕ) (a c : ℕ) → a < c → a < length xs → slice_range xs a c ≡ get_or xs a 0 ∷ slice_range xs (a + 1) c
-range_first xs a c ac within =
-    let rest = drop_more xs a 0 within in
-    let count : c - a ≡ suc (c - (a + 1)) = omega arith in
-    ap (λ n. take n (drop a xs)) count ∙ ap (take (suc (c - (a + 1)))) rest
+pub drained_is : (state : State) → IsTrue (is_drained state) → state ≡ Drained
+drained_is Drained is = refl
+drained_is Busy is = absurd cc
+drained_is (Stands layout) is = absurd cc
 
--- what is held, from its first byte on
-pub held_first : (b : Buffer) → IsSound b → b.from < b.to
-    → (scan_of b).held ≡ record { byte = get_or b.bytes b.from 0; faults = 0 }
-    ∷ (faultless (slice_range b.bytes (b.from + 1) b.to) ++ option_to_list b.damaged)
-held_first b sound some =
-    ap (λ (xs : List ℕ). faultless xs ++ option_to_list b.damaged)
-    (range_first b.bytes b.from b.to some (omega (arith, some, sound.within, sound.bytes_len)))
+-- a drained buffer waits
+pub waits_drained : (b : Buffer) → IsSound b → b.state ≡ Drained → IsWaiting b
+waits_drained b sound is =
+    let Meant : State → Type 0 = λ state. IsMeant b state in
+    subst Meant is sound.meant
 
--- the scan of a buffer that is drained or not
-pub sound_waits : (b : Buffer) (count : ℕ) → IsSound b → b.seen ≡ None → b.damaged ≡ None → b.finished ≡ false
-    → b.from + 269 ≤ 1024 → count ≤ 267
-    → IsCandidate (held_bytes b) (Open count) → IsSound (record b { due = b.from + 2 + count; drained = true })
-sound_waits b count sound none whole going low few candidate =
-    let long = length_range b.bytes b.from b.to sound.order (omega (arith, sound.within, sound.bytes_len)) in
-    let before : b.to < b.from + 2 + count = omega (arith, open_short (held_bytes b) count candidate, long, sound.order) in
-    record {
-      bytes_len = sound.bytes_len;
-      sums_len = sound.sums_len;
-      sums = sound.sums;
-      seen = unseen b.seen (λ layout. BeginsWithWhole b layout) none;
-      order = sound.order;
-      within = sound.within;
-      due_within = omega (arith, low, few);
-      damage = sound.damage;
-      few = sound.few;
-      places = sound.places;
-      waiting = λ _. (count, refl, few, candidate);
-      drained = λ _. (whole, going, inr before, omega (arith, before, low, few), none);
-    }
-
-false_of : (b : Bool) → (b ≡ true → ⊥) → b ≡ false
-false_of true not = absurd (not refl)
-false_of false not = refl
-
-none_of : (o : Option Character) → (o ≢ None → ⊥) → o ≡ None
-none_of None not = refl
-none_of (Some c) not = absurd (not (λ is. absurd cc))
-
--- an end that is not reached
-pub not_ended : (b : Buffer) → (IsEnded b → ⊥) → (b.finished ≡ false) × (b.damaged ≡ None)
-not_ended b going = (false_of b.finished (λ is. going (inl is)), none_of b.damaged (λ some. going (inr some)))
-
--- one more byte, and what is held stays open
-pub sound_open : (b : Buffer) (byte : ℕ) → IsSound b → IsTrue b.drained → b.first + (b.to - b.from) + 1 < 2 ^ 64 → b.to + 1 < b.due
-    → IsSound (with_byte b byte)
-sound_open b byte sound drained room before =
-    let facts = sound.drained drained in
-    let pushed = sound_push b byte sound drained room in
-    record {
-      bytes_len = pushed.bytes_len;
-      sums_len = pushed.sums_len;
-      sums = pushed.sums;
-      seen = pushed.seen;
-      order = pushed.order;
-      within = pushed.within;
-      due_within = pushed.due_within;
-      damage = pushed.damage;
-      few = pushed.few;
-      places = pushed.places;
-      waiting = pushed.waiting;
-      drained = λ _. (facts.0, facts.1, inr before, omega (arith, before, sound.due_within), facts.4);
-    }
-
--- as many bytes are held as lie between their places
-pub length_held : (b : Buffer) → IsSound b → length (held_bytes b) ≡ b.to - b.from
-length_held b sound = length_range b.bytes b.from b.to sound.order (omega (arith, sound.within, sound.bytes_len))
-
--- a buffer that has seen the frame that it begins with
-pub sound_seen : (b : Buffer) (layout : Layout) → IsSound b → b.drained ≡ false → BeginsWithWhole b layout
-    → IsSound (record b { seen = Some layout })
-sound_seen b layout sound busy begins = record {
-  bytes_len = sound.bytes_len;
-  sums_len = sound.sums_len;
-  sums = sound.sums;
-  seen = begins;
-  order = sound.order;
-  within = sound.within;
-  due_within = sound.due_within;
-  damage = sound.damage;
-  few = sound.few;
-  places = sound.places;
-  waiting = sound.waiting;
-  drained = λ is. absurd (false≢true (sym busy ∙ is));
-}
+-- so nothing is given
+pub still : (b : Buffer) → IsSound b → b.state ≡ Drained → GivesNothing (scan_of b) (scan_of b)
+still b sound is =
+    let of : State → Scan = λ state. record (scan_of b) { drained = is_drained state } in
+    inl (waits b (scan_of b) (waits_drained b sound is) (ap of is))

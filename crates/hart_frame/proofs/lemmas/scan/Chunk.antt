@@ -1,22 +1,29 @@
--- What a chunk of faultless bytes is to a scanner, heard in parts.
-use Rattle.std.proofs.Common.{◌≡◌, ◌≢◌, ℕ, suc, ◌+◌, ◌-◌, ◌<◌, ◌≤◌, ◌^◌, ◌⊎◌, inl, inr, false, IsTrue, List, [], ◌∷◌, ◌++◌, length, take}
-use Rattle.std.proofs.Common.{drop, refl, sym, ap, ◌∙◌, arith, subst, append_assoc, length-append}
-use Rattle.std.specs.List.{All}
+-- What a chunk is to a scanner that hears it at once, or in parts.
+use Rattle.std.proofs.Common.{◌≡◌, ℕ, ◌+◌, ◌-◌, ◌<◌, ◌≤◌, ◌^◌, ◌⊎◌, inl, inr, true, false, List, [], ◌∷◌, ◌++◌, length, take}
+use Rattle.std.proofs.Common.{Option, None, Some, drop, get_or, refl, sym, ap, ◌∙◌, arith, subst, append_assoc, length-append, length-drop}
 use Rattle.std.proofs.lemmas.Bool.{false≢true}
-use Rattle.std.proofs.lemmas.List.{map-append, take-take, length-map, length-take-le}
-use Rattle.std.proofs.Math.Seq.{take-add}
+use Rattle.std.proofs.lemmas.List.{append-nil, drop-map, map-append, take-map, take-take, length-map, length-take-le}
+use Rattle.std.proofs.Math.Seq.{take-add, take-append-add, take-append_seam, take-length}
 use Rattle.std.specs.List.{slice_range}
+use Rattle.std.specs.Option.{MatchOption}
+use Rattle.hart_frame.specs.declared.wire.layout.Layout.{Layout}
 use Rattle.hart_frame.specs.heard.Character.{Character, faultless}
 use Rattle.hart_frame.specs.heard.Frames.{IsUndecided}
-use Rattle.hart_frame.specs.scan.Scanner.{Scan, CanHear, MovesPast, hearing}
-use Rattle.hart_frame.proofs.lemmas.scan.Buffer.{length_range}
-use Rattle.hart_frame.proofs.lemmas.scan.Scan.{NothingStarts, nothing_never, moves_drop, moves_none, moves_then, undecided_nothing}
-use Rattle.hart_frame.proofs.lemmas.scan.Scan.{undecided_open}
-use Rattle.hart_frame.specs.scan.Candidate.{IsCandidate, NeverBecomeBody}
-use Rattle.hart_frame.specs.declared.wire.fault.FrameFault.TheVariants.{BadDelimiter}
-use Rattle.hart_frame.specs.declared.scan.candidate.Candidate.TheVariants.{Open}
-use Rattle.hart_frame.proofs.lemmas.heard.Place.{preamble}
-use Rattle.hart_frame.proofs.lemmas.scan.Undecided.{moves_length, undecided_before}
+use Rattle.hart_frame.specs.scan.Buffer.{IsMeant, IsSound, IsStored, IsWaiting, held_bytes, is_drained, scan_of, state_of}
+use Rattle.hart_frame.specs.scan.Candidate.{IsWhole, MayBegin}
+use Rattle.hart_frame.specs.scan.Chunk.{Hears, HearsPart, StopsAt}
+use Rattle.hart_frame.specs.scan.Decision.{HoldsWhole}
+use Rattle.hart_frame.specs.scan.Scanner.{Scan, CanHear, GivesNothing, MovesPast, hearing}
+use Rattle.hart_frame.specs.scan.Search.{IsOpenAll, IsOpenFrom, IsSearched}
+use Rattle.hart_frame.specs.declared.scan.buffer.Buffer.{Buffer}
+use Rattle.hart_frame.specs.declared.scan.buffer.State.{State}
+use Rattle.hart_frame.specs.declared.scan.buffer.State.TheVariants.{Drained}
+use Rattle.hart_frame.specs.declared.scan.search.Sighting.{Sighting}
+use Rattle.hart_frame.proofs.lemmas.scan.Buffer.{held_clear, undecided_waiting, waits_drained}
+use Rattle.hart_frame.proofs.lemmas.scan.Candidate.{undecided_open}
+use Rattle.hart_frame.proofs.lemmas.scan.Decision.{holds_frame}
+use Rattle.hart_frame.proofs.lemmas.scan.Scan.{moves_none, moves_places, moves_then}
+use Rattle.hart_frame.proofs.lemmas.scan.Undecided.{moves_length, undecided_before, waits_only}
 
 append_none : (cs more : List Character) → cs ++ more ≡ [] → more ≡ []
 append_none [] more none = none
@@ -45,150 +52,361 @@ moves_hearing a b cs going p =
     }
 
 -- what is heard in two parts
-pub hearing_more : (a b c : Scan) (xs ys : List ℕ) → a.finished ≡ false → MovesPast (hearing a (faultless xs)) b []
-    → MovesPast (hearing b (faultless ys)) c [] → MovesPast (hearing a (faultless (xs ++ ys))) c []
+pub hearing_more : (a b c : Scan) (xs ys : List Character) → a.finished ≡ false → MovesPast (hearing a xs) b [] → MovesPast (hearing b ys) c []
+    → MovesPast (hearing a (xs ++ ys)) c []
 hearing_more a b c xs ys going p q =
-    let make = λ (byte : ℕ). let c : Character = record { byte = byte; faults = 0 } in c in
-    let both : (hearing (hearing a (faultless xs)) (faultless ys)).held ≡ (hearing a (faultless (xs ++ ys))).held =
-    append_assoc a.held (faultless xs) (faultless ys) ∙ ap (λ (ds : List Character). a.held ++ ds) (sym (map-append make xs ys)) in
-    moves_then (hearing a (faultless (xs ++ ys))) (hearing (hearing a (faultless xs)) (faultless ys)) c []
-    (moves_none (hearing a (faultless (xs ++ ys))) (hearing (hearing a (faultless xs)) (faultless ys)) both refl refl)
-    (moves_then (hearing (hearing a (faultless xs)) (faultless ys)) (hearing b (faultless ys)) c []
-    (moves_hearing (hearing a (faultless xs)) b (faultless ys) going p) q)
+    moves_then (hearing a (xs ++ ys)) (hearing (hearing a xs) ys) c []
+    (moves_none (hearing a (xs ++ ys)) (hearing (hearing a xs) ys) (append_assoc a.held xs ys) refl refl)
+    (moves_then (hearing (hearing a xs) ys) (hearing b ys) c [] (moves_hearing (hearing a xs) b ys going p) q)
 
 -- what is undecided after two parts was undecided before
-pub undecided_more : (a b : Scan) (xs ys : List ℕ) → a.finished ≡ false → MovesPast (hearing a (faultless xs)) b []
-    → IsUndecided (b.held ++ faultless ys) → IsUndecided (a.held ++ faultless (xs ++ ys))
+pub undecided_more : (a b : Scan) (xs ys : List Character) → a.finished ≡ false → MovesPast (hearing a xs) b [] → IsUndecided (b.held ++ ys)
+    → IsUndecided (a.held ++ (xs ++ ys))
 undecided_more a b xs ys going moves undecided =
-    undecided_before (hearing a (faultless (xs ++ ys))) (hearing b (faultless ys))
-    (hearing_more a b (hearing b (faultless ys)) xs ys going moves (moves_none _ _ refl refl refl)) undecided
-
--- other bytes than a preamble byte are passed
-moves_others : (a b : Scan) (xs : List ℕ) → All (λ byte. byte ≢ 255) xs → a.held ≡ faultless xs → b.held ≡ []
-    → b.first ≡ a.first + length xs → b.finished ≡ a.finished → MovesPast a b []
-moves_others a b [] others held empty firsts same = moves_none a b (empty ∙ sym held) (omega (arith, firsts)) same
-moves_others a b (x ∷ xs) others held empty firsts same =
-    let gone : Character = record { byte = x; faults = 0 } in
-    let mid : Scan = record a { first = a.first + 1; held = faultless xs } in
-    let Nothing : List Character → Type 0 = λ cs. NothingStarts cs in
-    let nothing : (more : List Character) → (IsTrue a.finished → more ≡ []) → NothingStarts (a.held ++ more) =
-    λ more _. subst Nothing (ap (λ (cs : List Character). cs ++ more) (sym held))
-    (nothing_never (x ∷ []) (faultless xs ++ more) (omega arith) (inl (others 0 0 (omega arith)))) in
-    moves_then a mid b [] (moves_drop a mid gone held refl refl nothing)
-    (moves_others mid b xs (λ k d within. others (suc k) d (omega (arith, within))) refl empty (omega (arith, firsts)) same)
-
--- and heard, if nothing is held
-pub others_heard : (a b : Scan) (xs : List ℕ) → All (λ byte. byte ≢ 255) xs → a.held ≡ [] → b.held ≡ [] → b.first ≡ a.first + length xs
-    → b.finished ≡ a.finished → MovesPast (hearing a (faultless xs)) b []
-others_heard a b xs others none empty firsts same =
-    moves_others (hearing a (faultless xs)) b xs others (ap (λ (cs : List Character). cs ++ faultless xs) none) empty firsts same
-
--- so nothing is decided in them
-pub others_undecided : (a : Scan) (xs : List ℕ) → All (λ byte. byte ≢ 255) xs → a.held ≡ [] → IsUndecided (a.held ++ faultless xs)
-others_undecided a xs others none =
-    let b : Scan = record a { first = a.first + length xs; held = [] } in
-    undecided_before (hearing a (faultless xs)) b (others_heard a b xs others none refl refl refl) undecided_nothing
-
--- a preamble byte is no delimiter
-never_preamble : (x : ℕ) → x ≡ 255 → NeverBecomeBody (x ∷ [])
-never_preamble x is = record {
-  fault = BadDelimiter;
-  refused = (omega arith, λ delimiter. omega (arith, is, delimiter.0));
-  decided = λ same. absurd cc;
-}
-
--- of preamble bytes all but the last two are let go
-moves_preambles : (a b : Scan) (xs : List ℕ) → All (λ byte. byte ≡ 255) xs → a.held ≡ faultless (255 ∷ 255 ∷ xs)
-    → b.held ≡ faultless (255 ∷ 255 ∷ []) → b.first ≡ a.first + length xs → b.finished ≡ a.finished → MovesPast a b []
-moves_preambles a b [] all held two firsts same = moves_none a b (two ∙ sym held) (omega (arith, firsts)) same
-moves_preambles a b (x ∷ xs) all held two firsts same =
-    let mid : Scan = record a { first = a.first + 1; held = faultless (255 ∷ 255 ∷ xs) } in
-    let is : x ≡ 255 = all 0 0 (omega arith) in
-    let third : faultless (255 ∷ 255 ∷ x ∷ xs) ≡ faultless (255 ∷ 255 ∷ 255 ∷ xs) = ap (λ (y : ℕ). faultless (255 ∷ 255 ∷ y ∷ xs)) is in
-    let Nothing : List Character → Type 0 = λ cs. NothingStarts cs in
-    let nothing : (more : List Character) → (IsTrue a.finished → more ≡ []) → NothingStarts (a.held ++ more) =
-    λ more _. subst Nothing (ap (λ (cs : List Character). cs ++ more) (sym held))
-    (nothing_never (255 ∷ 255 ∷ x ∷ []) (faultless xs ++ more) (omega arith) (inr (inr (never_preamble x is)))) in
-    moves_then a mid b [] (moves_drop a mid preamble (held ∙ third) refl refl nothing)
-    (moves_preambles mid b xs (λ k d within. all (suc k) d (omega (arith, within))) refl two (omega (arith, firsts)) same)
-
--- and so are those heard after two that are held
-pub preambles_heard : (a b : Scan) (xs : List ℕ) → All (λ byte. byte ≡ 255) xs → a.held ≡ faultless (255 ∷ 255 ∷ [])
-    → b.held ≡ faultless (255 ∷ 255 ∷ []) → b.first ≡ a.first + length xs → b.finished ≡ a.finished
-    → MovesPast (hearing a (faultless xs)) b []
-preambles_heard a b xs all held two firsts same =
-    moves_preambles (hearing a (faultless xs)) b xs all (ap (λ (cs : List Character). cs ++ faultless xs) held) two firsts same
-
--- so nothing is decided in them
-pub preambles_undecided : (a : Scan) (xs : List ℕ) → All (λ byte. byte ≡ 255) xs → a.held ≡ faultless (255 ∷ 255 ∷ [])
-    → IsUndecided (a.held ++ faultless xs)
-preambles_undecided a xs all held =
-    let two : List ℕ = 255 ∷ 255 ∷ [] in
-    let b : Scan = record a { first = a.first + length xs; held = faultless two } in
-    let until : IsCandidate two (Open 1) = inr ((omega arith, refl, refl), inl (refl, refl)) in
-    undecided_before (hearing a (faultless xs)) b (preambles_heard a b xs all held refl refl refl) (undecided_open two 1 until)
+    undecided_before (hearing a (xs ++ ys)) (hearing b ys)
+    (hearing_more a b (hearing b ys) xs ys going moves (moves_none _ _ refl refl refl)) undecided
 
 -- the first part of a chunk, and then the first of the rest
-take_rest : (chunk : List ℕ) (n r : ℕ) → n + r ≤ length chunk
-    → take n chunk ++ take r (slice_range chunk n (length chunk)) ≡ take (n + r) chunk
-take_rest chunk n r within =
-    ap (λ (xs : List ℕ). take n chunk ++ xs) (take-take r (length chunk - n) (drop n chunk) (omega (arith, within)))
+take_part : (chunk : List Character) (n part r : ℕ) → n + part ≤ length chunk → r ≤ part
+    → take n chunk ++ take r (take part (slice_range chunk n (length chunk))) ≡ take (n + r) chunk
+take_part chunk n part r within few =
+    ap (λ (cs : List Character). take n chunk ++ cs)
+    (take-take r part (slice_range chunk n (length chunk)) few ∙ take-take r (length chunk - n) (drop n chunk) (omega (arith, within, few)))
     ∙ sym (take-add n r chunk)
 
-moves_part : (a b c : Scan) (chunk : List ℕ) (n r : ℕ) → a.finished ≡ false → n + r ≤ length chunk
-    → MovesPast (hearing a (faultless (take n chunk))) b []
-    → MovesPast (hearing b (faultless (take r (slice_range chunk n (length chunk))))) c []
-    → MovesPast (hearing a (faultless (take (n + r) chunk))) c []
-moves_part a b c chunk n r going within p q =
-    let Of : List ℕ → Type 0 = λ xs. MovesPast (hearing a (faultless xs)) c [] in
-    subst Of (take_rest chunk n r within) (hearing_more a b c (take n chunk) (take r (slice_range chunk n (length chunk))) going p q)
+-- so many characters of a chunk were heard, and nothing was decided before
+pub record HeardSo (a c : Scan) (chunk : List Character) (n : ℕ) : Type 0 where
+  pub going : a.finished ≡ false
+  pub moves : MovesPast (hearing a (take n chunk)) c []
+  pub before : (fewer : ℕ) → fewer < n → IsUndecided (a.held ++ take fewer chunk)
 
-undecided_part : (a b : Scan) (chunk : List ℕ) (n r : ℕ) → a.finished ≡ false → n + r ≤ length chunk
-    → MovesPast (hearing a (faultless (take n chunk))) b []
-    → IsUndecided (b.held ++ faultless (take r (slice_range chunk n (length chunk))))
-    → IsUndecided (a.held ++ faultless (take (n + r) chunk))
-undecided_part a b chunk n r going within p undecided =
-    let Of : List ℕ → Type 0 = λ xs. IsUndecided (a.held ++ faultless xs) in
-    subst Of (take_rest chunk n r within)
-    (undecided_more a b (take n chunk) (take r (slice_range chunk n (length chunk))) going p undecided)
-
--- nothing is decided before so many bytes of a chunk
-abbrev pub UndecidedBefore : Scan → List ℕ → ℕ → Type 0
-UndecidedBefore a chunk n = (k : ℕ) → k < n → IsUndecided (a.held ++ faultless (take k chunk))
-
--- one more part of a chunk was heard
-pub record HeardPart (a c : Scan) (chunk : List ℕ) (n : ℕ) : Type 0 where
-  pub moves : MovesPast (hearing a (faultless (take n chunk))) c []
-  pub before : UndecidedBefore a chunk n
-
-pub heard_part : (a b c d : Scan) (chunk : List ℕ) (n r : ℕ) → a.finished ≡ false → n + r ≤ length chunk
-    → MovesPast (hearing a (faultless (take n chunk))) b [] → UndecidedBefore a chunk n
-    → MovesPast (hearing b (faultless (take r (slice_range chunk n (length chunk))))) c []
-    → UndecidedBefore b (slice_range chunk n (length chunk)) r → MovesPast c d [] → HeardPart a d chunk (n + r)
-heard_part a b c d chunk n r going within p before q later peeked = record {
-  moves = moves_then (hearing a (faultless (take (n + r) chunk))) c d [] (moves_part a b c chunk n r going within p q) peeked;
-  before = λ k below.
-      let cases : (k < n) ⊎ (n ≤ k) = grind arith in
-      elim cases [
-        | inl early ↦ before k early
-        | inr late ↦
-            let Of : ℕ → Type 0 = λ m. IsUndecided (a.held ++ faultless (take m chunk)) in
-            let whole : n + (k - n) ≡ k = omega (arith, late) in
-            let undecided = later (k - n) (omega (arith, below, late)) in
-            subst Of whole (undecided_part a b chunk n (k - n) going (omega (arith, below, late, within)) p undecided)
-      ];
-}
+-- and then some more
+pub heard_then : (a b c : Scan) (chunk : List Character) (n r : ℕ) → n ≤ length chunk → HeardSo a b chunk n
+    → HearsPart b c (slice_range chunk n (length chunk)) r → HeardSo a c chunk (n + r)
+heard_then a b c chunk n r inside so part =
+    let rest = slice_range chunk n (length chunk) in
+    let p = part.part in
+    let room : length rest ≡ length chunk - n = length-take-le (length chunk - n) (drop n chunk) (omega (arith, length-drop n chunk)) in
+    let within : n + p ≤ length chunk = omega (arith, part.part_within, room, inside) in
+    let size = length-take-le p rest part.part_within in
+    let few : r ≤ p = omega (arith, part.hears.within, size) in
+    let Moves : List Character → Type 0 = λ cs. MovesPast (hearing a cs) c [] in
+    let Undecided : List Character → Type 0 = λ cs. IsUndecided (a.held ++ cs) in
+    record {
+      going = so.going;
+      moves = subst Moves (take_part chunk n p r within few) (hearing_more a b c (take n chunk) (take r (take p rest)) so.going so.moves part.hears.moves);
+      before = λ fewer below.
+          let cases : (fewer < n) ⊎ (n ≤ fewer) = grind arith in
+          elim cases [
+            | inl early ↦ so.before fewer early
+            | inr late ↦
+                let k = fewer - n in
+                let whole : n + k ≡ fewer = omega (arith, late) in
+                let undecided = undecided_more a b (take n chunk) (take k (take p rest)) so.going so.moves
+                (part.hears.before k (omega (arith, below, late))) in
+                subst (λ (m : ℕ). IsUndecided (a.held ++ take m chunk)) whole
+                (subst Undecided (take_part chunk n p k within (omega (arith, below, late, few))) undecided)
+          ];
+    }
 
 -- so many characters more are let go or held
-pub heard_length : (a b : Scan) (chunk : List ℕ) (n : ℕ) → n ≤ length chunk → MovesPast (hearing a (faultless (take n chunk))) b []
+pub heard_length : (a b : Scan) (chunk : List Character) (n : ℕ) → n ≤ length chunk → MovesPast (hearing a (take n chunk)) b []
     → b.first + length b.held ≡ a.first + length a.held + n
 heard_length a b chunk n within moves =
-    let make = λ (byte : ℕ). let c : Character = record { byte = byte; faults = 0 } in c in
-    let heard : length (faultless (take n chunk)) ≡ n = length-map (take n chunk) make ∙ length-take-le n chunk within in
-    omega (arith, moves_length (hearing a (faultless (take n chunk))) b [] moves, length-append a.held (faultless (take n chunk)), heard)
+    omega (
+      arith,
+      moves_length (hearing a (take n chunk)) b [] moves,
+      length-append a.held (take n chunk),
+      length-take-le n chunk within,
+    )
 
--- the places of what is still to be heard
-pub room_rest : (a b : Scan) (chunk : List ℕ) (n : ℕ) → n ≤ length chunk → MovesPast (hearing a (faultless (take n chunk))) b []
-    → a.first + length a.held + length chunk < 2 ^ 64 → b.first + length b.held + length (slice_range chunk n (length chunk)) < 2 ^ 64
-room_rest a b chunk n within moves room =
-    omega (arith, room, heard_length a b chunk n within moves, length_range chunk n (length chunk) within (omega arith))
+-- what a peek makes of one character that was heard
+abbrev pub Peeked : Scan → Buffer → Character → Option Layout → Type 0
+Peeked old new character seen = MatchOption seen (GivesNothing (hearing old (character ∷ [])) (scan_of new))
+    (λ layout. MovesPast (hearing old (character ∷ [])) (scan_of new) [] × (is_drained new.state ≡ false) × IsWhole layout (held_bytes new)
+    × (new.finished ≡ false))
+
+seen_one : (old : Scan) (new : Buffer) (character : Character) (seen : Option Layout) → old.finished ≡ false
+    → ((fewer : ℕ) → fewer < 1 → IsUndecided (old.held ++ take fewer (character ∷ []))) → Peeked old new character seen
+    → Hears old (scan_of new) (character ∷ []) 1
+seen_one old new character None going before nothing =
+    let waits = waits_only (hearing old (character ∷ [])) (scan_of new) going nothing in
+    record {
+      within = omega arith;
+      some = λ _. omega arith;
+      moves = waits.moves;
+      before = before;
+      stops = inl (waits.drained, waits.undecided, refl);
+      finished = waits.unfinished ∙ sym going;
+    }
+seen_one old new character (Some layout) going before (moves, busy, whole, finished) = record {
+  within = omega arith;
+  some = λ _. omega arith;
+  moves = moves;
+  before = before;
+  stops = inr (busy, holds_frame new layout whole);
+  finished = finished ∙ sym going;
+}
+
+-- one character is heard, and looked at
+hears_one : (old : Scan) (new : Buffer) (character : Character) (seen : Option Layout) → old.finished ≡ false → IsUndecided old.held
+    → Peeked old new character seen → Hears old (scan_of new) (character ∷ []) 1
+hears_one old new character seen going undecided peeked =
+    let Undecided : List Character → Type 0 = λ cs. IsUndecided cs in
+    let before : (fewer : ℕ) → fewer < 1 → IsUndecided (old.held ++ take fewer (character ∷ [])) = λ fewer below.
+    let none : fewer ≡ 0 = omega (arith, below) in
+    subst (λ (n : ℕ). IsUndecided (old.held ++ take n (character ∷ []))) (sym none)
+    (subst Undecided (sym (append-nil old.held)) undecided) in
+    seen_one old new character seen going before peeked
+
+pub peeked : (old : Scan) (mid new : Buffer) (character : Character) (seen : Option Layout) → scan_of mid ≡ hearing old (character ∷ [])
+    → mid.finished ≡ false → MatchOption seen (GivesNothing (scan_of mid) (scan_of new)) (HoldsWhole mid new) → Peeked old new character seen
+peeked old mid new character None heard going nothing =
+    let Of : Scan → Type 0 = λ s. GivesNothing s (scan_of new) in
+    subst Of heard nothing
+peeked old mid new character (Some layout) heard going holds =
+    let Of : Scan → Type 0 = λ s. MovesPast s (scan_of new) [] in
+    (subst Of heard holds.moves, holds.drained, holds.begins, holds.finished ∙ going)
+
+pub first_one : (chunk : List Character) (character : Character) → 0 < length chunk → character ≡ get_or chunk 0 character
+    → take 1 chunk ≡ character ∷ []
+first_one [] character some is = absurd (omega (arith, some))
+first_one (first ∷ rest) character some is = ap (λ (c : Character). c ∷ []) (sym is)
+
+-- so a first part of a chunk is heard
+pub hears_first : (old : Scan) (new : Buffer) (chunk : List Character) (character : Character) (seen : Option Layout) → old.finished ≡ false
+    → IsUndecided old.held → take 1 chunk ≡ character ∷ [] → 0 < length chunk → Peeked old new character seen
+    → HearsPart old (scan_of new) chunk 1
+hears_first old new chunk character seen going undecided first some peeked =
+    let Of : List Character → Type 0 = λ cs. Hears old (scan_of new) cs 1 in
+    record {
+      part = 1;
+      part_within = omega (arith, some);
+      part_some = omega arith;
+      hears = subst Of (sym first) (hears_one old new character seen going undecided peeked);
+    }
+
+-- nothing is decided of bytes of which none begins a frame up to a place, and those from it on may begin one
+undecided_from : (xs : List ℕ) → IsOpenFrom xs 0 → IsUndecided (faultless xs)
+undecided_from xs ends =
+    let old : Scan = record { first = 0; held = faultless xs; finished = false; drained = false } in
+    let new : Scan = record { first = ends.place; held = faultless (drop ends.place xs); finished = false; drained = false } in
+    undecided_before old new
+    (moves_places old new xs [] ends.place (sym (append-nil (faultless xs))) (sym (append-nil (faultless (drop ends.place xs))))
+    (let e : ends.place ≡ 0 + ends.place = omega arith in e) refl ends.within
+    (λ place below more _. ends.none place (omega arith) below more)) (undecided_open (drop ends.place xs) ends.may)
+
+-- what is held and the first of a chunk after it, as the first of both
+heard_bytes : (b : Buffer) (chunk : List ℕ) (count : ℕ) → IsWaiting b
+    → (scan_of b).held ++ take count (faultless chunk) ≡ faultless (take (length (held_bytes b) + count) (held_bytes b ++ chunk))
+heard_bytes b chunk count waiting =
+    let make = λ (byte : ℕ). let c : Character = record { byte = byte; faults = 0 } in c in
+    let held = held_bytes b in
+    ap (λ (cs : List Character). cs ++ take count (faultless chunk)) (held_clear b waiting.clear)
+    ∙ ap (λ (cs : List Character). faultless held ++ cs) (take-map make count chunk)
+    ∙ sym (map-append make held (take count chunk))
+    ∙ ap faultless (sym (take-append-add held chunk count))
+
+-- a buffer that kept what was found in what it held and in a part after it
+pub record IsKept (old new : Buffer) (part : List ℕ) (found : Sighting) : Type 0 where
+  pub waiting : IsWaiting old
+  pub searched : IsSearched (held_bytes old ++ part) 0 (length (held_bytes old) + 1) found
+  pub held : held_bytes new ≡ drop found.place (take found.decided (held_bytes old ++ part))
+  pub firsts : new.first ≡ old.first + found.place
+  pub clear : new.damaged ≡ None
+  pub finished : new.finished ≡ old.finished
+  pub state : new.state ≡ state_of found.layout
+
+-- what is said of what it holds then
+abbrev Holds : Buffer → Buffer → List ℕ → Sighting → Option Layout → Type 0
+Holds old new part found layout = MatchOption layout
+    ((length (held_bytes new) < 269) × MayBegin (held_bytes new) × (found.decided ≡ length (held_bytes old) + length part))
+    (λ l. IsWhole l (held_bytes new))
+
+holds_kept : (old new : Buffer) (part : List ℕ) (found : Sighting) → IsKept old new part found → (layout : Option Layout)
+    → MatchOption layout (IsOpenAll (held_bytes old ++ part) found)
+    (λ l. IsWhole l (drop found.place (take found.decided (held_bytes old ++ part)))) → Holds old new part found layout
+holds_kept old new part found kept None (all, few, may) =
+    let total = held_bytes old ++ part in
+    let held : held_bytes new ≡ drop found.place total =
+    kept.held ∙ ap (λ (n : ℕ). drop found.place (take n total)) all ∙ ap (drop found.place) (take-length total) in (
+      omega (arith, ap length held, length-drop found.place total, few),
+      subst MayBegin (sym held) may,
+      all ∙ length-append (held_bytes old) part,
+    )
+holds_kept old new part found kept (Some layout) whole =
+    let Whole : List ℕ → Type 0 = λ xs. IsWhole layout xs in
+    subst Whole (sym kept.held) whole
+
+-- so it is what its state means
+meant_kept : (old new : Buffer) (part : List ℕ) (found : Sighting) → IsKept old new part found → (layout : Option Layout)
+    → Holds old new part found layout → IsMeant new (state_of layout)
+meant_kept old new part found kept None (few, may, all) =
+    record { clear = kept.clear; going = kept.finished ∙ kept.waiting.going; few = few; may = may }
+meant_kept old new part found kept (Some layout) whole = whole
+
+pub sound_kept : (old new : Buffer) (part : List ℕ) (found : Sighting) → IsStored new → IsKept old new part found → IsSound new
+sound_kept old new part found stored kept =
+    let Meant : State → Type 0 = λ state. IsMeant new state in
+    record {
+      stored = stored;
+      meant = subst Meant (sym kept.state)
+          (meant_kept old new part found kept found.layout (holds_kept old new part found kept found.layout kept.searched.stands));
+    }
+
+-- and it stops where nothing more is decided, or where a frame stands
+stops_kept : (old new : Buffer) (part : List ℕ) (found : Sighting) → IsKept old new part found → (layout : Option Layout) (count : ℕ)
+    → new.state ≡ state_of layout → found.decided ≡ length (held_bytes old) + count → Holds old new part found layout
+    → StopsAt (scan_of new) count (length part)
+stops_kept old new part found kept None count is counts (few, may, all) =
+    let Undecided : List Character → Type 0 = λ cs. IsUndecided cs in
+    inl (ap is_drained is, subst Undecided (sym (held_clear new kept.clear)) (undecided_open (held_bytes new) may), omega (arith, counts, all))
+stops_kept old new part found kept (Some layout) count is counts whole = inr (ap is_drained is, holds_frame new layout whole)
+
+-- so much of the part was heard
+pub hears_kept : (old new : Buffer) (part : List ℕ) (found : Sighting) (m : ℕ) → IsKept old new part found → m ≡ length (held_bytes old)
+    → Hears (scan_of old) (scan_of new) (faultless part) (found.decided - m)
+hears_kept old new part found m kept same =
+    let make = λ (byte : ℕ). let c : Character = record { byte = byte; faults = 0 } in c in
+    let held = held_bytes old in
+    let n = length held in
+    let total = held ++ part in
+    let is = kept.searched in
+    let count = found.decided - m in
+    let counts : found.decided ≡ n + count = omega (arith, is.late, same) in
+    let both = take found.decided total in
+    let long = length-map part make in
+    let all = length-append held part in
+    let size = length-take-le found.decided total is.within in
+    let heard : (fewer : ℕ) → (scan_of old).held ++ take fewer (faultless part) ≡ faultless (take (n + fewer) total) =
+    λ fewer. heard_bytes old part fewer kept.waiting in
+    let Stops : ℕ → Type 0 = λ k. StopsAt (scan_of new) count k in
+    record {
+      within = omega (arith, long, counts, is.within, all);
+      some = λ any. omega (arith, is.late, counts);
+      moves = moves_places (hearing (scan_of old) (take count (faultless part))) (scan_of new) both [] found.place
+          (heard count ∙ ap (λ (k : ℕ). faultless (take k total)) (sym counts) ∙ sym (append-nil (faultless both)))
+          (held_clear new kept.clear ∙ ap faultless kept.held ∙ sym (append-nil (faultless (drop found.place both)))) kept.firsts kept.finished
+          (omega (arith, size, is.order)) (λ here below more _. is.none here (omega arith) below more);
+      before = λ fewer below.
+          let Undecided : List Character → Type 0 = λ cs. IsUndecided cs in
+          let cases : (fewer ≡ 0) ⊎ (0 < fewer) = grind arith in
+          let of : IsUndecided (faultless (take (n + fewer) total)) = elim cases [
+            | inl none ↦
+                let same : take (n + fewer) total ≡ held =
+                ap (λ (k : ℕ). take k total) (let e : n + fewer ≡ n = omega (arith, none) in e) ∙ take-append_seam held part in
+                subst Undecided (ap faultless (sym same)) (undecided_open held kept.waiting.may)
+            | inr some ↦ undecided_from (take (n + fewer) total) (is.before (n + fewer) (omega (arith, some)) (omega (arith, below, counts)))
+          ] in
+          subst Undecided (sym (heard fewer)) of;
+      stops = subst Stops (sym long)
+          (stops_kept old new part found kept found.layout count kept.state counts
+          (holds_kept old new part found kept found.layout is.stands));
+      finished = kept.finished;
+    }
+
+-- a loop over the parts of a chunk: what it has heard, and that nothing is decided of it
+pub record IsHearing (old now : Buffer) (chunk : List Character) (taken : ℕ) : Type 0 where
+  pub sound : IsSound now
+  pub drained : now.state ≡ Drained
+  pub within : taken ≤ length chunk
+  pub so : HeardSo (scan_of old) (scan_of now) chunk taken
+
+pub hearing_start : (b : Buffer) (chunk : List Character) → IsSound b → b.state ≡ Drained → IsHearing b b chunk 0
+hearing_start b chunk sound drained = record {
+  sound = sound;
+  drained = drained;
+  within = omega arith;
+  so = record {
+    going = (waits_drained b sound drained).going;
+    moves = moves_none (hearing (scan_of b) []) (scan_of b) (sym (append-nil (scan_of b).held)) refl refl;
+    before = λ fewer below. absurd (omega (arith, below));
+  };
+}
+
+hearing_within : (b c : Scan) (chunk : List Character) (n r : ℕ) → n ≤ length chunk → HearsPart b c (slice_range chunk n (length chunk)) r
+    → (n + r ≤ length chunk) × (0 < r)
+hearing_within b c chunk n r inside part =
+    let rest = slice_range chunk n (length chunk) in
+    let room : length rest ≡ length chunk - n = length-take-le (length chunk - n) (drop n chunk) (omega (arith, length-drop n chunk)) in
+    let size = length-take-le part.part rest part.part_within in (
+      omega (arith, inside, room, size, part.part_within, part.hears.within),
+      part.hears.some (omega (arith, size, part.part_some)),
+    )
+
+-- the next part is heard, and still nothing is decided
+pub hearing_on : (old now new : Buffer) (chunk : List Character) (n r : ℕ) → IsHearing old now chunk n → IsSound new → new.state ≡ Drained
+    → HearsPart (scan_of now) (scan_of new) (slice_range chunk n (length chunk)) r → IsHearing old new chunk (n + r)
+hearing_on old now new chunk n r hears sound drained part = record {
+  sound = sound;
+  drained = drained;
+  within = (hearing_within (scan_of now) (scan_of new) chunk n r hears.within part).0;
+  so = heard_then (scan_of old) (scan_of now) (scan_of new) chunk n r hears.within hears.so part;
+}
+
+busy_holds : (scan : Scan) (count all : ℕ) → (scan.drained ≡ true → ⊥) → StopsAt scan count all → (m n : ℕ) → StopsAt scan m n
+busy_holds scan count all busy stops m n = elim stops [
+  | inl waits ↦ absurd (busy waits.0)
+  | inr holds ↦ inr holds
+]
+
+-- or a frame stands
+pub hears_until : (old now new : Buffer) (chunk : List Character) (n r : ℕ) → IsHearing old now chunk n → (is_drained new.state ≡ true → ⊥)
+    → HearsPart (scan_of now) (scan_of new) (slice_range chunk n (length chunk)) r → Hears (scan_of old) (scan_of new) chunk (n + r)
+hears_until old now new chunk n r hears busy part =
+    let so = heard_then (scan_of old) (scan_of now) (scan_of new) chunk n r hears.within hears.so part in
+    let is = hearing_within (scan_of now) (scan_of new) chunk n r hears.within part in
+    record {
+      within = is.0;
+      some = λ _. omega (arith, is.1);
+      moves = so.moves;
+      before = so.before;
+      stops = busy_holds (scan_of new) r _ busy part.hears.stops (n + r) (length chunk);
+      finished = part.hears.finished ∙ (waits_drained now hears.sound hears.drained).going ∙ sym so.going;
+    }
+
+-- all of a chunk is heard
+pub hears_all : (old now : Buffer) (chunk : List Character) (n : ℕ) → IsHearing old now chunk n → length chunk ≤ n
+    → Hears (scan_of old) (scan_of now) chunk n
+hears_all old now chunk n hears ended =
+    let waiting = waits_drained now hears.sound hears.drained in
+    record {
+      within = hears.within;
+      some = λ some. omega (arith, some, ended);
+      moves = hears.so.moves;
+      before = hears.so.before;
+      stops = inl (ap is_drained hears.drained, undecided_waiting now waiting, omega (arith, ended, hears.within));
+      finished = waiting.going ∙ sym hears.so.going;
+    }
+
+-- there is room for the rest of a chunk
+pub room_left : {X : Type 0} (old now : Buffer) (heard : List Character) (chunk : List X) (n : ℕ) → length heard ≡ length chunk
+    → IsHearing old now heard n → old.first + length (scan_of old).held + length chunk < 2 ^ 64
+    → now.first + length (scan_of now).held + length (slice_range chunk n (length chunk)) < 2 ^ 64
+room_left old now heard chunk n long hears room =
+    let rest = length-take-le (length chunk - n) (drop n chunk) (omega (arith, length-drop n chunk)) in
+    omega (arith, room, rest, long, hears.within, heard_length (scan_of old) (scan_of now) heard n hears.within hears.so.moves)
+
+-- a part of a chunk of bytes is a part of its characters
+pub part_heard : (old new : Scan) (chunk : List ℕ) (part count : ℕ) → part ≤ length chunk → 0 < part
+    → Hears old new (faultless (take part chunk)) count → HearsPart old new (faultless chunk) count
+part_heard old new chunk part count within some hears =
+    let make = λ (byte : ℕ). let c : Character = record { byte = byte; faults = 0 } in c in
+    let Of : List Character → Type 0 = λ cs. Hears old new cs count in
+    record {
+      part = part;
+      part_within = omega (arith, length-map chunk make, within);
+      part_some = some;
+      hears = subst Of (sym (take-map make part chunk)) hears;
+    }
+
+-- and the rest of it is the rest of its characters
+pub rest_heard : (old new : Scan) (chunk : List ℕ) (n count : ℕ) → HearsPart old new (faultless (slice_range chunk n (length chunk))) count
+    → HearsPart old new (slice_range (faultless chunk) n (length (faultless chunk))) count
+rest_heard old new chunk n count hears =
+    let make = λ (byte : ℕ). let c : Character = record { byte = byte; faults = 0 } in c in
+    let Of : List Character → Type 0 = λ cs. HearsPart old new cs count in
+    let same : slice_range (faultless chunk) n (length (faultless chunk)) ≡ faultless (slice_range chunk n (length chunk)) =
+    ap (λ (k : ℕ). take (k - n) (drop n (faultless chunk))) (length-map chunk make)
+    ∙ ap (take (length chunk - n)) (drop-map make n chunk) ∙ take-map make (length chunk - n) (drop n chunk) in
+    subst Of (sym same) hears

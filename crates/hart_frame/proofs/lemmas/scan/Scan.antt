@@ -1,34 +1,19 @@
--- What one step of a scanner leaves to the frames of whatever is heard.
-use Rattle.std.proofs.Common.{◌≡◌, ◌≢◌, ℕ, ◌+◌, ◌<◌, ◌≤◌, ◌⊎◌, inl, inr, IsTrue, List, [], ◌∷◌, ◌++◌, length, take, drop, get_or, refl, sym}
+-- What a scanner that lets characters go leaves to the frames of whatever is heard.
+use Rattle.std.proofs.Common.{◌≡◌, ℕ, zero, suc, ◌+◌, ◌<◌, ◌≤◌, IsTrue, List, [], ◌∷◌, ◌++◌, length, drop, refl, sym}
 use Rattle.std.proofs.Common.{ap, ◌∙◌, arith, subst, append_assoc, length-append}
-use Rattle.std.proofs.lemmas.List.{append-nil, drop_at, length-map, map-append, take-append-le, take-map, take_at, get_or_at}
-use Rattle.std.proofs.lemmas.List.{get_or_append_left, get_or-map}
+use Rattle.std.proofs.lemmas.List.{drop_at, length-map}
 use Rattle.hart_frame.specs.wire.FrameParts.{FrameParts}
-use Rattle.hart_frame.specs.wire.Body.{IsBody, BeginsWithBody}
+use Rattle.hart_frame.specs.wire.Body.{IsBody}
 use Rattle.hart_frame.specs.heard.Character.{Character, faultless}
-use Rattle.hart_frame.specs.heard.Body.{bytes_of, BeginsWithHeard}
 use Rattle.hart_frame.specs.heard.Place.{StandsIn}
 use Rattle.hart_frame.specs.heard.Frames.{AreFrames, none, first}
-use Rattle.hart_frame.specs.wire.Refusal.{IsTruncated, IsRefusedWith}
-use Rattle.hart_frame.specs.heard.Frames.{IsUndecided}
+use Rattle.hart_frame.specs.scan.Candidate.{BeginWithNone}
 use Rattle.hart_frame.specs.scan.Scanner.{Scan, CanHear, MovesPast}
-use Rattle.hart_frame.specs.scan.Candidate.{NeverBecomeBody, IsOpenUntil, IsCandidate}
 use Rattle.hart_frame.specs.declared.heard.found.Found.{Found}
-use Rattle.hart_frame.specs.declared.wire.fault.FrameFault.{FrameFault}
-use Rattle.hart_frame.specs.declared.wire.fault.FrameFault.TheVariants.{TooShortReply, BadPreamble, BadDelimiter, Truncated, BadCheck}
-use Rattle.hart_frame.specs.declared.wire.fault.FrameFault.TheVariants.{ShortReply}
-use Rattle.hart_frame.specs.declared.scan.candidate.Candidate.TheVariants.{Never, Open}
-use Rattle.hart_frame.proofs.lemmas.heard.Body.{BeginsWithBody-heard, bytes_of-faultless, faultless-one}
-use Rattle.hart_frame.proofs.lemmas.heard.Prefix.{refused_more}
-use Rattle.hart_frame.proofs.lemmas.heard.Place.{StandsIn-at, StandsIn-from, StandsIn-within, start-later, preamble}
-use Rattle.hart_frame.proofs.lemmas.wire.Refusal.{not_refused}
+use Rattle.hart_frame.proofs.lemmas.heard.Place.{StandsIn-at, StandsIn-from, StandsIn-within, start-later}
 
--- no frame starts with the first two of some characters
-abbrev pub NothingStarts : List Character → Type 0
-NothingStarts cs = (f : FrameParts) (body : List ℕ) (rest : List Character) → IsBody f body → cs ≡ faultless (255 ∷ 255 ∷ body) ++ rest → ⊥
-
--- then each frame stands from the next place on
-pub skip_one : (chars : List Character) (from : ℕ) → NothingStarts (drop from chars) → (found : Found) → StandsIn found chars from
+-- each frame stands from the next place on if none begins here
+pub skip_one : (chars : List Character) (from : ℕ) → BeginWithNone (drop from chars) → (found : Found) → StandsIn found chars from
     → StandsIn found chars (from + 1)
 skip_one chars from nothing found stands =
     let within = StandsIn-within found chars from stands in
@@ -80,7 +65,7 @@ moves_then a b c given p q = record {
 
 -- a first character with which no frame starts is let go
 pub moves_drop : (old new : Scan) (gone : Character) → old.held ≡ gone ∷ new.held → new.first ≡ old.first + 1 → new.finished ≡ old.finished
-    → ((more : List Character) → (IsTrue old.finished → more ≡ []) → NothingStarts (old.held ++ more)) → MovesPast old new []
+    → ((more : List Character) → (IsTrue old.finished → more ≡ []) → BeginWithNone (old.held ++ more)) → MovesPast old new []
 moves_drop old new gone held firsts finished nothing = record {
   heard = λ more chars hears. record {
     prefix = hears.prefix ++ gone ∷ [];
@@ -90,7 +75,7 @@ moves_drop old new gone held firsts finished nothing = record {
     ended = λ is. hears.ended (sym finished ∙ is);
   };
   frames = λ more chars later hears frames.
-      let Nothing : List Character → Type 0 = λ cs. NothingStarts cs in
+      let Nothing : List Character → Type 0 = λ cs. BeginWithNone cs in
       let here = subst Nothing (sym (heard_at old more chars hears)) (nothing more hears.ended) in
       let Are : ℕ → Type 0 = λ n. AreFrames chars n later in
       AreFrames-earlier chars old.first (old.first + 1) later (omega arith) (skip_one chars old.first here) (subst Are firsts frames);
@@ -131,160 +116,20 @@ moves_frame old new f body held is firsts finished = record {
       }) frames;
 }
 
--- what is refused, and not for its end, is something
-some_refused : (xs : List ℕ) (fault : FrameFault) → fault ≢ Truncated → IsRefusedWith xs fault → 0 < length xs
-some_refused xs TooShortReply decided refused = absurd refused
-some_refused xs BadPreamble decided refused = absurd refused
-some_refused xs Truncated decided refused = absurd (decided refl)
-some_refused xs BadDelimiter decided refused = refused.0
-some_refused xs ShortReply decided refused = refused.0.0.0
-some_refused xs BadCheck decided refused = refused.0.0.0.0.0
-
-bytes_of_append : (xs : List ℕ) (tail : List Character) → bytes_of (faultless xs ++ tail) ≡ xs ++ bytes_of tail
-bytes_of_append xs tail =
-    map-append (λ (character : Character). character.byte) (faultless xs) tail
-    ∙ ap (λ (ys : List ℕ). ys ++ bytes_of tail) (bytes_of-faultless xs)
-
-nothing_never_body : (xs : List ℕ) (tail : List Character) → NeverBecomeBody xs → (f : FrameParts) (body : List ℕ)
-    (rest : List Character) → IsBody f body → faultless xs ++ tail ≡ faultless body ++ rest → ⊥
-nothing_never_body xs tail is f body rest is_body same =
-    let heard : BeginsWithHeard (faultless xs ++ tail) f (length body) =
-    record { body = body; rest = rest; split = same; is_body = is_body; whole = refl } in
-    let begins = BeginsWithBody-heard (faultless xs ++ tail) f (length body) heard in
-    let Begins : List ℕ → Type 0 = λ ys. BeginsWithBody ys f (length body) in
-    not_refused (xs ++ bytes_of tail) f (length body) is.fault (subst Begins (bytes_of_append xs tail) begins)
-    (refused_more xs (bytes_of tail) is.fault is.decided is.refused)
-
-first_byte_same : (x y : ℕ) (xs ys : List Character) → record { byte = x; faults = 0 } ∷ xs ≡ record { byte = y; faults = 0 } ∷ ys → x ≡ y
-first_byte_same x y xs ys same =
-    let firsts : record { byte = x; faults = 0 } ≡ (let c : Character = record { byte = y; faults = 0 } in c) = cc in
-    ap (λ (c : Character). c.byte) firsts
-
-tails_same : (x y : Character) (xs ys : List Character) → x ∷ xs ≡ y ∷ ys → xs ≡ ys
-tails_same x y xs ys same = cc
-
-heads_same : (x y : Character) (xs ys : List Character) → x ∷ xs ≡ y ∷ ys → x ≡ y
-heads_same x y xs ys same = cc
-
--- a false start starts nothing, whatever follows
-pub nothing_never : (xs : List ℕ) (tail : List Character) → 0 < length xs → IsCandidate xs Never → NothingStarts (faultless xs ++ tail)
-nothing_never [] tail some candidate f body rest is same = omega (arith, some)
-nothing_never (x ∷ []) tail some candidate f body rest is same = elim candidate [
-  | inl other ↦ other (first_byte_same x 255 _ _ same)
-  | inr (inl second) ↦ omega (arith, second)
-  | inr (inr never) ↦ omega (arith, some_refused [] never.fault never.decided never.refused)
-]
-nothing_never (x ∷ y ∷ xs) tail some candidate f body rest is same = elim candidate [
-  | inl other ↦ other (first_byte_same x 255 _ _ same)
-  | inr (inl second) ↦ second.1 (first_byte_same y 255 _ _ (tails_same _ _ _ _ same))
-  | inr (inr never) ↦ nothing_never_body xs tail never f body rest is (tails_same _ _ _ _ (tails_same _ _ _ _ same))
-]
-
--- nothing follows, or a character with faults does
-abbrev pub NothingFollows : List Character → Type 0
-NothingFollows tail = (tail ≡ []) ⊎ ((c : Character) × (cs : List Character) × (tail ≡ c ∷ cs) × (c.faults ≢ 0))
-
-pub truncated_until : (xs : List ℕ) (count : ℕ) → IsOpenUntil xs count → IsTruncated xs
-truncated_until xs count until = elim until [
-  | inl empty ↦ inl empty.0
-  | inr (inl no_count) ↦ inr (inl (no_count.0, no_count.1))
-  | inr (inr no_check) ↦ inr (inr (no_check.0, no_check.1))
-]
-
--- a body does not reach past the end
-nothing_short : (xs : List ℕ) (tail : List Character) → IsTruncated xs → (f : FrameParts) (body : List ℕ)
-    (rest : List Character) → IsBody f body → length body ≤ length xs → faultless xs ++ tail ≡ faultless body ++ rest → ⊥
-nothing_short xs tail truncated f body rest is fits same =
-    let n = length body in
-    let make = λ (byte : ℕ). let c : Character = record { byte = byte; faults = 0 } in c in
-    let long : length (faultless xs) ≡ length xs = length-map xs make in
-    let body_long : length (faultless body) ≡ n = length-map body make in
-    let prefixes : faultless (take n xs) ≡ faultless body =
-    sym (take-map make n xs) ∙ sym (take-append-le n (faultless xs) tail (omega (arith, long, fits)))
-    ∙ ap (take n) same ∙ take_at (faultless body) rest n body_long in
-    let bytes = faultless-one (take n xs) body prefixes in
-    let Is : List ℕ → Type 0 = λ ys. IsBody f ys in
-    not_refused xs f n Truncated (record { within = fits; body = subst Is (sym bytes) is }) truncated
-
-nothing_long : (xs : List ℕ) (tail : List Character) → NothingFollows tail → (body : List ℕ) (rest : List Character)
-    → length xs < length body → faultless xs ++ tail ≡ faultless body ++ rest → ⊥
-nothing_long xs tail ends body rest longer same =
-    let make = λ (byte : ℕ). let c : Character = record { byte = byte; faults = 0 } in c in
-    let long : length (faultless xs) ≡ length xs = length-map xs make in
-    let body_long : length (faultless body) ≡ length body = length-map body make in
-    let lengths = ap length same in
-    elim ends [
-      | inl nothing ↦
-          let short = ap length nothing in
-          omega (arith, lengths, length-append (faultless xs) tail, length-append (faultless body) rest, long, body_long, longer, short)
-      | inr (c, cs, is, faulty) ↦
-          let there : get_or (faultless xs ++ tail) (length xs) c ≡ c =
-          ap (λ (ds : List Character). get_or (faultless xs ++ ds) (length xs) c) is ∙ get_or_at (faultless xs) c cs c (length xs) long in
-          let here : get_or (faultless body ++ rest) (length xs) c ≡ make (get_or body (length xs) 0) =
-          get_or_append_left (faultless body) rest c (length xs) (omega (arith, longer, body_long))
-          ∙ get_or-map make body (length xs) 0 c longer in
-          let both : c ≡ make (get_or body (length xs) 0) = sym there ∙ ap (λ (ds : List Character). get_or ds (length xs) c) same ∙ here in
-          faulty (ap (λ (d : Character). d.faults) both)
-    ]
-
-nothing_open_body : (xs : List ℕ) (tail : List Character) → IsTruncated xs → NothingFollows tail → (f : FrameParts)
-    (body : List ℕ) (rest : List Character) → IsBody f body → faultless xs ++ tail ≡ faultless body ++ rest → ⊥
-nothing_open_body xs tail truncated ends f body rest is same =
-    let cases : (length body ≤ length xs) ⊎ (length xs < length body) = grind arith in
-    elim cases [
-      | inl fits ↦ nothing_short xs tail truncated f body rest is fits same
-      | inr longer ↦ nothing_long xs tail ends body rest longer same
-    ]
-
-no_tail : (tail more : List Character) → NothingFollows tail → tail ≡ preamble ∷ more → ⊥
-no_tail tail more ends same = elim ends [
-  | inl nothing ↦ let both = sym nothing ∙ same in absurd cc
-  | inr (c, cs, is, faulty) ↦ faulty (ap (λ (d : Character). d.faults) (heads_same c preamble cs more (sym is ∙ same)))
-]
-
--- an open place starts nothing if the end is reached
-pub nothing_open : (xs : List ℕ) (tail : List Character) (count : ℕ) → IsCandidate xs (Open count) → NothingFollows tail
-    → NothingStarts (faultless xs ++ tail)
-nothing_open [] tail count candidate ends f body rest is same = elim candidate [
-  | inl one ↦ omega (arith, one)
-  | inr (has, until) ↦ omega (arith, has.0)
-]
-nothing_open (x ∷ []) tail count candidate ends f body rest is same = elim candidate [
-  | inl one ↦ no_tail tail (faultless body ++ rest) ends (tails_same _ _ _ _ same)
-  | inr (has, until) ↦ omega (arith, has.0)
-]
-nothing_open (x ∷ y ∷ xs) tail count candidate ends f body rest is same = elim candidate [
-  | inl one ↦ omega (arith, one)
-  | inr (has, until) ↦
-      let bodies = tails_same _ _ _ _ (tails_same _ _ _ _ same) in
-      nothing_open_body xs tail (truncated_until xs count until) ends f body rest is bodies
-]
-
--- what is held is undecided if its first place is open
-pub undecided_open : (xs : List ℕ) (count : ℕ) → IsCandidate xs (Open count) → IsUndecided (faultless xs)
-undecided_open [] count candidate = elim candidate [
-  | inl one ↦ absurd (omega (arith, one))
-  | inr (has, until) ↦ absurd (omega (arith, has.0))
-]
-undecided_open (x ∷ []) count candidate =
-    inl (λ found stands. let within = StandsIn-within found (faultless (x ∷ [])) 0 stands in omega (arith, within))
-undecided_open (x ∷ y ∷ xs) count candidate = elim candidate [
-  | inl one ↦ absurd (omega (arith, one))
-  | inr (has, until) ↦
-      let held : List Character = faultless (x ∷ y ∷ xs) in
-      let of : ℕ → ℕ → List Character = λ a b. faultless (a ∷ b ∷ xs) in
-      let same : of x y ≡ of 255 255 = ap (λ (a : ℕ). of a y) has.1 ∙ ap (λ (b : ℕ). of 255 b) has.2 in
-      let nothing = nothing_open (x ∷ y ∷ xs) [] count (inr (has, until)) (inl refl) in
-      inr (
-        2,
-        record { prefix = []; bytes = xs; split = same; start = refl; truncated = truncated_until xs count until },
-        λ found stands.
-            let Nothing : List Character → Type 0 = λ cs. NothingStarts cs in
-            let later = skip_one held 0 (subst Nothing (append-nil held) nothing) found stands in
-            let within = StandsIn-within found held 1 later in
-            omega (arith, within.after),
-      )
-]
-
-pub undecided_nothing : IsUndecided []
-undecided_nothing = inl (λ found stands. let within = StandsIn-within found [] 0 stands in omega (arith, within))
+-- bytes are let go at whose places no frame begins
+pub moves_places : (old new : Scan) (bytes : List ℕ) (tail : List Character) (count : ℕ) → old.held ≡ faultless bytes ++ tail
+    → new.held ≡ faultless (drop count bytes) ++ tail → new.first ≡ old.first + count → new.finished ≡ old.finished
+    → count ≤ length bytes
+    → ((place : ℕ) → place < count → (more : List Character) → (IsTrue old.finished → more ≡ [])
+    → BeginWithNone (faultless (drop place bytes) ++ (tail ++ more))) → MovesPast old new []
+moves_places old new bytes tail zero held rest firsts finished within never = moves_none old new (rest ∙ sym held) (omega (arith, firsts)) finished
+moves_places old new [] tail (suc n) held rest firsts finished within never = absurd (omega (arith, within))
+moves_places old new (byte ∷ bytes) tail (suc n) held rest firsts finished within never =
+    let gone : Character = record { byte = byte; faults = 0 } in
+    let mid : Scan = record old { first = old.first + 1; held = faultless bytes ++ tail } in
+    let same : (more : List Character) → faultless (byte ∷ bytes) ++ (tail ++ more) ≡ old.held ++ more =
+    λ more. sym (append_assoc (faultless (byte ∷ bytes)) tail more) ∙ ap (λ (cs : List Character). cs ++ more) (sym held) in
+    let None : List Character → Type 0 = λ cs. BeginWithNone cs in
+    moves_then old mid new [] (moves_drop old mid gone held refl refl (λ more ended. subst None (same more) (never 0 (omega arith) more ended)))
+    (moves_places mid new bytes tail n refl rest (omega (arith, firsts)) finished (omega (arith, within))
+    (λ place below. never (suc place) (omega (arith, below))))

@@ -6,7 +6,7 @@ use Rattle.std.proofs.lemmas.Bool.{false≢true}
 use Rattle.hart_frame.specs.heard.Character.{Character, faultless}
 use Rattle.hart_frame.specs.heard.Frames.{AreFrames}
 use Rattle.hart_frame.specs.scan.Scanner.{Scan, CanHear, MovesPast, finishing, hearing, new_scan}
-use Rattle.hart_frame.specs.scan.Streamed.{IsHistory, IsWholeHistory, begin, push, push_bytes, take_view, wait, finish}
+use Rattle.hart_frame.specs.scan.Streamed.{IsHistory, IsWholeHistory, begin, push, push_bytes, push_chars, take_view, wait, finish}
 use Rattle.hart_frame.specs.declared.heard.found.Found.{Found}
 use Rattle.hart_frame.proofs.lemmas.heard.FramesFound.{AreFrames-found}
 use Rattle.hart_frame.proofs.lemmas.scan.Undecided.{stands_held}
@@ -69,14 +69,12 @@ streamed_taken past old new given found streamed moves finished =
     }
 
 -- a chunk that was heard at once
-streamed_chunk : (past : List Character) (old new : Scan) (given : List Found) (chunk : List ℕ) → old.finished ≡ false
-    → IsStreamed past old given → MovesPast (hearing old (faultless chunk)) new [] → new.finished ≡ old.finished
-    → IsStreamed (past ++ faultless chunk) new given
+streamed_chunk : (past : List Character) (old new : Scan) (given : List Found) (chunk : List Character) → old.finished ≡ false
+    → IsStreamed past old given → MovesPast (hearing old chunk) new [] → new.finished ≡ old.finished → IsStreamed (past ++ chunk) new given
 streamed_chunk past old new given chunk going streamed moves finished =
-    let all = past ++ faultless chunk in
-    let pushed = streamed_pushed past old given (faultless chunk) going streamed in
-    let Given : List Found → Type 0 = λ fs. IsStreamed all new fs in
-    subst Given (append-nil given) (streamed_taken all (hearing old (faultless chunk)) new given [] pushed moves finished)
+    let pushed = streamed_pushed past old given chunk going streamed in
+    let Given : List Found → Type 0 = λ fs. IsStreamed (past ++ chunk) new fs in
+    subst Given (append-nil given) (streamed_taken (past ++ chunk) (hearing old chunk) new given [] pushed moves finished)
 
 -- so it is after every history
 streamed : (past : List Character) (scan : Scan) (given : List Found) → IsHistory past scan given → IsStreamed past scan given
@@ -84,6 +82,8 @@ streamed past scan given begin = streamed_new
 streamed past scan given (push before old frames character history going) =
     streamed_pushed before old frames (character ∷ []) going (streamed before old frames history)
 streamed past scan given (push_bytes before old new frames chunk history going moves finished) =
+    streamed_chunk before old new frames (faultless chunk) going (streamed before old frames history) moves finished
+streamed past scan given (push_chars before old new frames chunk history going moves finished) =
     streamed_chunk before old new frames chunk going (streamed before old frames history) moves finished
 streamed past scan given (take_view before old new frames found history gave) =
     streamed_taken before old new frames (found ∷ []) (streamed before old frames history) gave.moves gave.finished

@@ -35,7 +35,7 @@ head_stands chars from frames (first n f more is rest) g later same =
     subst Stands (same_head f g more later same) is.stands
 
 -- what stands in a list stands after others
-stands_after : (prefix cs rest : List Character) (found : Found) (n : ℕ) → length prefix ≡ n → StandsIn found cs 0
+pub stands_after : (prefix cs rest : List Character) (found : Found) (n : ℕ) → length prefix ≡ n → StandsIn found cs 0
     → StandsIn (record { start = n + found.start; stop = n + found.stop; frame = found.frame }) (prefix ++ (cs ++ rest)) n
 stands_after prefix cs rest found n long stands =
     let body = faultless (255 ∷ 255 ∷ stands.body) in
@@ -56,7 +56,7 @@ stands_after prefix cs rest found n long stands =
     }
 
 -- and what stands after others stands in the list
-stands_in : (prefix cs : List Character) (found : Found) (n : ℕ) → length prefix ≡ n → StandsIn found (prefix ++ cs) n
+pub stands_in : (prefix cs : List Character) (found : Found) (n : ℕ) → length prefix ≡ n → StandsIn found (prefix ++ cs) n
     → StandsIn (record { start = found.start - n; stop = found.stop - n; frame = found.frame }) cs 0
 stands_in prefix cs found n long stands =
     let body = faultless (255 ∷ 255 ∷ stands.body) in

@@ -48,15 +48,6 @@ HasEvenParity-push bytes check is = record {
   even = λ bit below. omega (arith, bit_count-append bit bytes (check ∷ []), bit_count-cons bit check [], is.odd bit below);
 }
 
--- the check byte of one more byte
-pub IsCheckByte-push : (bytes : List ℕ) (check byte : ℕ) → byte < 256 → IsCheckByte bytes check
-    → IsCheckByte (bytes ++ byte ∷ []) (bit_xor check byte)
-IsCheckByte-push bytes check byte small is = record {
-  byte = xor_of_8 check byte is.byte small;
-  odd = λ bit below.
-      omega (arith, bit_at_xor check byte bit, is.odd bit below, bit_count-append bit bytes (byte ∷ []), bit_count-cons bit byte []);
-}
-
 -- the check byte of bytes with even parity is 0
 pub check-even : (bytes : List ℕ) (check : ℕ) → IsCheckByte bytes check → HasEvenParity bytes → check ≡ 0
 check-even bytes check is even =

@@ -2,8 +2,7 @@
 use Rattle.std.proofs.Common.{◌≡◌, ℕ, ◌+◌, ◌*◌, ◌/◌, ◌%◌, ◌<◌, ◌≤◌, ◌⊎◌, inl, inr, List, [], ◌∷◌, ◌++◌, length, take, drop, get_or, sym, ap}
 use Rattle.std.proofs.Common.{◌∙◌, arith, append_assoc, length-append, subst, Result, Ok, Err}
 use Rattle.std.specs.Result.{IfOk, IfErr}
-use Rattle.std.proofs.lemmas.List.Elements.{All-get_or}
-use Rattle.std.proofs.lemmas.List.{length-take-le, take-append-drop, get_or_at, take_all}
+use Rattle.std.proofs.lemmas.List.{length-take-le, take-append-drop, get_or_at}
 use Rattle.hart_frame.specs.declared.wire.kind.FrameKind.{FrameKind}
 use Rattle.hart_frame.specs.declared.wire.kind.FrameKind.TheVariants.{Stx, Ack}
 use Rattle.hart_frame.specs.declared.wire.fault.FrameFault.{FrameFault}
@@ -13,8 +12,8 @@ use Rattle.hart_frame.specs.wire.FrameParts.{FrameParts, IsLongEnough}
 use Rattle.hart_frame.specs.wire.Delimiter.{delimiter_of, kind_code, address_type}
 use Rattle.hart_frame.specs.wire.Parity.{HasEvenParity}
 use Rattle.hart_frame.specs.wire.Layout.{delimiter_in, byte_count_place, byte_count_in, body_length}
-use Rattle.hart_frame.specs.wire.Refusal.{IsRefusedWith, IsDelimiter, HasGoodByteCount}
-use Rattle.hart_frame.specs.wire.Body.{IsBody, IsCheckedPart, BeginsWithBody}
+use Rattle.hart_frame.specs.wire.Refusal.{IsRefusedWith, IsDelimiter}
+use Rattle.hart_frame.specs.wire.Body.{IsCheckedPart, BeginsWithBody}
 use Rattle.hart_frame.proofs.lemmas.wire.UnambiguousBodies.{length-address, address_type-lt, kind_code-is, spread}
 
 -- what a list that begins with a frame's body says of it
@@ -111,38 +110,6 @@ not_refused bytes f len ShortReply begins refused =
     let few : address_type f.address < 2 = address_type-lt f.address in
     not_short f.kind f.payload begins.body.checked_part.payload_fits (omega (arith, said.count, refused.2))
     (omega (arith, said.delimiter, refused.1, kind, few, begins.body.checked_part.expansion_fits))
-
--- a body has at most 267 bytes
-pub IsBody-short : (f : FrameParts) (body : List ℕ) → IsBody f body → length body ≤ 267
-IsBody-short f body is =
-    let Is : List ℕ → Type 0 = λ bytes. IsBody f bytes in
-    let begins : BeginsWithBody body f (length body) = record {
-      within = omega arith;
-      body = subst Is (sym (take_all (length body) body (omega arith))) is;
-    } in
-    let said = says body f (length body) begins in
-    let few : address_type f.address < 2 = address_type-lt f.address in
-    let count : byte_count_in body < 256 =
-    All-get_or (λ byte. byte < 256) body (byte_count_place body) 0 (omega (arith, said.whole)) is.bytes_fit in
-    omega (arith, said.whole, said.place, few, count, is.checked_part.expansion_fits)
-
--- a list that begins with a body has a byte count that its kind allows
-count_allowed : (kind : FrameKind) (payload : List ℕ) (byte count : ℕ) → IsLongEnough kind payload → byte % 8 ≡ kind_code kind
-    → count ≡ length payload → (byte % 8 ≡ 2) ⊎ (2 ≤ count)
-count_allowed Stx payload byte count long low same = inl low
-count_allowed Ack payload byte count long low same = inr (omega (arith, long, same))
-
-pub HasGoodByteCount-body : (bytes : List ℕ) (f : FrameParts) (len : ℕ) → BeginsWithBody bytes f len → HasGoodByteCount bytes
-HasGoodByteCount-body bytes f len begins =
-    let said = says bytes f len begins in
-    let part = begins.body.checked_part in
-    let is = subst IsDelimiter (sym said.delimiter) (IsDelimiter-of f part.expansion_fits) in
-    let kind = kind_code-is f.kind in
-    let few : address_type f.address < 2 = address_type-lt f.address in
-    let low : delimiter_in bytes % 8 ≡ kind_code f.kind = omega (arith, said.delimiter, kind, few, part.expansion_fits) in (
-      ((omega (arith, said.whole, said.within), is), omega (arith, said.whole, said.within)),
-      count_allowed f.kind f.payload (delimiter_in bytes) (byte_count_in bytes) part.payload_fits low said.count,
-    )
 
 pub only : ((f g : FrameParts) (bytes : List ℕ) (m n : ℕ) → BeginsWithBody bytes f m → BeginsWithBody bytes g n → (f ≡ g) × (m ≡ n))
     → (bytes : List ℕ) (result : Result (FrameParts × ℕ) FrameFault)

@@ -1,53 +1,42 @@
-use Rattle.std.proofs.Common.{inl, Some, sym, ◌∙◌, ap, subst, []}
-use Rattle.hart_frame.specs.scan.Buffer.{IsSound, scan_of}
-use Rattle.hart_frame.specs.scan.Decision.{HoldsWhole}
+use Rattle.std.proofs.Common.{◌<◌, ◌∙◌, ℕ, Option, drop, length, ap, arith, rules, subst, sym}
+use Rattle.std.specs.Option.{MatchOption}
+use Rattle.hart_frame.specs.scan.Buffer.{held_bytes, scan_of}
+use Rattle.hart_frame.specs.scan.Candidate.{IsWhole}
+use Rattle.hart_frame.specs.scan.Decision.{HoldsWhole, IsHeldOpen}
+use Rattle.hart_frame.specs.scan.Scanner.{GivesNothing}
+use Rattle.hart_frame.specs.declared.wire.layout.Layout.{Layout}
 use Rattle.hart_frame.specs.declared.scan.buffer.Buffer.{Buffer}
-use Rattle.hart_frame.proofs.lemmas.scan.Buffer.{sound_seen}
-use Rattle.hart_frame.proofs.lemmas.scan.Scan.{moves_then}
-use Rattle.hart_frame.proofs.lemmas.scan.Step.{gives_nothing_then}
+use Rattle.hart_frame.specs.declared.scan.buffer.State.TheVariants.{Drained, Stands}
+use Rattle.hart_frame.proofs.lemmas.scan.Decision.{given_nothing, given_open, given_stands, waits_open}
 use Rattle.hart_frame.proofs.scan.buffer.Buffer.decide.Goals as goal
 
-pub loop-self-preserved : goal.loop-self-preserved
-loop-self-preserved c =
-    let loop = c.loop-self.invariant in
-    let step = c.in-Dropped.ensures.step in
-    record {
-      sound = c.step.ensures.sound;
-      busy = ap (λ (b : Buffer). b.drained) step.1 ∙ loop.busy;
-      unseen = ap (λ (b : Buffer). b.seen) step.1 ∙ loop.unseen;
-      moves = moves_then (scan_of c.args.self.now) (scan_of c.loop-self.self) (scan_of c.step.new.self) [] loop.moves step.0;
-      same = ap (λ (b : Buffer). b.finished) step.1 ∙ loop.same;
-    }
+-- what is found, by the layout that there is or is not
+abbrev Found : Buffer → ℕ → Option Layout → Type 0
+Found b place layout = MatchOption layout (IsHeldOpen b place) (λ l. IsWhole l (drop place (held_bytes b)))
 
-pub returns-in-Waiting-clause-seen : goal.returns-in-Waiting-clause-seen
-returns-in-Waiting-clause-seen c =
-    let loop = c.loop-self.invariant in
-    gives_nothing_then (scan_of c.args.self.now) (scan_of c.loop-self.self) (scan_of c.step.new.self) loop.moves loop.same
-    (inl c.in-Waiting.ensures.step)
+pub returns-in-Some-clause-seen : goal.returns-in-Some-clause-seen
+returns-in-Some-clause-seen c =
+    let b = c.args.self.now in
+    let found = c.search_held-found.result in
+    let layout = c.in-Some.layout in
+    let is = c.search_held-found.ensures in
+    let Of : Buffer → Type 0 = λ x. HoldsWhole b (record x { state = Stands layout }) layout in
+    let Stands : Option Layout → Type 0 = λ l. Found b found.place l in
+    subst Of (sym c.pass.ensures.passed) (given_stands b found layout c.requires.busy is (subst Stands c.in-Some.is is.stands))
 
-pub returns-clause-seen : goal.returns-clause-seen
-returns-clause-seen c =
-    let loop = c.loop-self.invariant in
-    gives_nothing_then (scan_of c.args.self.now) (scan_of c.loop-self.self) (scan_of c.end.new.self) loop.moves loop.same
-    c.end.ensures.given
+pub returns-then-is_empty-2-clause-seen : goal.returns-then-is_empty-2-clause-seen
+returns-then-is_empty-2-clause-seen c =
+    given_nothing c.args.self.now c.pass.new.self c.search_held-found.result (scan_of c.end-then-is_empty-2.new.self) c.search_held-found.ensures
+    c.pass.ensures.passed c.end-then-is_empty-2.ensures.given
 
-pub returns-in-Stands-clause-sound : goal.returns-in-Stands-clause-sound
-returns-in-Stands-clause-sound c =
-    let loop = c.loop-self.invariant in
-    let step = c.in-Stands.ensures.step in
-    let Sound : Buffer → Type 0 = λ b. IsSound (record b { seen = Some c.in-Stands.layout }) in
-    subst Sound (sym step.0) (sound_seen c.loop-self.self c.in-Stands.layout loop.sound loop.busy step.1)
-
-pub returns-in-Stands-clause-seen : goal.returns-in-Stands-clause-seen
-returns-in-Stands-clause-seen c =
-    let loop = c.loop-self.invariant in
-    let layout = c.in-Stands.layout in
-    let step = c.in-Stands.ensures.step in
-    let Holds : Buffer → Type 0 = λ b. HoldsWhole c.args.self.now (record b { seen = Some layout }) layout in
-    subst Holds (sym step.0) (record {
-      moves = loop.moves;
-      finished = loop.same;
-      busy = c.requires.busy;
-      drained = loop.busy ∙ sym c.requires.busy;
-      begins = step.1;
-    })
+pub returns-else-is_empty-2-clause-seen : goal.returns-else-is_empty-2-clause-seen
+returns-else-is_empty-2-clause-seen c =
+    let b = c.args.self.now in
+    let found = c.search_held-found.result in
+    let is = c.search_held-found.ensures in
+    let some : 0 < length c.held-2.result.now = search rules in
+    let held = c.held-2.ensures.held ∙ ap (λ (x : Buffer). held_bytes x) c.pass.ensures.passed in
+    let Open : Option Layout → Type 0 = λ l. Found b found.place l in
+    let waiting = waits_open b found.place (subst Open c.in_default.is is.stands) is.within (omega (arith, some, ap length held)) in
+    let Of : Buffer → Type 0 = λ x. GivesNothing (scan_of b) (scan_of (record x { state = Drained })) in
+    subst Of (sym c.pass.ensures.passed) (given_open b found is waiting)

@@ -1,57 +1,37 @@
-use Rattle.std.proofs.Common.{◌+◌, ◌≤◌, ◌∙◌, length, inl, inr, arith}
+use Rattle.std.proofs.Common.{◌∙◌, ℕ, sym, arith}
+use Rattle.std.proofs.lemmas.Bool.{false≢true}
+use Rattle.std.proofs.lemmas.List.{length-map}
+use Rattle.hart_frame.specs.heard.Character.{Character, faultless}
 use Rattle.hart_frame.specs.scan.Buffer.{scan_of}
-use Rattle.hart_frame.proofs.lemmas.scan.Buffer.{length_range}
-use Rattle.hart_frame.proofs.lemmas.scan.Step.{holds_frame, seen_none, seen_some, undecided_held}
-use Rattle.hart_frame.proofs.lemmas.scan.Chunk.{heard_part, room_rest}
-use Rattle.hart_frame.proofs.lemmas.scan.Undecided.{waits_only}
+use Rattle.hart_frame.proofs.lemmas.scan.Buffer.{drained_is}
+use Rattle.hart_frame.proofs.lemmas.scan.Chunk.{hearing_on, hearing_start, hears_all, hears_until, rest_heard, room_left}
 use Rattle.hart_frame.proofs.scan.buffer.Buffer.push_bytes.Goals as goal
 
-pub hear-taken-requires-clause-room : goal.hear-taken-requires-clause-room
-hear-taken-requires-clause-room c =
-    let loop = c.loop-taken.invariant in
-    room_rest (scan_of c.args.self.now) (scan_of c.loop-taken.self) c.args.chunk.now c.loop-taken.taken
-    loop.within loop.moves c.requires.room
+pub loop-taken-init : goal.loop-taken-init
+loop-taken-init c = hearing_start c.args.self.now (faultless c.args.chunk.now) c.requires.sound c.requires.drained
+
+pub push_part-taken-requires-clause-room : goal.push_part-taken-requires-clause-room
+push_part-taken-requires-clause-room c =
+    let chunk = c.args.chunk.now in
+    room_left c.args.self.now c.loop-taken.self (faultless chunk) chunk c.loop-taken.taken
+    (length-map chunk (λ (byte : ℕ). let c : Character = record { byte = byte; faults = 0 } in c)) c.loop-taken.invariant c.requires.room
+
+pub returns-then-not-is_drained-clause-hears : goal.returns-then-not-is_drained-clause-hears
+returns-then-not-is_drained-clause-hears c =
+    let new = c.push_part-taken.new.self in
+    hears_until c.args.self.now c.loop-taken.self new (faultless c.args.chunk.now) c.loop-taken.taken c.push_part-taken.result
+    c.loop-taken.invariant (λ is. false≢true (sym c.if-not-is_drained.true ∙ c.is_drained.ensures.1 (drained_is new.state is)))
+    (rest_heard (scan_of c.loop-taken.self) (scan_of new) c.args.chunk.now c.loop-taken.taken c.push_part-taken.result c.push_part-taken.ensures.hears)
 
 pub loop-taken-preserved : goal.loop-taken-preserved
 loop-taken-preserved c =
-    let loop = c.loop-taken.invariant in
-    let chunk = c.args.chunk.now in
-    let n = c.loop-taken.taken in
-    let r = c.hear-taken.result in
-    let going = (c.requires.sound.drained c.requires.drained).1 in
-    let within : n + r ≤ length chunk =
-    omega (arith, loop.within, c.hear-taken.ensures.within, length_range chunk n (length chunk) loop.within (omega arith)) in
-    let nothing = seen_none c.hear-taken.new.self c.peek.new.self c.peek.result c.if-is_some.ensures c.peek.ensures.seen in
-    let waits = waits_only (scan_of c.hear-taken.new.self) (scan_of c.peek.new.self) c.hear-taken.ensures.going nothing in
-    let part = heard_part (scan_of c.args.self.now) (scan_of c.loop-taken.self) (scan_of c.hear-taken.new.self) (scan_of c.peek.new.self)
-    chunk n r going within loop.moves loop.before c.hear-taken.ensures.moves c.hear-taken.ensures.before waits.moves in
-    record { sound = c.peek.ensures.sound; drained = waits.drained; within = within; moves = part.moves; before = part.before }
+    let new = c.push_part-taken.new.self in
+    hearing_on c.args.self.now c.loop-taken.self new (faultless c.args.chunk.now) c.loop-taken.taken c.push_part-taken.result
+    c.loop-taken.invariant c.push_part-taken.ensures.sound (c.is_drained.ensures.0 c.if-not-is_drained.false)
+    (rest_heard (scan_of c.loop-taken.self) (scan_of new) c.args.chunk.now c.loop-taken.taken c.push_part-taken.result c.push_part-taken.ensures.hears)
 
-pub returns-then-is_some : goal.returns-then-is_some
-returns-then-is_some c =
-    let loop = c.loop-taken.invariant in
+pub returns-clause-hears : goal.returns-clause-hears
+returns-clause-hears c =
     let chunk = c.args.chunk.now in
-    let n = c.loop-taken.taken in
-    let r = c.hear-taken.result in
-    let going = (c.requires.sound.drained c.requires.drained).1 in
-    let within : n + r ≤ length chunk =
-    omega (arith, loop.within, c.hear-taken.ensures.within, length_range chunk n (length chunk) loop.within (omega arith)) in
-    let seen = seen_some c.hear-taken.new.self c.peek.new.self c.peek.result c.if-is_some.ensures c.peek.ensures.seen in
-    let holds = seen.1 in
-    let part = heard_part (scan_of c.args.self.now) (scan_of c.loop-taken.self) (scan_of c.hear-taken.new.self) (scan_of c.peek.new.self)
-    chunk n r going within loop.moves loop.before c.hear-taken.ensures.moves c.hear-taken.ensures.before holds.moves in
-    record {
-      sound = c.peek.ensures.sound;
-      within = within;
-      some = λ _. omega (arith, c.hear-taken.ensures.some);
-      moves = part.moves;
-      going = holds.finished ∙ c.hear-taken.ensures.going;
-      stops = inr (holds.drained ∙ c.hear-taken.ensures.busy, holds_frame c.peek.new.self seen.0 c.peek.ensures.sound holds.begins);
-      before = part.before;
-    }
-
-pub returns-clause-stops : goal.returns-clause-stops
-returns-clause-stops c =
-    let loop = c.loop-taken.invariant in
-    let facts = loop.sound.drained loop.drained in
-    inl (loop.drained, undecided_held c.loop-taken.self loop.sound facts.0 facts.2, omega (arith, loop.within, c.loop-taken-test.false))
+    hears_all c.args.self.now c.loop-taken.self (faultless chunk) c.loop-taken.taken c.loop-taken.invariant
+    (omega (arith, c.loop-taken-test.false, length-map chunk (λ (byte : ℕ). let c : Character = record { byte = byte; faults = 0 } in c)))

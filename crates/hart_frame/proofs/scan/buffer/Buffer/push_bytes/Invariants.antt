@@ -1,18 +1,10 @@
-use Rattle.std.proofs.Common.{◌-◌, ◌<◌, ◌≤◌, ◌++◌, ℕ, [], length, take, IsTrue}
-use Rattle.hart_frame.specs.scan.Buffer.{IsSound, scan_of}
+use Rattle.std.proofs.Common.{◌-◌, length}
 use Rattle.hart_frame.specs.heard.Character.{faultless}
-use Rattle.hart_frame.specs.heard.Frames.{IsUndecided}
-use Rattle.hart_frame.specs.scan.Scanner.{MovesPast, hearing}
+use Rattle.hart_frame.proofs.lemmas.scan.Chunk.{IsHearing}
 use Rattle.hart_frame.proofs.scan.buffer.Buffer.push_bytes.Given as goal
 
 abbrev pub invariant-loop-taken : goal.invariant-loop-taken
-invariant-loop-taken l = record {
-  sound : IsSound l.self;
-  drained : IsTrue l.self.drained;
-  within : l.taken ≤ length l.chunk;
-  moves : MovesPast (hearing (scan_of l.fn.self) (faultless (take l.taken l.chunk))) (scan_of l.self) [];
-  before : (count : ℕ) → count < l.taken → IsUndecided ((scan_of l.fn.self).held ++ faultless (take count l.chunk));
-}
+invariant-loop-taken l = IsHearing l.initial.self l.self (faultless l.chunk) l.taken
 
 abbrev pub decreases-loop-taken : goal.decreases-loop-taken
 decreases-loop-taken l = length l.chunk - l.taken

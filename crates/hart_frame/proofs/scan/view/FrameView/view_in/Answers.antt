@@ -18,11 +18,13 @@ returns c =
     let bytes = c.args.bytes.now in
     let layout = c.args.layout in
     let whole = c.requires.whole in
-    let read = rw c.unwrap-master.ensures at c.read.ensures.found in
+    let end : c.from-address_end.result ≡ layout.address_end = search rules in
+    let at : c.from-command_place.result ≡ layout.command_place = search rules in
+    let read = rw end at (rw c.unwrap-master.ensures at c.read.ensures.found) in
     let count : c.from.result ≡ layout.byte_count = search rules in
-    let place = layout.command_place + 2 in
+    let place = c.from-command_place.result + 2 in
     let payload = slice_range bytes place (place + c.from.result) in
-    let within : place + c.from.result ≤ length bytes = omega (arith, whole, c.requires.described, count) in
+    let within : place + c.from.result ≤ length bytes = omega (arith, whole, c.requires.described, count, at) in
     let payload_len : length payload ≡ layout.byte_count =
     length-slice_range bytes place (place + c.from.result) (omega arith) within ∙ omega (arith, count) in
     let frame : FrameParts = record {
@@ -30,8 +32,8 @@ returns c =
       master = c.unwrap-master.result.0;
       burst = c.unwrap-master.result.1;
       address = address_of c.plain_of.result;
-      expansion = slice_range bytes layout.address_end layout.command_place;
-      command = get_or bytes layout.command_place 0;
+      expansion = slice_range bytes c.from-address_end.result c.from-command_place.result;
+      command = get_or bytes c.from-command_place.result 0;
       payload = payload;
     } in
     let Of : Address → Type 0 = λ a.
@@ -39,9 +41,11 @@ returns c =
     let stands : StandsByLayout bytes layout frame = record {
       kind = refl;
       address = subst Of (sym c.plain_of.ensures) read;
-      expansion = refl;
-      command = refl;
-      payload = ap (λ (n : ℕ). slice_range bytes place (place + n)) count;
+      expansion = ap (λ (n : ℕ). slice_range bytes n c.from-command_place.result) end
+          ∙ ap (λ (n : ℕ). slice_range bytes layout.address_end n) at;
+      command = ap (λ (n : ℕ). get_or bytes n 0) at;
+      payload = ap (λ (n : ℕ). slice_range bytes place (place + n)) count
+          ∙ ap (λ (n : ℕ). slice_range bytes (n + 2) (n + 2 + layout.byte_count)) at;
       payload_fits = long_enough layout.kind payload (delimiter_in bytes) layout.byte_count c.requires.described.kind payload_len
           (rw c.requires.described.count whole.0.1);
     } in

@@ -1,0 +1,304 @@
+-- What is decided of a buffer, and what is given then.
+use Rattle.std.proofs.Common.{◌≡◌, ◌≢◌, ℕ, ◌+◌, ◌-◌, ◌<◌, ◌≤◌, ◌⊎◌, inl, inr, Bool, true, false, IsTrue, List, [], ◌∷◌, ◌++◌, length}
+use Rattle.std.proofs.Common.{take, drop, Option, Some, None, refl, sym, ap, ◌∙◌, arith, subst, append_assoc, length-append, length-drop}
+use Rattle.std.specs.List.{slice_range}
+use Rattle.std.specs.Option.{IfSome, MatchOption, is_some, option_to_list}
+use Rattle.std.proofs.lemmas.List.{drop-drop, drop_at, length-take-le, map-append, take-append-drop, take_at}
+use Rattle.hart_frame.specs.wire.Body.{IsBody, IsCheckedPart}
+use Rattle.hart_frame.specs.wire.Layout.{Describes, body_length, layout_length}
+use Rattle.hart_frame.specs.wire.Parity.{HasEvenParity}
+use Rattle.hart_frame.specs.wire.Refusal.{HasCheckByte}
+use Rattle.hart_frame.specs.heard.Character.{Character, faultless}
+use Rattle.hart_frame.specs.scan.Buffer.{IsEnded, IsSound, IsWaiting, held_bytes, is_drained, scan_of}
+use Rattle.hart_frame.specs.scan.Candidate.{BeginWithNone, IsWhole, MayBegin}
+use Rattle.hart_frame.specs.scan.Chunk.{HoldsFrame}
+use Rattle.hart_frame.specs.scan.Decision.{GivesSpan, HoldsWhole, IsHeldOpen, IsHeldSearched, NoneBeginHeld}
+use Rattle.hart_frame.specs.scan.Scanner.{Scan, MovesPast, GivesNothing}
+use Rattle.hart_frame.specs.scan.Search.{IsOpenAll, IsSearched, NoneBegin}
+use Rattle.hart_frame.specs.declared.wire.layout.Layout.{Layout}
+use Rattle.hart_frame.specs.declared.scan.buffer.Buffer.{Buffer}
+use Rattle.hart_frame.specs.declared.scan.buffer.Span.{Span}
+use Rattle.hart_frame.specs.declared.scan.buffer.State.TheVariants.{Busy, Drained, Stands}
+use Rattle.hart_frame.specs.declared.scan.search.Sighting.{Sighting}
+use Rattle.hart_frame.proofs.lemmas.wire.BodiesFound.{held_frame}
+use Rattle.hart_frame.proofs.lemmas.wire.Body.{IsBody-whole}
+use Rattle.hart_frame.proofs.lemmas.heard.Place.{preamble}
+use Rattle.hart_frame.proofs.lemmas.scan.Buffer.{held_passed, moves_passed, passed, waits}
+use Rattle.hart_frame.proofs.lemmas.scan.Candidate.{NothingFollows, nothing_open}
+use Rattle.hart_frame.proofs.lemmas.scan.Scan.{moves_drop, moves_frame, moves_none, moves_then}
+use Rattle.hart_frame.proofs.lemmas.scan.Search.{none_append, whole_append}
+use Rattle.hart_frame.proofs.lemmas.scan.Undecided.{nothing_before}
+
+-- after what is held nothing follows that a frame can have, if it is ended
+ends_by : (o : Option Character) (finished : Bool) (more : List Character) → IfSome o (λ c. c.faults ≢ 0)
+    → (finished ≡ true) ⊎ (o ≢ None) → (IsTrue finished → more ≡ []) → NothingFollows (option_to_list o ++ more)
+ends_by (Some c) finished more faulty ended whole = inr (c, more, refl, faulty)
+ends_by None finished more faulty ended whole = elim ended [
+  | inl is ↦ inl (whole is)
+  | inr some ↦ absurd (some refl)
+]
+
+false_of : (b : Bool) → (b ≡ true → ⊥) → b ≡ false
+false_of true not = absurd (not refl)
+false_of false not = refl
+
+none_of : (o : Option Character) → (o ≢ None → ⊥) → o ≡ None
+none_of None not = refl
+none_of (Some c) not = absurd (not (λ is. absurd cc))
+
+-- an end that is not reached
+pub not_ended : (b : Buffer) → (IsEnded b → ⊥) → (b.finished ≡ false) × (b.damaged ≡ None)
+not_ended b going = (false_of b.finished (λ is. going (inl is)), none_of b.damaged (λ some. going (inr some)))
+
+-- no frame begins further on
+none_further : (b : Buffer) (from to : ℕ) → NoneBeginHeld b from → NoneBegin (held_bytes b) from to → NoneBeginHeld b to
+none_further b from to first second place below more ended =
+    let cases : (place < from) ⊎ (from ≤ place) = grind arith in
+    elim cases [
+      | inl early ↦ first place early more ended
+      | inr late ↦ second place late below (option_to_list b.damaged ++ more)
+    ]
+
+-- what is found in what is held from a place on, before which no frame begins
+pub record IsLookedAt (b : Buffer) (found : Sighting) : Type 0 where
+  pub from : ℕ
+  pub none : NoneBeginHeld b from
+  pub searched : IsSearched (held_bytes b) from from found
+
+-- so none begins before the place that was found
+pub none_found : (b : Buffer) (found : Sighting) → IsLookedAt b found → NoneBeginHeld b found.place
+none_found b found looked =
+    let held = held_bytes b in
+    let n = found.decided in
+    let is = looked.searched in
+    let parts : take n held ++ drop n held ≡ held = take-append-drop n held in
+    let None : List ℕ → Type 0 = λ xs. NoneBegin xs looked.from found.place in
+    none_further b looked.from found.place looked.none
+    (subst None parts (none_append (take n held) (drop n held) looked.from found.place
+    (omega (arith, is.order, length-take-le n held is.within)) is.none))
+
+-- what may begin a frame begins none if nothing can follow
+pub looked_on : (b : Buffer) (old new : Sighting) → IsSound b → IsEnded b → IsLookedAt b old → old.layout ≡ None
+    → IsSearched (held_bytes b) (old.place + 1) (old.place + 1) new → IsLookedAt b new
+looked_on b old new sound ended looked none searched =
+    let Stands : Option Layout → Type 0 = λ layout. MatchOption layout (IsOpenAll (held_bytes b) old)
+    (λ l. IsWhole l (drop old.place (take old.decided (held_bytes b)))) in
+    let open_all = subst Stands none looked.searched.stands in
+    record {
+      from = old.place + 1;
+      none = λ here below more whole.
+          let cases : (here < old.place) ⊎ (here ≡ old.place) = grind arith in
+          let tail = option_to_list b.damaged ++ more in
+          let None : ℕ → Type 0 = λ n. BeginWithNone (faultless (drop n (held_bytes b)) ++ tail) in
+          elim cases [
+            | inl early ↦ none_found b old looked here early more whole
+            | inr same ↦
+                subst None (sym same) (nothing_open (drop old.place (held_bytes b)) tail open_all.2
+                (ends_by b.damaged b.finished more sound.stored.damage ended whole))
+          ];
+      searched = searched;
+    }
+
+held_stands : (b : Buffer) (found : Sighting) (layout : Option Layout) → found.place ≤ found.decided → found.decided ≤ length (held_bytes b)
+    → (IsEnded b → found.layout ≡ None → found.place < length (held_bytes b) → ⊥) → layout ≡ found.layout
+    → MatchOption layout (IsOpenAll (held_bytes b) found) (λ l. IsWhole l (drop found.place (take found.decided (held_bytes b))))
+    → MatchOption layout (IsHeldOpen b found.place) (λ l. IsWhole l (drop found.place (held_bytes b)))
+held_stands b found None order within last same opened =
+    let cases : (length (held_bytes b) ≡ found.place) ⊎ (found.place < length (held_bytes b)) = grind arith in
+    elim cases [
+      | inl all ↦ inl all
+      | inr some ↦
+          let going = not_ended b (λ ended. last ended (sym same) some) in
+          inr (opened.1, opened.2, going.1, going.0)
+    ]
+held_stands b found (Some layout) order within last same whole =
+    let held = held_bytes b in
+    let n = found.decided in
+    let Whole : List ℕ → Type 0 = λ xs. IsWhole layout (drop found.place xs) in
+    subst Whole (take-append-drop n held)
+    (whole_append layout (take n held) (drop n held) found.place (omega (arith, order, length-take-le n held within)) whole)
+
+-- what is found at last
+pub held_searched : (b : Buffer) (found : Sighting) → IsLookedAt b found
+    → (IsEnded b → found.layout ≡ None → found.place < length (held_bytes b) → ⊥) → IsHeldSearched b found
+held_searched b found looked last = record {
+  within = omega (arith, looked.searched.order, looked.searched.within);
+  none = none_found b found looked;
+  stands = held_stands b found found.layout looked.searched.order looked.searched.within last refl looked.searched.stands;
+}
+
+-- a frame that begins what is held is given
+body_here : (b : Buffer) (layout : Layout) (whole : IsWhole layout (held_bytes b))
+    → slice_range b.bytes (b.from + 2) (b.from + 2 + layout_length layout) ≡ whole.body
+body_here b layout whole =
+    let n = layout_length layout in
+    let rest : drop (b.from + 2) b.bytes ≡ whole.body ++ whole.rest =
+    sym (drop-drop 2 b.from b.bytes) ∙ ap (drop 2) whole.parts in
+    ap (λ (k : ℕ). take k (drop (b.from + 2) b.bytes)) (let e : b.from + 2 + n - (b.from + 2) ≡ n = omega arith in e)
+    ∙ ap (take n) rest ∙ take_at whole.body whole.rest n (sym whole.whole.exact)
+
+-- a buffer that gave the frame that it began with
+abbrev pub released : Buffer → Layout → Buffer
+released b layout = passed b (2 + layout_length layout)
+
+abbrev pub span_of : Buffer → Layout → Span
+span_of b layout =
+    record { at = b.from + 2; layout = layout; start = b.first + 2; stop = b.first + (2 + layout_length layout) }
+
+held_released : (b : Buffer) (layout : Layout) (whole : IsWhole layout (held_bytes b)) → held_bytes (released b layout) ≡ whole.rest
+held_released b layout whole =
+    let front : List ℕ = 255 ∷ 255 ∷ whole.body in
+    let count : 2 + layout_length layout ≡ length front = omega (arith, whole.whole.exact) in
+    held_passed b (2 + layout_length layout) ∙ ap (drop (2 + layout_length layout)) whole.parts
+    ∙ drop_at front whole.rest (2 + layout_length layout) (sym count)
+
+-- two preamble bytes and the body come first of what is held
+held_whole : (b : Buffer) (layout : Layout) (whole : IsWhole layout (held_bytes b))
+    → (scan_of b).held ≡ faultless (255 ∷ 255 ∷ whole.body) ++ (scan_of (released b layout)).held
+held_whole b layout whole =
+    let make = λ (byte : ℕ). let c : Character = record { byte = byte; faults = 0 } in c in
+    let damaged = option_to_list b.damaged in
+    let front : List ℕ = 255 ∷ 255 ∷ whole.body in
+    ap (λ (xs : List ℕ). faultless xs ++ damaged) whole.parts
+    ∙ ap (λ (cs : List Character). cs ++ damaged) (map-append make front whole.rest)
+    ∙ append_assoc (faultless front) (faultless whole.rest) damaged
+    ∙ ap (λ (xs : List ℕ). faultless front ++ (faultless xs ++ damaged)) (sym (held_released b layout whole))
+
+pub gives_span : (b : Buffer) (layout : Layout) → IsSound b → is_drained b.state ≡ false → IsWhole layout (held_bytes b)
+    → GivesSpan b (released b layout) (span_of b layout)
+gives_span b layout sound busy whole =
+    let n = layout_length layout in
+    let body = body_here b layout whole in
+    let held = ap length whole.parts ∙ length-append (255 ∷ 255 ∷ whole.body) whole.rest in
+    let size = length-drop b.from b.bytes in
+    record {
+      within = omega (arith, held, size, whole.whole.exact, sound.stored.within);
+      described = let Of : List ℕ → Type 0 = λ xs. Describes layout xs in subst Of (sym body) whole.whole.described;
+      whole = let Of : List ℕ → Type 0 = λ xs. HasCheckByte xs in subst Of (sym body) whole.whole.checked;
+      even = let Of : List ℕ → Type 0 = λ xs. HasEvenParity xs in subst Of (sym body) whole.whole.even;
+      given = λ frame is.
+          let Of : List ℕ → Type 0 = λ xs. IsBody frame xs in
+          record {
+            moves = moves_frame (scan_of b) (scan_of (released b layout)) frame whole.body (held_whole b layout whole) (subst Of body is)
+                (omega (arith, whole.whole.exact)) refl;
+            stop = refl;
+            finished = refl;
+            undrained = (busy, refl);
+          };
+    }
+
+-- a frame that is given after some characters were let go
+pub gives_then : (old mid new : Buffer) (span : Span) → MovesPast (scan_of old) (scan_of mid) [] → mid.finished ≡ old.finished
+    → is_drained old.state ≡ false → GivesSpan mid new span → GivesSpan old new span
+gives_then old mid new span moves finished busy gives = record {
+  within = gives.within;
+  described = gives.described;
+  whole = gives.whole;
+  even = gives.even;
+  given = λ frame is.
+      let later = gives.given frame is in
+      record {
+        moves = moves_then (scan_of old) (scan_of mid) (scan_of new) _ moves later.moves;
+        stop = later.stop;
+        finished = later.finished ∙ finished;
+        undrained = (busy, later.undrained.1);
+      };
+}
+
+-- nothing is given after some characters were let go
+pub gives_nothing_then : (old mid new : Scan) → MovesPast old mid [] → mid.finished ≡ old.finished → GivesNothing mid new
+    → GivesNothing old new
+gives_nothing_then old mid new moves finished nothing = elim nothing [
+  | inl waits ↦ inl (record {
+    going = sym finished ∙ waits.going;
+    moves = moves_then old mid new [] moves waits.moves;
+    undecided = waits.undecided;
+    unfinished = waits.unfinished;
+    drained = waits.drained;
+  })
+  | inr ends ↦ inr (record {
+    finished = sym finished ∙ ends.finished;
+    none = nothing_before old mid moves ends.none;
+    renewed = ends.renewed;
+  })
+]
+
+-- a buffer that begins with a frame holds it
+pub holds_frame : (b : Buffer) (layout : Layout) → IsWhole layout (held_bytes b) → HoldsFrame (scan_of b)
+holds_frame b layout whole =
+    let body = whole.body in
+    let is = whole.whole in
+    let exact : body_length body ≡ length body = omega (arith, is.described.command, is.described.count, is.exact) in
+    let frame = held_frame body (λ k below. is.fits k 0 (omega (arith, below, exact))) is.checked in
+    let Part : ℕ → Type 0 = λ k. IsCheckedPart frame.frame (take (k - 1) body) in
+    let is_body = IsBody-whole body frame.frame (omega (arith, exact)) is.fits (subst Part exact frame.part) is.even in (
+      record { start = 2; stop = 2 + length body; frame = frame.frame },
+      record {
+        prefix = [];
+        body = body;
+        rest = (scan_of (released b layout)).held;
+        split = held_whole b layout whole;
+        is_body = is_body;
+        after = omega arith;
+        start = refl;
+        stop = refl;
+      },
+      refl,
+    )
+
+nothing_damaged : (c : Character) (more : List Character) → c.faults ≢ 0 → BeginWithNone (c ∷ more)
+nothing_damaged c more faulty f body rest is same =
+    let first : c ≡ preamble = cc in
+    faulty (ap (λ (d : Character). d.faults) first)
+
+-- a character with faults is let go
+pub moves_damaged : (o : Option Character) (old new : Scan) → IfSome o (λ c. c.faults ≢ 0) → is_some o ≡ true → old.held ≡ option_to_list o
+    → new.held ≡ [] → new.first ≡ old.first + 1 → new.finished ≡ old.finished → MovesPast old new []
+moves_damaged None old new faulty some held empty firsts finished = absurd cc
+moves_damaged (Some c) old new faulty some held empty firsts finished =
+    let None : List Character → Type 0 = λ cs. BeginWithNone cs in
+    moves_drop old new c (held ∙ ap (λ (cs : List Character). c ∷ cs) (sym empty)) firsts finished
+    (λ more _. subst None (ap (λ (cs : List Character). cs ++ more) (sym held)) (nothing_damaged c more faulty))
+
+-- nothing is given if nothing is held from a place on, before which no frame begins
+pub given_nothing : (b mid : Buffer) (found : Sighting) (new : Scan) → IsHeldSearched b found → mid ≡ passed b found.place
+    → GivesNothing (scan_of mid) new → GivesNothing (scan_of b) new
+given_nothing b mid found new is same after =
+    let After : Buffer → Type 0 = λ x. GivesNothing (scan_of x) new in
+    gives_nothing_then (scan_of b) (scan_of (passed b found.place)) new (moves_passed b found.place is.within is.none) refl (subst After same after)
+
+-- what a buffer waits with that holds something from there on
+pub waits_open : (b : Buffer) (place : ℕ) → IsHeldOpen b place → place ≤ length (held_bytes b) → length (held_bytes (passed b place)) ≢ 0
+    → IsWaiting (record (passed b place) { state = Drained })
+waits_open b place opened within some =
+    let rest = ap length (held_passed b place) in
+    elim opened [
+      | inl all ↦ absurd (some (omega (arith, rest, all, length-drop place (held_bytes b))))
+      | inr (few, may, clear, going) ↦ record {
+        clear = clear;
+        going = going;
+        few = omega (arith, few, rest, length-drop place (held_bytes b));
+        may = subst MayBegin (sym (held_passed b place)) may;
+      }
+    ]
+
+pub given_open : (b : Buffer) (found : Sighting) → IsHeldSearched b found → IsWaiting (record (passed b found.place) { state = Drained })
+    → GivesNothing (scan_of b) (scan_of (record (passed b found.place) { state = Drained }))
+given_open b found is waiting =
+    let mid = record (passed b found.place) { state = Drained } in
+    let moves = moves_then (scan_of b) (scan_of (passed b found.place)) (scan_of mid) [] (moves_passed b found.place is.within is.none)
+    (moves_none (scan_of (passed b found.place)) (scan_of mid) refl refl refl) in
+    gives_nothing_then (scan_of b) (scan_of mid) (scan_of mid) moves refl (inl (waits mid (scan_of mid) waiting refl))
+
+-- a frame stands if it begins what is held then
+pub given_stands : (b : Buffer) (found : Sighting) (layout : Layout) → b.state ≡ Busy → IsHeldSearched b found
+    → IsWhole layout (drop found.place (held_bytes b)) → HoldsWhole b (record (passed b found.place) { state = Stands layout }) layout
+given_stands b found layout busy is whole =
+    let Whole : List ℕ → Type 0 = λ xs. IsWhole layout xs in
+    record {
+      moves = moves_passed b found.place is.within is.none;
+      finished = refl;
+      busy = ap is_drained busy;
+      drained = refl;
+      begins = subst Whole (sym (held_passed b found.place)) whole;
+    }

@@ -1,0 +1,127 @@
+-- The first frame of a list, by what a scanner gave of it.
+use Rattle.std.proofs.Common.{◌≡◌, ℕ, ◌+◌, ◌≤◌, false, true, IsTrue, inl, inr, Option, Some, None, List, [], ◌∷◌, ◌++◌, length, take, drop}
+use Rattle.std.proofs.Common.{refl, sym, ap, ◌∙◌, arith, subst}
+use Rattle.std.specs.Option.{MatchOption}
+use Rattle.std.proofs.lemmas.Bool.{false≢true}
+use Rattle.std.proofs.lemmas.List.{append-nil, length-take-le, take-append-drop}
+use Rattle.std.proofs.Math.Seq.{take-length}
+use Rattle.hart_frame.specs.heard.Character.{Character}
+use Rattle.hart_frame.specs.heard.Frames.{AreFrames, HasNoFrame, IsFirst, none, first}
+use Rattle.hart_frame.specs.heard.Place.{StandsIn}
+use Rattle.hart_frame.specs.scan.Chunk.{StopsAt}
+use Rattle.hart_frame.specs.scan.First.{IsFirstIn}
+use Rattle.hart_frame.specs.scan.Scanner.{Scan, Ends, Gives, GivesNothing, MovesPast, finishing, hearing, new_scan}
+use Rattle.hart_frame.specs.scan.Streamed.{IsHistory, begin, finish, push_chars, take_view, wait}
+use Rattle.hart_frame.specs.declared.heard.found.Found.{Found}
+use Rattle.hart_frame.proofs.lemmas.Laws.{frames_are_unambiguous-one_list}
+use Rattle.hart_frame.proofs.lemmas.heard.FramesFound.{AreFrames-found}
+use Rattle.hart_frame.proofs.lemmas.heard.Place.{StandsIn-within}
+use Rattle.hart_frame.proofs.lemmas.scan.Stream.{history_all, history_first}
+use Rattle.hart_frame.proofs.lemmas.scan.Undecided.{holds_gives, stands_after, stands_in, waits_only}
+
+same_head : (f g : Found) (xs ys : List Found) → f ∷ xs ≡ g ∷ ys → f ≡ g
+same_head f g xs ys same = cc
+
+head_first : (chars : List Character) (from : ℕ) (frames : List Found) → AreFrames chars from frames → (g : Found) (later : List Found)
+    → frames ≡ g ∷ later → IsFirst g chars from
+head_first chars from frames (none n empty) g later same = absurd cc
+head_first chars from frames (first n f more is rest) g later same =
+    let Of : Found → Type 0 = λ found. IsFirst found chars n in
+    subst Of (same_head f g more later same) is
+
+no_first : (chars : List Character) (from : ℕ) (frames : List Found) → AreFrames chars from frames → frames ≡ [] → HasNoFrame chars from
+no_first chars from frames (none n empty) same = empty
+no_first chars from frames (first n f more is rest) same = absurd cc
+
+-- the one frame that was given is the first of all that is heard
+given_first : (past more : List Character) (scan : Scan) (found : Found) → IsHistory past scan (found ∷ [])
+    → (IsTrue scan.finished → more ≡ []) → IsFirst found (past ++ more) 0
+given_first past more scan found history ended =
+    let are = AreFrames-found (past ++ more) 0 in
+    let is = history_first frames_are_unambiguous-one_list past more scan (found ∷ []) are.0 history ended are.1 in
+    head_first (past ++ more) 0 are.0 are.1 found is.0 is.1
+
+-- it lies in the list
+first_in : (found : Found) (chars : List Character) → IsFirst found chars 0 → IsFirstIn found chars
+first_in found chars is =
+    let lies = StandsIn-within found chars 0 is.stands in
+    record { first = is; order = lies.some; within = lies.within }
+
+-- a scanner that heard so many characters of a list gives its first frame
+pub first_given : (chars : List Character) (count : ℕ) (mid new : Scan) (found : Found) → MovesPast (hearing new_scan (take count chars)) mid []
+    → mid.finished ≡ false → Gives mid new found → IsFirstIn found chars
+first_given chars count mid new found moves going gives =
+    let heard = push_chars [] new_scan mid [] (take count chars) begin refl moves going in
+    let history = take_view (take count chars) mid new [] found heard gives in
+    let Of : List Character → Type 0 = λ cs. IsFirst found cs 0 in
+    first_in found chars (subst Of (take-append-drop count chars) (given_first (take count chars) (drop count chars) new found history
+    (λ finished. absurd (false≢true (sym (gives.finished ∙ going) ∙ finished)))))
+
+-- or it heard all of it
+all_heard : (scan new : Scan) (count all : ℕ) → StopsAt scan count all → GivesNothing scan new → count ≡ all
+all_heard scan new count all stops nothing = elim stops [
+  | inl waits ↦ waits.2
+  | inr holds ↦ absurd (holds_gives scan new holds.1 nothing)
+]
+
+ends_only : (old new : Scan) → old.finished ≡ true → GivesNothing old new → Ends old new
+ends_only old new finished nothing = elim nothing [
+  | inl waits ↦ absurd (false≢true (sym waits.going ∙ finished))
+  | inr ends ↦ ends
+]
+
+last_given : (chars : List Character) (waiting new : Scan) (given : Option Found) → IsHistory chars (finishing waiting) []
+    → MatchOption given (GivesNothing (finishing waiting) new) (Gives (finishing waiting) new)
+    → MatchOption given (HasNoFrame chars 0) (λ found. IsFirstIn found chars)
+last_given chars waiting new None history nothing =
+    no_first chars 0 [] (history_all chars [] (record {
+      last = finishing waiting;
+      after = new;
+      history = history;
+      ended = ends_only (finishing waiting) new refl nothing;
+    })) refl
+last_given chars waiting new (Some found) history gives =
+    let Of : List Character → Type 0 = λ cs. IsFirst found cs 0 in
+    first_in found chars (subst Of (append-nil chars) (given_first chars [] new found
+    (take_view chars (finishing waiting) new [] found history gives) (λ _. refl)))
+
+-- and gives it once it is finished, or none if there is none
+pub first_finished : (chars : List Character) (count : ℕ) (mid waiting new : Scan) (given : Option Found)
+    → MovesPast (hearing new_scan (take count chars)) mid [] → mid.finished ≡ false → StopsAt mid count (length chars)
+    → GivesNothing mid waiting → MatchOption given (GivesNothing (finishing waiting) new) (Gives (finishing waiting) new)
+    → MatchOption given (HasNoFrame chars 0) (λ found. IsFirstIn found chars)
+first_finished chars count mid waiting new given moves going stops nothing after =
+    let heard = push_chars [] new_scan mid [] (take count chars) begin refl moves going in
+    let waited = wait (take count chars) mid waiting [] heard (waits_only mid waiting going nothing) in
+    let all : take count chars ≡ chars =
+    ap (λ (n : ℕ). take n chars) (all_heard mid waiting count (length chars) stops nothing) ∙ take-length chars in
+    let Of : List Character → Type 0 = λ cs. IsHistory cs (finishing waiting) [] in
+    last_given chars waiting new given (subst Of all (finish (take count chars) waiting [] waited)) after
+
+-- what stands in the rest of a list stands in the list
+pub first_later : (chars rest : List Character) (from : ℕ) (found : Found) → from ≤ length chars → rest ≡ drop from chars → IsFirst found rest 0
+    → IsFirst (record { start = from + found.start; stop = from + found.stop; frame = found.frame }) chars from
+first_later chars rest from found within is least =
+    let prefix = take from chars in
+    let long = length-take-le from chars within in
+    let parts : prefix ++ rest ≡ chars = ap (λ (cs : List Character). prefix ++ cs) is ∙ take-append-drop from chars in
+    let later : Found = record { start = from + found.start; stop = from + found.stop; frame = found.frame } in
+    let Of : List Character → Type 0 = λ cs. StandsIn later cs from in
+    let Here : (other : Found) → List Character → Type 0 = λ other cs. StandsIn other cs from in
+    let stands = subst Of (ap (λ (cs : List Character). prefix ++ cs) (append-nil rest) ∙ parts)
+    (stands_after prefix rest [] found from long least.stands) in
+    record {
+      stands = stands;
+      least = λ other there.
+          let low = least.least _ (stands_in prefix rest other from long (subst (Here other) (sym parts) there)) in
+          let lies = StandsIn-within other chars from there in
+          omega (arith, low, lies.after);
+    }
+
+pub no_later : (chars rest : List Character) (from : ℕ) → from ≤ length chars → rest ≡ drop from chars → HasNoFrame rest 0
+    → HasNoFrame chars from
+no_later chars rest from within is empty found there =
+    let prefix = take from chars in
+    let parts : prefix ++ rest ≡ chars = ap (λ (cs : List Character). prefix ++ cs) is ∙ take-append-drop from chars in
+    let Here : List Character → Type 0 = λ cs. StandsIn found cs from in
+    empty _ (stands_in prefix rest found from (length-take-le from chars within) (subst Here (sym parts) there))

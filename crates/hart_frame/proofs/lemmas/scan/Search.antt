@@ -1,0 +1,369 @@
+-- What is known of bytes while they are searched, and of a search that is joined of two.
+use Rattle.std.proofs.Common.{Some, None, ◌≡◌, ◌≢◌, ℕ, zero, suc, ◌+◌, ◌-◌, ◌<◌, ◌≤◌, ◌⊎◌, inl, inr, List, [], ◌∷◌, ◌++◌, length, take, drop, get_or, refl, sym}
+use Rattle.std.proofs.Common.{ap, ◌∙◌, max, arith, subst, append_assoc, length-append, length-drop}
+use Rattle.std.specs.List.{All}
+use Rattle.std.proofs.lemmas.List.{drop-append-le, drop-take, drop_all, drop_more, get_or-drop, get_or-take, length-take-le, take_rest}
+use Rattle.std.proofs.Math.Seq.{take-add, take-append-add, take-length}
+use Rattle.hart_frame.specs.wire.Layout.{layout_length}
+use Rattle.hart_frame.specs.wire.Refusal.{IsTruncated}
+use Rattle.hart_frame.specs.scan.Candidate.{IsCandidate, IsWhole, MayBegin, MayBeginBefore, NeverBegin}
+use Rattle.hart_frame.specs.scan.Search.{HasThree, IsNextStart, IsOpenBefore, IsOpenFrom, IsSearched, NoneBegin}
+use Rattle.hart_frame.specs.declared.wire.fault.FrameFault.TheVariants.{BadDelimiter}
+use Rattle.hart_frame.specs.declared.wire.layout.Layout.{Layout}
+use Rattle.hart_frame.specs.declared.scan.candidate.Candidate.TheVariants.{Never}
+use Rattle.hart_frame.proofs.lemmas.scan.Candidate.{may_begin_before, never_after, never_first, never_more, truncated_check, truncated_count}
+
+-- what lies after a place of the first bytes of a list
+pub drop_take : (xs : List ℕ) (n m : ℕ) → n ≤ m → drop n (take m xs) ≡ take (m - n) (drop n xs)
+drop_take xs n m order = ap (λ (k : ℕ). drop n (take k xs)) (let e : m ≡ n + (m - n) = omega (arith, order) in e) ∙ drop-take n (m - n) xs
+
+-- more of the first bytes of a list
+pub take_more : (xs : List ℕ) (n m : ℕ) → n ≤ m → take m xs ≡ take n xs ++ take (m - n) (drop n xs)
+take_more xs n m order = ap (λ (k : ℕ). take k xs) (let e : m ≡ n + (m - n) = omega (arith, order) in e) ∙ take-add n (m - n) xs
+
+-- the first bytes of two lists in a row
+pub take_both : (xs ys : List ℕ) (n : ℕ) → length xs ≤ n → take n (xs ++ ys) ≡ xs ++ take (n - length xs) ys
+take_both xs ys n long =
+    ap (λ (k : ℕ). take k (xs ++ ys)) (let e : n ≡ length xs + (n - length xs) = omega (arith, long) in e)
+    ∙ take-append-add xs ys (n - length xs)
+
+-- where none begins, none begins if more bytes follow
+pub none_append : (xs ys : List ℕ) (from to : ℕ) → to ≤ length xs → NoneBegin xs from to → NoneBegin (xs ++ ys) from to
+none_append xs ys from to within none place after before =
+    subst NeverBegin (sym (drop-append-le place xs ys (omega (arith, within, before))))
+    (never_more (drop place xs) ys (none place after before))
+
+-- the first bytes of a list, which a search has looked at: at none of the places that it passed a frame begins, as they show, and fewer
+-- decide nothing
+pub record IsSearching (bytes : List ℕ) (from seen place decided : ℕ) : Type 0 where
+  pub after : from ≤ place
+  pub place_within : place ≤ length bytes
+  pub late : seen ≤ decided
+  pub within : decided ≤ length bytes
+  pub few : decided ≤ place + 269
+  pub none : (count here : ℕ) → decided ≤ count → count ≤ length bytes → from ≤ here → here < place → here < count
+      → NeverBegin (drop here (take count bytes))
+  pub before : IsOpenBefore bytes from seen decided
+
+-- another byte than a preamble byte begins no frame
+never_other : (xs : List ℕ) (here count : ℕ) → here < count → count ≤ length xs → get_or xs here 0 ≢ 255 → NeverBegin (drop here (take count xs))
+never_other xs here count below within other =
+    let rest : drop here (take count xs) ≡ get_or xs here 0 ∷ take (count - (here + 1)) (drop (here + 1) xs) =
+    drop_take xs here count (omega (arith, below))
+    ∙ ap (λ (k : ℕ). take k (drop here xs)) (let e : count - here ≡ suc (count - (here + 1)) = omega (arith, below) in e)
+    ∙ ap (take (suc (count - (here + 1)))) (drop_more xs here 0 (omega (arith, below, within))) in
+    subst NeverBegin (sym rest) (never_first (get_or xs here 0) _ other)
+
+-- a search begins where it is told to
+pub searching_start : (xs : List ℕ) (from seen : ℕ) → from ≤ seen → seen ≤ length xs → seen ≤ from + 269
+    → IsSearching xs from seen from seen
+searching_start xs from seen order within few = record {
+  after = omega arith;
+  place_within = omega (arith, order, within);
+  late = omega arith;
+  within = within;
+  few = few;
+  none = λ count here later all since below there. absurd (omega (arith, since, below));
+  before = λ fewer late early. absurd (omega (arith, late, early));
+}
+
+-- nothing is decided of so many bytes if what they have from the place of the search on may begin a frame
+still_open : (xs : List ℕ) (from seen place decided fewer : ℕ) → IsSearching xs from seen place decided → decided ≤ fewer
+    → fewer ≤ length xs → from ≤ fewer → (place ≤ fewer → MayBegin (take (fewer - place) (drop place xs))) → IsOpenFrom (take fewer xs) from
+still_open xs from seen place decided fewer searching late within start may =
+    let long = length-take-le fewer xs within in
+    let cases : (place ≤ fewer) ⊎ (fewer < place) = grind arith in
+    elim cases [
+      | inl reached ↦ record {
+        place = place;
+        after = searching.after;
+        within = omega (arith, long, reached);
+        none = λ here since below. searching.none fewer here late within since below (omega (arith, below, reached));
+        may = subst MayBegin (sym (drop_take xs place fewer reached)) (may reached);
+      }
+      | inr short ↦ record {
+        place = fewer;
+        after = start;
+        within = omega (arith, long);
+        none = λ here since below. searching.none fewer here late within since (omega (arith, below, short)) below;
+        may = inl (drop_all fewer (take fewer xs) (omega (arith, long)));
+      }
+    ]
+
+-- a search goes on after other bytes than preamble bytes
+pub searching_others : (xs : List ℕ) (from seen place decided next : ℕ) → IsSearching xs from seen place decided → place ≤ next
+    → next ≤ length xs → ((here : ℕ) → place ≤ here → here < next → get_or xs here 0 ≢ 255) → IsSearching xs from seen next decided
+searching_others xs from seen place decided next searching after within others = record {
+  after = omega (arith, searching.after, after);
+  place_within = within;
+  late = searching.late;
+  within = searching.within;
+  few = omega (arith, searching.few, after);
+  none = λ n here later all since below there.
+      let cases : (here < place) ⊎ (place ≤ here) = grind arith in
+      elim cases [
+        | inl early ↦ searching.none n here later all since early there
+        | inr late ↦ never_other xs here n there all (others here late below)
+      ];
+  before = searching.before;
+}
+
+-- so many bytes show that no frame begins at the place, and the search goes on after it
+pub searching_never : (xs : List ℕ) (from seen place decided count more : ℕ) → IsSearching xs from seen place decided → from ≤ seen
+    → place < length xs → IsCandidate (drop place xs) (Never count) → count ≤ 269 → decided ≤ more → place + count ≤ more
+    → (more ≤ decided) ⊎ (more ≤ place + count) → IsSearching xs from seen (place + 1) more
+searching_never xs from seen place decided count more searching order inside never short least above either =
+    let room = length-drop place xs in
+    let fits : more ≤ length xs = elim either [
+      | inl same ↦ omega (arith, same, searching.within)
+      | inr same ↦ omega (arith, same, never.0, room, searching.place_within)
+    ] in
+    let few : more ≤ place + 1 + 269 = elim either [
+      | inl same ↦ omega (arith, same, searching.few)
+      | inr same ↦ omega (arith, same, short)
+    ] in
+    record {
+      after = omega (arith, searching.after);
+      place_within = omega (arith, inside);
+      late = omega (arith, searching.late, least);
+      within = fits;
+      few = few;
+      none = λ n here later all since below there.
+          let cases : (here < place) ⊎ (here ≡ place) = grind arith in
+          elim cases [
+            | inl early ↦ searching.none n here (omega (arith, later, least)) all since early there
+            | inr same ↦
+                let rest : drop here (take n xs) ≡ take count (drop place xs) ++ take (n - place - count) (drop count (drop place xs)) =
+                ap (λ (k : ℕ). drop k (take n xs)) same ∙ drop_take xs place n (omega (arith, later, above))
+                ∙ take_more (drop place xs) count (n - place) (omega (arith, later, above)) in
+                subst NeverBegin (sym rest) (never_more (take count (drop place xs)) _ never.1)
+          ];
+      before = λ fewer late early.
+          let cases : (fewer < decided) ⊎ (decided ≤ fewer) = grind arith in
+          elim cases [
+            | inl before ↦ searching.before fewer late before
+            | inr not ↦
+                still_open xs from seen place decided fewer searching not (omega (arith, early, fits)) (omega (arith, order, late))
+                (λ reached. never.2 (fewer - place) (elim either [
+                  | inl same ↦ omega (arith, same, early, not)
+                  | inr same ↦ omega (arith, same, early, reached)
+                ]))
+          ];
+    }
+
+-- three preamble bytes begin no frame, and two may
+three_never : (xs : List ℕ) (here : ℕ) → HasThree xs here → IsCandidate (drop here xs) (Never 3)
+three_never xs here (within, first, second, third) =
+    let a = drop_more xs here 0 (omega (arith, within)) in
+    let b = drop_more xs (here + 1) 0 (omega (arith, within)) in
+    let d = drop_more xs (here + 2) 0 (omega (arith, within)) in
+    let rest = drop (here + 3) xs in
+    let parts : drop here xs ≡ 255 ∷ 255 ∷ 255 ∷ rest =
+    a ∙ ap (λ (ys : List ℕ). get_or xs here 0 ∷ ys) (b ∙ ap (λ (ys : List ℕ). get_or xs (here + 1) 0 ∷ ys)
+    (ap (λ (n : ℕ). drop n xs) (let e : here + 1 + 1 ≡ here + 2 = omega arith in e) ∙ d
+    ∙ ap (λ (n : ℕ). get_or xs (here + 2) 0 ∷ drop n xs) (let e : here + 2 + 1 ≡ here + 3 = omega arith in e)))
+    ∙ ap (λ (x : ℕ). x ∷ get_or xs (here + 1) 0 ∷ get_or xs (here + 2) 0 ∷ rest) first
+    ∙ ap (λ (x : ℕ). 255 ∷ x ∷ get_or xs (here + 2) 0 ∷ rest) second
+    ∙ ap (λ (x : ℕ). 255 ∷ 255 ∷ x ∷ rest) third in
+    let Is : List ℕ → Type 0 = λ ys. IsCandidate ys (Never 3) in
+    let empty : (fewer : ℕ) → fewer < 1 → IsTruncated (take fewer (255 ∷ rest)) = λ fewer below.
+    let none : fewer ≡ 0 = omega (arith, below) in
+    subst (λ (n : ℕ). IsTruncated (take n (255 ∷ rest))) (sym none) (inl refl) in
+    subst Is (sym parts) (
+      omega arith,
+      never_after 255 255 (255 ∷ []) (record {
+        fault = BadDelimiter;
+        refused = (omega arith, λ delimiter. omega (arith, delimiter.0));
+        decided = λ same. absurd cc;
+      }),
+      may_begin_before 1 (255 ∷ rest) empty,
+    )
+
+-- a search has come to a place, and only so many bytes more are needed for it
+pub record HasPassed (xs : List ℕ) (from seen place decided : ℕ) : Type 0 where
+  pub needed : ℕ
+  pub searching : IsSearching xs from seen place needed
+  pub least : decided ≤ needed
+  pub most : (needed ≤ decided) ⊎ (needed ≤ place + 2)
+
+searching_run : (xs : List ℕ) (from seen place decided count : ℕ) → IsSearching xs from seen place decided → from ≤ seen
+    → ((here : ℕ) → place ≤ here → here < place + count → HasThree xs here) → HasPassed xs from seen (place + count) decided
+searching_run xs from seen place decided zero searching order threes = record {
+  needed = decided;
+  searching = subst (λ (n : ℕ). IsSearching xs from seen n decided) (let e : place ≡ place + 0 = omega arith in e) searching;
+  least = omega arith;
+  most = inl (omega arith);
+}
+searching_run xs from seen place decided (suc count) searching order threes =
+    let three = threes place (omega arith) (omega arith) in
+    let more = max decided (place + 3) in
+    let either : (more ≤ decided) ⊎ (more ≤ place + 3) = grind arith in
+    let next = searching_never xs from seen place decided 3 more searching order (omega (arith, three.0)) (three_never xs place three)
+    (omega arith) (omega arith) (omega arith) either in
+    let rest = searching_run xs from seen (place + 1) more count next order
+    (λ here since below. threes here (omega (arith, since)) (omega (arith, below))) in
+    let most : (rest.needed ≤ decided) ⊎ (rest.needed ≤ place + suc count + 2) = elim rest.most [
+      | inr few ↦ inr (omega (arith, few))
+      | inl same ↦ elim either [
+        | inl old ↦ inl (omega (arith, same, old))
+        | inr new ↦ inr (omega (arith, same, new))
+      ]
+    ] in
+    record {
+      needed = rest.needed;
+      searching = subst (λ (n : ℕ). IsSearching xs from seen n rest.needed) (let e : place + 1 + count ≡ place + suc count = omega arith in e) rest.searching;
+      least = omega (arith, rest.least);
+      most = most;
+    }
+
+-- a search goes on at the next start
+pub searching_next : (xs : List ℕ) (from seen place decided start : ℕ) → IsSearching xs from seen place decided → from ≤ seen
+    → IsNextStart xs place start → HasPassed xs from seen start decided
+searching_next xs from seen place decided start searching order next =
+    let there : next.first + (start - next.first) ≡ start = omega (arith, next.order) in
+    let first = searching_others xs from seen place decided next.first searching next.after (omega (arith, next.order, next.within)) next.others in
+    let Passed : ℕ → Type 0 = λ n. HasPassed xs from seen n decided in
+    subst Passed there (searching_run xs from seen next.first decided (start - next.first) first order
+    (λ here since below. next.threes here since (omega (arith, below, there))))
+
+-- what ends too early ends too early if it ends earlier
+truncated_take : (xs : List ℕ) (n : ℕ) → n ≤ length xs → IsTruncated xs → IsTruncated (take n xs)
+truncated_take xs n within truncated = elim truncated [
+  | inl empty ↦ inl (omega (arith, length-take-le n xs within, empty, within))
+  | inr (inl no_count) ↦ truncated_count xs n no_count.0 (omega (arith, no_count.1, within)) within
+  | inr (inr no_check) ↦ truncated_check xs n no_check.0 (omega (arith, no_check.1, within)) within
+]
+
+may_take_two : (xs : List ℕ) (n : ℕ) → n ≤ length xs + 2 → IsTruncated xs → MayBegin (take n (255 ∷ 255 ∷ xs))
+may_take_two xs zero within truncated = inl refl
+may_take_two xs (suc zero) within truncated = inr (inl refl)
+may_take_two xs (suc (suc n)) within truncated = inr (inr (take n xs, refl, truncated_take xs n (omega (arith, within)) truncated))
+
+may_take_none : (n : ℕ) → MayBegin (take n [])
+may_take_none zero = inl refl
+may_take_none (suc n) = inl refl
+
+may_take_one : (n : ℕ) → n ≤ 1 → MayBegin (take n (255 ∷ []))
+may_take_one zero within = inl refl
+may_take_one (suc zero) within = inr (inl refl)
+may_take_one (suc (suc n)) within = absurd (omega (arith, within))
+
+-- the first of bytes that may begin a frame may
+pub may_take : (xs : List ℕ) (n : ℕ) → n ≤ length xs → MayBegin xs → MayBegin (take n xs)
+may_take xs n within may =
+    let Of : List ℕ → Type 0 = λ ys. MayBegin (take n ys) in
+    elim may [
+      | inl none ↦ subst Of (sym none) (may_take_none n)
+      | inr (inl one) ↦ subst Of (sym one) (may_take_one n (omega (arith, within, ap length one)))
+      | inr (inr (after, two, truncated)) ↦
+          subst Of (sym two) (may_take_two after n (omega (arith, within, ap length two)) truncated)
+    ]
+
+-- the whole list decides nothing, if it is searched to its end
+all_open : (xs : List ℕ) (from seen place decided : ℕ) → IsSearching xs from seen place decided → from ≤ seen → MayBegin (drop place xs)
+    → IsOpenBefore xs from seen (length xs)
+all_open xs from seen place decided searching order may fewer late early =
+    let cases : (fewer < decided) ⊎ (decided ≤ fewer) = grind arith in
+    elim cases [
+      | inl before ↦ searching.before fewer late before
+      | inr not ↦
+          still_open xs from seen place decided fewer searching not (omega (arith, early)) (omega (arith, order, late))
+          (λ reached. may_take (drop place xs) (fewer - place) (omega (arith, length-drop place xs, early, reached)) may)
+    ]
+
+-- the search ends where the list ends, or where a frame may begin that has more bytes
+pub searched_open : (xs : List ℕ) (from seen place decided : ℕ) → IsSearching xs from seen place decided → from ≤ seen
+    → length xs < place + 269 → MayBegin (drop place xs)
+    → IsSearched xs from seen (record { place = place; decided = length xs; layout = None })
+searched_open xs from seen place decided searching order few may =
+    let whole : take (length xs) xs ≡ xs = take-length xs in
+    record {
+      after = searching.after;
+      order = searching.place_within;
+      late = omega (arith, searching.late, searching.within);
+      within = omega arith;
+      few = omega (arith, few);
+      none = λ here since below.
+          searching.none (length xs) here searching.within (omega arith) since below (omega (arith, below, searching.place_within));
+      before = all_open xs from seen place decided searching order may;
+      stands = (refl, few, may);
+    }
+
+-- a whole frame is one if as many bytes are there
+whole_take : (layout : Layout) (xs : List ℕ) (n : ℕ) → (whole : IsWhole layout xs) → 2 + layout_length layout ≤ n → n ≤ length xs
+    → IsWhole layout (take n xs)
+whole_take layout xs n whole long within =
+    let front : List ℕ = 255 ∷ 255 ∷ whole.body in
+    let count = length front in
+    let size : count ≤ n = omega (arith, long, whole.whole.exact) in
+    let parts : take n (front ++ whole.rest) ≡ front ++ take (n - count) whole.rest = take_both front whole.rest n size in
+    record { body = whole.body; rest = take (n - count) whole.rest; parts = ap (take n) whole.parts ∙ parts; whole = whole.whole }
+
+-- and stays one if more bytes follow
+pub whole_append : (layout : Layout) (xs ys : List ℕ) (place : ℕ) → place ≤ length xs → IsWhole layout (drop place xs)
+    → IsWhole layout (drop place (xs ++ ys))
+whole_append layout xs ys place within whole = record {
+  body = whole.body;
+  rest = whole.rest ++ ys;
+  parts = drop-append-le place xs ys within ∙ ap (λ (zs : List ℕ). zs ++ ys) whole.parts
+      ∙ append_assoc (255 ∷ 255 ∷ whole.body) whole.rest ys;
+  whole = whole.whole;
+}
+
+pub searched_stands : (xs : List ℕ) (from seen place decided more : ℕ) (layout : Layout) → IsSearching xs from seen place decided → from ≤ seen
+    → IsWhole layout (drop place xs) → MayBeginBefore (2 + layout_length layout) (drop place xs) → layout_length layout ≤ 267
+    → decided ≤ more → place + 2 + layout_length layout ≤ more → (more ≤ decided) ⊎ (more ≤ place + 2 + layout_length layout)
+    → IsSearched xs from seen (record { place = place; decided = more; layout = Some layout })
+searched_stands xs from seen place decided more layout searching order whole may short least above either =
+    let room = length-drop place xs in
+    let long : length (drop place xs) ≡ 2 + layout_length layout + length whole.rest =
+    ap length whole.parts ∙ length-append (255 ∷ 255 ∷ whole.body) whole.rest ∙ omega (arith, whole.whole.exact) in
+    let fits : more ≤ length xs = elim either [
+      | inl same ↦ omega (arith, same, searching.within)
+      | inr same ↦ omega (arith, same, long, room, searching.place_within)
+    ] in
+    let few : more ≤ place + 269 = elim either [
+      | inl same ↦ omega (arith, same, searching.few)
+      | inr same ↦ omega (arith, same, short)
+    ] in
+    record {
+      after = searching.after;
+      order = omega (arith, above);
+      late = omega (arith, searching.late, least);
+      within = fits;
+      few = few;
+      none = λ here since below. searching.none more here least fits since below (omega (arith, below, above));
+      before = λ fewer late early.
+          let cases : (fewer < decided) ⊎ (decided ≤ fewer) = grind arith in
+          elim cases [
+            | inl before ↦ searching.before fewer late before
+            | inr not ↦
+                still_open xs from seen place decided fewer searching not (omega (arith, early, fits)) (omega (arith, order, late))
+                (λ reached. may (fewer - place) (elim either [
+                  | inl same ↦ omega (arith, same, early, not)
+                  | inr same ↦ omega (arith, same, early, reached)
+                ]))
+          ];
+      stands =
+          let Of : List ℕ → Type 0 = λ ys. IsWhole layout ys in
+          subst Of (sym (drop_take xs place more (omega (arith, above))))
+          (whole_take layout (drop place xs) (more - place) whole (omega (arith, above)) (omega (arith, fits, room)));
+    }
+
+-- what is read in the rest of a list is read in the list
+pub read_rest : (xs : List ℕ) (from place : ℕ) → from ≤ place → place < length xs
+    → get_or (take (length xs - from) (drop from xs)) (place - from) 0 ≡ get_or xs place 0
+read_rest xs from place after within =
+    ap (λ (ys : List ℕ). get_or ys (place - from) 0) (take_rest xs from) ∙ get_or-drop from xs (place - from) 0
+    ∙ ap (λ (k : ℕ). get_or xs k 0) (let e : from + (place - from) ≡ place = omega (arith, after) in e)
+
+-- so what is said of the first of the rest is said of them in the list
+pub all_rest : (xs : List ℕ) (from count : ℕ) (Of : ℕ → Type 0) → count ≤ length xs - from
+    → All Of (take count (take (length xs - from) (drop from xs))) → (place : ℕ) → from ≤ place → place < from + count → Of (get_or xs place 0)
+all_rest xs from count Of within all place after before =
+    let rest = take (length xs - from) (drop from xs) in
+    let long = length-take-le count rest
+    (omega (arith, within, length-take-le (length xs - from) (drop from xs) (omega (arith, length-drop from xs)))) in
+    let read : get_or (take count rest) (place - from) 0 ≡ get_or xs place 0 =
+    get_or-take count rest (place - from) 0 (omega (arith, after, before)) ∙ read_rest xs from place after (omega (arith, within, before)) in
+    subst Of read (all (place - from) 0 (omega (arith, long, after, before)))

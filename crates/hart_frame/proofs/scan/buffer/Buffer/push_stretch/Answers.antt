@@ -1,0 +1,17 @@
+use Rattle.std.proofs.Common.{◌∙◌}
+use Rattle.hart_frame.specs.scan.Buffer.{scan_of}
+use Rattle.hart_frame.proofs.lemmas.scan.Buffer.{undecided_waiting, waits_drained}
+use Rattle.hart_frame.proofs.lemmas.scan.Chunk.{first_one, hears_first, peeked}
+use Rattle.hart_frame.proofs.scan.buffer.Buffer.push_stretch.Goals as goal
+
+pub returns-clause-hears : goal.returns-clause-hears
+returns-clause-hears c =
+    let old = c.args.self.now in
+    let chunk = c.args.chunk.now in
+    let new = c.peek-layout.new.self in
+    let character = c.index-chunk-0.result in
+    let waiting = waits_drained old c.requires.sound c.requires.drained in
+    hears_first (scan_of old) new chunk character c.peek-layout.result waiting.going (undecided_waiting old waiting)
+    (first_one chunk character c.requires.some c.index-chunk-0.is) c.requires.some
+    (peeked (scan_of old) c.push.new.self new character c.peek-layout.result c.push.ensures.pushed (c.push.ensures.going ∙ waiting.going)
+    c.peek-layout.ensures.seen)

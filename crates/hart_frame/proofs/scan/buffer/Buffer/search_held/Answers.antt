@@ -1,0 +1,50 @@
+use Rattle.std.proofs.Common.{◌≡◌, ◌+◌, ◌∙◌, ℕ, List, Option, None, Some, false, not, length, arith, ap, refl, subst, sym}
+use Rattle.std.specs.Option.{is_some}
+use Rattle.std.proofs.lemmas.Bool.{false≢true}
+use Rattle.hart_frame.specs.scan.Buffer.{held_bytes}
+use Rattle.hart_frame.specs.scan.Search.{IsSearched}
+use Rattle.hart_frame.specs.declared.scan.search.Sighting.{Sighting}
+use Rattle.hart_frame.specs.declared.wire.layout.Layout.{Layout}
+use Rattle.hart_frame.proofs.lemmas.scan.Decision.{held_searched, looked_on}
+use Rattle.hart_frame.proofs.scan.buffer.Buffer.search_held.Goals as goal
+
+-- what is found in the bytes that are read is found in what is held
+in_held : (held same : List ℕ) (from : ℕ) (found : Sighting) → same ≡ held → IsSearched same from from found → IsSearched held from from found
+in_held held same from found is searched =
+    let Of : List ℕ → Type 0 = λ xs. IsSearched xs from from found in
+    subst Of is searched
+
+none_is : (layout : Option Layout) → is_some layout ≡ false → layout ≡ None
+none_is None is = refl
+none_is (Some layout) is = absurd cc
+
+pub loop-found-init : goal.loop-found-init
+loop-found-init c = record {
+  from = 0;
+  none = λ place below more ended. absurd (omega (arith, below));
+  searched = in_held (held_bytes c.args.self.now) c.held-held.result.now 0 c.search-found.result c.held-held.ensures.held c.search-found.ensures;
+}
+
+pub loop-found-preserved : goal.loop-found-preserved
+loop-found-preserved c =
+    let b = c.args.self.now in
+    let found = c.loop-found.found in
+    looked_on b found c.search-found-in-loop-found.result c.requires.sound (c.is_ended.ensures.0 c.loop-found-test.true) c.loop-found.invariant
+    (none_is found.layout (c.is_none.ensures ∙ ap not c.if-is_none.true))
+    (in_held (held_bytes b) c.held-held.result.now (found.place + 1) c.search-found-in-loop-found.result c.held-held.ensures.held
+    c.search-found-in-loop-found.ensures)
+
+pub returns-else-found-held : goal.returns-else-found-held
+returns-else-found-held c =
+    held_searched c.args.self.now c.loop-found.found c.loop-found.invariant
+    (λ ended none some. omega (arith, some, c.if-found-held.false, ap length c.held-held.ensures.held))
+
+pub returns-else-is_none : goal.returns-else-is_none
+returns-else-is_none c =
+    held_searched c.args.self.now c.loop-found.found c.loop-found.invariant
+    (λ ended none some. false≢true (sym (ap is_some none) ∙ c.is_none.ensures ∙ ap not c.if-is_none.false))
+
+pub returns-after-loop-found : goal.returns-after-loop-found
+returns-after-loop-found c =
+    held_searched c.args.self.now c.loop-found.found c.loop-found.invariant
+    (λ ended none some. false≢true (sym c.loop-found-test.false ∙ c.is_ended.ensures.1 ended))

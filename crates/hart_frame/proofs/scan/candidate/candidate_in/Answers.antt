@@ -1,0 +1,28 @@
+use Rattle.std.proofs.Common.{◌+◌, ℕ, List, drop, arith, sym, subst}
+use Rattle.std.proofs.lemmas.List.{take_rest}
+use Rattle.hart_frame.specs.scan.Candidate.{IsBodyCandidate, IsCandidate}
+use Rattle.hart_frame.specs.declared.scan.candidate.Candidate.TheVariants.{Never, Whole}
+use Rattle.hart_frame.proofs.lemmas.scan.Candidate.{after_never, after_whole, second_never, two_first}
+use Rattle.hart_frame.proofs.scan.candidate.candidate_in.Goals as goal
+
+pub returns-then-bytes-clause-candidate : goal.returns-then-bytes-clause-candidate
+returns-then-bytes-clause-candidate c =
+    second_never c.args.bytes.now (omega (arith, c.requires.some, c.if-bytes-eq1.false)) c.requires.preamble c.if-bytes.true
+
+pub returns-in-Never-clause-candidate : goal.returns-in-Never-clause-candidate
+returns-in-Never-clause-candidate c =
+    let bytes = c.args.bytes.now in
+    let count = c.in-Never.count in
+    let two = two_first bytes (omega (arith, c.requires.some, c.if-bytes-eq1.false)) c.requires.preamble c.if-bytes.false in
+    let Rest : List ℕ → Type 0 = λ xs. IsBodyCandidate xs (Never count) in
+    let Is : List ℕ → Type 0 = λ xs. IsCandidate xs (Never (2 + count)) in
+    subst Is (sym two) (after_never count (drop 2 bytes) (subst Rest (take_rest bytes 2) c.in-Never.ensures.candidate))
+
+pub returns-in-Whole-clause-candidate : goal.returns-in-Whole-clause-candidate
+returns-in-Whole-clause-candidate c =
+    let bytes = c.args.bytes.now in
+    let layout = c.in-Whole.layout in
+    let two = two_first bytes (omega (arith, c.requires.some, c.if-bytes-eq1.false)) c.requires.preamble c.if-bytes.false in
+    let Rest : List ℕ → Type 0 = λ xs. IsBodyCandidate xs (Whole layout) in
+    let Is : List ℕ → Type 0 = λ xs. IsCandidate xs (Whole layout) in
+    subst Is (sym two) (after_whole layout (drop 2 bytes) (subst Rest (take_rest bytes 2) c.in-Whole.ensures.candidate))

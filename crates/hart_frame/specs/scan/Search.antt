@@ -1,0 +1,58 @@
+-- What a search finds of frames in faultless bytes (own profile). For private calls alone.
+use Rattle.std.specs.Prelude.{◌≡◌, ◌≢◌, ℕ, ◌+◌, ◌<◌, ◌≤◌, List, MatchOption, length, slice_index, take, drop}
+use Rattle.hart_frame.specs.scan.Candidate.{IsWhole, MayBegin, NeverBegin}
+use Rattle.hart_frame.specs.declared.scan.search.Sighting.{Sighting}
+
+-- No frame begins at the places of a list from one up to another, whatever is heard after the list.
+abbrev pub NoneBegin : List ℕ → ℕ → ℕ → Type 0
+NoneBegin bytes from to = (place : ℕ) → from ≤ place → place < to → NeverBegin (drop place bytes)
+
+-- Nothing is decided of a list from a place on if no frame begins before a later place, and one may begin there.
+pub record IsOpenFrom (bytes : List ℕ) (from : ℕ) : Type 0 where
+  pub place : ℕ
+  pub after : from ≤ place
+  pub within : place ≤ length bytes
+  pub none : NoneBegin bytes from place
+  pub may : MayBegin (drop place bytes)
+
+-- It is so of the first bytes of a list that are at least as many as were seen before, and fewer than so many.
+abbrev pub IsOpenBefore : List ℕ → ℕ → ℕ → ℕ → Type 0
+IsOpenBefore bytes from seen count = (fewer : ℕ) → seen ≤ fewer → fewer < count → IsOpenFrom (take fewer bytes) from
+
+-- All the bytes decide nothing: those from the place on, fewer than the longest frame has, may begin a frame.
+abbrev pub IsOpenAll : List ℕ → Sighting → Type 0
+IsOpenAll bytes found =
+    (found.decided ≡ length bytes) × (length bytes < found.place + 269) × MayBegin (drop found.place bytes)
+
+-- A search of a list from a place on finds a later place, before which no frame begins, as the first bytes show, and fewer show
+-- nothing: from there on these bytes begin with a frame, or else all bytes decide nothing.
+pub record IsSearched (bytes : List ℕ) (from seen : ℕ) (found : Sighting) : Type 0 where
+  pub after : from ≤ found.place
+  pub order : found.place ≤ found.decided
+  pub late : seen ≤ found.decided
+  pub within : found.decided ≤ length bytes
+  pub few : found.decided ≤ found.place + 269
+  pub none : NoneBegin (take found.decided bytes) from found.place
+  pub before : IsOpenBefore bytes from seen found.decided
+  pub stands : MatchOption found.layout (IsOpenAll bytes found)
+      (λ layout. IsWhole layout (drop found.place (take found.decided bytes)))
+
+-- No preamble byte stands in a list from a place on.
+abbrev pub HasNoPreamble : List ℕ → ℕ → Type 0
+HasNoPreamble bytes from = (place : ℕ) → from ≤ place → place < length bytes → slice_index bytes place ≢ 255
+
+-- Three preamble bytes stand at a place of a list and right after it.
+abbrev pub HasThree : List ℕ → ℕ → Type 0
+HasThree bytes place = (place + 3 ≤ length bytes) × (slice_index bytes place ≡ 255) × (slice_index bytes (place + 1) ≡ 255)
+    × (slice_index bytes (place + 2) ≡ 255)
+
+-- The next start from a place on is a preamble byte, before which stand, from the first preamble byte on, others with two more after
+-- each of them.
+pub record IsNextStart (bytes : List ℕ) (from start : ℕ) : Type 0 where
+  pub first : ℕ
+  pub after : from ≤ first
+  pub order : first ≤ start
+  pub within : start < length bytes
+  pub preamble : slice_index bytes start ≡ 255
+  pub others : (place : ℕ) → from ≤ place → place < first → slice_index bytes place ≢ 255
+  pub threes : (place : ℕ) → first ≤ place → place < start → HasThree bytes place

@@ -1,0 +1,117 @@
+//! The search of frames in faultless bytes, where they lie.
+ghost use Rattle.std.specs.Prelude.{None, ◌≡◌, ◌≢◌, ◌<◌, ◌≤◌, ◌+◌, ℕ, All, MatchOption, length, slice_index, take};
+ghost use Rattle.hart_frame.specs.scan.Search.{HasNoPreamble, IsNextStart, IsSearched};
+
+use crate::scan::candidate::{Candidate, candidate_in};
+use crate::wire::layout::Layout;
+use crate::wire::message::PREAMBLE;
+
+/// What a search of bytes finds.
+#[derive(Clone, Copy)]
+pub(crate) struct Sighting {
+    /// No frame begins before this place.
+    pub(crate) place: usize,
+    /// As many bytes as show it.
+    pub(crate) decided: usize,
+    /// The layout of the frame that begins there. If there is none, the bytes from there on may still begin one.
+    pub(crate) layout: Option<Layout>,
+}
+
+/// What the bytes from a place on hold of frames, if fewer than those up to a later place decide nothing.
+pub(crate) fn search(bytes: &[u8], from: usize, seen: usize) -> Sighting
+    requires order { from ≤ seen }
+    requires within { seen ≤ length bytes.now }
+    requires few { seen ≤ from + 269 }
+    ensures { IsSearched bytes.now from seen result }
+{
+    let mut place = from;
+    let mut decided = seen;
+    while let Some(start) = next_start(bytes, place) {
+        match candidate_in(&bytes[start..]) {
+            Candidate::Never(count) => {
+                decided = decided.max(start + count);
+                place = start + 1;
+            }
+            Candidate::Open => return open_at(bytes, start),
+            Candidate::Whole(layout) => {
+                return Sighting {
+                    place: start,
+                    decided: decided.max(start + 2 + layout.body_len()),
+                    layout: Some(layout),
+                };
+            }
+        }
+    }
+    open_at(bytes, bytes.len())
+}
+
+/// That all the bytes decide nothing from a place on.
+fn open_at(bytes: &[u8], place: usize) -> Sighting
+    ensures { result ≡ record { place = place; decided = length bytes.now; layout = None } }
+{
+    Sighting {
+        place,
+        decided: bytes.len(),
+        layout: None,
+    }
+}
+
+/// The place at which the next frame may begin from a place on, or `None` if no preamble byte follows: of several preamble bytes in
+/// a row it is the last but one.
+fn next_start(bytes: &[u8], from: usize) -> Option<usize>
+    requires { from ≤ length bytes.now }
+    ensures { MatchOption result (HasNoPreamble bytes.now from) (IsNextStart bytes.now from) }
+{
+    let first = next_preamble(bytes, from);
+    if first == bytes.len() {
+        return None;
+    }
+    let after = preamble_end(bytes, first);
+    Some(first.max(after.saturating_sub(2)))
+}
+
+/// The place of the first preamble byte from a place on, or the place after the last byte if there is none.
+fn next_preamble(bytes: &[u8], from: usize) -> usize
+    requires { from ≤ length bytes.now }
+    ensures after { from ≤ result }
+    ensures within { result ≤ length bytes.now }
+    ensures others { (place : ℕ) → from ≤ place → place < result → slice_index bytes.now place ≢ 255 }
+    ensures preamble { result < length bytes.now → slice_index bytes.now result ≡ 255 }
+{
+    from + other_bytes(&bytes[from..])
+}
+
+/// The place of the first other byte from a place on, or the place after the last byte if there is none.
+fn preamble_end(bytes: &[u8], from: usize) -> usize
+    requires { from ≤ length bytes.now }
+    ensures after { from ≤ result }
+    ensures within { result ≤ length bytes.now }
+    ensures preambles { (place : ℕ) → from ≤ place → place < result → slice_index bytes.now place ≡ 255 }
+    ensures other { result < length bytes.now → slice_index bytes.now result ≢ 255 }
+{
+    from + preamble_bytes(&bytes[from..])
+}
+
+/// How many bytes stand before the first preamble byte.
+fn other_bytes(bytes: &[u8]) -> usize
+    ensures within { result ≤ length bytes.now }
+    ensures others { All (λ byte. byte ≢ 255) (take result bytes.now) }
+    ensures first { result < length bytes.now → slice_index bytes.now result ≡ 255 }
+{
+    bytes
+        .iter()
+        .position(|byte| *byte == PREAMBLE)
+        .unwrap_or(bytes.len())
+}
+
+/// How many preamble bytes stand before the first other byte.
+fn preamble_bytes(bytes: &[u8]) -> usize
+    ensures within { result ≤ length bytes.now }
+    ensures preambles { All (λ byte. byte ≡ 255) (take result bytes.now) }
+    ensures next { result < length bytes.now → slice_index bytes.now result ≢ 255 }
+{
+    bytes
+        .iter()
+        .position(|byte| *byte != PREAMBLE)
+        .unwrap_or(bytes.len())
+}
