@@ -4,5 +4,4 @@ pub mod Items
 pub mod Lines
 pub mod Rows
 pub mod Script
-pub mod UnambiguousWords
 pub mod Words

@@ -1,7 +1,12 @@
 -- The words of messages to send, in scripts and on the command line (own profile).
-use Rattle.std.specs.Prelude.{◌≡◌, ◌⊎◌, ℕ, ◌+◌, ◌*◌, ◌%◌, ◌≤◌, List, [], ◌∷◌, length, codes, Ok, Option, None, Some}
-use Rattle.std.specs.Str.Parse.{IsNumeral, digits_value}
-use Rattle.hex.specs.Hex.{decode_of}
+use Rattle.std.specs.Prelude.{◌≡◌, ℕ, ◌+◌, ◌*◌, ◌%◌, ◌&&◌, ◌==◌, nat_le, if◌then◌else◌, List, [], ◌∷◌, length, slice_index, codes}
+use Rattle.std.specs.Prelude.{Option, None, Some, option_and_then, option_map}
+use Rattle.std.specs.Map.{lookup}
+use Rattle.std.specs.Option.{option_or}
+use Rattle.std.specs.Result.{result_ok}
+use Rattle.std.specs.Str.{all_ascii_digits, bytes_eq}
+use Rattle.std.specs.Str.Parse.{digits_value}
+use Rattle.hex.specs.Hex.{decode_of, decode_sized}
 use Rattle.hart_values.specs.address.AddressBytes.{broadcast}
 use Rattle.hart_values.specs.address.DeviceNumbers.{DeviceNumbers}
 use Rattle.hart_values.specs.declared.address.Address.{Address}
@@ -9,48 +14,67 @@ use Rattle.hart_values.specs.declared.address.Address.TheVariants.{Polling, Uniq
 use Rattle.hart_values.specs.declared.master_id.MasterId.{MasterId}
 use Rattle.hart_values.specs.declared.master_id.MasterId.TheVariants.{Primary, Secondary}
 
+-- What is read goes on to what is read of it, and nothing to nothing.
+infixl 10 ◌>>=◌
+abbrev pub ◌>>=◌ : {A B : Type 0} → Option A → (A → Option B) → Option B
+read >>= next = option_and_then next read
+
+-- A word stands for what is beside it in a table of words, and for nothing if it is not there.
+abbrev pub named_in : {T : Type 0} → List (List ℕ × T) → List ℕ → Option T
+named_in {T} table word = lookup (λ name. bytes_eq word name) table
+
 -- WHO is `P` for the primary master and `S` for the secondary.
-abbrev pub IsWho : List ℕ → MasterId → Type 0
-IsWho word Primary = word ≡ codes "P"
-IsWho word Secondary = word ≡ codes "S"
+abbrev pub who_of : List ℕ → Option MasterId
+who_of word = named_in ((codes "P", Primary) ∷ (codes "S", Secondary) ∷ []) word
 
--- A word is a number in decimal, up to a greatest one, in so many digits at most.
-pub record IsDecimal (word : List ℕ) (most_digits greatest number : ℕ) : Type 0 where
-  pub numeral : IsNumeral 10 word
-  pub short : length word ≤ most_digits
-  pub value : number ≡ digits_value 10 word
-  pub fits : number ≤ greatest
+-- A number is written in decimal, up to a greatest one, in one digit at least and so many at most.
+abbrev pub decimal_of : (most_digits greatest : ℕ) → List ℕ → Option ℕ
+decimal_of most_digits greatest word =
+    if all_ascii_digits word && nat_le 1 (length word) && nat_le (length word) most_digits && nat_le (digits_value 10 word) greatest
+    then Some (digits_value 10 word) else None
 
--- A polling address is written `@` and one or two digits, up to 63.
-pub record IsPollingWord (word : List ℕ) (number : ℕ) : Type 0 where
-  pub digits : List ℕ
-  pub at : word ≡ 64 ∷ digits
-  pub decimal : IsDecimal digits 2 63 number
+-- A polling address is written `@`, which is the byte 64, and one or two digits, up to 63.
+abbrev pub polling_of : List ℕ → Option ℕ
+polling_of [] = None
+polling_of (at ∷ digits) = if at == 64 then decimal_of 2 63 digits else None
 
--- A device is written in ten hex digits of either case, four of its type, of which the lower 14 bits count, and six of its
--- id.
-pub record IsDeviceWord (word : List ℕ) (numbers : DeviceNumbers) : Type 0 where
-  pub type_high : ℕ
-  pub type_low : ℕ
-  pub id_high : ℕ
-  pub id_middle : ℕ
-  pub id_low : ℕ
-  pub digits : decode_of word ≡ Ok (type_high ∷ type_low ∷ id_high ∷ id_middle ∷ id_low ∷ [])
-  pub type_value : numbers.expanded_type ≡ (256 * type_high + type_low) % 16384
-  pub id_value : numbers.device_id ≡ 65536 * id_high + 256 * id_middle + id_low
+-- Five bytes have the numbers of a device: two its type, of which the lower 14 bits count, and three its id.
+abbrev pub numbers_of : List ℕ → DeviceNumbers
+numbers_of bytes = record {
+  expanded_type = (256 * slice_index bytes 0 + slice_index bytes 1) % 16384;
+  device_id = 65536 * slice_index bytes 2 + 256 * slice_index bytes 3 + slice_index bytes 4;
+}
+
+-- A device is written in ten hex digits of either case, those of its five bytes.
+abbrev pub device_of : List ℕ → Option DeviceNumbers
+device_of word = option_map numbers_of (result_ok (decode_sized word 5))
 
 -- A polling address and a device have words of their own, and the broadcast address is also written `all`.
-abbrev pub IsAddressWord : List ℕ → Address → Type 0
-IsAddressWord word (Polling number) = IsPollingWord word number
-IsAddressWord word (Unique numbers) = IsDeviceWord word numbers ⊎ ((word ≡ codes "all") × (Unique numbers ≡ broadcast))
+abbrev pub address_of : List ℕ → Option Address
+address_of word =
+    if bytes_eq word (codes "all") then Some broadcast
+    else option_or (option_map Polling (polling_of word)) (option_map Unique (device_of word))
 
 -- A command is written in one to three digits, up to 255.
-abbrev pub IsCommandWord : List ℕ → ℕ → Type 0
-IsCommandWord word command = IsDecimal word 3 255 command
+abbrev pub command_of : List ℕ → Option ℕ
+command_of word = decimal_of 3 255 word
 
 -- Data are written in two hex digits of either case for each byte, at most 255 of them.
+abbrev pub data_of : List ℕ → Option (List ℕ)
+data_of word = result_ok (decode_of word) >>= (λ bytes. if nat_le (length bytes) 255 then Some bytes else None)
+
+-- A word names a master, and writes an address, a command or data, if it is read as that.
+abbrev pub IsWho : List ℕ → MasterId → Type 0
+IsWho word master = who_of word ≡ Some master
+
+abbrev pub IsAddressWord : List ℕ → Address → Type 0
+IsAddressWord word address = address_of word ≡ Some address
+
+abbrev pub IsCommandWord : List ℕ → ℕ → Type 0
+IsCommandWord word command = command_of word ≡ Some command
+
 abbrev pub IsDataWord : List ℕ → List ℕ → Type 0
-IsDataWord word bytes = (decode_of word ≡ Ok bytes) × (length bytes ≤ 255)
+IsDataWord word bytes = data_of word ≡ Some bytes
 
 -- There is no value of which this holds.
 abbrev pub HasNoValue : {T : Type 0} → (T → Type 0) → Type 0

@@ -1,8 +1,8 @@
 //! The rows of the table of events, and the line that says none.
-ghost use Rattle.std.specs.Prelude.{◌≡◌, ◌≢◌, ◌<◌, [], ◌∷◌, codes, length, MatchOption};
+ghost use Rattle.std.specs.Prelude.{◌≡◌, ◌≢◌, [], ◌∷◌, codes, length, MatchOption};
 ghost use Rattle.hart_line.specs.script.Lines.{words_of};
-ghost use Rattle.hart_line.specs.script.Rows.{AreDataWords, AreRequestWords, IsEvent, IsLeg, ReadsWords, SaysLine, fault_at_line};
-ghost use Rattle.hart_line.specs.script.Words.{Finds};
+ghost use Rattle.hart_line.specs.script.Rows.{ReadsWords, SaysLine, event_of, fault_at_line, leg_of, noise_of, payload_of, protection_of};
+ghost use Rattle.hart_line.specs.script.Rows.{request_of, restart_of, submission_of, turn_of};
 
 use crate::script::items::read_items;
 use crate::script::lines::{has_no_word, next_word, only_word};
@@ -66,43 +66,45 @@ pub fn read_line(alloc: Global, number: usize, line: &[u8]) -> Result<Option<Lin
 
 /// The event that a first word and the words after it say.
 fn read_event(alloc: Global, first: &[u8], rest: &[u8]) -> Result<LineEvent, RowFault>
-    ensures { ReadsWords (first.now ∷ words_of rest.now) (IsEvent (first.now ∷ words_of rest.now)) result }
+    ensures { ReadsWords (first.now ∷ words_of rest.now) (event_of (first.now ∷ words_of rest.now)) result }
 {
     match first {
-        b"submit" => read_submit(rest).ok_or(RowFault::Bad),
+        b"submit" => read_submit(rest),
         b"turn" => read_turn(alloc, rest),
-        b"protect" => read_protect(rest).ok_or(RowFault::Bad),
+        b"protect" => read_protect(rest),
         b"noise" => read_noise(alloc, rest),
-        b"restart" => read_restart(rest).ok_or(RowFault::Bad),
+        b"restart" => read_restart(rest),
         _ => Err(RowFault::Bad),
     }
 }
 
 /// The submission that the words after `submit` say.
-fn read_submit(rest: &[u8]) -> Option<LineEvent>
-    ensures { Finds (IsEvent (codes "submit" ∷ words_of rest.now)) result }
+fn read_submit(rest: &[u8]) -> Result<LineEvent, RowFault>
+    ensures { ReadsWords (codes "submit" ∷ words_of rest.now) (submission_of (words_of rest.now)) result }
 {
-    let (who, address, command, rest) = first_three_words(rest)?;
-    let request = read_request(command, rest)?;
-    Some(LineEvent::Submit {
-        who: read_who(who)?,
-        address: read_address(address)?,
-        request,
+    let (who, rest) = next_word(rest).ok_or(RowFault::Bad)?;
+    let (address, rest) = next_word(rest).ok_or(RowFault::Bad)?;
+    let (command, rest) = next_word(rest).ok_or(RowFault::Bad)?;
+    Ok(LineEvent::Submit {
+        who: read_who(who).ok_or(RowFault::Bad)?,
+        address: read_address(address).ok_or(RowFault::Bad)?,
+        request: read_request(command, rest).ok_or(RowFault::Bad)?,
     })
 }
 
 /// The request that the word of a command and the words of its data write, or `None` if they write none.
 fn read_request(command: &[u8], rest: &[u8]) -> Option<Request>
-    ensures { Finds (AreRequestWords command.now (words_of rest.now)) result }
+    ensures { result ≡ request_of command.now (words_of rest.now) }
 {
+    let number = read_command(command)?;
     let payload = read_payload(rest)?;
-    Request::read(read_command(command)?, payload.as_slice()).ok()
+    Request::read(number, payload.as_slice()).ok()
 }
 
 /// The data that the words after COMMAND write, no bytes if there is no word and those of DATA if it is alone, or `None`
 /// if they write none.
 fn read_payload(rest: &[u8]) -> Option<Payload>
-    ensures { Finds (AreDataWords (words_of rest.now)) result }
+    ensures { result ≡ payload_of (words_of rest.now) }
 {
     if has_no_word(rest) {
         return Some(Payload::new());
@@ -112,7 +114,7 @@ fn read_payload(rest: &[u8]) -> Option<Payload>
 
 /// The turn that the words after `turn` say.
 fn read_turn(alloc: Global, rest: &[u8]) -> Result<LineEvent, RowFault>
-    ensures { ReadsWords (codes "turn" ∷ words_of rest.now) (IsEvent (codes "turn" ∷ words_of rest.now)) result }
+    ensures { ReadsWords (codes "turn" ∷ words_of rest.now) (turn_of (words_of rest.now)) result }
 {
     let Some((who, up, down)) = three_words(rest) else {
         return Err(RowFault::Bad);
@@ -129,54 +131,48 @@ fn three_words(line: &[u8]) -> Option<(&[u8], &[u8], &[u8])>
     ensures { MatchOption result (length (words_of line.now) ≢ 3)
         (λ words. words_of line.now ≡ (words.0).now ∷ (words.1).now ∷ (words.2).now ∷ []) }
 {
-    let (first, second, third, rest) = first_three_words(line)?;
-    has_no_word(rest).then_some((first, second, third))
-}
-
-/// The first three words of a line and what follows them, or `None` if it has fewer.
-fn first_three_words(line: &[u8]) -> Option<(&[u8], &[u8], &[u8], &[u8])>
-    ensures { MatchOption result (length (words_of line.now) < 3)
-        (λ taken. words_of line.now ≡ (taken.0).now ∷ (taken.1).now ∷ (taken.2).now ∷ words_of (taken.3).now) }
-{
     let (first, rest) = next_word(line)?;
     let (second, rest) = next_word(rest)?;
-    let (third, rest) = next_word(rest)?;
-    Some((first, second, third, rest))
+    Some((first, second, only_word(rest)?))
 }
 
 /// What the word of a leg says that is heard.
 fn read_leg(alloc: Global, word: &[u8]) -> Result<Heard, RowFault>
-    ensures { ReadsWords (word.now ∷ []) (IsLeg word.now) result }
+    ensures { ReadsWords (word.now ∷ []) (leg_of word.now) result }
 {
-    Ok(match word {
-        b"ok" => Heard::Clean,
-        b"lost" => Heard::Lost,
-        _ => Heard::Chars(read_items(alloc, word)?),
-    })
+    match word {
+        b"ok" => Ok(Heard::Clean),
+        b"lost" => Ok(Heard::Lost),
+        _ => Ok(Heard::Chars(read_items(alloc, word)?)),
+    }
 }
 
 /// The switch of the write protection that the words after `protect` say.
-fn read_protect(rest: &[u8]) -> Option<LineEvent>
-    ensures { Finds (IsEvent (codes "protect" ∷ words_of rest.now)) result }
+fn read_protect(rest: &[u8]) -> Result<LineEvent, RowFault>
+    ensures { ReadsWords (codes "protect" ∷ words_of rest.now) (protection_of (words_of rest.now)) result }
 {
-    match only_word(rest)? {
-        b"on" => Some(LineEvent::Protect(true)),
-        b"off" => Some(LineEvent::Protect(false)),
-        _ => None,
+    match only_word(rest).ok_or(RowFault::Bad)? {
+        b"on" => Ok(LineEvent::Protect(true)),
+        b"off" => Ok(LineEvent::Protect(false)),
+        _ => Err(RowFault::Bad),
     }
 }
 
 /// The noise that the words after `noise` say.
 fn read_noise(alloc: Global, rest: &[u8]) -> Result<LineEvent, RowFault>
-    ensures { ReadsWords (codes "noise" ∷ words_of rest.now) (IsEvent (codes "noise" ∷ words_of rest.now)) result }
+    ensures { ReadsWords (codes "noise" ∷ words_of rest.now) (noise_of (words_of rest.now)) result }
 {
     let items = only_word(rest).ok_or(RowFault::Bad)?;
     Ok(LineEvent::Noise(read_items(alloc, items)?))
 }
 
 /// The restart that `restart` says if no word is after it.
-fn read_restart(rest: &[u8]) -> Option<LineEvent>
-    ensures { Finds (IsEvent (codes "restart" ∷ words_of rest.now)) result }
+fn read_restart(rest: &[u8]) -> Result<LineEvent, RowFault>
+    ensures { ReadsWords (codes "restart" ∷ words_of rest.now) (restart_of (words_of rest.now)) result }
 {
-    has_no_word(rest).then_some(LineEvent::Restart)
+    if has_no_word(rest) {
+        Ok(LineEvent::Restart)
+    } else {
+        Err(RowFault::Bad)
+    }
 }

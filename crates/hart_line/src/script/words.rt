@@ -1,7 +1,8 @@
 //! The words of messages to send.
 
+ghost use Rattle.std.specs.Prelude.{◌≡◌};
+ghost use Rattle.hart_line.specs.script.Words.{decimal_of, device_of, polling_of};
 ghost use Rattle.hart_line.specs.script.Words.{Finds, IsAddressWord, IsCommandWord, IsDataWord, IsWho};
-ghost use Rattle.hart_line.specs.script.Words.{IsDecimal, IsDeviceWord, IsPollingWord};
 
 use hart_frame::Payload;
 use hart_values::{Address, MasterId, PollingAddress, UniqueAddress};
@@ -35,7 +36,7 @@ pub fn read_address(word: &[u8]) -> Option<Address>
 
 /// The polling address that is written `@` and one or two digits.
 fn read_polling_address(word: &[u8]) -> Option<PollingAddress>
-    ensures { Finds (IsPollingWord word.now) result }
+    ensures { result ≡ polling_of word.now }
 {
     let [b'@', digits @ ..] = word else {
         return None;
@@ -45,7 +46,7 @@ fn read_polling_address(word: &[u8]) -> Option<PollingAddress>
 
 /// The device that is written in ten hex digits.
 fn read_device(word: &[u8]) -> Option<UniqueAddress>
-    ensures { Finds (IsDeviceWord word.now) result }
+    ensures { result ≡ device_of word.now }
 {
     let bytes = <[u8; 5]>::from_hex(word).ok()?;
     let [type_high, type_low, id_high, id_middle, id_low] = bytes;
@@ -63,7 +64,7 @@ pub fn read_command(word: &[u8]) -> Option<u8>
 
 /// The number up to 255 that a word writes in decimal, in at most so many digits.
 fn read_decimal(word: &[u8], most_digits: usize) -> Option<u8>
-    ensures { Finds (IsDecimal word.now most_digits 255) result }
+    ensures { result ≡ decimal_of most_digits 255 word.now }
 {
     // `parse` takes a plus sign too, which is no digit.
     if word.len() > most_digits || word.starts_with(b"+") {

@@ -1,5 +1,9 @@
-use Rattle.hart_line.proofs.lemmas.script.Script.{IsScript-one, first_bad_one, not_script_and_bad}
+use Rattle.std.proofs.Common.{◌∙◌, sym}
 use Rattle.hart_line.proofs.laws.texts_have_one_script.Goals as goal
 
 pub returns : goal.returns
-returns c = record { one_script = IsScript-one; one_bad_line = first_bad_one; no_bad_line = not_script_and_bad }
+returns c = record {
+  one_script = λ text xs ys p q. p.1 ∙ sym q.1;
+  one_bad_line = λ text number other p q. cc;
+  no_bad_line = λ text events number p q. cc (p.0, q);
+}

@@ -1,5 +1,9 @@
-use Rattle.hart_line.proofs.lemmas.script.UnambiguousWords.{IsAddressWord-one, IsCommandWord-one, IsDataWord-one, IsWho-one}
 use Rattle.hart_line.proofs.laws.words_have_one_value.Goals as goal
 
 pub returns : goal.returns
-returns c = record { who = IsWho-one; address = IsAddressWord-one; command = IsCommandWord-one; payload = IsDataWord-one }
+returns c = record {
+  who = λ word m n p q. cc;
+  address = λ word m n p q. cc;
+  command = λ word m n p q. cc;
+  payload = λ word xs ys p q. cc;
+}

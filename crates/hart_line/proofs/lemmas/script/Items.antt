@@ -1,80 +1,159 @@
 -- Texts that are items end to end.
-use Rattle.std.proofs.Common.{◌≡◌, ℕ, ◌+◌, ◌-◌, ◌<◌, ◌≤◌, List, [], ◌∷◌, ◌++◌, length, take, drop, refl, sym, ap, ◌∙◌, subst, arith}
-use Rattle.std.proofs.lemmas.List.{drop-drop, length-append, length-drop, take_rest}
+use Rattle.std.proofs.Common.{◌≡◌, ◌≢◌, ℕ, ◌+◌, ◌-◌, ◌<◌, ◌≤◌, Bool, true, false, List, [], ◌∷◌, ◌++◌, length, take, drop, Option, None, Some}
+use Rattle.std.proofs.Common.{refl, sym, ap, ◌∙◌, arith}
+use Rattle.std.specs.Option.{option_map}
+use Rattle.std.proofs.lemmas.List.{append-nil, append_assoc, drop-drop, length-append, length-drop, nil_from_length, take_rest}
 use Rattle.std.proofs.Math.Seq.{drop-append_seam}
-use Rattle.hart_frame.specs.heard.Character.{Character}
-use Rattle.hart_line.specs.script.Items.{BeginsAsItem, BeginsWithItem, BeginsWithItems, EndsBefore, Faulty, Item, item}
-use Rattle.hart_line.specs.script.Items.{item_meaning, item_spelling, NoItemBegins, nothing, Plain}
+use Rattle.std.specs.Int.{bit_at}
+use Rattle.std.proofs.lemmas.Nat.Bits.{bit_at-lt}
+use Rattle.std.proofs.lemmas.Bool.{eqb-false, eqb-true, false_from_ne_true}
+use Rattle.std.proofs.lemmas.Bool.Decides.{nat_tests}
+use Rattle.std.specs.Prelude.{◌==◌, ◌&&◌}
+use Rattle.hex.specs.Hex.{is_hex_digit}
+use Rattle.hart_frame.specs.heard.Character.{AreFaultBits, Character, IsFaultBit}
+use Rattle.hart_line.specs.script.Items.{are_some_fault_bits, BeginsAsItem, BeginsWithItem, EndsBefore, Faulty, is_valid_item, IsValidItem, Item}
+use Rattle.hart_line.specs.script.Items.{item_before, item_meaning, item_spelling, items_of, items_word_of, NoItemBegins, Plain, byte_of}
 
--- an item without fault bits does not end before a `!`
-no_end : (tail more : List ℕ) (high low : ℕ) → EndsBefore tail (Plain high low) → tail ≡ 33 ∷ more → ⊥
-no_end [] more high low w e = cc e
-no_end (x ∷ xs) more high low w e = w (cc e)
+-- a bit that is set is none of those that are not
+set_bit : (faults bit : ℕ) → bit < 8 → bit_at faults bit ≡ 1 → bit_at faults 0 ≡ 0 → bit_at faults 2 ≡ 0 → bit_at faults 3 ≡ 0
+    → bit_at faults 7 ≡ 0 → IsFaultBit bit
+set_bit faults bit small set zero two three seven =
+    let a : bit ≢ 0 = λ e. omega (arith, set, zero, ap (λ k. bit_at faults k) e) in
+    let b : bit ≢ 2 = λ e. omega (arith, set, two, ap (λ k. bit_at faults k) e) in
+    let d : bit ≢ 3 = λ e. omega (arith, set, three, ap (λ k. bit_at faults k) e) in
+    let f : bit ≢ 7 = λ e. omega (arith, set, seven, ap (λ k. bit_at faults k) e) in
+    grind arith
 
--- two items that begin one text are one item
-pub same_item : (text : List ℕ) (p q : Item) (s t : List ℕ) → BeginsWithItem text p s → BeginsWithItem text q t → (p ≡ q) × (s ≡ t)
-same_item text (Plain x y) (Plain x' y') s t h k = let e = sym h.spelled ∙ k.spelled in (cc, cc)
-same_item text (Plain x y) (Faulty x' y' v w) s t h k =
-    let e = sym h.spelled ∙ k.spelled in absurd (no_end s (v ∷ w ∷ t) x y h.ends (cc))
-same_item text (Faulty x' y' v w) (Plain x y) s t h k =
-    let e = sym k.spelled ∙ h.spelled in absurd (no_end t (v ∷ w ∷ s) x y k.ends (cc))
-same_item text (Faulty x y v w) (Faulty x' y' v' w') s t h k = let e = sym h.spelled ∙ k.spelled in (cc, cc)
+-- the test of fault bits
+fault_bits : (faults : ℕ) → are_some_fault_bits faults ≡ true → (faults ≢ 0) × AreFaultBits faults
+fault_bits faults test = grind (arith, nat_tests, set_bit)
+
+fault_bits_tested : (faults : ℕ) → faults ≢ 0 → AreFaultBits faults → are_some_fault_bits faults ≡ true
+fault_bits_tested faults some are =
+    let unset : (bit : ℕ) → bit < 8 → (IsFaultBit bit → ⊥) → bit_at faults bit ≡ 0 =
+    λ bit small no. let not_one : bit_at faults bit ≢ 1 = λ e. no (are.only bit small e) in omega (arith, bit_at-lt faults bit) in
+    let zero = unset 0 (omega arith) (λ is. grind arith) in
+    let two = unset 2 (omega arith) (λ is. grind arith) in
+    let three = unset 3 (omega arith) (λ is. grind arith) in
+    let seven = unset 7 (omega arith) (λ is. grind arith) in
+    grind (arith, nat_tests)
+
+-- the test of an item
+valid_tested : (item : Item) → IsValidItem item → is_valid_item item ≡ true
+valid_tested (Plain high low) valid = grind (arith)
+valid_tested (Faulty high low fault_high fault_low) valid = grind (arith, fault_bits_tested)
+
+all_five : (a b c d e : Bool) → (a && b && c && d && e) ≡ true → (a ≡ true) × (b ≡ true) × (c ≡ true) × (d ≡ true) × (e ≡ true)
+all_five a b c d e all = grind arith
+
+valid : (item : Item) → is_valid_item item ≡ true → IsValidItem item
+valid (Plain high low) test = grind (arith)
+valid (Faulty high low fault_high fault_low) test =
+    let all = all_five (is_hex_digit high) (is_hex_digit low) (is_hex_digit fault_high) (is_hex_digit fault_low) _ test in
+    let bits = fault_bits (byte_of fault_high fault_low) all.4 in
+    ((all.0, all.1), (all.2, all.3), bits.0, bits.1)
+
+-- characters after an item that begins a text
+pub items_of-item : (text : List ℕ) (item : Item) (tail : List ℕ) → BeginsWithItem text item tail
+    → items_of text ≡ option_map (λ more. item_meaning item ∷ more) (items_of tail)
+unfolding items_of
+items_of-item text (Plain high low) [] begins = rw (begins.spelled, valid_tested (Plain high low) begins.valid) refl
+items_of-item text (Plain high low) (a ∷ []) begins = rw (begins.spelled, valid_tested (Plain high low) begins.valid) refl
+items_of-item text (Plain high low) (a ∷ b ∷ []) begins = rw (begins.spelled, valid_tested (Plain high low) begins.valid) refl
+items_of-item text (Plain high low) (a ∷ b ∷ c ∷ rest) begins =
+    let no_mark : (a == 33) ≡ false = grind (arith, nat_tests, begins.ends) in
+    rw (begins.spelled, no_mark, valid_tested (Plain high low) begins.valid) refl
+items_of-item text (Faulty high low fault_high fault_low) tail begins =
+    rw (begins.spelled, valid_tested (Faulty high low fault_high fault_low) begins.valid) refl
+
+-- an item that would begin a text in which none does is not valid
+invalid : (text : List ℕ) (item : Item) (tail : List ℕ) (chars : Option (List Character)) → NoItemBegins text
+    → text ≡ item_spelling item ++ tail → EndsBefore tail item → item_before item chars ≡ None
+invalid text item tail chars none spelled ends =
+    let no : is_valid_item item ≡ false =
+    false_from_ne_true (is_valid_item item) (λ test. none item tail (record { valid = valid item test; spelled = spelled; ends = ends })) in
+    rw no refl
+
+before_none : (item : Item) → item_before item None ≡ None
+before_none item = grind arith
+
+-- a text of a byte at least in which no item begins is not items end to end
+pub items_of-none : (byte : ℕ) (text : List ℕ) → NoItemBegins (byte ∷ text) → items_of (byte ∷ text) ≡ None
+unfolding items_of
+items_of-none byte [] none = refl
+items_of-none byte (low ∷ []) none = invalid _ (Plain byte low) [] (Some []) none refl tt
+items_of-none byte (low ∷ a ∷ []) none = before_none (Plain byte low)
+items_of-none byte (low ∷ a ∷ b ∷ rest) none = at_mark rest (a == 33) refl none
+  where
+    at_mark : (more : List ℕ) (mark : Bool) → (a == 33) ≡ mark → NoItemBegins (byte ∷ low ∷ a ∷ b ∷ more)
+        → items_of (byte ∷ low ∷ a ∷ b ∷ more) ≡ None
+    at_mark [] true is nowhere = rw (eqb-true a 33 is) (before_none (Plain byte low))
+    at_mark [] false is nowhere =
+        invalid _ (Plain byte low) (a ∷ b ∷ []) (items_of (a ∷ b ∷ [])) nowhere refl (eqb-false a 33 is)
+    at_mark (c ∷ more) true is nowhere =
+        rw is (invalid _ (Faulty byte low b c) more (items_of more) nowhere (rw (eqb-true a 33 is) refl) tt)
+    at_mark (c ∷ more) false is nowhere =
+        rw is (invalid _ (Plain byte low) (a ∷ b ∷ c ∷ more) (items_of (a ∷ b ∷ c ∷ more)) nowhere refl (eqb-false a 33 is))
+
+-- a text reads as characters up to a rest of it: its items are theirs and those of the rest
+abbrev pub ReadsTo : List ℕ → List Character → List ℕ → Type 0
+ReadsTo text chars rest = items_of text ≡ option_map (λ more. chars ++ more) (items_of rest)
+
+map_nil : (o : Option (List Character)) → o ≡ option_map (λ more. [] ++ more) o
+map_nil None = refl
+map_nil (Some chars) = refl
+
+pub ReadsTo-nothing : (text : List ℕ) → ReadsTo text [] text
+ReadsTo-nothing text = map_nil (items_of text)
+
+map_push : (chars : List Character) (char : Character) (o : Option (List Character))
+    → option_map (λ more. chars ++ more) (option_map (λ more. char ∷ more) o) ≡ option_map (λ more. (chars ++ char ∷ []) ++ more) o
+map_push chars char None = refl
+map_push chars char (Some more) = ap Some (sym (append_assoc chars (char ∷ []) more))
 
 -- an item is spelled by two bytes at least
-item_spelling-length : (p : Item) → 2 ≤ length (item_spelling p)
+item_spelling-length : (item : Item) → 2 ≤ length (item_spelling item)
 item_spelling-length (Plain x y) = omega arith
 item_spelling-length (Faulty x y v w) = omega arith
 
--- no item begins at the end
-pub NoItemBegins-nil : NoItemBegins []
-NoItemBegins-nil (Plain x y) tail h = cc (h.spelled)
-NoItemBegins-nil (Faulty x y v w) tail h = cc (h.spelled)
-
--- a text that is items up to a rest is so one item further
-pub BeginsWithItems-push : (text : List ℕ) (chars : List Character) (rest : List ℕ) (p : Item) (tail : List ℕ)
-    → BeginsWithItems text chars rest → BeginsWithItem rest p tail → BeginsWithItems text (chars ++ item_meaning p ∷ []) tail
-BeginsWithItems-push _ _ _ p tail (nothing rest) h = item rest p tail [] tail h (nothing tail)
-BeginsWithItems-push _ _ _ p tail (item text first next chars rest k r) h =
-    item text first next (chars ++ item_meaning p ∷ []) tail k (BeginsWithItems-push next chars rest p tail r h)
-
--- a text that is items to its end is so in one way, and goes on where an item begins
-pub items_to_the_end : (text : List ℕ) (xs : List Character) (rest : List ℕ) (ys : List Character) → BeginsWithItems text xs rest
-    → BeginsWithItems text ys [] → NoItemBegins rest → (xs ≡ ys) × (rest ≡ [])
-items_to_the_end _ _ _ _ (nothing _) (nothing _) n = (refl, refl)
-items_to_the_end _ _ _ _ (nothing _) (item text p tail chars _ h r) n = absurd (n p tail h)
-items_to_the_end _ _ _ _ (item _ p tail chars rest h r) (nothing _) n = absurd (NoItemBegins-nil p tail h)
-items_to_the_end _ _ _ _ (item text p s cs rest h r) (item _ q t ds _ k l) n =
-    let same = same_item text p q s t h k in
-    let on = items_to_the_end s cs rest ds r (subst (λ (us : List ℕ). BeginsWithItems us ds []) (sym same.1) l) n in
-    (ap (λ (u : Item). item_meaning u ∷ cs) same.0 ∙ ap (λ (us : List Character). item_meaning q ∷ us) on.0, on.1)
-
 -- a word is read one item further
 pub item_read : (text : List ℕ) (chars new : List Character) (place : ℕ) (char : Character) (len : ℕ) → place ≤ length text
-    → BeginsWithItems text chars (drop place text) → BeginsAsItem (take (length text - place) (drop place text)) char len
-    → new ≡ chars ++ char ∷ [] → (2 ≤ len) × (place + len ≤ length text) × BeginsWithItems text new (drop (place + len) text)
-item_read text chars new place char len within r b e =
-    let rest : take (length text - place) (drop place text) ≡ drop place text = take_rest text place in
-    let h : BeginsWithItem (drop place text) b.item b.tail = subst (λ (xs : List ℕ). BeginsWithItem xs b.item b.tail) rest b.begins in
-    let left = length-drop place text in
-    let long = ap (λ (xs : List ℕ). length xs) h.spelled ∙ length-append (item_spelling b.item) b.tail in
-    let some = item_spelling-length b.item in
-    let size = b.long in
-    let tail : drop (place + len) text ≡ b.tail =
-    ap (λ (n : ℕ). drop (place + n) text) (sym size) ∙ sym (drop-drop (length (item_spelling b.item)) place text)
-    ∙ ap (λ (xs : List ℕ). drop (length (item_spelling b.item)) xs) h.spelled ∙ drop-append_seam (item_spelling b.item) b.tail in (
-      omega arith,
-      omega arith,
-      subst (λ (xs : List ℕ). BeginsWithItems text new xs) (sym tail)
-          (subst (λ (zs : List Character). BeginsWithItems text zs b.tail) (ap (λ (u : Character). chars ++ u ∷ []) b.means ∙ sym e)
-          (BeginsWithItems-push text chars (drop place text) b.item b.tail r h)),
+    → ReadsTo text chars (drop place text) → BeginsAsItem (take (length text - place) (drop place text)) char len
+    → new ≡ chars ++ char ∷ [] → (2 ≤ len) × (place + len ≤ length text) × ReadsTo text new (drop (place + len) text)
+item_read text chars new place char len within reads lead pushed =
+    let begins = rw (take_rest text place) at lead.begins in
+    let spelling = item_spelling lead.item in
+    let long = ap (λ (xs : List ℕ). length xs) begins.spelled ∙ length-append spelling lead.tail in
+    let tail : drop (place + len) text ≡ lead.tail =
+    ap (λ (n : ℕ). drop (place + n) text) (sym lead.long) ∙ sym (drop-drop (length spelling) place text)
+    ∙ ap (λ (xs : List ℕ). drop (length spelling) xs) begins.spelled ∙ drop-append_seam spelling lead.tail in (
+      omega (arith, length-drop place text, item_spelling-length lead.item, lead.long),
+      omega (arith, length-drop place text, lead.long),
+      rw (tail, pushed, ← lead.means)
+          (reads ∙ ap (λ o. option_map (λ more. chars ++ more) o) (items_of-item (drop place text) lead.item lead.tail begins)
+          ∙ map_push chars (item_meaning lead.item) (items_of lead.tail)),
     )
 
--- a word in which no item begins at a place, short of its end, is no items
-pub no_items : (word : List ℕ) (xs ys : List Character) (place : ℕ) → place < length word → BeginsWithItems word xs (drop place word)
-    → NoItemBegins (take (length word - place) (drop place word)) → BeginsWithItems word ys [] → ⊥
-no_items word xs ys place short reads none items =
-    let left = length-drop place word in
-    let rest = subst NoItemBegins (take_rest word place) none in
-    let same = items_to_the_end word xs (drop place word) ys reads items rest in
-    let long = ap (λ (us : List ℕ). length us) same.1 in
-    omega arith
+-- a word in which no item begins at a place, short of its end, is not items end to end
+pub no_items : (word : List ℕ) (chars : List Character) (place : ℕ) → place < length word → ReadsTo word chars (drop place word)
+    → NoItemBegins (take (length word - place) (drop place word)) → items_of word ≡ None
+no_items word chars place short reads none =
+    reads ∙ ap (λ o. option_map (λ more. chars ++ more) o) (at_rest (drop place word) (omega (arith, length-drop place word))
+    (rw (take_rest word place) at none))
+  where
+    at_rest : (rest : List ℕ) → 0 < length rest → NoItemBegins rest → items_of rest ≡ None
+    at_rest [] some nowhere = absurd (omega arith)
+    at_rest (byte ∷ rest) some nowhere = items_of-none byte rest nowhere
+
+-- a word that is read to its end has the characters that were read
+pub all_items : (word : List ℕ) (chars : List Character) (place : ℕ) → length word ≤ place → ReadsTo word chars (drop place word)
+    → items_of word ≡ Some chars
+unfolding items_of
+all_items word chars place ended reads =
+    let rest : drop place word ≡ [] = nil_from_length (drop place word) (omega (arith, length-drop place word)) in
+    reads ∙ ap (λ xs. option_map (λ more. chars ++ more) (items_of xs)) rest ∙ ap Some (append-nil chars)
+
+-- a word with a byte has the characters of its items
+pub word_items : (word : List ℕ) → (length word ≡ 0 → ⊥) → items_word_of word ≡ items_of word
+word_items [] some = absurd (some refl)
+word_items (byte ∷ word) some = refl

@@ -1,52 +1,40 @@
--- The device that ten hex digits write.
-use Rattle.std.proofs.Common.{◌≡◌, ℕ, ◌+◌, ◌*◌, ◌%◌, ◌<◌, ◌^◌, List, [], ◌∷◌, length, get_or, None, Some, Result, Ok, Err, refl, sym, ap}
-use Rattle.std.proofs.Common.{◌∙◌, arith}
-use Rattle.std.specs.Result.{result_ok}
-use Rattle.hex.specs.Hex.{decode_of, decode_sized}
-use Rattle.hex.proofs.HexLemmas.{decode_of-ok, decode_sized-ok, decode_sized-twice}
-use Rattle.hart_line.specs.script.Words.{IsDeviceWord}
+-- Words of messages to send.
+use Rattle.std.proofs.Common.{◌≡◌, ℕ, ◌<◌, ◌≤◌, ◌^◌, true, false, List, [], ◌∷◌, get_or, length, None, Result, Ok, Err, refl, arith}
+use Rattle.std.specs.List.{starts_with}
+use Rattle.std.specs.Prelude.{nat_eq}
+use Rattle.std.specs.Result.{OkIff, result_ok}
+use Rattle.std.specs.Str.{all_ascii_digits, IsUtf8}
+use Rattle.std.specs.Str.Parse.{digits_value, ParsesUnsigned}
+use Rattle.std.proofs.lemmas.Bool.{false_from_ne_true}
+use Rattle.std.proofs.lemmas.Bool.Decides.{nat_tests}
+use Rattle.std.proofs.lemmas.Fmt.{IsAscii-from_digits}
+use Rattle.std.proofs.lemmas.Str.{IsUtf8-from_ascii}
+use Rattle.std.proofs.lemmas.Str.Parse.{IsNumeralModel, numerals_by_value, parse_plain, tells_all_ascii_digits}
+use Rattle.hart_line.specs.script.Words.{decimal_of}
 
--- what `ok` gives is the value of an `Ok`
-pub ok_some : {T E : Type 0} (result : Result T E) (value : T) → result_ok result ≡ Some value → result ≡ Ok value
-ok_some (Ok other) value is = cc
-ok_some (Err fault) value is = cc
+-- a number in decimal is told by its digits
+digits_tell : IsNumeralModel (λ ds. all_ascii_digits ds ≡ true) (digits_value 10)
+digits_tell = numerals_by_value (λ ds. all_ascii_digits ds ≡ true) tells_all_ascii_digits
 
--- and if it gives nothing there was none
-pub ok_none : {T E : Type 0} (result : Result T E) (value : T) → result_ok result ≡ None → result ≡ Ok value → ⊥
-ok_none (Ok other) value is same = cc
-ok_none (Err fault) value is same = cc
+-- a word that is no text is no number in decimal
+pub decimal_of-no_text : (most_digits : ℕ) (word : List ℕ) → (IsUtf8 word → ⊥) → None ≡ decimal_of most_digits 255 word
+decimal_of-no_text most_digits word no_text =
+    let no_digits : all_ascii_digits word ≡ false = false_from_ne_true (all_ascii_digits word)
+    (λ digits. no_text (IsUtf8-from_ascii word (IsAscii-from_digits word (digits_tell.to word digits)))) in
+    rw no_digits refl
 
--- a list of five is written out
-five_written_out : (xs : List ℕ) → length xs ≡ 5
-    → xs ≡ get_or xs 0 0 ∷ get_or xs 1 0 ∷ get_or xs 2 0 ∷ get_or xs 3 0 ∷ get_or xs 4 0 ∷ []
-five_written_out [] five = absurd (omega arith)
-five_written_out (a ∷ []) five = absurd (omega arith)
-five_written_out (a ∷ b ∷ []) five = absurd (omega arith)
-five_written_out (a ∷ b ∷ c ∷ []) five = absurd (omega arith)
-five_written_out (a ∷ b ∷ c ∷ d ∷ []) five = absurd (omega arith)
-five_written_out (a ∷ b ∷ c ∷ d ∷ e ∷ []) five = refl
-five_written_out (a ∷ b ∷ c ∷ d ∷ e ∷ f ∷ rest) five = absurd (omega arith)
+-- what `parse` reads of a word without a sign is its number in decimal
+decimal_of-ok : {E : Type 0} (most_digits : ℕ) (word : List ℕ) (read : Result ℕ E) → length word ≤ most_digits
+    → OkIff read ((all_ascii_digits word ≡ true) × (0 < length word) × (digits_value 10 word < 2 ^ 8)) (digits_value 10 word)
+    → result_ok read ≡ decimal_of most_digits 255 word
+decimal_of-ok most_digits word (Ok number) short is = grind (arith, nat_tests)
+decimal_of-ok most_digits word (Err fault) short is = grind (arith, nat_tests)
 
--- what fits five bytes writes a device
-pub IsDeviceWord-from_bytes : (word bytes : List ℕ) (device_type id : ℕ) → decode_sized word 5 ≡ Ok bytes
-    → device_type ≡ get_or bytes 0 0 * 256 + get_or bytes 1 0
-    → id ≡ 0 + get_or bytes 2 0 * 65536 + get_or bytes 3 0 * 256 + get_or bytes 4 0
-    → IsDeviceWord word (record { expanded_type = device_type % 16384; device_id = id }) × (id < 2 ^ 24)
-IsDeviceWord-from_bytes word bytes device_type id sized type_value id_value =
-    let ten = decode_sized-ok word 5 bytes sized in
-    let decoded : decode_of word ≡ Ok bytes = sym (decode_sized-twice word 5 ten) ∙ sized in
-    let shape = decode_of-ok word bytes decoded in
-    let fits = shape.3 in
-    let five : length bytes ≡ 5 = omega (arith, ten, shape.2) in (
-      record {
-        type_high = get_or bytes 0 0;
-        type_low = get_or bytes 1 0;
-        id_high = get_or bytes 2 0;
-        id_middle = get_or bytes 3 0;
-        id_low = get_or bytes 4 0;
-        digits = decoded ∙ ap Ok (five_written_out bytes five);
-        type_value = ap (λ n. n % 16384) (omega arith);
-        id_value = omega arith;
-      },
-      omega (arith, fits 2, fits 3, fits 4),
-    )
+no_plus : (word : List ℕ) → starts_with nat_eq word (43 ∷ []) ≡ false → get_or word 0 0 ≡ 43 → ⊥
+no_plus [] none plus = omega arith
+no_plus (first ∷ word) none plus = let begins = rw plus at none in cc begins
+
+pub decimal_of-parsed : {E : Type 0} (most_digits : ℕ) (word : List ℕ) (read : Result ℕ E) → ParsesUnsigned 8 10 word read
+    → length word ≤ most_digits → starts_with nat_eq word (43 ∷ []) ≡ false → result_ok read ≡ decimal_of most_digits 255 word
+decimal_of-parsed most_digits word read parses short plain =
+    decimal_of-ok most_digits word read short (parse_plain digits_tell 8 word read parses (no_plus word plain))

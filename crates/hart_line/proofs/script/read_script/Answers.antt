@@ -1,14 +1,13 @@
 use Rattle.std.specs.Str.Lines.{strip_carriage_return}
-use Rattle.std.proofs.Common.{ℕ, ◌∙◌, ◌+◌, length, refl, ap, arith, rules, tests}
+use Rattle.std.proofs.Common.{ℕ, ◌∙◌, ◌+◌, length, None, Some, refl, ap, arith, sym, rules, tests}
 use Rattle.std.specs.Bool.{◌==◌}
 use Rattle.std.proofs.lemmas.Iterator.Consumers.{YieldsList-at, YieldsList-end, YieldsList-turn}
 use Rattle.std.proofs.lemmas.Iterator.Splits.{YieldsList-from_slice_split}
-use Rattle.std.proofs.lemmas.List.{length-map, length_push}
+use Rattle.std.proofs.lemmas.List.{append-nil, length-map, length_push}
 use Rattle.std.proofs.lemmas.Result.{err_from_is_err_and}
 use Rattle.hart_line.specs.Filling.{Filled}
-use Rattle.hart_line.specs.script.Rows.{none}
 use Rattle.hart_line.specs.declared.event.LineEvent.{LineEvent}
-use Rattle.hart_line.proofs.lemmas.script.Script.{first_bad_line, line_fault, line_said, line_skipped, parts_of, whole_script}
+use Rattle.hart_line.proofs.lemmas.script.Script.{AreEvents-more, line_fault, parts_of, stands_at, whole_script}
 use Rattle.hart_line.proofs.script.read_script.Goals as goal
 
 pub loop-part-init : goal.loop-part-init
@@ -16,7 +15,7 @@ loop-part-init c = rw c.in_ok-events.ensures.empty (record {
   counted = refl;
   few = omega arith;
   room = c.count_lines.ensures ∙ length-map (parts_of c.args.text.now) strip_carriage_return;
-  said = none;
+  said = (refl, refl);
 })
 
 pub returns-in_err-event-clause-fault : goal.returns-in_err-event-clause-fault
@@ -26,10 +25,9 @@ returns-in_err-event-clause-fault c =
     c.split-part-items.ensures.done c.split-part-items.ensures.closure (λ x b q k. search (rules, tests))))
     c.loop-part.yielded _ c.loop-part.yielded_by _ _ c.in-Some.part c.in-Some.is c.next.ensures.steps in
     let stop = err_from_is_err_and c.from_residual-in_err-event.result c.from_residual-in_err-event.ensures.1 in
-    rw (stop.1, stop.2) (line_fault c.args.text.now (length c.loop-part.yielded) _ c.in-Some.part.now _ _ t.0 t.1 c.without_return.ensures
-    c.in_err-event.ensures (first_bad_line c.args.text.now
-    (length c.loop-part.yielded) _ c.in-Some.part.now _ _ (ap (λ (k : ℕ). k + 1) c.loop-part.invariant.counted) t.0 t.1
-    c.without_return.ensures c.loop-part.invariant.said))
+    rw (stop.1, stop.2) (line_fault c.args.text.now (length c.loop-part.yielded) _ _ _ _
+    (stands_at c.args.text.now _ c.in-Some.part.now _ t.0 t.1 c.without_return.ensures)
+    (ap (λ (k : ℕ). k + 1) c.loop-part.invariant.counted) c.loop-part.invariant.said c.in_err-event.ensures)
 
 pub loop-part-preserved-in_default : goal.loop-part-preserved-in_default
 loop-part-preserved-in_default c =
@@ -42,8 +40,9 @@ loop-part-preserved-in_default c =
       counted = omega (arith, c.loop-part.invariant.counted, m);
       few = omega (arith, m, c.loop-part.invariant.few);
       room = c.loop-part.invariant.room;
-      said = line_skipped (parts_of c.args.text.now) (length c.loop-part.yielded) _ c.in-Some.part.now _ _ m t.0 t.1
-          c.without_return.ensures c.loop-part.invariant.said (rw c.in_default.is at c.in_ok-event.ensures);
+      said = AreEvents-more c.args.text.now (length c.loop-part.yielded) _ (c.loop-part.number + 1) _ _ _ None
+          (stands_at c.args.text.now _ c.in-Some.part.now _ t.0 t.1 c.without_return.ensures) m c.loop-part.invariant.said
+          (rw c.in_default.is at c.in_ok-event.ensures) (sym (append-nil c.loop-part.events.items));
     }
 
 pub push-requires : goal.push-requires
@@ -65,9 +64,9 @@ loop-part-preserved c =
       counted = omega (arith, c.loop-part.invariant.counted, m);
       few = rw c.push.ensures (omega (arith, m, length_push c.loop-part.events.items c.in-Some-2.event, c.loop-part.invariant.few));
       room = rw c.push.ensures c.loop-part.invariant.room;
-      said = line_said (parts_of c.args.text.now) (length c.loop-part.yielded) _ c.in-Some.part.now _ _ _ c.in-Some-2.event m t.0 t.1
-          c.without_return.ensures c.loop-part.invariant.said (rw c.in-Some-2.is at c.in_ok-event.ensures)
-          (ap (λ (list : Filled LineEvent). list.items) c.push.ensures);
+      said = AreEvents-more c.args.text.now (length c.loop-part.yielded) _ (c.loop-part.number + 1) _ _ _ (Some c.in-Some-2.event)
+          (stands_at c.args.text.now _ c.in-Some.part.now _ t.0 t.1 c.without_return.ensures) m c.loop-part.invariant.said
+          (rw c.in-Some-2.is at c.in_ok-event.ensures) (ap (λ (list : Filled LineEvent). list.items) c.push.ensures);
     }
 
 pub returns-clause-events : goal.returns-clause-events

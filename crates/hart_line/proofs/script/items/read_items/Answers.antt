@@ -1,14 +1,14 @@
-use Rattle.std.proofs.Common.{arith, ap, refl}
+use Rattle.std.proofs.Common.{◌∙◌, arith, ap, refl}
+use Rattle.std.proofs.lemmas.Bool.Decides.{nat_tests}
 use Rattle.std.proofs.lemmas.List.{length_push}
 use Rattle.hart_frame.specs.heard.Character.{Character}
 use Rattle.hart_line.specs.Filling.{Filled}
-use Rattle.hart_line.specs.script.Items.{nothing}
-use Rattle.hart_line.proofs.lemmas.script.Items.{item_read, no_items}
+use Rattle.hart_line.proofs.lemmas.script.Items.{all_items, item_read, no_items, ReadsTo-nothing, word_items}
 use Rattle.hart_line.proofs.script.items.read_items.Goals as goal
 
 pub loop-lead-init : goal.loop-lead-init
 loop-lead-init c = rw c.in_ok-chars.ensures.empty
-    (record { within = omega arith; few = omega arith; room = refl; reads = nothing c.args.word.now })
+    (record { within = omega arith; few = omega arith; room = refl; reads = ReadsTo-nothing c.args.word.now })
 
 pub push-requires : goal.push-requires
 push-requires c =
@@ -28,5 +28,11 @@ loop-lead-preserved c =
     }
 
 pub returns-then-place-word : goal.returns-then-place-word
-returns-then-place-word c = λ chars items.
-    no_items _ _ _ _ c.if-place-word.true c.loop-lead.invariant.reads c.in_default.ensures items.1
+returns-then-place-word c =
+    word_items c.args.word.now (grind (arith, nat_tests, c.is_empty.ensures))
+    ∙ no_items _ _ _ c.if-place-word.true c.loop-lead.invariant.reads c.in_default.ensures
+
+pub returns : goal.returns
+returns c =
+    rw (c.new.ensures, c.finish.ensures) (word_items c.args.word.now (grind (arith, nat_tests, c.is_empty.ensures))
+    ∙ all_items _ _ _ c.if-place-word.false c.loop-lead.invariant.reads)

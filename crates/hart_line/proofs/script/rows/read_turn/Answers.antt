@@ -1,21 +1,13 @@
-use Rattle.std.proofs.Common.{◌∷◌, codes, arith, refl}
 use Rattle.std.proofs.lemmas.Result.{err_from_is_err_and}
-use Rattle.hart_line.specs.script.Lines.{words_of}
-use Rattle.hart_line.proofs.lemmas.script.Rows.{leg_fault, turn_legs}
+use Rattle.hart_line.proofs.lemmas.script.Rows.{down_fault, up_fault}
 use Rattle.hart_line.proofs.script.rows.read_turn.Goals as goal
 
 pub returns-in_err-read_leg : goal.returns-in_err-read_leg
 returns-in_err-read_leg c =
-    let call = c.from_residual-in_err-read_leg in
-    let refused = err_from_is_err_and call.result call.ensures.1 in
-    rw (refused.1, refused.2) (leg_fault (codes "turn" ∷ words_of c.args.rest.now) 2 c.in-Some.up.now _
-    (rw c.in-Some.ensures (omega arith)) (rw c.in-Some.ensures refl)
-    (λ event is. (turn_legs _ _ _ _ event c.in-Some.ensures is).0) c.in_err-read_leg.ensures)
+    let refused = err_from_is_err_and c.from_residual-in_err-read_leg.result c.from_residual-in_err-read_leg.ensures.1 in
+    rw (refused.1, refused.2) (up_fault _ _ _ _ _ _ c.in-Some.ensures c.in_err-read_leg.ensures)
 
 pub returns-in_err-read_leg-2 : goal.returns-in_err-read_leg-2
 returns-in_err-read_leg-2 c =
-    let call = c.from_residual-in_err-read_leg-2 in
-    let refused = err_from_is_err_and call.result call.ensures.1 in
-    rw (refused.1, refused.2) (leg_fault (codes "turn" ∷ words_of c.args.rest.now) 3 c.in-Some.down.now _
-    (rw c.in-Some.ensures (omega arith)) (rw c.in-Some.ensures refl)
-    (λ event is. (turn_legs _ _ _ _ event c.in-Some.ensures is).1) c.in_err-read_leg-2.ensures)
+    let refused = err_from_is_err_and c.from_residual-in_err-read_leg-2.result c.from_residual-in_err-read_leg-2.ensures.1 in
+    rw (refused.1, refused.2) (down_fault _ _ _ _ _ _ c.in-Some.ensures c.in_err-read_leg-2.ensures)

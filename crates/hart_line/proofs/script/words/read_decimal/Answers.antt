@@ -1,6 +1,11 @@
-use Rattle.std.proofs.lemmas.Fmt.{IsAscii-from_digits}
-use Rattle.std.proofs.lemmas.Str.{IsUtf8-from_ascii}
+use Rattle.std.proofs.Common.{sym, ◌∙◌, arith}
+use Rattle.hart_line.proofs.lemmas.script.Words.{decimal_of-no_text, decimal_of-parsed}
 use Rattle.hart_line.proofs.script.words.read_decimal.Goals as goal
 
+pub returns-in-Ok : goal.returns-in-Ok
+returns-in-Ok c =
+    c.ok.ensures.value ∙ decimal_of-parsed _ c.args.word.now c.parse.result (rw c.in-Ok.ensures.cases.0 at c.parse.ensures.value.0)
+    (omega arith) (sym c.starts_with.ensures.value ∙ c.if-starts_with.false)
+
 pub returns-in-Err : goal.returns-in-Err
-returns-in-Err c = λ number decimal. c.in-Err.ensures.cases.0 (IsUtf8-from_ascii _ (IsAscii-from_digits _ decimal.numeral.1))
+returns-in-Err c = decimal_of-no_text _ _ c.in-Err.ensures.cases.0
