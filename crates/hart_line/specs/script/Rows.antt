@@ -68,7 +68,7 @@ abbrev pub restart_of : List (List ℕ) → Option LineEvent
 restart_of [] = Some Restart
 restart_of words = None
 
--- The table of events has a row for each first word, and how the words after it are read.
+-- The table of events: each row has a first word, and how the words after it are read.
 abbrev pub event_table : List (List ℕ × (List (List ℕ) → Option LineEvent))
 event_table =
     (codes "submit", submission_of)
@@ -78,7 +78,7 @@ event_table =
     ∷ (codes "restart", restart_of)
     ∷ []
 
--- The words of a line say the event of the row of its first word.
+-- The words of a line say the event that the row of the first one reads of the others, and none if it has no row.
 abbrev pub event_of : List (List ℕ) → Option LineEvent
 event_of [] = None
 event_of (first ∷ words) = named_in event_table first >>= (λ read. read words)

@@ -14,7 +14,7 @@ use Rattle.hart_values.specs.declared.address.Address.TheVariants.{Polling, Uniq
 use Rattle.hart_values.specs.declared.master_id.MasterId.{MasterId}
 use Rattle.hart_values.specs.declared.master_id.MasterId.TheVariants.{Primary, Secondary}
 
--- What is read goes on to what is read of it, and nothing to nothing.
+-- One reading goes on with the next, and gives nothing if one of them does.
 infixl 10 ◌>>=◌
 abbrev pub ◌>>=◌ : {A B : Type 0} → Option A → (A → Option B) → Option B
 read >>= next = option_and_then next read
@@ -63,16 +63,19 @@ command_of word = decimal_of 3 255 word
 abbrev pub data_of : List ℕ → Option (List ℕ)
 data_of word = result_ok (decode_of word) >>= (λ bytes. if nat_le (length bytes) 255 then Some bytes else None)
 
--- A word names a master, and writes an address, a command or data, if it is read as that.
+-- A word names this master.
 abbrev pub IsWho : List ℕ → MasterId → Type 0
 IsWho word master = who_of word ≡ Some master
 
+-- A word writes this address.
 abbrev pub IsAddressWord : List ℕ → Address → Type 0
 IsAddressWord word address = address_of word ≡ Some address
 
+-- A word writes this command.
 abbrev pub IsCommandWord : List ℕ → ℕ → Type 0
 IsCommandWord word command = command_of word ≡ Some command
 
+-- A word writes these data.
 abbrev pub IsDataWord : List ℕ → List ℕ → Type 0
 IsDataWord word bytes = data_of word ≡ Some bytes
 

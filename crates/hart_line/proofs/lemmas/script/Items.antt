@@ -1,57 +1,51 @@
 -- Texts that are items end to end.
-use Rattle.std.proofs.Common.{◌≡◌, ◌≢◌, ℕ, ◌+◌, ◌-◌, ◌<◌, ◌≤◌, Bool, true, false, List, [], ◌∷◌, ◌++◌, length, take, drop, Option, None, Some}
-use Rattle.std.proofs.Common.{refl, sym, ap, ◌∙◌, arith}
-use Rattle.std.specs.Option.{option_map}
-use Rattle.std.proofs.lemmas.List.{append-nil, append_assoc, drop-drop, length-append, length-drop, nil_from_length, take_rest}
-use Rattle.std.proofs.Math.Seq.{drop-append_seam}
+use Rattle.std.proofs.Common.{◌≡◌, ◌≢◌, ℕ, ◌+◌, ◌-◌, ◌<◌, ◌≤◌, Bool, true, false, List, [], ◌∷◌, ◌++◌, length, take, drop, Option}
+use Rattle.std.proofs.Common.{None, Some, refl, sym, ap, ◌∙◌, arith}
 use Rattle.std.specs.Int.{bit_at}
-use Rattle.std.proofs.lemmas.Nat.Bits.{bit_at-lt}
+use Rattle.std.specs.Option.{option_map}
+use Rattle.std.specs.Prelude.{◌==◌, ◌&&◌}
 use Rattle.std.proofs.lemmas.Bool.{eqb-false, eqb-true, false_from_ne_true}
 use Rattle.std.proofs.lemmas.Bool.Decides.{nat_tests}
-use Rattle.std.specs.Prelude.{◌==◌, ◌&&◌}
-use Rattle.hex.specs.Hex.{is_hex_digit}
+use Rattle.std.proofs.lemmas.List.{append-nil, append_assoc, drop-drop, length-append, length-drop, nil_from_length, take_rest}
+use Rattle.std.proofs.lemmas.Nat.Bits.{bit_at-lt}
+use Rattle.std.proofs.Math.Seq.{drop-append_seam}
 use Rattle.hart_frame.specs.heard.Character.{AreFaultBits, Character, IsFaultBit}
-use Rattle.hart_line.specs.script.Items.{are_some_fault_bits, BeginsAsItem, BeginsWithItem, EndsBefore, Faulty, is_valid_item, IsValidItem, Item}
-use Rattle.hart_line.specs.script.Items.{item_before, item_meaning, item_spelling, items_of, items_word_of, NoItemBegins, Plain, byte_of}
+use Rattle.hart_line.specs.script.Items.{are_some_fault_bits, BeginsAsItem, BeginsWithItem, EndsBefore, Faulty, is_valid_item}
+use Rattle.hart_line.specs.script.Items.{IsValidItem, Item, item_before, item_meaning, item_spelling, items_of, items_word_of}
+use Rattle.hart_line.specs.script.Items.{NoItemBegins, Plain}
 
 -- a bit that is set is none of those that are not
 set_bit : (faults bit : ℕ) → bit < 8 → bit_at faults bit ≡ 1 → bit_at faults 0 ≡ 0 → bit_at faults 2 ≡ 0 → bit_at faults 3 ≡ 0
     → bit_at faults 7 ≡ 0 → IsFaultBit bit
 set_bit faults bit small set zero two three seven =
-    let a : bit ≢ 0 = λ e. omega (arith, set, zero, ap (λ k. bit_at faults k) e) in
-    let b : bit ≢ 2 = λ e. omega (arith, set, two, ap (λ k. bit_at faults k) e) in
-    let d : bit ≢ 3 = λ e. omega (arith, set, three, ap (λ k. bit_at faults k) e) in
-    let f : bit ≢ 7 = λ e. omega (arith, set, seven, ap (λ k. bit_at faults k) e) in
-    grind arith
+    let differs : (other : ℕ) → bit_at faults other ≡ 0 → bit ≢ other =
+    λ other clear same. omega (arith, set, clear, ap (λ k. bit_at faults k) same) in
+    grind (arith, differs 0 zero, differs 2 two, differs 3 three, differs 7 seven)
 
 -- the test of fault bits
 fault_bits : (faults : ℕ) → are_some_fault_bits faults ≡ true → (faults ≢ 0) × AreFaultBits faults
 fault_bits faults test = grind (arith, nat_tests, set_bit)
 
+clear_bit : (faults bit : ℕ) → AreFaultBits faults → bit < 8 → (IsFaultBit bit → ⊥) → bit_at faults bit ≡ 0
+clear_bit faults bit are small other =
+    let not_one : bit_at faults bit ≢ 1 = λ set. other (are.only bit small set) in omega (arith, bit_at-lt faults bit)
+
 fault_bits_tested : (faults : ℕ) → faults ≢ 0 → AreFaultBits faults → are_some_fault_bits faults ≡ true
 fault_bits_tested faults some are =
-    let unset : (bit : ℕ) → bit < 8 → (IsFaultBit bit → ⊥) → bit_at faults bit ≡ 0 =
-    λ bit small no. let not_one : bit_at faults bit ≢ 1 = λ e. no (are.only bit small e) in omega (arith, bit_at-lt faults bit) in
-    let zero = unset 0 (omega arith) (λ is. grind arith) in
-    let two = unset 2 (omega arith) (λ is. grind arith) in
-    let three = unset 3 (omega arith) (λ is. grind arith) in
-    let seven = unset 7 (omega arith) (λ is. grind arith) in
-    grind (arith, nat_tests)
+    grind (arith, nat_tests, clear_bit)
 
 -- the test of an item
 valid_tested : (item : Item) → IsValidItem item → is_valid_item item ≡ true
 valid_tested (Plain high low) valid = grind (arith)
 valid_tested (Faulty high low fault_high fault_low) valid = grind (arith, fault_bits_tested)
 
-all_five : (a b c d e : Bool) → (a && b && c && d && e) ≡ true → (a ≡ true) × (b ≡ true) × (c ≡ true) × (d ≡ true) × (e ≡ true)
-all_five a b c d e all = grind arith
+-- and what it says
+and_both : (a b : Bool) → (a && b) ≡ true → (a ≡ true) × (b ≡ true)
+and_both a b both = grind arith
 
 valid : (item : Item) → is_valid_item item ≡ true → IsValidItem item
 valid (Plain high low) test = grind (arith)
-valid (Faulty high low fault_high fault_low) test =
-    let all = all_five (is_hex_digit high) (is_hex_digit low) (is_hex_digit fault_high) (is_hex_digit fault_low) _ test in
-    let bits = fault_bits (byte_of fault_high fault_low) all.4 in
-    ((all.0, all.1), (all.2, all.3), bits.0, bits.1)
+valid (Faulty high low fault_high fault_low) test = grind (arith, and_both, fault_bits)
 
 -- characters after an item that begins a text
 pub items_of-item : (text : List ℕ) (item : Item) (tail : List ℕ) → BeginsWithItem text item tail

@@ -1,7 +1,7 @@
 use Rattle.std.proofs.Common.{◌≡◌, ◌≢◌, ◌≤◌, ℕ, List, length, [], ◌∷◌, get_or, refl, sym, ap, ◌∙◌, subst, arith}
 use Rattle.std.proofs.lemmas.Bool.{iff_false}
 use Rattle.hart_frame.specs.heard.Character.{AreFaultBits, Character}
-use Rattle.hart_line.specs.script.Items.{AreDigits, BeginsAsItem, byte_of, Faulty, NoItemBegins, Plain}
+use Rattle.hart_line.specs.script.Items.{AreDigits, BeginsAsItem, byte_of, EndsBefore, Faulty, NoItemBegins, Plain}
 use Rattle.hart_line.proofs.script.items.leading_item.Goals as goal
 
 -- an item without fault bits begins a text
@@ -10,20 +10,17 @@ begins_as_plain : (text : List ℕ) (char : Character) (byte : ℕ) → 2 ≤ le
     → BeginsAsItem text char 2
 begins_as_plain [] char byte some d b n e = absurd (omega arith)
 begins_as_plain (x ∷ []) char byte some d b n e = absurd (omega arith)
-begins_as_plain (x ∷ y ∷ []) char byte some d b n e = record {
+begins_as_plain (x ∷ y ∷ tail) char byte some d b n e = record {
   item = Plain x y;
-  tail = [];
-  begins = record { valid = d; spelled = refl; ends = tt };
+  tail = tail;
+  begins = record { valid = d; spelled = refl; ends = ends tail n };
   long = refl;
   means = cc;
 }
-begins_as_plain (x ∷ y ∷ z ∷ text) char byte some d b n e = record {
-  item = Plain x y;
-  tail = z ∷ text;
-  begins = record { valid = d; spelled = refl; ends = n };
-  long = refl;
-  means = cc;
-}
+  where
+    ends : (rest : List ℕ) → (get_or rest 0 0 ≡ 33 → ⊥) → EndsBefore rest (Plain x y)
+    ends [] other = tt
+    ends (next ∷ rest) other = other
 
 -- an item with fault bits begins a text
 begins_as_faulty : (text : List ℕ) (char : Character) (byte faults : ℕ) → 5 ≤ length text → AreDigits (get_or text 0 0) (get_or text 1 0)
@@ -43,25 +40,14 @@ begins_as_faulty (x ∷ y ∷ m ∷ v ∷ w ∷ text) char byte faults some d b 
   means = cc;
 }
 
--- past the end of a text stands no `!`
-zero_is_no_mark : (n : ℕ) → n ≡ 33 → n ≡ 0 → ⊥
-zero_is_no_mark n e z = omega arith
-
 -- no item begins if a `!` stands after two digits, and no fault bits after it
 no_item_begins : (text : List ℕ) → get_or text 2 0 ≡ 33
     → (5 ≤ length text → AreDigits (get_or text 3 0) (get_or text 4 0) → byte_of (get_or text 3 0) (get_or text 4 0) ≢ 0
     → AreFaultBits (byte_of (get_or text 3 0) (get_or text 4 0)) → ⊥)
     → NoItemBegins text
-no_item_begins text m f (Plain x y) [] h =
-    absurd (zero_is_no_mark (get_or (x ∷ y ∷ []) 2 0) (ap (λ (xs : List ℕ). get_or xs 2 0) (sym h.spelled) ∙ m) refl)
-no_item_begins text m f (Plain x y) (z ∷ tail) h = h.ends (ap (λ (xs : List ℕ). get_or xs 2 0) (sym h.spelled) ∙ m)
-no_item_begins text m f (Faulty x y v w) tail h =
-    let e = h.spelled in
-    let long : 5 ≤ length text = subst (λ (xs : List ℕ). 5 ≤ length xs) (sym e) (omega arith) in
-    f long
-    (subst (λ (zs : List ℕ). AreDigits (get_or zs 3 0) (get_or zs 4 0)) (sym e) h.valid.1)
-    (subst (λ (zs : List ℕ). byte_of (get_or zs 3 0) (get_or zs 4 0) ≢ 0) (sym e) h.valid.2)
-    (subst (λ (zs : List ℕ). AreFaultBits (byte_of (get_or zs 3 0) (get_or zs 4 0))) (sym e) h.valid.3)
+no_item_begins text m f (Plain x y) [] h = let mark = rw h.spelled at m in omega arith
+no_item_begins text m f (Plain x y) (z ∷ tail) h = h.ends (rw h.spelled at m)
+no_item_begins text m f (Faulty x y v w) tail h = (rw h.spelled at f) (omega arith) h.valid.1 h.valid.2 h.valid.3
 
 pub returns-then-not-gives_faults : goal.returns-then-not-gives_faults
 returns-then-not-gives_faults c =
