@@ -40,11 +40,14 @@ pub fn next_word(line: &[u8]) -> Option<(&[u8], &[u8])>
     ensures { MatchOption result (words_of line.now ≡ [])
         (λ taken. words_of line.now ≡ (taken.0).now ∷ words_of (taken.1).now) }
 {
-    let rest = &line[leading_blanks(line)..];
-    if rest.is_empty() {
-        return None;
+    let mut rest = line;
+    while let [first, tail @ ..] = rest {
+        if !is_blank(*first) {
+            return Some(rest.split_at(len_before_blank(rest)));
+        }
+        rest = tail;
     }
-    Some(rest.split_at(len_before_blank(rest)))
+    None
 }
 
 /// The word of a line that has no other, or `None` if it has none or several.
@@ -60,16 +63,6 @@ pub fn has_no_word(line: &[u8]) -> bool
     ensures { IsTrue result ↔ (words_of line.now ≡ []) }
 {
     next_word(line).is_none()
-}
-
-/// The number of blanks that a line begins with.
-fn leading_blanks(line: &[u8]) -> usize
-    ensures place { result ≡ position_or_len (λ byte. not (is_blank byte)) line.now }
-    ensures within { result ≤ length line.now }
-{
-    line.iter()
-        .position(|byte| !is_blank(*byte))
-        .unwrap_or(line.len())
 }
 
 /// The number of bytes before the first blank.
