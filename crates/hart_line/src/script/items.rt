@@ -64,12 +64,12 @@ pub(crate) fn read_items(alloc: Global, word: &[u8]) -> Result<CharList, RowFaul
     }
     // An item has two bytes at least.
     let mut chars = Filling::with_room(alloc, word.len() / 2)?;
-    let mut place = 0;
-    while let Some(lead) = leading_item(&word[place..]) {
+    let mut rest = word;
+    while let Some(lead) = leading_item(rest) {
         chars.push(lead.char);
-        place += lead.len;
+        rest = &rest[lead.len..];
     }
-    if place < word.len() {
+    if !rest.is_empty() {
         return Err(RowFault::Bad);
     }
     Ok(CharList::new(chars.finish()))

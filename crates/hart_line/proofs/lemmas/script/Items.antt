@@ -6,7 +6,7 @@ use Rattle.std.specs.Option.{option_map}
 use Rattle.std.specs.Prelude.{◌==◌, ◌&&◌}
 use Rattle.std.proofs.lemmas.Bool.{eqb-false, eqb-true, false_from_ne_true}
 use Rattle.std.proofs.lemmas.Bool.Decides.{nat_tests}
-use Rattle.std.proofs.lemmas.List.{append-nil, append_assoc, drop-drop, length-append, length-drop, nil_from_length, take_rest}
+use Rattle.std.proofs.lemmas.List.{append-nil, append_assoc, length-append, take_rest}
 use Rattle.std.proofs.lemmas.Nat.Bits.{bit_at-lt}
 use Rattle.std.proofs.Math.Seq.{drop-append_seam}
 use Rattle.hart_frame.specs.heard.Character.{AreFaultBits, Character, IsFaultBit}
@@ -110,42 +110,37 @@ item_spelling-length : (item : Item) → 2 ≤ length (item_spelling item)
 item_spelling-length (Plain x y) = omega arith
 item_spelling-length (Faulty x y v w) = omega arith
 
--- a word is read one item further
-pub item_read : (text : List ℕ) (chars new : List Character) (place : ℕ) (char : Character) (len : ℕ) → place ≤ length text
-    → ReadsTo text chars (drop place text) → BeginsAsItem (take (length text - place) (drop place text)) char len
-    → new ≡ chars ++ char ∷ [] → (2 ≤ len) × (place + len ≤ length text) × ReadsTo text new (drop (place + len) text)
-item_read text chars new place char len within reads lead pushed =
-    let begins = rw (take_rest text place) at lead.begins in
+-- a text is read one item further
+pub item_read : (text : List ℕ) (chars new : List Character) (rest : List ℕ) (char : Character) (len : ℕ) → ReadsTo text chars rest
+    → BeginsAsItem rest char len → new ≡ chars ++ char ∷ []
+    → (2 ≤ len) × (len + length (take (length rest - len) (drop len rest)) ≡ length rest)
+    × ReadsTo text new (take (length rest - len) (drop len rest))
+item_read text chars new rest char len reads lead pushed =
     let spelling = item_spelling lead.item in
-    let long = ap (λ (xs : List ℕ). length xs) begins.spelled ∙ length-append spelling lead.tail in
-    let tail : drop (place + len) text ≡ lead.tail =
-    ap (λ (n : ℕ). drop (place + n) text) (sym lead.long) ∙ sym (drop-drop (length spelling) place text)
-    ∙ ap (λ (xs : List ℕ). drop (length spelling) xs) begins.spelled ∙ drop-append_seam spelling lead.tail in (
-      omega (arith, length-drop place text, item_spelling-length lead.item, lead.long),
-      omega (arith, length-drop place text, lead.long),
+    let long = ap (λ (xs : List ℕ). length xs) lead.begins.spelled ∙ length-append spelling lead.tail in
+    let tail : take (length rest - len) (drop len rest) ≡ lead.tail =
+    take_rest rest len ∙ ap (λ (n : ℕ). drop n rest) (sym lead.long)
+    ∙ ap (λ (xs : List ℕ). drop (length spelling) xs) lead.begins.spelled ∙ drop-append_seam spelling lead.tail in (
+      omega (arith, item_spelling-length lead.item, lead.long),
+      rw tail (omega (arith, lead.long)),
       rw (tail, pushed, ← lead.means)
-          (reads ∙ ap (λ o. option_map (λ more. chars ++ more) o) (items_of-item (drop place text) lead.item lead.tail begins)
+          (reads ∙ ap (λ o. option_map (λ more. chars ++ more) o) (items_of-item rest lead.item lead.tail lead.begins)
           ∙ map_push chars (item_meaning lead.item) (items_of lead.tail)),
     )
 
--- a word in which no item begins at a place, short of its end, is not items end to end
-pub no_items : (word : List ℕ) (chars : List Character) (place : ℕ) → place < length word → ReadsTo word chars (drop place word)
-    → NoItemBegins (take (length word - place) (drop place word)) → items_of word ≡ None
-no_items word chars place short reads none =
-    reads ∙ ap (λ o. option_map (λ more. chars ++ more) o) (at_rest (drop place word) (omega (arith, length-drop place word))
-    (rw (take_rest word place) at none))
-  where
-    at_rest : (rest : List ℕ) → 0 < length rest → NoItemBegins rest → items_of rest ≡ None
-    at_rest [] some nowhere = absurd (omega arith)
-    at_rest (byte ∷ rest) some nowhere = items_of-none byte rest nowhere
+-- a text that goes on where no item begins is not items end to end
+pub no_items : (text : List ℕ) (chars : List Character) (rest : List ℕ) → (length rest ≡ 0 → ⊥) → ReadsTo text chars rest
+    → NoItemBegins rest → items_of text ≡ None
+no_items text chars [] some reads nowhere = absurd (some refl)
+no_items text chars (byte ∷ rest) some reads nowhere =
+    reads ∙ ap (λ o. option_map (λ more. chars ++ more) o) (items_of-none byte rest nowhere)
 
--- a word that is read to its end has the characters that were read
-pub all_items : (word : List ℕ) (chars : List Character) (place : ℕ) → length word ≤ place → ReadsTo word chars (drop place word)
-    → items_of word ≡ Some chars
+-- a text that is read to its end has the characters that were read
+pub all_items : (text : List ℕ) (chars : List Character) (rest : List ℕ) → length rest ≡ 0 → ReadsTo text chars rest
+    → items_of text ≡ Some chars
 unfolding items_of
-all_items word chars place ended reads =
-    let rest : drop place word ≡ [] = nil_from_length (drop place word) (omega (arith, length-drop place word)) in
-    reads ∙ ap (λ xs. option_map (λ more. chars ++ more) (items_of xs)) rest ∙ ap Some (append-nil chars)
+all_items text chars [] ended reads = reads ∙ ap Some (append-nil chars)
+all_items text chars (byte ∷ rest) ended reads = absurd (omega arith)
 
 -- a word with a byte has the characters of its items
 pub word_items : (word : List ℕ) → (length word ≡ 0 → ⊥) → items_word_of word ≡ items_of word

@@ -7,32 +7,31 @@ use Rattle.hart_line.proofs.lemmas.script.Items.{all_items, item_read, no_items,
 use Rattle.hart_line.proofs.script.items.read_items.Goals as goal
 
 pub loop-lead-init : goal.loop-lead-init
-loop-lead-init c = rw c.in_ok-chars.ensures.empty
-    (record { within = omega arith; few = omega arith; room = refl; reads = ReadsTo-nothing c.args.word.now })
+loop-lead-init c =
+    rw c.in_ok-chars.ensures.empty (record { few = omega arith; room = refl; reads = ReadsTo-nothing c.args.word.now })
 
 pub push-requires : goal.push-requires
 push-requires c =
-    let read = item_read _ _ _ _ _ _ c.loop-lead.invariant.within c.loop-lead.invariant.reads c.in-Some.ensures refl in
+    let read = item_read _ _ _ _ _ _ c.loop-lead.invariant.reads c.in-Some.ensures refl in
     rw c.loop-lead.invariant.room (omega (arith, read.0, read.1, c.loop-lead.invariant.few))
 
 pub loop-lead-preserved : goal.loop-lead-preserved
 loop-lead-preserved c =
-    let read = item_read _ _ _ _ _ _ c.loop-lead.invariant.within c.loop-lead.invariant.reads c.in-Some.ensures
+    let read = item_read _ _ _ _ _ _ c.loop-lead.invariant.reads c.in-Some.ensures
     (ap (λ (list : Filled Character). list.items) c.push.ensures) in
     record {
-      within = read.1;
       few = rw c.push.ensures
-          (omega (arith, length_push c.loop-lead.chars.items c.in-Some.lead.char, read.0, c.loop-lead.invariant.few));
+          (omega (arith, length_push c.loop-lead.chars.items c.in-Some.lead.char, read.0, read.1, c.loop-lead.invariant.few));
       room = rw c.push.ensures c.loop-lead.invariant.room;
       reads = read.2;
     }
 
-pub returns-then-place-word : goal.returns-then-place-word
-returns-then-place-word c =
+pub returns-then-not-is_empty : goal.returns-then-not-is_empty
+returns-then-not-is_empty c =
     word_items c.args.word.now (grind (arith, nat_tests, c.is_empty.ensures))
-    ∙ no_items _ _ _ c.if-place-word.true c.loop-lead.invariant.reads c.in_default.ensures
+    ∙ no_items _ _ _ (grind (arith, nat_tests, c.is_empty-2.ensures)) c.loop-lead.invariant.reads c.in_default.ensures
 
 pub returns : goal.returns
 returns c =
     rw (c.new.ensures, c.finish.ensures) (word_items c.args.word.now (grind (arith, nat_tests, c.is_empty.ensures))
-    ∙ all_items _ _ _ c.if-place-word.false c.loop-lead.invariant.reads)
+    ∙ all_items _ _ _ (grind (arith, nat_tests, c.is_empty-2.ensures)) c.loop-lead.invariant.reads)
