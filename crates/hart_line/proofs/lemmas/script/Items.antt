@@ -1,6 +1,6 @@
 -- Texts that are items end to end.
-use Rattle.std.proofs.Common.{◌≡◌, ◌≢◌, ℕ, ◌+◌, ◌-◌, ◌<◌, ◌≤◌, Bool, true, false, List, [], ◌∷◌, ◌++◌, length, take, drop, Option}
-use Rattle.std.proofs.Common.{None, Some, refl, sym, ap, ◌∙◌, arith}
+use Rattle.std.proofs.Common.{◌≡◌, ◌≢◌, ℕ, ◌+◌, ◌-◌, ◌<◌, ◌≤◌, Bool, true, false, List, [], ◌∷◌, ◌++◌, length, take, drop, Option, None}
+use Rattle.std.proofs.Common.{Some, refl, sym, ap, ◌∙◌, arith}
 use Rattle.std.specs.Int.{bit_at}
 use Rattle.std.specs.Option.{option_map}
 use Rattle.std.specs.Prelude.{◌==◌, ◌&&◌}
@@ -10,9 +10,8 @@ use Rattle.std.proofs.lemmas.List.{append-nil, append_assoc, length-append, take
 use Rattle.std.proofs.lemmas.Nat.Bits.{bit_at-lt}
 use Rattle.std.proofs.Math.Seq.{drop-append_seam}
 use Rattle.hart_frame.specs.heard.Character.{AreFaultBits, Character, IsFaultBit}
-use Rattle.hart_line.specs.script.Items.{are_some_fault_bits, BeginsAsItem, BeginsWithItem, EndsBefore, Faulty, is_valid_item}
-use Rattle.hart_line.specs.script.Items.{IsValidItem, Item, item_before, item_meaning, item_spelling, items_of, items_word_of}
-use Rattle.hart_line.specs.script.Items.{NoItemBegins, Plain}
+use Rattle.hart_line.specs.script.Items.{are_some_fault_bits, BeginsAsItem, BeginsWithItem, EndsBefore, Faulty, is_valid_item, IsValidItem}
+use Rattle.hart_line.specs.script.Items.{Item, item_before, item_meaning, item_spelling, items_of, items_word_of, NoItemBegins, Plain}
 
 -- a bit that is set is none of those that are not
 set_bit : (faults bit : ℕ) → bit < 8 → bit_at faults bit ≡ 1 → bit_at faults 0 ≡ 0 → bit_at faults 2 ≡ 0 → bit_at faults 3 ≡ 0

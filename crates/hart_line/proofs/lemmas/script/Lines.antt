@@ -1,6 +1,6 @@
 -- The first word of a line.
-use Rattle.std.proofs.Common.{◌≡◌, ℕ, ◌+◌, ◌<◌, ◌≤◌, suc, Bool, true, false, cond, ltb, List, [], ◌∷◌, get_or, length, take, drop}
-use Rattle.std.proofs.Common.{Option, Some, None, not, unwrap_or, refl, ap, ◌∙◌, arith}
+use Rattle.std.proofs.Common.{◌≡◌, ℕ, ◌+◌, ◌<◌, ◌≤◌, suc, Bool, true, false, cond, ltb, List, [], ◌∷◌, get_or, length, take, drop, Option}
+use Rattle.std.proofs.Common.{Some, None, not, unwrap_or, refl, ap, ◌∙◌, arith}
 use Rattle.std.specs.List.{filter, onto_first, position_or_len, slice_split}
 use Rattle.std.proofs.lemmas.Bool.Decides.{nat_tests}
 use Rattle.std.proofs.lemmas.List.Sums.{prefix_len-le-length}
@@ -59,4 +59,4 @@ word_first line word tail len some no_blank counted long before after =
     let begins = first_byte line some no_blank in
     let split : slice_split is_blank line ≡ word ∷ part.others = rw (before, counted) part.split in
     let more : filter has_bytes part.others ≡ words_of tail = rw (after, counted) part.rest in
-    ap (λ (ws : List (List ℕ)). filter has_bytes ws) split ∙ kept word part.others (omega arith) ∙ ap (λ (ws : List (List ℕ)). word ∷ ws) more
+    ap (λ ws. filter has_bytes ws) split ∙ kept word part.others (omega arith) ∙ ap (λ ws. word ∷ ws) more

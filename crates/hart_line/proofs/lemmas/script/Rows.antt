@@ -1,9 +1,9 @@
 -- What the words of a line say.
-use Rattle.std.proofs.Common.{◌≡◌, ℕ, zero, suc, ◌<◌, List, [], ◌∷◌, get_or, length, Option, None, Err, arith, refl, subst, sym}
+use Rattle.std.proofs.Common.{◌≡◌, ℕ, zero, suc, ◌<◌, List, [], ◌∷◌, get_or, length, Option, None, Err, arith, refl}
 use Rattle.std.specs.Str.{bytes_eq}
 use Rattle.std.proofs.lemmas.Bool.{false_from_ne_true}
 use Rattle.std.proofs.lemmas.Slice.Eq.{bytes_eq-Decides}
-use Rattle.hart_line.specs.script.Rows.{IsNeededByWords, leg_of, ReadsWords, turn_of}
+use Rattle.hart_line.specs.script.Rows.{IsNeededByWords, leg_of, ReadsWords}
 use Rattle.hart_line.specs.script.Words.{named_in}
 use Rattle.hart_line.specs.declared.event.LineEvent.{LineEvent}
 use Rattle.hart_line.specs.declared.script.rows.RowFault.{RowFault}
@@ -27,21 +27,9 @@ needed_by_words : (words : List (List ℕ)) (k : ℕ) (word : List ℕ) (items :
 needed_by_words words k word items short here (zero, this, one, same, half) = (k, word, short, here, rw same half)
 needed_by_words words k word items short here (suc i, this, one, same, half) = absurd (omega (arith, one))
 
--- a turn has the fault of a leg
-leg_fault : (words : List (List ℕ)) (k : ℕ) (word : List ℕ) (fault : RowFault) (said : Option LineEvent)
+-- a line has the fault of a leg
+pub leg_fault : (words : List (List ℕ)) (k : ℕ) (word : List ℕ) (fault : RowFault) (said : Option LineEvent)
     → k < length words → get_or words k word ≡ word → (leg_of word ≡ None → said ≡ None)
     → ReadsWords (word ∷ []) (leg_of word) (Err fault) → ReadsWords words said (Err fault)
 leg_fault words k word Bad said short here none reads = none reads
 leg_fault words k word (Memory room) said short here none reads = needed_by_words words k word room.items short here reads
-
-pub up_fault : (row : List ℕ) (words : List (List ℕ)) (who up down : List ℕ) (fault : RowFault) → words ≡ who ∷ up ∷ down ∷ []
-    → ReadsWords (up ∷ []) (leg_of up) (Err fault) → ReadsWords (row ∷ words) (turn_of words) (Err fault)
-up_fault row words who up down fault same reads =
-    subst (λ ws. ReadsWords (row ∷ ws) (turn_of ws) (Err fault)) (sym same)
-    (leg_fault (row ∷ who ∷ up ∷ down ∷ []) 2 up fault (turn_of (who ∷ up ∷ down ∷ [])) (omega arith) refl (λ none. grind arith) reads)
-
-pub down_fault : (row : List ℕ) (words : List (List ℕ)) (who up down : List ℕ) (fault : RowFault) → words ≡ who ∷ up ∷ down ∷ []
-    → ReadsWords (down ∷ []) (leg_of down) (Err fault) → ReadsWords (row ∷ words) (turn_of words) (Err fault)
-down_fault row words who up down fault same reads =
-    subst (λ ws. ReadsWords (row ∷ ws) (turn_of ws) (Err fault)) (sym same)
-    (leg_fault (row ∷ who ∷ up ∷ down ∷ []) 3 down fault (turn_of (who ∷ up ∷ down ∷ [])) (omega arith) refl (λ none. grind arith) reads)

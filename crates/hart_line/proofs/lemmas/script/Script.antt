@@ -1,7 +1,6 @@
 -- Scripts: what the lines of a text say, line by line.
 use Rattle.std.proofs.Common.{◌≡◌, ℕ, ◌+◌, ◌<◌, suc, Bool, true, false, cond, List, [], ◌∷◌, ◌++◌, get_or, length, Option, None, Some, Ok}
-use Rattle.std.proofs.Common.{Err}
-use Rattle.std.proofs.Common.{inr, refl, sym, ap, ◌∙◌, drop, subst, take, arith}
+use Rattle.std.proofs.Common.{Err, inr, refl, sym, ap, ◌∙◌, drop, subst, take, arith}
 use Rattle.std.specs.Prelude.{IsTrue, is_none, ◌==◌}
 use Rattle.std.specs.List.{cons_option, position_from, slice_split}
 use Rattle.std.specs.Option.{option_or, option_to_list}
@@ -12,8 +11,7 @@ use Rattle.std.proofs.lemmas.List.Elements.{filter_map-append}
 use Rattle.std.proofs.Math.Seq.{drop-cons}
 use Rattle.hart_line.specs.script.Lines.{lines_of, words_of}
 use Rattle.hart_line.specs.script.Rows.{AreEvents, event_of, first_bad_line, HasFirstBadLine, is_bad_line, is_skipped, IsScript}
-use Rattle.hart_line.specs.script.Rows.{IsScriptFault}
-use Rattle.hart_line.specs.script.Rows.{lines_in_words, SaysLine}
+use Rattle.hart_line.specs.script.Rows.{IsScriptFault, lines_in_words, SaysLine}
 use Rattle.hart_line.specs.declared.event.LineEvent.{LineEvent}
 use Rattle.hart_line.specs.declared.fault.LineFault.{LineFault}
 use Rattle.hart_line.specs.declared.fault.LineFault.TheVariants.{BadLine, Memory, Undetected}
