@@ -21,32 +21,34 @@ set_bit faults bit small set zero two three seven =
     λ other clear same. omega (arith, set, clear, ap (λ k. bit_at faults k) same) in
     grind (arith, differs 0 zero, differs 2 two, differs 3 three, differs 7 seven)
 
--- the test of fault bits
+-- what passes the test is fault bits
 fault_bits : (faults : ℕ) → are_some_fault_bits faults ≡ true → (faults ≢ 0) × AreFaultBits faults
 fault_bits faults test = grind (arith, nat_tests, set_bit)
 
+-- a bit that is none of theirs is not set in fault bits
 clear_bit : (faults bit : ℕ) → AreFaultBits faults → bit < 8 → (IsFaultBit bit → ⊥) → bit_at faults bit ≡ 0
 clear_bit faults bit are small other =
     let not_one : bit_at faults bit ≢ 1 = λ set. other (are.only bit small set) in omega (arith, bit_at-lt faults bit)
 
+-- and fault bits pass the test
 fault_bits_tested : (faults : ℕ) → faults ≢ 0 → AreFaultBits faults → are_some_fault_bits faults ≡ true
-fault_bits_tested faults some are =
-    grind (arith, nat_tests, clear_bit)
+fault_bits_tested faults some are = grind (arith, nat_tests, clear_bit)
 
--- the test of an item
+-- a valid item passes its test
 valid_tested : (item : Item) → IsValidItem item → is_valid_item item ≡ true
 valid_tested (Plain high low) valid = grind (arith)
 valid_tested (Faulty high low fault_high fault_low) valid = grind (arith, fault_bits_tested)
 
--- and what it says
+-- both of two tests pass if they pass together
 and_both : (a b : Bool) → (a && b) ≡ true → (a ≡ true) × (b ≡ true)
 and_both a b both = grind arith
 
+-- an item that passes the test is valid
 valid : (item : Item) → is_valid_item item ≡ true → IsValidItem item
 valid (Plain high low) test = grind (arith)
 valid (Faulty high low fault_high fault_low) test = grind (arith, and_both, fault_bits)
 
--- characters after an item that begins a text
+-- the characters of a text that begins with an item are that of the item and those of the rest
 pub items_of-item : (text : List ℕ) (item : Item) (tail : List ℕ) → BeginsWithItem text item tail
     → items_of text ≡ option_map (λ more. item_meaning item ∷ more) (items_of tail)
 unfolding items_of
@@ -67,6 +69,7 @@ invalid text item tail chars none spelled ends =
     false_from_ne_true (is_valid_item item) (λ test. none item tail (record { valid = valid item test; spelled = spelled; ends = ends })) in
     rw no refl
 
+-- an item before no characters gives none
 before_none : (item : Item) → item_before item None ≡ None
 before_none item = grind arith
 
@@ -92,13 +95,16 @@ items_of-none byte (low ∷ a ∷ b ∷ rest) none = at_mark rest (a == 33) refl
 abbrev pub ReadsTo : List ℕ → List Character → List ℕ → Type 0
 ReadsTo text chars rest = items_of text ≡ option_map (λ more. chars ++ more) (items_of rest)
 
+-- no characters before others are these
 map_nil : (o : Option (List Character)) → o ≡ option_map (λ more. [] ++ more) o
 map_nil None = refl
 map_nil (Some chars) = refl
 
+-- at its beginning nothing of a text is read
 pub ReadsTo-nothing : (text : List ℕ) → ReadsTo text [] text
 ReadsTo-nothing text = map_nil (items_of text)
 
+-- characters, one more and others are one list
 map_push : (chars : List Character) (char : Character) (o : Option (List Character))
     → option_map (λ more. chars ++ more) (option_map (λ more. char ∷ more) o) ≡ option_map (λ more. (chars ++ char ∷ []) ++ more) o
 map_push chars char None = refl

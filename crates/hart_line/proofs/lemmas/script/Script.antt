@@ -48,9 +48,11 @@ pub record StandsAt (text : List ℕ) (n : ℕ) (words : List (List ℕ)) : Type
   pub within : n < length (lines_in_words text)
   pub is : get_or (lines_in_words text) n words ≡ words
 
+-- the parts of a text between line feeds
 abbrev pub parts_of : List ℕ → List (List ℕ)
 parts_of text = slice_split (λ byte. byte == 10) text
 
+-- each part has its line
 pub stands_at : (text : List ℕ) (n : ℕ) (part line : List ℕ) → n < length (parts_of text) → part ≡ get_or (parts_of text) n part
     → line ≡ strip_carriage_return part → StandsAt text n (words_of line)
 stands_at text n part line short is stripped =
@@ -76,6 +78,7 @@ AreEvents-push lines events words said before good says = (
     one None = refl
     one (Some event) = refl
 
+-- one line of a text more
 pub AreEvents-more : (text : List ℕ) (n m number : ℕ) (words : List (List ℕ)) (events new : List LineEvent) (said : Option LineEvent)
     → StandsAt text n words → m ≡ n + 1 → AreEvents (take n (lines_in_words text)) events → SaysLine number words (Ok said)
     → new ≡ events ++ option_to_list said → AreEvents (take m (lines_in_words text)) new
