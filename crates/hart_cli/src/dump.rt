@@ -11,6 +11,7 @@ ghost use Rattle.hart_cli.specs.declared.fault.CliFault.{CliFault};
 use crate::dump::frame_lines::FrameLines;
 use crate::fault::CliFault;
 use crate::input::{INPUT_LIMIT, InputEnd, PORTION_LEN, read_portion};
+use crate::output::write_all;
 use crate::stream::{Failed, Sink, Source};
 use crate::text::items::{inputs_are_unambiguous, may_begin};
 use hart_frame::frames_are_unambiguous;
@@ -52,7 +53,8 @@ pub fn dump<R: Source, W: Sink>(
 {
     let mut frames = FrameLines::new();
     let fault = scan_input(reader, writer, &mut frames)?;
-    frames.finish(writer)?;
+    frames.finish();
+    write_all(writer, frames.lines.as_slice())?;
     match fault {
         Some(fault) => Err(fault),
         None => Ok(()),
@@ -91,12 +93,12 @@ fn scan_input<R: Source, W: Sink>(
     let mut ahead = Ahead::new();
     let mut place = 0;
     loop {
-        frames.write(writer)?;
         let room = INPUT_LIMIT - place - ahead.len();
         let end = read_ahead(reader, &mut buffer, &mut ahead, room);
-        let scanned = frames.scan_text(ahead.as_slice(), writer)?;
-        place += scanned;
-        let rest = &ahead.as_slice()[scanned..];
+        let rest = frames.scan_text(ahead.as_slice());
+        write_all(writer, frames.lines.as_slice())?;
+        frames.lines.clear();
+        place += ahead.len() - rest.len();
         match next_step(end, rest, place) {
             NextStep::Stop(fault) => return Ok(fault),
             NextStep::ReadOn => {
@@ -126,12 +128,14 @@ fn next_step(end: Option<InputEnd>, rest: &[u8], place: usize) -> NextStep
 {
     let bad_hex = NextStep::Stop(Some(CliFault::BadHex { place }));
     match end {
+        None if may_begin(rest) => NextStep::ReadOn,
+        None => bad_hex,
         Some(InputEnd::Ended) if rest.is_empty() => NextStep::Stop(None),
         Some(InputEnd::Ended) => bad_hex,
-        _ if !may_begin(rest) => bad_hex,
-        None => NextStep::ReadOn,
+        // Nothing was read, so that a piece may begin as it might before.
         Some(InputEnd::ReadFailed) => NextStep::Stop(Some(CliFault::Read)),
-        Some(InputEnd::TooLong) => NextStep::Stop(Some(CliFault::TooLong)),
+        Some(InputEnd::TooLong) if may_begin(rest) => NextStep::Stop(Some(CliFault::TooLong)),
+        Some(InputEnd::TooLong) => bad_hex,
     }
 }
 

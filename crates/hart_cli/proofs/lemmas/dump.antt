@@ -1,6 +1,6 @@
 -- `hart dump`.
 pub mod Dump
-pub mod Text
 pub mod FrameLines
-pub mod InTime
+pub mod Moves
 pub mod ScanInput
+pub mod Writes

@@ -1,5 +1,5 @@
 -- The lines of `hart dump` (own profile).
-use Rattle.std.specs.Prelude.{ℕ, ◌/◌, ◌%◌, ◌==◌, ◌&&◌, Bool, true, false, if◌then◌else◌, List, [], ◌∷◌, codes, decimal}
+use Rattle.std.specs.Prelude.{ℕ, ◌+◌, ◌*◌, ◌/◌, ◌%◌, ◌==◌, ◌&&◌, Bool, true, false, if◌then◌else◌, List, [], ◌∷◌, codes, decimal, length}
 use Rattle.std.specs.List.{flat_map}
 use Rattle.hex.specs.Hex.{encode_upper}
 use Rattle.hart_values.specs.address.DeviceNumbers.{DeviceNumbers}
@@ -48,6 +48,10 @@ dump_line found = line_of (
     ∷ address_word found.frame.address ∷ bytes_word found.frame.expansion
     ∷ decimal found.frame.command ∷ bytes_word found.frame.payload ∷ []
     )
+
+-- The line of a frame has at most so many bytes if its places are numbers of 64 bits.
+abbrev pub line_room : Found → ℕ
+line_room found = 69 + 2 * (length found.frame.expansion + length found.frame.payload)
 
 -- The text of frames is a line for each.
 abbrev pub dump_text : List Found → List ℕ

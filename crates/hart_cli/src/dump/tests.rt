@@ -160,8 +160,8 @@ fn lines_go_out_together(rt: HostRuntime) -> Result<(), Fail> {
     let lines = lines_of(alloc, 1170)?;
     let reader = Tape::new(input.as_bytes(), After::End, ALL);
     let run = run_dump(alloc, reader, Trickle::new(alloc, None, ALL));
-    // As many lines as there is room for are kept until they are written.
-    assert!(rt; run.gave(None, lines.as_str()) && run.writer.writes() == 2);
+    // The lines of a portion are kept until all of it is scanned.
+    assert!(rt; run.gave(None, lines.as_str()) && run.writer.writes() == 1);
     assert!(rt; lines.len() == 31_274);
     Ok(())
 }

@@ -1,7 +1,7 @@
 //! The line that `hart dump` writes for a frame.
 ghost use Rattle.std.specs.Prelude.{◌≡◌, ◌∷◌, [], ◌++◌, ◌+◌, ◌≤◌, decimal, length};
 ghost use Rattle.hart_frame.specs.scan.View.{found_of};
-ghost use Rattle.hart_cli.specs.dump.Text.{address_word, burst_word, device_digits, dump_line, kind_word, master_word};
+ghost use Rattle.hart_cli.specs.dump.Text.{address_word, burst_word, device_digits, dump_line, kind_word, line_room, master_word};
 
 use crate::text::hex_text::push_hex;
 use crate::text::words::{push_hex_word, push_word};
@@ -11,8 +11,9 @@ use itoa::Buffer;
 
 /// Adds the line of a frame: its two places, then its parts, one space between two of them, and a line feed.
 pub fn push_frame_line<const N: usize>(lines: &mut ByteList<N>, found: &FoundView<'_>)
-    requires { length lines.old + 583 ≤ N }
-    ensures { lines.new ≡ lines.old ++ dump_line (found_of found.now) }
+    requires { length lines.old + line_room (found_of found.now) ≤ N }
+    ensures line { lines.new ≡ lines.old ++ dump_line (found_of found.now) }
+    ensures few { length lines.new ≤ length lines.old + line_room (found_of found.now) }
 {
     let frame = &found.frame;
     push_places(lines, found.start, found.stop);

@@ -5,7 +5,7 @@ use Rattle.std.proofs.lemmas.List.{append-nil, append_assoc, drop-drop, length-a
 use Rattle.hart_frame.specs.heard.Character.{Character}
 use Rattle.hart_cli.specs.text.Items.{BeginsAs, BeginsWith, IsSeparator, IsWholeBefore, Item, meaning, NoPieceBegins, nothing}
 use Rattle.hart_cli.specs.text.Items.{Piece, piece, ReadsUpTo, Separator, spelling}
-use Rattle.hart_line.specs.script.Items.{Faulty, Plain, item_meaning}
+use Rattle.hart_line.specs.script.Items.{Faulty, Plain}
 use Rattle.std.proofs.Math.Seq.{drop-append_seam}
 use Rattle.std.specs.Option.{option_to_list}
 use Rattle.hex.specs.Hex.{is_hex_digit}
@@ -76,28 +76,6 @@ ReadsUpTo-on _ _ _ ys last (piece text first tail chars rest h r) k =
     subst (λ (zs : List Character). ReadsUpTo text zs last) (sym (append_assoc (meaning first) chars ys))
     (piece text first tail (chars ++ ys) last h (ReadsUpTo-on tail chars rest ys last r k))
 
--- a text reads up to its rest and one piece on
-pub ReadsUpTo-piece : (text : List ℕ) (chars : List Character) (rest : List ℕ) (p : Piece) (tail : List ℕ) → ReadsUpTo text chars rest
-    → BeginsWith rest p tail → ReadsUpTo text (chars ++ meaning p) tail
-ReadsUpTo-piece text chars rest p tail r h =
-    ReadsUpTo-on text chars rest (meaning p) tail r
-    (subst (λ (zs : List Character). ReadsUpTo rest zs tail) (append-nil (meaning p)) (piece rest p tail [] tail h (nothing tail)))
-
--- a text that reads as characters reads as the first of them
-pub ReadsUpTo-part : (text : List ℕ) (all xs ys : List Character) (rest : List ℕ) → ReadsUpTo text all rest → all ≡ xs ++ ys
-    → (middle : List ℕ) × ReadsUpTo text xs middle
-ReadsUpTo-part text all [] ys rest h e = (text, nothing text)
-ReadsUpTo-part _ _ (x ∷ xs) ys _ (nothing rest) e = cc e
-ReadsUpTo-part _ _ (x ∷ xs) ys _ (piece text (Separator byte) tail chars rest b r) e =
-    let part = ReadsUpTo-part tail chars (x ∷ xs) ys rest r e in
-    (part.0, piece text (Separator byte) tail (x ∷ xs) part.0 b part.1)
-ReadsUpTo-part _ _ (x ∷ xs) ys _ (piece text (Item item) tail chars rest b r) e =
-    let same : item_meaning item ≡ x = cc in
-    let after : chars ≡ xs ++ ys = cc in
-    let part = ReadsUpTo-part tail chars xs ys rest r after in
-    let Of : Character → Type 0 = λ c. ReadsUpTo text (c ∷ xs) part.0 in
-    (part.0, subst Of same (piece text (Item item) tail xs part.0 b part.1))
-
 -- a text is read on from a place
 pub read_on : (text : List ℕ) (chars more : List Character) (place len : ℕ) → ReadsUpTo text chars (drop place text)
     → ReadsUpTo (take (length text - place) (drop place text)) more (drop len (take (length text - place) (drop place text)))
@@ -143,14 +121,6 @@ one_reading text xs rest ys last h k n m =
     let on = goes_on text xs rest ys last h k m in
     let still = stays rest on.between last on.reads n in
     (sym (on.chars ∙ ap (λ (us : List Character). xs ++ us) still.0 ∙ append-nil xs), still.1)
-
--- what is left is no longer than the text
-pub ReadsUpTo-length : (text : List ℕ) (chars : List Character) (rest : List ℕ) → ReadsUpTo text chars rest → length rest ≤ length text
-ReadsUpTo-length _ _ _ (nothing rest) = omega arith
-ReadsUpTo-length _ _ _ (piece text p tail cs rest h r) =
-    let le = ReadsUpTo-length tail cs rest r in
-    let long = ap (λ (us : List ℕ). length us) h.spelled ∙ length-append (spelling p) tail in
-    omega arith
 
 -- a piece has a length
 spelling-length : (p : Piece) → 0 < length (spelling p)
@@ -202,30 +172,39 @@ char_inside text char x len b is =
     let inside = item_inside text b.tail b.piece x b.begins (b.means ∙ ap (λ (c : Option Character). option_to_list c) is) in
     (omega (arith, few, one), omega (arith, inside, b.long))
 
+-- a piece is read
+pub begins_reads : (text : List ℕ) (char : Option Character) (len : ℕ) → BeginsAs text char len
+    → (0 < len) × (len ≤ length text) × ReadsUpTo text (option_to_list char) (drop len text)
+begins_reads text char len b =
+    let long = ap (λ (xs : List ℕ). length xs) b.begins.spelled ∙ length-append (spelling b.piece) b.tail in
+    let some = spelling-length b.piece in
+    let size = b.long in
+    let tail : drop len text ≡ b.tail =
+    ap (λ (n : ℕ). drop n text) (sym size) ∙ ap (λ (xs : List ℕ). drop (length (spelling b.piece)) xs) b.begins.spelled
+    ∙ drop-append_seam (spelling b.piece) b.tail in (
+      omega arith,
+      omega arith,
+      subst (λ (xs : List ℕ). ReadsUpTo text (option_to_list char) xs) (sym tail)
+          (subst (λ (cs : List Character). ReadsUpTo text cs b.tail) (append-nil (meaning b.piece) ∙ b.means)
+          (piece text b.piece b.tail [] b.tail b.begins (nothing b.tail))),
+    )
+
 -- a text is read one piece further
 pub piece_read : (text : List ℕ) (chars new : List Character) (place : ℕ) (char : Option Character) (len : ℕ) → place ≤ length text
     → ReadsUpTo text chars (drop place text) → BeginsAs (take (length text - place) (drop place text)) char len
     → new ≡ chars ++ option_to_list char → (0 < len) × (place + len ≤ length text) × ReadsUpTo text new (drop (place + len) text)
 piece_read text chars new place char len within r b e =
-    let rest : take (length text - place) (drop place text) ≡ drop place text = take_rest text place in
-    let h : BeginsWith (drop place text) b.piece b.tail = subst (λ (xs : List ℕ). BeginsWith xs b.piece b.tail) rest b.begins in
-    let left = length-drop place text in
-    let long = ap (λ (xs : List ℕ). length xs) h.spelled ∙ length-append (spelling b.piece) b.tail in
-    let some = spelling-length b.piece in
-    let size = b.long in
-    let tail : drop (place + len) text ≡ b.tail =
-    ap (λ (n : ℕ). drop (place + n) text) (sym size) ∙ sym (drop-drop (length (spelling b.piece)) place text)
-    ∙ ap (λ (xs : List ℕ). drop (length (spelling b.piece)) xs) h.spelled ∙ drop-append_seam (spelling b.piece) b.tail in (
-      omega arith,
-      omega arith,
-      subst (λ (xs : List ℕ). ReadsUpTo text new xs) (sym tail)
-          (subst (λ (zs : List Character). ReadsUpTo text zs b.tail) (ap (λ (zs : List Character). chars ++ zs) b.means ∙ sym e)
-          (ReadsUpTo-piece text chars (drop place text) b.piece b.tail r h)),
+    let one = begins_reads (take (length text - place) (drop place text)) char len b in
+    let left = ap (λ (xs : List ℕ). length xs) (take_rest text place) ∙ length-drop place text in (
+      one.0,
+      omega (arith, one.1, left, within),
+      subst (λ (cs : List Character). ReadsUpTo text cs (drop (place + len) text)) (sym e)
+          (read_on text chars (option_to_list char) place len r one.2),
     )
 
--- a text has no more characters than bytes before its rest
+-- a text has two bytes at least before its rest for each character
 pub ReadsUpTo-few : (text : List ℕ) (chars : List Character) (rest : List ℕ) → ReadsUpTo text chars rest
-    → length chars + length rest ≤ length text
+    → 2 * length chars + length rest ≤ length text
 ReadsUpTo-few _ _ _ (nothing rest) = omega arith
 ReadsUpTo-few _ _ _ (piece text p tail chars rest h r) =
     let few = ReadsUpTo-few tail chars rest r in

@@ -1,11 +1,11 @@
-use Rattle.std.proofs.Common.{ap, arith, decimal, length, length-append, rules, ◌∙◌}
+use Rattle.std.proofs.Common.{ap, decimal, ◌∙◌}
 use Rattle.hart_cli.specs.dump.Text.{address_word, burst_word, kind_word, master_word}
 use Rattle.hart_cli.specs.text.Words.{bytes_word}
 use Rattle.hart_cli.proofs.lemmas.text.Words.{nine_words}
 use Rattle.hart_cli.proofs.dump.text.push_frame_line.Goals as goal
 
-pub returns : goal.returns
-returns g c =
+pub returns-clause-line : goal.returns-clause-line
+returns-clause-line g c =
     let all = nine_words c.args.lines.now _ _ _ _ _ _ _ _ (decimal c.args.found.now.start) (decimal c.args.found.now.stop)
     (kind_word c.kind.result) (master_word c.master.result) (burst_word c.burst.result) (address_word c.address.result)
     (bytes_word c.expansion.result.now) c.format.result.now (bytes_word c.payload.result.now)
@@ -21,12 +21,3 @@ returns g c =
       command,
       c.payload.ensures.payload,
     ) at all
-
-pub push_word-requires : goal.push_word-requires
-push_word-requires g c = (search rules, omega (arith, simp length-append at (ap length c.push.ensures)))
-
-pub push_hex_word-requires-2 : goal.push_hex_word-requires-2
-push_hex_word-requires-2 g c = (search rules, omega (arith, simp length-append at (ap length c.push.ensures)))
-
-pub push-requires-2 : goal.push-requires-2
-push-requires-2 g c = (search rules, omega (arith, simp length-append at (ap length c.push.ensures)))

@@ -1,4 +1,4 @@
-use Rattle.std.proofs.Common.{ap, arith, codes, inl, inr, refl, Option, option_map, Some, None, sym, ℕ, ◌≡◌, ◌∙◌, ◌<◌, ◌≤◌, ◌⊎◌, Result, Ok}
+use Rattle.std.proofs.Common.{ap, arith, codes, refl, Option, option_map, Some, None, sym, ℕ, ◌≡◌, ◌∙◌, Result, Ok}
 use Rattle.std.proofs.Common.{Err, unwrap_or, []}
 use Rattle.std.specs.Borrow.{Bor}
 use Rattle.std.specs.Result.{result_ok}

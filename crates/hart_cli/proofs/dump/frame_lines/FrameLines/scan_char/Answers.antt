@@ -1,11 +1,18 @@
-use Rattle.std.proofs.Common.{refl, ◌∙◌, ◌∷◌, [], ap}
+use Rattle.std.proofs.Common.{◌∙◌, ◌∷◌, [], ap, arith, length-append}
 use Rattle.hart_frame.specs.scan.Scanner.{Scan}
-use Rattle.hart_cli.proofs.lemmas.dump.FrameLines.{pushed_scanned, so_far_pushed}
+use Rattle.hart_cli.proofs.lemmas.dump.FrameLines.{keeps_nothing, waits_for_more}
 use Rattle.hart_cli.proofs.dump.frame_lines.FrameLines.scan_char.Goals as goal
 
-pub returns-clause-scans : goal.returns-clause-scans
-returns-clause-scans g c =
-    pushed_scanned c.take_frames.result _ _ _ _ _ _ (c.args.char ∷ [])
-    (ap (λ (scan : Scan). scan.finished) c.push.ensures.heard ∙ c.requires.going)
-    (λ start earlier chars before. so_far_pushed start earlier _ _ _ chars c.args.char before c.requires.going c.push.ensures.heard refl)
-    c.take_frames.ensures.gives
+pub take_frames-requires : goal.take_frames-requires
+take_frames-requires c =
+    let room = rw c.in-Some.is at c.requires.room in
+    rw c.push.ensures.heard (omega (arith, room, length-append c.args.self.now.scanner.held (c.in-Some.char ∷ [])))
+
+pub returns-in_default : goal.returns-in_default
+returns-in_default c = rw c.in_default.is (record { scans = keeps_nothing _ _; waiting = c.requires.waiting })
+
+pub returns : goal.returns
+returns c =
+    let going = ap (λ (scan : Scan). scan.finished) c.push.ensures.heard ∙ c.requires.waiting.going in
+    let waits = waits_for_more _ _ _ _ going c.push.ensures.few c.take_frames.ensures in
+    rw c.in-Some.is (record { scans = rw c.push.ensures.heard at waits.0; waiting = waits.1 })

@@ -1,51 +1,65 @@
-use Rattle.std.proofs.Common.{◌≡◌, ◌+◌, ◌-◌, ◌++◌, List, take, drop, length, refl, ◌∙◌, arith, subst, ap}
-use Rattle.std.proofs.lemmas.List.{length-drop, take_rest}
+use Rattle.std.proofs.Common.{◌≡◌, ◌≤◌, ◌-◌, List, ℕ, [], take, drop, length, ap, ◌∙◌, arith, subst}
+use Rattle.std.proofs.lemmas.List.{length-drop, length-take-le, take_all, take_rest}
 use Rattle.hart_frame.specs.heard.Character.{Character, faultless}
-use Rattle.hart_cli.specs.dump.FrameLines.{BreaksOff, WritesSoFar}
-use Rattle.hart_cli.proofs.lemmas.dump.FrameLines.{faultless_parts, faultless_split, on_failure, so_far_chunk, waits_on}
+use Rattle.hart_frame.specs.scan.Scanner.{hearing}
+use Rattle.hart_cli.specs.dump.FrameLines.{KeepsLines}
+use Rattle.hart_cli.proofs.lemmas.dump.FrameLines.{faultless_parts, keeps_no_frame, keeps_nothing, keeps_on, keeps_then}
+use Rattle.hart_cli.proofs.lemmas.dump.FrameLines.{keeps_within, length-faultless, waits_for_more}
 use Rattle.hart_cli.proofs.dump.frame_lines.FrameLines.scan_chunk.Goals as goal
 
-pub loop-taken-preserved : goal.loop-taken-preserved
-loop-taken-preserved g c =
-    let loop = c.loop-taken.invariant in
-    let chunk = c.args.chunk.now in
-    let n = c.loop-taken.taken in
-    let rest : take (length chunk - n) (drop n chunk) ≡ drop n chunk = take_rest chunk n in
-    let long = ap length rest ∙ length-drop n chunk in
-    let going = c.push_bytes-taken.ensures.finished ∙ loop.going in
-    let waits = c.in_ok-take_frames.ensures.waits going in
-    record {
-      within = omega (arith, loop.within, c.push_bytes-taken.ensures.within, long);
-      drained = waits.0;
-      going = waits.1;
-      pushed = omega (arith, waits.2, c.push_bytes-taken.ensures.pushed, loop.pushed);
-      so_far = λ start earlier chars before.
-          let pushed = so_far_chunk start earlier _ c.loop-taken.self _ (chars ++ faultless (take n chunk))
-          (take c.push_bytes-taken.result (take (length chunk - n) (drop n chunk))) (loop.so_far start earlier chars before) loop.going
-          c.push_bytes-taken.ensures.moves c.push_bytes-taken.ensures.finished refl in
-          let given = waits_on start earlier _ c.take_frames.new.self _ _ going
-          (c.in_ok-take_frames.ensures.gives start earlier _ pushed) in
-          let Of : List Character → Type 0 = λ cs. WritesSoFar start earlier
-          (g.W.Sink.stream c.take_frames.new.writer) c.take_frames.new.self cs in
-          subst Of (faultless_parts chars chunk (take (length chunk - n) (drop n chunk)) n c.push_bytes-taken.result rest) given;
-    }
+pub loop-taken-init : goal.loop-taken-init
+loop-taken-init c = record { within = omega arith; scans = keeps_nothing _ _; waiting = c.requires.waiting }
 
-pub returns-in_err-take_frames-clause-scans : goal.returns-in_err-take_frames-clause-scans
-returns-in_err-take_frames-clause-scans g c =
+-- so much was heard of a chunk
+heard : (chunk : List ℕ) (n : ℕ) → n ≤ length chunk → length (faultless (take n chunk)) ≡ n
+heard chunk n within = length-faultless (take n chunk) ∙ length-take-le n chunk within
+
+-- the length of what is left, as a slice has it
+left : (chunk : List ℕ) (n : ℕ) → length (take (length chunk - n) (drop n chunk)) ≡ length chunk - n
+left chunk n = ap (λ (xs : List ℕ). length xs) (take_rest chunk n) ∙ length-drop n chunk
+
+pub push_bytes-taken-requires-clause-room : goal.push_bytes-taken-requires-clause-room
+push_bytes-taken-requires-clause-room c =
+    let loop = c.loop-taken.invariant in
+    let n = c.loop-taken.taken in
+    let within = keeps_within c.args.self.now.scanner _ (faultless (take n c.args.chunk.now)) _ _ loop.scans in
+    omega (arith, c.requires.pushed, within.0, left c.args.chunk.now n, loop.within, heard c.args.chunk.now n loop.within)
+
+pub take_frames-requires : goal.take_frames-requires
+take_frames-requires c =
     let loop = c.loop-taken.invariant in
     let chunk = c.args.chunk.now in
     let n = c.loop-taken.taken in
     let m = c.push_bytes-taken.result in
-    let rest : take (length chunk - n) (drop n chunk) ≡ drop n chunk = take_rest chunk n in
-    on_failure c.from_residual.result _ _ _ c.from_residual.ensures.1 (record {
-      scanned = faultless (take (n + m) chunk);
-      rest = faultless (drop (n + m) chunk);
-      split = faultless_split chunk (n + m);
-      breaks = λ start earlier chars before.
-          let pushed = so_far_chunk start earlier _ c.loop-taken.self _ (chars ++ faultless (take n chunk))
-          (take m (take (length chunk - n) (drop n chunk))) (loop.so_far start earlier chars before) loop.going
-          c.push_bytes-taken.ensures.moves c.push_bytes-taken.ensures.finished refl in
-          let Of : List Character → Type 0 = λ cs. BreaksOff start earlier (g.W.Sink.stream c.take_frames.new.writer) cs in
-          subst Of (faultless_parts chars chunk (take (length chunk - n) (drop n chunk)) n m rest)
-          (c.in_err-take_frames.ensures.gives start earlier _ pushed);
-    })
+    let pushed = c.push_bytes-taken.ensures in
+    let rest = take (length chunk - n) (drop n chunk) in
+    let within = keeps_within c.args.self.now.scanner _ (faultless (take n chunk)) _ _ loop.scans in
+    let few = (keeps_within c.loop-taken.self.scanner _ (faultless (take m rest)) _ _ (keeps_no_frame _ _ [] pushed.moves)).1 in
+    omega (arith, c.requires.room, within.1, few, left chunk n, loop.within, heard chunk n loop.within, heard rest m pushed.within)
+
+pub loop-taken-preserved : goal.loop-taken-preserved
+loop-taken-preserved c =
+    let loop = c.loop-taken.invariant in
+    let chunk = c.args.chunk.now in
+    let n = c.loop-taken.taken in
+    let m = c.push_bytes-taken.result in
+    let pushed = c.push_bytes-taken.ensures in
+    let rest = take (length chunk - n) (drop n chunk) in
+    let waits = waits_for_more _ _ _ _ (pushed.finished ∙ loop.waiting.going) pushed.few c.take_frames.ensures in
+    let more = keeps_then _ c.push_bytes-taken.new.self _ _ _ _ (keeps_no_frame _ _ c.loop-taken.self.lines pushed.moves) waits.0 in
+    let all = keeps_on c.args.self.now.scanner c.loop-taken.self.scanner c.take_frames.new.self.scanner (faultless (take n chunk))
+    (faultless (take m rest)) _ _ _ c.requires.waiting.going loop.waiting.going loop.scans more in
+    let Of : List Character → Type 0 = λ cs. KeepsLines (hearing c.args.self.now.scanner cs) c.take_frames.new.self.scanner
+    c.args.self.now.lines c.take_frames.new.self.lines in
+    record {
+      within = omega (arith, loop.within, pushed.within, left chunk n);
+      scans = subst Of (faultless_parts chunk rest n m (take_rest chunk n)) all;
+      waiting = waits.1;
+    }
+
+pub returns : goal.returns
+returns c =
+    let all : take c.loop-taken.taken c.args.chunk.now ≡ c.args.chunk.now = take_all c.loop-taken.taken _ c.loop-taken-test.false in
+    let Of : List ℕ → Type 0 = λ bytes. KeepsLines (hearing c.args.self.now.scanner (faultless bytes)) c.loop-taken.self.scanner
+    c.args.self.now.lines c.loop-taken.self.lines in
+    record { scans = subst Of all c.loop-taken.invariant.scans; waiting = c.loop-taken.invariant.waiting }

@@ -1,17 +1,15 @@
-use Rattle.std.proofs.Common.{◌≡◌, ◌+◌, ◌-◌, ◌≤◌, false, IsTrue, length, take}
+use Rattle.std.proofs.Common.{◌-◌, ◌≤◌, length, take}
 use Rattle.hart_frame.specs.heard.Character.{faultless}
-use Rattle.hart_cli.specs.dump.FrameLines.{ScansOn}
+use Rattle.hart_frame.specs.scan.Scanner.{hearing}
+use Rattle.hart_cli.specs.dump.FrameLines.{IsWaiting, KeepsLines}
 use Rattle.hart_cli.proofs.dump.frame_lines.FrameLines.scan_chunk.Given as goal
 
 abbrev pub invariant-loop-taken : goal.invariant-loop-taken
-invariant-loop-taken g l = record {
+invariant-loop-taken l = record {
   within : l.taken ≤ length l.chunk;
-  drained : IsTrue l.self.scanner.drained;
-  going : l.self.scanner.finished ≡ false;
-  pushed : l.self.scanner.first + length l.self.scanner.held
-      ≡ l.initial.self.scanner.first + length l.initial.self.scanner.held + l.taken;
-  so_far : ScansOn (g.W.Sink.stream l.initial.writer) (g.W.Sink.stream l.writer) l.initial.self l.self (faultless (take l.taken l.chunk));
+  scans : KeepsLines (hearing l.initial.self.scanner (faultless (take l.taken l.chunk))) l.self.scanner l.initial.self.lines l.self.lines;
+  waiting : IsWaiting l.self.scanner;
 }
 
 abbrev pub decreases-loop-taken : goal.decreases-loop-taken
-decreases-loop-taken g l = length l.chunk - l.taken
+decreases-loop-taken l = length l.chunk - l.taken

@@ -1,112 +1,75 @@
-use Rattle.std.proofs.Common.{◌≡◌, ◌≤◌, ◌+◌, ◌++◌, ◌∷◌, [], List, Option, Some, None, length, refl, ◌∙◌, arith, subst, sym, ap}
-use Rattle.std.proofs.lemmas.List.{append-nil, length-drop, take_rest}
+use Rattle.std.proofs.Common.{◌≡◌, ◌-◌, ◌∙◌, ℕ, List, [], drop, take, length, ap, arith}
+use Rattle.std.proofs.lemmas.List.{length-drop, take_rest}
 use Rattle.std.specs.Option.{option_to_list}
-use Rattle.hart_frame.specs.heard.Character.{Character, faultless}
-use Rattle.hart_cli.specs.dump.FrameLines.{WritesSoFar}
+use Rattle.hart_frame.specs.heard.Character.{faultless}
+use Rattle.hart_cli.specs.dump.FrameLines.{ScansText}
 use Rattle.hart_cli.specs.text.Items.{nothing}
-use Rattle.hart_cli.proofs.lemmas.dump.FrameLines.{ScannedTo, scanned_on, text_broken_off}
-use Rattle.hart_cli.proofs.lemmas.text.Items.{piece_read, read_on}
-use Rattle.hart_cli.proofs.dump.frame_lines.FrameLines.scan_text.Goals.{in-Some-char+in_ok-scan_char, in_default-char}
+use Rattle.hart_cli.proofs.lemmas.dump.FrameLines.{keeps_nothing, length-faultless, text_on, text_room}
+use Rattle.hart_cli.proofs.lemmas.text.Items.{ReadsUpTo-few, begins_reads, few_read}
+use Rattle.hart_cli.proofs.dump.frame_lines.FrameLines.scan_text.Goals.{After-scan_chunk}
 use Rattle.hart_cli.proofs.dump.frame_lines.FrameLines.scan_text.Goals as goal
 
--- no character is none
-no_char : (char : Option Character) → ((x : Character) → char ≡ Some x → ⊥) → option_to_list char ≡ []
-no_char None n = refl
-no_char (Some x) n = absurd (n x refl)
-
 pub loop-lead-init : goal.loop-lead-init
-loop-lead-init g c = record {
-  within = omega arith;
-  drained = c.requires.drained;
-  going = c.requires.going;
-  pushed = omega arith;
-  chars = [];
-  reads = nothing c.args.text.now;
-  so_far = λ start earlier past before.
-      let Of : List Character → Type 0 = λ cs. WritesSoFar start earlier (g.W.Sink.stream c.args.writer.now) c.args.self.now cs in
-      subst Of (sym (append-nil past)) before;
-}
+loop-lead-init c =
+    record { scans = record { chars = []; reads = nothing c.args.text.now; scans = keeps_nothing _ _ }; waiting = c.requires.waiting }
 
-pub returns-in_err-scan_chunk-clause-scans : goal.returns-in_err-scan_chunk-clause-scans
-returns-in_err-scan_chunk-clause-scans g c =
+pub scan_chunk-requires : goal.scan_chunk-requires
+scan_chunk-requires c =
     let loop = c.loop-lead.invariant in
-    let reads = read_on c.args.text.now loop.chars (faultless c.read_chunk-place.new.chunk) c.loop-lead.place c.read_chunk-place.result
-    loop.reads c.read_chunk-place.ensures.reads in
-    text_broken_off _ (g.W.Sink.stream c.loop-lead.writer) _ _ c.loop-lead.self _ c.args.text.now loop.chars
-    (faultless c.read_chunk-place.new.chunk) _ c.from_residual.result _ c.from_residual.ensures.1 reads loop.so_far
-    (rw c.as_slice.ensures.value at c.in_err-scan_chunk.ensures.scans)
+    let room = text_room c.args.self.now c.loop-lead.self loop.scans c.requires.waiting c.requires.none_kept c.requires.few in
+    let few = ReadsUpTo-few c.loop-lead.rest.now (faultless c.read_chunk-len.new.chunk) _ c.read_chunk-len.ensures.reads in
+    let long = length-faultless c.read_chunk-len.new.chunk in
+    rw c.as_slice.ensures.value (record {
+      waiting = loop.waiting;
+      room = omega (arith, room.0, few, long);
+      pushed = omega (arith, room.1, few, long, c.requires.pushed);
+    })
+
+-- the chunk is scanned
+scanned : (c : After-scan_chunk) → ScansText c.args.self.now c.scan_chunk.new.self c.args.text.now
+    (take (length c.loop-lead.rest.now - c.read_chunk-len.result) (drop c.read_chunk-len.result c.loop-lead.rest.now))
+scanned c =
+    let loop = c.loop-lead.invariant in
+    rw (take_rest c.loop-lead.rest.now c.read_chunk-len.result)
+    (text_on c.args.self.now c.loop-lead.self c.scan_chunk.new.self (faultless c.read_chunk-len.new.chunk) loop.scans c.requires.waiting
+    loop.waiting c.read_chunk-len.ensures.reads (rw c.as_slice.ensures.value at c.scan_chunk.ensures.scans))
+
+pub returns-in_default-clause-within : goal.returns-in_default-clause-within
+returns-in_default-clause-within c =
+    omega (arith, ReadsUpTo-few c.args.text.now _ _ (scanned (goal.at.returns-in_default-clause-within c).After-scan_chunk).reads)
 
 pub returns-in_default-clause-scans : goal.returns-in_default-clause-scans
-returns-in_default-clause-scans g c =
-    let loop = c.loop-lead.invariant in (
-      loop.chars ++ faultless c.read_chunk-place.new.chunk,
-      read_on c.args.text.now loop.chars (faultless c.read_chunk-place.new.chunk) c.loop-lead.place c.read_chunk-place.result
-          loop.reads c.read_chunk-place.ensures.reads,
-      scanned_on _ (g.W.Sink.stream c.loop-lead.writer) _ _ c.loop-lead.self _ loop.chars (faultless c.read_chunk-place.new.chunk)
-          loop.so_far (rw c.as_slice.ensures.value at c.in_ok-scan_chunk.ensures.scans),
-    )
+returns-in_default-clause-scans c = scanned (goal.at.returns-in_default-clause-scans c).After-scan_chunk
 
-pub returns-in_err-scan_char-clause-scans : goal.returns-in_err-scan_char-clause-scans
-returns-in_err-scan_char-clause-scans g c =
-    let loop = c.loop-lead.invariant in
-    let chunk = faultless c.read_chunk-place.new.chunk in
-    let place = c.loop-lead.place + c.read_chunk-place.result in
-    let reads =
-    read_on c.args.text.now loop.chars chunk c.loop-lead.place c.read_chunk-place.result loop.reads c.read_chunk-place.ensures.reads in
-    let one : (loop.chars ++ chunk) ++ c.in-Some-char.char ∷ [] ≡ (loop.chars ++ chunk) ++ option_to_list c.in-Some.lead.char =
-    ap (λ (x : Option Character). (loop.chars ++ chunk) ++ option_to_list x) (sym c.in-Some-char.is) in
-    let rest = ap length (take_rest c.args.text.now c.loop-lead.place) ∙ length-drop c.loop-lead.place c.args.text.now in
-    let within : place ≤ length c.args.text.now = omega (arith, rest, c.read_chunk-place.ensures.within, loop.within) in
-    let piece = piece_read c.args.text.now (loop.chars ++ chunk) _ place _ _ within reads c.in-Some.ensures one in
-    text_broken_off _ (g.W.Sink.stream c.scan_chunk.new.writer) _ _ c.scan_chunk.new.self _ c.args.text.now (loop.chars ++ chunk)
-    (c.in-Some-char.char ∷ []) _ c.from_residual-in_err-scan_char.result _ c.from_residual-in_err-scan_char.ensures.1 piece.2
-    (scanned_on _ (g.W.Sink.stream c.loop-lead.writer) _ _ c.loop-lead.self _ loop.chars chunk loop.so_far
-    (rw c.as_slice.ensures.value at c.in_ok-scan_chunk.ensures.scans))
-    c.in_err-scan_char.ensures.scans
+pub scan_char-requires : goal.scan_char-requires
+scan_char-requires c =
+    let scans = scanned (goal.at.scan_char-requires c).After-scan_chunk in
+    let room = text_room c.args.self.now c.scan_chunk.new.self scans c.requires.waiting c.requires.none_kept c.requires.few in
+    let few = few_read _ _ _ c.in-Some.ensures in
+    let inside = begins_reads _ _ _ c.in-Some.ensures in
+    record {
+      waiting = c.scan_chunk.ensures.waiting;
+      room = omega (arith, room.0, few, inside.1);
+      pushed = omega (arith, room.1, few, inside.0, inside.1, c.requires.pushed);
+    }
 
 pub loop-lead-preserved : goal.loop-lead-preserved
-loop-lead-preserved g c =
-    let loop = c.loop-lead.invariant in
-    let chunk = faultless c.read_chunk-place.new.chunk in
-    let place = c.loop-lead.place + c.read_chunk-place.result in
-    let rest = ap length (take_rest c.args.text.now c.loop-lead.place) ∙ length-drop c.loop-lead.place c.args.text.now in
-    let within : place ≤ length c.args.text.now = omega (arith, rest, c.read_chunk-place.ensures.within, loop.within) in
-    let reads =
-    read_on c.args.text.now loop.chars chunk c.loop-lead.place c.read_chunk-place.result loop.reads c.read_chunk-place.ensures.reads in
-    let piece = piece_read c.args.text.now (loop.chars ++ chunk) ((loop.chars ++ chunk) ++ option_to_list c.in-Some.lead.char) place _ _
-    within reads c.in-Some.ensures refl in
-    let scanned = c.in_ok-scan_chunk.ensures in
-    let so_far = scanned_on _ (g.W.Sink.stream c.loop-lead.writer) _ _ c.loop-lead.self _ loop.chars chunk loop.so_far
-    (rw c.as_slice.ensures.value at scanned.scans) in
-    let size = ap length c.as_slice.ensures.value in
-    let few = c.read_chunk-place.ensures.few in
-    let before = c.args.self.now.scanner.first + length c.args.self.now.scanner.held in
-    let next : ScannedTo (g.W.Sink.stream c.args.writer.now) (g.W.Sink.stream c.match-lead.writer) c.args.self.now c.match-lead.self
-    ((loop.chars ++ chunk) ++ option_to_list c.in-Some.lead.char) (before + (place + c.in-Some.lead.len)) = elim c.match-lead.branch [
-      | in-Some-char+in_ok-scan_char w ↦ rw (w.self-is, w.writer-is) (record {
-        drained = w.in_ok-scan_char.ensures.drained;
-        going = w.in_ok-scan_char.ensures.going;
-        pushed = omega (arith, w.in_ok-scan_char.ensures.pushed, scanned.pushed, loop.pushed, size, few, piece.0);
-        so_far =
-            let one : option_to_list c.in-Some.lead.char ≡ w.in-Some-char.char ∷ [] =
-            ap (λ (x : Option Character). option_to_list x) w.in-Some-char.is in
-            rw one (scanned_on _ (g.W.Sink.stream c.scan_chunk.new.writer) _ _ c.scan_chunk.new.self _ (loop.chars ++ chunk)
-            (w.in-Some-char.char ∷ []) so_far w.in_ok-scan_char.ensures.scans);
-      })
-      | in_default-char w ↦ rw
-          (w.self-is, w.writer-is, no_char c.in-Some.lead.char w.in_default-char.not-Some, append-nil (loop.chars ++ chunk)) (record {
-            drained = scanned.drained;
-            going = scanned.going;
-            pushed = omega (arith, scanned.pushed, loop.pushed, size, few);
-            so_far = so_far;
-          })
-    ] in
+loop-lead-preserved c =
+    let rest = take (length c.loop-lead.rest.now - c.read_chunk-len.result) (drop c.read_chunk-len.result c.loop-lead.rest.now) in
     record {
-      within = piece.1;
-      drained = next.drained;
-      going = next.going;
-      pushed = next.pushed;
-      chars = (loop.chars ++ chunk) ++ option_to_list c.in-Some.lead.char;
-      reads = piece.2;
-      so_far = next.so_far;
+      scans = rw (take_rest rest c.in-Some.lead.len)
+          (text_on c.args.self.now c.scan_chunk.new.self c.scan_char.new.self (option_to_list c.in-Some.lead.char)
+          (scanned (goal.at.loop-lead-preserved c).After-scan_chunk) c.requires.waiting c.scan_chunk.ensures.waiting
+          (begins_reads rest _ _ c.in-Some.ensures).2 c.scan_char.ensures.scans);
+      waiting = c.scan_char.ensures.waiting;
     }
+
+-- the length of the rest after a place, as a slice has it
+rest_long : (text : List ℕ) (n : ℕ) → length (take (length text - n) (drop n text)) ≡ length text - n
+rest_long text n = ap (λ (xs : List ℕ). length xs) (take_rest text n) ∙ length-drop n text
+
+pub loop-lead-smaller : goal.loop-lead-smaller
+loop-lead-smaller c =
+    let rest = take (length c.loop-lead.rest.now - c.read_chunk-len.result) (drop c.read_chunk-len.result c.loop-lead.rest.now) in
+    let inside = begins_reads rest _ _ c.in-Some.ensures in
+    omega (arith, inside.0, inside.1, rest_long rest c.in-Some.lead.len, rest_long c.loop-lead.rest.now c.read_chunk-len.result)

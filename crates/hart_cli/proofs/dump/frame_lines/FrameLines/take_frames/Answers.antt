@@ -1,32 +1,46 @@
-use Rattle.std.proofs.Common.{refl, ◌∙◌}
-use Rattle.hart_frame.proofs.lemmas.Laws.{held_frames_are_given-onward}
+use Rattle.std.proofs.Common.{◌∙◌, ◌∷◌, ◌++◌, [], List, ℕ, ap, arith, refl, sym}
+use Rattle.std.proofs.lemmas.List.{append-nil}
 use Rattle.hart_frame.specs.scan.View.{found_of}
-use Rattle.hart_cli.proofs.lemmas.dump.FrameLines.{kept_broken_off, on_failure, one_given, same_pushed, waits_of}
+use Rattle.hart_cli.specs.dump.Text.{dump_line}
+use Rattle.hart_cli.proofs.lemmas.dump.FrameLines.{keeps_no_frame, keeps_then}
+use Rattle.hart_cli.proofs.lemmas.dump.Moves.{gives_long, moves_on}
 use Rattle.hart_cli.proofs.dump.frame_lines.FrameLines.take_frames.Goals as goal
 
-pub loop-found-smaller : goal.loop-found-smaller
-loop-found-smaller g c =
+pub loop-found-init : goal.loop-found-init
+loop-found-init c = record {
+  keeps = keeps_no_frame _ _ _ (record { heard = λ more chars can. can; frames = λ more chars later can are. are });
+  same_finish = refl;
+}
+
+pub push_frame_line-requires : goal.push_frame_line-requires
+push_frame_line-requires c =
     let gives = rw c.in-Some.is at c.take.follows.holds-at-none in
-    held_frames_are_given-onward c.loop-found.self.scanner c.take.follows.lender-at-none (found_of c.in-Some.found) gives
+    let keeps = c.loop-found.invariant.keeps in
+    omega (arith, c.requires, keeps.few, gives_long _ _ _ gives, moves_on _ _ _ gives.moves)
+
+pub loop-found-smaller : goal.loop-found-smaller
+loop-found-smaller c =
+    let gives = rw c.in-Some.is at c.take.follows.holds-at-none in
+    omega (arith, gives_long _ _ _ gives, moves_on _ _ _ gives.moves)
 
 pub loop-found-preserved : goal.loop-found-preserved
-loop-found-preserved g c =
+loop-found-preserved c =
     let gives = rw c.in-Some.is at c.take.follows.holds-at-none in
     record {
-      so_far = λ start earlier chars before.
-          one_given start earlier _ _ _ _ (found_of c.in-Some.found) _ chars
-          (c.loop-found.invariant.so_far start earlier chars before) gives refl
-          c.in_ok-keep_line.ensures;
-      finish = gives.finished ∙ c.loop-found.invariant.finish;
-      pushed = same_pushed _ _ _ gives.moves ∙ c.loop-found.invariant.pushed;
+      keeps = keeps_then _ _ _ _ _ _ c.loop-found.invariant.keeps (record {
+        given = found_of c.in-Some.found ∷ [];
+        moves = gives.moves;
+        lines = c.push_frame_line.ensures.line
+            ∙ ap (λ (xs : List ℕ). c.loop-found.self.lines ++ xs) (sym (append-nil (dump_line (found_of c.in-Some.found))));
+        few = omega (arith, c.push_frame_line.ensures.few, gives_long _ _ _ gives, moves_on _ _ _ gives.moves);
+      });
+      same_finish = gives.finished ∙ c.loop-found.invariant.same_finish;
     }
 
-pub returns-in_err-keep_line-clause-gives : goal.returns-in_err-keep_line-clause-gives
-returns-in_err-keep_line-clause-gives g c = λ start earlier chars before.
-    on_failure c.from_residual.result _ _ _ c.from_residual.ensures.1
-    (kept_broken_off start earlier _ _ _ chars (c.loop-found.invariant.so_far start earlier chars before) c.in_err-keep_line.ensures)
-
-pub returns-clause-waits : goal.returns-clause-waits
-returns-clause-waits g c = λ going.
-    let waits = waits_of _ _ (rw c.in_default.is at c.take.follows.holds-at-none) (c.loop-found.invariant.finish ∙ going) in
-    (waits.drained, waits.unfinished, same_pushed _ _ _ waits.moves ∙ c.loop-found.invariant.pushed)
+pub returns : goal.returns
+returns c = record {
+  last = c.loop-found.self.scanner;
+  keeps = c.loop-found.invariant.keeps;
+  same_finish = c.loop-found.invariant.same_finish;
+  nothing = rw c.in_default.is at c.take.follows.holds-at-none;
+}
