@@ -6,5 +6,6 @@ pub mod Undecided
 pub mod Stream
 pub mod Buffer
 pub mod Decision
+pub mod Part
 pub mod Chunk
 pub mod First

@@ -1,5 +1,6 @@
 -- Whether a delivery is accepted is decided.
-use Rattle.std.proofs.Common.{◌≡◌, ◌≤◌, ℕ, List, [], ◌∷◌, ap, ◌∙◌, ◌⊎◌, inl, inr, Option, None, Some, refl, nat_lt, true, slice_index, arith}
+use Rattle.std.proofs.Common.{◌≡◌, ◌≤◌, ℕ, List, [], ◌∷◌, ap, ◌∙◌, ◌⊎◌, inl, inr, Option, None, Some, refl, nat_lt, true, slice_index}
+use Rattle.std.proofs.Common.{arith}
 use Rattle.std.proofs.lemmas.Bool.{lt-ltb}
 use Rattle.std.proofs.lemmas.Bool.Decides.{eqb_tells}
 use Rattle.hart_values.specs.address.DeviceNumbers.{DeviceNumbers}

@@ -55,7 +55,8 @@ waits b new waiting same =
     })
 
 -- what is kept of what is held and of a chunk after it
-pub kept_after : (held chunk bytes new : List ℕ) (from place stop count : ℕ) → from ≤ length bytes → drop from bytes ≡ held → count ≡ length held
+pub kept_after : (held chunk bytes new : List ℕ) (from place stop count : ℕ) → from ≤ length bytes → drop from bytes ≡ held
+    → count ≡ length held
     → count ≤ stop → place ≤ length held → new ≡ bytes ++ take (stop - count) chunk
     → drop (from + place) new ≡ drop place (take stop (held ++ chunk))
 kept_after held chunk bytes new from place stop count within same long after inside is =

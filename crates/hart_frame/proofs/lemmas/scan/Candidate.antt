@@ -1,5 +1,6 @@
 -- What is known of bytes by how they begin.
-use Rattle.std.proofs.Common.{◌≡◌, ◌≢◌, ℕ, zero, suc, ◌+◌, ◌<◌, ◌≤◌, ◌⊎◌, inl, inr, List, [], ◌∷◌, ◌++◌, length, take, drop, get_or, refl, sym}
+use Rattle.std.proofs.Common.{◌≡◌, ◌≢◌, ℕ, zero, suc, ◌+◌, ◌<◌, ◌≤◌, ◌⊎◌, inl, inr, List, [], ◌∷◌, ◌++◌, length, take, drop, get_or, refl}
+use Rattle.std.proofs.Common.{sym}
 use Rattle.std.proofs.Common.{ap, ◌∙◌, ◌%◌, arith, subst, append_assoc, length-append}
 use Rattle.std.proofs.lemmas.List.{append-nil, length-map, map-append, take-append-le, take-map, take_at, get_or_at, get_or-take}
 use Rattle.std.proofs.lemmas.List.{get_or_append_left, get_or-map, length-take, length-take-le, take-append-drop, take_all}
@@ -171,7 +172,8 @@ undecided_open xs may =
     ]
 
 -- fewer bytes than go up to a byte count end too early
-pub truncated_count : (xs : List ℕ) (fewer : ℕ) → HasDelimiter xs → fewer ≤ byte_count_place xs → fewer ≤ length xs → IsTruncated (take fewer xs)
+pub truncated_count : (xs : List ℕ) (fewer : ℕ) → HasDelimiter xs → fewer ≤ byte_count_place xs → fewer ≤ length xs
+    → IsTruncated (take fewer xs)
 truncated_count xs fewer has before within =
     let long = length-take-le fewer xs within in
     let cases : (fewer ≡ 0) ⊎ (0 < fewer) = grind arith in
@@ -183,7 +185,8 @@ truncated_count xs fewer has before within =
     ]
 
 -- and so do fewer than go up to a check byte
-pub truncated_check : (xs : List ℕ) (fewer : ℕ) → HasGoodByteCount xs → fewer < body_length xs → fewer ≤ length xs → IsTruncated (take fewer xs)
+pub truncated_check : (xs : List ℕ) (fewer : ℕ) → HasGoodByteCount xs → fewer < body_length xs → fewer ≤ length xs
+    → IsTruncated (take fewer xs)
 truncated_check xs fewer has before within =
     let long = length-take-le fewer xs within in
     let cases : (fewer ≤ byte_count_place xs) ⊎ (byte_count_place xs < fewer) = grind arith in
@@ -223,7 +226,8 @@ pub record IsCut (layout : Layout) (xs : List ℕ) (len : ℕ) : Type 0 where
   pub whole : body_length (take len xs) ≡ len
   pub fewer : (n : ℕ) → n < len → IsTruncated (take n xs)
 
-pub cut_off : (layout : Layout) (xs : List ℕ) (len : ℕ) → HasCheckByte xs → Describes layout xs → len ≡ layout_length layout → IsCut layout xs len
+pub cut_off : (layout : Layout) (xs : List ℕ) (len : ℕ) → HasCheckByte xs → Describes layout xs → len ≡ layout_length layout
+    → IsCut layout xs len
 cut_off layout xs len has is same =
     let whole : len ≡ body_length xs = omega (arith, same, is.command, is.count) in
     let within : len ≤ length xs = omega (arith, whole, has.1) in

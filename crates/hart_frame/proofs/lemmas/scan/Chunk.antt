@@ -2,27 +2,23 @@
 use Rattle.std.proofs.Common.{◌≡◌, ℕ, ◌+◌, ◌-◌, ◌<◌, ◌≤◌, ◌^◌, ◌⊎◌, inl, inr, true, false, List, [], ◌∷◌, ◌++◌, length, take}
 use Rattle.std.proofs.Common.{Option, None, Some, drop, get_or, refl, sym, ap, ◌∙◌, arith, subst, append_assoc, length-append, length-drop}
 use Rattle.std.proofs.lemmas.Bool.{false≢true}
-use Rattle.std.proofs.lemmas.List.{append-nil, drop-map, map-append, take-map, take-take, length-map, length-take-le}
-use Rattle.std.proofs.Math.Seq.{take-add, take-append-add, take-append_seam, take-length}
+use Rattle.std.proofs.lemmas.List.{append-nil, drop-map, take-map, take-take, length-map, length-take-le}
+use Rattle.std.proofs.Math.Seq.{take-add}
 use Rattle.std.specs.List.{slice_range}
 use Rattle.std.specs.Option.{MatchOption}
 use Rattle.hart_frame.specs.declared.wire.layout.Layout.{Layout}
 use Rattle.hart_frame.specs.heard.Character.{Character, faultless}
 use Rattle.hart_frame.specs.heard.Frames.{IsUndecided}
-use Rattle.hart_frame.specs.scan.Buffer.{IsMeant, IsSound, IsStored, IsWaiting, held_bytes, is_drained, scan_of, state_of}
-use Rattle.hart_frame.specs.scan.Candidate.{IsWhole, MayBegin}
+use Rattle.hart_frame.specs.scan.Buffer.{IsSound, held_bytes, is_drained, scan_of}
+use Rattle.hart_frame.specs.scan.Candidate.{IsWhole}
 use Rattle.hart_frame.specs.scan.Chunk.{Hears, HearsPart, StopsAt}
 use Rattle.hart_frame.specs.scan.Decision.{HoldsWhole}
 use Rattle.hart_frame.specs.scan.Scanner.{Scan, CanHear, GivesNothing, MovesPast, hearing}
-use Rattle.hart_frame.specs.scan.Search.{IsOpenAll, IsOpenFrom, IsSearched}
 use Rattle.hart_frame.specs.declared.scan.buffer.Buffer.{Buffer}
-use Rattle.hart_frame.specs.declared.scan.buffer.State.{State}
 use Rattle.hart_frame.specs.declared.scan.buffer.State.TheVariants.{Drained}
-use Rattle.hart_frame.specs.declared.scan.search.Sighting.{Sighting}
-use Rattle.hart_frame.proofs.lemmas.scan.Buffer.{held_clear, undecided_waiting, waits_drained}
-use Rattle.hart_frame.proofs.lemmas.scan.Candidate.{undecided_open}
+use Rattle.hart_frame.proofs.lemmas.scan.Buffer.{undecided_waiting, waits_drained}
 use Rattle.hart_frame.proofs.lemmas.scan.Decision.{holds_frame}
-use Rattle.hart_frame.proofs.lemmas.scan.Scan.{moves_none, moves_places, moves_then}
+use Rattle.hart_frame.proofs.lemmas.scan.Scan.{moves_none, moves_then}
 use Rattle.hart_frame.proofs.lemmas.scan.Undecided.{moves_length, undecided_before, waits_only}
 
 append_none : (cs more : List Character) → cs ++ more ≡ [] → more ≡ []
@@ -52,7 +48,8 @@ moves_hearing a b cs going p =
     }
 
 -- what is heard in two parts
-pub hearing_more : (a b c : Scan) (xs ys : List Character) → a.finished ≡ false → MovesPast (hearing a xs) b [] → MovesPast (hearing b ys) c []
+pub hearing_more : (a b c : Scan) (xs ys : List Character) → a.finished ≡ false → MovesPast (hearing a xs) b []
+    → MovesPast (hearing b ys) c []
     → MovesPast (hearing a (xs ++ ys)) c []
 hearing_more a b c xs ys going p q =
     moves_then (hearing a (xs ++ ys)) (hearing (hearing a xs) ys) c []
@@ -94,7 +91,8 @@ heard_then a b c chunk n r inside so part =
     let Undecided : List Character → Type 0 = λ cs. IsUndecided (a.held ++ cs) in
     record {
       going = so.going;
-      moves = subst Moves (take_part chunk n p r within few) (hearing_more a b c (take n chunk) (take r (take p rest)) so.going so.moves part.hears.moves);
+      moves = subst Moves (take_part chunk n p r within few)
+          (hearing_more a b c (take n chunk) (take r (take p rest)) so.going so.moves part.hears.moves);
       before = λ fewer below.
           let cases : (fewer < n) ⊎ (n ≤ fewer) = grind arith in
           elim cases [
@@ -160,7 +158,8 @@ hears_one old new character seen going undecided peeked =
     seen_one old new character seen going before peeked
 
 pub peeked : (old : Scan) (mid new : Buffer) (character : Character) (seen : Option Layout) → scan_of mid ≡ hearing old (character ∷ [])
-    → mid.finished ≡ false → MatchOption seen (GivesNothing (scan_of mid) (scan_of new)) (HoldsWhole mid new) → Peeked old new character seen
+    → mid.finished ≡ false → MatchOption seen (GivesNothing (scan_of mid) (scan_of new)) (HoldsWhole mid new)
+    → Peeked old new character seen
 peeked old mid new character None heard going nothing =
     let Of : Scan → Type 0 = λ s. GivesNothing s (scan_of new) in
     subst Of heard nothing
@@ -184,125 +183,6 @@ hears_first old new chunk character seen going undecided first some peeked =
       part_within = omega (arith, some);
       part_some = omega arith;
       hears = subst Of (sym first) (hears_one old new character seen going undecided peeked);
-    }
-
--- nothing is decided of bytes of which none begins a frame up to a place, and those from it on may begin one
-undecided_from : (xs : List ℕ) → IsOpenFrom xs 0 → IsUndecided (faultless xs)
-undecided_from xs ends =
-    let old : Scan = record { first = 0; held = faultless xs; finished = false; drained = false } in
-    let new : Scan = record { first = ends.place; held = faultless (drop ends.place xs); finished = false; drained = false } in
-    undecided_before old new
-    (moves_places old new xs [] ends.place (sym (append-nil (faultless xs))) (sym (append-nil (faultless (drop ends.place xs))))
-    (let e : ends.place ≡ 0 + ends.place = omega arith in e) refl ends.within
-    (λ place below more _. ends.none place (omega arith) below more)) (undecided_open (drop ends.place xs) ends.may)
-
--- what is held and the first of a chunk after it, as the first of both
-heard_bytes : (b : Buffer) (chunk : List ℕ) (count : ℕ) → IsWaiting b
-    → (scan_of b).held ++ take count (faultless chunk) ≡ faultless (take (length (held_bytes b) + count) (held_bytes b ++ chunk))
-heard_bytes b chunk count waiting =
-    let make = λ (byte : ℕ). let c : Character = record { byte = byte; faults = 0 } in c in
-    let held = held_bytes b in
-    ap (λ (cs : List Character). cs ++ take count (faultless chunk)) (held_clear b waiting.clear)
-    ∙ ap (λ (cs : List Character). faultless held ++ cs) (take-map make count chunk)
-    ∙ sym (map-append make held (take count chunk))
-    ∙ ap faultless (sym (take-append-add held chunk count))
-
--- a buffer that kept what was found in what it held and in a part after it
-pub record IsKept (old new : Buffer) (part : List ℕ) (found : Sighting) : Type 0 where
-  pub waiting : IsWaiting old
-  pub searched : IsSearched (held_bytes old ++ part) 0 (length (held_bytes old) + 1) found
-  pub held : held_bytes new ≡ drop found.place (take found.decided (held_bytes old ++ part))
-  pub firsts : new.first ≡ old.first + found.place
-  pub clear : new.damaged ≡ None
-  pub finished : new.finished ≡ old.finished
-  pub state : new.state ≡ state_of found.layout
-
--- what is said of what it holds then
-abbrev Holds : Buffer → Buffer → List ℕ → Sighting → Option Layout → Type 0
-Holds old new part found layout = MatchOption layout
-    ((length (held_bytes new) < 269) × MayBegin (held_bytes new) × (found.decided ≡ length (held_bytes old) + length part))
-    (λ l. IsWhole l (held_bytes new))
-
-holds_kept : (old new : Buffer) (part : List ℕ) (found : Sighting) → IsKept old new part found → (layout : Option Layout)
-    → MatchOption layout (IsOpenAll (held_bytes old ++ part) found)
-    (λ l. IsWhole l (drop found.place (take found.decided (held_bytes old ++ part)))) → Holds old new part found layout
-holds_kept old new part found kept None (all, few, may) =
-    let total = held_bytes old ++ part in
-    let held : held_bytes new ≡ drop found.place total =
-    kept.held ∙ ap (λ (n : ℕ). drop found.place (take n total)) all ∙ ap (drop found.place) (take-length total) in (
-      omega (arith, ap length held, length-drop found.place total, few),
-      subst MayBegin (sym held) may,
-      all ∙ length-append (held_bytes old) part,
-    )
-holds_kept old new part found kept (Some layout) whole =
-    let Whole : List ℕ → Type 0 = λ xs. IsWhole layout xs in
-    subst Whole (sym kept.held) whole
-
--- so it is what its state means
-meant_kept : (old new : Buffer) (part : List ℕ) (found : Sighting) → IsKept old new part found → (layout : Option Layout)
-    → Holds old new part found layout → IsMeant new (state_of layout)
-meant_kept old new part found kept None (few, may, all) =
-    record { clear = kept.clear; going = kept.finished ∙ kept.waiting.going; few = few; may = may }
-meant_kept old new part found kept (Some layout) whole = whole
-
-pub sound_kept : (old new : Buffer) (part : List ℕ) (found : Sighting) → IsStored new → IsKept old new part found → IsSound new
-sound_kept old new part found stored kept =
-    let Meant : State → Type 0 = λ state. IsMeant new state in
-    record {
-      stored = stored;
-      meant = subst Meant (sym kept.state)
-          (meant_kept old new part found kept found.layout (holds_kept old new part found kept found.layout kept.searched.stands));
-    }
-
--- and it stops where nothing more is decided, or where a frame stands
-stops_kept : (old new : Buffer) (part : List ℕ) (found : Sighting) → IsKept old new part found → (layout : Option Layout) (count : ℕ)
-    → new.state ≡ state_of layout → found.decided ≡ length (held_bytes old) + count → Holds old new part found layout
-    → StopsAt (scan_of new) count (length part)
-stops_kept old new part found kept None count is counts (few, may, all) =
-    let Undecided : List Character → Type 0 = λ cs. IsUndecided cs in
-    inl (ap is_drained is, subst Undecided (sym (held_clear new kept.clear)) (undecided_open (held_bytes new) may), omega (arith, counts, all))
-stops_kept old new part found kept (Some layout) count is counts whole = inr (ap is_drained is, holds_frame new layout whole)
-
--- so much of the part was heard
-pub hears_kept : (old new : Buffer) (part : List ℕ) (found : Sighting) (m : ℕ) → IsKept old new part found → m ≡ length (held_bytes old)
-    → Hears (scan_of old) (scan_of new) (faultless part) (found.decided - m)
-hears_kept old new part found m kept same =
-    let make = λ (byte : ℕ). let c : Character = record { byte = byte; faults = 0 } in c in
-    let held = held_bytes old in
-    let n = length held in
-    let total = held ++ part in
-    let is = kept.searched in
-    let count = found.decided - m in
-    let counts : found.decided ≡ n + count = omega (arith, is.late, same) in
-    let both = take found.decided total in
-    let long = length-map part make in
-    let all = length-append held part in
-    let size = length-take-le found.decided total is.within in
-    let heard : (fewer : ℕ) → (scan_of old).held ++ take fewer (faultless part) ≡ faultless (take (n + fewer) total) =
-    λ fewer. heard_bytes old part fewer kept.waiting in
-    let Stops : ℕ → Type 0 = λ k. StopsAt (scan_of new) count k in
-    record {
-      within = omega (arith, long, counts, is.within, all);
-      some = λ any. omega (arith, is.late, counts);
-      moves = moves_places (hearing (scan_of old) (take count (faultless part))) (scan_of new) both [] found.place
-          (heard count ∙ ap (λ (k : ℕ). faultless (take k total)) (sym counts) ∙ sym (append-nil (faultless both)))
-          (held_clear new kept.clear ∙ ap faultless kept.held ∙ sym (append-nil (faultless (drop found.place both)))) kept.firsts kept.finished
-          (omega (arith, size, is.order)) (λ here below more _. is.none here (omega arith) below more);
-      before = λ fewer below.
-          let Undecided : List Character → Type 0 = λ cs. IsUndecided cs in
-          let cases : (fewer ≡ 0) ⊎ (0 < fewer) = grind arith in
-          let of : IsUndecided (faultless (take (n + fewer) total)) = elim cases [
-            | inl none ↦
-                let same : take (n + fewer) total ≡ held =
-                ap (λ (k : ℕ). take k total) (let e : n + fewer ≡ n = omega (arith, none) in e) ∙ take-append_seam held part in
-                subst Undecided (ap faultless (sym same)) (undecided_open held kept.waiting.may)
-            | inr some ↦ undecided_from (take (n + fewer) total) (is.before (n + fewer) (omega (arith, some)) (omega (arith, below, counts)))
-          ] in
-          subst Undecided (sym (heard fewer)) of;
-      stops = subst Stops (sym long)
-          (stops_kept old new part found kept found.layout count kept.state counts
-          (holds_kept old new part found kept found.layout is.stands));
-      finished = kept.finished;
     }
 
 -- a loop over the parts of a chunk: what it has heard, and that nothing is decided of it

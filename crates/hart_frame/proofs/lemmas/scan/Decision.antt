@@ -265,7 +265,8 @@ pub given_nothing : (b mid : Buffer) (found : Sighting) (new : Scan) → IsHeldS
     → GivesNothing (scan_of mid) new → GivesNothing (scan_of b) new
 given_nothing b mid found new is same after =
     let After : Buffer → Type 0 = λ x. GivesNothing (scan_of x) new in
-    gives_nothing_then (scan_of b) (scan_of (passed b found.place)) new (moves_passed b found.place is.within is.none) refl (subst After same after)
+    gives_nothing_then (scan_of b) (scan_of (passed b found.place)) new (moves_passed b found.place is.within is.none) refl
+    (subst After same after)
 
 -- what a buffer waits with that holds something from there on
 pub waits_open : (b : Buffer) (place : ℕ) → IsHeldOpen b place → place ≤ length (held_bytes b) → length (held_bytes (passed b place)) ≢ 0

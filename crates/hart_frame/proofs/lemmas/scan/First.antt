@@ -48,7 +48,8 @@ first_in found chars is =
     record { first = is; order = lies.some; within = lies.within }
 
 -- a scanner that heard so many characters of a list gives its first frame
-pub first_given : (chars : List Character) (count : ℕ) (mid new : Scan) (found : Found) → MovesPast (hearing new_scan (take count chars)) mid []
+pub first_given : (chars : List Character) (count : ℕ) (mid new : Scan) (found : Found)
+    → MovesPast (hearing new_scan (take count chars)) mid []
     → mid.finished ≡ false → Gives mid new found → IsFirstIn found chars
 first_given chars count mid new found moves going gives =
     let heard = push_chars [] new_scan mid [] (take count chars) begin refl moves going in
@@ -99,7 +100,8 @@ first_finished chars count mid waiting new given moves going stops nothing after
     last_given chars waiting new given (subst Of all (finish (take count chars) waiting [] waited)) after
 
 -- what stands in the rest of a list stands in the list
-pub first_later : (chars rest : List Character) (from : ℕ) (found : Found) → from ≤ length chars → rest ≡ drop from chars → IsFirst found rest 0
+pub first_later : (chars rest : List Character) (from : ℕ) (found : Found) → from ≤ length chars → rest ≡ drop from chars
+    → IsFirst found rest 0
     → IsFirst (record { start = from + found.start; stop = from + found.stop; frame = found.frame }) chars from
 first_later chars rest from found within is least =
     let prefix = take from chars in

@@ -122,7 +122,8 @@ pub moves_places : (old new : Scan) (bytes : List ℕ) (tail : List Character) (
     → count ≤ length bytes
     → ((place : ℕ) → place < count → (more : List Character) → (IsTrue old.finished → more ≡ [])
     → BeginWithNone (faultless (drop place bytes) ++ (tail ++ more))) → MovesPast old new []
-moves_places old new bytes tail zero held rest firsts finished within never = moves_none old new (rest ∙ sym held) (omega (arith, firsts)) finished
+moves_places old new bytes tail zero held rest firsts finished within never =
+    moves_none old new (rest ∙ sym held) (omega (arith, firsts)) finished
 moves_places old new [] tail (suc n) held rest firsts finished within never = absurd (omega (arith, within))
 moves_places old new (byte ∷ bytes) tail (suc n) held rest firsts finished within never =
     let gone : Character = record { byte = byte; faults = 0 } in
@@ -130,6 +131,7 @@ moves_places old new (byte ∷ bytes) tail (suc n) held rest firsts finished wit
     let same : (more : List Character) → faultless (byte ∷ bytes) ++ (tail ++ more) ≡ old.held ++ more =
     λ more. sym (append_assoc (faultless (byte ∷ bytes)) tail more) ∙ ap (λ (cs : List Character). cs ++ more) (sym held) in
     let None : List Character → Type 0 = λ cs. BeginWithNone cs in
-    moves_then old mid new [] (moves_drop old mid gone held refl refl (λ more ended. subst None (same more) (never 0 (omega arith) more ended)))
+    moves_then old mid new [] (moves_drop old mid gone held refl refl
+    (λ more ended. subst None (same more) (never 0 (omega arith) more ended)))
     (moves_places mid new bytes tail n refl rest (omega (arith, firsts)) finished (omega (arith, within))
     (λ place below. never (suc place) (omega (arith, below))))

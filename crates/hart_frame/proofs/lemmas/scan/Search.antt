@@ -1,5 +1,6 @@
 -- What is known of bytes while they are searched, and of a search that is joined of two.
-use Rattle.std.proofs.Common.{Some, None, ◌≡◌, ◌≢◌, ℕ, zero, suc, ◌+◌, ◌-◌, ◌<◌, ◌≤◌, ◌⊎◌, inl, inr, List, [], ◌∷◌, ◌++◌, length, take, drop, get_or, refl, sym}
+use Rattle.std.proofs.Common.{Some, None, ◌≡◌, ◌≢◌, ℕ, zero, suc, ◌+◌, ◌-◌, ◌<◌, ◌≤◌, ◌⊎◌, inl, inr, List, [], ◌∷◌, ◌++◌, length, take}
+use Rattle.std.proofs.Common.{drop, get_or, refl, sym}
 use Rattle.std.proofs.Common.{ap, ◌∙◌, max, arith, subst, append_assoc, length-append, length-drop}
 use Rattle.std.specs.List.{All}
 use Rattle.std.proofs.lemmas.List.{drop-append-le, drop-take, drop_all, drop_more, get_or-drop, get_or-take, length-take-le, take_rest}
@@ -11,7 +12,8 @@ use Rattle.hart_frame.specs.scan.Search.{HasThree, IsNextStart, IsOpenBefore, Is
 use Rattle.hart_frame.specs.declared.wire.fault.FrameFault.TheVariants.{BadDelimiter}
 use Rattle.hart_frame.specs.declared.wire.layout.Layout.{Layout}
 use Rattle.hart_frame.specs.declared.scan.candidate.Candidate.TheVariants.{Never}
-use Rattle.hart_frame.proofs.lemmas.scan.Candidate.{may_begin_before, never_after, never_first, never_more, truncated_check, truncated_count}
+use Rattle.hart_frame.proofs.lemmas.scan.Candidate.{may_begin_before, never_after, never_first, never_more, truncated_check}
+use Rattle.hart_frame.proofs.lemmas.scan.Candidate.{truncated_count}
 
 -- what lies after a place of the first bytes of a list
 pub drop_take : (xs : List ℕ) (n m : ℕ) → n ≤ m → drop n (take m xs) ≡ take (m - n) (drop n xs)
@@ -46,7 +48,8 @@ pub record IsSearching (bytes : List ℕ) (from seen place decided : ℕ) : Type
   pub before : IsOpenBefore bytes from seen decided
 
 -- another byte than a preamble byte begins no frame
-never_other : (xs : List ℕ) (here count : ℕ) → here < count → count ≤ length xs → get_or xs here 0 ≢ 255 → NeverBegin (drop here (take count xs))
+never_other : (xs : List ℕ) (here count : ℕ) → here < count → count ≤ length xs → get_or xs here 0 ≢ 255
+    → NeverBegin (drop here (take count xs))
 never_other xs here count below within other =
     let rest : drop here (take count xs) ≡ get_or xs here 0 ∷ take (count - (here + 1)) (drop (here + 1) xs) =
     drop_take xs here count (omega (arith, below))
@@ -211,7 +214,8 @@ searching_run xs from seen place decided (suc count) searching order threes =
     ] in
     record {
       needed = rest.needed;
-      searching = subst (λ (n : ℕ). IsSearching xs from seen n rest.needed) (let e : place + 1 + count ≡ place + suc count = omega arith in e) rest.searching;
+      searching = subst (λ (n : ℕ). IsSearching xs from seen n rest.needed)
+          (let e : place + 1 + count ≡ place + suc count = omega arith in e) rest.searching;
       least = omega (arith, rest.least);
       most = most;
     }
@@ -221,7 +225,8 @@ pub searching_next : (xs : List ℕ) (from seen place decided start : ℕ) → I
     → IsNextStart xs place start → HasPassed xs from seen start decided
 searching_next xs from seen place decided start searching order next =
     let there : next.first + (start - next.first) ≡ start = omega (arith, next.order) in
-    let first = searching_others xs from seen place decided next.first searching next.after (omega (arith, next.order, next.within)) next.others in
+    let first = searching_others xs from seen place decided next.first searching next.after
+    (omega (arith, next.order, next.within)) next.others in
     let Passed : ℕ → Type 0 = λ n. HasPassed xs from seen n decided in
     subst Passed there (searching_run xs from seen next.first decided (start - next.first) first order
     (λ here since below. next.threes here since (omega (arith, below, there))))
@@ -310,7 +315,8 @@ whole_append layout xs ys place within whole = record {
   whole = whole.whole;
 }
 
-pub searched_stands : (xs : List ℕ) (from seen place decided more : ℕ) (layout : Layout) → IsSearching xs from seen place decided → from ≤ seen
+pub searched_stands : (xs : List ℕ) (from seen place decided more : ℕ) (layout : Layout) → IsSearching xs from seen place decided
+    → from ≤ seen
     → IsWhole layout (drop place xs) → MayBeginBefore (2 + layout_length layout) (drop place xs) → layout_length layout ≤ 267
     → decided ≤ more → place + 2 + layout_length layout ≤ more → (more ≤ decided) ⊎ (more ≤ place + 2 + layout_length layout)
     → IsSearched xs from seen (record { place = place; decided = more; layout = Some layout })
@@ -359,11 +365,13 @@ read_rest xs from place after within =
 
 -- so what is said of the first of the rest is said of them in the list
 pub all_rest : (xs : List ℕ) (from count : ℕ) (Of : ℕ → Type 0) → count ≤ length xs - from
-    → All Of (take count (take (length xs - from) (drop from xs))) → (place : ℕ) → from ≤ place → place < from + count → Of (get_or xs place 0)
+    → All Of (take count (take (length xs - from) (drop from xs))) → (place : ℕ) → from ≤ place → place < from + count
+    → Of (get_or xs place 0)
 all_rest xs from count Of within all place after before =
     let rest = take (length xs - from) (drop from xs) in
     let long = length-take-le count rest
     (omega (arith, within, length-take-le (length xs - from) (drop from xs) (omega (arith, length-drop from xs)))) in
     let read : get_or (take count rest) (place - from) 0 ≡ get_or xs place 0 =
-    get_or-take count rest (place - from) 0 (omega (arith, after, before)) ∙ read_rest xs from place after (omega (arith, within, before)) in
+    get_or-take count rest (place - from) 0 (omega (arith, after, before))
+    ∙ read_rest xs from place after (omega (arith, within, before)) in
     subst Of read (all (place - from) 0 (omega (arith, long, after, before)))

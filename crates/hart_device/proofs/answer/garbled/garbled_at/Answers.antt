@@ -48,7 +48,8 @@ made c =
     let count = byte_is chars 7 _ _ long c.byte_at-2.ensures c.in_ok-byte_count.was in
     let many : ℕ = c.unique_request_len.result - 0 in
     let taken : c.in_ok-garbled.garbled.now ≡ take ((get_or chars 7 blank).byte + 9) chars =
-    lookup.0.2 ∙ ap (λ n. take n chars) (let e : many ≡ (get_or chars 7 blank).byte + 9 = omega (arith, count, c.unique_request_len.ensures) in e) in
+    lookup.0.2 ∙ ap (λ n. take n chars) (let e : many ≡ (get_or chars 7 blank).byte + 9 =
+    omega (arith, count, c.unique_request_len.ensures) in e) in
     from_reads c.args.identity.now chars _ blank (record {
       own = c.in_ok-master.ensures.found;
       within = omega (arith, count, c.unique_request_len.ensures, lookup.0.1);

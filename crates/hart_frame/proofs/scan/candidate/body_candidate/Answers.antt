@@ -22,4 +22,5 @@ returns-clause-candidate c =
     let has : HasCheckByte bytes = search rules in
     let is : Describes layout bytes = search rules in
     whole_cut layout bytes len c.check_byte.result c.body_len-len.ensures.len c.if-bytes-len.false
-    (cut_off layout bytes len has is c.body_len-len.ensures.len) (λ i. omega (arith, c.type_inv.bytes i)) c.check_byte.ensures c.if-check_byte-ne0.false
+    (cut_off layout bytes len has is c.body_len-len.ensures.len)
+    (λ i. omega (arith, c.type_inv.bytes i)) c.check_byte.ensures c.if-check_byte-ne0.false

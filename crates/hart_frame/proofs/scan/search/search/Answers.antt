@@ -34,9 +34,11 @@ loop-start-preserved c =
     let order = c.requires.order in
     let passed = searching_next bytes c.args.from c.args.seen c.loop-start.place c.loop-start.decided start c.loop-start.invariant order
     c.in-Some.ensures in
-    searching_never bytes c.args.from c.args.seen start passed.needed count c.max-decided.result passed.searching order c.in-Some.ensures.within
+    searching_never bytes c.args.from c.args.seen start passed.needed count c.max-decided.result passed.searching order
+    c.in-Some.ensures.within
     (begins bytes start (Never count) c.in-Never.ensures.candidate) short.1
-    (least passed.needed c.loop-start.decided (start + 2) c.max-decided.result (omega (arith, most)) (omega (arith, most, short.0)) passed.most)
+    (least passed.needed c.loop-start.decided (start + 2) c.max-decided.result (omega (arith, most))
+    (omega (arith, most, short.0)) passed.most)
     (omega (arith, most)) (greater c.loop-start.decided (start + count) c.max-decided.result passed.needed most passed.least)
 
 pub returns-in-Open : goal.returns-in-Open

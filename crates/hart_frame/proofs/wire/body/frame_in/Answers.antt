@@ -23,7 +23,8 @@ returns c =
       kind = ap (λ (f : FrameParts). f.kind) made;
       address = subst HasAddress (sym made) read;
       expansion = ap (λ (f : FrameParts). f.expansion) made ∙ expansion
-          ∙ ap (λ (n : ℕ). slice_range bytes n c.from-command_place.result) end ∙ ap (λ (n : ℕ). slice_range bytes layout.address_end n) place;
+          ∙ ap (λ (n : ℕ). slice_range bytes n c.from-command_place.result) end
+          ∙ ap (λ (n : ℕ). slice_range bytes layout.address_end n) place;
       command = ap (λ (f : FrameParts). f.command) made ∙ ap (λ (n : ℕ). get_or bytes n 0) place;
       payload =
           ap (λ (f : FrameParts). f.payload) made ∙ payload

@@ -26,7 +26,8 @@ returns-in-Some-clause-seen c =
 
 pub returns-then-is_empty-2-clause-seen : goal.returns-then-is_empty-2-clause-seen
 returns-then-is_empty-2-clause-seen c =
-    given_nothing c.args.self.now c.pass.new.self c.search_held-found.result (scan_of c.end-then-is_empty-2.new.self) c.search_held-found.ensures
+    given_nothing c.args.self.now c.pass.new.self c.search_held-found.result
+    (scan_of c.end-then-is_empty-2.new.self) c.search_held-found.ensures
     c.pass.ensures.passed c.end-then-is_empty-2.ensures.given
 
 pub returns-else-is_empty-2-clause-seen : goal.returns-else-is_empty-2-clause-seen

@@ -21,14 +21,16 @@ returns-then-not-is_drained-clause-hears c =
     let new = c.push_part-taken.new.self in
     hears_until c.args.self.now c.loop-taken.self new (faultless c.args.chunk.now) c.loop-taken.taken c.push_part-taken.result
     c.loop-taken.invariant (λ is. false≢true (sym c.if-not-is_drained.true ∙ c.is_drained.ensures.1 (drained_is new.state is)))
-    (rest_heard (scan_of c.loop-taken.self) (scan_of new) c.args.chunk.now c.loop-taken.taken c.push_part-taken.result c.push_part-taken.ensures.hears)
+    (rest_heard (scan_of c.loop-taken.self) (scan_of new) c.args.chunk.now c.loop-taken.taken c.push_part-taken.result
+    c.push_part-taken.ensures.hears)
 
 pub loop-taken-preserved : goal.loop-taken-preserved
 loop-taken-preserved c =
     let new = c.push_part-taken.new.self in
     hearing_on c.args.self.now c.loop-taken.self new (faultless c.args.chunk.now) c.loop-taken.taken c.push_part-taken.result
     c.loop-taken.invariant c.push_part-taken.ensures.sound (c.is_drained.ensures.0 c.if-not-is_drained.false)
-    (rest_heard (scan_of c.loop-taken.self) (scan_of new) c.args.chunk.now c.loop-taken.taken c.push_part-taken.result c.push_part-taken.ensures.hears)
+    (rest_heard (scan_of c.loop-taken.self) (scan_of new) c.args.chunk.now c.loop-taken.taken c.push_part-taken.result
+    c.push_part-taken.ensures.hears)
 
 pub returns-clause-hears : goal.returns-clause-hears
 returns-clause-hears c =

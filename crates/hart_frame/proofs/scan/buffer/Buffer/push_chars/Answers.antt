@@ -9,7 +9,8 @@ loop-taken-init c = hearing_start c.args.self.now c.args.chunk.now c.requires.so
 
 pub push_stretch-taken-requires-clause-room : goal.push_stretch-taken-requires-clause-room
 push_stretch-taken-requires-clause-room c =
-    room_left c.args.self.now c.loop-taken.self c.args.chunk.now c.args.chunk.now c.loop-taken.taken refl c.loop-taken.invariant c.requires.room
+    room_left c.args.self.now c.loop-taken.self c.args.chunk.now c.args.chunk.now c.loop-taken.taken refl c.loop-taken.invariant
+    c.requires.room
 
 pub returns-then-not-is_drained-clause-hears : goal.returns-then-not-is_drained-clause-hears
 returns-then-not-is_drained-clause-hears c =
@@ -19,9 +20,12 @@ returns-then-not-is_drained-clause-hears c =
 
 pub loop-taken-preserved : goal.loop-taken-preserved
 loop-taken-preserved c =
-    hearing_on c.args.self.now c.loop-taken.self c.push_stretch-taken.new.self c.args.chunk.now c.loop-taken.taken c.push_stretch-taken.result
-    c.loop-taken.invariant c.push_stretch-taken.ensures.sound (c.is_drained.ensures.0 c.if-not-is_drained.false) c.push_stretch-taken.ensures.hears
+    hearing_on c.args.self.now c.loop-taken.self c.push_stretch-taken.new.self c.args.chunk.now c.loop-taken.taken
+    c.push_stretch-taken.result
+    c.loop-taken.invariant c.push_stretch-taken.ensures.sound
+    (c.is_drained.ensures.0 c.if-not-is_drained.false) c.push_stretch-taken.ensures.hears
 
 pub returns-clause-hears : goal.returns-clause-hears
 returns-clause-hears c =
-    hears_all c.args.self.now c.loop-taken.self c.args.chunk.now c.loop-taken.taken c.loop-taken.invariant (omega (arith, c.loop-taken-test.false))
+    hears_all c.args.self.now c.loop-taken.self c.args.chunk.now c.loop-taken.taken c.loop-taken.invariant
+    (omega (arith, c.loop-taken-test.false))

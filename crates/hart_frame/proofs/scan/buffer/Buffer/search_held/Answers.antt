@@ -9,7 +9,8 @@ use Rattle.hart_frame.proofs.lemmas.scan.Decision.{held_searched, looked_on}
 use Rattle.hart_frame.proofs.scan.buffer.Buffer.search_held.Goals as goal
 
 -- what is found in the bytes that are read is found in what is held
-in_held : (held same : List ℕ) (from : ℕ) (found : Sighting) → same ≡ held → IsSearched same from from found → IsSearched held from from found
+in_held : (held same : List ℕ) (from : ℕ) (found : Sighting) → same ≡ held → IsSearched same from from found
+    → IsSearched held from from found
 in_held held same from found is searched =
     let Of : List ℕ → Type 0 = λ xs. IsSearched xs from from found in
     subst Of is searched
@@ -22,14 +23,16 @@ pub loop-found-init : goal.loop-found-init
 loop-found-init c = record {
   from = 0;
   none = λ place below more ended. absurd (omega (arith, below));
-  searched = in_held (held_bytes c.args.self.now) c.held-held.result.now 0 c.search-found.result c.held-held.ensures.held c.search-found.ensures;
+  searched = in_held (held_bytes c.args.self.now) c.held-held.result.now 0 c.search-found.result c.held-held.ensures.held
+      c.search-found.ensures;
 }
 
 pub loop-found-preserved : goal.loop-found-preserved
 loop-found-preserved c =
     let b = c.args.self.now in
     let found = c.loop-found.found in
-    looked_on b found c.search-found-in-loop-found.result c.requires.sound (c.is_ended.ensures.0 c.loop-found-test.true) c.loop-found.invariant
+    looked_on b found c.search-found-in-loop-found.result c.requires.sound
+    (c.is_ended.ensures.0 c.loop-found-test.true) c.loop-found.invariant
     (none_is found.layout (c.is_none.ensures ∙ ap not c.if-is_none.true))
     (in_held (held_bytes b) c.held-held.result.now (found.place + 1) c.search-found-in-loop-found.result c.held-held.ensures.held
     c.search-found-in-loop-found.ensures)

@@ -1,9 +1,10 @@
 use Rattle.std.proofs.Common.{ap, length}
 use Rattle.hart_frame.proofs.lemmas.scan.Buffer.{waits_drained}
-use Rattle.hart_frame.proofs.lemmas.scan.Chunk.{IsKept, hears_kept, sound_kept}
+use Rattle.hart_frame.proofs.lemmas.scan.Part.{IsKept, hears_kept, sound_kept}
 use Rattle.hart_frame.proofs.scan.buffer.Buffer.settle.Goals as goal
 
-kept : (c : goal.After-struct_known-1) → IsKept c.args.self.now (record c.keep.new.self { state = c.state_of-self.result }) c.args.part.now c.args.found
+kept : (c : goal.After-struct_known-1) → IsKept c.args.self.now
+    (record c.keep.new.self { state = c.state_of-self.result }) c.args.part.now c.args.found
 kept c =
     let keep = c.keep.ensures in
     record {
