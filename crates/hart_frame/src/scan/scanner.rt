@@ -74,7 +74,7 @@ impl Scanner {
     /// that with the chunk they are fewer than 2^64.
     ///
     /// It is what so many calls of [`Scanner::push`] are, if [`Scanner::take`] gives `None` after each of them but the last.
-    /// Bytes that can be no part of a frame are not copied.
+    /// If the scanner holds nothing, the bytes are searched where they lie, and only what it then holds of them is copied.
     pub fn push_bytes(&mut self, chunk: &[u8]) -> usize
         requires drained { IsTrue self.old.drained }
         requires room { self.old.first + length self.old.held + length chunk.now < 2 ^ 64 }
