@@ -210,8 +210,7 @@ impl Buffer {
         self.state = State::Busy;
         self.first += place as u64;
         if held <= place {
-            self.bytes.clear();
-            self.from = 0;
+            self.pass_all();
             self.bytes
                 .extend_from_slice(&chunk[place - held..stop - held]);
         } else {
@@ -219,6 +218,17 @@ impl Buffer {
             self.from += place;
             self.bytes.extend_from_slice(&chunk[..stop - held]);
         }
+    }
+
+    /// Passes all bytes of the list, and removes them if there is no room after them for as many as are held.
+    fn pass_all(&mut self)
+        ensures room { length self.new.bytes + 269 ≤ 538 }
+        ensures same { self.new ≡ record self.old { bytes = self.new.bytes; from = length self.new.bytes } }
+    {
+        if self.bytes.len() + MOST_HELD > ROOM {
+            self.bytes.clear();
+        }
+        self.from = self.bytes.len();
     }
 
     /// Moves what is held to the start of the list, if there is no room for as much again.
@@ -242,17 +252,9 @@ impl Buffer {
         requires sound { IsSound self.old }
         requires empty { held_bytes self.old ≡ [] }
         ensures moves { MovesPast (scan_of self.old) (scan_of self.new) [] }
-        ensures left { self.new ≡ record self.old {
-          bytes = [];
-          from = 0;
-          first = self.new.first;
-          damaged = None;
-          state = Drained;
-        } }
+        ensures left { self.new ≡ record self.old { first = self.new.first; damaged = None; state = Drained } }
         ensures first { self.new.first < 2 ^ 64 }
     {
-        self.bytes.clear();
-        self.from = 0;
         self.state = State::Drained;
         if self.damaged.is_none() {
             return;

@@ -2,7 +2,8 @@
 use Rattle.std.proofs.Common.{◌≡◌, ℕ, ◌+◌, ◌-◌, ◌≤◌, inl, true, IsTrue, List, [], ◌++◌, length}
 use Rattle.std.proofs.Common.{take, drop, Option, None, refl, sym, ap, ◌∙◌, arith, subst}
 use Rattle.std.specs.Option.{option_to_list}
-use Rattle.std.proofs.lemmas.List.{append-nil, drop-append-le, drop-drop}
+use Rattle.std.proofs.Math.Seq.{drop-append-add, drop-append_seam}
+use Rattle.std.proofs.lemmas.List.{append-nil, drop-append-le, drop-drop, drop-take}
 use Rattle.hart_frame.specs.heard.Character.{Character, faultless}
 use Rattle.hart_frame.specs.heard.Frames.{IsUndecided}
 use Rattle.hart_frame.specs.scan.Buffer.{IsMeant, IsSound, IsWaiting, held_bytes, is_drained, scan_of}
@@ -54,6 +55,12 @@ waits b new waiting same =
       drained = refl;
     })
 
+-- the first of what is held and of a chunk after it
+first_both : (held chunk : List ℕ) (stop count : ℕ) → count ≡ length held → count ≤ stop
+    → take stop (held ++ chunk) ≡ held ++ take (stop - count) chunk
+first_both held chunk stop count long after =
+    take_both held chunk stop (omega (arith, long, after)) ∙ ap (λ (k : ℕ). held ++ take (stop - k) chunk) (sym long)
+
 -- what is kept of what is held and of a chunk after it
 pub kept_after : (held chunk bytes new : List ℕ) (from place stop count : ℕ) → from ≤ length bytes → drop from bytes ≡ held
     → count ≡ length held
@@ -63,9 +70,22 @@ kept_after held chunk bytes new from place stop count within same long after ins
     let part = take (stop - count) chunk in
     let rest : drop from new ≡ held ++ part =
     ap (drop from) is ∙ drop-append-le from bytes part within ∙ ap (λ (xs : List ℕ). xs ++ part) same in
-    let both : take stop (held ++ chunk) ≡ held ++ part =
-    take_both held chunk stop (omega (arith, long, after)) ∙ ap (λ (k : ℕ). held ++ take (stop - k) chunk) (sym long) in
-    sym (drop-drop place from new) ∙ ap (drop place) (rest ∙ sym both)
+    sym (drop-drop place from new) ∙ ap (drop place) (rest ∙ sym (first_both held chunk stop count long after))
+
+-- what is kept of a chunk alone
+pub kept_past : (held chunk bytes new : List ℕ) (from place stop count : ℕ) → from ≡ length bytes → count ≡ length held
+    → count ≤ place → place ≤ stop → new ≡ bytes ++ take (stop - count - (place - count)) (drop (place - count) chunk)
+    → drop from new ≡ drop place (take stop (held ++ chunk))
+kept_past held chunk bytes new from place stop count end long past order is =
+    let size = place - count in
+    let more = stop - count - size in
+    let there : place ≡ length held + size = omega (arith, long, past) in
+    let all : stop - count ≡ size + more = omega (arith, past, order) in
+    ap (λ (k : ℕ). drop k new) end ∙ ap (drop (length bytes)) is ∙ drop-append_seam bytes (take more (drop size chunk))
+    ∙ sym (drop-take size more chunk) ∙ ap (λ (k : ℕ). drop size (take k chunk)) (sym all)
+    ∙ sym (drop-append-add held (take (stop - count) chunk) size)
+    ∙ ap (λ (k : ℕ). drop k (held ++ take (stop - count) chunk)) (sym there)
+    ∙ ap (drop place) (sym (first_both held chunk stop count long (omega (arith, past, order))))
 
 pub drained_is : (state : State) → IsTrue (is_drained state) → state ≡ Drained
 drained_is Drained is = refl

@@ -10,4 +10,4 @@ returns-clause-moves c =
     let old = c.args.self.now in
     moves_damaged old.damaged (scan_of old) _ c.requires.sound.stored.damage c.if-is_none.ensures
     (ap (λ (xs : List ℕ). faultless xs ++ option_to_list old.damaged) c.requires.empty)
-    (ap (λ (xs : List ℕ). faultless xs ++ []) c.clear.ensures) refl refl
+    (ap (λ (xs : List ℕ). faultless xs ++ []) c.requires.empty) refl refl
