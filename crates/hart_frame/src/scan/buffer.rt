@@ -1,6 +1,6 @@
 //! The characters that a scanner holds.
 ghost use Rattle.std.specs.Prelude.{◌≡◌, ◌<◌, ◌≤◌, ◌+◌, ◌-◌, ◌^◌, ◌∷◌, [], ◌++◌, ◌↔◌, None, IsTrue, drop, length, take};
-ghost use Rattle.hart_frame.specs.scan.Buffer.{IsEnded, IsSound, held_bytes, scan_of};
+ghost use Rattle.hart_frame.specs.scan.Buffer.{IsEnded, IsSound, IsStored, held_bytes, scan_of};
 ghost use Rattle.hart_frame.specs.scan.Decision.{body_at};
 ghost use Rattle.hart_frame.specs.scan.Scanner.{GivesNothing, MovesPast, finishing, hearing, new_scan};
 ghost use Rattle.hart_frame.specs.scan.View.{parts_of};
@@ -70,7 +70,7 @@ impl Buffer {
 
     /// The faultless bytes that are held.
     pub(crate) fn held(&self) -> &[u8]
-        requires sound { IsSound self.now }
+        requires stored { IsStored self.now }
         ensures held { result.now ≡ held_bytes self.now }
         ensures few { length result.now ≤ 269 }
     {
@@ -192,22 +192,21 @@ impl Buffer {
 
     /// Holds a part of what is held and of a chunk after it, and passes what stands before that part.
     pub(crate) fn keep(&mut self, chunk: &[u8], place: usize, stop: usize)
-        requires sound { IsSound self.old }
+        requires stored { IsStored self.old }
         requires clear { self.old.damaged ≡ None }
         requires order { place ≤ stop }
         requires after { length (held_bytes self.old) ≤ stop }
         requires within { stop ≤ length (held_bytes self.old) + length chunk.now }
         requires few { stop ≤ place + 269 }
         requires places { self.old.first + stop < 2 ^ 64 }
-        ensures sound { IsSound self.new }
+        ensures stored { IsStored self.new }
         ensures held { held_bytes self.new ≡ drop place (take stop (held_bytes self.old ++ chunk.now)) }
         ensures first { self.new.first ≡ self.old.first + place }
         ensures damaged { self.new.damaged ≡ None }
-        ensures busy { self.new.state ≡ Busy }
+        ensures state { self.new.state ≡ self.old.state }
         ensures finished { self.new.finished ≡ self.old.finished }
     {
         let held = self.held().len();
-        self.state = State::Busy;
         self.first += place as u64;
         if held <= place {
             self.pass_all();

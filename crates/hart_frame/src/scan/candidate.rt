@@ -2,10 +2,10 @@
 ghost use Rattle.std.specs.Prelude.{◌≡◌, ◌<◌, length, slice_index};
 ghost use Rattle.hart_frame.specs.scan.Candidate.{IsBodyCandidate, IsCandidate, IsShort};
 
-use crate::check_byte;
 use crate::wire::delimiter::read_delimiter;
 use crate::wire::layout::Layout;
 use crate::wire::message::PREAMBLE;
+use crate::wire::parity::body_check;
 
 /// How bytes begin.
 #[derive(Clone, Copy)]
@@ -60,7 +60,7 @@ fn body_candidate(bytes: &[u8]) -> Candidate
     if bytes.len() < len {
         return Candidate::Open;
     }
-    if check_byte(&bytes[..len]) != 0 {
+    if body_check(&bytes[..len]) != 0 {
         return Candidate::Never(len);
     }
     Candidate::Whole(layout)

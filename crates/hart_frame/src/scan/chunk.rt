@@ -66,6 +66,7 @@ impl Buffer {
     }
 
     /// Hears as much of a part as what was found in the bytes that are held and that part says, and gives how much.
+    #[inline(always)]
     fn settle(&mut self, part: &[u8], found: Sighting) -> usize
         requires sound { IsSound self.old }
         requires drained { self.old.state ≡ Drained }

@@ -16,3 +16,19 @@ pub fn check_byte(bytes: &[u8]) -> u8
     let check = lanes.reduce_xor();
     rest.iter().fold(check, |check, byte| check ^ byte)
 }
+
+/// The same, by four bytes at a time if they are few, as those of most bodies are.
+pub(crate) fn body_check(bytes: &[u8]) -> u8
+    ensures { IsCheckByte bytes.now result }
+{
+    if bytes.len() >= 32 {
+        return check_byte(bytes);
+    }
+    let (words, rest) = bytes.as_chunks::<4>();
+    let mut lanes = u8x4::splat(0);
+    for word in words {
+        lanes ^= u8x4::from_array(*word);
+    }
+    let check = lanes.reduce_xor();
+    rest.iter().fold(check, |check, byte| check ^ byte)
+}

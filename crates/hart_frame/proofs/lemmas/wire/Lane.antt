@@ -55,29 +55,25 @@ first_chunks-at n (suc count) (suc index) xs below =
     next : (n index : ℕ) → n + n * index ≡ n * suc index
     next n index = grind arith
 
--- one more block of 32
-pub xor_of-block : (bytes lanes block : List ℕ) (index : ℕ) → length lanes ≡ 32 → 32 * index + 32 ≤ length bytes
-    → block ≡ take 32 (drop (32 * index) bytes) → xor_of lanes ≡ xor_of (take (32 * index) bytes)
-    → xor_of (zip2 bit_xor lanes block) ≡ xor_of (take (32 * (index + 1)) bytes)
-xor_of-block bytes lanes block index full within is before = go 32 (32 * index) (32 * (index + 1)) (omega arith) full within is before
-  where
-    go : (n from to : ℕ) → to ≡ from + n → length lanes ≡ n → from + n ≤ length bytes → block ≡ take n (drop from bytes)
-        → xor_of lanes ≡ xor_of (take from bytes) → xor_of (zip2 bit_xor lanes block) ≡ xor_of (take to bytes)
-    go n from to there full within is before =
-        let long : length block ≡ n = rw is (length-chunk from n bytes within) in
-        xor_of-zip2 lanes block (full ∙ sym long)
-        ∙ ap (λ x. bit_xor x (xor_of block)) before
-        ∙ sym (fold-start (xor_of (take from bytes)) block)
-        ∙ sym (fold-append bit_xor 0 (take from bytes) block)
-        ∙ (let joined : take from bytes ++ block ≡ take to bytes = rw (is, there) (sym (take-add from n bytes)) in ap xor_of joined)
+-- one more block of so many
+pub xor_of-block : (width index : ℕ) (bytes lanes block : List ℕ) → length lanes ≡ width → width * index + width ≤ length bytes
+    → block ≡ take width (drop (width * index) bytes) → xor_of lanes ≡ xor_of (take (width * index) bytes)
+    → xor_of (zip2 bit_xor lanes block) ≡ xor_of (take (width * (index + 1)) bytes)
+xor_of-block width index bytes lanes block full within is before =
+    let from = width * index in
+    let to : from + width ≡ width * (index + 1) = grind arith in
+    let long : length block ≡ width = rw is (length-chunk from width bytes within) in
+    xor_of-zip2 lanes block (full ∙ sym long)
+    ∙ ap (λ x. bit_xor x (xor_of block)) before
+    ∙ sym (fold-start (xor_of (take from bytes)) block)
+    ∙ sym (fold-append bit_xor 0 (take from bytes) block)
+    ∙ ap (λ (x : List ℕ). xor_of (take from bytes ++ x)) is
+    ∙ ap xor_of (sym (take-add from width bytes))
+    ∙ ap (λ (k : ℕ). xor_of (take k bytes)) to
 
 -- the rest after the blocks
-pub xor_of-rest : (bytes lanes rest : List ℕ) (index : ℕ) → xor_of lanes ≡ xor_of (take (32 * index) bytes)
-    → rest ≡ drop (32 * index) bytes → fold bit_xor (fold_l bit_xor 0 lanes) rest ≡ xor_of bytes
-xor_of-rest bytes lanes rest index before is = go (32 * index) before is
-  where
-    go : (n : ℕ) → xor_of lanes ≡ xor_of (take n bytes) → rest ≡ drop n bytes
-        → fold bit_xor (fold_l bit_xor 0 lanes) rest ≡ xor_of bytes
-    go n before is =
-        rw (fold_l-fold 0 lanes, before, is) (sym (fold-append bit_xor 0 (take n bytes) (drop n bytes)))
-        ∙ ap xor_of (take-append-drop n bytes)
+pub xor_of-rest : (count : ℕ) (bytes lanes rest : List ℕ) → xor_of lanes ≡ xor_of (take count bytes) → rest ≡ drop count bytes
+    → fold bit_xor (fold_l bit_xor 0 lanes) rest ≡ xor_of bytes
+xor_of-rest count bytes lanes rest before is =
+    rw (fold_l-fold 0 lanes, before, is) (sym (fold-append bit_xor 0 (take count bytes) (drop count bytes)))
+    ∙ ap xor_of (take-append-drop count bytes)

@@ -12,7 +12,7 @@ loop-block-preserved c =
     let below : index < length bytes / 32 = omega (arith, c.as_chunks.ensures.front_len) in
     let chunk = ap (λ chunks. slice_index_or chunks index []) c.as_chunks.ensures.front
     ∙ first_chunks-at 32 (length bytes / 32) index bytes below in
-    xor_of-block bytes c.loop-block.lanes _ index c.loop-block.auto.lanes.0 (omega arith) chunk c.loop-block.invariant
+    xor_of-block 32 index bytes c.loop-block.lanes _ c.loop-block.auto.lanes.0 (omega arith) chunk c.loop-block.invariant
 
 pub returns : goal.returns
 returns c =
@@ -23,4 +23,4 @@ returns c =
     let whole : length bytes / 32 * 32 ≡ 32 * index = omega (arith, c.as_chunks.ensures.front_len) in
     let rest = rw whole at c.as_chunks.ensures.back in
     IsCheckByte-fold bytes c.fold.result (λ i. omega (arith, c.type_inv.bytes i))
-    (folded ∙ xor_of-rest bytes lanes _ index c.loop-block.invariant rest)
+    (folded ∙ xor_of-rest (32 * index) bytes lanes _ c.loop-block.invariant rest)

@@ -19,7 +19,7 @@ kept c =
 
 pub returns-clause-sound : goal.returns-clause-sound
 returns-clause-sound c =
-    let stored = c.keep.ensures.sound.stored in
+    let stored = c.keep.ensures.stored in
     let new = record c.keep.new.self { state = c.state_of-self.result } in
     sound_kept c.args.self.now new c.args.part.now c.args.found
     (record { within = stored.within; room = stored.room; damage = stored.damage; few = stored.few; places = stored.places }) (kept c)
