@@ -231,6 +231,7 @@ impl Buffer {
     }
 
     /// Moves what is held to the start of the list, if there is no room for as much again.
+    #[inline(never)]
     fn make_room(&mut self)
         requires within { self.old.from ≤ length self.old.bytes }
         requires few { length (held_bytes self.old) ≤ 269 }

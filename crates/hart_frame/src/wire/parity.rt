@@ -29,6 +29,6 @@ pub(crate) fn body_check(bytes: &[u8]) -> u8
     for word in words {
         lanes ^= u8x4::from_array(*word);
     }
-    let check = lanes.reduce_xor();
-    rest.iter().fold(check, |check, byte| check ^ byte)
+    rest.iter()
+        .fold(lanes.reduce_xor(), |check, byte| check ^ byte)
 }
