@@ -1,5 +1,5 @@
 -- What a search finds of frames in faultless bytes (own profile). For private calls alone.
-use Rattle.std.specs.Prelude.{◌≡◌, ◌≢◌, ℕ, ◌+◌, ◌<◌, ◌≤◌, List, MatchOption, length, slice_index, take, drop}
+use Rattle.std.specs.Prelude.{◌≡◌, ◌≢◌, ℕ, ◌+◌, ◌<◌, ◌≤◌, ◌⊎◌, List, MatchOption, length, slice_index, take, drop}
 use Rattle.hart_frame.specs.scan.Candidate.{IsWhole, MayBegin, NeverBegin}
 use Rattle.hart_frame.specs.declared.scan.search.Sighting.{Sighting}
 
@@ -41,18 +41,15 @@ pub record IsSearched (bytes : List ℕ) (from seen : ℕ) (found : Sighting) : 
 abbrev pub HasNoPreamble : List ℕ → ℕ → Type 0
 HasNoPreamble bytes from = (place : ℕ) → from ≤ place → place < length bytes → slice_index bytes place ≢ 255
 
--- Three preamble bytes stand at a place of a list and right after it.
+-- A preamble byte stands at a place of a list, and two more right after it.
 abbrev pub HasThree : List ℕ → ℕ → Type 0
 HasThree bytes place = (place + 3 ≤ length bytes) × (slice_index bytes place ≡ 255) × (slice_index bytes (place + 1) ≡ 255)
     × (slice_index bytes (place + 2) ≡ 255)
 
--- The next start from a place on is a preamble byte, before which stand, from the first preamble byte on, others with two more after
--- each of them.
-pub record IsNextStart (bytes : List ℕ) (from start : ℕ) : Type 0 where
-  pub first : ℕ
-  pub after : from ≤ first
-  pub order : first ≤ start
+-- The next candidate from a place on is the first preamble byte that no two more follow.
+pub record IsNextCandidate (bytes : List ℕ) (from start : ℕ) : Type 0 where
+  pub after : from ≤ start
   pub within : start < length bytes
   pub preamble : slice_index bytes start ≡ 255
-  pub others : (place : ℕ) → from ≤ place → place < first → slice_index bytes place ≢ 255
-  pub threes : (place : ℕ) → first ≤ place → place < start → HasThree bytes place
+  pub last : HasThree bytes start → ⊥
+  pub passed : (place : ℕ) → from ≤ place → place < start → (slice_index bytes place ≢ 255) ⊎ HasThree bytes place

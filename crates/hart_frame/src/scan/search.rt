@@ -1,6 +1,6 @@
 //! The search of frames in faultless bytes, where they lie.
 ghost use Rattle.std.specs.Prelude.{None, false, ◌≡◌, ◌≢◌, ◌<◌, ◌≤◌, ◌+◌, ℕ, All, MatchOption, length, slice_index, take};
-ghost use Rattle.hart_frame.specs.scan.Search.{HasNoPreamble, IsNextStart, IsSearched};
+ghost use Rattle.hart_frame.specs.scan.Search.{HasNoPreamble, IsNextCandidate, IsSearched};
 
 use crate::scan::candidate::{Candidate, candidate_in};
 use crate::wire::layout::Layout;
@@ -27,7 +27,7 @@ pub(crate) fn search(bytes: &[u8], from: usize, seen: usize) -> Sighting
 {
     let mut place = from;
     let mut decided = seen;
-    while let Some(start) = next_start(bytes, place) {
+    while let Some(start) = next_candidate(bytes, place) {
         match candidate_in(&bytes[start..]) {
             Candidate::Never(count) => {
                 decided = decided.max(start + count);
@@ -59,9 +59,9 @@ fn open_at(bytes: &[u8], place: usize) -> Sighting
 
 /// The place at which the next frame may begin from a place on, or `None` if no preamble byte follows: of several preamble bytes in
 /// a row it is the last but one.
-fn next_start(bytes: &[u8], from: usize) -> Option<usize>
+fn next_candidate(bytes: &[u8], from: usize) -> Option<usize>
     requires { from ≤ length bytes.now }
-    ensures { MatchOption result (HasNoPreamble bytes.now from) (IsNextStart bytes.now from) }
+    ensures { MatchOption result (HasNoPreamble bytes.now from) (IsNextCandidate bytes.now from) }
 {
     let first = next_preamble(bytes, from);
     if first == bytes.len() {

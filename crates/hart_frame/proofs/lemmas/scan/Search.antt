@@ -8,7 +8,7 @@ use Rattle.std.proofs.Math.Seq.{take-add, take-append-add, take-length}
 use Rattle.hart_frame.specs.wire.Layout.{layout_length}
 use Rattle.hart_frame.specs.wire.Refusal.{IsTruncated}
 use Rattle.hart_frame.specs.scan.Candidate.{IsCandidate, IsWhole, MayBegin, MayBeginBefore, NeverBegin}
-use Rattle.hart_frame.specs.scan.Search.{HasThree, IsNextStart, IsOpenBefore, IsOpenFrom, IsSearched, NoneBegin}
+use Rattle.hart_frame.specs.scan.Search.{HasThree, IsNextCandidate, IsOpenBefore, IsOpenFrom, IsSearched, NoneBegin}
 use Rattle.hart_frame.specs.declared.wire.fault.FrameFault.TheVariants.{BadDelimiter}
 use Rattle.hart_frame.specs.declared.wire.layout.Layout.{Layout}
 use Rattle.hart_frame.specs.declared.scan.candidate.Candidate.TheVariants.{Never}
@@ -190,46 +190,53 @@ pub record HasPassed (xs : List ℕ) (from seen place decided : ℕ) : Type 0 wh
   pub most : (needed ≤ decided) ⊎ (needed ≤ place + 2)
 
 searching_run : (xs : List ℕ) (from seen place decided count : ℕ) → IsSearching xs from seen place decided → from ≤ seen
-    → ((here : ℕ) → place ≤ here → here < place + count → HasThree xs here) → HasPassed xs from seen (place + count) decided
-searching_run xs from seen place decided zero searching order threes = record {
+    → place + count ≤ length xs
+    → ((here : ℕ) → place ≤ here → here < place + count → (get_or xs here 0 ≢ 255) ⊎ HasThree xs here)
+    → HasPassed xs from seen (place + count) decided
+searching_run xs from seen place decided zero searching order within passed = record {
   needed = decided;
   searching = subst (λ (n : ℕ). IsSearching xs from seen n decided) (let e : place ≡ place + 0 = omega arith in e) searching;
   least = omega arith;
   most = inl (omega arith);
 }
-searching_run xs from seen place decided (suc count) searching order threes =
-    let three = threes place (omega arith) (omega arith) in
-    let more = max decided (place + 3) in
-    let either : (more ≤ decided) ⊎ (more ≤ place + 3) = grind arith in
-    let next = searching_never xs from seen place decided 3 more searching order (omega (arith, three.0)) (three_never xs place three)
-    (omega arith) (omega arith) (omega arith) either in
-    let rest = searching_run xs from seen (place + 1) more count next order
-    (λ here since below. threes here (omega (arith, since)) (omega (arith, below))) in
-    let most : (rest.needed ≤ decided) ⊎ (rest.needed ≤ place + suc count + 2) = elim rest.most [
-      | inr few ↦ inr (omega (arith, few))
-      | inl same ↦ elim either [
-        | inl old ↦ inl (omega (arith, same, old))
-        | inr new ↦ inr (omega (arith, same, new))
-      ]
-    ] in
-    record {
-      needed = rest.needed;
-      searching = subst (λ (n : ℕ). IsSearching xs from seen n rest.needed)
-          (let e : place + 1 + count ≡ place + suc count = omega arith in e) rest.searching;
-      least = omega (arith, rest.least);
-      most = most;
-    }
-
--- a search goes on at the next start
-pub searching_next : (xs : List ℕ) (from seen place decided start : ℕ) → IsSearching xs from seen place decided → from ≤ seen
-    → IsNextStart xs place start → HasPassed xs from seen start decided
-searching_next xs from seen place decided start searching order next =
-    let there : next.first + (start - next.first) ≡ start = omega (arith, next.order) in
-    let first = searching_others xs from seen place decided next.first searching next.after
-    (omega (arith, next.order, next.within)) next.others in
+searching_run xs from seen place decided (suc count) searching order within passed =
+    let there : place + 1 + count ≡ place + suc count = omega arith in
     let Passed : ℕ → Type 0 = λ n. HasPassed xs from seen n decided in
-    subst Passed there (searching_run xs from seen next.first decided (start - next.first) first order
-    (λ here since below. next.threes here since (omega (arith, below, there))))
+    let later : (here : ℕ) → place + 1 ≤ here → here < place + 1 + count → (get_or xs here 0 ≢ 255) ⊎ HasThree xs here =
+    λ here since below. passed here (omega (arith, since)) (omega (arith, below)) in
+    elim (passed place (omega arith) (omega arith)) [
+      | inl other ↦
+          let others : (here : ℕ) → place ≤ here → here < place + 1 → get_or xs here 0 ≢ 255 = λ here since below.
+          let same : place ≡ here = omega (arith, since, below) in
+          subst (λ (n : ℕ). get_or xs n 0 ≢ 255) same other in
+          subst Passed there (searching_run xs from seen (place + 1) decided count
+          (searching_others xs from seen place decided (place + 1) searching (omega arith) (omega (arith, within)) others) order
+          (omega (arith, within)) later)
+      | inr three ↦
+          let more = max decided (place + 3) in
+          let either : (more ≤ decided) ⊎ (more ≤ place + 3) = grind arith in
+          let next = searching_never xs from seen place decided 3 more searching order (omega (arith, three.0))
+          (three_never xs place three) (omega arith) (omega arith) (omega arith) either in
+          let rest = searching_run xs from seen (place + 1) more count next order (omega (arith, within)) later in
+          let most : (rest.needed ≤ decided) ⊎ (rest.needed ≤ place + 1 + count + 2) = elim rest.most [
+            | inr few ↦ inr few
+            | inl same ↦ elim either [
+              | inl old ↦ inl (omega (arith, same, old))
+              | inr new ↦ inr (omega (arith, same, new))
+            ]
+          ] in
+          subst Passed there
+          (record { needed = rest.needed; searching = rest.searching; least = omega (arith, rest.least); most = most })
+    ]
+
+-- a search goes on at the next candidate
+pub searching_next : (xs : List ℕ) (from seen place decided start : ℕ) → IsSearching xs from seen place decided → from ≤ seen
+    → IsNextCandidate xs place start → HasPassed xs from seen start decided
+searching_next xs from seen place decided start searching order next =
+    let there : place + (start - place) ≡ start = omega (arith, next.after) in
+    let Passed : ℕ → Type 0 = λ n. HasPassed xs from seen n decided in
+    subst Passed there (searching_run xs from seen place decided (start - place) searching order (omega (arith, there, next.within))
+    (λ here since below. next.passed here since (omega (arith, below, there))))
 
 -- what ends too early ends too early if it ends earlier
 truncated_take : (xs : List ℕ) (n : ℕ) → n ≤ length xs → IsTruncated xs → IsTruncated (take n xs)
