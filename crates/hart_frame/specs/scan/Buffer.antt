@@ -33,7 +33,8 @@ scan_of b = record {
   drained = is_drained b.state;
 }
 
--- Characters are stored if they are at most 269, in their places of the list and of what is heard, the last of them alone with faults.
+-- Characters are stored if they are at most 269, of which the last alone may have faults; the list has at most 538 bytes, and
+-- places fit in 64 bits.
 pub record IsStored (b : Buffer) : Type 0 where
   pub within : b.from ≤ length b.bytes
   pub room : length b.bytes ≤ 538
@@ -59,6 +60,6 @@ pub record IsSound (b : Buffer) : Type 0 where
   pub stored : IsStored b
   pub meant : IsMeant b b.state
 
--- No byte can follow what is held: the scanner is finished, or a character with faults was heard.
+-- No byte can follow what is held: the scanner is finished, or a character with faults is held as the last.
 abbrev pub IsEnded : Buffer → Type 0
 IsEnded b = (b.finished ≡ true) ⊎ (b.damaged ≢ None)

@@ -19,7 +19,8 @@ pub record NeverBecomeBody (bytes : List ℕ) : Type 0 where
   pub refused : IsRefusedWith bytes fault
   pub decided : fault ≢ Truncated
 
--- Bytes are a whole body by a layout if it describes them, ends where they end, and their parity is even.
+-- Bytes are a whole body by a layout if nothing is wrong up to their check byte, the layout describes them and ends where they end,
+-- their parity is even, and all are bytes.
 pub record IsWholeBody (layout : Layout) (bytes : List ℕ) : Type 0 where
   pub described : Describes layout bytes
   pub checked : HasCheckByte bytes
@@ -67,7 +68,7 @@ IsCandidate bytes (Never count) = (count ≤ length bytes) × NeverBegin (take c
 IsCandidate bytes Open = MayBegin bytes
 IsCandidate bytes (Whole layout) = IsWhole layout bytes × MayBeginBefore (2 + layout_length layout) bytes
 
--- So many bytes at least show that there is no frame, and none is longer than the longest.
+-- Between so many and so many bytes show that no frame begins; open ones are fewer; no body has more than 267.
 abbrev pub IsShort : ℕ → ℕ → List ℕ → Candidate → Type 0
 IsShort least most bytes (Never count) = (least ≤ count) × (count ≤ most)
 IsShort least most bytes Open = length bytes < most

@@ -6,15 +6,15 @@ use Rattle.hart_frame.specs.heard.Place.{StandsIn}
 use Rattle.hart_frame.specs.scan.Scanner.{MovesPast, Scan, hearing}
 use Rattle.hart_frame.specs.declared.heard.found.Found.{Found}
 
--- A scanner holds a frame if what it holds begins with two preamble bytes and the frame's body.
-abbrev pub HoldsFrame : Scan → Type 0
-HoldsFrame scan = (found : Found) × StandsIn found scan.held 0 × (found.start ≡ 2)
+-- A scanner begins with a frame if what it holds begins with two preamble bytes and the frame's body.
+abbrev pub BeginsWithFrame : Scan → Type 0
+BeginsWithFrame scan = (found : Found) × StandsIn found scan.held 0 × (found.start ≡ 2)
 
--- A scanner stops after so many bytes of a chunk if they are all of it and nothing is decided in what it then holds; or if that
--- begins with a frame.
+-- A scanner stops after so many characters of a chunk if it is drained, they are all of it and nothing is decided in what it then
+-- holds; or if it is not, and that begins with a frame.
 abbrev pub StopsAt : Scan → ℕ → ℕ → Type 0
 StopsAt scan count all =
-    ((scan.drained ≡ true) × IsUndecided scan.held × (count ≡ all)) ⊎ ((scan.drained ≡ false) × HoldsFrame scan)
+    ((scan.drained ≡ true) × IsUndecided scan.held × (count ≡ all)) ⊎ ((scan.drained ≡ false) × BeginsWithFrame scan)
 
 -- For private calls alone:
 

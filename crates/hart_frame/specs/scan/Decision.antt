@@ -34,7 +34,7 @@ pub record HoldsWhole (old new : Buffer) (layout : Layout) : Type 0 where
   pub moves : MovesPast (scan_of old) (scan_of new) []
   pub finished : new.finished ≡ old.finished
   pub busy : is_drained old.state ≡ false
-  pub drained : is_drained new.state ≡ false
+  pub undrained : is_drained new.state ≡ false
   pub begins : IsWhole layout (held_bytes new)
 
 -- With none of the first bytes that are held a frame begins, whatever may still be heard.

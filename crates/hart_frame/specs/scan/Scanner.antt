@@ -5,7 +5,8 @@ use Rattle.hart_frame.specs.heard.Frames.{AreFrames, HasNoFrame, IsUndecided}
 use Rattle.hart_frame.specs.declared.heard.found.Found.{Found}
 
 -- A scanner stands for the characters that it holds, with the place of the first of them, or of the next one if it holds none.
--- It is finished if no more is to come, and drained if it is new, or gave none and heard nothing since, nor the finish.
+-- It is finished if no more is to come, and drained if it is new, gave none, or heard a chunk to its end with nothing decided, and
+-- heard nothing since, nor the finish.
 pub record Scan : Type 0 where
   pub first : ℕ
   pub held : List Character
@@ -39,14 +40,15 @@ pub record MovesPast (old new : Scan) (given : List Found) : Type 0 where
   pub frames : (more chars : List Character) (later : List Found) → CanHear old more chars
       → AreFrames chars new.first later → AreFrames chars old.first (given ++ later)
 
--- A scanner that gives a frame moves past it, and then holds what comes after its body. More may be given.
+-- A scanner that gives a frame moves past it, and then holds what comes after its body. It is as finished as it was, and not
+-- drained, neither before nor after: more may be given.
 pub record Gives (old new : Scan) (found : Found) : Type 0 where
   pub moves : MovesPast old new (found ∷ [])
   pub stop : new.first ≡ found.stop
   pub finished : new.finished ≡ old.finished
   pub undrained : (old.drained ≡ false) × (new.drained ≡ false)
 
--- A scanner that waits moves past none, and nothing is decided in what it then holds.
+-- A scanner that waits is not finished, moves past no frame, decides nothing in what it then holds, and is drained.
 pub record Waits (old new : Scan) : Type 0 where
   pub going : old.finished ≡ false
   pub moves : MovesPast old new []

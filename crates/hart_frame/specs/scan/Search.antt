@@ -15,7 +15,8 @@ pub record IsOpenFrom (bytes : List ℕ) (from : ℕ) : Type 0 where
   pub none : NoneBegin bytes from place
   pub may : MayBegin (drop place bytes)
 
--- It is so of the first bytes of a list that are at least as many as were seen before, and fewer than so many.
+-- Nothing is decided from a place on of the first bytes of a list, be they as many as were seen before or more, but fewer than so
+-- many.
 abbrev pub IsOpenBefore : List ℕ → ℕ → ℕ → ℕ → Type 0
 IsOpenBefore bytes from seen count = (fewer : ℕ) → seen ≤ fewer → fewer < count → IsOpenFrom (take fewer bytes) from
 
@@ -24,8 +25,9 @@ abbrev pub IsOpenAll : List ℕ → Sighting → Type 0
 IsOpenAll bytes found =
     (found.decided ≡ length bytes) × (length bytes < found.place + 269) × MayBegin (drop found.place bytes)
 
--- A search of a list from a place on finds a later place, before which no frame begins, as the first bytes show, and fewer show
--- nothing: from there on these bytes begin with a frame, or else all bytes decide nothing.
+-- A search of a list from a place on finds a place at or after it, at most 269 bytes before the end of those that show it: no frame
+-- begins before it, and from it on these bytes begin with a frame, or else all bytes decide nothing; and fewer, from those seen
+-- before on, decide nothing.
 pub record IsSearched (bytes : List ℕ) (from seen : ℕ) (found : Sighting) : Type 0 where
   pub after : from ≤ found.place
   pub order : found.place ≤ found.decided

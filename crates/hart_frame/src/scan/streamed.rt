@@ -2,7 +2,7 @@
 ghost use Rattle.std.specs.Prelude.{◌≡◌, ◌+◌, ◌<◌, ◌++◌, [], List, IsTrue, length};
 ghost use Rattle.hart_frame.specs.heard.Character.{Character};
 ghost use Rattle.hart_frame.specs.heard.Frames.{AreFrames};
-ghost use Rattle.hart_frame.specs.scan.Chunk.{HoldsFrame};
+ghost use Rattle.hart_frame.specs.scan.Chunk.{BeginsWithFrame};
 ghost use Rattle.hart_frame.specs.scan.Scanner.{Gives, GivesNothing, Scan};
 ghost use Rattle.hart_frame.specs.scan.Streamed.{IsHistory, IsWholeHistory};
 ghost use Rattle.hart_frame.specs.declared.heard.found.Found.{Found};
@@ -25,6 +25,6 @@ pub fn any_chunking_gives_the_same_frames()
 
 /// A scanner whose characters begin with a frame gives one, and holds less once it gave one.
 pub fn held_frames_are_given()
-    ensures next { (old new : Scan) → HoldsFrame old → GivesNothing old new → ⊥ }
+    ensures next { (old new : Scan) → BeginsWithFrame old → GivesNothing old new → ⊥ }
     ensures onward { (old new : Scan) (found : Found) → Gives old new found → length new.held < length old.held }
 {}

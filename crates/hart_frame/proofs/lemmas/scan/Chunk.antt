@@ -165,7 +165,7 @@ peeked old mid new character None heard going nothing =
     subst Of heard nothing
 peeked old mid new character (Some layout) heard going holds =
     let Of : Scan → Type 0 = λ s. MovesPast s (scan_of new) [] in
-    (subst Of heard holds.moves, holds.drained, holds.begins, holds.finished ∙ going)
+    (subst Of heard holds.moves, holds.undrained, holds.begins, holds.finished ∙ going)
 
 pub first_one : (chunk : List Character) (character : Character) → 0 < length chunk → character ≡ get_or chunk 0 character
     → take 1 chunk ≡ character ∷ []

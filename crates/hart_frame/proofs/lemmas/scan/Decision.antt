@@ -11,7 +11,7 @@ use Rattle.hart_frame.specs.wire.Refusal.{HasCheckByte}
 use Rattle.hart_frame.specs.heard.Character.{Character, faultless}
 use Rattle.hart_frame.specs.scan.Buffer.{IsEnded, IsSound, IsWaiting, held_bytes, is_drained, scan_of}
 use Rattle.hart_frame.specs.scan.Candidate.{BeginWithNone, IsWhole, MayBegin}
-use Rattle.hart_frame.specs.scan.Chunk.{HoldsFrame}
+use Rattle.hart_frame.specs.scan.Chunk.{BeginsWithFrame}
 use Rattle.hart_frame.specs.scan.Decision.{GivesSpan, HoldsWhole, IsHeldOpen, IsHeldSearched, NoneBeginHeld}
 use Rattle.hart_frame.specs.scan.Scanner.{Scan, MovesPast, GivesNothing}
 use Rattle.hart_frame.specs.scan.Search.{IsOpenAll, IsSearched, NoneBegin}
@@ -224,7 +224,7 @@ gives_nothing_then old mid new moves finished nothing = elim nothing [
 ]
 
 -- a buffer that begins with a frame holds it
-pub holds_frame : (b : Buffer) (layout : Layout) → IsWhole layout (held_bytes b) → HoldsFrame (scan_of b)
+pub holds_frame : (b : Buffer) (layout : Layout) → IsWhole layout (held_bytes b) → BeginsWithFrame (scan_of b)
 holds_frame b layout whole =
     let body = whole.body in
     let is = whole.whole in
@@ -300,6 +300,6 @@ given_stands b found layout busy is whole =
       moves = moves_passed b found.place is.within is.none;
       finished = refl;
       busy = ap is_drained busy;
-      drained = refl;
+      undrained = refl;
       begins = subst Whole (sym (held_passed b found.place)) whole;
     }

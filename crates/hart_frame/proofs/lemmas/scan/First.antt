@@ -6,7 +6,7 @@ use Rattle.std.proofs.lemmas.Bool.{false≢true}
 use Rattle.std.proofs.lemmas.List.{append-nil, length-take-le, take-append-drop}
 use Rattle.std.proofs.Math.Seq.{take-length}
 use Rattle.hart_frame.specs.heard.Character.{Character}
-use Rattle.hart_frame.specs.heard.Frames.{AreFrames, HasNoFrame, IsFirst, none, first}
+use Rattle.hart_frame.specs.heard.Frames.{HasNoFrame, IsFirst}
 use Rattle.hart_frame.specs.heard.Place.{StandsIn}
 use Rattle.hart_frame.specs.scan.Chunk.{StopsAt}
 use Rattle.hart_frame.specs.scan.First.{IsFirstIn}
@@ -17,21 +17,7 @@ use Rattle.hart_frame.proofs.lemmas.Laws.{frames_are_unambiguous-one_list}
 use Rattle.hart_frame.proofs.lemmas.heard.FramesFound.{AreFrames-found}
 use Rattle.hart_frame.proofs.lemmas.heard.Place.{StandsIn-within}
 use Rattle.hart_frame.proofs.lemmas.scan.Stream.{history_all, history_first}
-use Rattle.hart_frame.proofs.lemmas.scan.Undecided.{holds_gives, stands_after, stands_in, waits_only}
-
-same_head : (f g : Found) (xs ys : List Found) → f ∷ xs ≡ g ∷ ys → f ≡ g
-same_head f g xs ys same = cc
-
-head_first : (chars : List Character) (from : ℕ) (frames : List Found) → AreFrames chars from frames → (g : Found) (later : List Found)
-    → frames ≡ g ∷ later → IsFirst g chars from
-head_first chars from frames (none n empty) g later same = absurd cc
-head_first chars from frames (first n f more is rest) g later same =
-    let Of : Found → Type 0 = λ found. IsFirst found chars n in
-    subst Of (same_head f g more later same) is
-
-no_first : (chars : List Character) (from : ℕ) (frames : List Found) → AreFrames chars from frames → frames ≡ [] → HasNoFrame chars from
-no_first chars from frames (none n empty) same = empty
-no_first chars from frames (first n f more is rest) same = absurd cc
+use Rattle.hart_frame.proofs.lemmas.scan.Undecided.{head_first, holds_gives, no_frames, stands_after, stands_in, waits_only}
 
 -- the one frame that was given is the first of all that is heard
 given_first : (past more : List Character) (scan : Scan) (found : Found) → IsHistory past scan (found ∷ [])
@@ -75,7 +61,7 @@ last_given : (chars : List Character) (waiting new : Scan) (given : Option Found
     → MatchOption given (GivesNothing (finishing waiting) new) (Gives (finishing waiting) new)
     → MatchOption given (HasNoFrame chars 0) (λ found. IsFirstIn found chars)
 last_given chars waiting new None history nothing =
-    no_first chars 0 [] (history_all chars [] (record {
+    no_frames chars 0 [] (history_all chars [] (record {
       last = finishing waiting;
       after = new;
       history = history;

@@ -5,9 +5,9 @@ use Rattle.std.proofs.lemmas.List.{append-nil, drop_at, drop-append-le, get_or_a
 use Rattle.std.proofs.lemmas.Bool.{false≢true}
 use Rattle.hart_frame.specs.heard.Character.{Character, faultless}
 use Rattle.hart_frame.specs.heard.Place.{StandsIn}
-use Rattle.hart_frame.specs.heard.Frames.{AreFrames, HasNoFrame, IsUndecided, none, first}
+use Rattle.hart_frame.specs.heard.Frames.{AreFrames, HasNoFrame, IsFirst, IsUndecided, none, first}
 use Rattle.hart_frame.specs.scan.Scanner.{Scan, CanHear, MovesPast, Gives, Waits, GivesNothing}
-use Rattle.hart_frame.specs.scan.Chunk.{HoldsFrame}
+use Rattle.hart_frame.specs.scan.Chunk.{BeginsWithFrame}
 use Rattle.hart_frame.specs.declared.heard.found.Found.{Found}
 use Rattle.hart_frame.proofs.lemmas.heard.FramesFound.{AreFrames-found}
 use Rattle.hart_frame.proofs.lemmas.heard.Place.{preamble, StandsIn-within}
@@ -27,12 +27,13 @@ hears_sample scan =
 same_head : (f g : Found) (xs ys : List Found) → f ∷ xs ≡ g ∷ ys → f ≡ g
 same_head f g xs ys same = cc
 
-head_stands : (chars : List Character) (from : ℕ) (frames : List Found) → AreFrames chars from frames
-    → (g : Found) (later : List Found) → frames ≡ g ∷ later → StandsIn g chars from
-head_stands chars from frames (none n empty) g later same = absurd cc
-head_stands chars from frames (first n f more is rest) g later same =
-    let Stands : Found → Type 0 = λ found. StandsIn found chars n in
-    subst Stands (same_head f g more later same) is.stands
+-- of the frames of a list the first is its first
+pub head_first : (chars : List Character) (from : ℕ) (frames : List Found) → AreFrames chars from frames
+    → (g : Found) (later : List Found) → frames ≡ g ∷ later → IsFirst g chars from
+head_first chars from frames (none n empty) g later same = absurd cc
+head_first chars from frames (first n f more is rest) g later same =
+    let Of : Found → Type 0 = λ found. IsFirst found chars n in
+    subst Of (same_head f g more later same) is
 
 -- what stands in a list stands after others
 pub stands_after : (prefix cs rest : List Character) (found : Found) (n : ℕ) → length prefix ≡ n → StandsIn found cs 0
@@ -89,7 +90,7 @@ stands_held s chars found hears stands =
     λ cs. StandsIn (record { start = found.start - s.first; stop = found.stop - s.first; frame = found.frame }) cs 0 in
     subst Held (append-nil s.held) here
 
-no_frames : (chars : List Character) (from : ℕ) (frames : List Found) → AreFrames chars from frames → frames ≡ [] → HasNoFrame chars from
+pub no_frames : (chars : List Character) (from : ℕ) (frames : List Found) → AreFrames chars from frames → frames ≡ [] → HasNoFrame chars from
 no_frames chars from frames (none n empty) same = empty
 no_frames chars from frames (first n g later is rest) same = absurd cc
 
@@ -162,7 +163,7 @@ undecided_before s t moves undecided = elim undecided [
             let later = AreFrames-found (sample s) t.first in
             let frames = moves.frames [] (sample s) later.0 (hears_sample s) later.1 in
             let head = has_head (sample s) s.first later.0 _ (held_stands s found stands) frames in
-            let there = head_stands (sample s) t.first later.0 later.1 head.head head.later head.parts in
+            let there = (head_first (sample s) t.first later.0 later.1 head.head head.later head.parts).stands in
             let low = before _ (stands_held t (sample s) head.head after there) in
             omega (arith, low, head.least, opened.start, size, dropped, after.place, late),
       )
@@ -176,7 +177,7 @@ frame_decided chars found stands start undecided = elim undecided [
 ]
 
 -- a scanner whose characters begin with a frame gives one
-pub holds_gives : (old new : Scan) → HoldsFrame old → GivesNothing old new → ⊥
+pub holds_gives : (old new : Scan) → BeginsWithFrame old → GivesNothing old new → ⊥
 holds_gives old new holds nothing = elim nothing [
   | inl waits ↦ frame_decided old.held holds.0 holds.1 holds.2 (undecided_before old new waits.moves waits.undecided)
   | inr ends ↦
@@ -212,6 +213,6 @@ pub gives_onward : (old new : Scan) (found : Found) → Gives old new found → 
 gives_onward old new found gives =
     let later = AreFrames-found (sample old) new.first in
     let frames = gives.moves.frames [] (sample old) later.0 (hears_sample old) later.1 in
-    let stands = head_stands (sample old) old.first (found ∷ later.0) frames found later.0 refl in
+    let stands = (head_first (sample old) old.first (found ∷ later.0) frames found later.0 refl).stands in
     let within = StandsIn-within found (sample old) old.first stands in
     omega (arith, within.after, within.some, gives.stop, moves_length old new (found ∷ []) gives.moves)

@@ -12,6 +12,6 @@ returns-clause-given c =
     let holds = c.in_ok-layout.ensures.seen in
     let New : Buffer → Type 0 = λ x. GivesSpan b x c.release.result in
     let At : Span → Type 0 = λ span. GivesSpan b (released b layout) span in
-    let gives = gives_span b layout c.peek.ensures.sound holds.drained holds.begins in
+    let gives = gives_span b layout c.peek.ensures.sound holds.undrained holds.begins in
     gives_then c.args.self.now b c.release.new.self c.release.result holds.moves holds.finished holds.busy
     (subst New (sym c.release.ensures.given) (subst At (sym c.release.ensures.span) gives))
