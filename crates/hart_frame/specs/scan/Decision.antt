@@ -5,11 +5,9 @@ use Rattle.std.specs.Option.{option_to_list}
 use Rattle.hart_frame.specs.heard.Character.{Character, faultless}
 use Rattle.hart_frame.specs.wire.FrameParts.{FrameParts}
 use Rattle.hart_frame.specs.wire.Body.{IsBody}
-use Rattle.hart_frame.specs.wire.Layout.{Describes, layout_length}
-use Rattle.hart_frame.specs.wire.Parity.{HasEvenParity}
-use Rattle.hart_frame.specs.wire.Refusal.{HasCheckByte}
+use Rattle.hart_frame.specs.wire.Layout.{layout_length}
 use Rattle.hart_frame.specs.scan.Buffer.{held_bytes, is_drained, scan_of}
-use Rattle.hart_frame.specs.scan.Candidate.{BeginWithNone, IsWhole, MayBegin}
+use Rattle.hart_frame.specs.scan.Candidate.{BeginWithNone, IsWhole, IsWholeBody, MayBegin}
 use Rattle.hart_frame.specs.scan.Scanner.{Gives, MovesPast}
 use Rattle.hart_frame.specs.declared.wire.layout.Layout.{Layout}
 use Rattle.hart_frame.specs.declared.scan.buffer.Buffer.{Buffer}
@@ -20,12 +18,10 @@ use Rattle.hart_frame.specs.declared.scan.search.Sighting.{Sighting}
 abbrev pub body_at : Buffer → Span → List ℕ
 body_at b span = slice_range b.bytes span.at (span.at + layout_length span.layout)
 
--- A body of even parity lies at the span, and the frame of it is given.
+-- A whole body lies at the span, and the frame of it is given.
 pub record GivesSpan (old new : Buffer) (span : Span) : Type 0 where
   pub within : span.at + layout_length span.layout ≤ length new.bytes
-  pub described : Describes span.layout (body_at new span)
-  pub whole : HasCheckByte (body_at new span)
-  pub even : HasEvenParity (body_at new span)
+  pub body : IsWholeBody span.layout (body_at new span)
   pub given : (frame : FrameParts) → IsBody frame (body_at new span)
       → Gives (scan_of old) (scan_of new) (record { start = span.start; stop = span.stop; frame = frame })
 

@@ -1,13 +1,12 @@
 //! The characters that a scanner holds.
 ghost use Rattle.std.specs.Prelude.{◌≡◌, ◌<◌, ◌≤◌, ◌+◌, ◌-◌, ◌^◌, ◌∷◌, [], ◌++◌, ◌↔◌, None, IsTrue, drop, length, take};
 ghost use Rattle.hart_frame.specs.scan.Buffer.{IsEnded, IsSound, IsStored, held_bytes, scan_of};
+ghost use Rattle.hart_frame.specs.scan.Candidate.{IsWholeBody};
 ghost use Rattle.hart_frame.specs.scan.Decision.{body_at};
 ghost use Rattle.hart_frame.specs.scan.Scanner.{GivesNothing, MovesPast, finishing, hearing, new_scan};
 ghost use Rattle.hart_frame.specs.scan.View.{parts_of};
 ghost use Rattle.hart_frame.specs.wire.Body.{IsBody};
-ghost use Rattle.hart_frame.specs.wire.Layout.{Describes, layout_length};
-ghost use Rattle.hart_frame.specs.wire.Parity.{HasEvenParity};
-ghost use Rattle.hart_frame.specs.wire.Refusal.{HasCheckByte};
+ghost use Rattle.hart_frame.specs.wire.Layout.{layout_length};
 ghost use Rattle.hart_frame.specs.declared.scan.buffer.State.TheVariants.{Busy, Drained};
 
 use crate::Char;
@@ -173,9 +172,7 @@ impl Buffer {
     /// The frame at a span.
     pub(crate) fn found(&self, span: Span) -> FoundView<'_>
         requires within { span.at + layout_length span.layout ≤ length self.now.bytes }
-        requires described { Describes span.layout (body_at self.now span) }
-        requires whole { HasCheckByte (body_at self.now span) }
-        requires even { HasEvenParity (body_at self.now span) }
+        requires body { IsWholeBody span.layout (body_at self.now span) }
         ensures frame { IsBody (parts_of result.frame) (body_at self.now span) }
         ensures start { result.start ≡ span.start }
         ensures stop { result.stop ≡ span.stop }

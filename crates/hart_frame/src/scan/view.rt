@@ -1,8 +1,6 @@
 ghost use Rattle.std.specs.Prelude.{◌≡◌, ◌≤◌, ◌-◌, length};
 ghost use Rattle.hart_frame.specs.wire.Body.{IsBody};
-ghost use Rattle.hart_frame.specs.wire.Parity.{HasEvenParity};
-ghost use Rattle.hart_frame.specs.wire.Layout.{Describes, body_length};
-ghost use Rattle.hart_frame.specs.wire.Refusal.{HasCheckByte};
+ghost use Rattle.hart_frame.specs.scan.Candidate.{IsWholeBody};
 ghost use Rattle.hart_frame.specs.scan.PlainAddress.{IsInRange};
 ghost use Rattle.hart_frame.specs.declared.wire.kind.FrameKind.TheVariants.{Ack};
 
@@ -119,10 +117,7 @@ impl<'a> FrameView<'a> {
 
     /// The frame that stands in the bytes by this layout.
     pub(crate) fn view_in(layout: Layout, bytes: &'a [u8]) -> FrameView<'a>
-        requires described { Describes layout bytes.now }
-        requires whole { HasCheckByte bytes.now }
-        requires exact { body_length bytes.now ≡ length bytes.now }
-        requires even { HasEvenParity bytes.now }
+        requires body { IsWholeBody layout bytes.now }
         ensures { IsBody (parts_of result) bytes.now }
     {
         let address_end = usize::from(layout.address_end);

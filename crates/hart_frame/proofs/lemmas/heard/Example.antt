@@ -65,29 +65,20 @@ parity_bit (suc (suc (suc (suc (suc (suc zero)))))) below set = inl refl
 parity_bit (suc (suc (suc (suc (suc (suc (suc zero))))))) below set = absurd (omega arith)
 parity_bit (suc (suc (suc (suc (suc (suc (suc (suc bit)))))))) below set = absurd (omega arith)
 
+faulty : IsHeardOrMarked 128 (record { byte = 129; faults = 64 })
+faulty = inr (record {
+  byte = omega arith;
+  fault_bits = record { byte = omega arith; only = parity_bit };
+  some = λ none. omega (arith, none);
+})
+
 pub faulty_is_marked : IsMarkedDamage identity_request 5 faulty_address
 faulty_is_marked = record {
   left = 2;
   left_within = omega arith;
   body = request_body;
   is_body = request_is;
-  heard = (
-    inl refl,
-    (
-      inl refl,
-      (
-        inl refl,
-        (
-          inr (record {
-            byte = omega arith;
-            fault_bits = record { byte = omega arith; only = parity_bit };
-            some = λ none. omega (arith, none);
-          }),
-          (inl refl, (inl refl, (inl refl, tt))),
-        ),
-      ),
-    ),
-  );
+  heard = (inl refl, (inl refl, (inl refl, (faulty, (inl refl, (inl refl, (inl refl, tt)))))));
   no_two_preambles = none_in_row _ (omega arith, (omega arith, (omega arith, (omega arith, tt))));
 }
 

@@ -5,12 +5,10 @@ use Rattle.std.specs.List.{slice_range}
 use Rattle.std.specs.Option.{IfSome, MatchOption, is_some, option_to_list}
 use Rattle.std.proofs.lemmas.List.{drop-drop, drop_at, length-take-le, map-append, take-append-drop, take_at}
 use Rattle.hart_frame.specs.wire.Body.{IsBody, IsCheckedPart}
-use Rattle.hart_frame.specs.wire.Layout.{Describes, body_length, layout_length}
-use Rattle.hart_frame.specs.wire.Parity.{HasEvenParity}
-use Rattle.hart_frame.specs.wire.Refusal.{HasCheckByte}
+use Rattle.hart_frame.specs.wire.Layout.{body_length, layout_length}
 use Rattle.hart_frame.specs.heard.Character.{Character, faultless}
 use Rattle.hart_frame.specs.scan.Buffer.{IsEnded, IsSound, IsWaiting, held_bytes, is_drained, scan_of}
-use Rattle.hart_frame.specs.scan.Candidate.{BeginWithNone, IsWhole, MayBegin}
+use Rattle.hart_frame.specs.scan.Candidate.{BeginWithNone, IsWhole, IsWholeBody, MayBegin}
 use Rattle.hart_frame.specs.scan.Chunk.{BeginsWithFrame}
 use Rattle.hart_frame.specs.scan.Decision.{GivesSpan, HoldsWhole, IsHeldOpen, IsHeldSearched, NoneBeginHeld}
 use Rattle.hart_frame.specs.scan.Scanner.{Scan, MovesPast, GivesNothing}
@@ -173,9 +171,7 @@ gives_span b layout sound busy whole =
     let size = length-drop b.from b.bytes in
     record {
       within = omega (arith, held, size, whole.whole.exact, sound.stored.within);
-      described = let Of : List ℕ → Type 0 = λ xs. Describes layout xs in subst Of (sym body) whole.whole.described;
-      whole = let Of : List ℕ → Type 0 = λ xs. HasCheckByte xs in subst Of (sym body) whole.whole.checked;
-      even = let Of : List ℕ → Type 0 = λ xs. HasEvenParity xs in subst Of (sym body) whole.whole.even;
+      body = let Of : List ℕ → Type 0 = λ xs. IsWholeBody layout xs in subst Of (sym body) whole.whole;
       given = λ frame is.
           let Of : List ℕ → Type 0 = λ xs. IsBody frame xs in
           record {
@@ -192,9 +188,7 @@ pub gives_then : (old mid new : Buffer) (span : Span) → MovesPast (scan_of old
     → is_drained old.state ≡ false → GivesSpan mid new span → GivesSpan old new span
 gives_then old mid new span moves finished busy gives = record {
   within = gives.within;
-  described = gives.described;
-  whole = gives.whole;
-  even = gives.even;
+  body = gives.body;
   given = λ frame is.
       let later = gives.given frame is in
       record {

@@ -1,14 +1,12 @@
-use Rattle.std.proofs.Common.{◌≡◌, ◌+◌, ◌-◌, ◌<◌, ◌≤◌, ℕ, take, ap, ◌∙◌, subst, sym, refl, rules, get_or, length, arith}
+use Rattle.std.proofs.Common.{◌≡◌, ◌+◌, ◌-◌, ◌≤◌, ℕ, take, ap, ◌∙◌, subst, sym, refl, rules, get_or, length, arith}
 use Rattle.std.specs.List.{slice_range}
-use Rattle.std.specs.List.{All}
-use Rattle.std.proofs.lemmas.List.Elements.{All-from_get_or}
 use Rattle.hart_values.specs.address.AddressBytes.{IsAddressBytes}
 use Rattle.hart_values.specs.declared.address.Address.{Address}
 use Rattle.hart_frame.specs.wire.Body.{IsCheckedPart}
 use Rattle.hart_frame.specs.scan.PlainAddress.{address_of}
 use Rattle.hart_frame.proofs.lemmas.wire.Body.{IsBody-whole}
 use Rattle.hart_frame.specs.wire.FrameParts.{FrameParts}
-use Rattle.hart_frame.specs.wire.Layout.{delimiter_in}
+use Rattle.hart_frame.specs.wire.Layout.{body_length, delimiter_in}
 use Rattle.hart_frame.proofs.lemmas.wire.BodiesFound.{long_enough}
 use Rattle.hart_frame.proofs.lemmas.wire.Layout.{IsCheckedPart-in, StandsByLayout, length-slice_range}
 use Rattle.hart_frame.proofs.scan.view.FrameView.view_in.Goals as goal
@@ -17,14 +15,15 @@ pub returns : goal.returns
 returns c =
     let bytes = c.args.bytes.now in
     let layout = c.args.layout in
-    let whole = c.requires.whole in
+    let body = c.requires.body in
+    let whole = body.checked in
     let end : c.from-address_end.result ≡ layout.address_end = search rules in
     let at : c.from-command_place.result ≡ layout.command_place = search rules in
     let read = rw end at (rw c.unwrap-master.ensures at c.read.ensures.found) in
     let count : c.from.result ≡ layout.byte_count = search rules in
     let place = c.from-command_place.result + 2 in
     let payload = slice_range bytes place (place + c.from.result) in
-    let within : place + c.from.result ≤ length bytes = omega (arith, whole, c.requires.described, count, at) in
+    let within : place + c.from.result ≤ length bytes = omega (arith, whole, body.described, count, at) in
     let payload_len : length payload ≡ layout.byte_count =
     length-slice_range bytes place (place + c.from.result) (omega arith) within ∙ omega (arith, count) in
     let frame : FrameParts = record {
@@ -46,10 +45,10 @@ returns c =
       command = ap (λ (n : ℕ). get_or bytes n 0) at;
       payload = ap (λ (n : ℕ). slice_range bytes place (place + n)) count
           ∙ ap (λ (n : ℕ). slice_range bytes (n + 2) (n + 2 + layout.byte_count)) at;
-      payload_fits = long_enough layout.kind payload (delimiter_in bytes) layout.byte_count c.requires.described.kind payload_len
-          (rw c.requires.described.count whole.0.1);
+      payload_fits = long_enough layout.kind payload (delimiter_in bytes) layout.byte_count body.described.kind payload_len
+          (rw body.described.count whole.0.1);
     } in
-    let part = IsCheckedPart-in bytes layout frame c.requires.described c.requires.whole stands in
+    let exact : body_length bytes ≡ length bytes = omega (arith, body.described, body.exact) in
+    let part = IsCheckedPart-in bytes layout frame body.described whole stands in
     let Part : ℕ → Type 0 = λ n. IsCheckedPart frame (take (n - 1) bytes) in
-    let fits : All (λ byte. byte < 256) bytes = All-from_get_or (λ byte. byte < 256) bytes 0 (λ i _. omega (arith, c.type_inv.bytes i)) in
-    IsBody-whole bytes frame (omega (arith, whole, c.requires.exact)) fits (subst Part c.requires.exact part) c.requires.even
+    IsBody-whole bytes frame (omega (arith, whole, exact)) body.fits (subst Part exact part) body.even
