@@ -27,9 +27,12 @@ pub record Hears (old new : Scan) (chunk : List Character) (count : ℕ) : Type 
   pub stops : StopsAt new count (length chunk)
   pub finished : new.finished ≡ old.finished
 
--- A scanner hears a first part of a chunk so, at least one character.
+-- A scanner hears some first characters of a chunk, at most up to the first at which a frame is decided: nothing is decided in what
+-- it then holds, or a frame begins that.
 pub record HearsPart (old new : Scan) (chunk : List Character) (count : ℕ) : Type 0 where
-  pub part : ℕ
-  pub part_within : part ≤ length chunk
-  pub part_some : 0 < part
-  pub hears : Hears old new (take part chunk) count
+  pub within : count ≤ length chunk
+  pub some : 0 < count
+  pub moves : MovesPast (hearing old (take count chunk)) new []
+  pub before : (fewer : ℕ) → fewer < count → IsUndecided (old.held ++ take fewer chunk)
+  pub stops : StopsAt new count count
+  pub finished : new.finished ≡ old.finished

@@ -64,12 +64,17 @@ undecided_more a b xs ys going moves undecided =
     (hearing_more a b (hearing b ys) xs ys going moves (moves_none _ _ refl refl refl)) undecided
 
 -- the first part of a chunk, and then the first of the rest
-take_part : (chunk : List Character) (n part r : ℕ) → n + part ≤ length chunk → r ≤ part
-    → take n chunk ++ take r (take part (slice_range chunk n (length chunk))) ≡ take (n + r) chunk
-take_part chunk n part r within few =
-    ap (λ (cs : List Character). take n chunk ++ cs)
-    (take-take r part (slice_range chunk n (length chunk)) few ∙ take-take r (length chunk - n) (drop n chunk) (omega (arith, within, few)))
+take_part : (chunk : List Character) (n r : ℕ) → n + r ≤ length chunk
+    → take n chunk ++ take r (slice_range chunk n (length chunk)) ≡ take (n + r) chunk
+take_part chunk n r within =
+    ap (λ (cs : List Character). take n chunk ++ cs) (take-take r (length chunk - n) (drop n chunk) (omega (arith, within)))
     ∙ sym (take-add n r chunk)
+
+-- a part of the rest of a chunk is a part of the chunk
+rest_within : (b c : Scan) (chunk : List Character) (n r : ℕ) → n ≤ length chunk → HearsPart b c (slice_range chunk n (length chunk)) r
+    → n + r ≤ length chunk
+rest_within b c chunk n r inside part =
+    omega (arith, inside, part.within, length-take-le (length chunk - n) (drop n chunk) (omega (arith, length-drop n chunk)))
 
 -- so many characters of a chunk were heard, and nothing was decided before
 pub record HeardSo (a c : Scan) (chunk : List Character) (n : ℕ) : Type 0 where
@@ -82,17 +87,12 @@ pub heard_then : (a b c : Scan) (chunk : List Character) (n r : ℕ) → n ≤ l
     → HearsPart b c (slice_range chunk n (length chunk)) r → HeardSo a c chunk (n + r)
 heard_then a b c chunk n r inside so part =
     let rest = slice_range chunk n (length chunk) in
-    let p = part.part in
-    let room : length rest ≡ length chunk - n = length-take-le (length chunk - n) (drop n chunk) (omega (arith, length-drop n chunk)) in
-    let within : n + p ≤ length chunk = omega (arith, part.part_within, room, inside) in
-    let size = length-take-le p rest part.part_within in
-    let few : r ≤ p = omega (arith, part.hears.within, size) in
+    let within = rest_within b c chunk n r inside part in
     let Moves : List Character → Type 0 = λ cs. MovesPast (hearing a cs) c [] in
     let Undecided : List Character → Type 0 = λ cs. IsUndecided (a.held ++ cs) in
     record {
       going = so.going;
-      moves = subst Moves (take_part chunk n p r within few)
-          (hearing_more a b c (take n chunk) (take r (take p rest)) so.going so.moves part.hears.moves);
+      moves = subst Moves (take_part chunk n r within) (hearing_more a b c (take n chunk) (take r rest) so.going so.moves part.moves);
       before = λ fewer below.
           let cases : (fewer < n) ⊎ (n ≤ fewer) = grind arith in
           elim cases [
@@ -100,10 +100,10 @@ heard_then a b c chunk n r inside so part =
             | inr late ↦
                 let k = fewer - n in
                 let whole : n + k ≡ fewer = omega (arith, late) in
-                let undecided = undecided_more a b (take n chunk) (take k (take p rest)) so.going so.moves
-                (part.hears.before k (omega (arith, below, late))) in
+                let undecided = undecided_more a b (take n chunk) (take k rest) so.going so.moves
+                (part.before k (omega (arith, below, late))) in
                 subst (λ (m : ℕ). IsUndecided (a.held ++ take m chunk)) whole
-                (subst Undecided (take_part chunk n p k within (omega (arith, below, late, few))) undecided)
+                (subst Undecided (take_part chunk n k (omega (arith, below, late, within))) undecided)
           ];
     }
 
@@ -124,38 +124,15 @@ Peeked old new character seen = MatchOption seen (GivesNothing (hearing old (cha
     (λ layout. MovesPast (hearing old (character ∷ [])) (scan_of new) [] × (is_drained new.state ≡ false) × IsWhole layout (held_bytes new)
     × (new.finished ≡ false))
 
+-- so it stops after that
 seen_one : (old : Scan) (new : Buffer) (character : Character) (seen : Option Layout) → old.finished ≡ false
-    → ((fewer : ℕ) → fewer < 1 → IsUndecided (old.held ++ take fewer (character ∷ []))) → Peeked old new character seen
-    → Hears old (scan_of new) (character ∷ []) 1
-seen_one old new character None going before nothing =
+    → Peeked old new character seen
+    → MovesPast (hearing old (character ∷ [])) (scan_of new) [] × StopsAt (scan_of new) 1 1 × (new.finished ≡ old.finished)
+seen_one old new character None going nothing =
     let waits = waits_only (hearing old (character ∷ [])) (scan_of new) going nothing in
-    record {
-      within = omega arith;
-      some = λ _. omega arith;
-      moves = waits.moves;
-      before = before;
-      stops = inl (waits.drained, waits.undecided, refl);
-      finished = waits.unfinished ∙ sym going;
-    }
-seen_one old new character (Some layout) going before (moves, busy, whole, finished) = record {
-  within = omega arith;
-  some = λ _. omega arith;
-  moves = moves;
-  before = before;
-  stops = inr (busy, holds_frame new layout whole);
-  finished = finished ∙ sym going;
-}
-
--- one character is heard, and looked at
-hears_one : (old : Scan) (new : Buffer) (character : Character) (seen : Option Layout) → old.finished ≡ false → IsUndecided old.held
-    → Peeked old new character seen → Hears old (scan_of new) (character ∷ []) 1
-hears_one old new character seen going undecided peeked =
-    let Undecided : List Character → Type 0 = λ cs. IsUndecided cs in
-    let before : (fewer : ℕ) → fewer < 1 → IsUndecided (old.held ++ take fewer (character ∷ [])) = λ fewer below.
-    let none : fewer ≡ 0 = omega (arith, below) in
-    subst (λ (n : ℕ). IsUndecided (old.held ++ take n (character ∷ []))) (sym none)
-    (subst Undecided (sym (append-nil old.held)) undecided) in
-    seen_one old new character seen going before peeked
+    (waits.moves, inl (waits.drained, waits.undecided, refl), waits.unfinished ∙ sym going)
+seen_one old new character (Some layout) going (moves, busy, whole, finished) =
+    (moves, inr (busy, holds_frame new layout whole), finished ∙ sym going)
 
 pub peeked : (old : Scan) (mid new : Buffer) (character : Character) (seen : Option Layout) → scan_of mid ≡ hearing old (character ∷ [])
     → mid.finished ≡ false → MatchOption seen (GivesNothing (scan_of mid) (scan_of new)) (HoldsWhole mid new)
@@ -177,12 +154,19 @@ pub hears_first : (old : Scan) (new : Buffer) (chunk : List Character) (characte
     → IsUndecided old.held → take 1 chunk ≡ character ∷ [] → 0 < length chunk → Peeked old new character seen
     → HearsPart old (scan_of new) chunk 1
 hears_first old new chunk character seen going undecided first some peeked =
-    let Of : List Character → Type 0 = λ cs. Hears old (scan_of new) cs 1 in
+    let is = seen_one old new character seen going peeked in
+    let Moves : List Character → Type 0 = λ cs. MovesPast (hearing old cs) (scan_of new) [] in
+    let Undecided : List Character → Type 0 = λ cs. IsUndecided cs in
     record {
-      part = 1;
-      part_within = omega (arith, some);
-      part_some = omega arith;
-      hears = subst Of (sym first) (hears_one old new character seen going undecided peeked);
+      within = omega (arith, some);
+      some = omega arith;
+      moves = subst Moves (sym first) is.0;
+      before = λ fewer below.
+          let none : fewer ≡ 0 = omega (arith, below) in
+          subst (λ (n : ℕ). IsUndecided (old.held ++ take n chunk)) (sym none)
+          (subst Undecided (sym (append-nil old.held)) undecided);
+      stops = is.1;
+      finished = is.2;
     }
 
 -- a loop over the parts of a chunk: what it has heard, and that nothing is decided of it
@@ -204,23 +188,13 @@ hearing_start b chunk sound drained = record {
   };
 }
 
-hearing_within : (b c : Scan) (chunk : List Character) (n r : ℕ) → n ≤ length chunk → HearsPart b c (slice_range chunk n (length chunk)) r
-    → (n + r ≤ length chunk) × (0 < r)
-hearing_within b c chunk n r inside part =
-    let rest = slice_range chunk n (length chunk) in
-    let room : length rest ≡ length chunk - n = length-take-le (length chunk - n) (drop n chunk) (omega (arith, length-drop n chunk)) in
-    let size = length-take-le part.part rest part.part_within in (
-      omega (arith, inside, room, size, part.part_within, part.hears.within),
-      part.hears.some (omega (arith, size, part.part_some)),
-    )
-
 -- the next part is heard, and still nothing is decided
 pub hearing_on : (old now new : Buffer) (chunk : List Character) (n r : ℕ) → IsHearing old now chunk n → IsSound new → new.state ≡ Drained
     → HearsPart (scan_of now) (scan_of new) (slice_range chunk n (length chunk)) r → IsHearing old new chunk (n + r)
 hearing_on old now new chunk n r hears sound drained part = record {
   sound = sound;
   drained = drained;
-  within = (hearing_within (scan_of now) (scan_of new) chunk n r hears.within part).0;
+  within = rest_within (scan_of now) (scan_of new) chunk n r hears.within part;
   so = heard_then (scan_of old) (scan_of now) (scan_of new) chunk n r hears.within hears.so part;
 }
 
@@ -235,14 +209,13 @@ pub hears_until : (old now new : Buffer) (chunk : List Character) (n r : ℕ) �
     → HearsPart (scan_of now) (scan_of new) (slice_range chunk n (length chunk)) r → Hears (scan_of old) (scan_of new) chunk (n + r)
 hears_until old now new chunk n r hears busy part =
     let so = heard_then (scan_of old) (scan_of now) (scan_of new) chunk n r hears.within hears.so part in
-    let is = hearing_within (scan_of now) (scan_of new) chunk n r hears.within part in
     record {
-      within = is.0;
-      some = λ _. omega (arith, is.1);
+      within = rest_within (scan_of now) (scan_of new) chunk n r hears.within part;
+      some = λ _. omega (arith, part.some);
       moves = so.moves;
       before = so.before;
-      stops = busy_holds (scan_of new) r _ busy part.hears.stops (n + r) (length chunk);
-      finished = part.hears.finished ∙ (waits_drained now hears.sound hears.drained).going ∙ sym so.going;
+      stops = busy_holds (scan_of new) r r busy part.stops (n + r) (length chunk);
+      finished = part.finished ∙ (waits_drained now hears.sound hears.drained).going ∙ sym so.going;
     }
 
 -- all of a chunk is heard
@@ -267,18 +240,31 @@ room_left old now heard chunk n long hears room =
     let rest = length-take-le (length chunk - n) (drop n chunk) (omega (arith, length-drop n chunk)) in
     omega (arith, room, rest, long, hears.within, heard_length (scan_of old) (scan_of now) heard n hears.within hears.so.moves)
 
--- a part of a chunk of bytes is a part of its characters
-pub part_heard : (old new : Scan) (chunk : List ℕ) (part count : ℕ) → part ≤ length chunk → 0 < part
-    → Hears old new (faultless (take part chunk)) count → HearsPart old new (faultless chunk) count
-part_heard old new chunk part count within some hears =
-    let make = λ (byte : ℕ). let c : Character = record { byte = byte; faults = 0 } in c in
-    let Of : List Character → Type 0 = λ cs. Hears old new cs count in
+-- what is heard of the first of a chunk is a part of it
+pub part_heard : (old new : Scan) (chunk part : List Character) (n count : ℕ) → part ≡ take n chunk → n ≤ length chunk → 0 < n
+    → Hears old new part count → HearsPart old new chunk count
+part_heard old new chunk part n count is within some hears =
+    let size = ap length is ∙ length-take-le n chunk within in
+    let few : count ≤ n = omega (arith, hears.within, size) in
+    let first : (k : ℕ) → k ≤ n → take k part ≡ take k chunk = λ k less. ap (take k) is ∙ take-take k n chunk less in
+    let Moves : List Character → Type 0 = λ cs. MovesPast (hearing old cs) new [] in
+    let Undecided : List Character → Type 0 = λ cs. IsUndecided (old.held ++ cs) in
     record {
-      part = part;
-      part_within = omega (arith, length-map chunk make, within);
-      part_some = some;
-      hears = subst Of (sym (take-map make part chunk)) hears;
+      within = omega (arith, few, within);
+      some = hears.some (omega (arith, size, some));
+      moves = subst Moves (first count few) hears.moves;
+      before = λ fewer below. subst Undecided (first fewer (omega (arith, below, few))) (hears.before fewer below);
+      stops = elim hears.stops [ inl waits ↦ inl (waits.0, waits.1, refl) | inr holds ↦ inr holds ];
+      finished = hears.finished;
     }
+
+-- of bytes as of their characters
+pub bytes_heard : (old new : Scan) (chunk : List ℕ) (n count : ℕ) → n ≤ length chunk → 0 < n
+    → Hears old new (faultless (take n chunk)) count → HearsPart old new (faultless chunk) count
+bytes_heard old new chunk n count within some hears =
+    let make = λ (byte : ℕ). let c : Character = record { byte = byte; faults = 0 } in c in
+    part_heard old new (faultless chunk) (faultless (take n chunk)) n count (sym (take-map make n chunk))
+    (omega (arith, within, length-map chunk make)) some hears
 
 -- and the rest of it is the rest of its characters
 pub rest_heard : (old new : Scan) (chunk : List ℕ) (n count : ℕ) → HearsPart old new (faultless (slice_range chunk n (length chunk))) count

@@ -1,7 +1,8 @@
-use Rattle.std.proofs.Common.{◌∙◌}
+use Rattle.std.proofs.Common.{◌<◌, ◌∙◌, ap, length, rules}
+use Rattle.hart_frame.specs.heard.Character.{faultless}
 use Rattle.hart_frame.specs.scan.Buffer.{scan_of}
 use Rattle.hart_frame.proofs.lemmas.scan.Buffer.{undecided_waiting, waits_drained}
-use Rattle.hart_frame.proofs.lemmas.scan.Chunk.{first_one, hears_first, peeked}
+use Rattle.hart_frame.proofs.lemmas.scan.Chunk.{first_one, hears_first, part_heard, peeked}
 use Rattle.hart_frame.proofs.scan.buffer.Buffer.push_stretch.Goals as goal
 
 pub returns-clause-hears : goal.returns-clause-hears
@@ -15,3 +16,11 @@ returns-clause-hears c =
     (first_one chunk character c.requires.some c.index-chunk-0.is) c.requires.some
     (peeked (scan_of old) c.push.new.self new character c.peek-layout.result c.push.ensures.pushed (c.push.ensures.going ∙ waiting.going)
     c.peek-layout.ensures.seen)
+
+pub returns-then-not-is_empty-clause-hears : goal.returns-then-not-is_empty-clause-hears
+returns-then-not-is_empty-clause-hears c =
+    let stretch = c.faultless_stretch-stretch in
+    let some : 0 < length stretch.result = search rules in
+    part_heard (scan_of c.args.self.now) (scan_of c.push_bytes.new.self) c.args.chunk.now (faultless c.as_slice.result.now)
+    (length stretch.result) c.push_bytes.result (ap faultless c.as_slice.ensures.value ∙ stretch.ensures.first) stretch.ensures.within some
+    c.push_bytes.ensures.hears
