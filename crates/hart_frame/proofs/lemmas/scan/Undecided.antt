@@ -90,7 +90,8 @@ stands_held s chars found hears stands =
     λ cs. StandsIn (record { start = found.start - s.first; stop = found.stop - s.first; frame = found.frame }) cs 0 in
     subst Held (append-nil s.held) here
 
-pub no_frames : (chars : List Character) (from : ℕ) (frames : List Found) → AreFrames chars from frames → frames ≡ [] → HasNoFrame chars from
+pub no_frames : (chars : List Character) (from : ℕ) (frames : List Found) → AreFrames chars from frames → frames ≡ []
+    → HasNoFrame chars from
 no_frames chars from frames (none n empty) same = empty
 no_frames chars from frames (first n g later is rest) same = absurd cc
 

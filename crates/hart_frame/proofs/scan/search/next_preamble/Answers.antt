@@ -1,4 +1,5 @@
-use Rattle.std.proofs.Common.{◌≡◌, ◌≢◌, ◌+◌, ◌-◌, ◌<◌, ◌≤◌, ◌⊎◌, inl, inr, ℕ, length, drop, take, slice_index, arith, sym, ◌∙◌, ap, length-drop}
+use Rattle.std.proofs.Common.{◌≡◌, ◌≢◌, ◌+◌, ◌-◌, ◌<◌, ◌≤◌, ◌⊎◌, inl, inr}
+use Rattle.std.proofs.Common.{ℕ, length, drop, take, slice_index, arith, sym, ◌∙◌, ap, length-drop}
 use Rattle.std.proofs.lemmas.List.{length-take-le}
 use Rattle.hart_frame.proofs.lemmas.scan.Search.{all_rest, read_rest}
 use Rattle.hart_frame.proofs.scan.search.next_preamble.Goals as goal

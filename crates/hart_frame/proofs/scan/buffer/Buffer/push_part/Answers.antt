@@ -16,5 +16,6 @@ returns-then-is_empty-clause-hears c =
 pub returns-clause-hears : goal.returns-clause-hears
 returns-clause-hears c =
     let most = c.min.ensures in
-    bytes_heard (scan_of c.args.self.now) (scan_of c.settle-2.new.self) c.args.chunk.now c.min.result c.settle-2.result (omega (arith, most))
+    bytes_heard (scan_of c.args.self.now) (scan_of c.settle-2.new.self) c.args.chunk.now c.min.result
+    c.settle-2.result (omega (arith, most))
     (omega (arith, most, c.requires.some)) c.settle-2.ensures.hears
