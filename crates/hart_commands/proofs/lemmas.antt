@@ -1,9 +1,9 @@
 -- Lemmas, in the rooms of the code and the definitions.
 pub mod Test
+pub mod Rows
 pub mod Request
 pub mod Chunk
 pub mod Parts
 pub mod Reply
-pub mod WellMade
 pub mod RequestMade
 pub mod Laws

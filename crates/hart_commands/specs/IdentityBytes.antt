@@ -1,5 +1,5 @@
 -- The identity of a device, as a reply gives it in 22 bytes (HCF_SPEC-127).
-use Rattle.std.specs.Prelude.{ℕ, ◌≡◌, List, [], ◌∷◌, ◌++◌, length, slice_index, slice_range}
+use Rattle.std.specs.Prelude.{ℕ, List, [], ◌∷◌, ◌++◌, slice_index, slice_range}
 use Rattle.hart_commands.specs.declared.identity.IdentityContent.{IdentityContent}
 
 -- After the first byte each field stands in its place.
@@ -32,11 +32,3 @@ identity_bytes i =
     ++ i.extended_device_status ∷ i.manufacturer
     ++ i.private_label_distributor
     ++ i.device_profile ∷ []
-
--- The type, the counter, the manufacturer and the label of an identity have two bytes each, its device id has three.
-pub record IsIdentity (i : IdentityContent) : Type 0 where
-  pub expanded_device_type : length i.expanded_device_type ≡ 2
-  pub device_id : length i.device_id ≡ 3
-  pub configuration_change_counter : length i.configuration_change_counter ≡ 2
-  pub manufacturer : length i.manufacturer ≡ 2
-  pub private_label_distributor : length i.private_label_distributor ≡ 2

@@ -1,9 +1,13 @@
 pub mod TagBytes
-pub mod RequestData
-pub mod RequestCode
-pub mod Registers
+pub mod FirstBytes
+pub mod RequestReading
 pub mod Values
 pub mod IdentityBytes
 pub mod SensorBytes
 pub mod OutputBytes
+pub mod ReplyReading
+pub mod Commands
+pub mod RequestData
+pub mod RequestCode
+pub mod Registers
 pub mod ReplyData

@@ -1,5 +1,5 @@
 -- What a reply says of the loop current output, in 18 bytes (HCF_SPEC-127).
-use Rattle.std.specs.Prelude.{ℕ, ◌≡◌, List, [], ◌∷◌, ◌++◌, length, slice_index}
+use Rattle.std.specs.Prelude.{ℕ, List, [], ◌∷◌, ◌++◌, slice_index}
 use Rattle.hart_commands.specs.declared.output.OutputContent.{OutputContent}
 use Rattle.hart_commands.specs.Values.{float_at}
 
@@ -23,9 +23,3 @@ abbrev pub output_bytes : OutputContent → List ℕ
 output_bytes o =
     o.alarm_code ∷ o.transfer_function ∷ o.unit ∷ o.upper_range_value.0 ++ o.lower_range_value.0 ++ o.damping.0
     ++ o.write_protect_code ∷ o.reserved ∷ o.channel_flags ∷ []
-
--- Each float has four bytes.
-pub record IsOutput (o : OutputContent) : Type 0 where
-  pub upper_range_value : length o.upper_range_value.0 ≡ 4
-  pub lower_range_value : length o.lower_range_value.0 ≡ 4
-  pub damping : length o.damping.0 ≡ 4

@@ -1,5 +1,5 @@
 -- What a reply says of the sensor, in 16 bytes (HCF_SPEC-127).
-use Rattle.std.specs.Prelude.{ℕ, ◌≡◌, List, ◌∷◌, ◌++◌, length, slice_index, slice_range}
+use Rattle.std.specs.Prelude.{ℕ, List, ◌∷◌, ◌++◌, slice_index, slice_range}
 use Rattle.hart_commands.specs.declared.sensor.SensorContent.{SensorContent}
 use Rattle.hart_commands.specs.Values.{float_at}
 
@@ -16,10 +16,3 @@ sensor_of bytes = record {
 -- They are written one after another.
 abbrev pub sensor_bytes : SensorContent → List ℕ
 sensor_bytes s = s.serial_number ++ s.unit ∷ s.upper_limit.0 ++ s.lower_limit.0 ++ s.minimum_span.0
-
--- The serial number has three bytes, and each float four.
-pub record IsSensor (s : SensorContent) : Type 0 where
-  pub serial_number : length s.serial_number ≡ 3
-  pub upper_limit : length s.upper_limit.0 ≡ 4
-  pub lower_limit : length s.lower_limit.0 ≡ 4
-  pub minimum_span : length s.minimum_span.0 ≡ 4

@@ -1,5 +1,5 @@
 //! Laws over the definitions alone, for the crates above.
-ghost use Rattle.std.specs.Prelude.{◌≡◌, ◌≢◌, AllPairs, Contains, ◌↔◌, ◌++◌, List, ℕ, false, Ok, Err, Some, IsTrue, IsSome};
+ghost use Rattle.std.specs.Prelude.{◌≡◌, ◌≢◌, AllPairs, Contains, ◌↔◌, ◌++◌, List, ℕ, false, Ok, Err, Some, IsTrue, IsSome, length, take};
 ghost use Rattle.hart_commands.specs.RequestData.{IsRequest, MayFollow, command_of, is_known};
 ghost use Rattle.hart_commands.specs.RequestData.{request_reading, request_data};
 ghost use Rattle.hart_commands.specs.RequestCode.{is_write};
@@ -102,9 +102,11 @@ pub fn overwrites_are_valid()
 {}
 
 /// The payload that a reply is written as is read as that reply, for every well-made reply; and every reply that is read is
-/// well made.
+/// well made, and is written as the front of the payload that it was read from, so nothing that it says is lost.
 pub fn written_payloads_are_read_again()
     ensures again { (reply : Reply) → IsReply reply → reply_reading reply.command (reply_payload reply) ≡ Some reply }
     ensures well_made { (command : ℕ) (payload : List ℕ) (reply : Reply)
         → reply_reading command payload ≡ Some reply → IsReply reply × (reply.command ≡ command) }
+    ensures kept { (command : ℕ) (payload : List ℕ) (reply : Reply) → reply_reading command payload ≡ Some reply
+        → reply_payload reply ≡ take (length (reply_payload reply)) payload }
 {}

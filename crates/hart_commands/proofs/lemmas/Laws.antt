@@ -28,7 +28,7 @@ overwrites_are_valid write old made valid = search rules
 
 pub requests_have_their_command : (command : ℕ) (bytes : List ℕ) (request : Request) → request_reading command bytes ≡ Ok request
     → (command_of request ≡ command) × IsRequest request
-requests_have_their_command = read-asked (λ bytes. (dates_are_decided-date bytes).0)
+requests_have_their_command = read-asked
 
 pub written_data_are_their_request : (request : Request) → IsRequest request
     → request_reading (command_of request) (request_data request) ≡ Ok request

@@ -1,143 +1,238 @@
--- Written payloads are read again.
-use Rattle.std.proofs.Common.{◌≡◌, ℕ, ◌+◌, ◌-◌, ◌*◌, ◌/◌, ◌<◌, ◌≤◌, inl, inr, List, [], ◌∷◌, ◌++◌, take, drop, length, map, min, Some, refl}
-use Rattle.std.proofs.Common.{ap, sym, ◌∙◌, arith, false, ltb, length-append, append-nil}
+-- What is read of a payload is written as the front of it, and read again.
+use Rattle.std.proofs.Common.{◌≡◌, ℕ, zero, suc, ◌+◌, ◌-◌, ◌*◌, ◌/◌, ◌<◌, ◌≤◌, ◌⊎◌, inl, inr, List, [], ◌∷◌, ◌++◌, take, drop, length}
+use Rattle.std.proofs.Common.{map, min, Option, Some, None, IfSome, refl, ap, sym, ◌∙◌, subst, arith, Bool, true, false, ltb, eqb}
+use Rattle.std.proofs.Common.{◌&&◌, length-append, length-take, length-drop, length-take-le, slice_index}
+use Rattle.std.specs.Prelude.{if◌then◌else◌}
 use Rattle.std.specs.List.{flat_map, AllByRecursion}
+use Rattle.std.specs.Option.{option_map}
 use Rattle.std.specs.Simd.{first_chunks}
-use Rattle.std.proofs.lemmas.List.{take_at, drop_at, take_all}
-use Rattle.hart_values.specs.declared.bits32.Bits32.{Bits32}
+use Rattle.std.proofs.Math.Seq.{take-add}
+use Rattle.std.proofs.lemmas.Bool.{cases_lt}
+use Rattle.std.proofs.lemmas.List.{take_at, drop_at, take_all, take-append-drop}
 use Rattle.hart_commands.specs.declared.content.ReplyContent.{ReplyContent}
-use Rattle.hart_commands.specs.declared.content.ReplyContent.TheVariants.{Identity, Primary, Current, Dynamic, Polling, Classes, Variables}
-use Rattle.hart_commands.specs.declared.content.ReplyContent.TheVariants.{Message, Tag, Sensor, Output, Assembly, LongTag, Counter, More}
-use Rattle.hart_commands.specs.declared.content.ReplyContent.TheVariants.{Refused}
+use Rattle.hart_commands.specs.declared.content.ReplyContent.TheVariants.{Identity, Dynamic, Variables, More, Refused}
 use Rattle.hart_commands.specs.declared.reply.Reply.{Reply}
-use Rattle.hart_commands.specs.declared.value.UnitValue.{UnitValue}
-use Rattle.hart_commands.specs.declared.value.VariableReading.{VariableReading}
-use Rattle.hart_commands.specs.TagBytes.{tag_in, descriptor_in, date_in}
-use Rattle.hart_commands.specs.Values.{unit_value_of, unit_value_bytes, variable_of, variable_bytes}
+use Rattle.hart_commands.specs.FirstBytes.{having}
+use Rattle.hart_commands.specs.Values.{float_at, unit_value_of, unit_value_bytes, variable_of, variable_bytes}
 use Rattle.hart_commands.specs.IdentityBytes.{identity_of}
-use Rattle.hart_commands.specs.SensorBytes.{sensor_bytes, sensor_of}
-use Rattle.hart_commands.specs.OutputBytes.{output_bytes, output_of}
-use Rattle.hart_commands.specs.ReplyData.{IsReply, IsContent, IsContentOf, having, identity_reading, current_reading, dynamic_reading}
-use Rattle.hart_commands.specs.ReplyData.{variables_reading, tag_reading, content_reading, content_bytes, reply_reading, reply_payload}
-use Rattle.hart_commands.proofs.lemmas.Test.{below, above, apart, same}
-use Rattle.hart_commands.proofs.lemmas.Chunk.{chunks-flat_map, length-flat_map}
-use Rattle.hart_commands.proofs.lemmas.Parts.{four, identity-back, sensor-back, output-back, unit_value-back, unit_value-size}
-use Rattle.hart_commands.proofs.lemmas.Parts.{variable-back}
-use Rattle.hart_commands.proofs.lemmas.Parts.{variable-size}
-use Rattle.hart_commands.proofs.lemmas.Request.{HasParts, parts-append}
+use Rattle.hart_commands.specs.ReplyReading.{saying, identity_reading, dynamic_reading, variables_reading, more_reading}
+use Rattle.hart_commands.specs.Commands.{Replied, Saying, SaidBy, CommandRow, replied, commands, row_of, is_known}
+use Rattle.hart_commands.specs.ReplyData.{IsReply, content_by, content_reading, content_bytes, reply_reading, reply_payload}
+use Rattle.hart_commands.proofs.lemmas.Test.{below, above, is_one}
+use Rattle.hart_commands.proofs.lemmas.Chunk.{chunks-bytes, chunks-take}
+use Rattle.hart_commands.proofs.lemmas.Parts.{spell, by_spelling, unit_value-bytes, variable-bytes}
+use Rattle.hart_commands.proofs.lemmas.Rows.{◌⨾◌, found}
 
--- a content of so many bytes is read from them
-having-exactly : (size : ℕ) (content : List ℕ → ReplyContent) (bytes : List ℕ) → length bytes ≡ size
-    → having size content bytes ≡ Some (content bytes)
-having-exactly size content bytes long = rw (above (length bytes) size (omega arith), take_all size bytes (omega arith)) refl
+-- a content that was read of some bytes is written as the front of them, and read again
+abbrev pub IsKept : (List ℕ → Option ReplyContent) → List ℕ → ReplyContent → Type 0
+IsKept read bytes content =
+    (content_bytes content ≡ take (length (content_bytes content)) bytes) × (read (content_bytes content) ≡ Some content)
 
-identity_is_read : (bytes : List ℕ) → length (254 ∷ bytes) ≡ 22
-    → identity_reading (254 ∷ bytes) ≡ Some (Identity (identity_of (254 ∷ bytes)))
-identity_is_read bytes long =
-    rw (above (length (254 ∷ bytes)) 22 (omega arith))
-    (ap (λ xs. Some (Identity (identity_of xs))) (take_all 22 (254 ∷ bytes) (omega arith)))
+abbrev pub Keeps : (List ℕ → Option ReplyContent) → Type 0
+Keeps read = (bytes : List ℕ) → IfSome (read bytes) (IsKept read bytes)
 
-current_is_read : (current percent : Bits32) → length current.0 ≡ 4 → length percent.0 ≡ 4
-    → current_reading (current.0 ++ percent.0) ≡ Some (Current current percent)
-current_is_read current percent c p =
-    let a = four current.0 c in
-    let b = four percent.0 p in
-    rw (a.4, b.4) refl
+by_test : {A : Type 0} (b : Bool) (x y : Option A) (P : A → Type 0) → (b ≡ true → IfSome x P) → (b ≡ false → IfSome y P)
+    → IfSome (if b then x else y) P
+by_test true x y P then_x else_y = then_x refl
+by_test false x y P then_x else_y = else_y refl
 
-dynamic_is_read : (current : Bits32) (values : List UnitValue) → length current.0 ≡ 4 → 0 < length values → length values ≤ 4
-    → AllByRecursion (λ v. length v.value.0 ≡ 4) values
-    → dynamic_reading (current.0 ++ flat_map unit_value_bytes values) ≡ Some (Dynamic current values)
-dynamic_is_read current values four some few all =
-    let groups : List ℕ = flat_map unit_value_bytes values in
-    let long : length groups ≡ length values * 5 =
-    length-flat_map 5 unit_value_bytes (λ v. length v.value.0 ≡ 4) unit_value-size values all in
-    let enough : ltb (length (current.0 ++ groups)) 9 ≡ false =
-    above (length (current.0 ++ groups)) 9 (omega (arith, length-append current.0 groups)) in
-    let prefix : take 4 (current.0 ++ groups) ≡ current.0 = take_at current.0 groups 4 four in
-    let after : drop 4 (current.0 ++ groups) ≡ groups = drop_at current.0 groups 4 four in
-    let count : min (length groups / 5) 4 ≡ length values = omega arith in
-    let read : map unit_value_of (first_chunks 5 (length values) groups) ≡ values =
-    ap (λ xs. map unit_value_of (first_chunks 5 (length values) xs)) (sym (append-nil groups))
-    ∙ chunks-flat_map 5 unit_value_bytes unit_value_of (λ v. length v.value.0 ≡ 4) unit_value-size unit_value-back values [] all in
-    rw (enough, prefix, after, count, read) refl
+-- the front of a list is as many of its items as it has
+front : (n : ℕ) (xs : List ℕ) → take n xs ≡ take (length (take n xs)) xs
+front zero xs = refl
+front (suc n) [] = refl
+front (suc n) (x ∷ xs) = ap (λ ys. x ∷ ys) (front n xs)
 
-variables_are_read : (status : ℕ) (variables : List VariableReading) (time : List ℕ) → 0 < length variables → length variables ≤ 8
-    → AllByRecursion (λ v. length v.value.0 ≡ 4) variables → length time ≡ 4
-    → variables_reading (status ∷ (flat_map variable_bytes variables ++ time)) ≡ Some (Variables status variables time)
-variables_are_read status variables time some few all four =
-    let groups : List ℕ = flat_map variable_bytes variables in
-    let long : length groups ≡ length variables * 8 =
-    length-flat_map 8 variable_bytes (λ v. length v.value.0 ≡ 4) variable-size variables all in
-    let whole : length (status ∷ (groups ++ time)) ≡ 5 + 8 * length variables = omega (arith, length-append groups time) in
-    let count : (length (status ∷ (groups ++ time)) - 5) / 8 ≡ length variables = omega arith in
-    let after : drop (1 + 8 * length variables) (status ∷ (groups ++ time)) ≡ time =
-    drop_at (status ∷ groups) time (1 + 8 * length variables) (omega arith) in
-    let read : map variable_of (first_chunks 8 (length variables) (groups ++ time)) ≡ variables =
-    chunks-flat_map 8 variable_bytes variable_of (λ v. length v.value.0 ≡ 4) variable-size variable-back variables time all in
-    rw (
-      count,
-      below 0 (length variables) some,
-      below (length variables) 9 (omega arith),
-      same (length (status ∷ (groups ++ time))) (5 + 8 * length variables) whole,
-      after,
-      read,
-    ) refl
+-- so many bytes that say a content are what it is written as
+said : (size : ℕ) (read : List ℕ → Option ReplyContent)
+    → ((xs : List ℕ) → length xs ≡ size → IfSome (read xs) (λ content. content_bytes content ≡ xs)) → Keeps (having size None read)
+said size read each bytes = go (cases_lt (length bytes) size)
+  where
+    again : (xs : List ℕ) → length xs ≡ size → having size None read xs ≡ read xs
+    again xs long = rw (above (length xs) size (omega arith), take_all size xs (omega arith)) refl
 
-tag_is_read : (tag descriptor date : List ℕ) → length tag ≡ 6 → length descriptor ≡ 12 → length date ≡ 3
-    → tag_reading (tag ++ descriptor ++ date) ≡ Some (Tag tag descriptor date)
-tag_is_read tag descriptor date six twelve three =
-    let bytes : List ℕ = tag ++ descriptor ++ date in
-    let long : length bytes ≡ 21 = omega (arith, length-append {A = ℕ}) in
-    let parts : HasParts (bytes ++ []) tag descriptor date = parts-append tag descriptor date [] six twelve three in
-    let none : bytes ++ [] ≡ bytes = append-nil bytes in
-    let tag_is : tag_in bytes ≡ tag = rw none at parts.tag_is in
-    let descriptor_is : descriptor_in bytes ≡ descriptor = rw none at parts.descriptor_is in
-    let date_is : date_in bytes ≡ date = rw none at parts.date_is in
-    rw (having-exactly 21 (λ xs. Tag (tag_in xs) (descriptor_in xs) (date_in xs)) bytes long, tag_is, descriptor_is, date_is) refl
+    kept : (xs : List ℕ) → length xs ≡ size → xs ≡ take (length xs) bytes → (content : Option ReplyContent) → read xs ≡ content
+        → IfSome content (λ content. content_bytes content ≡ xs) → IfSome content (IsKept (having size None read) bytes)
+    kept xs long is None e written = tt
+    kept xs long is (Some content) e written = rw written (is, again xs long ∙ e)
 
-pub content_is_read : (command : ℕ) (content : ReplyContent) → IsContentOf content command → IsContent content
-    → content_reading command (content_bytes content) ≡ Some content
-content_is_read command (Identity identity) (inl by) is =
-    rw by (identity_is_read _ (identity-back identity is).1 ∙ ap (λ i. Some (Identity i)) (identity-back identity is).0)
-content_is_read command (Identity identity) (inr (inl by)) is =
-    rw by (identity_is_read _ (identity-back identity is).1 ∙ ap (λ i. Some (Identity i)) (identity-back identity is).0)
-content_is_read command (Identity identity) (inr (inr by)) is =
-    rw by (identity_is_read _ (identity-back identity is).1 ∙ ap (λ i. Some (Identity i)) (identity-back identity is).0)
-content_is_read command (Primary value) by is =
-    rw by (having-exactly 5 (λ xs. Primary (unit_value_of xs)) (unit_value_bytes value) (unit_value-size value is)
-    ∙ ap (λ v. Some (Primary v)) (unit_value-back value is))
-content_is_read command (Current current percent) by is = rw by (current_is_read current percent is.0 is.1)
-content_is_read command (Dynamic current values) by is = rw by (dynamic_is_read current values is.0 is.1 is.2 is.3)
-content_is_read command (Polling address mode) (inl by) is = rw by refl
-content_is_read command (Polling address mode) (inr by) is = rw by refl
-content_is_read command (Classes classes) by is = rw by (having-exactly 4 Classes classes is)
-content_is_read command (Variables status variables time) by is = rw by (variables_are_read status variables time is.0 is.1 is.2 is.3)
-content_is_read command (Message message) (inl by) is = rw by (having-exactly 24 Message message is)
-content_is_read command (Message message) (inr by) is = rw by (having-exactly 24 Message message is)
-content_is_read command (Tag tag descriptor date) (inl by) is = rw by (tag_is_read tag descriptor date is.0 is.1 is.2)
-content_is_read command (Tag tag descriptor date) (inr by) is = rw by (tag_is_read tag descriptor date is.0 is.1 is.2)
-content_is_read command (Sensor sensor) by is =
-    rw by (having-exactly 16 (λ xs. Sensor (sensor_of xs)) (sensor_bytes sensor) (sensor-back sensor is).1
-    ∙ ap (λ s. Some (Sensor s)) (sensor-back sensor is).0)
-content_is_read command (Output output) by is =
-    rw by (having-exactly 18 (λ xs. Output (output_of xs)) (output_bytes output) (output-back output is).1
-    ∙ ap (λ o. Some (Output o)) (output-back output is).0)
-content_is_read command (Assembly assembly) (inl by) is = rw by (having-exactly 3 Assembly assembly is)
-content_is_read command (Assembly assembly) (inr by) is = rw by (having-exactly 3 Assembly assembly is)
-content_is_read command (LongTag long_tag) (inl by) is = rw by (having-exactly 32 LongTag long_tag is)
-content_is_read command (LongTag long_tag) (inr by) is = rw by (having-exactly 32 LongTag long_tag is)
-content_is_read command (Counter counter) by is = rw by (having-exactly 2 Counter counter is)
-content_is_read command (More []) by is = absurd (omega (arith, is.0))
-content_is_read command (More (byte ∷ bytes)) by is = rw by (ap (λ xs. Some (More xs)) (take_all 25 (byte ∷ bytes) is.1))
-content_is_read command Refused by is = absurd by
+    go : (length bytes < size) ⊎ (size ≤ length bytes) → IfSome (having size None read bytes) (IsKept (having size None read) bytes)
+    go (inl less) = rw (below (length bytes) size less) tt
+    go (inr more) =
+        let long : length (take size bytes) ≡ size = length-take-le size bytes more in
+        rw (above (length bytes) size more)
+        (kept (take size bytes) long (front size bytes) (read (take size bytes)) refl (each (take size bytes) long))
+
+-- the same, seen byte by byte
+spelt : (size : ℕ) (content : List ℕ → ReplyContent) → ((xs : List ℕ) → content_bytes (content (spell size xs)) ≡ spell size xs)
+    → Keeps (saying size content)
+spelt size content each =
+    said size (λ xs. Some (content xs)) (by_spelling size (λ xs. content_bytes (content xs) ≡ xs) each)
+
+identity : Keeps identity_reading
+identity = said 22 read (by_spelling 22 (λ xs. IfSome (read xs) (λ content. content_bytes content ≡ xs)) each)
+  where
+    read : List ℕ → Option ReplyContent
+    read xs = if eqb (slice_index xs 0) 254 then Some (Identity (identity_of xs)) else None
+
+    each : (xs : List ℕ) → IfSome (read (spell 22 xs)) (λ content. content_bytes content ≡ spell 22 xs)
+    each xs =
+        by_test (eqb (slice_index xs 0) 254) (Some (Identity (identity_of (spell 22 xs)))) None _
+        (λ t. rw (is_one (slice_index xs 0) 254 t) refl) (λ f. tt)
+
+dynamic-again : (start rest : List ℕ) (groups : ℕ) → length start ≡ 4 → 0 < groups → groups ≤ 4 → groups * 5 ≤ length rest
+    → dynamic_reading (start ++ take (groups * 5) rest)
+    ≡ Some (Dynamic (record { 0 = start }) (map unit_value_of (first_chunks 5 groups rest)))
+dynamic-again start rest groups four some few long =
+    let ys : List ℕ = take (groups * 5) rest in
+    let size : length ys ≡ groups * 5 = length-take-le (groups * 5) rest long in
+    let enough : ltb (length (start ++ ys)) 9 ≡ false = above (length (start ++ ys)) 9 (omega (arith, length-append start ys)) in
+    let count : min (length ys / 5) 4 ≡ groups = omega arith in
+    rw (enough, take_at start ys 4 four, drop_at start ys 4 four, count, chunks-take 5 groups rest long) refl
+
+dynamic : Keeps dynamic_reading
+dynamic bytes = go (cases_lt (length bytes) 9)
+  where
+    kept : (rest : List ℕ) (groups : ℕ) → drop 4 bytes ≡ rest → 4 ≤ length bytes → 0 < groups → groups ≤ 4 → groups * 5 ≤ length rest
+        → IsKept dynamic_reading bytes (Dynamic (float_at bytes 0) (map unit_value_of (first_chunks 5 groups rest)))
+    kept rest groups is four some few long =
+        let values : flat_map unit_value_bytes (map unit_value_of (first_chunks 5 groups rest)) ≡ take (groups * 5) rest =
+        chunks-bytes 5 groups unit_value_of unit_value_bytes unit_value-bytes rest long in
+        let whole : take 4 bytes ++ take (groups * 5) rest ≡ take (4 + groups * 5) bytes = rw (take-add 4 (groups * 5) bytes, is) refl in
+        rw values (
+          rw whole (front (4 + groups * 5) bytes),
+          dynamic-again (take 4 bytes) rest groups (length-take-le 4 bytes four) some few long,
+        )
+
+    go : (length bytes < 9) ⊎ (9 ≤ length bytes) → IfSome (dynamic_reading bytes) (IsKept dynamic_reading bytes)
+    go (inl less) = rw (below (length bytes) 9 less) tt
+    go (inr more) =
+        let long : length (drop 4 bytes) + 4 ≡ length bytes = omega (arith, length-drop 4 bytes) in
+        rw (above (length bytes) 9 more)
+        (kept (drop 4 bytes) (min (length (drop 4 bytes) / 5) 4) refl (omega arith) (omega arith) (omega arith) (omega arith))
+
+three_tests : (a b c : Bool) → (a && b && c) ≡ true → (a ≡ true) × (b ≡ true) × (c ≡ true)
+three_tests true true true e = (refl, refl, refl)
+three_tests true true false e = absurd (cc)
+three_tests true false c e = absurd (cc)
+three_tests false b c e = absurd (cc)
+
+variables : Keeps variables_reading
+variables [] = tt
+variables (status ∷ bytes) =
+    let groups : ℕ = (length (status ∷ bytes) - 5) / 8 in
+    by_test _
+    (Some (Variables status (map variable_of (first_chunks 8 groups bytes)) (drop (1 + 8 * groups) (status ∷ bytes))))
+    None (IsKept variables_reading (status ∷ bytes))
+    (λ t.
+    let whole : length (status ∷ bytes) ≡ 5 + 8 * groups =
+    is_one (length (status ∷ bytes)) (5 + 8 * groups) (three_tests (ltb 0 groups) (ltb groups 9) _ t).2 in
+    let read : flat_map variable_bytes (map variable_of (first_chunks 8 groups bytes)) ≡ take (groups * 8) bytes =
+    chunks-bytes 8 groups variable_of variable_bytes variable-bytes bytes (omega arith) in
+    let after : drop (1 + 8 * groups) (status ∷ bytes) ≡ drop (groups * 8) bytes =
+    ap (λ n. drop n (status ∷ bytes)) (let e : 1 + 8 * groups ≡ suc (groups * 8) = omega arith in e) in
+    let all : take (groups * 8) bytes ++ drop (1 + 8 * groups) (status ∷ bytes) ≡ bytes =
+    rw after (take-append-drop (groups * 8) bytes) in
+    rw (read, all) (sym (take_all (length (status ∷ bytes)) (status ∷ bytes) (omega arith)), rw t refl))
+    (λ f. tt)
+
+more : Keeps more_reading
+more [] = tt
+more (byte ∷ bytes) =
+    (front 25 (byte ∷ bytes), ap (λ xs. Some (More (byte ∷ xs))) (take_all 24 (take 24 bytes) (omega (arith, length-take 24 bytes))))
+
+-- what is to be seen of a row, so that it keeps what it reads of replies
+abbrev pub Seen : Replied → Type 0
+Seen (Saying size content) = (xs : List ℕ) → content_bytes (content (spell size xs)) ≡ spell size xs
+Seen (SaidBy reading) = Keeps reading
+
+rows : AllByRecursion (λ row. Seen row.reply) commands
+rows =
+    identity
+    ⨾ (λ xs. refl)
+    ⨾ (λ xs. refl)
+    ⨾ dynamic
+    ⨾ (λ xs. refl)
+    ⨾ (λ xs. refl)
+    ⨾ (λ xs. refl)
+    ⨾ variables
+    ⨾ identity
+    ⨾ (λ xs. refl)
+    ⨾ (λ xs. refl)
+    ⨾ (λ xs. refl)
+    ⨾ (λ xs. refl)
+    ⨾ (λ xs. refl)
+    ⨾ (λ xs. refl)
+    ⨾ (λ xs. refl)
+    ⨾ (λ xs. refl)
+    ⨾ (λ xs. refl)
+    ⨾ identity
+    ⨾ (λ xs. refl)
+    ⨾ (λ xs. refl)
+    ⨾ more
+    ⨾ tt
+
+keeps : (reply : Replied) → Seen reply → Keeps (replied reply)
+keeps (Saying size content) seen bytes = spelt size content seen bytes
+keeps (SaidBy reading) seen bytes = seen bytes
+
+-- so does the whole table
+content-kept : (command : ℕ) → Keeps (content_reading command)
+content-kept command bytes = go (row_of command) (found (λ row. Seen row.reply) commands command rows)
+  where
+    go : (row : Option CommandRow) → IfSome row (λ row. (row.number ≡ command) × Seen row.reply)
+        → IfSome (content_by row bytes) (IsKept (content_by row) bytes)
+    go None seen = tt
+    go (Some row) seen = keeps row.reply seen.1 bytes
+
+-- a reply is to the command, is written as the front of its payload, and is read again
+pub record IsReplyKept (command : ℕ) (payload : List ℕ) (reply : Reply) : Type 0 where
+  pub own : reply.command ≡ command
+  pub written : reply_payload reply ≡ take (length (reply_payload reply)) payload
+  pub again : reply_reading command (reply_payload reply) ≡ Some reply
+
+reading-kept : (command : ℕ) (payload : List ℕ) → IfSome (reply_reading command payload) (IsReplyKept command payload)
+reading-kept command [] = tt
+reading-kept command (code ∷ []) = tt
+reading-kept command (code ∷ status ∷ bytes) =
+    by_test _ _ _ _ (λ t. tt) (λ small.
+    by_test _ _ _ _ (λ none. success small none (content_reading command bytes) (content-kept command bytes)) (λ refused.
+    by_test (is_known command) (Some (saying Refused)) None (IsReplyKept command (code ∷ status ∷ bytes))
+    (λ known. record { own = refl; written = refl; again = rw (small, refused, known) refl })
+    (λ f. tt)))
+  where
+    saying : ReplyContent → Reply
+    saying content = record { command = command; code = code; status = record { 0 = status }; content = content }
+
+    success : ltb 127 code ≡ false → eqb code 0 ≡ true → (content : Option ReplyContent)
+        → IfSome content (IsKept (content_reading command) bytes)
+        → IfSome (option_map saying content) (IsReplyKept command (code ∷ status ∷ bytes))
+    success small none None kept = tt
+    success small none (Some content) kept = record {
+      own = refl;
+      written = ap (λ xs. code ∷ status ∷ xs) kept.0;
+      again = rw (small, none, kept.1) refl;
+    }
+
+-- the same of a reply that was read
+pub read-kept : (command : ℕ) (payload : List ℕ) (reply : Reply) → reply_reading command payload ≡ Some reply
+    → IsReplyKept command payload reply
+read-kept command payload reply e =
+    let P : Option Reply → Type 0 = λ o. IfSome o (IsReplyKept command payload) in subst P e (reading-kept command payload)
 
 pub written_is_read : (reply : Reply) → IsReply reply → reply_reading reply.command (reply_payload reply) ≡ Some reply
-written_is_read reply (inl success) =
-    rw (success.0, content_is_read reply.command reply.content success.1 success.2) (let code = success.0 in cc)
-written_is_read reply (inr refused) =
-    rw (
-      above 127 reply.code (omega (arith, refused.1)),
-      apart reply.code 0 (λ e. absurd (omega (arith, refused.0))),
-      refused.2,
-      refused.3,
-    ) (let content = refused.3 in cc)
+written_is_read reply is = (read-kept reply.command is.0 reply is.1).again
+
+-- a reply that was read is well made
+pub read-made : (command : ℕ) (payload : List ℕ) (reply : Reply) → reply_reading command payload ≡ Some reply
+    → IsReply reply × (reply.command ≡ command)
+read-made command payload reply e =
+    let by : reply.command ≡ command = (read-kept command payload reply e).own in
+    let P : ℕ → Type 0 = λ n. reply_reading n payload ≡ Some reply in
+    ((payload, subst P (sym by) e), by)
+
+pub reading-made : (command : ℕ) (payload : List ℕ) → IfSome (reply_reading command payload) IsReply
+reading-made command payload = go (reply_reading command payload) refl
+  where
+    go : (reply : Option Reply) → reply_reading command payload ≡ reply → IfSome reply IsReply
+    go None e = tt
+    go (Some reply) e = (read-made command payload reply e).0

@@ -9,7 +9,8 @@ use Rattle.hart_commands.specs.declared.request.Request.{Request}
 use Rattle.hart_commands.specs.declared.request.Request.TheVariants.{SetPolling, ReadVariables, IdentifyByTag, WriteMessage, WriteTag}
 use Rattle.hart_commands.specs.declared.request.Request.TheVariants.{WriteAssembly, IdentifyByLongTag, WriteLongTag, ResetChanged}
 use Rattle.hart_commands.specs.TagBytes.{tag_in, descriptor_in, date_in}
-use Rattle.hart_commands.specs.RequestData.{IsRequest, MayFollow, command_of, request_reading, request_data, needing, tag_reading}
+use Rattle.hart_commands.specs.RequestReading.{needing, tag_reading}
+use Rattle.hart_commands.specs.RequestData.{IsRequest, MayFollow, command_of, request_reading, request_data}
 
 -- needed bytes are read, whatever follows
 needing-append : (size : ℕ) (asked : List ℕ → Request) (bytes rest : List ℕ) → length bytes ≡ size

@@ -1,9 +1,8 @@
 //! The rows of the table of replies.
 ghost use Rattle.std.specs.Prelude.{◌≡◌, ◌<◌, ◌≤◌, length, map};
-ghost use Rattle.hart_commands.specs.ReplyData.{content_reading, identity_reading, primary_reading, current_reading, dynamic_reading};
-ghost use Rattle.hart_commands.specs.ReplyData.{polling_reading, classes_reading, variables_reading, message_reading, tag_reading};
-ghost use Rattle.hart_commands.specs.ReplyData.{sensor_reading, output_reading, assembly_reading, long_tag_reading, counter_reading};
-ghost use Rattle.hart_commands.specs.ReplyData.{more_reading};
+ghost use Rattle.hart_commands.specs.ReplyData.{content_reading};
+ghost use Rattle.hart_commands.specs.ReplyReading.{saying, current_of, polling_of, tag_of, identity_reading, dynamic_reading, variables_reading};
+ghost use Rattle.hart_commands.specs.ReplyReading.{more_reading};
 ghost use Rattle.hart_commands.specs.Values.{unit_value_of, variable_of};
 
 use crate::identity::FIRST_BYTE;
@@ -20,19 +19,19 @@ pub fn read_content(command: u8, bytes: &[u8]) -> Option<ReplyContent>
 {
     match command {
         0 | 11 | 21 => read_identity(bytes),
-        1 => read_primary(bytes),
+        1 => Some(ReplyContent::Primary(UnitValue::from_bytes(*bytes.first_chunk()?))),
         2 => read_current(bytes),
         3 => read_dynamic(bytes),
         6 | 7 => read_polling(bytes),
-        8 => read_classes(bytes),
+        8 => Some(ReplyContent::Classes(*bytes.first_chunk()?)),
         9 => read_variables(bytes),
-        12 | 17 => read_message(bytes),
+        12 | 17 => Some(ReplyContent::Message(PackedText::from_bytes(*bytes.first_chunk()?))),
         13 | 18 => read_tag(bytes),
-        14 => read_sensor(bytes),
-        15 => read_output(bytes),
-        16 | 19 => read_assembly(bytes),
-        20 | 22 => read_long_tag(bytes),
-        38 => read_counter(bytes),
+        14 => Some(ReplyContent::Sensor(SensorContent::from_bytes(*bytes.first_chunk()?))),
+        15 => Some(ReplyContent::Output(OutputContent::from_bytes(*bytes.first_chunk()?))),
+        16 | 19 => Some(ReplyContent::Assembly(*bytes.first_chunk()?)),
+        20 | 22 => Some(ReplyContent::LongTag(*bytes.first_chunk()?)),
+        38 => Some(ReplyContent::Counter(*bytes.first_chunk()?)),
         48 => read_more(bytes),
         _ => None,
     }
@@ -49,16 +48,9 @@ fn read_identity(bytes: &[u8]) -> Option<ReplyContent>
     Some(ReplyContent::Identity(IdentityContent::from_bytes(*identity)))
 }
 
-/// Command 1: the primary variable.
-fn read_primary(bytes: &[u8]) -> Option<ReplyContent>
-    ensures { result ≡ primary_reading bytes.now }
-{
-    Some(ReplyContent::Primary(UnitValue::from_bytes(*bytes.first_chunk()?)))
-}
-
 /// Command 2: the loop current and the percent of range.
 fn read_current(bytes: &[u8]) -> Option<ReplyContent>
-    ensures { result ≡ current_reading bytes.now }
+    ensures { result ≡ saying 8 current_of bytes.now }
 {
     let [a, b, c, d, e, f, g, h] = *bytes.first_chunk::<8>()?;
     Some(ReplyContent::Current {
@@ -96,17 +88,10 @@ fn values_in(groups: &[[u8; 5]]) -> ShortList<UnitValue, 4>
 
 /// Commands 6 and 7: a polling address and a loop current mode, as they come.
 fn read_polling(bytes: &[u8]) -> Option<ReplyContent>
-    ensures { result ≡ polling_reading bytes.now }
+    ensures { result ≡ saying 2 polling_of bytes.now }
 {
     let [address, mode] = *bytes.first_chunk::<2>()?;
     Some(ReplyContent::Polling { address, mode })
-}
-
-/// Command 8: the classifications of the four dynamic variables.
-fn read_classes(bytes: &[u8]) -> Option<ReplyContent>
-    ensures { result ≡ classes_reading bytes.now }
-{
-    Some(ReplyContent::Classes(*bytes.first_chunk()?))
 }
 
 /// Command 9: the extended device status, one to eight variables and their time stamp, which ends the data.
@@ -137,16 +122,9 @@ fn variables_in(groups: &[[u8; 8]]) -> ShortList<VariableReading, 8>
     variables
 }
 
-/// Commands 12 and 17: the message.
-fn read_message(bytes: &[u8]) -> Option<ReplyContent>
-    ensures { result ≡ message_reading bytes.now }
-{
-    Some(ReplyContent::Message(PackedText::from_bytes(*bytes.first_chunk()?)))
-}
-
 /// Commands 13 and 18: a tag, a descriptor and a date, as it comes.
 fn read_tag(bytes: &[u8]) -> Option<ReplyContent>
-    ensures { result ≡ tag_reading bytes.now }
+    ensures { result ≡ saying 21 tag_of bytes.now }
 {
     let (tag, descriptor, date) = tag_parts(bytes)?;
     Some(ReplyContent::Tag {
@@ -154,41 +132,6 @@ fn read_tag(bytes: &[u8]) -> Option<ReplyContent>
         descriptor: PackedText::from_bytes(descriptor),
         date,
     })
-}
-
-/// Command 14: the sensor.
-fn read_sensor(bytes: &[u8]) -> Option<ReplyContent>
-    ensures { result ≡ sensor_reading bytes.now }
-{
-    Some(ReplyContent::Sensor(SensorContent::from_bytes(*bytes.first_chunk()?)))
-}
-
-/// Command 15: the loop current output.
-fn read_output(bytes: &[u8]) -> Option<ReplyContent>
-    ensures { result ≡ output_reading bytes.now }
-{
-    Some(ReplyContent::Output(OutputContent::from_bytes(*bytes.first_chunk()?)))
-}
-
-/// Commands 16 and 19: the final assembly number.
-fn read_assembly(bytes: &[u8]) -> Option<ReplyContent>
-    ensures { result ≡ assembly_reading bytes.now }
-{
-    Some(ReplyContent::Assembly(*bytes.first_chunk()?))
-}
-
-/// Commands 20 and 22: the long tag.
-fn read_long_tag(bytes: &[u8]) -> Option<ReplyContent>
-    ensures { result ≡ long_tag_reading bytes.now }
-{
-    Some(ReplyContent::LongTag(*bytes.first_chunk()?))
-}
-
-/// Command 38: the configuration change counter.
-fn read_counter(bytes: &[u8]) -> Option<ReplyContent>
-    ensures { result ≡ counter_reading bytes.now }
-{
-    Some(ReplyContent::Counter(*bytes.first_chunk()?))
 }
 
 /// Command 48: the additional status bytes, one to 25.

@@ -1,6 +1,6 @@
 //! The rows of the table of requests whose data have parts.
 ghost use Rattle.std.specs.Prelude.{◌≡◌, ◌≤◌, ◌↔◌, length, take, IsOk, IfOk, IfErr};
-ghost use Rattle.hart_commands.specs.RequestData.{polling_reading, codes_reading, tag_reading, reset_reading};
+ghost use Rattle.hart_commands.specs.RequestReading.{polling_reading, codes_reading, tag_reading, reset_reading};
 
 use crate::tag_bytes::tag_parts;
 use crate::{CodeList, Request};

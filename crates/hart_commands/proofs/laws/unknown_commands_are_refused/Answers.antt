@@ -2,4 +2,4 @@ use Rattle.hart_commands.proofs.lemmas.RequestMade.{unknown-refused}
 use Rattle.hart_commands.proofs.laws.unknown_commands_are_refused.Goals as goal
 
 pub returns : goal.returns
-returns c = unknown-refused (λ bytes. (c.dates_are_decided.ensures.date bytes).0)
+returns c = unknown-refused

@@ -1,9 +1,11 @@
-use Rattle.hart_commands.proofs.lemmas.Reply.{written_is_read}
-use Rattle.hart_commands.proofs.lemmas.WellMade.{read-to_command}
+use Rattle.hart_commands.proofs.lemmas.Reply.{written_is_read, read-made, read-kept}
 use Rattle.hart_commands.proofs.laws.written_payloads_are_read_again.Goals as goal
 
 pub returns-clause-again : goal.returns-clause-again
 returns-clause-again c = written_is_read
 
 pub returns-clause-well_made : goal.returns-clause-well_made
-returns-clause-well_made c = read-to_command
+returns-clause-well_made c = read-made
+
+pub returns-clause-kept : goal.returns-clause-kept
+returns-clause-kept c command payload reply e = (read-kept command payload reply e).written
