@@ -11,7 +11,6 @@ ghost use Rattle.hart_commands.specs.declared.request.Request.{Request};
 ghost use Rattle.hart_commands.specs.declared.reply.Reply.{Reply};
 
 use crate::{Register, Request};
-use hart_values::dates_are_decided;
 
 /// A request is well made, whoever made it: the types of its parts say so.
 pub fn requests_are_well_made(request: &Request)
@@ -53,10 +52,7 @@ pub fn requests_are_well_made(request: &Request)
 pub fn written_data_are_read_again()
     ensures { (request : Request) (rest : List ℕ) → IsRequest request → MayFollow request rest
         → request_reading (command_of request) (request_data request ++ rest) ≡ Ok request }
-{
-    // No-op: its contract is used below.
-    dates_are_decided();
-}
+{}
 
 /// The data that a request is written as, with none after them, are read as that request.
 pub fn written_data_are_their_request()
@@ -74,10 +70,7 @@ pub fn requests_have_their_command()
 pub fn unknown_commands_are_refused()
     ensures { (command : ℕ) (bytes : List ℕ)
         → (request_reading command bytes ≡ Err 64) ↔ (is_known command ≡ false) }
-{
-    // No-op: its contract is used below.
-    dates_are_decided();
-}
+{}
 
 /// `Register::ALL` has every register, and none twice.
 pub fn all_registers_are_listed_once()

@@ -1,6 +1,5 @@
 -- The laws of requests, of registers and of overwrites, for the proofs of the crates above.
 use Rattle.std.proofs.Common.{◌≡◌, ◌≢◌, ℕ, AllPairs, Contains, IsSome, IsTrue, List, Ok, refl, lit<, rules}
-use Rattle.hart_values.proofs.lemmas.Laws.{dates_are_decided-date}
 use Rattle.hart_commands.specs.RequestCode.{is_write}
 use Rattle.hart_commands.specs.RequestData.{IsRequest, command_of, request_data, request_reading}
 use Rattle.hart_commands.specs.Registers.{AreValid, Contents, overwrite_of, overwritten, registers}
@@ -32,7 +31,7 @@ requests_have_their_command = read-asked
 
 pub written_data_are_their_request : (request : Request) → IsRequest request
     → request_reading (command_of request) (request_data request) ≡ Ok request
-written_data_are_their_request = written_is_own (λ bytes. (dates_are_decided-date bytes).1)
+written_data_are_their_request = written_is_own
 
 pub writes_have_overwrites-exactly : (request : Request)
     → (IsTrue (is_write (command_of request)) → IsSome (overwrite_of request))
