@@ -21,7 +21,7 @@ use Rattle.hart_commands.specs.ReplyData.{IsReply, content_by, content_reading, 
 use Rattle.hart_commands.proofs.lemmas.Test.{below, above, is_one}
 use Rattle.hart_commands.proofs.lemmas.Chunk.{chunks-bytes, chunks-take}
 use Rattle.hart_commands.proofs.lemmas.Parts.{spell, by_spelling, unit_value-bytes, variable-bytes}
-use Rattle.hart_commands.proofs.lemmas.Rows.{◌⨾◌, found}
+use Rattle.hart_commands.proofs.lemmas.Rows.{found}
 
 -- a content that was read of some bytes is written as the front of them, and read again
 abbrev pub IsKept : (List ℕ → Option ReplyContent) → List ℕ → ReplyContent → Type 0
@@ -146,30 +146,7 @@ Seen (Saying size content) = (xs : List ℕ) → content_bytes (content (spell s
 Seen (SaidBy reading) = Keeps reading
 
 rows : AllByRecursion (λ row. Seen row.reply) commands
-rows =
-    identity
-    ⨾ (λ xs. refl)
-    ⨾ (λ xs. refl)
-    ⨾ dynamic
-    ⨾ (λ xs. refl)
-    ⨾ (λ xs. refl)
-    ⨾ (λ xs. refl)
-    ⨾ variables
-    ⨾ identity
-    ⨾ (λ xs. refl)
-    ⨾ (λ xs. refl)
-    ⨾ (λ xs. refl)
-    ⨾ (λ xs. refl)
-    ⨾ (λ xs. refl)
-    ⨾ (λ xs. refl)
-    ⨾ (λ xs. refl)
-    ⨾ (λ xs. refl)
-    ⨾ (λ xs. refl)
-    ⨾ identity
-    ⨾ (λ xs. refl)
-    ⨾ (λ xs. refl)
-    ⨾ more
-    ⨾ tt
+rows = search (identity, dynamic, variables, more)
 
 keeps : (reply : Replied) → Seen reply → Keeps (replied reply)
 keeps (Saying size content) seen bytes = spelt size content seen bytes

@@ -14,7 +14,7 @@ use Rattle.hart_commands.specs.RequestReading.{Reading, needing, polling_with, m
 use Rattle.hart_commands.specs.RequestReading.{reset_reading}
 use Rattle.hart_commands.specs.Commands.{Asked, Always, Needing, AskedBy, CommandRow, asked, commands, row_of, is_known}
 use Rattle.hart_commands.specs.RequestData.{IsRequest, command_of, read_by, request_reading}
-use Rattle.hart_commands.proofs.lemmas.Rows.{◌⨾◌, found}
+use Rattle.hart_commands.proofs.lemmas.Rows.{found}
 use Rattle.hart_commands.proofs.lemmas.Test.{below, above}
 
 -- a well-made request of a command, or a code other than 64
@@ -88,30 +88,7 @@ abbrev pub AsksOwn : CommandRow → Type 0
 AsksOwn row = Own row.number row.request
 
 pub rows : AllByRecursion AsksOwn commands
-rows =
-    (refl, tt)
-    ⨾ (refl, tt)
-    ⨾ (refl, tt)
-    ⨾ (refl, tt)
-    ⨾ polling
-    ⨾ (refl, tt)
-    ⨾ (refl, tt)
-    ⨾ codes
-    ⨾ (λ xs long. (refl, long))
-    ⨾ (refl, tt)
-    ⨾ (refl, tt)
-    ⨾ (refl, tt)
-    ⨾ (refl, tt)
-    ⨾ (refl, tt)
-    ⨾ (λ xs long. (refl, long))
-    ⨾ tag
-    ⨾ (λ xs long. (refl, long))
-    ⨾ (refl, tt)
-    ⨾ (λ xs long. (refl, long))
-    ⨾ (λ xs long. (refl, long))
-    ⨾ reset
-    ⨾ (refl, tt)
-    ⨾ tt
+rows = search (polling, codes, tag, reset)
 
 gives : (command : ℕ) (request : Asked) → Own command request → Gives command (asked request)
 gives command (Always request) own bytes = own

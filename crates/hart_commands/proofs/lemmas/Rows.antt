@@ -5,11 +5,6 @@ use Rattle.std.specs.List.{AllByRecursion}
 use Rattle.hart_commands.specs.Commands.{CommandRow, row_in}
 use Rattle.hart_commands.proofs.lemmas.Test.{is_one}
 
-infixr 4 ◌⨾◌
--- What holds of a row, and then what holds of the rows after it.
-abbrev pub ◌⨾◌ : {A B : Type 0} → A → B → A × B
-a ⨾ b = (a, b)
-
 -- a row stands under its number, before others
 entry : (P : CommandRow → Type 0) (row : CommandRow) (others : Option CommandRow) (command : ℕ) → P row
     → IfSome others (λ row. (row.number ≡ command) × P row)
