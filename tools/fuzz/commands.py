@@ -1,14 +1,42 @@
 """What the data of requests and replies mean, for each command of the profile."""
 
 import datetime
+import pathlib
+import re
 from typing import NamedTuple
 
+PAGE = pathlib.Path(__file__).parents[2] / "docs" / "COMMANDS.md"
+
+
+class Row(NamedTuple):
+    """A row of the table of commands in docs/COMMANDS.md, cell by cell."""
+
+    number: str
+    name: str
+    request: str
+    reply: str
+    refusals: str
+    writes: str
+
+
+def table():
+    """The rows of the commands by their numbers."""
+    lines = PAGE.read_text(encoding="utf-8").split("\n## ")[1].splitlines()
+    rows = [Row(*(cell.strip() for cell in line.strip("|").split("|"))) for line in lines if re.match(r"\| \d", line)]
+    return {int(row.number): row for row in rows}
+
+
+def least(cell):
+    """The number of bytes with which a cell begins, 0 if there is none."""
+    return int(re.match(r"\d*", cell).group() or 0)
+
+
+COMMANDS = table()
+UNKNOWN = [number for number in range(256) if number not in COMMANDS]
 # How many bytes of its request data a command needs, from the first on.
-NEEDED = {
-    0: 0, 1: 0, 2: 0, 3: 0, 6: 1, 7: 0, 8: 0, 9: 1, 11: 6, 12: 0, 13: 0, 14: 0, 15: 0, 16: 0,
-    17: 24, 18: 21, 19: 3, 20: 0, 21: 32, 22: 32, 38: 0, 48: 0,
-}
-WRITES = (6, 17, 18, 19, 22)
+NEEDED = {number: least(row.request) for number, row in COMMANDS.items()}
+WITH_DATA = [number for number, row in COMMANDS.items() if row.request != "none"]
+WRITES = [number for number, row in COMMANDS.items() if row.writes != "none"]
 MOST_CODES = 8
 
 SUCCESS = 0
@@ -20,11 +48,8 @@ INVALID_MODE = 12
 NOT_IMPLEMENTED = 64
 
 # How many bytes the reply of a command has at least; Commands 3, 9 and 48 have rules of their own.
-REPLY_NEEDED = {
-    0: 22, 1: 5, 2: 8, 6: 2, 7: 2, 8: 4, 11: 22, 12: 24, 13: 21, 14: 16, 15: 18, 16: 3, 17: 24, 18: 21, 19: 3,
-    20: 32, 21: 22, 22: 32, 38: 2,
-}
-IDENTITY_COMMANDS = (0, 11, 21)
+REPLY_NEEDED = {number: least(row.reply) for number, row in COMMANDS.items()}
+IDENTITY_COMMANDS = [number for number, row in COMMANDS.items() if row.reply.endswith(" identity")]
 IDENTITY_FIRST = 254
 
 

@@ -11,7 +11,7 @@ from .master import MASTER_PREAMBLES
 
 BAD_LINES = (
     "submit P 37420A1B2C 6 4001", "submit P 37420A1B2C 6 0002", "submit P 37420A1B2C 6", "submit P 37420A1B2C 19 0123",
-    "submit P 37420A1B2C 38 00", "submit P 37420A1B2C 4", "submit P 37420A1B2C 23", "submit P @64 0", "submit X @0 0",
+    "submit P 37420A1B2C 38 00", f"submit P 37420A1B2C {commands.UNKNOWN[0]}", "submit P @64 0", "submit X @0 0",
     "submit P all 21 " + "20" * 31, "submit P 37420A1B2C 22 " + "FF" * 31, "submit P 37420A1B2C 21", "submit P 37420A1B2C 22",
     "submit P @0 0 \"\"", "submit P @0", "submit P @0 0 00 00", "submit P all 11 41535B", "submit P 37420A1B2C 9",
     "submit P 37420A1B2C 256", "submit P 37420A1B2C 18 415350B71C318208208208208208208208201D0200", "submit", "Submit P @0 0",
@@ -89,7 +89,7 @@ class Play:
     def submit(self):
         """A submission of a request that is well formed, also one that its master refuses."""
         rng, device = self.rng, self.line.device
-        command = rng.choice((6, 17, 18, 19, 22, 38, 38)) if rng.random() < 0.5 else rng.choice(list(commands.NEEDED))
+        command = rng.choice([*commands.WRITES, 38, 38]) if rng.random() < 0.5 else rng.choice(list(commands.NEEDED))
         address = OWN_ADDRESS if rng.random() < 0.5 else heard.random_address(rng, device.polling)
         if rng.random() < 0.2:
             address, command = rng.choice(((Polling(device.polling), 0), (heard.BROADCAST, 11), (heard.BROADCAST, 21)))

@@ -1,6 +1,6 @@
 """Makes random messages, and what may be heard of them: damage, noise, false starts and messages inside of others."""
 
-from .commands import NEEDED
+from .commands import NEEDED, UNKNOWN, WITH_DATA
 from .device import OWN_ADDRESS
 from .frames import BROADCAST, LONGEST_BODY, PREAMBLE, Char, Polling, Unique, address_bytes, faultless, parity, with_check_byte
 
@@ -35,8 +35,7 @@ def random_address(rng, polling=0):
 
 def random_command(rng):
     """A command, mostly one of the profile."""
-    return weighted(rng, (12, rng.choice(list(NEEDED))), (6, rng.choice((6, 17, 18, 19, 22, 38, 11, 21, 9))), (1, rng.randrange(256)),
-                    (1, rng.choice((4, 5, 10, 23, 31, 37, 39, 47, 49, 255))))
+    return weighted(rng, (12, rng.choice(list(NEEDED))), (6, rng.choice(WITH_DATA)), (1, rng.randrange(256)), (1, rng.choice(UNKNOWN)))
 
 
 def random_bytes(rng, length):
