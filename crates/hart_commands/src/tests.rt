@@ -2,13 +2,7 @@ use super::*;
 use hart_values::Payload;
 use std::test::Fail;
 
-/// The data of Command 18 but for the year: the tag PUMP-101, sixteen spaces and 29 February.
-const TAG_WITHOUT_YEAR: [u8; 20] = [
-    0x41, 0x53, 0x50, 0xB7, 0x1C, 0x31, 0x82, 0x08, 0x20, 0x82, 0x08, 0x20, 0x82, 0x08, 0x20, 0x82,
-    0x08, 0x20, 0x1D, 0x02,
-];
-
-/// The same with the year 2000.
+/// The data of Command 18: the tag PUMP-101, sixteen spaces and 29 February of the year 2000.
 const TAG: [u8; 21] = [
     0x41, 0x53, 0x50, 0xB7, 0x1C, 0x31, 0x82, 0x08, 0x20, 0x82, 0x08, 0x20, 0x82, 0x08, 0x20, 0x82,
     0x08, 0x20, 0x1D, 0x02, 0x64,
@@ -19,6 +13,85 @@ const BAD_DATE: [u8; 21] = [
     0x41, 0x53, 0x50, 0xB7, 0x1C, 0x31, 0x82, 0x08, 0x20, 0x82, 0x08, 0x20, 0x82, 0x08, 0x20, 0x82,
     0x08, 0x20, 0x1D, 0x02, 0x00,
 ];
+
+/// Each command, how many bytes its request needs, and how many the data of its reply.
+const COMMANDS: &[(u8, usize, usize)] = &[
+    (0, 0, 22),
+    (1, 0, 5),
+    (2, 0, 8),
+    (3, 0, 9),
+    (6, 1, 2),
+    (7, 0, 2),
+    (8, 0, 4),
+    (9, 1, 13),
+    (11, 6, 22),
+    (12, 0, 24),
+    (13, 0, 21),
+    (14, 0, 16),
+    (15, 0, 18),
+    (16, 0, 3),
+    (17, 24, 24),
+    (18, 21, 21),
+    (19, 3, 3),
+    (20, 0, 32),
+    (21, 32, 22),
+    (22, 32, 32),
+    (38, 0, 2),
+    (48, 0, 1),
+];
+
+/// Two status bytes, and data that begin as those of every command may.
+const PAYLOAD: [u8; 34] = [
+    0x00, 0x00, 0xFE, 0, 0, 0, 0, 0, 0, 0, 0, 0, 0, 0, 0, 0, 0, 0, 0, 0, 0, 0, 0, 0, 0, 0, 0, 0, 0,
+    0, 0, 0, 0, 0,
+];
+
+/// The code with which data are refused, if they are.
+fn refusal(command: u8, bytes: &[u8]) -> Option<u8> {
+    Request::read(command, bytes).err().map(|code| code.value())
+}
+
+/// The code of one byte too few: 5, but where none are needed.
+fn too_few(asked: usize) -> Option<u8> {
+    if asked == 0 { None } else { Some(5) }
+}
+
+#[test]
+fn each_command_needs_its_bytes(rt: HostRuntime) -> Result<(), Fail> {
+    for (command, asked, said) in COMMANDS {
+        let bytes = ZEROS.get(..*asked).ok_or("at most 80 bytes")?;
+        let payload = PAYLOAD.get(..2 + *said).ok_or("at most 34 bytes")?;
+        let request = Request::read(*command, bytes)?;
+        assert!(rt;
+            is_written_as(&request, *command, bytes) || *command == 6,
+            "of {command}"
+        );
+        assert!(rt;
+            refusal(*command, bytes.get(1..).unwrap_or(&[])) == too_few(*asked),
+            "of {command}"
+        );
+        let reply = Reply::read(*command, payload).ok_or("a reply")?;
+        let shorter = PAYLOAD.get(..1 + *said).ok_or("at most 34 bytes")?;
+        assert!(rt;
+            reply.command == *command && Reply::read(*command, shorter).is_none(),
+            "of {command}"
+        );
+    }
+    Ok(())
+}
+
+#[test]
+fn every_other_command_is_unknown(rt: HostRuntime) {
+    for command in 0..=255u8 {
+        if !COMMANDS.iter().any(|row| row.0 == command) {
+            assert!(rt; refusal(command, &[]) == Some(64), "of {command}");
+            assert!(rt;
+                Reply::read(command, &[0x40, 0x00]).is_none(),
+                "of {command}"
+            );
+        }
+    }
+}
 
 /// Commands with data, and the data that the requests are written as.
 const REQUESTS: &[(u8, &[u8], &[u8])] = &[
@@ -31,13 +104,8 @@ const REQUESTS: &[(u8, &[u8], &[u8])] = &[
     (9, &[0xF5], &[0xF5]),
     (18, &TAG, &TAG),
     (19, &[0x01, 0x23, 0x45, 0x67], &[0x01, 0x23, 0x45]),
-    (20, &[], &[]),
-    (20, &[0x20; 31], &[]),
-    (20, &[0x20; 32], &[]),
     (20, &[0x20; 33], &[]),
-    (21, &[0x20; 32], &[0x20; 32]),
     (21, &[0x20; 33], &[0x20; 32]),
-    (22, &[0xFF; 32], &[0xFF; 32]),
     (22, &[0xFF; 33], &[0xFF; 32]),
     (38, &[], &[]),
     (38, &[0x00, 0x01], &[0x00, 0x01]),
@@ -63,35 +131,17 @@ fn requests_are_read_and_written(rt: HostRuntime) -> Result<(), Fail> {
 
 /// Commands with data, and the code that refuses them.
 const REFUSED: &[(u8, &[u8], u8)] = &[
-    (6, &[], 5),
     (6, &[0x40, 0x01], 2),
     (6, &[0x40, 0x02], 2),
     (6, &[0x3F, 0x02], 12),
-    (9, &[], 5),
     (18, &BAD_DATE, 9),
-    (18, &TAG_WITHOUT_YEAR, 5),
-    (19, &[0x01, 0x23], 5),
-    (21, &[], 5),
-    (21, &[0x20; 31], 5),
-    (22, &[], 5),
-    (22, &[0xFF; 31], 5),
     (38, &[0x00], 5),
-    (4, &[], 64),
-    (5, &[], 64),
-    (10, &[], 64),
-    (23, &[], 64),
-    (31, &[], 64),
-    (37, &[], 64),
-    (255, &[], 64),
 ];
 
 #[test]
 fn bad_data_are_refused(rt: HostRuntime) {
     for (row, (command, bytes, want)) in REFUSED.iter().enumerate() {
-        let code = Request::read(*command, bytes)
-            .err()
-            .map(|code| code.value());
-        assert!(rt; code == Some(*want), "of row {row}");
+        assert!(rt; refusal(*command, bytes) == Some(*want), "of row {row}");
     }
 }
 
@@ -115,20 +165,15 @@ const ZEROS: [u8; 80] = [0; 80];
 
 /// A command, a payload's length and the length of the payload that its reply is written as.
 const LENGTHS: &[(u8, usize, usize)] = &[
-    (3, 2 + 9, 2 + 9),
     (3, 2 + 13, 2 + 9),
     (3, 2 + 14, 2 + 14),
     (3, 2 + 19, 2 + 19),
     (3, 2 + 24, 2 + 24),
     (3, 2 + 29, 2 + 24),
-    (9, 2 + 13, 2 + 13),
     (9, 2 + 21, 2 + 21),
     (9, 2 + 69, 2 + 69),
-    (20, 2 + 32, 2 + 32),
     (20, 2 + 33, 2 + 32),
-    (22, 2 + 32, 2 + 32),
     (22, 2 + 33, 2 + 32),
-    (48, 2 + 1, 2 + 1),
     (48, 2 + 25, 2 + 25),
     (48, 2 + 26, 2 + 25),
 ];
@@ -148,20 +193,11 @@ fn replies_of_every_length_are_read(rt: HostRuntime) -> Result<(), Fail> {
 /// Commands and payloads that hold no reply.
 const NO_REPLIES: &[(u8, &[u8])] = &[
     (0, &NO_IDENTITY),
-    (0, &[0, 0, 0xFE]),
     (3, &[0, 0, 1, 2, 3, 4, 5, 6, 7, 8]),
     (9, &[0, 0, 1, 2, 3, 4, 5, 6, 7, 8, 9, 10, 11, 12]),
-    (20, &[0, 0]),
-    (20, &[0; 33]),
     (21, &NO_IDENTITY),
-    (21, &[0, 0, 0xFE]),
-    (21, &[0; 34]),
-    (22, &[0, 0]),
-    (22, &[0; 33]),
-    (48, &[0, 0]),
     (19, &[0x88, 0x00]),
     (19, &[0x00]),
-    (5, &[0x40, 0x00]),
 ];
 
 #[test]
