@@ -215,11 +215,14 @@ impl Request {
     }
 }
 
-/// Whether a command is known: whether [`Request::read`] knows how to read its data.
+/// Whether a command is known: whether [`Request::read`] refuses its data with another code than 64, if it does.
 pub(crate) fn is_known(command: u8) -> bool
     ensures { result ≡ is_known command }
 {
-    matches!(command, 0..=3 | 6..=9 | 11..=22 | 38 | 48)
+    !matches!(
+        Request::read(command, &[]),
+        Err(ResponseCode::COMMAND_NOT_IMPLEMENTED)
+    )
 }
 
 /// The byte of a loop current mode: 0 disabled, 1 enabled.
