@@ -81,9 +81,9 @@ row_in [] command = None
 row_in (row ∷ rows) command = if command == row.number then Some row else row_in rows command
 
 -- The row of a command, if it has one.
-abbrev pub row_of : ℕ → Option CommandRow
-row_of = row_in commands
+abbrev pub command_row : ℕ → Option CommandRow
+command_row = row_in commands
 
 -- A command is known if the table has a row for it.
 abbrev pub is_known : ℕ → Bool
-is_known command = is_some (row_of command)
+is_known command = is_some (command_row command)

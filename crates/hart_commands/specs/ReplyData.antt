@@ -11,7 +11,7 @@ use Rattle.hart_commands.specs.Values.{unit_value_bytes, variable_bytes}
 use Rattle.hart_commands.specs.IdentityBytes.{identity_bytes}
 use Rattle.hart_commands.specs.SensorBytes.{sensor_bytes}
 use Rattle.hart_commands.specs.OutputBytes.{output_bytes}
-use Rattle.hart_commands.specs.Commands.{CommandRow, replied, row_of, is_known}
+use Rattle.hart_commands.specs.Commands.{CommandRow, replied, command_row, is_known}
 
 -- The data of a reply with code 0 are read as the row says; without a row there is no reply.
 abbrev pub content_by : Option CommandRow → List ℕ → Option ReplyContent
@@ -20,7 +20,7 @@ content_by (Some row) bytes = replied row.reply bytes
 
 -- They are read by the row of the command.
 abbrev pub content_reading : ℕ → List ℕ → Option ReplyContent
-content_reading command = content_by (row_of command)
+content_reading command = content_by (command_row command)
 
 -- A payload of two bytes or more is a reply to a command of the table if its first byte is a response code below 128: with
 -- code 0 the data must be those of a content, and with another code the request was refused, whatever the data.

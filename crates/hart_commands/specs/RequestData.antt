@@ -10,7 +10,7 @@ use Rattle.hart_commands.specs.declared.request.Request.TheVariants.{ReadPolling
 use Rattle.hart_commands.specs.declared.request.Request.TheVariants.{ReadTag, ReadSensor, ReadOutput, ReadAssembly, WriteMessage, WriteTag}
 use Rattle.hart_commands.specs.declared.request.Request.TheVariants.{WriteAssembly, ReadLongTag, IdentifyByLongTag, WriteLongTag}
 use Rattle.hart_commands.specs.declared.request.Request.TheVariants.{ResetChanged, ReadMore}
-use Rattle.hart_commands.specs.Commands.{CommandRow, asked, row_of}
+use Rattle.hart_commands.specs.Commands.{CommandRow, asked, command_row}
 pub use Rattle.hart_commands.specs.Commands.{is_known}
 pub use Rattle.hart_commands.specs.RequestReading.{Reading}
 
@@ -21,7 +21,7 @@ read_by (Some row) bytes = asked row.request bytes
 
 -- Data are read by the row of their command.
 abbrev pub request_reading : ℕ → List ℕ → Reading
-request_reading command = read_by (row_of command)
+request_reading command = read_by (command_row command)
 
 -- A loop current mode is a byte: 0 if it is disabled, 1 if it is enabled.
 abbrev pub mode_byte : LoopMode → ℕ

@@ -16,7 +16,7 @@ use Rattle.hart_commands.specs.FirstBytes.{having}
 use Rattle.hart_commands.specs.Values.{float_at, unit_value_of, unit_value_bytes, variable_of, variable_bytes}
 use Rattle.hart_commands.specs.IdentityBytes.{identity_of}
 use Rattle.hart_commands.specs.ReplyReading.{saying, identity_reading, dynamic_reading, variables_reading, more_reading}
-use Rattle.hart_commands.specs.Commands.{Replied, Saying, SaidBy, CommandRow, replied, commands, row_of, is_known}
+use Rattle.hart_commands.specs.Commands.{Replied, Saying, SaidBy, CommandRow, replied, commands, command_row, is_known}
 use Rattle.hart_commands.specs.ReplyData.{IsReply, content_by, content_reading, content_bytes, reply_reading, reply_payload}
 use Rattle.hart_commands.proofs.lemmas.Test.{below, above, is_one}
 use Rattle.hart_commands.proofs.lemmas.Chunk.{chunks-bytes, chunks-take}
@@ -154,7 +154,7 @@ keeps (SaidBy reading) seen bytes = seen bytes
 
 -- so does the whole table
 content-kept : (command : ℕ) → Keeps (content_reading command)
-content-kept command bytes = go (row_of command) (found (λ row. Seen row.reply) commands command rows)
+content-kept command bytes = go (command_row command) (found (λ row. Seen row.reply) commands command rows)
   where
     go : (row : Option CommandRow) → IfSome row (λ row. (row.number ≡ command) × Seen row.reply)
         → IfSome (content_by row bytes) (IsKept (content_by row) bytes)

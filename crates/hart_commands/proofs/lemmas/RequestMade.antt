@@ -12,7 +12,7 @@ use Rattle.hart_commands.specs.declared.request.Request.TheVariants.{SetPolling,
 use Rattle.hart_commands.specs.TagBytes.{tag_in, descriptor_in, date_in}
 use Rattle.hart_commands.specs.RequestReading.{Reading, needing, polling_with, mode_left_out, polling_reading, codes_reading, tag_reading}
 use Rattle.hart_commands.specs.RequestReading.{reset_reading}
-use Rattle.hart_commands.specs.Commands.{Asked, Always, Needing, AskedBy, CommandRow, asked, commands, row_of, is_known}
+use Rattle.hart_commands.specs.Commands.{Asked, Always, Needing, AskedBy, CommandRow, asked, commands, command_row, is_known}
 use Rattle.hart_commands.specs.RequestData.{IsRequest, command_of, read_by, request_reading}
 use Rattle.hart_commands.proofs.lemmas.Rows.{found}
 use Rattle.hart_commands.proofs.lemmas.Test.{below, above}
@@ -107,7 +107,7 @@ given_by command (Some row) bytes request given e =
 
 pub read-asked : (command : ℕ) (bytes : List ℕ) (request : Request) → request_reading command bytes ≡ Ok request
     → (command_of request ≡ command) × IsRequest request
-read-asked command bytes request = given_by command (row_of command) bytes request (found AsksOwn commands command rows)
+read-asked command bytes request = given_by command (command_row command) bytes request (found AsksOwn commands command rows)
 
 -- only a command that is not known is refused with code 64
 refused_by : (command : ℕ) (row : Option CommandRow) (bytes : List ℕ) → IfSome row (λ row. (row.number ≡ command) × AsksOwn row)
@@ -117,4 +117,4 @@ refused_by command (Some row) bytes given =
     (λ e. let P : Reading → Type 0 = IsGiven row.number in absurd (subst P e (gives row.number row.request given.1 bytes) refl), λ n. cc)
 
 pub unknown-refused : (command : ℕ) (bytes : List ℕ) → (request_reading command bytes ≡ Err 64) ↔ (is_known command ≡ false)
-unknown-refused command bytes = refused_by command (row_of command) bytes (found AsksOwn commands command rows)
+unknown-refused command bytes = refused_by command (command_row command) bytes (found AsksOwn commands command rows)
