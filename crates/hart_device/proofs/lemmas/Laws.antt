@@ -1,12 +1,10 @@
 -- The laws of devices, for the proofs of this crate and of those above.
-use Rattle.std.proofs.Common.{◌≡◌, ◌≢◌, ◌≤◌, ◌⊎◌, rules, false, true, ℕ, Contains, List, [], ◌∷◌, ◌++◌, length, refl, sym}
+use Rattle.std.proofs.Common.{◌≡◌, ◌≢◌, ◌≤◌, ◌⊎◌, rules, false, true, ℕ, Contains, List, [], ◌∷◌, ◌++◌, length, sym}
 use Rattle.std.proofs.Common.{IfSome, Ok, Option, Some, slice_get}
 use Rattle.std.specs.List.{flat_map}
-use Rattle.hart_values.proofs.lemmas.Laws.{address_bytes_are_unambiguous-one_list, address_bytes_are_unambiguous-one_reading}
 use Rattle.hart_frame.specs.heard.Character.{Character}
 use Rattle.hart_frame.specs.wire.FrameParts.{FrameParts, reply_parts}
-use Rattle.hart_frame.proofs.lemmas.Laws.{every_list_has_frames, first_starts_are_decided-decided, first_starts_are_decided-one}
-use Rattle.hart_frame.proofs.lemmas.Laws.{frames_are_unambiguous-one_list}
+use Rattle.hart_frame.proofs.lemmas.Laws.{every_list_has_frames, frames_are_unambiguous-one_list}
 use Rattle.hart_commands.specs.Registers.{Contents, Overwrite, overwrite_of, overwritten, registers, registers_of}
 use Rattle.hart_commands.specs.declared.register.Register.{Register}
 use Rattle.hart_commands.specs.declared.request.Request.{Request}
@@ -23,21 +21,19 @@ use Rattle.hart_device.specs.declared.identity_parts.IdentityParts.{IdentityPart
 use Rattle.hart_device.specs.declared.process.Process.{Process}
 use Rattle.hart_device.proofs.lemmas.answer.Delivery.{Brings-found, Brings-one}
 use Rattle.hart_device.proofs.lemmas.answer.Effect.{answered_if, effect_executes_only, refused, resets_only}
-use Rattle.hart_device.proofs.lemmas.answer.Garbled.{HasGarbled-one}
-use Rattle.hart_device.proofs.lemmas.answer.GarbledFound.{garbled_decided}
+use Rattle.hart_device.proofs.lemmas.answer.Garbled.{garbled_decided, garbled_one}
 use Rattle.hart_device.proofs.lemmas.image.Image.{no_fault}
 use Rattle.hart_device.proofs.lemmas.registers.Range.{filled, table}
 use Rattle.hart_device.proofs.lemmas.registers.Registers.{registers_of-again, registers_of-append, registers_of-cons}
 
 pub garbled_requests_are_decided-one : (identity : IdentityParts) (chars : List Character) (request other : GarbledRequest)
     → HasGarbled identity chars request → HasGarbled identity chars other → request ≡ other
-garbled_requests_are_decided-one = HasGarbled-one address_bytes_are_unambiguous-one_reading first_starts_are_decided-one
+garbled_requests_are_decided-one = garbled_one
 
 pub garbled_requests_are_decided-decided : (identity : IdentityParts) (chars : List Character)
     → ((request : GarbledRequest) × HasGarbled identity chars request)
     ⊎ ((request : GarbledRequest) → HasGarbled identity chars request → ⊥)
-garbled_requests_are_decided-decided =
-    garbled_decided address_bytes_are_unambiguous-one_list first_starts_are_decided-one first_starts_are_decided-decided
+garbled_requests_are_decided-decided = garbled_decided
 
 pub deliveries_bring_one-brings : (identity : IdentityParts) (delivery : List Character)
     → (brought : Brought) × Brings identity delivery brought

@@ -2,6 +2,5 @@
 pub mod Effect
 pub mod ColdStart
 pub mod Garbled
-pub mod GarbledFound
 pub mod Delivery
 pub mod Faults

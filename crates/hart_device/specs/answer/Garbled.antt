@@ -1,18 +1,21 @@
 -- Requests that a device heard with faults, and what it replies to them (HCF_SPEC-081, HCF_SPEC-099; to which of them it replies is
 -- of the own profile).
-use Rattle.std.specs.Prelude.{◌≡◌, ◌+◌, ◌%◌, ◌==◌, ℕ, Bool, false, List, [], ◌∷◌, ◌++◌, length, drop, count_by}
+use Rattle.std.specs.Prelude.{◌≡◌, ◌+◌, ◌%◌, ◌==◌, ◌&&◌, if◌then◌else◌, ℕ, Bool, false, List, [], ◌∷◌, ◌++◌, Option, None, Some}
+use Rattle.std.specs.Prelude.{length, map, slice_index, take, drop, count_by, nat_lt}
 use Rattle.std.specs.Int.{bit_at}
-use Rattle.std.specs.List.{list_any}
-use Rattle.hart_values.specs.address.AddressBytes.{IsAddressBytes}
+use Rattle.std.specs.List.{list_all, list_any}
+use Rattle.std.specs.Option.{option_and_then}
+use Rattle.std.specs.Str.{bytes_eq}
 use Rattle.hart_values.specs.declared.address.Address.TheVariants.{Unique}
 use Rattle.hart_values.specs.declared.master_id.MasterId.{MasterId}
-use Rattle.hart_frame.specs.heard.Character.{Character, faultless}
+use Rattle.hart_values.specs.declared.master_id.MasterId.TheVariants.{Primary, Secondary}
+use Rattle.hart_frame.specs.heard.Character.{Character}
 use Rattle.hart_frame.specs.wire.FrameParts.{FrameParts}
 use Rattle.hart_frame.specs.heard.Start.{IsFirstStart}
 use Rattle.hart_frame.specs.declared.wire.kind.FrameKind.TheVariants.{Ack}
 use Rattle.hart_device.specs.declared.answer.garbled.GarbledRequest.{GarbledRequest}
 use Rattle.hart_device.specs.declared.identity_parts.IdentityParts.{IdentityParts}
-use Rattle.hart_device.specs.Identity.{own_numbers}
+use Rattle.hart_device.specs.Identity.{own_numbers, three_bytes, two_bytes}
 use Rattle.hart_device.specs.answer.Status.{bit_if}
 
 -- Whether some of the characters have this fault bit.
@@ -37,35 +40,44 @@ communication_faults chars =
     + bit_if (has_odd_bit chars) 0x08
     + bit_if (has_fault 1 chars) 0x02
 
--- Characters are a garbled request for a device if they are, without faults, the delimiter hex 82 of a request at a unique
--- address, and the device's own address with the bit of a master and any burst bit; and then, whatever their faults, a command, a
--- byte count, as many characters of a payload as that says, and one for the check byte. The command is what was heard in its
--- place, and the communication faults are those of all these characters. A request without any fault has this form too; but a
--- delivery with it has a frame, and so brings no garbled request.
-pub record IsGarbled (identity : IdentityParts) (chars : List Character) (request : GarbledRequest) : Type 0 where
-  pub burst : Bool
-  pub address : List ℕ
-  pub own_address : IsAddressBytes request.master burst (Unique (own_numbers identity)) address
-  pub command : Character
-  pub byte_count : Character
-  pub after : List Character
-  pub parts : chars ≡ faultless (0x82 ∷ address) ++ command ∷ byte_count ∷ after
-  pub count : length after ≡ byte_count.byte + 1
-  pub command_heard : request.command ≡ command.byte
-  pub faults_heard : request.faults ≡ communication_faults chars
+-- The bytes of an address name the device itself, for either master and with any burst bit, if but for the two top bits of the first
+-- they are those of its numbers.
+abbrev pub is_own_address : IdentityParts → List ℕ → Bool
+is_own_address identity (first ∷ others) =
+    bytes_eq (first % 64 ∷ others) (two_bytes (own_numbers identity).expanded_type ++ three_bytes identity.device_id)
+is_own_address identity [] = false
 
--- The first characters of a list, as many as there have to be, are a garbled request.
-pub record BeginsWithGarbled (identity : IdentityParts) (chars : List Character) (request : GarbledRequest) : Type 0 where
-  pub garbled : List Character
-  pub rest : List Character
-  pub split : chars ≡ garbled ++ rest
-  pub is_garbled : IsGarbled identity garbled request
+-- The master that asks the device with six characters, or none: they are, without faults, the delimiter hex 82 of a request at a unique
+-- address, and the device's own address, whose top bit is set by the primary master and clear by the secondary.
+abbrev pub asking_master : IdentityParts → List Character → Option MasterId
+asking_master identity (delimiter ∷ others) =
+    let address : List ℕ = map (λ character. character.byte) others in
+    if list_all (λ character. character.faults == 0) (delimiter ∷ others) && (delimiter.byte == 0x82) && is_own_address identity address
+    then Some (if nat_lt (slice_index address 0) 128 then Secondary else Primary) else None
+asking_master identity [] = None
 
--- A list of characters has a garbled request if the characters from its first start on begin with one; no later start is looked at.
+-- A garbled request of a master has, after its head of six characters and whatever their faults, a command, a byte count, as many
+-- characters of a payload as that says, and one for the check byte. The command is what was heard in its place, and the communication
+-- faults are those of all its characters.
+abbrev pub garbled_after : List Character → List Character → MasterId → Option GarbledRequest
+garbled_after chars (command ∷ byte_count ∷ after) master =
+    if nat_lt byte_count.byte (length after) then Some (record {
+      master = master;
+      command = command.byte;
+      faults = communication_faults (take (9 + byte_count.byte) chars);
+    }) else None
+garbled_after chars _ master = None
+
+-- Characters begin with a garbled request for a device if a master asks it with the first six. A request without any fault has this
+-- form too; but a delivery with it has a frame, and so brings no garbled request.
+abbrev pub garbled_request : IdentityParts → List Character → Option GarbledRequest
+garbled_request identity chars = option_and_then (garbled_after chars (drop 6 chars)) (asking_master identity (take 6 chars))
+
+-- A list of characters has the garbled request with which the characters from its first start on begin; no later start is looked at.
 pub record HasGarbled (identity : IdentityParts) (chars : List Character) (request : GarbledRequest) : Type 0 where
   pub start : ℕ
   pub first_start : IsFirstStart start chars
-  pub begins : BeginsWithGarbled identity (drop start chars) request
+  pub begins : garbled_request identity (drop start chars) ≡ Some request
 
 -- The communication-fault reply to a garbled request is an ACK to its master, with the device's own address, the command that was
 -- heard, and two bytes: hex 80 joined with the communication faults, then 00.
@@ -79,13 +91,3 @@ garbled_reply identity request = record {
   command = request.command;
   payload = (0x80 + request.faults) ∷ 0 ∷ [];
 }
-
--- For private calls alone:
-
--- The characters begin, without faults, with the delimiter hex 82 and the device's own address with this master's bit.
-pub record BeginsWithOwn (identity : IdentityParts) (chars : List Character) (master : MasterId) : Type 0 where
-  pub burst : Bool
-  pub address : List ℕ
-  pub own_address : IsAddressBytes master burst (Unique (own_numbers identity)) address
-  pub rest : List Character
-  pub split : chars ≡ faultless (0x82 ∷ address) ++ rest

@@ -1,10 +1,7 @@
 //! Requests that a device heard with faults.
-ghost use Rattle.std.specs.Prelude.{◌≡◌, ◌↔◌, ◌++◌, ℕ, List, length, slice_get, Some, IsTrue, IfSome, MatchOption};
-ghost use Rattle.std.specs.Option.{option_map};
+ghost use Rattle.std.specs.Prelude.{◌≡◌, ◌↔◌, IsTrue, MatchOption};
 ghost use Rattle.hart_values.specs.declared.address.Address.TheVariants.{Unique};
-ghost use Rattle.hart_values.specs.declared.master_id.MasterId.{MasterId};
-ghost use Rattle.hart_frame.specs.heard.Character.{Character, faultless};
-ghost use Rattle.hart_device.specs.answer.Garbled.{BeginsWithGarbled, BeginsWithOwn, HasGarbled, communication_faults, garbled_reply};
+ghost use Rattle.hart_device.specs.answer.Garbled.{HasGarbled, asking_master, communication_faults, garbled_reply, garbled_request};
 ghost use Rattle.hart_device.specs.Identity.{own_numbers};
 ghost use Rattle.hart_device.specs.declared.answer.garbled.GarbledRequest.{GarbledRequest};
 
@@ -57,12 +54,11 @@ pub(crate) fn garbled_in(identity: &Identity, delivery: &[Char]) -> Option<Garbl
 
 /// The garbled request with which the characters begin, or `None` if they begin with none.
 fn garbled_at(identity: &Identity, chars: &[Char]) -> Option<GarbledRequest>
-    ensures found { IfSome result (BeginsWithGarbled identity.now chars.now) }
-    ensures known { (request : GarbledRequest) → BeginsWithGarbled identity.now chars.now request → result ≡ Some request }
+    ensures { result ≡ garbled_request identity.now chars.now }
 {
-    let master = asking_master(identity, chars)?;
-    let command = byte_at(chars, UNIQUE_COMMAND_PLACE)?;
-    let byte_count = byte_at(chars, UNIQUE_COMMAND_PLACE + 1)?;
+    let master = asking_master(identity, chars.get(..UNIQUE_COMMAND_PLACE)?)?;
+    let command = chars.get(UNIQUE_COMMAND_PLACE)?.byte();
+    let byte_count = chars.get(UNIQUE_COMMAND_PLACE + 1)?.byte();
     let garbled = chars.get(..unique_request_len(byte_count))?;
     Some(GarbledRequest {
         master,
@@ -71,21 +67,24 @@ fn garbled_at(identity: &Identity, chars: &[Char]) -> Option<GarbledRequest>
     })
 }
 
-/// The byte of the character at a place, or `None` if there is none.
-fn byte_at(chars: &[Char], place: usize) -> Option<u8>
-    ensures { result ≡ option_map (λ character. character.byte) (slice_get chars.now place) }
+/// The master that asks the device of this identity with the six characters of a head, or `None` if none does.
+fn asking_master(identity: &Identity, head: &[Char]) -> Option<MasterId>
+    ensures { result ≡ asking_master identity.now head.now }
 {
-    Some(chars.get(place)?.byte())
-}
-
-/// The master by whose request for the device of this identity the characters begin, or `None` if they begin with none.
-fn asking_master(identity: &Identity, chars: &[Char]) -> Option<MasterId>
-    ensures found { IfSome result (BeginsWithOwn identity.now chars.now) }
-    ensures known { (master : MasterId) → BeginsWithOwn identity.now chars.now master → result ≡ Some master }
-{
-    let head = faultless_head(chars)?;
-    let (master, _burst, address) = Address::read(&head[1..])?;
-    if head[0] != UNIQUE_REQUEST || !is_own(identity, address) {
+    let [delimiter, first, second, third, fourth, fifth] = head else {
+        return None;
+    };
+    if !are_faultless(head) {
+        return None;
+    }
+    let (master, _burst, address) = Address::read(&[
+        first.byte(),
+        second.byte(),
+        third.byte(),
+        fourth.byte(),
+        fifth.byte(),
+    ])?;
+    if delimiter.byte() != UNIQUE_REQUEST || !is_own(identity, address) {
         return None;
     }
     Some(master)
@@ -99,27 +98,6 @@ fn is_own(identity: &Identity, address: Address) -> bool
         Address::Polling(_) => false,
         Address::Unique(unique) => unique == identity.unique_address(),
     }
-}
-
-/// The bytes of the first characters, as far as an address goes, or `None` if one of them has a fault or is not there.
-fn faultless_head(chars: &[Char]) -> Option<[u8; UNIQUE_COMMAND_PLACE]>
-    ensures six { IfSome result (λ bytes. length bytes ≡ 6) }
-    ensures found { IfSome result (λ bytes. (rest : List Character) × (chars.now ≡ faultless bytes ++ rest)) }
-    ensures known { (bytes : List ℕ) (rest : List Character) → length bytes ≡ 6 → chars.now ≡ faultless bytes ++ rest
-        → result ≡ Some bytes }
-{
-    let head = chars.get(..UNIQUE_COMMAND_PLACE)?;
-    if !are_faultless(head) {
-        return None;
-    }
-    Some([
-        head[0].byte(),
-        head[1].byte(),
-        head[2].byte(),
-        head[3].byte(),
-        head[4].byte(),
-        head[5].byte(),
-    ])
 }
 
 /// The communication faults of the characters.
