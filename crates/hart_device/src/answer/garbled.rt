@@ -1,22 +1,20 @@
 //! Requests that a device heard with faults.
-ghost use Rattle.std.specs.Prelude.{◌≡◌, ◌↔◌, IsTrue, MatchOption};
+ghost use Rattle.std.specs.Prelude.{◌≡◌, ◌==◌, ◌^◌, ◌↔◌, ℕ, not, bit_and, IsTrue, MatchOption};
+ghost use Rattle.std.specs.List.{list_any};
 ghost use Rattle.hart_values.specs.declared.address.Address.TheVariants.{Unique};
 ghost use Rattle.hart_device.specs.answer.Garbled.{HasGarbled, asking_master, communication_faults, garbled_reply, garbled_request};
+ghost use Rattle.hart_device.specs.answer.Garbled.{has_fault, has_odd_bit};
+ghost use Rattle.hart_device.specs.answer.Status.{bit_if};
 ghost use Rattle.hart_device.specs.Identity.{own_numbers};
 ghost use Rattle.hart_device.specs.declared.answer.garbled.GarbledRequest.{GarbledRequest};
 
 use crate::Identity;
+use crate::answer::status::bit_if;
 use hart_frame::{
     Char, Frame, Payload, UNIQUE_COMMAND_PLACE, UNIQUE_REQUEST, are_faultless, first_start,
     unique_request_len,
 };
 use hart_values::{Address, CommFaults, MasterId, Status};
-
-/// The communication faults that fault bits of characters say.
-const CHARACTER_FAULTS: u8 = CommFaults::VERTICAL_PARITY
-    | CommFaults::OVERRUN
-    | CommFaults::FRAMING
-    | CommFaults::BUFFER_OVERFLOW;
 
 /// A request for a device that was heard with faults.
 #[derive(Clone, Copy, Debug, PartialEq, Eq)]
@@ -104,16 +102,37 @@ fn is_own(identity: &Identity, address: Address) -> bool
 fn communication_faults(chars: &[Char]) -> CommFaults
     ensures { result ≡ communication_faults chars.now }
 {
-    let mut faults = 0;
+    let faults = fault_if(chars, CommFaults::VERTICAL_PARITY)
+        | fault_if(chars, CommFaults::OVERRUN)
+        | fault_if(chars, CommFaults::FRAMING)
+        | bit_if(has_odd_bit(chars), CommFaults::LONGITUDINAL_PARITY)
+        | fault_if(chars, CommFaults::BUFFER_OVERFLOW);
+    CommFaults::new(faults).unwrap()
+}
+
+/// A fault bit, if one of the characters has it.
+fn fault_if(chars: &[Char], fault: u8) -> u8
+    ensures { (bit : ℕ) → fault ≡ 2 ^ bit → result ≡ bit_if (has_fault bit chars.now) fault }
+{
+    bit_if(have_fault(chars, fault), fault)
+}
+
+/// Whether one of the characters has one of these fault bits.
+fn have_fault(chars: &[Char], faults: u8) -> bool
+    ensures { result ≡ list_any (λ character. not (bit_and character.faults faults == 0)) chars.now }
+{
+    chars
+        .iter()
+        .any(|character| character.faults() & faults != 0)
+}
+
+/// Whether the exclusive or of the bytes of the characters is not zero.
+fn has_odd_bit(chars: &[Char]) -> bool
+    ensures { result ≡ has_odd_bit chars.now }
+{
     let mut check = 0;
     for character in chars {
-        faults |= character.faults();
         check ^= character.byte();
     }
-    let parity = if check == 0 {
-        0
-    } else {
-        CommFaults::LONGITUDINAL_PARITY
-    };
-    CommFaults::new(faults & CHARACTER_FAULTS | parity).unwrap()
+    check != 0
 }

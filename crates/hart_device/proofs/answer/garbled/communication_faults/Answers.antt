@@ -1,53 +1,32 @@
-use Rattle.std.proofs.Common.{◌≡◌, ◌≢◌, ◌⊎◌, inl, inr, ◌+◌, ℕ, Result, Ok, Err, IfOk, take, bit_or, bit_xor, subst, sym, ◌∙◌, arith}
-use Rattle.std.proofs.lemmas.Nat.{or_of_8, xor_of_8}
-use Rattle.hart_device.proofs.lemmas.answer.Faults.{AreFaults, AreFaults-more, IsCheck, IsCheck-more, at_end, faults_fit}
+use Rattle.std.proofs.Common.{◌≡◌, ◌<◌, ◌∙◌, ℕ, List, Result, Ok, Err, IfOk, Bool, refl, sym, arith, bit_or}
+use Rattle.hart_frame.specs.heard.Character.{Character}
+use Rattle.hart_device.specs.answer.Garbled.{communication_faults, has_fault, has_odd_bit}
+use Rattle.hart_device.specs.answer.Status.{bit_if}
+use Rattle.hart_device.proofs.lemmas.answer.Faults.{joined, sum_fits}
 use Rattle.hart_device.proofs.answer.garbled.communication_faults.Goals as goal
-use Rattle.hart_device.proofs.answer.garbled.communication_faults.Goals.{then-check-eq0, else-check-eq0}
 
-pub loop-character-preserved : goal.loop-character-preserved
-loop-character-preserved c =
-    let chars = c.args.chars.now in
-    let i = c.loop-character.character-index in
-    let before = c.loop-character.invariant in
-    let within = c.loop-character-test.true in
-    let item = c.character-item in
-    let Faults : ℕ → Type 0 = λ n. AreFaults (take (i + 1) chars) (bit_or c.loop-character.faults n) in
-    let Check : ℕ → Type 0 = λ n. IsCheck (take (i + 1) chars) (bit_xor c.loop-character.check n) in
-    record {
-      faults = subst Faults (sym c.faults-faults.ensures)
-          (AreFaults-more chars i c.loop-character.faults item.result within item.is before.faults);
-      byte = or_of_8 c.loop-character.faults c.faults-faults.result before.byte c.faults-faults.type_inv;
-      check = subst Check (sym c.byte-check.ensures)
-          (IsCheck-more chars i c.loop-character.check item.result within item.is before.check);
-      check_byte = xor_of_8 c.loop-character.check c.byte-check.result before.check_byte c.byte-check.type_inv;
-    }
+-- the joined bits are those of the definition
+are : (chars : List Character) (a b c d e : ℕ) (odd : Bool) → a ≡ bit_if (has_fault 6 chars) 64 → b ≡ bit_if (has_fault 5 chars) 32
+    → c ≡ bit_if (has_fault 4 chars) 16 → odd ≡ has_odd_bit chars → d ≡ bit_if odd 8 → e ≡ bit_if (has_fault 1 chars) 2
+    → bit_or (bit_or (bit_or (bit_or a b) c) d) e ≡ communication_faults chars
+are chars a b c d e odd p q r s t u =
+    let all = joined (has_fault 6 chars) (has_fault 5 chars) (has_fault 4 chars) (has_odd_bit chars) (has_fault 1 chars) in cc
 
-pub unwrap-requires : goal.unwrap-requires
-unwrap-requires c =
-    let seen = c.loop-character.invariant in
-    let cases : ((c.loop-character.check ≡ 0) × (c.if-check-eq0.parity ≡ 0))
-    ⊎ ((c.loop-character.check ≢ 0) × (c.if-check-eq0.parity ≡ 8)) =
-    elim c.if-check-eq0.branch [
-      | then-check-eq0 w ↦ inl (w.if-check-eq0.true, w.parity-is)
-      | else-check-eq0 w ↦ inr (w.if-check-eq0.false, w.parity-is)
-    ] in
-    let value = at_end c.args.chars.now c.loop-character.character-index c.loop-character.faults c.loop-character.check
-    c.if-check-eq0.parity c.loop-character-test.false seen.faults seen.byte seen.check seen.check_byte cases in
-    c.new.ensures.accepted.1 (omega (arith, value, faults_fit c.args.chars.now))
+fits : (chars : List Character) → communication_faults chars < 128
+fits chars = sum_fits (has_fault 6 chars) (has_fault 5 chars) (has_fault 4 chars) (has_odd_bit chars) (has_fault 1 chars)
 
 of_ok : {E : Type 0} (result : Result ℕ E) (x y : ℕ) → result ≡ Ok x → IfOk result (λ n. n ≡ y) → x ≡ y
 of_ok (Ok z) x y is known = let same : z ≡ x = cc in sym same ∙ known
 of_ok (Err e) x y is known = cc
 
+pub unwrap-requires : goal.unwrap-requires
+unwrap-requires c =
+    let value = are c.args.chars.now _ _ _ _ _ _ (c.fault_if.ensures 6 refl) (c.fault_if-2.ensures 5 refl) (c.fault_if-3.ensures 4 refl)
+    c.has_odd_bit.ensures c.bit_if.ensures (c.fault_if-4.ensures 1 refl) in
+    c.new.ensures.accepted.1 (omega (arith, value, fits c.args.chars.now))
+
 pub returns : goal.returns
 returns c =
-    let seen = c.loop-character.invariant in
-    let cases : ((c.loop-character.check ≡ 0) × (c.if-check-eq0.parity ≡ 0))
-    ⊎ ((c.loop-character.check ≢ 0) × (c.if-check-eq0.parity ≡ 8)) =
-    elim c.if-check-eq0.branch [
-      | then-check-eq0 w ↦ inl (w.if-check-eq0.true, w.parity-is)
-      | else-check-eq0 w ↦ inr (w.if-check-eq0.false, w.parity-is)
-    ] in
     of_ok c.new.result c.unwrap.result _ c.unwrap.ensures c.new.ensures.kept
-    ∙ at_end c.args.chars.now c.loop-character.character-index c.loop-character.faults c.loop-character.check
-    c.if-check-eq0.parity c.loop-character-test.false seen.faults seen.byte seen.check seen.check_byte cases
+    ∙ are c.args.chars.now _ _ _ _ _ _ (c.fault_if.ensures 6 refl) (c.fault_if-2.ensures 5 refl) (c.fault_if-3.ensures 4 refl)
+    c.has_odd_bit.ensures c.bit_if.ensures (c.fault_if-4.ensures 1 refl)
