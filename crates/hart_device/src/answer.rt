@@ -1,8 +1,8 @@
 //! What a device answers to what it hears, and what that does to it.
-ghost use Rattle.std.specs.Prelude.{◌≡◌, ◌≤◌, ◌==◌, if◌then◌else◌, length, IsSome, IsTrue, IfSome, MatchOption, None, Ok, ◌↔◌};
+ghost use Rattle.std.specs.Prelude.{◌≡◌, ◌≤◌, ◌↔◌, length, false, true, IsSome, IsTrue, IfSome, MatchOption, None, Ok};
 ghost use Rattle.hart_commands.specs.ReplyData.{reply_payload};
-ghost use Rattle.hart_device.specs.Device.{Nothing, after};
-ghost use Rattle.hart_device.specs.answer.Answer.{answer_of, asked_effect, is_addressed, is_answered, is_answered_with, is_paired};
+ghost use Rattle.hart_device.specs.Device.{after};
+ghost use Rattle.hart_device.specs.answer.Answer.{answer_of, asked_effect, is_addressed, is_answered, is_answered_with, is_paired, judged_of};
 ghost use Rattle.hart_device.specs.answer.Answer.{names_another};
 ghost use Rattle.hart_device.specs.answer.Answer.{reply_of, reply_with, state_after};
 ghost use Rattle.hart_device.specs.answer.Delivery.{Brings, Brought, answer_to, state_after_delivery};
@@ -11,7 +11,9 @@ ghost use Rattle.hart_device.specs.declared.answer.garbled.GarbledRequest.{Garbl
 
 use crate::answer::garbled::garbled_in;
 use crate::{Device, Process, RegisterStore};
-use hart_commands::{Register, Reply, Request, request_code, requests_are_well_made, writes_of};
+use hart_commands::{
+    Register, Reply, ReplyContent, Request, request_code, requests_are_well_made, writes_of,
+};
 use hart_frame::{Char, Frame, FrameKind, LoneFrame, Payload, lone_frame};
 use hart_values::{Address, EachMaster, MasterId, ResponseCode};
 
@@ -92,21 +94,38 @@ impl<S: RegisterStore> Device<S> {
     }
 
     /// Whether the device answers a frame, which it carries out; the payload of the answer is then in `payload`.
+    #[tactic(auto, using(crate::proofs::lemmas::answer::Effect::effect_is_asked))]
     fn answer_into(&mut self, frame: &Frame, process: &Process, payload: &mut Payload) -> bool
         ensures answers { result ≡ is_answered self.old frame.now }
         ensures written { IsTrue result → payload.new ≡ reply_payload (reply_of self.old process.now frame.now) }
         ensures two { IsTrue result → 2 ≤ length payload.new }
         ensures state { self.new ≡ state_after self.old frame.now }
     {
+        let Some(judged) = self.judge(frame) else {
+            return false;
+        };
+        self.carry_out(frame.master(), &judged);
+        self.write_payload(frame, process, &judged, payload);
+        self.cold_start.set(frame.master(), false);
+        true
+    }
+
+    /// What the device makes of a frame that it answers: the request that it carries out, or the code with which it refuses it. `None`
+    /// is silence.
+    fn judge(&self, frame: &Frame) -> Option<Result<Request, ResponseCode>>
+        ensures { MatchOption result (is_answered self.now frame.now ≡ false)
+            (λ judged. (is_answered self.now frame.now ≡ true) × (judged ≡ judged_of self.now frame.now)) }
+    {
         let reading = Request::read(frame.command(), frame.payload());
         let code = request_code(frame.command(), &reading, self.protected, self.counter);
         if !self.answers(frame, &reading, code) {
-            return false;
+            return None;
         }
-        self.carry_out(frame.master(), &reading, code);
-        self.write_payload(frame, process, &reading, code, payload);
-        self.cold_start.set(frame.master(), false);
-        true
+        if code == ResponseCode::SUCCESS {
+            Some(reading)
+        } else {
+            Some(Err(code))
+        }
     }
 
     /// Whether the device answers a frame that is read so and has this code.
@@ -161,18 +180,11 @@ impl<S: RegisterStore> Device<S> {
         }
     }
 
-    /// Does what data ask that are read so and have this code.
-    fn carry_out(
-        &mut self,
-        master: MasterId,
-        reading: &Result<Request, ResponseCode>,
-        code: ResponseCode,
-    )
-        ensures { self.new ≡ after master (if code == 0 then asked_effect reading.now else Nothing) self.old }
+    /// Does what is asked by a frame that is judged so.
+    fn carry_out(&mut self, master: MasterId, judged: &Result<Request, ResponseCode>)
+        ensures { self.new ≡ after master (asked_effect judged.now) self.old }
     {
-        if code == ResponseCode::SUCCESS
-            && let Ok(request) = reading
-        {
+        if let Ok(request) = judged {
             self.execute(master, request);
         }
     }
@@ -195,23 +207,26 @@ impl<S: RegisterStore> Device<S> {
         }
     }
 
-    /// Replaces `payload` by that of the reply to a frame that is read so and has this code.
+    /// Replaces `payload` by that of the reply to a frame that is judged so.
     fn write_payload(
         &self,
         frame: &Frame,
         process: &Process,
-        reading: &Result<Request, ResponseCode>,
-        code: ResponseCode,
+        judged: &Result<Request, ResponseCode>,
         payload: &mut Payload,
     )
-        ensures written { payload.new ≡ reply_payload (reply_with self.now process.now frame.now reading.now code) }
+        ensures written { payload.new ≡ reply_payload (reply_with self.now process.now frame.now judged.now) }
         ensures two { 2 ≤ length payload.new }
     {
+        let (code, content) = match judged {
+            Ok(request) => (ResponseCode::SUCCESS, self.content(process, request)),
+            Err(code) => (*code, ReplyContent::Refused),
+        };
         let reply = Reply {
             command: frame.command(),
             code,
             status: self.status(process, frame.master()),
-            content: self.content(process, reading, code),
+            content,
         };
         reply.write(payload);
     }

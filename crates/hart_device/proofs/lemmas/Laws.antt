@@ -1,5 +1,5 @@
 -- The laws of devices, for the proofs of this crate and of those above.
-use Rattle.std.proofs.Common.{◌≡◌, ◌≢◌, ◌≤◌, ◌⊎◌, rules, false, true, ℕ, Contains, List, [], ◌∷◌, ◌++◌, length, sym}
+use Rattle.std.proofs.Common.{◌≡◌, ◌≢◌, ◌≤◌, ◌⊎◌, ◌∙◌, ap, rules, false, true, ℕ, Contains, List, [], ◌∷◌, ◌++◌, length, sym}
 use Rattle.std.proofs.Common.{IfSome, Ok, Option, Some, slice_get}
 use Rattle.std.specs.List.{flat_map}
 use Rattle.hart_frame.specs.heard.Character.{Character}
@@ -20,7 +20,7 @@ use Rattle.hart_device.specs.declared.fault.DeviceFault.{DeviceFault}
 use Rattle.hart_device.specs.declared.identity_parts.IdentityParts.{IdentityParts}
 use Rattle.hart_device.specs.declared.process.Process.{Process}
 use Rattle.hart_device.proofs.lemmas.answer.Delivery.{Brings-found, Brings-one}
-use Rattle.hart_device.proofs.lemmas.answer.Effect.{answered_if, effect_executes_only, refused, resets_only}
+use Rattle.hart_device.proofs.lemmas.answer.Effect.{answered_if, effect_executes_only, judged_has_code, refused, resets_only}
 use Rattle.hart_device.proofs.lemmas.answer.Garbled.{garbled_decided, garbled_one}
 use Rattle.hart_device.proofs.lemmas.image.Image.{no_fault}
 use Rattle.hart_device.proofs.lemmas.registers.Range.{filled, table}
@@ -75,8 +75,9 @@ pub answers_give_their_code-answered : (state : DeviceState) (process : Process)
     → answer_of state process frame ≡ Some reply
     → (is_answered state frame ≡ true) × (reply ≡ reply_parts frame reply.payload)
     × (slice_get reply.payload 0 ≡ Some (code_of state frame))
-answers_give_their_code-answered state process frame reply =
-    answered_if (is_answered state frame) frame reply (reply_of state process frame)
+answers_give_their_code-answered state process frame reply is =
+    let parts = answered_if (is_answered state frame) frame reply (reply_of state process frame) is in
+    (parts.0, parts.1, parts.2 ∙ ap Some (judged_has_code state frame))
 
 pub writes_execute_their_overwrite-executes : (state : DeviceState) (frame : FrameParts) (request : Request) (overwrite : Overwrite)
     → is_answered state frame ≡ true → code_of state frame ≡ 0 → reading_of frame ≡ Ok request

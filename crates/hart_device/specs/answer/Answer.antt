@@ -104,24 +104,33 @@ after_refusal state frame = record state {
   cold_start = if is_answered state frame then with_master frame.master false state.cold_start else state.cold_start;
 }
 
--- With code 0 a reply says what was asked, and with another code nothing.
-abbrev pub content_with : DeviceState → Process → Reading → ℕ → ReplyContent
-content_with state process (Ok request) code = if code == 0 then reply_content state process request else Refused
-content_with state process (Err refusal) code = Refused
+-- A frame is judged by its code: with code 0 what it asks is carried out, and with another code it is refused with that.
+abbrev pub judged_of : DeviceState → FrameParts → Reading
+judged_of state frame = if code_of state frame == 0 then reading_of frame else Err (code_of state frame)
 
--- The reply to a frame that is read so and has this code, by a device that is in this state after the command.
-abbrev pub reply_with : DeviceState → Process → FrameParts → Reading → ℕ → Reply
-reply_with state process frame reading code = record {
+-- A reply to a request that is carried out has code 0, and one to a refused request the code that refuses it.
+abbrev pub judged_code : Reading → ℕ
+judged_code (Ok request) = 0
+judged_code (Err code) = code
+
+-- With code 0 a reply says what was asked, and with another code nothing.
+abbrev pub judged_content : DeviceState → Process → Reading → ReplyContent
+judged_content state process (Ok request) = reply_content state process request
+judged_content state process (Err code) = Refused
+
+-- The reply to a frame that is judged so, by a device that is in this state after the command.
+abbrev pub reply_with : DeviceState → Process → FrameParts → Reading → Reply
+reply_with state process frame judged = record {
   command = frame.command;
-  code = code;
+  code = judged_code judged;
   status = record { 0 = device_status state process frame.master };
-  content = content_with state process reading code;
+  content = judged_content state process judged;
 }
 
 -- What the device replies to a frame that it answers: the status and the data are those of the state after the command. So a reply shows
 -- the cold start bit that it clears.
 abbrev pub reply_of : DeviceState → Process → FrameParts → Reply
-reply_of state process frame = reply_with (after_command state frame) process frame (reading_of frame) (code_of state frame)
+reply_of state process frame = reply_with (after_command state frame) process frame (judged_of state frame)
 
 -- The device's answer to a frame: silence, or an ACK with its reply.
 abbrev pub answer_of : DeviceState → Process → FrameParts → Option FrameParts

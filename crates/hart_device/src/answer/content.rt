@@ -1,7 +1,6 @@
 //! What the device shows and says in a reply.
 ghost use Rattle.std.specs.Prelude.{◌≡◌, slice_index};
 ghost use Rattle.hart_commands.specs.Registers.{bytes_in, size_of};
-ghost use Rattle.hart_device.specs.answer.Answer.{content_with};
 ghost use Rattle.hart_device.specs.answer.Content.{reply_content, reply_identity, reply_polling, reply_tag, reply_variables};
 ghost use Rattle.hart_device.specs.answer.Status.{device_status};
 
@@ -13,7 +12,7 @@ use crate::answer::variables::variable_readings;
 use crate::registers::bytes_of;
 use crate::{Device, Process, RegisterStore};
 use hart_commands::{CodeList, Register, ReplyContent, Request};
-use hart_values::{DeviceStatus, MasterId, PackedText, ResponseCode};
+use hart_values::{DeviceStatus, MasterId, PackedText};
 
 impl<S: RegisterStore> Device<S> {
     /// What the device shows this master of its state.
@@ -31,23 +30,8 @@ impl<S: RegisterStore> Device<S> {
         DeviceStatus((process.status & PROCESS_BITS) | changed | cold_start | more | fixed)
     }
 
-    /// What a reply with this code says, if the request is read so.
-    pub(super) fn content(
-        &self,
-        process: &Process,
-        reading: &Result<Request, ResponseCode>,
-        code: ResponseCode,
-    ) -> ReplyContent
-        ensures { result ≡ content_with self.now process.now reading.now code }
-    {
-        match reading {
-            Ok(request) if code == ResponseCode::SUCCESS => self.reply_content(process, request),
-            _ => ReplyContent::Refused,
-        }
-    }
-
     /// What the device says in reply to a request.
-    fn reply_content(&self, process: &Process, request: &Request) -> ReplyContent
+    pub(super) fn content(&self, process: &Process, request: &Request) -> ReplyContent
         ensures { result ≡ reply_content self.now process.now request.now }
     {
         match request {

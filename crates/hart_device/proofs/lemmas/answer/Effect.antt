@@ -13,12 +13,24 @@ use Rattle.hart_commands.specs.declared.reply.Reply.{Reply}
 use Rattle.hart_commands.specs.Registers.{Overwrite, overwrite_of}
 use Rattle.hart_commands.specs.declared.request.Request.{Request}
 use Rattle.hart_commands.specs.declared.request.Request.TheVariants.{ResetChanged}
-use Rattle.hart_device.specs.answer.Answer.{asked_effect, code_of, effect_of, executed, is_answered, reading_of}
+use Rattle.hart_device.specs.answer.Answer.{asked_effect, code_of, effect_of, executed, is_answered, judged_code, judged_of, reading_of}
 use Rattle.hart_device.specs.Device.{DeviceState, Effect, Nothing, Executes, Resets, after, after_reply}
 
 pub refused : (answered : Bool) (code : ℕ) (effect : Effect) → code ≢ 0
     → (if answered && (code == 0) then effect else Nothing) ≡ Nothing
 refused answered code effect not_zero = grind (arith, nat_tests)
+
+-- What is carried out of a frame that is answered is what it is judged to ask.
+judged_effect : (zero : Bool) (reading : Reading) (code : ℕ)
+    → (if zero then asked_effect reading else Nothing) ≡ asked_effect (if zero then reading else Err code)
+judged_effect true reading code = refl
+judged_effect false reading code = refl
+
+pub effect_is_asked : (state : DeviceState) (frame : FrameParts) → is_answered state frame ≡ true
+    → effect_of state frame ≡ asked_effect (judged_of state frame)
+effect_is_asked state frame answered =
+    let Effect_if : Bool → Effect = λ a. if a && (code_of state frame == 0) then asked_effect (reading_of frame) else Nothing in
+    ap Effect_if answered ∙ judged_effect (code_of state frame == 0) (reading_of frame) (code_of state frame)
 
 executed_only : (named : Option Overwrite) (overwrite : Overwrite) → executed named ≡ Executes overwrite → named ≡ Some overwrite
 executed_only None overwrite is = cc
@@ -75,6 +87,22 @@ data_code-zero code true protected is = is
 data_code-zero code false true is = absurd (omega arith)
 data_code-zero code false false is = is
 
+-- A frame that is judged has its code.
+code_if : (reading : Reading) (counter code : ℕ) (zero : Bool) → (code == 0) ≡ zero → (code ≡ 0 → data_code reading counter ≡ 0)
+    → judged_code (if zero then reading else Err code) ≡ code
+code_if reading counter code false test good = refl
+code_if (Ok request) counter code true test good = sym (eqb-true code 0 test)
+code_if (Err read) counter code true test good = let zero = eqb-true code 0 test in good zero ∙ sym zero
+
+code_good : (state : DeviceState) (frame : FrameParts) → code_of state frame ≡ 0 → data_code (reading_of frame) state.counter ≡ 0
+code_good state frame =
+    let code = data_code (reading_of frame) state.counter in
+    data_code-zero code ((code == 64) || (code == 5)) (state.protected && is_write frame.command)
+
+pub judged_has_code : (state : DeviceState) (frame : FrameParts) → judged_code (judged_of state frame) ≡ code_of state frame
+judged_has_code state frame =
+    code_if (reading_of frame) state.counter (code_of state frame) _ refl (code_good state frame)
+
 same_counter : (given counter : ℕ) (same : Bool) → (given == counter) ≡ same → ◌≡◌ {A = ℕ} (if same then 0 else 9) 0 → given ≡ counter
 same_counter given counter true test is = eqb-true given counter test
 same_counter given counter false test is = absurd (omega arith)
@@ -92,9 +120,7 @@ resets_only state frame is =
     let parts = resets_if (is_answered state frame) (code == 0) (asked_effect (reading_of frame)) is in
     let zero : code ≡ 0 = eqb-true code 0 parts.1 in
     let asked = asked_resets (reading_of frame) parts.2 in
-    let read_code = data_code (reading_of frame) state.counter in
-    let good : read_code ≡ 0 =
-    data_code-zero read_code ((read_code == 64) || (read_code == 5)) (state.protected && is_write frame.command) zero in
+    let good = code_good state frame zero in
     let named : counter_code (ResetChanged asked.0) state.counter ≡ 0 =
     ap (λ reading. data_code reading state.counter) (sym asked.1) ∙ good in
     (parts.0, zero, asked.0, asked.1, named_counter asked.0 state.counter named)
