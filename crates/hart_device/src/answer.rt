@@ -2,9 +2,8 @@
 ghost use Rattle.std.specs.Prelude.{◌≡◌, ◌≤◌, ◌↔◌, length, false, true, IsSome, IsTrue, IfSome, MatchOption, None, Ok};
 ghost use Rattle.hart_commands.specs.ReplyData.{reply_payload};
 ghost use Rattle.hart_device.specs.Device.{after};
-ghost use Rattle.hart_device.specs.answer.Answer.{answer_of, asked_effect, is_addressed, is_answered, is_answered_with, is_paired, judged_of};
-ghost use Rattle.hart_device.specs.answer.Answer.{names_another};
-ghost use Rattle.hart_device.specs.answer.Answer.{reply_of, reply_with, state_after};
+ghost use Rattle.hart_device.specs.answer.Answer.{answer_of, asked_effect, is_addressed, is_answered, is_answered_with, is_paired};
+ghost use Rattle.hart_device.specs.answer.Answer.{judged_of, names_another, reply_of, reply_with, state_after};
 ghost use Rattle.hart_device.specs.answer.Delivery.{Brings, Brought, answer_to, state_after_delivery};
 ghost use Rattle.hart_device.specs.answer.Garbled.{HasGarbled, garbled_reply};
 ghost use Rattle.hart_device.specs.declared.answer.garbled.GarbledRequest.{GarbledRequest};

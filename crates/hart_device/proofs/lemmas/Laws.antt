@@ -4,7 +4,6 @@ use Rattle.std.proofs.Common.{IfSome, Ok, Option, Some, slice_get}
 use Rattle.std.specs.List.{flat_map}
 use Rattle.hart_frame.specs.heard.Character.{Character}
 use Rattle.hart_frame.specs.wire.FrameParts.{FrameParts, reply_parts}
-use Rattle.hart_frame.proofs.lemmas.Laws.{every_list_has_frames, frames_are_unambiguous-one_list}
 use Rattle.hart_commands.specs.Registers.{Contents, Overwrite, overwrite_of, overwritten, registers, registers_of}
 use Rattle.hart_commands.specs.declared.register.Register.{Register}
 use Rattle.hart_commands.specs.declared.request.Request.{Request}
@@ -37,11 +36,11 @@ garbled_requests_are_decided-decided = garbled_decided
 
 pub deliveries_bring_one-brings : (identity : IdentityParts) (delivery : List Character)
     → (brought : Brought) × Brings identity delivery brought
-deliveries_bring_one-brings = Brings-found every_list_has_frames garbled_requests_are_decided-decided
+deliveries_bring_one-brings = Brings-found
 
 pub deliveries_bring_one-one : (identity : IdentityParts) (delivery : List Character) (brought other : Brought)
     → Brings identity delivery brought → Brings identity delivery other → brought ≡ other
-deliveries_bring_one-one = Brings-one frames_are_unambiguous-one_list garbled_requests_are_decided-one
+deliveries_bring_one-one = Brings-one
 
 pub images_have_no_fault : (state : DeviceState) (image : List ℕ) (fault : DeviceFault) → IsImageOf state image
     → IsImageFault image fault → ⊥

@@ -10,7 +10,7 @@ use Rattle.hart_values.specs.declared.master_id.MasterId.TheVariants.{Primary, S
 use Rattle.hart_frame.specs.wire.FrameParts.{FrameParts, reply_parts}
 use Rattle.hart_commands.specs.ReplyData.{reply_payload}
 use Rattle.hart_commands.specs.declared.reply.Reply.{Reply}
-use Rattle.hart_device.specs.Device.{DeviceState, Effect, Executes, Nothing, Resets, after, after_reply}
+use Rattle.hart_device.specs.Device.{DeviceState, Effect, Nothing, after, after_reply}
 use Rattle.hart_device.specs.answer.Status.{bit_if}
 use Rattle.hart_device.proofs.lemmas.answer.Effect.{some_if}
 
@@ -20,20 +20,16 @@ left_by answered master effect state = if answered then after_reply master (afte
 
 pub stays : (answered : Bool) (master : MasterId) (effect : Effect) (state : DeviceState) → answered ≡ false
     → left_by answered master effect state ≡ state
-stays true master effect state is = cc
-stays false master effect state is = refl
+stays answered master effect state is = grind arith
 
 pub without_effect : (answered : Bool) (master : MasterId) (effect : Effect) (state : DeviceState) → effect ≡ Nothing
     → left_by answered master effect state
     ≡ record state { cold_start = if answered then with_master master false state.cold_start else state.cold_start }
-without_effect true master effect state nothing = rw nothing refl
-without_effect false master effect state nothing = refl
+without_effect answered master effect state nothing = grind arith
 
 -- no effect is one on a cold start bit
 pub effect_keeps : (master : MasterId) (effect : Effect) (state : DeviceState) → (after master effect state).cold_start ≡ state.cold_start
-effect_keeps master Nothing state = refl
-effect_keeps master (Executes overwrite) state = refl
-effect_keeps master Resets state = refl
+effect_keeps master effect state = grind arith
 
 pub cleared : (answered : Bool) (master : MasterId) (effect : Effect) (state : DeviceState) → answered ≡ true
     → (left_by answered master effect state).cold_start ≡ with_master master false state.cold_start

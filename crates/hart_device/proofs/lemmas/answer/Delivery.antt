@@ -1,5 +1,5 @@
 -- A delivery brings a device one thing.
-use Rattle.std.proofs.Common.{◌≡◌, ◌⊎◌, inl, inr, ℕ, List, [], ◌∷◌, ap, sym, subst, ◌∙◌, refl, Option, None, Some}
+use Rattle.std.proofs.Common.{◌≡◌, inl, inr, List, [], ◌∷◌, ap, sym, subst, ◌∙◌, refl, Option, None, Some}
 use Rattle.std.specs.Option.{MatchOption}
 use Rattle.hart_frame.specs.heard.Character.{Character}
 use Rattle.hart_frame.specs.wire.FrameParts.{FrameParts}
@@ -7,70 +7,55 @@ use Rattle.hart_frame.specs.heard.Frames.{AreFrames}
 use Rattle.hart_frame.specs.heard.Delivery.{lone_of}
 use Rattle.hart_frame.specs.declared.heard.delivery.LoneFrame.TheVariants.{NoFrame}
 use Rattle.hart_frame.specs.declared.heard.found.Found.{Found}
+use Rattle.hart_frame.proofs.lemmas.Laws.{every_list_has_frames, frames_are_unambiguous-one_list}
 use Rattle.hart_device.specs.answer.Delivery.{Brings, BringsBy, Brought, Garbled, NoMessage, OneFrame, answer_to}
 use Rattle.hart_device.specs.Device.{DeviceState}
 use Rattle.hart_device.specs.answer.Garbled.{HasGarbled, garbled_reply}
 use Rattle.hart_device.specs.declared.answer.garbled.GarbledRequest.{GarbledRequest}
 use Rattle.hart_device.specs.declared.identity_parts.IdentityParts.{IdentityParts}
 use Rattle.hart_device.specs.declared.process.Process.{Process}
+use Rattle.hart_device.proofs.lemmas.answer.Garbled.{garbled_decided, garbled_one}
 
--- a list of characters has one list of frames
-abbrev pub OneList : Type 0
-OneList = (chars : List Character) (from : ℕ) (xs ys : List Found) → AreFrames chars from xs → AreFrames chars from ys → xs ≡ ys
-
--- and one garbled request
-abbrev pub OneGarbled : Type 0
-OneGarbled = (identity : IdentityParts) (chars : List Character) (request other : GarbledRequest)
-    → HasGarbled identity chars request → HasGarbled identity chars other → request ≡ other
-
-BringsBy-one : OneGarbled → (identity : IdentityParts) (chars : List Character) (frames : List Found) (a b : Brought)
+-- what some frames bring is one thing
+BringsBy-one : (identity : IdentityParts) (chars : List Character) (frames : List Found) (a b : Brought)
     → BringsBy identity chars frames a → BringsBy identity chars frames b → a ≡ b
-BringsBy-one law identity chars [] (OneFrame f) b p q = absurd p
-BringsBy-one law identity chars [] (Garbled r) (OneFrame f) p q = absurd q
-BringsBy-one law identity chars [] (Garbled r) (Garbled s) p q = ap Garbled (law identity chars r s p q)
-BringsBy-one law identity chars [] (Garbled r) NoMessage p q = absurd (q r p)
-BringsBy-one law identity chars [] NoMessage (OneFrame f) p q = absurd q
-BringsBy-one law identity chars [] NoMessage (Garbled s) p q = absurd (p s q)
-BringsBy-one law identity chars [] NoMessage NoMessage p q = refl
-BringsBy-one law identity chars (found ∷ []) a b p q = p ∙ sym q
-BringsBy-one law identity chars (found ∷ other ∷ more) a b p q = p ∙ sym q
+BringsBy-one identity chars [] (OneFrame f) b p q = absurd p
+BringsBy-one identity chars [] (Garbled r) (OneFrame f) p q = absurd q
+BringsBy-one identity chars [] (Garbled r) (Garbled s) p q = ap Garbled (garbled_one identity chars r s p q)
+BringsBy-one identity chars [] (Garbled r) NoMessage p q = absurd (q r p)
+BringsBy-one identity chars [] NoMessage (OneFrame f) p q = absurd q
+BringsBy-one identity chars [] NoMessage (Garbled s) p q = absurd (p s q)
+BringsBy-one identity chars [] NoMessage NoMessage p q = refl
+BringsBy-one identity chars (found ∷ []) a b p q = p ∙ sym q
+BringsBy-one identity chars (found ∷ other ∷ more) a b p q = p ∙ sym q
 
 -- any list of the frames of a delivery says what it brings
-pub by_frames : OneList → (identity : IdentityParts) (chars : List Character) (frames : List Found) (brought : Brought)
+pub by_frames : (identity : IdentityParts) (chars : List Character) (frames : List Found) (brought : Brought)
     → AreFrames chars 0 frames → Brings identity chars brought → BringsBy identity chars frames brought
-by_frames law identity chars frames brought are brings =
+by_frames identity chars frames brought are brings =
     let By : List Found → Type 0 = λ xs. BringsBy identity chars xs brought in
-    subst By (law chars 0 brings.frames frames brings.are_frames are) brings.by_frames
+    subst By (frames_are_unambiguous-one_list chars 0 brings.frames frames brings.are_frames are) brings.by_frames
 
-pub Brings-one : OneList → OneGarbled → (identity : IdentityParts) (chars : List Character) (a b : Brought)
+pub Brings-one : (identity : IdentityParts) (chars : List Character) (a b : Brought)
     → Brings identity chars a → Brings identity chars b → a ≡ b
-Brings-one one_list one_garbled identity chars a b p q =
-    BringsBy-one one_garbled identity chars q.frames a b (by_frames one_list identity chars q.frames a q.are_frames p) q.by_frames
-
--- every list of characters has its frames
-abbrev pub SomeList : Type 0
-SomeList = (chars : List Character) (from : ℕ) → (frames : List Found) × AreFrames chars from frames
-
--- and a garbled request or none
-abbrev pub GarbledDecided : Type 0
-GarbledDecided = (identity : IdentityParts) (chars : List Character) → ((request : GarbledRequest) × HasGarbled identity chars request)
-    ⊎ ((request : GarbledRequest) → HasGarbled identity chars request → ⊥)
+Brings-one identity chars a b p q =
+    BringsBy-one identity chars q.frames a b (by_frames identity chars q.frames a q.are_frames p) q.by_frames
 
 -- so that every delivery brings something
-BringsBy-found : GarbledDecided → (identity : IdentityParts) (chars : List Character) (frames : List Found)
+BringsBy-found : (identity : IdentityParts) (chars : List Character) (frames : List Found)
     → (brought : Brought) × BringsBy identity chars frames brought
-BringsBy-found decided identity chars [] = elim (decided identity chars) [
+BringsBy-found identity chars [] = elim (garbled_decided identity chars) [
   | inl has ↦ (Garbled has.0, has.1)
   | inr none ↦ (NoMessage, none)
 ]
-BringsBy-found decided identity chars (found ∷ []) = (OneFrame found.frame, refl)
-BringsBy-found decided identity chars (found ∷ other ∷ more) = (NoMessage, refl)
+BringsBy-found identity chars (found ∷ []) = (OneFrame found.frame, refl)
+BringsBy-found identity chars (found ∷ other ∷ more) = (NoMessage, refl)
 
-pub Brings-found : SomeList → GarbledDecided → (identity : IdentityParts) (chars : List Character)
+pub Brings-found : (identity : IdentityParts) (chars : List Character)
     → (brought : Brought) × Brings identity chars brought
-Brings-found some_list decided identity chars =
-    let frames = some_list chars 0 in
-    let brings = BringsBy-found decided identity chars frames.0 in
+Brings-found identity chars =
+    let frames = every_list_has_frames chars 0 in
+    let brings = BringsBy-found identity chars frames.0 in
     (brings.0, record { frames = frames.0; are_frames = frames.1; by_frames = brings.1 })
 
 -- only no frames are no frame
@@ -84,18 +69,18 @@ abbrev pub IsReply : IdentityParts → List Character → Option FrameParts → 
 IsReply identity chars answer = MatchOption answer ((request : GarbledRequest) → HasGarbled identity chars request → ⊥)
     (λ reply. (request : GarbledRequest) × HasGarbled identity chars request × (reply ≡ garbled_reply identity request))
 
-reply_by : OneGarbled → (state : DeviceState) (process : Process) (chars : List Character) (brought : Brought) (answer : Option FrameParts)
+reply_by : (state : DeviceState) (process : Process) (chars : List Character) (brought : Brought) (answer : Option FrameParts)
     → BringsBy state.identity chars [] brought → IsReply state.identity chars answer → answer ≡ answer_to state process brought
-reply_by law state process chars (OneFrame frame) answer never is = absurd never
-reply_by law state process chars (Garbled request) None has none = absurd (none request has)
-reply_by law state process chars (Garbled request) (Some reply) has is =
-    ap Some (is.2 ∙ ap (garbled_reply state.identity) (law state.identity chars is.0 request is.1 has))
-reply_by law state process chars NoMessage None nothing none = refl
-reply_by law state process chars NoMessage (Some reply) nothing is = absurd (nothing is.0 is.1)
+reply_by state process chars (OneFrame frame) answer never is = absurd never
+reply_by state process chars (Garbled request) None has none = absurd (none request has)
+reply_by state process chars (Garbled request) (Some reply) has is =
+    ap Some (is.2 ∙ ap (garbled_reply state.identity) (garbled_one state.identity chars is.0 request is.1 has))
+reply_by state process chars NoMessage None nothing none = refl
+reply_by state process chars NoMessage (Some reply) nothing is = absurd (nothing is.0 is.1)
 
-pub answer_without_frame : OneGarbled → (state : DeviceState) (process : Process) (chars : List Character) (brought : Brought)
+pub answer_without_frame : (state : DeviceState) (process : Process) (chars : List Character) (brought : Brought)
     (answer : Option FrameParts) → (brings : Brings state.identity chars brought) → NoFrame ≡ lone_of brings.frames
     → IsReply state.identity chars answer → answer ≡ answer_to state process brought
-answer_without_frame law state process chars brought answer brings none is =
+answer_without_frame state process chars brought answer brings none is =
     let By : List Found → Type 0 = λ frames. BringsBy state.identity chars frames brought in
-    reply_by law state process chars brought answer (subst By (none_of brings.frames none) brings.by_frames) is
+    reply_by state process chars brought answer (subst By (none_of brings.frames none) brings.by_frames) is

@@ -49,28 +49,21 @@ pub write_executes : (request : Request) (overwrite : Overwrite) → overwrite_o
 write_executes (ResetChanged counter) overwrite is = cc
 write_executes request overwrite is = ap executed is
 
--- If the effect of an answer is one, the answer has code 0 and that is what was asked.
-executes_if : (answered zero : Bool) (effect : Effect) (overwrite : Overwrite)
-    → (if answered && zero then effect else Nothing) ≡ Executes overwrite
-    → (answered ≡ true) × (zero ≡ true) × (effect ≡ Executes overwrite)
-executes_if true true effect overwrite is = (refl, refl, is)
-executes_if true false effect overwrite is = cc
-executes_if false zero effect overwrite is = cc
+-- An effect is that of an answer with code 0, and is what was asked.
+done_if : (answered zero : Bool) (asked effect : Effect) → effect ≢ Nothing → (if answered && zero then asked else Nothing) ≡ effect
+    → (answered ≡ true) × (zero ≡ true) × (asked ≡ effect)
+done_if true true asked effect some is = (refl, refl, is)
+done_if true false asked effect some is = absurd (some (sym is))
+done_if false zero asked effect some is = absurd (some (sym is))
 
 pub effect_executes_only : (answered : Bool) (code : ℕ) (reading : Reading) (overwrite : Overwrite)
     → (if answered && (code == 0) then asked_effect reading else Nothing) ≡ Executes overwrite
     → (answered ≡ true) × (code ≡ 0) × (request : Request) × (reading ≡ Ok request) × (overwrite_of request ≡ Some overwrite)
 effect_executes_only answered code reading overwrite is =
-    let parts = executes_if answered (code == 0) (asked_effect reading) overwrite is in
+    let parts = done_if answered (code == 0) (asked_effect reading) (Executes overwrite) (λ no. cc) is in
     let zero : code ≡ 0 = eqb-true code 0 parts.1 in
     let write = executes_only reading overwrite parts.2 in
     (parts.0, zero, write.0, write.1, write.2)
-
-resets_if : (answered zero : Bool) (effect : Effect) → (if answered && zero then effect else Nothing) ≡ Resets
-    → (answered ≡ true) × (zero ≡ true) × (effect ≡ Resets)
-resets_if true true effect is = (refl, refl, is)
-resets_if true false effect is = cc
-resets_if false zero effect is = cc
 
 executed_resets : (named : Option Overwrite) → executed named ≡ Resets → ⊥
 executed_resets None is = cc
@@ -117,7 +110,7 @@ pub resets_only : (state : DeviceState) (frame : FrameParts) → effect_of state
     × (counter : Option ℕ) × (reading_of frame ≡ Ok (ResetChanged counter)) × IfSome counter (λ n. n ≡ state.counter)
 resets_only state frame is =
     let code = code_of state frame in
-    let parts = resets_if (is_answered state frame) (code == 0) (asked_effect (reading_of frame)) is in
+    let parts = done_if (is_answered state frame) (code == 0) (asked_effect (reading_of frame)) Resets (λ no. cc) is in
     let zero : code ≡ 0 = eqb-true code 0 parts.1 in
     let asked = asked_resets (reading_of frame) parts.2 in
     let good = code_good state frame zero in
@@ -126,25 +119,13 @@ resets_only state frame is =
     (parts.0, zero, asked.0, asked.1, named_counter asked.0 state.counter named)
 
 -- No effect changes who the device is, or whether it is protected.
-after_identity : (master : MasterId) (effect : Effect) (state : DeviceState) → (after master effect state).identity ≡ state.identity
-after_identity master Nothing state = refl
-after_identity master (Executes overwrite) state = refl
-after_identity master Resets state = refl
-
-after_protected : (master : MasterId) (effect : Effect) (state : DeviceState) → (after master effect state).protected ≡ state.protected
-after_protected master Nothing state = refl
-after_protected master (Executes overwrite) state = refl
-after_protected master Resets state = refl
-
 pub identity_stays : (answered : Bool) (master : MasterId) (effect : Effect) (state : DeviceState)
     → (if answered then after_reply master (after master effect state) else state).identity ≡ state.identity
-identity_stays true master effect state = after_identity master effect state
-identity_stays false master effect state = refl
+identity_stays answered master effect state = grind arith
 
 pub protection_stays : (answered : Bool) (master : MasterId) (effect : Effect) (state : DeviceState)
     → (if answered then after_reply master (after master effect state) else state).protected ≡ state.protected
-protection_stays true master effect state = after_protected master effect state
-protection_stays false master effect state = refl
+protection_stays answered master effect state = grind arith
 
 -- What is answered if a test holds is the reply, and the test holds.
 pub some_if : {A : Type 0} (holds : Bool) (answer reply : A) → (if holds then Some answer else None) ≡ Some reply

@@ -18,15 +18,17 @@ pub garbled_one : (identity : IdentityParts) (chars : List Character) (request o
 garbled_one identity chars request other p q =
     let same = sym (has_at identity chars request q.start q.first_start p) ∙ q.begins in cc
 
-decided_at : (identity : IdentityParts) (chars : List Character) (start : ℕ) → IsFirstStart start chars → (result : Option GarbledRequest)
-    → garbled_request identity (drop start chars) ≡ result
-    → ((request : GarbledRequest) × HasGarbled identity chars request) ⊎ ((request : GarbledRequest) → HasGarbled identity chars request → ⊥)
+decided_at : (identity : IdentityParts) (chars : List Character) (start : ℕ) → IsFirstStart start chars
+    → (result : Option GarbledRequest) → garbled_request identity (drop start chars) ≡ result
+    → ((request : GarbledRequest) × HasGarbled identity chars request)
+    ⊎ ((request : GarbledRequest) → HasGarbled identity chars request → ⊥)
 decided_at identity chars start first None is = inr (λ request has.
     let same = sym is ∙ has_at identity chars request start first has in cc)
 decided_at identity chars start first (Some request) is = inl (request, record { start = start; first_start = first; begins = is })
 
 pub garbled_decided : (identity : IdentityParts) (chars : List Character)
-    → ((request : GarbledRequest) × HasGarbled identity chars request) ⊎ ((request : GarbledRequest) → HasGarbled identity chars request → ⊥)
+    → ((request : GarbledRequest) × HasGarbled identity chars request)
+    ⊎ ((request : GarbledRequest) → HasGarbled identity chars request → ⊥)
 garbled_decided identity chars = elim (first_starts_are_decided-decided chars) [
   | inr none ↦ inr (λ request has. none has.start has.first_start.start)
   | inl first ↦ decided_at identity chars first.0 first.1 _ refl

@@ -1,6 +1,6 @@
 -- What an image says, and that it says one thing.
-use Rattle.std.proofs.Common.{◌≡◌, ◌≢◌, ℕ, zero, suc, ◌+◌, ◌-◌, ◌*◌, ◌/◌, ◌%◌, ◌^◌, ◌<◌, ◌≤◌, ◌⊎◌, inl, inr, refl, sym, ap, ◌∙◌, subst}
-use Rattle.std.proofs.Common.{arith, Bool, true, false, ◌==◌, if◌then◌else◌, Some, None, List, [], ◌∷◌, ◌++◌, length, drop, replicate}
+use Rattle.std.proofs.Common.{◌≡◌, ◌≢◌, ℕ, suc, ◌+◌, ◌-◌, ◌/◌, ◌%◌, ◌^◌, ◌<◌, ◌≤◌, ◌⊎◌, inl, inr, refl, sym, ap, ◌∙◌, subst}
+use Rattle.std.proofs.Common.{arith, Bool, true, if◌then◌else◌, Some, None, List, [], ◌∷◌, ◌++◌, length, drop, replicate}
 use Rattle.std.proofs.Common.{slice_index}
 use Rattle.std.specs.List.{Contains, flat_map, slice_index_or, sum_by}
 use Rattle.std.proofs.lemmas.Bool.Decides.{nat_tests}
@@ -30,18 +30,7 @@ use Rattle.hart_device.proofs.lemmas.registers.Registers.{bytes_in-contents_by, 
 -- Version 1 is known, with all registers but the long tag, and version 2, with all.
 known_version : (version : ℕ) (listed : List Register) → registers_of_version version ≡ Some listed
     → ((version ≡ 1) × (listed ≡ registers_of_version_1)) ⊎ ((version ≡ 2) × (listed ≡ registers))
-known_version version listed known = by_test (version == 1) refl known
-  where
-    by_second : (is_two : Bool) → (version == 2) ≡ is_two → (if is_two then Some registers else None) ≡ Some listed
-        → ((version ≡ 1) × (listed ≡ registers_of_version_1)) ⊎ ((version ≡ 2) × (listed ≡ registers))
-    by_second true test is = inr (grind (arith, nat_tests, test), cc)
-    by_second false test is = cc
-
-    by_test : (is_one : Bool) → (version == 1) ≡ is_one
-        → (if is_one then Some registers_of_version_1 else if version == 2 then Some registers else None) ≡ Some listed
-        → ((version ≡ 1) × (listed ≡ registers_of_version_1)) ⊎ ((version ≡ 2) × (listed ≡ registers))
-    by_test true test is = inl (grind (arith, nat_tests, test), cc)
-    by_test false test is = by_second (version == 2) refl is
+known_version version listed known = grind (arith, nat_tests)
 
 -- A version has one list of registers.
 one_list : (version : ℕ) (listed other : List Register) → registers_of_version version ≡ Some listed
@@ -50,22 +39,11 @@ one_list version listed other known same = let both = sym known ∙ same in cc
 
 -- The registers of a version stand end to end.
 ends_of : (version : ℕ) (listed : List Register) → registers_of_version version ≡ Some listed → end_to_end 0 listed ≡ true
-ends_of version listed known = by_version (known_version version listed known)
-  where
-    by_version : ((version ≡ 1) × (listed ≡ registers_of_version_1)) ⊎ ((version ≡ 2) × (listed ≡ registers)) → end_to_end 0 listed ≡ true
-    by_version (inl one) = rw one.1 refl
-    by_version (inr two) = rw two.1 refl
+ends_of version listed known = elim (known_version version listed known) [ inl one ↦ rw one.1 refl | inr two ↦ rw two.1 refl ]
 
 -- The long tag is not among the registers of version 1.
 no_long_tag : Contains registers_of_version_1 LongTag → ⊥
-no_long_tag (zero, within, is) = cc
-no_long_tag (suc zero, within, is) = cc
-no_long_tag (suc (suc zero), within, is) = cc
-no_long_tag (suc (suc (suc zero)), within, is) = cc
-no_long_tag (suc (suc (suc (suc zero))), within, is) = cc
-no_long_tag (suc (suc (suc (suc (suc zero)))), within, is) = cc
-no_long_tag (suc (suc (suc (suc (suc (suc zero))))), within, is) = cc
-no_long_tag (suc (suc (suc (suc (suc (suc (suc k)))))), within, is) = absurd (omega (arith, within))
+no_long_tag has = absurd (grind (arith, elements, has.1, has.2))
 
 -- Every other register is.
 pub in_version_1 : (register : Register) → register ≢ LongTag → Contains registers_of_version_1 register
@@ -88,13 +66,7 @@ listed_or_not version listed known every register = by_version (known_version ve
         → Contains registers_of_version_1 r
         ⊎ ((r ≡ LongTag) × (Contains registers_of_version_1 LongTag → ⊥) × Contains registers_of_version_1 Tag)
     in_first LongTag = inr (refl, no_long_tag, in_version_1 Tag (λ e. cc))
-    in_first Polling = inl (in_version_1 Polling (λ e. cc))
-    in_first Mode = inl (in_version_1 Mode (λ e. cc))
-    in_first Message = inl (in_version_1 Message (λ e. cc))
-    in_first Tag = inl (in_version_1 Tag (λ e. cc))
-    in_first Descriptor = inl (in_version_1 Descriptor (λ e. cc))
-    in_first Date = inl (in_version_1 Date (λ e. cc))
-    in_first Assembly = inl (in_version_1 Assembly (λ e. cc))
+    in_first r = inl (in_version_1 r (λ e. cc))
 
     by_version : ((version ≡ 1) × (listed ≡ registers_of_version_1)) ⊎ ((version ≡ 2) × (listed ≡ registers)) → (r : Register)
         → Contains listed r ⊎ ((r ≡ LongTag) × (Contains listed LongTag → ⊥) × Contains listed Tag)
@@ -216,10 +188,7 @@ no_fault state (version ∷ rest) _ is faulty = faulty
 -- No bytes have the fault of a bad length alone.
 length_of_none : (fault : DeviceFault) → IsImageFault [] fault → fault ≡ BadLength
 length_of_none BadLength faulty = refl
-length_of_none BroadcastAddress faulty = absurd faulty
-length_of_none OutOfRange faulty = absurd faulty
-length_of_none BadVersion faulty = absurd faulty
-length_of_none BadField faulty = absurd faulty
+length_of_none _ faulty = absurd faulty
 
 -- Bytes have one fault.
 pub one_fault : (image : List ℕ) (fault other : DeviceFault) → IsImageFault image fault → IsImageFault image other → fault ≡ other
@@ -235,48 +204,31 @@ one_fault (version ∷ rest) BadLength BadField (listed, known, wrong) (other, s
     absurd (wrong (len ∙ ap image_length (one_list version other listed same known)))
 one_fault (version ∷ rest) BadField BadLength (listed, known, len, bad) (other, same, wrong) =
     absurd (wrong (len ∙ ap image_length (one_list version listed other known same)))
+one_fault (version ∷ rest) fault BroadcastAddress p q = absurd q
+one_fault (version ∷ rest) fault OutOfRange p q = absurd q
 one_fault (version ∷ rest) BroadcastAddress other p q = absurd p
 one_fault (version ∷ rest) OutOfRange other p q = absurd p
-one_fault (version ∷ rest) BadVersion BroadcastAddress p q = absurd q
-one_fault (version ∷ rest) BadVersion OutOfRange p q = absurd q
-one_fault (version ∷ rest) BadLength BroadcastAddress p q = absurd q
-one_fault (version ∷ rest) BadLength OutOfRange p q = absurd q
-one_fault (version ∷ rest) BadField BroadcastAddress p q = absurd q
-one_fault (version ∷ rest) BadField OutOfRange p q = absurd q
-
-bit_of : (holds : Bool) (bit : ℕ) → ((if holds then bit else 0) ≡ bit * (if holds then 1 else 0)) × ((if holds then 1 else 0) ≤ 1)
-bit_of true bit = (omega arith, omega arith)
-bit_of false bit = (omega arith, omega arith)
-
-same_by_bit : (holds other : Bool) → ◌≡◌ {A = ℕ} (if holds then 1 else 0) (if other then 1 else 0) → holds ≡ other
-same_by_bit true true same = refl
-same_by_bit false false same = refl
-same_by_bit true false same = absurd (omega (arith, same))
-same_by_bit false true same = absurd (omega (arith, same))
 
 -- Flags determine what they are of.
 flags_determine : (a b c x y z : Bool)
     → ◌≡◌ {A = ℕ} ((if a then 1 else 0) + (if b then 2 else 0) + (if c then 4 else 0))
     ((if x then 1 else 0) + (if y then 2 else 0) + (if z then 4 else 0))
     → (a ≡ x) × (b ≡ y) × (c ≡ z)
-flags_determine a b c x y z same = (
-  same_by_bit a x (omega (arith, same, bit_of a 1, bit_of b 2, bit_of c 4, bit_of x 1, bit_of y 2, bit_of z 4)),
-  same_by_bit b y (omega (arith, same, bit_of a 1, bit_of b 2, bit_of c 4, bit_of x 1, bit_of y 2, bit_of z 4)),
-  same_by_bit c z (omega (arith, same, bit_of a 1, bit_of b 2, bit_of c 4, bit_of x 1, bit_of y 2, bit_of z 4)),
-)
+flags_determine a b c x y z same = grind arith
 
 -- A state is determined by its parts.
 same_state : (state other : DeviceState) → state.identity ≡ other.identity → state.contents ≡ other.contents
     → state.counter ≡ other.counter → state.changed ≡ other.changed → state.protected ≡ other.protected
     → state.cold_start ≡ other.cold_start → state ≡ other
-same_state state other identity contents counter changed protected cold_start = λ i. record {
-  identity = identity i;
-  contents = contents i;
-  counter = counter i;
-  changed = changed i;
-  protected = protected i;
-  cold_start = cold_start i;
-}
+same_state state other identity contents counter changed protected cold_start =
+    λ i. record {
+      identity = identity i;
+      contents = contents i;
+      counter = counter i;
+      changed = changed i;
+      protected = protected i;
+      cold_start = cold_start i;
+    }
 
 -- Contents are determined by what an image says of them.
 one_contents : (state other : DeviceState) (listed : List Register)

@@ -1,5 +1,5 @@
 -- What an image of version 1 says, whose registers are read of an array of them all.
-use Rattle.std.proofs.Common.{◌≡◌, ◌≢◌, ◌≤◌, ℕ, List, [], ◌++◌, length, refl, sym, ◌∙◌, arith}
+use Rattle.std.proofs.Common.{◌≡◌, ◌≢◌, ◌≤◌, ℕ, List, [], ◌++◌, length, refl, sym, ◌∙◌, arith, rules}
 use Rattle.std.proofs.Common.{Option, None, Some, IfSome, IfNone, IfOk, IfErr}
 use Rattle.std.specs.List.{flat_map}
 use Rattle.std.specs.Option.{ok_or}
@@ -22,14 +22,7 @@ kept_or P Q R S (Some x) fault p q r gives = gives x p q r
 
 -- Every register but the long tag ends before the long tag.
 before_long_tag : (register : Register) → register ≢ LongTag → end_of register ≤ 50
-before_long_tag Polling differ = omega arith
-before_long_tag Mode differ = omega arith
-before_long_tag Message differ = omega arith
-before_long_tag Tag differ = omega arith
-before_long_tag Descriptor differ = omega arith
-before_long_tag Date differ = omega arith
-before_long_tag Assembly differ = omega arith
-before_long_tag LongTag differ = absurd (differ refl)
+before_long_tag register differ = search rules
 
 -- So it stands in the 50 bytes that the registers of version 1 have, whatever follows.
 pub stands_before : (prefix others : List ℕ) → length prefix ≡ 50 → (register : Register) → register ≢ LongTag
