@@ -5,5 +5,4 @@ pub mod Return
 pub mod Turn
 pub mod Event
 pub mod Reached
-pub mod Whole
 pub mod Room

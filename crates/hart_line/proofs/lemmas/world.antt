@@ -2,8 +2,9 @@
 pub mod Basics
 pub mod State
 pub mod Arrival
+pub mod Steps
 pub mod Leads
-pub mod Sound
+pub mod Marks
 pub mod Submitted
 pub mod Answered
 pub mod Last

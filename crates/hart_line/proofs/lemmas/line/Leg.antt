@@ -3,7 +3,6 @@ use Rattle.std.proofs.Common.{◌≡◌, ℕ, ◌≤◌, ◌∙◌, ap, sym, sub
 use Rattle.std.proofs.Common.{replicate}
 use Rattle.hart_frame.specs.heard.Character.{Character, faultless}
 use Rattle.hart_frame.specs.wire.FrameParts.{FrameParts}
-use Rattle.hart_frame.specs.heard.Frames.{AreFrames}
 use Rattle.hart_frame.specs.wire.Message.{IsMessage}
 use Rattle.hart_frame.specs.declared.heard.found.Found.{Found}
 use Rattle.std.specs.Option.{MatchOption}
@@ -24,7 +23,7 @@ use Rattle.hart_line.specs.declared.event.Heard.{Heard}
 use Rattle.hart_line.specs.declared.event.Heard.TheVariants.{Chars, Clean}
 use Rattle.hart_line.specs.declared.line.report.Party.{Party}
 use Rattle.hart_line.specs.declared.line.report.Spoken.{Spoken}
-use Rattle.hart_line.proofs.lemmas.world.Arrival.{MessageLaw}
+use Rattle.hart_frame.proofs.lemmas.Laws.{messages_have_their_frame_alone-message, messages_have_their_frame_alone-nothing}
 use Rattle.hart_line.proofs.lemmas.world.Basics.{some_one}
 
 -- WHAT CHARACTERS BRING
@@ -79,39 +78,39 @@ nothing_garbled identity request has =
     let all = ap length start.split ∙ length-append (start.prefix ++ faultless (255 ∷ 255 ∷ [])) (start.first ∷ start.rest) in
     omega (arith, all)
 
-pub nothing_reaches : AreFrames [] 0 [] → (identity : IdentityParts) (heard : Heard) (said : Option SpokenFrame) → AreHeard heard said []
+pub nothing_reaches : (identity : IdentityParts) (heard : Heard) (said : Option SpokenFrame) → AreHeard heard said []
     → Reaches identity heard said NoMessage
-nothing_reaches nothing identity heard said are = record {
+nothing_reaches identity heard said are = record {
   frame = None;
-  arrives = record { chars = []; are_heard = are; frames = []; are_frames = nothing; detected = refl };
+  arrives = record { chars = []; are_heard = are; frames = []; are_frames = messages_have_their_frame_alone-nothing; detected = refl };
   brings = nothing_garbled identity;
 }
 
 -- A MESSAGE
-pub clean_arrives : MessageLaw → AreFrames [] 0 [] → (sent : Option FrameParts) (said : Option SpokenFrame) → IsSent sent said
+pub clean_arrives : (sent : Option FrameParts) (said : Option SpokenFrame) → IsSent sent said
     → Arrives Clean said sent
-clean_arrives law nothing None None is =
-    record { chars = []; are_heard = refl; frames = []; are_frames = nothing; detected = refl }
-clean_arrives law nothing None (Some said) is = cc
-clean_arrives law nothing (Some frame) None is = absurd is
-clean_arrives law nothing (Some frame) (Some said) is =
+clean_arrives None None is =
+    record { chars = []; are_heard = refl; frames = []; are_frames = messages_have_their_frame_alone-nothing; detected = refl }
+clean_arrives None (Some said) is = cc
+clean_arrives (Some frame) None is = absurd is
+clean_arrives (Some frame) (Some said) is =
     let bytes = replicate said.preambles 255 ++ is.body in
     let is_message : IsMessage said.frame said.preambles bytes = record { body = is.body; is_body = is.is_body; parts = refl } in
     record {
       chars = faultless bytes;
       are_heard = (bytes, is_message, refl);
       frames = record { start = said.preambles; stop = length bytes; frame = said.frame } ∷ [];
-      are_frames = law said.frame said.preambles bytes is.preambles is_message;
+      are_frames = messages_have_their_frame_alone-message said.frame said.preambles bytes is.preambles is_message;
       detected = (refl, ap Some (sym is.same));
     }
 
-pub clean_reaches : MessageLaw → AreFrames [] 0 [] → (identity : IdentityParts) (frame : FrameParts) (said : Option SpokenFrame)
+pub clean_reaches : (identity : IdentityParts) (frame : FrameParts) (said : Option SpokenFrame)
     → IsSent (Some frame) said → Reaches identity Clean said (OneFrame frame)
 unfolding clean_arrives
-clean_reaches law nothing identity frame None is = absurd is
-clean_reaches law nothing identity frame (Some said) is = record {
+clean_reaches identity frame None is = absurd is
+clean_reaches identity frame (Some said) is = record {
   frame = Some frame;
-  arrives = clean_arrives law nothing (Some frame) (Some said) is;
+  arrives = clean_arrives (Some frame) (Some said) is;
   brings = ap OneFrame (sym is.same);
 }
 
@@ -129,9 +128,9 @@ reply_sent party preambles sent (Some frame) old new same enough speaks =
 
 -- WHAT A LEG BRINGS
 -- With nothing sent a clean leg brings nothing.
-pub silence_reaches : AreFrames [] 0 [] → (identity : IdentityParts) (said : Option SpokenFrame) → IsSent None said
+pub silence_reaches : (identity : IdentityParts) (said : Option SpokenFrame) → IsSent None said
     → Reaches identity Clean said NoMessage
-silence_reaches nothing identity said is = rw is (nothing_reaches nothing identity Clean None refl)
+silence_reaches identity said is = rw is (nothing_reaches identity Clean None refl)
 
 sent_frame : (sent : Option FrameParts) (said : Option SpokenFrame) → IsSent sent said → frame_of said ≡ sent
 sent_frame None said is = ap frame_of is

@@ -11,21 +11,22 @@ use Rattle.hart_line.specs.world.Faults.{HasUndetected, IsFault}
 use Rattle.hart_line.specs.line.Line.{LineState, Stands, Stepped}
 use Rattle.hart_line.specs.world.Promises.{start_from}
 use Rattle.hart_line.specs.world.Step.{IsLast}
-use Rattle.hart_line.specs.world.World.{Start, World, first_world, state_of}
+use Rattle.hart_line.specs.world.World.{MarksWithin, Start, World, first_world, state_of}
 use Rattle.hart_line.specs.declared.event.LineEvent.{LineEvent}
 use Rattle.hart_line.specs.declared.line.report.Outcome.{Outcome}
 use Rattle.hart_line.specs.declared.line.report.Spoken.{Spoken}
 use Rattle.hart_line.specs.declared.fault.Leg.{Leg}
 use Rattle.hart_line.specs.declared.fault.LineFault.TheVariants.{Undetected}
-use Rattle.hart_line.proofs.lemmas.world.Leads.{leads_more}
-use Rattle.hart_line.proofs.lemmas.world.Sound.{IsSound, first_sound, step_sound}
+use Rattle.hart_line.proofs.lemmas.world.Leads.{leads_one}
+use Rattle.hart_line.proofs.lemmas.world.Steps.{leads_more}
+use Rattle.hart_line.proofs.lemmas.world.Marks.{first_marks, step_marks}
 
 -- The line stands for a world that the events lead to.
 pub record IsReached (start : Start) (events : List LineEvent) (line : LineState) : Type 0 where
   pub world : World
   pub is_last : IsLast start events world
   pub stands : Stands start world line
-  pub sound : IsSound world
+  pub marks : MarksWithin world
 
 pub reached_more : (start : Start) (events : List LineEvent) (n : ℕ) (unused : LineEvent) (line line' : LineState) → n < length events
     → (r : IsReached start (take n events) line) → Stepped start r.world (get_or events n unused) line'
@@ -36,7 +37,7 @@ reached_more start events n unused line line' here r s =
       is_last = rw (take_more events n unused here)
           (leads_more start (take n events) (get_or events n unused) (first_world start) r.world s.next r.is_last s.step);
       stands = s.stands;
-      sound = step_sound start r.world (get_or events n unused) s.next s.step r.sound;
+      marks = step_marks start r.world (get_or events n unused) s.next s.step r.marks;
     }
 
 -- After the last event the whole script was carried out.
@@ -76,7 +77,7 @@ reached_first device process primary secondary outcomes_room spoken_room first o
     outcomes_are = refl;
     spoken_are = tt;
   };
-  sound = first_sound (start_from device process primary secondary);
+  marks = first_marks (start_from device process primary secondary);
 }
 
 -- The event at which a script stops.
@@ -85,3 +86,9 @@ pub fault_at : (start : Start) (events : List LineEvent) (n : ℕ) (unused : Lin
     → IsFault start events (Undetected n leg)
 fault_at start events n unused world leg here last undetected =
     (world, get_or events n unused, last, slice_get-get_or events n unused here, undetected)
+
+-- What holds of the world that a script led to holds of each last world.
+pub of_last : (P : World → Type 0) {start : Start} {events : List LineEvent} {line : LineState} → (r : IsReached start events line)
+    → P r.world → (world : World) → IsLast start events world → P world
+of_last P {start = start} {events = events} r holds world last =
+    subst P (leads_one start events (first_world start) r.world world r.is_last last) holds

@@ -22,7 +22,7 @@ use Rattle.hart_line.specs.declared.line.report.Outcome.{Outcome}
 use Rattle.hart_line.specs.declared.line.report.Spoken.{Spoken}
 use Rattle.hart_line.proofs.lemmas.world.Arrival.{AreSpoken-more, frame_in, left_alone, none_reaches, reaches_cases}
 use Rattle.hart_line.proofs.lemmas.world.Basics.{some_one}
-use Rattle.hart_line.proofs.lemmas.world.State.{LastLaw, state-after}
+use Rattle.hart_line.proofs.lemmas.world.State.{state-after}
 
 -- With nothing in hand, as in noise, the line stands for the world in which the device has replied to what it was brought.
 pub replied_stands : (start : Start) (world : World) (heard : Heard) (brought : Brought) (device : DeviceState) (masters : Masters)
@@ -109,7 +109,7 @@ state_after-effect state id held (OneFrame frame) (inr is) =
     rw (← master) (answer_leaves (is_answered state frame) (code_of state frame == 0) (asked_effect (reading_of frame)) frame.master state)
 
 -- With a request in hand that is sent, the line stands for the world that the turn leads to.
-pub turned_stands : LastLaw → (start : Start) (world : World) (who : MasterId) (up down : Heard) (held : InHand)
+pub turned_stands : (start : Start) (world : World) (who : MasterId) (up down : Heard) (held : InHand)
     (brought : Brought) (returned : Option FrameParts) (masters : Masters) (outcomes : List Outcome) (spoken mid spoken' : List Spoken)
     (outcomes_room spoken_room : ℕ)
     → MarksWithin world → of_master who world.hands ≡ Some held
@@ -126,7 +126,7 @@ pub turned_stands : LastLaw → (start : Start) (world : World) (who : MasterId)
       outcomes_room = outcomes_room;
       spoken_room = spoken_room;
     })
-turned_stands last start world who up down held brought returned masters outcomes spoken mid spoken' outcomes_room spoken_room within
+turned_stands start world who up down held brought returned masters outcomes spoken mid spoken' outcomes_room spoken_room within
     in_hand arrives returns are requested replied concludes =
     let next = turned start world who (Some held) brought concludes.accepted in record {
       next = next;
@@ -142,7 +142,7 @@ turned_stands last start world who up down held brought returned masters outcome
       stands = record {
         device_is = state_after-effect (state_of start.device world) who held brought
             (reaches_cases start.device.identity up (Some (spoken_request who held)) brought arrives)
-            ∙ state-after last start.device world next who held.submission (effect_on (state_of start.device world) brought)
+            ∙ state-after start.device world next who held.submission (effect_on (state_of start.device world) brought)
             within refl refl refl;
         masters_are = concludes.left;
         outcomes_are = concludes.outcomes_are;

@@ -1,6 +1,6 @@
 -- What arrives, what is accepted, and what is spoken.
 use Rattle.std.proofs.Common.{◌≡◌, ◌∙◌, Bool, true, false, if◌then◌else◌, ap, refl, sym, Option, None, Some, List, [], ◌∷◌, ◌++◌, ◌⊎◌, inl}
-use Rattle.std.proofs.Common.{inr, append-nil, ℕ, ◌≤◌, length}
+use Rattle.std.proofs.Common.{inr, append-nil}
 use Rattle.std.specs.Option.{option_to_list}
 use Rattle.hart_frame.specs.wire.FrameParts.{FrameParts}
 use Rattle.hart_frame.specs.declared.heard.found.Found.{Found}
@@ -9,19 +9,12 @@ use Rattle.hart_device.specs.answer.Answer.{effect_of, is_answered}
 use Rattle.hart_device.specs.Device.{DeviceState, Effect, Executes, Nothing, Resets, after, after_reply}
 use Rattle.hart_values.specs.declared.master_id.MasterId.{MasterId}
 use Rattle.hart_device.specs.declared.identity_parts.IdentityParts.{IdentityParts}
-use Rattle.hart_frame.specs.heard.Character.{Character, faultless}
-use Rattle.hart_frame.specs.heard.Frames.{AreFrames}
-use Rattle.hart_frame.specs.wire.Message.{IsMessage}
+use Rattle.hart_frame.specs.heard.Character.{Character}
 use Rattle.hart_line.specs.world.Damage.{Arrives, IsDetected, Reaches}
 use Rattle.hart_line.specs.world.Step.{effect_on}
 use Rattle.hart_line.specs.world.Spoken.{AreSpoken, IsSpoken, SpokenFrame, Speaks, frame_of}
 use Rattle.hart_line.specs.declared.event.Heard.{Heard}
 use Rattle.hart_line.specs.declared.line.report.Spoken.{Spoken}
-
--- What the law of messages says.
-abbrev pub MessageLaw : Type 0
-MessageLaw = (frame : FrameParts) (preambles : ℕ) (bytes : List ℕ) → 2 ≤ preambles → IsMessage frame preambles bytes
-    → AreFrames (faultless bytes) 0 (record { start = preambles; stop = length bytes; frame = frame } ∷ [])
 
 -- What arrives is nothing, or what was sent.
 IsDetected-cases : (sent : Option FrameParts) (frames : List Found) (arrived : Option FrameParts) → IsDetected sent frames arrived

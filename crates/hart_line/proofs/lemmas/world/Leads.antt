@@ -1,24 +1,25 @@
--- Scripts: one event more, and that a script leads to one world.
-use Rattle.std.proofs.Common.{◌≡◌, true, ℕ, ap, ◌∙◌, sym, refl, subst, Option, None, Some, List, [], ◌∷◌, ◌++◌, zero, suc, take, Bool}
+-- A script leads to one world, and has one fault at most.
+use Rattle.std.proofs.Common.{◌≡◌, ℕ, ◌<◌, ap, ◌∙◌, sym, refl, subst, arith, Option, None, Some, List, [], ◌∷◌, ◌++◌, zero, suc, take, drop}
+use Rattle.std.proofs.Common.{length, inl, inr}
 use Rattle.std.specs.List.{slice_get}
-use Rattle.hart_values.specs.declared.address.Address.{Address}
+use Rattle.std.proofs.lemmas.Bool.Decides.{leb_tells}
+use Rattle.std.proofs.lemmas.List.{take_all}
+use Rattle.std.proofs.lemmas.Option.{slice_get_within}
 use Rattle.hart_values.specs.declared.master_id.MasterId.{MasterId}
-use Rattle.hart_frame.specs.wire.Body.{IsBody}
 use Rattle.hart_frame.specs.heard.Character.{Character}
 use Rattle.hart_frame.specs.wire.FrameParts.{FrameParts}
 use Rattle.hart_frame.specs.heard.Frames.{AreFrames}
 use Rattle.hart_frame.specs.declared.heard.found.Found.{Found}
+use Rattle.hart_frame.proofs.lemmas.Laws.{bodies_are_unambiguous-one_body, frames_are_unambiguous-one_list}
 use Rattle.hart_values.specs.EachMaster.{of_master}
 use Rattle.hart_commands.specs.declared.reply.Reply.{Reply}
-use Rattle.hart_commands.specs.declared.request.Request.{Request}
 use Rattle.hart_device.specs.answer.Delivery.{Brings, Brought}
 use Rattle.hart_device.specs.declared.identity_parts.IdentityParts.{IdentityParts}
-use Rattle.hart_master.specs.Acceptance.{IsReplyTo}
-use Rattle.hart_master.specs.declared.fault.MasterFault.{MasterFault}
-use Rattle.hart_device.specs.Device.{for_both}
+use Rattle.hart_device.proofs.lemmas.Laws.{deliveries_bring_one-one}
+use Rattle.hart_master.proofs.lemmas.Laws.{replies_are_decided-one_reply}
 use Rattle.hart_line.specs.world.Damage.{AreHeard, Arrives, IsDetected, IsUndetected, Reaches}
 use Rattle.hart_line.specs.world.Spoken.{SpokenFrame, frame_of}
-use Rattle.hart_line.specs.world.Step.{Accepts, IsLast, IsTurn, LeadsTo, Step, replied, sent_back, sent_by, submission_fault, submitted}
+use Rattle.hart_line.specs.world.Step.{Accepts, IsLast, IsTurn, LeadsTo, Step, replied, sent_back, sent_by}
 use Rattle.hart_line.specs.world.Step.{turned}
 use Rattle.hart_line.specs.world.World.{InHand, Start, World, first_world}
 use Rattle.hart_line.specs.declared.event.Heard.{Heard}
@@ -30,56 +31,17 @@ use Rattle.hart_line.specs.declared.fault.Leg.TheVariants as legs
 use Rattle.hart_line.specs.world.Faults.{HasUndetected, IsFault}
 use Rattle.hart_line.specs.declared.fault.LineFault.TheVariants.{Undetected}
 use Rattle.hart_line.proofs.lemmas.world.Basics.{some_one}
+use Rattle.hart_line.proofs.lemmas.world.Steps.{leads_between}
 
--- What a submission, a turn, the switch of protection, a reply and a restart keep stays at each event, and from a world to the last one.
-pub record Keeps (start : Start) (P : World → Type 0) : Type 0 where
-  pub submissions : (world : World) (who : MasterId) (address : Address) (request : Request) (fault : Option MasterFault)
-      → P world → P (submitted world who address request fault)
-  pub turns : (world : World) (who : MasterId) (hand : Option InHand) (brought : Brought) (accepted : Option Reply)
-      → of_master who world.hands ≡ hand → P world → P (turned start world who hand brought accepted)
-  pub switches : (world : World) (on : Bool) → P world → P (record world { protected = on })
-  pub replies : (world : World) (brought : Brought) → P world → P (replied start world brought)
-  pub restarts : (world : World) → P world → P (record world { cold_start = for_both true })
-
-pub step_keeps : (start : Start) (P : World → Type 0) → Keeps start P → (world : World) (event : LineEvent) (next : World)
-    → Step start world event next → P world → P next
-step_keeps start P keeps world (Submit who address request) next is p = subst P (sym is)
-    (keeps.submissions world who address request (submission_fault (of_master who world.hands) address request) p)
-step_keeps start P keeps world (Turn who up down) next is p = subst P (sym is.next_is)
-    (keeps.turns world who (of_master who world.hands) is.brought is.accepted refl p)
-step_keeps start P keeps world (Protect on) next is p = subst P (sym is) (keeps.switches world on p)
-step_keeps start P keeps world (Noise chars) next is p = subst P (sym is.next_is) (keeps.replies world is.brought p)
-step_keeps start P keeps world Restart next is p = subst P (sym is) (keeps.restarts world p)
-
-pub leads_keeps : (start : Start) (P : World → Type 0) → Keeps start P → (events : List LineEvent) (world last : World)
-    → LeadsTo start world events last → P world → P last
-leads_keeps start P keeps [] world last run p = subst P (sym run) p
-leads_keeps start P keeps (event ∷ events) world last run p = leads_keeps start P keeps events run.0 last run.2
-    (step_keeps start P keeps world event run.0 run.1 p)
-
-pub leads_more : (start : Start) (events : List LineEvent) (event : LineEvent) (world mid next : World)
-    → LeadsTo start world events mid → Step start mid event next → LeadsTo start world (events ++ event ∷ []) next
-leads_more start [] event world mid next run step = (next, subst (λ w. Step start w event next) run step, refl)
-leads_more start (e ∷ events) event world mid next run step = (run.0, run.1, leads_more start events event run.0 mid next run.2 step)
-
--- What the laws of the crates below say.
-pub record Laws : Type 0 where
-  pub one_body : (f : FrameParts) (bytes others : List ℕ) → IsBody f bytes → IsBody f others → bytes ≡ others
-  pub one_list : (chars : List Character) (from : ℕ) (xs ys : List Found) → AreFrames chars from xs → AreFrames chars from ys → xs ≡ ys
-  pub one_brought : (identity : IdentityParts) (delivery : List Character) (brought other : Brought)
-      → Brings identity delivery brought → Brings identity delivery other → brought ≡ other
-  pub one_reply : (id : MasterId) (address : Address) (request : Request) (frame : FrameParts) (r s : Reply)
-      → IsReplyTo id address request frame r → IsReplyTo id address request frame s → r ≡ s
-
-AreHeard-one : Laws → (heard : Heard) (sent : Option SpokenFrame) (a b : List Character) → AreHeard heard sent a
+AreHeard-one : (heard : Heard) (sent : Option SpokenFrame) (a b : List Character) → AreHeard heard sent a
     → AreHeard heard sent b → a ≡ b
-AreHeard-one laws Clean None a b x y = x ∙ sym y
-AreHeard-one laws Clean (Some said) a b x y =
-    let body = laws.one_body said.frame x.1.body y.1.body x.1.is_body y.1.is_body in
+AreHeard-one Clean None a b x y = x ∙ sym y
+AreHeard-one Clean (Some said) a b x y =
+    let body = bodies_are_unambiguous-one_body said.frame x.1.body y.1.body x.1.is_body y.1.is_body in
     let bytes : x.0 ≡ y.0 = x.1.parts ∙ rw body (sym y.1.parts) in
     x.2 ∙ rw bytes (sym y.2)
-AreHeard-one laws Lost sent a b x y = x ∙ sym y
-AreHeard-one laws (Chars given) sent a b x y = x ∙ sym y
+AreHeard-one Lost sent a b x y = x ∙ sym y
+AreHeard-one (Chars given) sent a b x y = x ∙ sym y
 
 IsDetected-one : (sent : Option FrameParts) (frames : List Found) (a b : Option FrameParts) → IsDetected sent frames a
     → IsDetected sent frames b → a ≡ b
@@ -88,172 +50,142 @@ IsDetected-one sent (found ∷ []) a b x y = x.1 ∙ sym y.1
 IsDetected-one sent (found ∷ other ∷ more) a b x y = absurd x
 
 -- The frames that are heard in a leg are the same, by whichever list.
-frames_one : Laws → (heard : Heard) (sent : Option SpokenFrame) (a b : List Character) (xs ys : List Found)
+frames_one : (heard : Heard) (sent : Option SpokenFrame) (a b : List Character) (xs ys : List Found)
     → AreHeard heard sent a → AreHeard heard sent b → AreFrames a 0 xs → AreFrames b 0 ys → xs ≡ ys
-frames_one laws heard sent a b xs ys h k x y =
-    let same = AreHeard-one laws heard sent a b h k in laws.one_list b 0 xs ys (rw same at x) y
+frames_one heard sent a b xs ys h k x y =
+    let same = AreHeard-one heard sent a b h k in frames_are_unambiguous-one_list b 0 xs ys (rw same at x) y
 
-pub Arrives-one : Laws → (heard : Heard) (sent : Option SpokenFrame) (a b : Option FrameParts) → Arrives heard sent a
+pub Arrives-one : (heard : Heard) (sent : Option SpokenFrame) (a b : Option FrameParts) → Arrives heard sent a
     → Arrives heard sent b → a ≡ b
-Arrives-one laws heard sent a b s t =
-    let frames = frames_one laws heard sent s.chars t.chars s.frames t.frames s.are_heard t.are_heard s.are_frames t.are_frames in
+Arrives-one heard sent a b s t =
+    let frames = frames_one heard sent s.chars t.chars s.frames t.frames s.are_heard t.are_heard s.are_frames t.are_frames in
     IsDetected-one (frame_of sent) t.frames a b (rw frames at s.detected) t.detected
 
 -- A leg brings the device one thing.
-pub Reaches-one : Laws → (identity : IdentityParts) (heard : Heard) (sent : Option SpokenFrame) (a b : Brought)
+pub Reaches-one : (identity : IdentityParts) (heard : Heard) (sent : Option SpokenFrame) (a b : Brought)
     → Reaches identity heard sent a → Reaches identity heard sent b → a ≡ b
-Reaches-one laws identity heard sent a b s t =
-    let same = AreHeard-one laws heard sent s.arrives.chars t.arrives.chars s.arrives.are_heard t.arrives.are_heard in
+Reaches-one identity heard sent a b s t =
+    let same = AreHeard-one heard sent s.arrives.chars t.arrives.chars s.arrives.are_heard t.arrives.are_heard in
     let brings : Brings identity s.arrives.chars a =
     record { frames = s.arrives.frames; are_frames = s.arrives.are_frames; by_frames = s.brings } in
-    laws.one_brought identity t.arrives.chars a b (subst (λ chars. Brings identity chars a) same brings)
+    deliveries_bring_one-one identity t.arrives.chars a b (subst (λ chars. Brings identity chars a) same brings)
     (record { frames = t.arrives.frames; are_frames = t.arrives.are_frames; by_frames = t.brings })
 
 -- Damage that is detected is not undetected.
-pub arrives_detected : Laws → (heard : Heard) (sent : Option SpokenFrame) (brought : Option FrameParts)
+pub arrives_detected : (heard : Heard) (sent : Option SpokenFrame) (brought : Option FrameParts)
     → Arrives heard sent brought → IsUndetected heard sent → ⊥
-arrives_detected laws heard sent brought a u =
-    let frames = frames_one laws heard sent a.chars u.chars a.frames u.frames a.are_heard u.are_heard a.are_frames u.are_frames in
+arrives_detected heard sent brought a u =
+    let frames = frames_one heard sent a.chars u.chars a.frames u.frames a.are_heard u.are_heard a.are_frames u.are_frames in
     u.not_detected brought (rw frames at a.detected)
 
-Accepts-one : Laws → (who : MasterId) (hand : Option InHand) (returned : Option FrameParts) (a b : Option Reply)
+Accepts-one : (who : MasterId) (hand : Option InHand) (returned : Option FrameParts) (a b : Option Reply)
     → Accepts who hand returned a → Accepts who hand returned b → a ≡ b
-Accepts-one laws who None returned a b x y = x ∙ sym y
-Accepts-one laws who (Some held) None a b x y = x ∙ sym y
-Accepts-one laws who (Some held) (Some frame) None None x y = refl
-Accepts-one laws who (Some held) (Some frame) None (Some s) x y = absurd (x s y)
-Accepts-one laws who (Some held) (Some frame) (Some r) None x y = absurd (y r x)
-Accepts-one laws who (Some held) (Some frame) (Some r) (Some s) x y =
-    ap Some (laws.one_reply who held.address held.request frame r s x y)
+Accepts-one who None returned a b x y = x ∙ sym y
+Accepts-one who (Some held) None a b x y = x ∙ sym y
+Accepts-one who (Some held) (Some frame) None None x y = refl
+Accepts-one who (Some held) (Some frame) None (Some s) x y = absurd (x s y)
+Accepts-one who (Some held) (Some frame) (Some r) None x y = absurd (y r x)
+Accepts-one who (Some held) (Some frame) (Some r) (Some s) x y =
+    ap Some (replies_are_decided-one_reply who held.address held.request frame r s x y)
 
-IsTurn-one : Laws → (start : Start) (world : World) (who : MasterId) (up down : Heard) (a b : World)
+IsTurn-one : (start : Start) (world : World) (who : MasterId) (up down : Heard) (a b : World)
     → IsTurn start world who up down a → IsTurn start world who up down b → a ≡ b
-IsTurn-one laws start world who up down a b s t =
+IsTurn-one start world who up down a b s t =
     let hand = of_master who world.hands in
-    let brought = Reaches-one laws start.device.identity up (sent_by who hand) s.brought t.brought s.arrives t.arrives in
-    let returned = Arrives-one laws down (sent_back start world t.brought) s.returned t.returned (rw brought at s.returns) t.returns in
-    let accepted = Accepts-one laws who hand t.returned s.accepted t.accepted (rw returned at s.accepts) t.accepts in
+    let brought = Reaches-one start.device.identity up (sent_by who hand) s.brought t.brought s.arrives t.arrives in
+    let returned = Arrives-one down (sent_back start world t.brought) s.returned t.returned (rw brought at s.returns) t.returns in
+    let accepted = Accepts-one who hand t.returned s.accepted t.accepted (rw returned at s.accepts) t.accepts in
     s.next_is ∙ ap (λ f. turned start world who hand f s.accepted) brought
     ∙ ap (turned start world who hand t.brought) accepted ∙ sym t.next_is
 
-pub step_one : Laws → (start : Start) (world : World) (event : LineEvent) (a b : World)
+pub step_one : (start : Start) (world : World) (event : LineEvent) (a b : World)
     → Step start world event a → Step start world event b → a ≡ b
-step_one laws start world (Submit who address request) a b s t = s ∙ sym t
-step_one laws start world (Turn who up down) a b s t = IsTurn-one laws start world who up down a b s t
-step_one laws start world (Protect on) a b s t = s ∙ sym t
-step_one laws start world Restart a b s t = s ∙ sym t
-step_one laws start world (Noise chars) a b s t =
+step_one start world (Submit who address request) a b s t = s ∙ sym t
+step_one start world (Protect on) a b s t = s ∙ sym t
+step_one start world Restart a b s t = s ∙ sym t
+step_one start world (Turn who up down) a b s t = IsTurn-one start world who up down a b s t
+step_one start world (Noise chars) a b s t =
     s.next_is ∙ ap (replied start world)
-    (Reaches-one laws start.device.identity (Chars chars) None s.brought t.brought s.arrives t.arrives) ∙ sym t.next_is
+    (Reaches-one start.device.identity (Chars chars) None s.brought t.brought s.arrives t.arrives) ∙ sym t.next_is
 
 -- A script leads to one world.
-pub leads_one : Laws → (start : Start) (events : List LineEvent) (world a b : World)
+pub leads_one : (start : Start) (events : List LineEvent) (world a b : World)
     → LeadsTo start world events a → LeadsTo start world events b
     → a ≡ b
-leads_one laws start [] world a b s t = s ∙ sym t
-leads_one laws start (event ∷ events) world a b s t =
-    leads_one laws start events t.0 a b
-    (subst (λ w. LeadsTo start w events a) (step_one laws start world event s.0 t.0 s.1 t.1) s.2) t.2
+leads_one start [] world a b s t = s ∙ sym t
+leads_one start (event ∷ events) world a b s t =
+    leads_one start events t.0 a b
+    (subst (λ w. LeadsTo start w events a) (step_one start world event s.0 t.0 s.1 t.1) s.2) t.2
+
+-- So from a world that some events lead to it goes on to its last one.
+pub leads_on : (start : Start) (prefix suffix : List LineEvent) (from world last : World) → LeadsTo start from (prefix ++ suffix) last
+    → LeadsTo start from prefix world → LeadsTo start world suffix last
+leads_on start prefix suffix from world last run led =
+    let between = leads_between start from prefix suffix last run in
+    subst (λ w. LeadsTo start w suffix last) (leads_one start prefix from between.world world between.before led) between.after
 
 -- FAULTS
 -- An event that leads on has no undetected damage, and no other has it in two legs.
-step_detected : Laws → (start : Start) (world : World) (event : LineEvent) (next : World) (leg : Leg)
+step_detected : (start : Start) (world : World) (event : LineEvent) (next : World) (leg : Leg)
     → Step start world event next → HasUndetected start world event leg → ⊥
-step_detected laws start world (Submit who address request) next leg step undetected = undetected
-step_detected laws start world (Turn who up down) next legs.Up step undetected =
-    arrives_detected laws up _ step.arrives.frame step.arrives.arrives undetected
-step_detected laws start world (Turn who up down) next legs.Down step undetected =
-    let brought = Reaches-one laws start.device.identity up _ step.brought undetected.0 step.arrives undetected.1 in
-    arrives_detected laws down _ step.returned (rw brought at step.returns) undetected.2
-step_detected laws start world (Turn who up down) next legs.Noise step undetected = undetected
-step_detected laws start world (Protect on) next leg step undetected = undetected
-step_detected laws start world Restart next leg step undetected = undetected
-step_detected laws start world (Noise chars) next legs.Up step undetected = undetected
-step_detected laws start world (Noise chars) next legs.Down step undetected = undetected
-step_detected laws start world (Noise chars) next legs.Noise step undetected =
-    arrives_detected laws (Chars chars) None step.arrives.frame step.arrives.arrives undetected
+step_detected start world (Turn who up down) next legs.Up step undetected =
+    arrives_detected up _ step.arrives.frame step.arrives.arrives undetected
+step_detected start world (Turn who up down) next legs.Down step undetected =
+    let brought = Reaches-one start.device.identity up _ step.brought undetected.0 step.arrives undetected.1 in
+    arrives_detected down _ step.returned (rw brought at step.returns) undetected.2
+step_detected start world (Noise chars) next legs.Noise step undetected =
+    arrives_detected (Chars chars) None step.arrives.frame step.arrives.arrives undetected
+step_detected start world event next leg step undetected = undetected
 
-undetected_one : Laws → (start : Start) (world : World) (event : LineEvent) (leg another : Leg)
+undetected_one : (start : Start) (world : World) (event : LineEvent) (leg another : Leg)
     → HasUndetected start world event leg → HasUndetected start world event another → leg ≡ another
-undetected_one laws start world (Submit who address request) leg another u v = absurd u
-undetected_one laws start world (Turn who up down) legs.Up legs.Up u v = refl
-undetected_one laws start world (Turn who up down) legs.Up legs.Down u v = absurd (arrives_detected laws up _ v.1.frame v.1.arrives u)
-undetected_one laws start world (Turn who up down) legs.Up legs.Noise u v = absurd v
-undetected_one laws start world (Turn who up down) legs.Down legs.Up u v = absurd (arrives_detected laws up _ u.1.frame u.1.arrives v)
-undetected_one laws start world (Turn who up down) legs.Down legs.Down u v = refl
-undetected_one laws start world (Turn who up down) legs.Down legs.Noise u v = absurd v
-undetected_one laws start world (Turn who up down) legs.Noise another u v = absurd u
-undetected_one laws start world (Protect on) leg another u v = absurd u
-undetected_one laws start world Restart leg another u v = absurd u
-undetected_one laws start world (Noise chars) legs.Up another u v = absurd u
-undetected_one laws start world (Noise chars) legs.Down another u v = absurd u
-undetected_one laws start world (Noise chars) legs.Noise legs.Up u v = absurd v
-undetected_one laws start world (Noise chars) legs.Noise legs.Down u v = absurd v
-undetected_one laws start world (Noise chars) legs.Noise legs.Noise u v = refl
+undetected_one start world (Turn who up down) legs.Up legs.Up u v = refl
+undetected_one start world (Turn who up down) legs.Up legs.Down u v = absurd (arrives_detected up _ v.1.frame v.1.arrives u)
+undetected_one start world (Turn who up down) legs.Down legs.Up u v = absurd (arrives_detected up _ u.1.frame u.1.arrives v)
+undetected_one start world (Turn who up down) legs.Down legs.Down u v = refl
+undetected_one start world (Turn who up down) leg legs.Noise u v = absurd v
+undetected_one start world (Noise chars) legs.Noise legs.Noise u v = refl
+undetected_one start world (Noise chars) legs.Noise another u v = absurd v
+undetected_one start world event leg another u v = absurd u
 
--- The fault of a script, from the world that its events have led to so far.
-pub record FaultFrom (start : Start) (from : World) (events : List LineEvent) (number : ℕ) (leg : Leg) : Type 0 where
-  pub world : World
-  pub event : LineEvent
-  pub led : LeadsTo start from (take number events) world
-  pub here : slice_get events number ≡ Some event
-  pub undetected : HasUndetected start world event leg
+-- Events that lead on past one have no undetected damage in it.
+past_detected : (start : Start) (prefix : List LineEvent) (event : LineEvent) (suffix : List LineEvent) (from world last : World)
+    (leg : Leg) → LeadsTo start from (prefix ++ event ∷ suffix) last → LeadsTo start from prefix world
+    → HasUndetected start world event leg → ⊥
+past_detected start prefix event suffix from world last leg run led =
+    let on = leads_on start prefix (event ∷ suffix) from world last run led in step_detected start world event on.0 leg on.1
 
-leads_detected : Laws → (start : Start) (from : World) (events : List LineEvent) (last : World) (number : ℕ) (leg : Leg)
-    → LeadsTo start from events last → FaultFrom start from events number leg → ⊥
-leads_detected laws start from [] last number leg run f = cc (f.here)
-leads_detected laws start from (event ∷ events) last zero leg run f =
-    let same = some_one f.here in
-    step_detected laws start from event run.0 leg run.1 (rw (f.led, ← same) at f.undetected)
-leads_detected laws start from (event ∷ events) last (suc number) leg run f =
-    leads_detected laws start run.0 events last number leg run.2 (record {
-      world = f.world;
-      event = f.event;
-      led = subst (λ w. LeadsTo start w (take number events) f.world) (step_one laws start from event f.led.0 run.0 f.led.1 run.1) f.led.2;
-      here = f.here;
-      undetected = f.undetected;
-    })
+take-past : {A : Type 0} (number other : ℕ) (xs : List A) (x : A) → slice_get xs number ≡ Some x → number < other
+    → take other xs ≡ take number xs ++ x ∷ drop (suc number) (take other xs)
+take-past number zero xs x is before = absurd (omega arith)
+take-past number (suc other) [] x is before = cc
+take-past zero (suc other) (y ∷ xs) x is before = ap (λ z. z ∷ take other xs) (some_one is)
+take-past (suc number) (suc other) (y ∷ xs) x is before = ap (λ zs. y ∷ zs) (take-past number other xs x is (omega arith))
 
-fault_from : (start : Start) (events : List LineEvent) (number : ℕ) (leg : Leg) → IsFault start events (Undetected number leg)
-    → FaultFrom start (first_world start) events number leg
-fault_from start events number leg f =
-    record { world = f.0; event = f.1; led = f.2; here = f.3; undetected = f.4 }
+-- A fault comes after no other.
+fault_before : (start : Start) (events : List LineEvent) (number other : ℕ) (leg : Leg) (world : World) → number < other
+    → IsFault start events (Undetected number leg) → IsLast start (take other events) world → ⊥
+fault_before start events number other leg world before f run =
+    past_detected start (take number events) f.1 (drop (suc number) (take other events)) (first_world start) f.0 world leg
+    (rw (take-past number other events f.1 f.3 before) at run) f.2 f.4
 
-pub no_fault : Laws → (start : Start) (events : List LineEvent) (last : World) (number : ℕ) (leg : Leg)
+pub no_fault : (start : Start) (events : List LineEvent) (last : World) (number : ℕ) (leg : Leg)
     → IsLast start events last → IsFault start events (Undetected number leg) → ⊥
-no_fault laws start events last number leg run fault =
-    leads_detected laws start (first_world start) events last number leg run (fault_from start events number leg fault)
+no_fault start events last number leg run f =
+    let within = slice_get_within events number f.1 f.3 in
+    fault_before start events number (length events) leg last within f (rw (take_all (length events) events (omega arith)) run)
 
--- Of two faults from one world on, neither comes before the other.
-faults_one : Laws → (start : Start) (from : World) (events : List LineEvent) (number other : ℕ) (leg another : Leg)
-    → FaultFrom start from events number leg → FaultFrom start from events other another → (number ≡ other) × (leg ≡ another)
-faults_one laws start from [] number other leg another f g = cc (f.here)
-faults_one laws start from (event ∷ events) zero zero leg another f g =
-    let same = some_one f.here in
-    let also = some_one g.here in
-    (refl, undetected_one laws start from event leg another (rw (f.led, ← same) at f.undetected) (rw (g.led, ← also) at g.undetected))
-faults_one laws start from (event ∷ events) zero (suc other) leg another f g =
-    let same = some_one f.here in
-    absurd (step_detected laws start from event g.led.0 leg g.led.1 (rw (f.led, ← same) at f.undetected))
-faults_one laws start from (event ∷ events) (suc number) zero leg another f g =
-    let also = some_one g.here in
-    absurd (step_detected laws start from event f.led.0 another f.led.1 (rw (g.led, ← also) at g.undetected))
-faults_one laws start from (event ∷ events) (suc number) (suc other) leg another f g =
-    let later = faults_one laws start g.led.0 events number other leg another
-    (record {
-      world = f.world;
-      event = f.event;
-      led = subst (λ w. LeadsTo start w (take number events) f.world)
-          (step_one laws start from event f.led.0 g.led.0 f.led.1 g.led.1) f.led.2;
-      here = f.here;
-      undetected = f.undetected;
-    })
-    (record { world = g.world; event = g.event; led = g.led.2; here = g.here; undetected = g.undetected }) in
-    (ap suc later.0, later.1)
-
-pub fault_one : Laws → (start : Start) (events : List LineEvent) (number other : ℕ) (leg another : Leg)
+pub fault_one : (start : Start) (events : List LineEvent) (number other : ℕ) (leg another : Leg)
     → IsFault start events (Undetected number leg) → IsFault start events (Undetected other another)
     → (number ≡ other) × (leg ≡ another)
-fault_one laws start events number other leg another f g =
-    faults_one laws start (first_world start) events number other leg another
-    (fault_from start events number leg f) (fault_from start events other another g)
+fault_one start events number other leg another f g = elim (leb_tells number other) [
+  | inl most ↦ elim (leb_tells other number) [
+    | inl least ↦ (
+        let same : number ≡ other = omega (arith, most.1, least.1) in
+        let world : f.0 ≡ g.0 = leads_one start (take other events) (first_world start) f.0 g.0 (rw same at f.2) g.2 in
+        let event : f.1 ≡ g.1 = some_one (sym f.3 ∙ ap (slice_get events) same ∙ g.3) in
+        (same, undetected_one start g.0 g.1 leg another (rw (world, event) at f.4) g.4))
+    | inr before ↦ absurd (fault_before start events number other leg g.0 before.1 f g.2)
+  ]
+  | inr after ↦ absurd (fault_before start events other number another f.0 after.1 g f.2)
+]

@@ -3,19 +3,15 @@ use Rattle.std.proofs.Common.{◌≡◌, ℕ, ◌+◌, ◌%◌, ◌≤◌, ◌<�
 use Rattle.std.proofs.Common.{List, [], ◌∷◌, ◌++◌, length}
 use Rattle.std.proofs.lemmas.List.{map-append}
 use Rattle.std.proofs.Math.Nat.{mod-add-mod, mod-eq_of_lt}
-use Rattle.std.proofs.lemmas.Grind.{common_steps}
 use Rattle.std.proofs.lemmas.Bool.{lt-ltb, le-ltb}
 use Rattle.hart_values.specs.declared.master_id.MasterId.{MasterId}
 use Rattle.hart_values.specs.declared.master_id.MasterId.TheVariants.{Primary, Secondary}
-use Rattle.hart_commands.specs.Registers.{Contents, Overwrite, registers_of, overwritten}
+use Rattle.hart_commands.specs.Registers.{Contents, registers_of, overwritten}
 use Rattle.hart_device.specs.Device.{DeviceState, Effect, Nothing, Executes, Resets, after}
+use Rattle.hart_device.proofs.lemmas.Laws.{registers_of_lists-last, registers_of_lists-none}
+use Rattle.hart_line.proofs.lemmas.world.Basics.{length-one_more}
 use Rattle.hart_line.specs.world.World.{World, Execution, Start, first_world, state_of, overwrites_of, is_changed, MarksWithin}
 use Rattle.hart_line.specs.world.Step.{executions_after, marks_after}
-
--- What the law of registers says of a list with one more.
-abbrev pub LastLaw : Type 0
-LastLaw = (overwrites : List Overwrite) (overwrite : Overwrite) (initial : Contents)
-    → registers_of (overwrites ++ overwrite ∷ []) initial ≡ overwritten overwrite (registers_of overwrites initial)
 
 -- A mark lies before one execution more.
 is_changed-more : (initially : Bool) (mark : Option ℕ) (count : ℕ) → ((m : ℕ) → mark ≡ Some m → m ≤ count)
@@ -26,9 +22,6 @@ is_changed-more initially (Some m) count within = let h = within m refl in sym (
 
 is_changed-now : (initially : Bool) (count : ℕ) → false ≡ is_changed initially (Some count) count
 is_changed-now initially count = sym (le-ltb count count (omega arith))
-
-pub length-one_more : {A : Type 0} (xs : List A) (x : A) → length (xs ++ x ∷ []) ≡ length xs + 1
-length-one_more xs x = grind (arith, common_steps)
 
 counted : (counter count : ℕ) → ((counter + count) % 65536 + 1) % 65536 ≡ (counter + (count + 1)) % 65536
 counted counter count = mod-add-mod (counter + count) 65536 1 ∙ ap (λ n. n % 65536) (omega arith)
@@ -46,34 +39,34 @@ same_state a b identity contents counter primary secondary protected cold_start 
   cold_start = cold_start i;
 }
 
-contents-more : LastLaw → (executions : List Execution) (execution : Execution) (initial : Contents)
+contents-more : (executions : List Execution) (execution : Execution) (initial : Contents)
     → overwritten execution.overwrite (registers_of (overwrites_of executions) initial)
     ≡ registers_of (overwrites_of (executions ++ execution ∷ [])) initial
-contents-more last executions execution initial =
+contents-more executions execution initial =
     sym (ap (λ os. registers_of os initial) (map-append (λ (e : Execution). e.overwrite) executions (execution ∷ []))
-    ∙ last (overwrites_of executions) execution.overwrite initial)
+    ∙ registers_of_lists-last (overwrites_of executions) execution.overwrite initial)
 
 -- The state after an effect, with other cold start bits, is that of the world that the effect entered, with these bits.
-pub state-after : LastLaw → (initial : DeviceState) (world next : World) (id : MasterId) (number : ℕ) (effect : Effect) → MarksWithin world
+pub state-after : (initial : DeviceState) (world next : World) (id : MasterId) (number : ℕ) (effect : Effect) → MarksWithin world
     → next.executions ≡ executions_after effect number world.executions
     → next.marks ≡ marks_after effect id (length world.executions) world.marks
     → next.protected ≡ world.protected
     → record (after id effect (state_of initial world)) { cold_start = next.cold_start } ≡ state_of initial next
-state-after last initial world next id number Nothing within executions marks protected =
+state-after initial world next id number Nothing within executions marks protected =
     rw (executions, marks, protected) refl
-state-after last initial world next id number (Executes overwrite) within executions marks protected =
+state-after initial world next id number (Executes overwrite) within executions marks protected =
     let entry : Execution = record { submission = number; overwrite = overwrite } in
     let more = length-one_more world.executions entry in
     rw (executions, marks, protected) (same_state _ _ refl
-    (contents-more last world.executions entry initial.contents)
+    (contents-more world.executions entry initial.contents)
     (rw more (counted initial.counter (length world.executions)))
     (rw more (is_changed-more initial.changed.primary world.marks.primary (length world.executions) (within Primary)))
     (rw more (is_changed-more initial.changed.secondary world.marks.secondary (length world.executions) (within Secondary)))
     refl refl)
-state-after last initial world next Primary number Resets within executions marks protected =
+state-after initial world next Primary number Resets within executions marks protected =
     rw (executions, marks, protected) (same_state _ _ refl refl refl (is_changed-now initial.changed.primary
     (length world.executions)) refl refl refl)
-state-after last initial world next Secondary number Resets within executions marks protected =
+state-after initial world next Secondary number Resets within executions marks protected =
     rw (executions, marks, protected)
     (same_state _ _ refl refl refl refl (is_changed-now initial.changed.secondary (length world.executions)) refl refl)
 
@@ -86,7 +79,7 @@ small_mod : (n : ℕ) → n < 65536 → (n + 0) % 65536 ≡ n
 small_mod n h = let same : n + 0 ≡ n = omega arith in rw same (mod-eq_of_lt h)
 
 -- The device stands for the world before a script.
-pub state-first : ((initial : Contents) → registers_of [] initial ≡ initial) → (start : Start) → start.device.counter < 65536
+pub state-first : (start : Start) → start.device.counter < 65536
     → state_of start.device (first_world start) ≡ start.device
-state-first none start small = same_state _ _ refl (none start.device.contents) (small_mod start.device.counter small)
+state-first start small = same_state _ _ refl (registers_of_lists-none start.device.contents) (small_mod start.device.counter small)
     (or_none start.device.changed.primary) (or_none start.device.changed.secondary) refl refl

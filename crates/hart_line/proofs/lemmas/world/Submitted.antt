@@ -1,134 +1,130 @@
--- A request in hand is the one that was submitted under its number, to its master and for its address.
+-- A request in hand is unfinished, and is the one that was submitted under its number, to its master and for its address.
 use Rattle.std.proofs.Common.{◌≡◌, ℕ, ◌+◌, ◌<◌, zero, suc, ap, ◌∙◌, sym, refl, subst, Option, None, Some, option_map, List, [], ◌∷◌, ◌++◌}
-use Rattle.std.proofs.Common.{drop, get_or, length, take, inl, inr}
+use Rattle.std.proofs.Common.{add-one, drop, get_or, length, slice_set, take, inl, inr}
 use Rattle.std.specs.List.{slice_get}
 use Rattle.std.proofs.lemmas.List.{length-set, take_more}
 use Rattle.std.proofs.lemmas.List.Elements.{All-append, All-get_or}
 use Rattle.std.proofs.lemmas.Option.{get_or_from_slice_get, slice_get-map, slice_get_within}
 use Rattle.hart_values.specs.declared.address.Address.{Address}
 use Rattle.hart_values.specs.declared.master_id.MasterId.{MasterId}
-use Rattle.hart_device.specs.answer.Delivery.{Brought}
 use Rattle.hart_values.specs.EachMaster.{of_master}
 use Rattle.hart_commands.specs.RequestData.{IsRequest}
-use Rattle.hart_commands.specs.declared.reply.Reply.{Reply}
 use Rattle.hart_commands.specs.declared.request.Request.{Request}
-use Rattle.hart_master.specs.declared.fault.MasterFault.{MasterFault}
-use Rattle.hart_line.specs.world.Promises.{AreWellMade, Submission, requests_of, submission_in, submissions_of}
-use Rattle.hart_line.specs.world.Step.{LeadsTo, Step, hand_left, outcome_of, submission_fault, submitted, turned}
+use Rattle.hart_device.specs.answer.Delivery.{Brought}
+use Rattle.hart_commands.specs.declared.reply.Reply.{Reply}
+use Rattle.hart_line.specs.world.Promises.{AreWellMade, IsStepOf, Submission, requests_of, submission_in, submissions_of}
+use Rattle.hart_line.specs.world.Step.{Step, hand_left, outcome_of, submitted, turned}
 use Rattle.hart_line.specs.world.World.{InHand, Start, World, first_world}
 use Rattle.hart_line.specs.declared.event.LineEvent.{LineEvent}
-use Rattle.hart_line.specs.declared.event.LineEvent.TheVariants.{Submit, Turn, Protect, Noise, Restart}
+use Rattle.hart_line.specs.declared.event.LineEvent.TheVariants.{Submit, Turn}
 use Rattle.hart_line.specs.declared.line.report.Outcome.{Outcome}
 use Rattle.hart_line.specs.declared.line.report.Outcome.TheVariants.{Answered, NoReply, Unfinished, Refused}
-use Rattle.hart_line.proofs.lemmas.world.Sound.{hand_left-number, nothing_first, with_master-cases}
-
--- LISTS
-drop-next : {A : Type 0} (n : ℕ) (xs : List A) (x : A) (later : List A) → drop n xs ≡ x ∷ later → drop (suc n) xs ≡ later
-drop-next zero [] x later is = cc
-drop-next zero (y ∷ xs) x later is = cc
-drop-next (suc n) [] x later is = cc
-drop-next (suc n) (y ∷ xs) x later is = drop-next n xs x later is
-
-slice_get-drop : {A : Type 0} (n : ℕ) (xs : List A) (x : A) (later : List A) → drop n xs ≡ x ∷ later → slice_get xs n ≡ Some x
-slice_get-drop zero [] x later is = cc
-slice_get-drop zero (y ∷ xs) x later is = cc
-slice_get-drop (suc n) [] x later is = cc
-slice_get-drop (suc n) (y ∷ xs) x later is = slice_get-drop n xs x later is
-
-length-suc : {A : Type 0} (xs : List A) (x : A) → length (xs ++ x ∷ []) ≡ suc (length xs)
-length-suc [] x = refl
-length-suc (y ∷ xs) x = ap suc (length-suc xs x)
+use Rattle.hart_line.proofs.lemmas.world.Basics.{length-one_more, nothing_first, slice_get-append, slice_get-last, slice_get-set_other}
+use Rattle.hart_line.proofs.lemmas.world.Basics.{slice_get-set_same, some_one, with_master-cases}
+use Rattle.hart_line.proofs.lemmas.world.Steps.{along, by_cases}
 
 -- EVENT BY EVENT
--- The submissions of the events that are to come follow as many as there are outcomes, and each request in hand stands at its number.
+pub record IsHeld (submissions : List Submission) (outcomes : List Outcome) (id : MasterId) (held : InHand) : Type 0 where
+  pub submitted_as : slice_get submissions held.submission ≡ Some (submission_in id held)
+  pub unfinished : slice_get outcomes held.submission ≡ Some (Unfinished held.sendings)
+
+-- The submissions of the events that are to come follow as many as there are outcomes.
 pub record IsAlong (submissions : List Submission) (world : World) (later : List LineEvent) : Type 0 where
   pub to_come : drop (length world.outcomes) submissions ≡ submissions_of later
-  pub hands : (id : MasterId) (held : InHand) → of_master id world.hands ≡ Some held
-      → slice_get submissions held.submission ≡ Some (submission_in id held)
+  pub hands : (id : MasterId) (held : InHand) → of_master id world.hands ≡ Some held → IsHeld submissions world.outcomes id held
+
+drop-first : {A : Type 0} (n : ℕ) (xs : List A) (x : A) (later : List A) → drop n xs ≡ x ∷ later
+    → (slice_get xs n ≡ Some x) × (drop (suc n) xs ≡ later)
+drop-first zero [] x later is = cc
+drop-first zero (y ∷ xs) x later is = (cc, cc)
+drop-first (suc n) [] x later is = cc
+drop-first (suc n) (y ∷ xs) x later is = drop-first n xs x later is
 
 -- One outcome more takes the next submission.
 next_to_come : (submissions : List Submission) (outcomes : List Outcome) (outcome : Outcome) (submission : Submission)
     (more : List Submission)
     → drop (length outcomes) submissions ≡ submission ∷ more → drop (length (outcomes ++ outcome ∷ [])) submissions ≡ more
 next_to_come submissions outcomes outcome submission more is =
-    rw (length-suc outcomes outcome) (drop-next (length outcomes) submissions submission more is)
+    rw (length-one_more outcomes outcome, add-one) (drop-first (length outcomes) submissions submission more is).1
 
-submitted_along : (submissions : List Submission) (world : World) (who : MasterId) (address : Address) (request : Request)
-    (fault : Option MasterFault) (later : List LineEvent) → IsAlong submissions world (Submit who address request ∷ later)
-    → IsAlong submissions (submitted world who address request fault) later
-submitted_along submissions world who address request None later a =
-    let Next : MasterId → Submission = λ w. record { who = w; address = address; request = request } in record {
-      to_come = next_to_come submissions world.outcomes (Unfinished 0) (Next who) (submissions_of later) a.to_come;
-      hands = λ id held is. elim (with_master-cases id who _ world.hands held is) [
-        | inl (own, new) ↦ (
-            let same : record { submission = length world.outcomes; address = address; request = request; sendings = 0 } ≡ held = cc in
-            subst (λ (h : InHand). slice_get submissions h.submission ≡ Some (submission_in id h)) same
-            (subst (λ w. slice_get submissions (length world.outcomes) ≡ Some (Next w)) (sym own)
-            (slice_get-drop (length world.outcomes) submissions (Next who) (submissions_of later) a.to_come)))
-        | inr old ↦ a.hands id held old
-      ];
+submits_along : (submissions : List Submission) (world : World) (who : MasterId) (address : Address) (request : Request)
+    (later : List LineEvent) → IsAlong submissions world (Submit who address request ∷ later)
+    → IsAlong submissions (submitted world who address request None) later
+submits_along submissions world who address request later a = record {
+  to_come = next_to_come submissions world.outcomes (Unfinished 0) _ (submissions_of later) a.to_come;
+  hands = λ id held is. elim (with_master-cases id who _ world.hands held is) [
+    | inl (own, new) ↦ subst (IsHeld submissions (world.outcomes ++ Unfinished 0 ∷ []) id) (some_one new) (record {
+      submitted_as = rw own (drop-first (length world.outcomes) submissions _ (submissions_of later) a.to_come).0;
+      unfinished = slice_get-last world.outcomes (Unfinished 0);
+    })
+    | inr (apart, old) ↦ record {
+      submitted_as = (a.hands id held old).submitted_as;
+      unfinished = slice_get-append world.outcomes (Unfinished 0 ∷ []) held.submission _ (a.hands id held old).unfinished;
     }
-submitted_along submissions world who address request (Some fault) later a = record {
-  to_come = next_to_come submissions world.outcomes (Refused fault) (record { who = who; address = address; request = request })
-      (submissions_of later) a.to_come;
-  hands = a.hands;
+  ];
 }
 
-hand_left-submission : (who : MasterId) (held left : InHand) (outcome : Outcome) → hand_left held outcome ≡ Some left
-    → submission_in who left ≡ submission_in who held
-hand_left-submission who held left (Unfinished n) is =
-    let same : record held { sendings = n } ≡ left = cc in ap (λ (h : InHand). submission_in who h) (sym same)
-hand_left-submission who held left (Answered reply n) is = cc
-hand_left-submission who held left (NoReply n) is = cc
-hand_left-submission who held left (Refused fault) is = cc
+-- What stays in hand after a turn is unfinished, and is the same but for its sendings.
+left_unfinished : (held left : InHand) (outcome : Outcome) → hand_left held outcome ≡ Some left
+    → (outcome ≡ Unfinished left.sendings) × (record held { sendings = left.sendings } ≡ left)
+left_unfinished held left (Unfinished n) is =
+    let same : record held { sendings = n } ≡ left = some_one is in
+    let sendings : n ≡ left.sendings = ap (λ (h : InHand). h.sendings) same in
+    let Left : ℕ → Type 0 = λ s. record held { sendings = s } ≡ left in (ap Unfinished sendings, subst Left sendings same)
+left_unfinished held left (Answered reply n) is = cc
+left_unfinished held left (NoReply n) is = cc
+left_unfinished held left (Refused fault) is = cc
 
-turned_along : (submissions : List Submission) (start : Start) (world : World) (who : MasterId) (hand : Option InHand)
-    (brought : Brought) (accepted : Option Reply) (events later : List LineEvent) → of_master who world.hands ≡ hand
-    → submissions_of events ≡ submissions_of later → IsAlong submissions world events
-    → IsAlong submissions (turned start world who hand brought accepted) later
-turned_along submissions start world who None brought accepted events later in_hand same a =
-    record { to_come = a.to_come ∙ same; hands = a.hands }
-turned_along submissions start world who (Some held) brought accepted events later in_hand same a =
-    let outcome = outcome_of (of_master who start.retries) (held.sendings + 1) accepted in record {
+sends_along : (submissions : List Submission) (start : Start) (world : World) (who : MasterId) (held : InHand)
+    (brought : Brought) (accepted : Option Reply) (event : LineEvent) (later : List LineEvent) → of_master who world.hands ≡ Some held
+    → submissions_of (event ∷ later) ≡ submissions_of later → IsAlong submissions world (event ∷ later)
+    → IsAlong submissions (turned start world who (Some held) brought accepted) later
+sends_along submissions start world who held brought accepted event later in_hand same a =
+    let outcome = outcome_of (of_master who start.retries) (held.sendings + 1) accepted in
+    let own = a.hands who held in_hand in record {
       to_come = rw length-set (a.to_come ∙ same);
       hands = λ id other is. elim (with_master-cases id who (hand_left held outcome) world.hands other is) [
-        | inl (own, left) ↦ subst (λ w. slice_get submissions other.submission ≡ Some (submission_in w other)) (sym own)
-            (ap (slice_get submissions) (hand_left-number held other outcome left) ∙ a.hands who held in_hand
-            ∙ ap Some (sym (hand_left-submission who held other outcome left)))
-        | inr old ↦ a.hands id other old
+        | inl (is_own, left) ↦ (let unfinished = left_unfinished held other outcome left in
+            subst (IsHeld submissions (slice_set world.outcomes held.submission outcome) id) unfinished.1 (record {
+              submitted_as = rw is_own own.submitted_as;
+              unfinished = slice_get-set_same world.outcomes held.submission _ outcome own.unfinished ∙ ap Some unfinished.0;
+            }))
+        | inr (apart, old) ↦ (let there = a.hands id other old in record {
+          submitted_as = there.submitted_as;
+          unfinished = slice_get-set_other world.outcomes held.submission other.submission outcome
+              (λ number. apart (ap (λ (s : Submission). s.who)
+              (some_one (sym there.submitted_as ∙ ap (slice_get submissions) number ∙ own.submitted_as)))) ∙ there.unfinished;
+        })
       ];
     }
 
-pub step_along : (submissions : List Submission) (start : Start) (world : World) (event : LineEvent) (later : List LineEvent) (next : World)
-    → Step start world event next → IsAlong submissions world (event ∷ later) → IsAlong submissions next later
-step_along submissions start world (Submit who address request) later next step a =
-    rw step (submitted_along submissions world who address request (submission_fault (of_master who world.hands) address request) later a)
-step_along submissions start world (Turn who up down) later next step a =
-    rw step.next_is (turned_along submissions start world who (of_master who world.hands) step.brought step.accepted
-    (Turn who up down ∷ later) later refl refl a)
-step_along submissions start world (Protect on) later next step a = rw step (record { to_come = a.to_come; hands = a.hands })
-step_along submissions start world Restart later next step a = rw step (record { to_come = a.to_come; hands = a.hands })
-step_along submissions start world (Noise chars) later next step a = rw step.next_is (record { to_come = a.to_come; hands = a.hands })
-
-leads_along : (submissions : List Submission) (start : Start) (prefix later : List LineEvent) (from before : World)
-    → LeadsTo start from prefix before
-    → IsAlong submissions from (prefix ++ later) → IsAlong submissions before later
-leads_along submissions start [] later from before run a = rw run a
-leads_along submissions start (event ∷ prefix) later from before run a =
-    leads_along submissions start prefix later run.0 before run.2 (step_along submissions start from event (prefix ++ later) run.0 run.1 a)
-
-pub first_along : (start : Start) (events : List LineEvent) → IsAlong (submissions_of events) (first_world start) events
-first_along start events = record { to_come = refl; hands = λ id held is. nothing_first id is }
+step_along : (submissions : List Submission) (start : Start) (world : World) (event : LineEvent) (next : World)
+    → Step start world event next → (later : List LineEvent) → IsAlong submissions world (event ∷ later) → IsAlong submissions next later
+step_along submissions start world =
+    by_cases start world (λ event next. (later : List LineEvent) → IsAlong submissions world (event ∷ later)
+    → IsAlong submissions next later) (record {
+      submits = submits_along submissions world;
+      refuses = λ who address request fault later a. record {
+        to_come = next_to_come submissions world.outcomes (Refused fault) _ (submissions_of later) a.to_come;
+        hands = λ id held is. record {
+          submitted_as = (a.hands id held is).submitted_as;
+          unfinished = slice_get-append world.outcomes (Refused fault ∷ []) held.submission _ (a.hands id held is).unfinished;
+        };
+      };
+      sends = λ who up down next turn s later a. rw s.next_is
+          (sends_along submissions start world who s.held turn.brought turn.accepted (Turn who up down) later s.in_hand refl a);
+      others = λ event protected cold_start spoken same later a. record { to_come = a.to_come ∙ same later; hands = a.hands };
+    })
 
 -- IN A SCRIPT
--- In the worlds of a script each request in hand is the one that was submitted under its number, to its master and for its address.
-pub submitted_as : (start : Start) (events prefix : List LineEvent) (event : LineEvent) (suffix : List LineEvent) (before : World)
-    → events ≡ prefix ++ event ∷ suffix → LeadsTo start (first_world start) prefix before
-    → (id : MasterId) (held : InHand) → of_master id before.hands ≡ Some held
-    → slice_get (submissions_of events) held.submission ≡ Some (submission_in id held)
-submitted_as start events prefix event suffix before split led =
-    (leads_along (submissions_of events) start prefix (event ∷ suffix) (first_world start) before led
-    (subst (IsAlong (submissions_of events) (first_world start)) split (first_along start events))).hands
+pub held_in : (start : Start) (events : List LineEvent) {before next : World} {event : LineEvent}
+    → IsStepOf start (first_world start) events before event next → (id : MasterId) (held : InHand) → of_master id before.hands ≡ Some held
+    → IsHeld (submissions_of events) before.outcomes id held
+held_in start events {before = before} {event = event} here =
+    (along start (first_world start) events (IsAlong (submissions_of events))
+    (λ before next event here. step_along (submissions_of events) start before event next here.step here.suffix)
+    (record { to_come = refl; hands = λ id held is. nothing_first id is })
+    here.prefix (event ∷ here.suffix) before here.split here.led).hands
 
 -- The request of a submission stands at its number among the requests.
 pub request_there : (events : List LineEvent) (number : ℕ) (submission : Submission)
@@ -137,19 +133,18 @@ request_there events number submission there =
     slice_get-map (λ (s : Submission). s.request) (submissions_of events) number ∙ ap (option_map (λ (s : Submission). s.request)) there
 
 -- A request that was submitted is well made.
-pub made_of : (events : List LineEvent) (number : ℕ) (request : Request) → AreWellMade events
-    → slice_get (requests_of events) number ≡ Some request → IsRequest request
-made_of events number request made there =
-    rw (get_or_from_slice_get (requests_of events) number request request there) at
-    (All-get_or IsRequest (requests_of events) number request (slice_get_within (requests_of events) number request there) made)
+pub made_of : (events : List LineEvent) (number : ℕ) (submission : Submission) → AreWellMade events
+    → slice_get (submissions_of events) number ≡ Some submission → IsRequest submission.request
+made_of events number submission made there =
+    let request = request_there events number submission there in
+    rw (get_or_from_slice_get (requests_of events) number submission.request submission.request request) at
+    (All-get_or IsRequest (requests_of events) number submission.request
+    (slice_get_within (requests_of events) number submission.request request) made)
 
 requests_of-append : (prefix suffix : List LineEvent) → requests_of (prefix ++ suffix) ≡ requests_of prefix ++ requests_of suffix
 requests_of-append [] suffix = refl
 requests_of-append (Submit who address request ∷ prefix) suffix = ap (λ rs. request ∷ rs) (requests_of-append prefix suffix)
-requests_of-append (Turn who up down ∷ prefix) suffix = requests_of-append prefix suffix
-requests_of-append (Protect on ∷ prefix) suffix = requests_of-append prefix suffix
-requests_of-append (Restart ∷ prefix) suffix = requests_of-append prefix suffix
-requests_of-append (Noise chars ∷ prefix) suffix = requests_of-append prefix suffix
+requests_of-append (event ∷ prefix) suffix = requests_of-append prefix suffix
 
 -- One event more.
 pub made_more : (events : List LineEvent) (n : ℕ) (unused : LineEvent) → n < length events → AreWellMade (take n events)

@@ -2,7 +2,6 @@ use Rattle.std.proofs.Common.{List, None, refl, subst, sym}
 use Rattle.std.proofs.lemmas.Result.{err_from_is_err_and}
 use Rattle.std.specs.Option.{option_copied}
 use Rattle.hart_values.specs.EachMaster.{of_master}
-use Rattle.hart_device.proofs.lemmas.Laws.{registers_of_lists-last}
 use Rattle.hart_line.specs.line.Leg.{IsSent}
 use Rattle.hart_line.specs.world.Spoken.{AreSpoken}
 use Rattle.hart_line.specs.world.Step.{sent_by}
@@ -43,6 +42,6 @@ returns-in-Some-clause-stepped g c = λ start world process within stands.
     let r = rw (s.device_is, ← process, sent.1) at (c.in_ok-returned.ensures.returns (sent_by c.args.who hand)
     (sent_said _ _ c.args.who hand _ _ _ sends spoke)) in
     let requested = rw sent.1 at (said_by _ _ c.args.who hand _ _ _ sends spoke) in
-    rw r.after_is (turned_stands registers_of_lists-last start world c.args.who c.args.up.now c.args.down.now
+    rw r.after_is (turned_stands start world c.args.who c.args.up.now c.args.down.now
     sent.0 r.brought _ _ _ _ _ _ _ _ within sent.1 r.reaches r.returns s.spoken_are requested r.speaks
     (rw s.outcomes_are at (c.conclude.ensures.concludes start.retries world.hands sent.0 sent.3)))

@@ -1,6 +1,5 @@
 use Rattle.std.proofs.Common.{Result, Ok, Err, IfOk, refl}
 use Rattle.std.specs.Option.{option_copied}
-use Rattle.hart_frame.proofs.lemmas.Laws.{messages_have_their_frame_alone-message, messages_have_their_frame_alone-nothing}
 use Rattle.hart_device.specs.answer.Delivery.{NoMessage, OneFrame}
 use Rattle.hart_line.specs.declared.event.Heard.TheVariants.{Lost}
 use Rattle.hart_line.proofs.lemmas.line.Leg.{answers_in, clean_reaches, nothing_reaches, silence_reaches}
@@ -9,22 +8,21 @@ use Rattle.hart_line.proofs.line.leg.answer_in.Goals as goal
 pub returns-in-Some-clause-answers : goal.returns-in-Some-clause-answers
 returns-in-Some-clause-answers g c = λ said is. rw c.in-Clean.is (record {
   brought = OneFrame c.in-Some.frame.now;
-  reaches = clean_reaches messages_have_their_frame_alone-message messages_have_their_frame_alone-nothing
-      c.args.device.now.identity c.in-Some.frame.now said (rw c.in-Some.is at is);
+  reaches = clean_reaches c.args.device.now.identity c.in-Some.frame.now said (rw c.in-Some.is at is);
   answers = record { answer_is = c.answer.ensures.answer; after_is = c.answer.ensures.state };
 })
 
 pub returns-in-None-clause-answers : goal.returns-in-None-clause-answers
 returns-in-None-clause-answers g c = λ said is. rw c.in-Clean.is (record {
   brought = NoMessage;
-  reaches = silence_reaches messages_have_their_frame_alone-nothing c.args.device.now.identity said (rw c.in-None.is at is);
+  reaches = silence_reaches c.args.device.now.identity said (rw c.in-None.is at is);
   answers = record { answer_is = refl; after_is = refl };
 })
 
 pub returns-in-Lost-clause-answers : goal.returns-in-Lost-clause-answers
 returns-in-Lost-clause-answers g c = λ said is. rw c.in-Lost.is (record {
   brought = NoMessage;
-  reaches = nothing_reaches messages_have_their_frame_alone-nothing c.args.device.now.identity Lost said refl;
+  reaches = nothing_reaches c.args.device.now.identity Lost said refl;
   answers = record { answer_is = refl; after_is = refl };
 })
 

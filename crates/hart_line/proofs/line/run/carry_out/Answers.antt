@@ -1,12 +1,11 @@
 use Rattle.std.proofs.Common.{◌<◌, arith, rules, refl, subst}
 use Rattle.std.proofs.lemmas.List.{take_all}
 use Rattle.hart_line.specs.world.Promises.{AreWellMade, start_from}
-use Rattle.hart_line.proofs.lemmas.line.Reached.{fault_at, reached_first, reached_more, reached_report, reached_whole}
+use Rattle.hart_line.proofs.lemmas.line.Reached.{fault_at, of_last, reached_first, reached_more, reached_report, reached_whole}
 use Rattle.hart_line.proofs.lemmas.line.Room.{room_for_next, room_for_others}
 use Rattle.hart_line.proofs.lemmas.Laws.{scripts_have_one_last_world-no_fault, scripts_have_one_last_world-one_fault}
-use Rattle.hart_line.proofs.lemmas.Laws.{scripts_have_one_last_world-one_world, scripts_keep_their_promises-first_world}
+use Rattle.hart_line.proofs.lemmas.Laws.{scripts_keep_their_promises-first_world}
 use Rattle.hart_line.proofs.lemmas.world.Submitted.{made_more}
-use Rattle.hart_line.proofs.lemmas.line.Whole.{of_last}
 use Rattle.hart_line.proofs.line.run.carry_out.Goals as goal
 
 pub loop-index-init : goal.loop-index-init
@@ -40,7 +39,7 @@ loop-index-preserved g c =
     let start = start_from c.args.device c.args.process.now c.args.primary c.args.secondary in
     let reached = c.loop-index.invariant.reached in record {
       reached = reached_more start c.args.events.now c.loop-index.index _ _ _ c.loop-index-test.true reached
-          (rw c.index-events-index.is at (c.in_default.ensures.stepped start reached.world refl reached.sound.marks reached.stands));
+          (rw c.index-events-index.is at (c.in_default.ensures.stepped start reached.world refl reached.marks reached.stands));
       well_made = made_more c.args.events.now c.loop-index.index _ c.loop-index-test.true c.loop-index.invariant.well_made
           (rw c.index-events-index.is at c.in_default.ensures.well_made);
       room = room_for_others c.args.events.now c.loop-index.index _ _ _ c.loop-index-test.true c.loop-index.invariant.room
@@ -68,9 +67,9 @@ returns g c =
     (reached_whole _ _ _ _ (omega (arith, c.loop-index-test.false)) c.loop-index.invariant.reached) in
     record {
       world = (reached.world, reached.is_last);
-      device = of_last scripts_have_one_last_world-one_world _ reached reached.stands.device_is;
-      outcomes = of_last scripts_have_one_last_world-one_world _ reached reached.stands.outcomes_are;
-      spoken = of_last scripts_have_one_last_world-one_world _ reached reached.stands.spoken_are;
+      device = of_last _ reached reached.stands.device_is;
+      outcomes = of_last _ reached reached.stands.outcomes_are;
+      spoken = of_last _ reached reached.stands.spoken_are;
       well_made = subst AreWellMade (take_all c.loop-index.index events (omega (arith, c.loop-index-test.false)))
           c.loop-index.invariant.well_made;
       reported = λ world last. refl;

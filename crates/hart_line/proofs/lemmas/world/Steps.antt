@@ -1,0 +1,129 @@
+-- The steps of a script: what holds at its beginning and is kept by every step of it holds of every world of it.
+use Rattle.std.proofs.Common.{◌≡◌, Bool, ap, ◌∙◌, refl, subst, sym, append-nil, Option, None, Some, List, [], ◌∷◌, ◌++◌, ◌⊎◌, inl, inr}
+use Rattle.hart_values.specs.declared.address.Address.{Address}
+use Rattle.hart_values.specs.declared.each_master.EachMaster.{EachMaster}
+use Rattle.hart_values.specs.declared.master_id.MasterId.{MasterId}
+use Rattle.hart_values.specs.EachMaster.{of_master}
+use Rattle.hart_commands.specs.declared.request.Request.{Request}
+use Rattle.hart_master.specs.declared.fault.MasterFault.{MasterFault}
+use Rattle.hart_line.specs.world.Damage.{Reaches}
+use Rattle.hart_line.specs.world.Promises.{IsStepOf, submissions_of}
+use Rattle.hart_line.specs.world.Spoken.{SpokenFrame}
+use Rattle.hart_line.specs.world.Step.{Accepts, IsTurn, LeadsTo, Step, replied, sent_by, spoken_request, submission_fault, submitted}
+use Rattle.hart_line.specs.world.Step.{turned}
+use Rattle.hart_line.specs.world.World.{InHand, Start, World}
+use Rattle.hart_line.specs.declared.event.Heard.{Heard}
+use Rattle.hart_line.specs.declared.event.LineEvent.{LineEvent}
+use Rattle.hart_line.specs.declared.event.LineEvent.TheVariants.{Submit, Turn, Protect, Noise, Restart}
+use Rattle.hart_line.proofs.lemmas.world.Arrival.{frame_in, none_reaches, reaches_cases}
+
+-- ONE STEP
+-- A turn with a request in hand.
+pub record IsSending (start : Start) (world : World) (who : MasterId) (up down : Heard) (next : World)
+    (turn : IsTurn start world who up down next) : Type 0 where
+  pub held : InHand
+  pub in_hand : of_master who world.hands ≡ Some held
+  pub known : (frame_in turn.brought ≡ None) ⊎ (frame_in turn.brought ≡ Some (spoken_request who held).frame)
+  pub accepts : Accepts who (Some held) turn.returned turn.accepted
+  pub next_is : next ≡ turned start world who (Some held) turn.brought turn.accepted
+
+-- A turn without one brings the device no frame, and it replies to that alone.
+pub record IsSilent (start : Start) (world : World) (who : MasterId) (up down : Heard) (next : World)
+    (turn : IsTurn start world who up down next) : Type 0 where
+  pub none : frame_in turn.brought ≡ None
+  pub next_is : next ≡ replied start world turn.brought
+
+pub turn_cases : (start : Start) (world : World) (who : MasterId) (up down : Heard) (next : World)
+    (turn : IsTurn start world who up down next)
+    → IsSending start world who up down next turn ⊎ IsSilent start world who up down next turn
+turn_cases start world who up down next turn = by_hand (of_master who world.hands) refl turn.arrives turn.accepts turn.next_is
+  where
+    by_hand : (hand : Option InHand) → of_master who world.hands ≡ hand → Reaches start.device.identity up (sent_by who hand) turn.brought
+        → Accepts who hand turn.returned turn.accepted → next ≡ turned start world who hand turn.brought turn.accepted
+        → IsSending start world who up down next turn ⊎ IsSilent start world who up down next turn
+    by_hand None in_hand arrives accepts next_is =
+        inr (record { none = none_reaches start.device.identity up turn.brought arrives; next_is = next_is })
+    by_hand (Some held) in_hand arrives accepts next_is = inl (record {
+      held = held;
+      in_hand = in_hand;
+      known = reaches_cases start.device.identity up (Some (spoken_request who held)) turn.brought arrives;
+      accepts = accepts;
+      next_is = next_is;
+    })
+
+-- An event is a submission, a turn with a request in hand, or one that changes no more than protection, cold start bits, and what was
+-- spoken. What holds of these holds of every step.
+pub record StepCases (start : Start) (world : World) (P : LineEvent → World → Type 0) : Type 0 where
+  pub submits : (who : MasterId) (address : Address) (request : Request) → P (Submit who address request)
+      (submitted world who address request None)
+  pub refuses : (who : MasterId) (address : Address) (request : Request) (fault : MasterFault) → P (Submit who address request)
+      (submitted world who address request (Some fault))
+  pub sends : (who : MasterId) (up down : Heard) (next : World) (turn : IsTurn start world who up down next)
+      → IsSending start world who up down next turn → P (Turn who up down) next
+  pub others : (event : LineEvent) (protected : Bool) (cold_start : EachMaster Bool) (spoken : List SpokenFrame)
+      → ((later : List LineEvent) → submissions_of (event ∷ later) ≡ submissions_of later)
+      → P event (record world { protected = protected; cold_start = cold_start; spoken = spoken })
+
+pub by_cases : (start : Start) (world : World) (P : LineEvent → World → Type 0) → StepCases start world P
+    → (event : LineEvent) (next : World) → Step start world event next → P event next
+by_cases start world P cases (Submit who address request) next step = subst (P (Submit who address request)) (sym step)
+    (by_fault (submission_fault (of_master who world.hands) address request))
+  where
+    by_fault : (fault : Option MasterFault) → P (Submit who address request) (submitted world who address request fault)
+    by_fault None = cases.submits who address request
+    by_fault (Some fault) = cases.refuses who address request fault
+by_cases start world P cases (Turn who up down) next step = elim (turn_cases start world who up down next step) [
+  | inl sending ↦ cases.sends who up down next step sending
+  | inr silent ↦ subst (P (Turn who up down)) (sym silent.next_is) (cases.others (Turn who up down) _ _ _ (λ later. refl))
+]
+by_cases start world P cases (Protect on) next step = subst (P (Protect on)) (sym step) (cases.others (Protect on) _ _ _ (λ later. refl))
+by_cases start world P cases (Noise chars) next step =
+    subst (P (Noise chars)) (sym step.next_is) (cases.others (Noise chars) _ _ _ (λ later. refl))
+by_cases start world P cases Restart next step = subst (P Restart) (sym step) (cases.others Restart _ _ _ (λ later. refl))
+
+-- EVERY STEP
+-- What holds before all events and is kept by each step holds of each world of these events and of the events that are left there.
+pub along : (start : Start) (from : World) (events : List LineEvent) (P : World → List LineEvent → Type 0)
+    → ((before next : World) (event : LineEvent) (here : IsStepOf start from events before event next)
+    → P before (event ∷ here.suffix) → P next here.suffix)
+    → P from events → (prefix later : List LineEvent) (world : World) → events ≡ prefix ++ later → LeadsTo start from prefix world
+    → P world later
+along start from events P keeps holds [] later world split led =
+    subst (λ es. P world es) split (subst (λ w. P w events) (sym led) holds)
+along start from events P keeps holds (event ∷ prefix) later world split led =
+    along start led.0 (prefix ++ later) P
+    (λ before next other here. keeps before next other (record {
+      prefix = event ∷ here.prefix;
+      suffix = here.suffix;
+      split = split ∙ ap (λ es. event ∷ es) here.split;
+      led = (led.0, led.1, here.led);
+      step = here.step;
+    }))
+    (keeps from led.0 event (record { prefix = []; suffix = prefix ++ later; split = split; led = refl; step = led.1 })
+    (subst (λ es. P from es) split holds)) prefix later world refl led.2
+
+-- So it does after the last event.
+pub to_last : (start : Start) (from : World) (events : List LineEvent) (P : World → List LineEvent → Type 0)
+    → ((before next : World) (event : LineEvent) (here : IsStepOf start from events before event next)
+    → P before (event ∷ here.suffix) → P next here.suffix)
+    → P from events → (last : World) → LeadsTo start from events last → P last []
+to_last start from events P keeps holds last = along start from events P keeps holds events [] last (sym (append-nil events))
+
+-- Events that lead on lead to a world between any two of them.
+pub record IsBetween (start : Start) (from : World) (prefix suffix : List LineEvent) (last : World) : Type 0 where
+  pub world : World
+  pub before : LeadsTo start from prefix world
+  pub after : LeadsTo start world suffix last
+
+pub leads_between : (start : Start) (from : World) (prefix suffix : List LineEvent) (last : World)
+    → LeadsTo start from (prefix ++ suffix) last → IsBetween start from prefix suffix last
+leads_between start from [] suffix last run = record { world = from; before = refl; after = run }
+leads_between start from (event ∷ prefix) suffix last run =
+    let rest = leads_between start run.0 prefix suffix last run.2 in
+    record { world = rest.world; before = (run.0, run.1, rest.before); after = rest.after }
+
+-- One event more.
+pub leads_more : (start : Start) (events : List LineEvent) (event : LineEvent) (world mid next : World)
+    → LeadsTo start world events mid → Step start mid event next → LeadsTo start world (events ++ event ∷ []) next
+leads_more start [] event world mid next run step = (next, subst (λ w. Step start w event next) run step, refl)
+leads_more start (e ∷ events) event world mid next run step = (run.0, run.1, leads_more start events event run.0 mid next run.2 step)
