@@ -1,22 +1,16 @@
 //! The HART line: a device and its two masters, and what an event does to them.
-ghost use Rattle.std.specs.Prelude.{◌≡◌, ℕ, ◌+◌, ◌<◌, ◌≤◌, [], ◌∷◌, IfErr, IfOk, OnOk, Option, length};
+ghost use Rattle.std.specs.Prelude.{◌≡◌, [], ◌∷◌, IfErr, OnOk};
 ghost use Rattle.std.specs.Option.{option_copied};
-ghost use Rattle.hart_values.specs.declared.master_id.MasterId.{MasterId};
 ghost use Rattle.hart_values.specs.EachMaster.{of_master};
-ghost use Rattle.hart_values.specs.declared.each_master.EachMaster.{EachMaster};
 ghost use Rattle.hart_commands.specs.RequestData.{IsRequest};
-ghost use Rattle.hart_frame.specs.wire.Message.{IsPreambleCount};
-ghost use Rattle.hart_line.specs.line.Leg.{IsSent, IsUndetectedIn, Returns};
 ghost use Rattle.hart_line.specs.line.Room.{HasRoomFor, LeavesRoom};
-ghost use Rattle.hart_line.specs.line.Masters.{AreHeld, AreInTurn, Sends};
 ghost use Rattle.hart_line.specs.line.Line.{Stands, Stepped};
 ghost use Rattle.hart_line.specs.world.Faults.{HasUndetected};
 ghost use Rattle.hart_line.specs.world.Promises.{AreWellMade};
-ghost use Rattle.hart_line.specs.world.Spoken.{SpokenFrame, Speaks, frame_if, master_preambles, party_of, spoken_by};
+ghost use Rattle.hart_line.specs.world.Spoken.{frame_if, party_of};
 ghost use Rattle.hart_line.specs.world.Step.{submission_fault, submitted};
-ghost use Rattle.hart_line.specs.world.World.{InHand, Start, World, MarksWithin};
+ghost use Rattle.hart_line.specs.world.World.{Start, World, MarksWithin};
 ghost use Rattle.hart_line.specs.declared.event.LineEvent.TheVariants.{Noise, Submit, Turn};
-ghost use Rattle.hart_line.specs.declared.line.report.Party.TheVariants as parties;
 
 use crate::line::leg::{answer_among, answer_in, arrived_in};
 use crate::line::masters::{Masters, Submitter};
@@ -174,11 +168,15 @@ impl<S: RegisterStore> Line<S> {
             → Stands start world self.old → HasUndetected start world (Turn who up.now down.now) damage.leg) }
         ensures room { OnOk result (LeavesRoom (Turn who up.now down.now) self.old self.new) }
     {
-        let spoken = &mut self.spoken;
-        let request = speak_request(&mut self.masters, spoken, who, &mut self.request);
-        let reply = &mut self.reply;
-        let returned = returned_in(&mut self.device, spoken, up, down, request, process, reply)?;
-        match request {
+        let is_sent = self.masters.send(who, &mut self.request);
+        let sent = frame_if(is_sent, &self.request);
+        self.spoken.speak(party_of(who), MASTER_PREAMBLES, sent);
+        let is_answered = answer_in(&mut self.device, up, sent, process, &mut self.reply)?;
+        let sent_back = frame_if(is_answered, &self.reply);
+        let preambles = self.device.response_preambles();
+        self.spoken.speak(Party::Device, preambles, sent_back);
+        let returned = arrived_in(Leg::Down, down, sent_back)?;
+        match sent {
             Some(_) => self.masters.conclude(who, returned, &mut self.outcomes),
             None => self.masters.overhear(returned),
         }
@@ -196,7 +194,9 @@ impl<S: RegisterStore> Line<S> {
     {
         let reply = &mut self.reply;
         let is_answered = answer_among(&mut self.device, Leg::Noise, chars, None, process, reply)?;
-        let answer = speak_answer(&mut self.spoken, &self.device, is_answered, &self.reply);
+        let answer = frame_if(is_answered, &self.reply);
+        let preambles = self.device.response_preambles();
+        self.spoken.speak(Party::Device, preambles, answer);
         self.masters.hear_noise(chars);
         self.masters.overhear(answer);
         Ok(())
@@ -218,75 +218,6 @@ fn frame_if(is_there: bool, frame: &Frame) -> Option<&Frame>
     ensures { option_copied result ≡ frame_if is_there frame.now }
 {
     if is_there { Some(frame) } else { None }
-}
-
-/// The frame of the request in a master's hand, if there is one, written over `frame`: the master speaks it after 20 preamble bytes,
-/// and then awaits the reply.
-fn speak_request<'a>(
-    masters: &mut Masters,
-    spoken: &mut Filling<Spoken>,
-    who: MasterId,
-    frame: &'a mut Frame,
-) -> Option<&'a Frame>
-    requires { length spoken.old.items < spoken.old.room }
-    ensures sends { (retries : EachMaster ℕ) (hands : EachMaster (Option InHand)) → AreHeld retries hands masters.old
-        → Sends who (of_master who hands) (option_copied result) (AreHeld retries hands masters.new)
-        (λ sent. AreInTurn who retries hands sent masters.new) }
-    ensures speaks { Speaks (spoken_by (party_of who) master_preambles (option_copied result)) spoken.old.items spoken.new.items }
-    ensures one { length spoken.new.items ≤ length spoken.old.items + 1 }
-    ensures room { spoken.new.room ≡ spoken.old.room }
-{
-    let is_sent = masters.send(who, frame);
-    let request = frame_if(is_sent, frame);
-    spoken.speak(party_of(who), MASTER_PREAMBLES, request);
-    request
-}
-
-/// The device's answer, if there is one, which the device speaks after as many preamble bytes as its identity says.
-fn speak_answer<'a, S: RegisterStore>(
-    spoken: &mut Filling<Spoken>,
-    device: &Device<S>,
-    is_answered: bool,
-    reply: &'a Frame,
-) -> Option<&'a Frame>
-    requires { length spoken.old.items < spoken.old.room }
-    ensures answer { option_copied result ≡ frame_if is_answered reply.now }
-    ensures speaks { Speaks (spoken_by parties.Device device.now.identity.response_preambles (frame_if is_answered reply.now))
-        spoken.old.items spoken.new.items }
-    ensures preambles { IsPreambleCount device.now.identity.response_preambles }
-    ensures one { length spoken.new.items ≤ length spoken.old.items + 1 }
-    ensures room { spoken.new.room ≡ spoken.old.room }
-{
-    let answer = frame_if(is_answered, reply);
-    spoken.speak(Party::Device, device.response_preambles(), answer);
-    answer
-}
-
-/// What returns of a turn: the device hears what goes up and speaks its answer, if there is one, of which this comes down.
-///
-/// # Errors
-///
-/// The leg, if its damage is undetected.
-fn returned_in<'a, S: RegisterStore>(
-    device: &mut Device<S>,
-    spoken: &mut Filling<Spoken>,
-    up: &Heard,
-    down: &Heard,
-    request: Option<&Frame>,
-    process: &Process,
-    reply: &'a mut Frame,
-) -> Result<Option<&'a Frame>, Undetected>
-    requires { length spoken.old.items < spoken.old.room }
-    ensures returns { IfOk result (λ returned. (said : Option SpokenFrame) → IsSent (option_copied request.entry) said → Returns up.now
-        down.now said device.old process.now (option_copied returned) device.new spoken.old.items spoken.new.items) }
-    ensures undetected { IfErr result (λ damage. (said : Option SpokenFrame) → IsSent (option_copied request.entry) said
-        → IsUndetectedIn up.now down.now said device.old process.now damage.leg) }
-    ensures one { OnOk result (length spoken.new.items ≤ length spoken.old.items + 1) }
-    ensures room { OnOk result (spoken.new.room ≡ spoken.old.room) }
-{
-    let is_answered = answer_in(device, up, request, process, reply)?;
-    let answer = speak_answer(spoken, device, is_answered, reply);
-    arrived_in(Leg::Down, down, answer)
 }
 
 /// What a HART line has if no frame was written yet.

@@ -1,7 +1,6 @@
 -- The line: a device and two masters, as the code has them.
 pub mod Leg
 pub mod Masters
-pub mod Return
 pub mod Turn
 pub mod Event
 pub mod Reached

@@ -28,29 +28,39 @@ IsDetected sent [] arrived = arrived ≡ None
 IsDetected sent (found ∷ []) arrived = (sent ≡ Some found.frame) × (arrived ≡ sent)
 IsDetected sent (found ∷ other ∷ more) arrived = ⊥
 
--- What arrives in a leg whose damage is detected: a frame or nothing.
+-- What arrives among characters whose damage is detected, if this was sent: a frame or nothing.
+pub record ArrivesAmong (chars : List Character) (sent arrived : Option FrameParts) : Type 0 where
+  pub frames : List Found
+  pub are_frames : AreFrames chars 0 frames
+  pub detected : IsDetected sent frames arrived
+
+-- What they bring the device then. A frame that is brought is the one that was sent.
+pub record ReachesAmong (identity : IdentityParts) (chars : List Character) (sent : Option FrameParts) (brought : Brought) : Type 0 where
+  pub frame : Option FrameParts
+  pub arrives : ArrivesAmong chars sent frame
+  pub brings : BringsBy identity chars arrives.frames brought
+
+-- Their damage is undetected if it is not detected: some frame was heard that is not the one sent, or more than one frame was heard.
+pub record IsUndetectedAmong (chars : List Character) (sent : Option FrameParts) : Type 0 where
+  pub frames : List Found
+  pub are_frames : AreFrames chars 0 frames
+  pub not_detected : (arrived : Option FrameParts) → IsDetected sent frames arrived → ⊥
+
+-- What arrives in a leg, what it brings the device, and whether its damage is undetected, is so of the characters that are heard in it.
 pub record Arrives (heard : Heard) (sent : Option SpokenFrame) (arrived : Option FrameParts) : Type 0 where
   pub chars : List Character
   pub are_heard : AreHeard heard sent chars
-  pub frames : List Found
-  pub are_frames : AreFrames chars 0 frames
-  pub detected : IsDetected (frame_of sent) frames arrived
+  pub among : ArrivesAmong chars (frame_of sent) arrived
 
--- What a leg brings the device: its damage is detected, and the characters that are heard bring the device this. A frame that is
--- brought is then the one that was sent.
 pub record Reaches (identity : IdentityParts) (heard : Heard) (sent : Option SpokenFrame) (brought : Brought) : Type 0 where
-  pub frame : Option FrameParts
-  pub arrives : Arrives heard sent frame
-  pub brings : BringsBy identity arrives.chars arrives.frames brought
+  pub chars : List Character
+  pub are_heard : AreHeard heard sent chars
+  pub among : ReachesAmong identity chars (frame_of sent) brought
 
--- The damage of a leg is undetected if it is not detected: some frame was heard that is not the one sent, or more than one frame
--- was heard.
 pub record IsUndetected (heard : Heard) (sent : Option SpokenFrame) : Type 0 where
   pub chars : List Character
   pub are_heard : AreHeard heard sent chars
-  pub frames : List Found
-  pub are_frames : AreFrames chars 0 frames
-  pub not_detected : (arrived : Option FrameParts) → IsDetected (frame_of sent) frames arrived → ⊥
+  pub among : IsUndetectedAmong chars (frame_of sent)
 
 -- What is heard in a leg is detectable if the leg is clean or lost, or if something was sent in it and the characters that are given
 -- are marked or check damage of its message. If nothing was sent, nothing is said of given characters.

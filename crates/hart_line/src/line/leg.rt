@@ -1,9 +1,9 @@
 //! What arrives in a leg of the line, and what the device answers.
 ghost use Rattle.std.specs.Prelude.{◌≡◌, ◌↔◌, IfErr, IfOk, IsTrue, Option, Some};
 ghost use Rattle.std.specs.Option.{option_copied};
-ghost use Rattle.hart_line.specs.world.Damage.{Arrives, IsUndetected};
 ghost use Rattle.hart_device.specs.answer.Answer.{answer_of, state_after};
-ghost use Rattle.hart_line.specs.line.Leg.{AnswersAmong, AnswersIn, ArrivesAmong, IsSent, IsUndetectedAmong};
+ghost use Rattle.hart_line.specs.world.Damage.{Arrives, ArrivesAmong, IsUndetected, IsUndetectedAmong, Reaches, ReachesAmong};
+ghost use Rattle.hart_line.specs.line.Leg.{AnswersTo, IsSent};
 ghost use Rattle.hart_line.specs.world.Spoken.{SpokenFrame, frame_if};
 ghost use Rattle.hart_line.specs.declared.fault.Leg.TheVariants.{Up};
 
@@ -70,8 +70,8 @@ pub fn answer_in<S: RegisterStore>(
     process: &Process,
     reply: &mut Frame,
 ) -> Result<bool, Undetected>
-    ensures answers { IfOk result (λ is_answered. (said : Option SpokenFrame) → IsSent (option_copied sent.entry) said
-        → AnswersIn up.now said device.old process.now (frame_if is_answered reply.new) device.new) }
+    ensures answers { IfOk result (λ is_answered. (said : Option SpokenFrame) → IsSent (option_copied sent.entry) said → AnswersTo
+        (Reaches device.old.identity up.now said) device.old process.now (frame_if is_answered reply.new) device.new) }
     ensures undetected { IfErr result (λ damage. (said : Option SpokenFrame) → IsSent (option_copied sent.entry) said
         → IsUndetected up.now said) }
     ensures leg { IfErr result (λ damage. damage.leg ≡ Up) }
@@ -101,8 +101,8 @@ pub fn answer_among<S: RegisterStore>(
     process: &Process,
     reply: &mut Frame,
 ) -> Result<bool, Undetected>
-    ensures answers { IfOk result (λ is_answered. AnswersAmong chars.now (option_copied sent.entry) device.old process.now
-        (frame_if is_answered reply.new) device.new) }
+    ensures answers { IfOk result (λ is_answered. AnswersTo (ReachesAmong device.old.identity chars.now (option_copied sent.entry))
+        device.old process.now (frame_if is_answered reply.new) device.new) }
     ensures undetected { IfErr result (λ damage. IsUndetectedAmong chars.now (option_copied sent.entry)) }
     ensures leg { IfErr result (λ damage. damage.leg ≡ leg) }
 {

@@ -1,29 +1,31 @@
--- What arrives in a leg, from what the code finds in it.
-use Rattle.std.proofs.Common.{◌≡◌, ℕ, ◌≤◌, ◌∙◌, ap, sym, subst, refl, arith, length-append, Option, None, Some, List, [], ◌∷◌, ◌++◌, length}
+-- What arrives in a leg, what it brings the device, and what is spoken.
+use Rattle.std.proofs.Common.{◌≡◌, ℕ, ◌≤◌, ◌∙◌, ap, subst, refl, arith, length-append, Option, None, Some, List, [], ◌∷◌, ◌++◌, length}
 use Rattle.std.proofs.Common.{replicate}
 use Rattle.hart_frame.specs.heard.Character.{Character, faultless}
 use Rattle.hart_frame.specs.wire.FrameParts.{FrameParts}
 use Rattle.hart_frame.specs.wire.Message.{IsMessage}
 use Rattle.hart_frame.specs.declared.heard.found.Found.{Found}
+use Rattle.hart_frame.proofs.lemmas.Laws.{messages_have_their_frame_alone-message, messages_have_their_frame_alone-nothing}
 use Rattle.std.specs.Option.{MatchOption}
 use Rattle.hart_values.specs.declared.master_id.MasterId.{MasterId}
-use Rattle.hart_device.specs.answer.Delivery.{Brought, BringsBy, Garbled, NoMessage, OneFrame}
+use Rattle.hart_device.specs.answer.Delivery.{Brought, BringsBy, Garbled, NoMessage, OneFrame, answer_to, state_after_delivery}
 use Rattle.hart_device.specs.Device.{DeviceState}
 use Rattle.hart_device.specs.answer.Garbled.{HasGarbled, garbled_reply}
 use Rattle.hart_device.specs.declared.answer.garbled.GarbledRequest.{GarbledRequest}
 use Rattle.hart_device.specs.declared.identity_parts.IdentityParts.{IdentityParts}
 use Rattle.hart_device.specs.declared.process.Process.{Process}
-use Rattle.hart_line.specs.world.Damage.{AreHeard, Arrives, IsDetected, Reaches}
-use Rattle.hart_line.specs.line.Leg.{AnswersAmong, AnswersIn, ArrivesAmong, IsSent, ReachesAmong}
+use Rattle.hart_line.specs.world.Damage.{AreHeard, Arrives, ArrivesAmong, IsDetected, Reaches, ReachesAmong}
+use Rattle.hart_line.specs.line.Leg.{AnswersTo, IsSent, IsSpeakable}
 use Rattle.hart_line.specs.line.Masters.{Sends}
 use Rattle.hart_line.specs.world.Spoken.{SpokenFrame, Speaks, frame_of, master_preambles, party_of, spoken_by}
-use Rattle.hart_line.specs.world.Step.{sent_by, spoken_request}
-use Rattle.hart_line.specs.world.World.{InHand}
+use Rattle.hart_line.specs.world.Step.{sent_back, sent_by}
+use Rattle.hart_line.specs.world.World.{InHand, Start, World, state_of}
 use Rattle.hart_line.specs.declared.event.Heard.{Heard}
-use Rattle.hart_line.specs.declared.event.Heard.TheVariants.{Chars, Clean}
+use Rattle.hart_line.specs.declared.event.Heard.TheVariants.{Clean}
 use Rattle.hart_line.specs.declared.line.report.Party.{Party}
+use Rattle.hart_line.specs.declared.line.report.Party.TheVariants as parties
 use Rattle.hart_line.specs.declared.line.report.Spoken.{Spoken}
-use Rattle.hart_frame.proofs.lemmas.Laws.{messages_have_their_frame_alone-message, messages_have_their_frame_alone-nothing}
+use Rattle.hart_line.proofs.lemmas.world.Arrival.{delivery_identity}
 use Rattle.hart_line.proofs.lemmas.world.Basics.{some_one}
 
 -- WHAT CHARACTERS BRING
@@ -59,117 +61,101 @@ IsReply identity chars answer = MatchOption answer ((request : GarbledRequest) �
 
 pub answered_among : (chars : List Character) (sent : Option FrameParts) (device : DeviceState) (process : Process)
     (answer : Option FrameParts) → ArrivesAmong chars sent None → IsReply device.identity chars answer
-    → AnswersAmong chars sent device process answer device
+    → AnswersTo (ReachesAmong device.identity chars sent) device process answer device
 answered_among chars sent device process None a none = record {
   brought = NoMessage;
-  reaches = among_none device.identity chars sent NoMessage a none;
-  answers = record { answer_is = refl; after_is = refl };
+  is_brought = among_none device.identity chars sent NoMessage a none;
+  answer_is = refl;
+  after_is = refl;
 }
 answered_among chars sent device process (Some reply) a is = record {
   brought = Garbled is.0;
-  reaches = among_none device.identity chars sent (Garbled is.0) a is.1;
-  answers = record { answer_is = ap Some is.2; after_is = refl };
+  is_brought = among_none device.identity chars sent (Garbled is.0) a is.1;
+  answer_is = ap Some is.2;
+  after_is = refl;
 }
 
--- In no characters there is no garbled request.
+-- WHAT A LEG BRINGS
+-- In no characters there is no garbled request, so they bring nothing.
 nothing_garbled : (identity : IdentityParts) (request : GarbledRequest) → HasGarbled identity [] request → ⊥
 nothing_garbled identity request has =
     let start = has.first_start.start in
     let all = ap length start.split ∙ length-append (start.prefix ++ faultless (255 ∷ 255 ∷ [])) (start.first ∷ start.rest) in
     omega (arith, all)
 
+pub nothing_arrives : (sent : Option FrameParts) → ArrivesAmong [] sent None
+nothing_arrives sent = record { frames = []; are_frames = messages_have_their_frame_alone-nothing; detected = refl }
+
 pub nothing_reaches : (identity : IdentityParts) (heard : Heard) (said : Option SpokenFrame) → AreHeard heard said []
     → Reaches identity heard said NoMessage
+unfolding nothing_arrives
 nothing_reaches identity heard said are = record {
-  frame = None;
-  arrives = record { chars = []; are_heard = are; frames = []; are_frames = messages_have_their_frame_alone-nothing; detected = refl };
-  brings = nothing_garbled identity;
+  chars = [];
+  are_heard = are;
+  among = record { frame = None; arrives = nothing_arrives (frame_of said); brings = nothing_garbled identity };
 }
 
--- A MESSAGE
-pub clean_arrives : (sent : Option FrameParts) (said : Option SpokenFrame) → IsSent sent said
-    → Arrives Clean said sent
-clean_arrives None None is =
-    record { chars = []; are_heard = refl; frames = []; are_frames = messages_have_their_frame_alone-nothing; detected = refl }
-clean_arrives None (Some said) is = cc
-clean_arrives (Some frame) None is = absurd is
-clean_arrives (Some frame) (Some said) is =
-    let bytes = replicate said.preambles 255 ++ is.body in
-    let is_message : IsMessage said.frame said.preambles bytes = record { body = is.body; is_body = is.is_body; parts = refl } in
+-- With nothing sent a clean leg brings nothing.
+pub silence_reaches : (identity : IdentityParts) (said : Option SpokenFrame) → IsSent None said → Reaches identity Clean said NoMessage
+silence_reaches identity None is = nothing_reaches identity Clean None refl
+silence_reaches identity (Some said) is = let none = is.frame in cc
+
+-- Otherwise the frame that was sent arrives in it, and is brought.
+message_arrives : (said : SpokenFrame) → IsSpeakable (Some said) → Arrives Clean (Some said) (Some said.frame)
+message_arrives said is =
+    let bytes = replicate said.preambles 255 ++ is.1 in
+    let is_message : IsMessage said.frame said.preambles bytes = record { body = is.1; is_body = is.2; parts = refl } in
     record {
       chars = faultless bytes;
       are_heard = (bytes, is_message, refl);
-      frames = record { start = said.preambles; stop = length bytes; frame = said.frame } ∷ [];
-      are_frames = messages_have_their_frame_alone-message said.frame said.preambles bytes is.preambles is_message;
-      detected = (refl, ap Some (sym is.same));
+      among = record {
+        frames = record { start = said.preambles; stop = length bytes; frame = said.frame } ∷ [];
+        are_frames = messages_have_their_frame_alone-message said.frame said.preambles bytes is.0 is_message;
+        detected = (refl, refl);
+      };
     }
+
+pub clean_arrives : (sent : Option FrameParts) (said : Option SpokenFrame) → IsSent sent said → Arrives Clean said sent
+clean_arrives sent None is = rw (← is.frame) (record { chars = []; are_heard = refl; among = nothing_arrives None })
+clean_arrives sent (Some said) is = rw (← is.frame) (message_arrives said is.speakable)
 
 pub clean_reaches : (identity : IdentityParts) (frame : FrameParts) (said : Option SpokenFrame)
     → IsSent (Some frame) said → Reaches identity Clean said (OneFrame frame)
-unfolding clean_arrives
-clean_reaches identity frame None is = absurd is
-clean_reaches identity frame (Some said) is = record {
-  frame = Some frame;
-  arrives = clean_arrives (Some frame) (Some said) is;
-  brings = ap OneFrame (sym is.same);
-}
-
--- What was spoken was sent.
-pub request_sent : (frame : FrameParts) (said : SpokenFrame) (old new : List Spoken) → frame ≡ said.frame → 2 ≤ said.preambles
-    → Speaks (Some said) old new → IsSent (Some frame) (Some said)
-request_sent frame said old new same enough speaks =
-    record { same = sym same; preambles = enough; body = speaks.0.bytes; is_body = speaks.1.body }
-
-pub reply_sent : (party : Party) (preambles : ℕ) (sent frame : Option FrameParts) (old new : List Spoken) → sent ≡ frame → 2 ≤ preambles
-    → Speaks (spoken_by party preambles frame) old new → IsSent sent (spoken_by party preambles frame)
-reply_sent party preambles sent None old new same enough speaks = rw same refl
-reply_sent party preambles sent (Some frame) old new same enough speaks =
-    rw same (request_sent frame (record { party = party; preambles = preambles; frame = frame }) old new refl enough speaks)
-
--- WHAT A LEG BRINGS
--- With nothing sent a clean leg brings nothing.
-pub silence_reaches : (identity : IdentityParts) (said : Option SpokenFrame) → IsSent None said
-    → Reaches identity Clean said NoMessage
-silence_reaches identity said is = rw is (nothing_reaches identity Clean None refl)
-
-sent_frame : (sent : Option FrameParts) (said : Option SpokenFrame) → IsSent sent said → frame_of said ≡ sent
-sent_frame None said is = ap frame_of is
-sent_frame (Some frame) None is = absurd is
-sent_frame (Some frame) (Some said) is = ap Some is.same
-
--- What characters bring, the leg in which they are heard brings.
-pub reaches_in : (identity : IdentityParts) (chars : List Character) (sent : Option FrameParts) (said : Option SpokenFrame)
-    (brought : Brought) → IsSent sent said → ReachesAmong identity chars sent brought → Reaches identity (Chars chars) said brought
-reaches_in identity chars sent said brought is r =
-    let Detected : Option FrameParts → Type 0 = λ f. IsDetected f r.arrives.frames r.frame in
+clean_reaches identity frame None is = let none = is.frame in cc
+clean_reaches identity frame (Some said) is =
+    let a = message_arrives said is.speakable in
+    let same : Some said.frame ≡ Some frame = is.frame in
     record {
-      frame = r.frame;
-      arrives = record {
-        chars = chars;
-        are_heard = refl;
-        frames = r.arrives.frames;
-        are_frames = r.arrives.are_frames;
-        detected = subst Detected (sym (sent_frame sent said is)) r.arrives.detected;
-      };
-      brings = r.brings;
+      chars = a.chars;
+      are_heard = a.are_heard;
+      among = among_frame identity a.chars (Some said.frame) frame (subst (ArrivesAmong a.chars (Some said.frame)) same a.among);
     }
 
-pub answers_in : (chars : List Character) (sent : Option FrameParts) (said : Option SpokenFrame) (device : DeviceState) (process : Process)
-    (answer : Option FrameParts) (after : DeviceState) → IsSent sent said → AnswersAmong chars sent device process answer after
-    → AnswersIn (Chars chars) said device process answer after
-answers_in chars sent said device process answer after is a =
-    record { brought = a.brought; reaches = reaches_in device.identity chars sent said a.brought is a.reaches; answers = a.answers }
+-- WHAT IS SPOKEN
+-- What is spoken after enough preamble bytes was sent.
+pub speaks_sent : (party : Party) (preambles : ℕ) (sent : Option FrameParts) (old new : List Spoken) → 2 ≤ preambles
+    → Speaks (spoken_by party preambles sent) old new → IsSent sent (spoken_by party preambles sent)
+speaks_sent party preambles None old new enough speaks = record { frame = refl; speakable = tt }
+speaks_sent party preambles (Some frame) old new enough speaks =
+    record { frame = refl; speakable = (enough, speaks.0.bytes, speaks.1.body) }
 
--- What a master sends in its turn is spoken, and was sent.
-pub said_by : (Silent : Type 0) (Sent : InHand → Type 0) (who : MasterId) (hand : Option InHand) (frame : Option FrameParts)
-    (old new : List Spoken) → Sends who hand frame Silent Sent → Speaks (spoken_by (party_of who) master_preambles frame) old new
-    → Speaks (sent_by who hand) old new
-said_by Silent Sent who hand None old new sends speaks = rw sends.0 speaks
-said_by Silent Sent who hand (Some frame) old new sends speaks = rw (sends.1, ← sends.2) speaks
+-- A master speaks what it sends in its turn.
+said_by : (Silent : Type 0) (Sent : InHand → Type 0) (who : MasterId) (hand : Option InHand) (frame : Option FrameParts)
+    → Sends who hand frame Silent Sent → spoken_by (party_of who) master_preambles frame ≡ sent_by who hand
+said_by Silent Sent who hand None sends = rw sends.0 refl
+said_by Silent Sent who hand (Some frame) sends = rw (sends.1, sends.2) refl
 
-pub sent_said : (Silent : Type 0) (Sent : InHand → Type 0) (who : MasterId) (hand : Option InHand) (frame : Option FrameParts)
+pub says_request : (Silent : Type 0) (Sent : InHand → Type 0) (who : MasterId) (hand : Option InHand) (frame : Option FrameParts)
     (old new : List Spoken) → Sends who hand frame Silent Sent → Speaks (spoken_by (party_of who) master_preambles frame) old new
-    → IsSent frame (sent_by who hand)
-sent_said Silent Sent who hand None old new sends speaks = rw sends.0 refl
-sent_said Silent Sent who hand (Some frame) old new sends speaks =
-    rw sends.1 (request_sent frame (spoken_request who sends.0) old new sends.2 (omega arith) (rw (← sends.2) speaks))
+    → Speaks (sent_by who hand) old new × IsSent frame (sent_by who hand)
+says_request Silent Sent who hand frame old new sends speaks =
+    let said = said_by Silent Sent who hand frame sends in
+    (rw said at speaks, rw said at (speaks_sent (party_of who) master_preambles frame old new (omega arith) speaks))
+
+-- The device speaks its answer to what it was brought.
+pub said_back : (start : Start) (world : World) (brought : Brought) (answer : Option FrameParts) (after : DeviceState)
+    → answer ≡ answer_to (state_of start.device world) start.process brought
+    → after ≡ state_after_delivery (state_of start.device world) brought
+    → spoken_by parties.Device after.identity.response_preambles answer ≡ sent_back start world brought
+said_back start world brought answer after answer_is after_is =
+    rw (after_is, delivery_identity (state_of start.device world) brought, answer_is) refl

@@ -1,6 +1,6 @@
 -- A turn of the line is a turn of the world.
-use Rattle.std.proofs.Common.{◌≡◌, ◌==◌, ◌&&◌, Bool, true, false, if◌then◌else◌, ℕ, ap, ◌∙◌, refl, Option, None, Some, List, [], ◌∷◌, ◌++◌}
-use Rattle.std.proofs.Common.{◌⊎◌, inl, inr, append_assoc}
+use Rattle.std.proofs.Common.{◌≡◌, ◌==◌, ◌&&◌, Bool, true, false, if◌then◌else◌, ap, ◌∙◌, refl, Option, None, Some, List, ◌++◌}
+use Rattle.std.proofs.Common.{◌⊎◌, inl, inr, append_assoc, arith}
 use Rattle.std.specs.Option.{option_to_list}
 use Rattle.hart_values.specs.declared.master_id.MasterId.{MasterId}
 use Rattle.hart_frame.specs.wire.FrameParts.{FrameParts}
@@ -9,78 +9,60 @@ use Rattle.hart_device.specs.answer.Answer.{asked_effect, code_of, is_answered, 
 use Rattle.hart_device.specs.Device.{DeviceState, Effect, Executes, Nothing, Resets, after, after_reply}
 use Rattle.hart_device.specs.answer.Delivery.{Brought, Garbled, NoMessage, OneFrame, state_after_delivery}
 use Rattle.hart_line.specs.world.Damage.{Arrives, Reaches}
-use Rattle.hart_line.specs.line.Leg.{Returns}
-use Rattle.hart_line.specs.line.Line.{Stands, Stepped}
+use Rattle.hart_frame.specs.wire.Message.{IsPreambleCount}
+use Rattle.hart_line.specs.line.Leg.{AnswersTo, IsSent}
+use Rattle.hart_line.specs.line.Line.{LineState, Stands, Stepped}
 use Rattle.hart_line.specs.line.Masters.{AreHeld, Concludes}
-use Rattle.hart_line.specs.world.Spoken.{AreSpoken, Speaks}
-use Rattle.hart_line.specs.world.Step.{Step, cold_start_after, effect_on, replied, spoken_request, sent_back, turned}
+use Rattle.hart_line.specs.world.Spoken.{AreSpoken, SpokenFrame, Speaks, spoken_by}
+use Rattle.hart_line.specs.world.Step.{cold_start_after, effect_on, replied, spoken_request, sent_back, sent_by, turned}
 use Rattle.hart_line.specs.world.World.{InHand, Start, World, state_of, MarksWithin}
 use Rattle.hart_line.specs.declared.event.Heard.{Heard}
 use Rattle.hart_line.specs.declared.event.LineEvent.TheVariants.{Turn}
-use Rattle.hart_line.specs.declared.line.masters.Masters.{Masters}
-use Rattle.hart_line.specs.declared.line.report.Outcome.{Outcome}
+use Rattle.hart_line.specs.declared.line.report.Party.TheVariants as parties
 use Rattle.hart_line.specs.declared.line.report.Spoken.{Spoken}
+use Rattle.hart_line.proofs.lemmas.line.Leg.{said_back, speaks_sent}
 use Rattle.hart_line.proofs.lemmas.world.Arrival.{AreSpoken-more, frame_in, left_alone, none_reaches, reaches_cases}
 use Rattle.hart_line.proofs.lemmas.world.Basics.{some_one}
 use Rattle.hart_line.proofs.lemmas.world.State.{state-after}
 
--- With nothing in hand, as in noise, the line stands for the world in which the device has replied to what it was brought.
-pub replied_stands : (start : Start) (world : World) (heard : Heard) (brought : Brought) (device : DeviceState) (masters : Masters)
-    (outcomes : List Outcome) (spoken spoken' : List Spoken) (outcomes_room spoken_room : ℕ)
-    → device ≡ state_after_delivery (state_of start.device world) brought → Reaches start.device.identity heard None brought
-    → AreHeld start.retries world.hands masters → outcomes ≡ world.outcomes
-    → AreSpoken world.spoken spoken → Speaks (sent_back start world brought) spoken spoken'
-    → Stands start (replied start world brought) (record {
-      device = device;
-      masters = masters;
-      outcomes = outcomes;
-      spoken = spoken';
-      outcomes_room = outcomes_room;
-      spoken_room = spoken_room;
-    })
-replied_stands start world heard brought device masters outcomes spoken spoken' outcomes_room spoken_room is reaches held same are
-    speaks = record {
-      device_is = is ∙ left_alone (state_of start.device world) brought (none_reaches start.device.identity heard brought reaches);
-      masters_are = held;
-      outcomes_are = same;
-      spoken_are = AreSpoken-more world.spoken (sent_back start world brought) spoken spoken' are speaks;
-    }
+-- What the device answered to what this leg brought it was spoken after what was said in it.
+pub record IsAnswered (start : Start) (world : World) (heard : Heard) (said : Option SpokenFrame) (answer : Option FrameParts)
+    (after : DeviceState) (spoken : List Spoken) : Type 0 where
+  pub brought : Brought
+  pub arrives : Reaches start.device.identity heard said brought
+  pub after_is : after ≡ state_after_delivery (state_of start.device world) brought
+  pub was_sent : IsSent answer (sent_back start world brought)
+  pub spoken_are : AreSpoken (world.spoken ++ (option_to_list said ++ option_to_list (sent_back start world brought))) spoken
 
--- With nothing in hand a turn is such a reply.
-pub silent_step : (start : Start) (world : World) (who : MasterId) (up down : Heard) (brought : Brought) (returned : Option FrameParts)
-    → of_master who world.hands ≡ None → Reaches start.device.identity up None brought
-    → Arrives down (sent_back start world brought) returned → Step start world (Turn who up down) (replied start world brought)
-silent_step start world who up down brought returned in_hand reaches returns = record {
-  brought = brought;
-  arrives = rw in_hand reaches;
-  returned = returned;
-  returns = returns;
-  accepted = None;
-  accepts = rw in_hand refl;
-  next_is = rw in_hand refl;
-}
-
--- With nothing in hand the line stands for the world that the turn leads to.
-pub silent_turn : (start : Start) (world : World) (who : MasterId) (up down : Heard) (returned : Option FrameParts) (device : DeviceState)
-    (masters : Masters) (outcomes : List Outcome) (spoken spoken' : List Spoken) (outcomes_room spoken_room : ℕ)
-    → of_master who world.hands ≡ None
-    → Returns up down None (state_of start.device world) start.process returned device spoken spoken'
-    → AreHeld start.retries world.hands masters → outcomes ≡ world.outcomes → AreSpoken world.spoken spoken
-    → Stepped start world (Turn who up down) (record {
-      device = device;
-      masters = masters;
-      outcomes = outcomes;
-      spoken = spoken';
-      outcomes_room = outcomes_room;
-      spoken_room = spoken_room;
-    })
-silent_turn start world who up down returned device masters outcomes spoken spoken' outcomes_room spoken_room in_hand r held same are =
+pub answered : (start : Start) (world : World) (heard : Heard) (said : Option SpokenFrame) (answer : Option FrameParts)
+    (after : DeviceState) (old mid new : List Spoken) → AreSpoken world.spoken old → Speaks said old mid
+    → AnswersTo (Reaches start.device.identity heard said) (state_of start.device world) start.process answer after
+    → IsPreambleCount after.identity.response_preambles
+    → Speaks (spoken_by parties.Device after.identity.response_preambles answer) mid new
+    → IsAnswered start world heard said answer after new
+answered start world heard said answer after old mid new are says a count replies =
+    let back = said_back start world a.brought answer after a.answer_is a.after_is in
     record {
-      next = replied start world r.brought;
-      step = silent_step start world who up down r.brought returned in_hand r.reaches r.returns;
-      stands = replied_stands start world up r.brought device masters outcomes spoken spoken' outcomes_room spoken_room r.after_is
-          r.reaches held same are r.speaks;
+      brought = a.brought;
+      arrives = a.is_brought;
+      after_is = a.after_is;
+      was_sent = rw back at (speaks_sent parties.Device after.identity.response_preambles answer mid new (omega (arith, count.0)) replies);
+      spoken_are = rw (← append_assoc world.spoken (option_to_list said) (option_to_list (sent_back start world a.brought)))
+          (AreSpoken-more (world.spoken ++ option_to_list said) (sent_back start world a.brought) mid new
+          (AreSpoken-more world.spoken said old mid are says) (rw back at replies));
     }
+
+-- If nothing was said, as in noise, the line stands for the world in which the device has replied to what it was brought.
+pub replied_stands : (start : Start) (world : World) (heard : Heard) (answer : Option FrameParts) (line : LineState)
+    → (a : IsAnswered start world heard None answer line.device line.spoken) → AreHeld start.retries world.hands line.masters
+    → line.outcomes ≡ world.outcomes → Stands start (replied start world a.brought) line
+replied_stands start world heard answer line a held same = record {
+  device_is = a.after_is
+      ∙ left_alone (state_of start.device world) a.brought (none_reaches start.device.identity heard a.brought a.arrives);
+  masters_are = held;
+  outcomes_are = same;
+  spoken_are = a.spoken_are;
+}
 
 -- What an answer leaves is what its command leaves, but for the cold start bit of its master; silence leaves all.
 reply_leaves : (id : MasterId) (effect : Effect) (state : DeviceState)
@@ -108,46 +90,51 @@ state_after-effect state id held (OneFrame frame) (inr is) =
     let master : frame.master ≡ id = ap (λ (f : FrameParts). f.master) (some_one is) in
     rw (← master) (answer_leaves (is_answered state frame) (code_of state frame == 0) (asked_effect (reading_of frame)) frame.master state)
 
--- With a request in hand that is sent, the line stands for the world that the turn leads to.
-pub turned_stands : (start : Start) (world : World) (who : MasterId) (up down : Heard) (held : InHand)
-    (brought : Brought) (returned : Option FrameParts) (masters : Masters) (outcomes : List Outcome) (spoken mid spoken' : List Spoken)
-    (outcomes_room spoken_room : ℕ)
-    → MarksWithin world → of_master who world.hands ≡ Some held
-    → Reaches start.device.identity up (Some (spoken_request who held)) brought → Arrives down (sent_back start world brought) returned
-    → AreSpoken world.spoken spoken → Speaks (Some (spoken_request who held)) spoken mid
-    → Speaks (sent_back start world brought) mid spoken'
-    → Concludes who (of_master who start.retries) held returned world.outcomes outcomes
-    (λ left. AreHeld start.retries (with_master who left world.hands) masters)
-    → Stepped start world (Turn who up down) (record {
-      device = state_after_delivery (state_of start.device world) brought;
-      masters = masters;
-      outcomes = outcomes;
-      spoken = spoken';
-      outcomes_room = outcomes_room;
-      spoken_room = spoken_room;
-    })
-turned_stands start world who up down held brought returned masters outcomes spoken mid spoken' outcomes_room spoken_room within
-    in_hand arrives returns are requested replied concludes =
-    let next = turned start world who (Some held) brought concludes.accepted in record {
+-- The masters end a turn: with a request in hand it is concluded, and otherwise nothing changes.
+abbrev pub Ends : Start → World → MasterId → Option InHand → Option FrameParts → LineState → Type 0
+Ends start world who None returned line = AreHeld start.retries world.hands line.masters × (line.outcomes ≡ world.outcomes)
+Ends start world who (Some held) returned line =
+    Concludes who (of_master who start.retries) held returned world.outcomes line.outcomes
+    (λ left. AreHeld start.retries (with_master who left world.hands) line.masters)
+
+-- The line stands for the world that the turn leads to.
+pub turn_stands : (start : Start) (world : World) (who : MasterId) (up down : Heard) (hand : Option InHand)
+    (answer returned : Option FrameParts) (line : LineState) → MarksWithin world → of_master who world.hands ≡ hand
+    → (a : IsAnswered start world up (sent_by who hand) answer line.device line.spoken)
+    → ((said : Option SpokenFrame) → IsSent answer said → Arrives down said returned)
+    → Ends start world who hand returned line → Stepped start world (Turn who up down) line
+turn_stands start world who up down None answer returned line within in_hand a returns ends = record {
+  next = replied start world a.brought;
+  step = record {
+    brought = a.brought;
+    arrives = rw in_hand a.arrives;
+    returned = returned;
+    returns = returns (sent_back start world a.brought) a.was_sent;
+    accepted = None;
+    accepts = rw in_hand refl;
+    next_is = rw in_hand refl;
+  };
+  stands = replied_stands start world up answer line a ends.0 ends.1;
+}
+turn_stands start world who up down (Some held) answer returned line within in_hand a returns ends =
+    let next = turned start world who (Some held) a.brought ends.accepted in record {
       next = next;
       step = record {
-        brought = brought;
-        arrives = rw in_hand arrives;
+        brought = a.brought;
+        arrives = rw in_hand a.arrives;
         returned = returned;
-        returns = returns;
-        accepted = concludes.accepted;
-        accepts = rw in_hand concludes.accepts;
+        returns = returns (sent_back start world a.brought) a.was_sent;
+        accepted = ends.accepted;
+        accepts = rw in_hand ends.accepts;
         next_is = rw in_hand refl;
       };
       stands = record {
-        device_is = state_after-effect (state_of start.device world) who held brought
-            (reaches_cases start.device.identity up (Some (spoken_request who held)) brought arrives)
-            ∙ state-after start.device world next who held.submission (effect_on (state_of start.device world) brought)
+        device_is = a.after_is ∙ state_after-effect (state_of start.device world) who held a.brought
+            (reaches_cases start.device.identity up (Some (spoken_request who held)) a.brought a.arrives)
+            ∙ state-after start.device world next who held.submission (effect_on (state_of start.device world) a.brought)
             within refl refl refl;
-        masters_are = concludes.left;
-        outcomes_are = concludes.outcomes_are;
-        spoken_are = rw (append_assoc world.spoken (spoken_request who held ∷ []) (option_to_list (sent_back start world brought))) at
-            (AreSpoken-more (world.spoken ++ spoken_request who held ∷ []) (sent_back start world brought) mid spoken'
-            (AreSpoken-more world.spoken (Some (spoken_request who held)) spoken mid are requested) replied);
+        masters_are = ends.left;
+        outcomes_are = ends.outcomes_are;
+        spoken_are = a.spoken_are;
       };
     }

@@ -25,7 +25,7 @@ IsDetected-cases sent (found ∷ other ∷ more) arrived detected = absurd detec
 
 pub arrives_cases : (heard : Heard) (sent : Option SpokenFrame) (arrived : Option FrameParts) → Arrives heard sent arrived
     → (arrived ≡ None) ⊎ (arrived ≡ frame_of sent)
-arrives_cases heard sent arrived a = IsDetected-cases (frame_of sent) a.frames arrived a.detected
+arrives_cases heard sent arrived a = IsDetected-cases (frame_of sent) a.among.frames arrived a.among.detected
 
 -- A frame that is brought to the device is the one that was sent.
 abbrev pub frame_in : Brought → Option FrameParts
@@ -45,7 +45,7 @@ BringsBy-cases identity chars sent (found ∷ other ∷ more) arrived brought de
 pub reaches_cases : (identity : IdentityParts) (heard : Heard) (sent : Option SpokenFrame) (brought : Brought)
     → Reaches identity heard sent brought → (frame_in brought ≡ None) ⊎ (frame_in brought ≡ frame_of sent)
 reaches_cases identity heard sent brought r =
-    BringsBy-cases identity r.arrives.chars (frame_of sent) r.arrives.frames r.frame brought r.arrives.detected r.brings
+    BringsBy-cases identity r.chars (frame_of sent) r.among.arrives.frames r.among.frame brought r.among.arrives.detected r.among.brings
 
 -- So none is if nothing was sent.
 pub none_reaches : (identity : IdentityParts) (heard : Heard) (brought : Brought) → Reaches identity heard None brought

@@ -43,8 +43,8 @@ IsLong (Some said) = 2 ≤ said.preambles
 not_undetected : {heard : Heard} {sent : Option SpokenFrame} (chars : List Character) (frames : List Found) (arrived : Option FrameParts)
     → (u : IsUndetected heard sent) → u.chars ≡ chars → AreFrames chars 0 frames → IsDetected (frame_of sent) frames arrived → ⊥
 not_undetected {sent = sent} chars frames arrived u is are detected =
-    let same = frames_are_unambiguous-one_list chars 0 frames u.frames are (rw is at u.are_frames) in
-    u.not_detected arrived (subst (λ fs. IsDetected (frame_of sent) fs arrived) same detected)
+    let same = frames_are_unambiguous-one_list chars 0 frames u.among.frames are (rw is at u.among.are_frames) in
+    u.among.not_detected arrived (subst (λ fs. IsDetected (frame_of sent) fs arrived) same detected)
 
 heard_detected : (heard : Heard) (sent : Option SpokenFrame) → IsLong sent → IsDetectable heard sent → IsUndetected heard sent → ⊥
 heard_detected Clean None long d u = not_undetected [] [] None u u.are_heard messages_have_their_frame_alone-nothing refl
@@ -110,9 +110,9 @@ reaches_one : (identity : IdentityParts) (heard : Heard) (sent : Option SpokenFr
     → Arrives heard sent brought → (brought : Brought) × Reaches identity heard sent brought
 reaches_one identity heard sent brought a =
     let b = deliveries_bring_one-brings identity a.chars in
-    let same = frames_are_unambiguous-one_list a.chars 0 b.1.frames a.frames b.1.are_frames a.are_frames in
+    let same = frames_are_unambiguous-one_list a.chars 0 b.1.frames a.among.frames b.1.are_frames a.among.are_frames in
     let brings = subst (λ fs. BringsBy identity a.chars fs b.0) same b.1.by_frames in
-    (b.0, record { frame = brought; arrives = a; brings = brings })
+    (b.0, record { chars = a.chars; are_heard = a.are_heard; among = record { frame = brought; arrives = a.among; brings = brings } })
 
 step_exists : (start : Start) (world : World) (event : LineEvent) → LegsAreDetected start world event
     → (next : World) × Step start world event next

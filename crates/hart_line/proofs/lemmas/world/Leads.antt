@@ -8,7 +8,6 @@ use Rattle.std.proofs.lemmas.Option.{slice_get_within}
 use Rattle.hart_values.specs.declared.master_id.MasterId.{MasterId}
 use Rattle.hart_frame.specs.heard.Character.{Character}
 use Rattle.hart_frame.specs.wire.FrameParts.{FrameParts}
-use Rattle.hart_frame.specs.heard.Frames.{AreFrames}
 use Rattle.hart_frame.specs.declared.heard.found.Found.{Found}
 use Rattle.hart_frame.proofs.lemmas.Laws.{bodies_are_unambiguous-one_body, frames_are_unambiguous-one_list}
 use Rattle.hart_values.specs.EachMaster.{of_master}
@@ -17,7 +16,7 @@ use Rattle.hart_device.specs.answer.Delivery.{Brings, Brought}
 use Rattle.hart_device.specs.declared.identity_parts.IdentityParts.{IdentityParts}
 use Rattle.hart_device.proofs.lemmas.Laws.{deliveries_bring_one-one}
 use Rattle.hart_master.proofs.lemmas.Laws.{replies_are_decided-one_reply}
-use Rattle.hart_line.specs.world.Damage.{AreHeard, Arrives, IsDetected, IsUndetected, Reaches}
+use Rattle.hart_line.specs.world.Damage.{AreHeard, Arrives, IsDetected, IsUndetected, Reaches, ReachesAmong}
 use Rattle.hart_line.specs.world.Spoken.{SpokenFrame, frame_of}
 use Rattle.hart_line.specs.world.Step.{Accepts, IsLast, IsTurn, LeadsTo, Step, replied, sent_back, sent_by}
 use Rattle.hart_line.specs.world.Step.{turned}
@@ -49,34 +48,39 @@ IsDetected-one sent [] a b x y = x ∙ sym y
 IsDetected-one sent (found ∷ []) a b x y = x.1 ∙ sym y.1
 IsDetected-one sent (found ∷ other ∷ more) a b x y = absurd x
 
--- The frames that are heard in a leg are the same, by whichever list.
-frames_one : (heard : Heard) (sent : Option SpokenFrame) (a b : List Character) (xs ys : List Found)
-    → AreHeard heard sent a → AreHeard heard sent b → AreFrames a 0 xs → AreFrames b 0 ys → xs ≡ ys
-frames_one heard sent a b xs ys h k x y =
-    let same = AreHeard-one heard sent a b h k in frames_are_unambiguous-one_list b 0 xs ys (rw same at x) y
-
 pub Arrives-one : (heard : Heard) (sent : Option SpokenFrame) (a b : Option FrameParts) → Arrives heard sent a
     → Arrives heard sent b → a ≡ b
 Arrives-one heard sent a b s t =
-    let frames = frames_one heard sent s.chars t.chars s.frames t.frames s.are_heard t.are_heard s.are_frames t.are_frames in
-    IsDetected-one (frame_of sent) t.frames a b (rw frames at s.detected) t.detected
+    let same = AreHeard-one heard sent s.chars t.chars s.are_heard t.are_heard in
+    let frames = frames_are_unambiguous-one_list t.chars 0 s.among.frames t.among.frames (rw same at s.among.are_frames)
+    t.among.are_frames in
+    IsDetected-one (frame_of sent) t.among.frames a b (rw frames at s.among.detected) t.among.detected
 
 -- A leg brings the device one thing.
+brings_among : {identity : IdentityParts} {chars : List Character} {sent : Option FrameParts} {brought : Brought}
+    → ReachesAmong identity chars sent brought → Brings identity chars brought
+brings_among r = record { frames = r.arrives.frames; are_frames = r.arrives.are_frames; by_frames = r.brings }
+
 pub Reaches-one : (identity : IdentityParts) (heard : Heard) (sent : Option SpokenFrame) (a b : Brought)
     → Reaches identity heard sent a → Reaches identity heard sent b → a ≡ b
 Reaches-one identity heard sent a b s t =
-    let same = AreHeard-one heard sent s.arrives.chars t.arrives.chars s.arrives.are_heard t.arrives.are_heard in
-    let brings : Brings identity s.arrives.chars a =
-    record { frames = s.arrives.frames; are_frames = s.arrives.are_frames; by_frames = s.brings } in
-    deliveries_bring_one-one identity t.arrives.chars a b (subst (λ chars. Brings identity chars a) same brings)
-    (record { frames = t.arrives.frames; are_frames = t.arrives.are_frames; by_frames = t.brings })
+    let same = AreHeard-one heard sent s.chars t.chars s.are_heard t.are_heard in
+    deliveries_bring_one-one identity t.chars a b (subst (λ chars. Brings identity chars a) same (brings_among s.among))
+    (brings_among t.among)
 
 -- Damage that is detected is not undetected.
-pub arrives_detected : (heard : Heard) (sent : Option SpokenFrame) (brought : Option FrameParts)
-    → Arrives heard sent brought → IsUndetected heard sent → ⊥
-arrives_detected heard sent brought a u =
-    let frames = frames_one heard sent a.chars u.chars a.frames u.frames a.are_heard u.are_heard a.are_frames u.are_frames in
-    u.not_detected brought (rw frames at a.detected)
+arrives_detected : (heard : Heard) (sent : Option SpokenFrame) (arrived : Option FrameParts)
+    → Arrives heard sent arrived → IsUndetected heard sent → ⊥
+arrives_detected heard sent arrived a u =
+    let same = AreHeard-one heard sent a.chars u.chars a.are_heard u.are_heard in
+    let frames = frames_are_unambiguous-one_list u.chars 0 a.among.frames u.among.frames (rw same at a.among.are_frames)
+    u.among.are_frames in
+    u.among.not_detected arrived (rw frames at a.among.detected)
+
+reaches_detected : (identity : IdentityParts) (heard : Heard) (sent : Option SpokenFrame) (brought : Brought)
+    → Reaches identity heard sent brought → IsUndetected heard sent → ⊥
+reaches_detected identity heard sent brought r u =
+    arrives_detected heard sent r.among.frame (record { chars = r.chars; are_heard = r.are_heard; among = r.among.arrives }) u
 
 Accepts-one : (who : MasterId) (hand : Option InHand) (returned : Option FrameParts) (a b : Option Reply)
     → Accepts who hand returned a → Accepts who hand returned b → a ≡ b
@@ -129,19 +133,19 @@ leads_on start prefix suffix from world last run led =
 step_detected : (start : Start) (world : World) (event : LineEvent) (next : World) (leg : Leg)
     → Step start world event next → HasUndetected start world event leg → ⊥
 step_detected start world (Turn who up down) next legs.Up step undetected =
-    arrives_detected up _ step.arrives.frame step.arrives.arrives undetected
+    reaches_detected start.device.identity up _ step.brought step.arrives undetected
 step_detected start world (Turn who up down) next legs.Down step undetected =
     let brought = Reaches-one start.device.identity up _ step.brought undetected.0 step.arrives undetected.1 in
     arrives_detected down _ step.returned (rw brought at step.returns) undetected.2
 step_detected start world (Noise chars) next legs.Noise step undetected =
-    arrives_detected (Chars chars) None step.arrives.frame step.arrives.arrives undetected
+    reaches_detected start.device.identity (Chars chars) None step.brought step.arrives undetected
 step_detected start world event next leg step undetected = undetected
 
 undetected_one : (start : Start) (world : World) (event : LineEvent) (leg another : Leg)
     → HasUndetected start world event leg → HasUndetected start world event another → leg ≡ another
 undetected_one start world (Turn who up down) legs.Up legs.Up u v = refl
-undetected_one start world (Turn who up down) legs.Up legs.Down u v = absurd (arrives_detected up _ v.1.frame v.1.arrives u)
-undetected_one start world (Turn who up down) legs.Down legs.Up u v = absurd (arrives_detected up _ u.1.frame u.1.arrives v)
+undetected_one start world (Turn who up down) legs.Up legs.Down u v = absurd (reaches_detected start.device.identity up _ v.0 v.1 u)
+undetected_one start world (Turn who up down) legs.Down legs.Up u v = absurd (reaches_detected start.device.identity up _ u.0 u.1 v)
 undetected_one start world (Turn who up down) legs.Down legs.Down u v = refl
 undetected_one start world (Turn who up down) leg legs.Noise u v = absurd v
 undetected_one start world (Noise chars) legs.Noise legs.Noise u v = refl

@@ -7,9 +7,10 @@ use Rattle.hart_line.proofs.line.leg.answer_among.Goals as goal
 pub returns-in-Some-clause-answers : goal.returns-in-Some-clause-answers
 returns-in-Some-clause-answers g c = record {
   brought = OneFrame c.in-Some.frame.now;
-  reaches = among_frame c.args.device.now.identity c.args.chars.now (option_copied c.args.sent) c.in-Some.frame.now
+  is_brought = among_frame c.args.device.now.identity c.args.chars.now (option_copied c.args.sent) c.in-Some.frame.now
       (rw c.in-Some.is at c.in_ok-frame.ensures.arrives);
-  answers = record { answer_is = c.answer.ensures.answer; after_is = c.answer.ensures.state };
+  answer_is = c.answer.ensures.answer;
+  after_is = c.answer.ensures.state;
 }
 
 pub returns-in_default-reply_to_garbled-clause-answers : goal.returns-in_default-reply_to_garbled-clause-answers
