@@ -1,9 +1,11 @@
 -- What the words after the program's name ask for, as clap reads them (own profile).
-use Rattle.std.specs.Prelude.{◌≡◌, [], ◌∷◌, List, Option, Some, true, codes, pos, unwrap_or}
-use Rattle.std.specs.Str.Parse.{IsNumeral, digits_value, without_leading_plus}
+use Rattle.std.specs.Prelude.{◌≡◌, ◌&&◌, if◌then◌else◌, [], ◌∷◌, ℕ, List, Option, None, Some, true, codes, length, nat_le, nat_lt}
+use Rattle.std.specs.Prelude.{option_map, pos, unwrap_or}
+use Rattle.std.specs.Option.{option_and_then}
+use Rattle.std.specs.Str.{all_ascii_digits, bytes_eq}
+use Rattle.std.specs.Str.Parse.{digits_value, without_leading_plus}
 use Rattle.clap.specs.Words.{App, Row, Rule, Text, fault_of, first_of, new_app, new_rule, subcommand_of, with_rule, with_subcommand}
 use Rattle.clap.specs.declared.builder.value_parser.ValueParser.TheVariants.{Signed}
-use Rattle.hart_frame.specs.wire.Message.{IsPreambleCount}
 use Rattle.hart_cli.specs.encode.MessageWords.{MessageWords}
 use Rattle.hart_cli.specs.declared.program.command_line.Call.{Call}
 use Rattle.hart_cli.specs.declared.program.command_line.Call.TheVariants.{Answer, Dump, Encode, Sim}
@@ -66,42 +68,41 @@ reading_app =
 abbrev pub hart_app : App
 hart_app = with_subcommand reading_app encode_app.top
 
--- Each kind of call has a subcommand of its own.
-abbrev pub name_of : Call → Text
-name_of (Answer image) = codes "answer"
-name_of Dump = codes "dump"
-name_of (Sim image) = codes "sim"
-name_of (Encode words) = codes "encode"
+-- A number of preamble bytes is written in decimal digits, after a plus sign at most, and lies between 5 and 20.
+abbrev pub preambles_of : Text → Option ℕ
+preambles_of word =
+    let digits = without_leading_plus word in
+    let count = digits_value 10 digits in
+    if all_ascii_digits digits && nat_lt 0 (length digits) && nat_le 5 count && nat_le count 20 then Some count else None
 
--- The matches of `encode` have these words, an absent DATA being empty, and their number of preamble bytes: from 5 to 20, in
--- decimal digits, after a plus sign at most.
-pub record GivesWords (rows : List Row) (words : MessageWords) : Type 0 where
-  pub who : first_of (codes "WHO") rows ≡ Some words.who
-  pub address : first_of (codes "ADDRESS") rows ≡ Some words.address
-  pub command : first_of (codes "COMMAND") rows ≡ Some words.command
-  pub payload : unwrap_or (first_of (codes "DATA") rows) [] ≡ words.payload
-  pub number : Text
-  pub given : first_of (codes "preambles") rows ≡ Some number
-  pub digits : IsNumeral 10 (without_leading_plus number)
-  pub value : words.preambles ≡ digits_value 10 (without_leading_plus number)
-  pub count : IsPreambleCount words.preambles
+-- A number of preamble bytes and three words with the data are what `encode` is given, if none but the data is missing.
+abbrev pub message_words : Option ℕ → Option Text → Option Text → Option Text → Text → Option MessageWords
+message_words (Some preambles) (Some who) (Some address) (Some command) payload =
+    Some (record { who = who; address = address; command = command; payload = payload; preambles = preambles })
+message_words _ _ _ _ payload = None
+
+-- The matches of `encode` give these words, an absent DATA being empty.
+abbrev pub words_of : List Row → Option MessageWords
+words_of rows = message_words
+    (option_and_then preambles_of (first_of (codes "preambles") rows))
+    (first_of (codes "WHO") rows) (first_of (codes "ADDRESS") rows) (first_of (codes "COMMAND") rows)
+    (unwrap_or (first_of (codes "DATA") rows) [])
 
 -- The matches of the subcommands `answer` and `sim` give the word of the image, or none, and those of `encode` the words of the
 -- call; those of `dump` have nothing to give.
-abbrev pub GivesValues : Call → List Row → Type 0
-GivesValues (Answer image) rows = first_of (codes "image") rows ≡ image
-GivesValues Dump rows = Unit {0}
-GivesValues (Sim image) rows = first_of (codes "image") rows ≡ image
-GivesValues (Encode words) rows = GivesWords rows words
+abbrev pub call_named : Text → List Row → Option Call
+call_named name rows =
+    if bytes_eq name (codes "answer") then Some (Answer (first_of (codes "image") rows))
+    else if bytes_eq name (codes "dump") then Some Dump
+    else if bytes_eq name (codes "sim") then Some (Sim (first_of (codes "image") rows))
+    else if bytes_eq name (codes "encode") then option_map (λ words. Encode words) (words_of rows)
+    else None
 
--- A subcommand that was met, with its matches, gives a call if it is the subcommand of that call and the matches give the call's
--- values.
-pub record GivesCall (met : Option (Text × List Row)) (call : Call) : Type 0 where
-  pub rows : List Row
-  pub named : met ≡ Some (name_of call, rows)
-  pub values : GivesValues call rows
+-- A subcommand that was met, with its matches, gives the call of its name; if none was met there is no call.
+abbrev pub call_of : Option (Text × List Row) → Option Call
+call_of met = option_and_then (λ (found : Text × List Row). call_named found.0 found.1) met
 
 -- The words make a call if clap finds no fault in them, and the subcommand that they name gives it.
 pub record Calls (call : Call) (words : List Text) : Type 0 where
   pub no_fault : fault_of hart_app words ≡ []
-  pub gives : GivesCall (subcommand_of hart_app words) call
+  pub gives : call_of (subcommand_of hart_app words) ≡ Some call

@@ -3,9 +3,10 @@
 ghost use Rattle.std.specs.Prelude.{◌≡◌, ◌∷◌, [], ℕ, IfErr, IfOk, List, None, Some, codes, false, map, string_bytes};
 ghost use Rattle.clap.specs.Words.{HasKind, app_of, fault_of, first_of, found_of, new_app, new_rule, rows_of, rule_of, subcommand_rows_of};
 ghost use Rattle.clap.specs.Words.{with_rule, with_subcommand};
-ghost use Rattle.hart_line.specs.script.Words.{Finds};
-ghost use Rattle.hart_cli.specs.program.CommandLine.{Calls, GivesCall, GivesWords, encode_app, hart_app, image_app, image_rule};
-ghost use Rattle.hart_cli.specs.program.CommandLine.{encode_with_required_words, hart_alone, preambles_rule, reading_app, required_rule};
+ghost use Rattle.std.specs.Option.{option_map};
+ghost use Rattle.hart_cli.specs.program.CommandLine.{Calls, call_of, encode_app, encode_with_required_words, hart_alone, hart_app};
+ghost use Rattle.hart_cli.specs.program.CommandLine.{image_app, image_rule, preambles_of, preambles_rule, reading_app, required_rule};
+ghost use Rattle.hart_cli.specs.program.CommandLine.{words_of};
 ghost use Rattle.hart_cli.specs.declared.program.command_line.Call.{Call};
 ghost use Rattle.hart_cli.specs.declared.program.command_line.Call.TheVariants.{Answer, Dump, Encode, Sim};
 
@@ -74,7 +75,7 @@ pub fn requested_call<'a>(alloc: Global, words: &'a [String]) -> Result<Call<'a>
 /// The call of the subcommand that the words named, or `None` if they named none of the four, or if `encode_words` gives `None`.
 /// clap lets neither pass.
 fn call_of<'a>(matches: &ArgMatches<'a>) -> Option<Call<'a>>
-    ensures { Finds (GivesCall (subcommand_rows_of matches.now)) result }
+    ensures { result ≡ call_of (subcommand_rows_of matches.now) }
 {
     let (name, given) = matches.subcommand()?;
     match name {
@@ -88,29 +89,44 @@ fn call_of<'a>(matches: &ArgMatches<'a>) -> Option<Call<'a>>
 
 /// The word of the image of `hart answer` or `hart sim`, if it was given one.
 fn image_word<'a>(given: &ArgMatches<'a>) -> ImageWord<'a>
-    ensures { first_of (codes "image") (rows_of (found_of given.now)) ≡ result }
+    ensures { result ≡ first_of (codes "image") (rows_of (found_of given.now)) }
 {
     ImageWord {
-        word: given.get_str("image"),
+        word: word_of(given, "image"),
     }
+}
+
+/// The first word that was given under a name.
+fn word_of<'a>(given: &ArgMatches<'a>, id: &str) -> Option<&'a str>
+    ensures { option_map (λ word. word.now) result ≡ first_of id.now (rows_of (found_of given.now)) }
+{
+    given.get_str(id)
 }
 
 /// The words of `hart encode`, or `None` if WHO, ADDRESS or COMMAND is missing, or if the number of preamble bytes is not from 5 to
 /// 20. clap lets neither pass.
 fn encode_words<'a>(given: &ArgMatches<'a>) -> Option<EncodeWords<'a>>
-    ensures { Finds (GivesWords (rows_of (found_of given.now))) result }
+    ensures { result ≡ words_of (rows_of (found_of given.now)) }
 {
-    let preambles = given.get_str("preambles")?.parse::<u8>().ok()?;
-    if !is_preamble_count(preambles) {
-        return None;
-    }
+    let preambles = preambles_of(word_of(given, "preambles")?)?;
     Some(EncodeWords {
-        who: given.get_str("WHO")?,
-        address: given.get_str("ADDRESS")?,
-        command: given.get_str("COMMAND")?,
-        payload: given.get_str("DATA").unwrap_or(""),
+        who: word_of(given, "WHO")?,
+        address: word_of(given, "ADDRESS")?,
+        command: word_of(given, "COMMAND")?,
+        payload: word_of(given, "DATA").unwrap_or(""),
         preambles,
     })
+}
+
+/// The number of preamble bytes that a word writes.
+fn preambles_of(word: &str) -> Option<u8>
+    ensures { result ≡ preambles_of word.now }
+{
+    let count = word.parse::<u8>().ok()?;
+    if !is_preamble_count(count) {
+        return None;
+    }
+    Some(count)
 }
 
 /// What the words are matched against.

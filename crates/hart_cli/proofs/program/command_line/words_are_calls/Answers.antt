@@ -1,24 +1,31 @@
-use Rattle.hart_cli.proofs.lemmas.program.CommandLine.{answer_alone, answer_with_image, dump_alone, encode_alone, encode_with_20}
-use Rattle.hart_cli.proofs.lemmas.program.CommandLine.{sim_alone, sim_with_image}
+use Rattle.std.proofs.Common.{refl}
+use Rattle.clap.proofs.OnLiterals.{clap_on_literals}
 use Rattle.hart_cli.proofs.program.command_line.words_are_calls.Goals as goal
 
 pub returns-clause-answer : goal.returns-clause-answer
-returns-clause-answer c = answer_alone
+unfolding clap_on_literals
+returns-clause-answer c = record { no_fault = refl; gives = refl }
 
 pub returns-clause-answer_image : goal.returns-clause-answer_image
-returns-clause-answer_image c = answer_with_image
+unfolding clap_on_literals
+returns-clause-answer_image c = record { no_fault = refl; gives = refl }
 
 pub returns-clause-dump : goal.returns-clause-dump
-returns-clause-dump c = dump_alone
+unfolding clap_on_literals
+returns-clause-dump c = record { no_fault = refl; gives = refl }
 
 pub returns-clause-sim : goal.returns-clause-sim
-returns-clause-sim c = sim_alone
+unfolding clap_on_literals
+returns-clause-sim c = record { no_fault = refl; gives = refl }
 
 pub returns-clause-sim_image : goal.returns-clause-sim_image
-returns-clause-sim_image c = sim_with_image
+unfolding clap_on_literals
+returns-clause-sim_image c = record { no_fault = refl; gives = refl }
 
 pub returns-clause-encode : goal.returns-clause-encode
-returns-clause-encode c = encode_alone
+unfolding clap_on_literals
+returns-clause-encode c = record { no_fault = refl; gives = refl }
 
 pub returns-clause-preambles : goal.returns-clause-preambles
-returns-clause-preambles c = encode_with_20
+unfolding clap_on_literals
+returns-clause-preambles c = record { no_fault = refl; gives = refl }
