@@ -13,8 +13,7 @@ use crate::fault::CliFault;
 use crate::input::{INPUT_LIMIT, InputEnd, PORTION_LEN, read_portion};
 use crate::output::write_all;
 use crate::stream::{Failed, Sink, Source};
-use crate::text::items::{inputs_are_unambiguous, may_begin};
-use hart_frame::frames_are_unambiguous;
+use crate::text::items::may_begin;
 use hart_values::ByteList;
 use std::alloc::Global;
 
@@ -66,11 +65,7 @@ pub fn dump<R: Source, W: Sink>(
 pub fn one_dump()
     ensures { (input : List ℕ) (ending : Ending) (f g : Option CliFault) (xs ys : List ℕ)
         → IsDump input ending f xs → IsDump input ending g ys → (f ≡ g) × (xs ≡ ys) }
-{
-    // No-ops: their contracts are used below.
-    frames_are_unambiguous();
-    inputs_are_unambiguous();
-}
+{}
 
 /// Reads an input up to its first fault, and scans its characters.
 ///

@@ -8,8 +8,8 @@ use crate::fault::CliFault;
 use crate::output::write_all;
 use crate::stream::Sink;
 use crate::text::message_line::message_line;
-use hart_frame::{Frame, bodies_are_unambiguous};
-use hart_line::{read_address, read_command, read_data, read_who, words_have_one_value};
+use hart_frame::Frame;
+use hart_line::{read_address, read_command, read_data, read_who};
 use std::alloc::Global;
 use std::marker::Model;
 
@@ -87,11 +87,7 @@ pub fn encode_text<W: Sink>(
 /// Words have one text at most, so that what `encode_text` writes is determined by them.
 pub fn one_encoding()
     ensures { (words : MessageWords) (xs ys : List ℕ) → IsEncoding words xs → IsEncoding words ys → xs ≡ ys }
-{
-    // No-ops: their contracts are used below.
-    words_have_one_value();
-    bodies_are_unambiguous();
-}
+{}
 
 /// The request that the words write.
 ///

@@ -6,7 +6,9 @@ ghost use Rattle.hart_cli.specs.ImageWord.{HasImageFault, HasNoDevice, IsDeviceO
 ghost use Rattle.hart_cli.specs.declared.fault.CliFault.{CliFault};
 
 use crate::fault::CliFault;
-use hart_device::{Device, ImageRegisters, bench, images_have_no_fault, images_have_one_state};
+use hart_device::{
+    Device, ImageRegisters, bench, bytes_have_one_image_fault, images_have_one_state,
+};
 use hart_line::{NoRoom, reserved};
 use hex::FromHexError;
 use std::alloc::Global;
@@ -93,5 +95,5 @@ pub fn one_device()
 {
     // No-ops: their contracts are used below.
     images_have_one_state();
-    images_have_no_fault();
+    bytes_have_one_image_fault();
 }

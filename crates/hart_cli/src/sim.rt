@@ -13,8 +13,7 @@ use crate::output::write_all;
 use crate::sim::text::sim_text;
 use crate::stream::{Sink, Source};
 use hart_device::{Device, ImageRegisters, bench};
-use hart_frame::bodies_are_unambiguous;
-use hart_line::{read_script, run, scripts_have_one_last_world, texts_have_one_script};
+use hart_line::{read_script, run};
 use hart_master::Master;
 use hart_values::MasterId;
 use std::alloc::Global;
@@ -63,12 +62,7 @@ pub fn one_simulation()
         → HasLineFault device input fault → HasLineFault device input other → fault ≡ other }
     ensures no_fault { (device : DeviceState) (input text : List ℕ) (fault : LineFault)
         → IsSimulation device input text → HasLineFault device input fault → ⊥ }
-{
-    // No-ops: their contracts are used below.
-    texts_have_one_script();
-    scripts_have_one_last_world();
-    bodies_are_unambiguous();
-}
+{}
 
 /// Reads a script, carries it out with a device, and writes its text.
 fn simulate_with<R: Source, W: Sink>(

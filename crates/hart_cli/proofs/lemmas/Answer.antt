@@ -6,34 +6,29 @@ use Rattle.hart_frame.specs.wire.FrameParts.{FrameParts}
 use Rattle.hart_device.specs.Bench.{bench_process}
 use Rattle.hart_device.specs.answer.Delivery.{Brings, Brought, answer_to}
 use Rattle.hart_device.specs.Device.{DeviceState}
-use Rattle.hart_device.specs.declared.identity_parts.IdentityParts.{IdentityParts}
 use Rattle.hart_device.specs.declared.process.Process.{Process}
 use Rattle.hart_cli.specs.declared.fault.CliFault.{CliFault}
 use Rattle.hart_cli.specs.declared.input.InputEnd.TheVariants.{Ended}
 use Rattle.hart_cli.specs.input.Input.{CameTo}
+use Rattle.hart_device.proofs.lemmas.Laws.{deliveries_bring_one-one}
 use Rattle.hart_cli.specs.text.InputChars.{HasChars}
 use Rattle.hart_cli.specs.Answer.{IsAnswer, IsAnswerText, IsTextFor}
-use Rattle.hart_cli.proofs.lemmas.dump.Dump.{OneInput}
-use Rattle.hart_cli.proofs.lemmas.text.MessageLine.{IsMessageLine-one, OneBody}
+use Rattle.hart_cli.proofs.lemmas.text.InputChars.{one_input}
+use Rattle.hart_cli.proofs.lemmas.text.MessageLine.{IsMessageLine-one}
 
 -- an answer has one text
-IsAnswerText-one : OneBody → (device : DeviceState) (answer : Option FrameParts) (xs ys : List ℕ) → IsAnswerText device answer xs
+IsAnswerText-one : (device : DeviceState) (answer : Option FrameParts) (xs ys : List ℕ) → IsAnswerText device answer xs
     → IsAnswerText device answer ys → xs ≡ ys
-IsAnswerText-one bodies device None xs ys p q = p ∙ sym q
-IsAnswerText-one bodies device (Some reply) xs ys p q = IsMessageLine-one bodies reply reply _ xs ys refl p q
-
--- the law of deliveries: one brings a device one thing at most
-abbrev pub OneBrought : Type 0
-OneBrought = (identity : IdentityParts) (delivery : List Character) (brought other : Brought)
-    → Brings identity delivery brought → Brings identity delivery other → brought ≡ other
+IsAnswerText-one device None xs ys p q = p ∙ sym q
+IsAnswerText-one device (Some reply) xs ys p q = IsMessageLine-one reply reply _ xs ys refl p q
 
 -- a delivery has one text
-IsTextFor-one : OneBrought → OneBody → (device : DeviceState) (delivery : List Character) (xs ys : List ℕ)
+IsTextFor-one : (device : DeviceState) (delivery : List Character) (xs ys : List ℕ)
     → IsTextFor device delivery xs → IsTextFor device delivery ys → xs ≡ ys
-IsTextFor-one deliveries bodies device delivery xs ys p q =
+IsTextFor-one device delivery xs ys p q =
     let P : Brought → Type 0 = λ brought. IsAnswerText device (answer_to device bench_process brought) xs in
-    let same = deliveries device.identity delivery p.brought q.brought p.brings q.brings in
-    IsAnswerText-one bodies device _ xs ys (subst P same p.answered) q.answered
+    let same = deliveries_bring_one-one device.identity delivery p.brought q.brought p.brings q.brings in
+    IsAnswerText-one device _ xs ys (subst P same p.answered) q.answered
 
 -- what a device answers has its text
 pub IsTextFor-heard : (delivery : List Character) (brought : Brought) (device : DeviceState) (process : Process)
@@ -45,13 +40,13 @@ IsTextFor-heard delivery brought device process answer text same_process brings 
     record { brought = brought; brings = brings; answered = subst P same has }
 
 -- an input has one answer
-pub IsAnswer-one : OneBrought → OneBody → OneInput → (device : DeviceState) (input xs ys : List ℕ) → IsAnswer device input xs
+pub IsAnswer-one : (device : DeviceState) (input xs ys : List ℕ) → IsAnswer device input xs
     → IsAnswer device input ys → xs ≡ ys
-IsAnswer-one deliveries bodies inputs device input xs ys p q =
+IsAnswer-one device input xs ys p q =
     let same =
-    (inputs input (CameTo Ended) p.delivery q.delivery None None (HasChars.all p.delivery p.reads) (HasChars.all q.delivery q.reads)).0 in
+    (one_input input (CameTo Ended) p.delivery q.delivery None None (HasChars.all p.delivery p.reads) (HasChars.all q.delivery q.reads)).0 in
     let P : List Character → Type 0 = λ delivery. IsTextFor device delivery xs in
-    IsTextFor-one deliveries bodies device q.delivery xs ys (subst P same p.text_for) q.text_for
+    IsTextFor-one device q.delivery xs ys (subst P same p.text_for) q.text_for
 
 -- a fault that is made of its cause alone
 pub made_of : {T : Type 0} (result : Result T CliFault) (cause : CliFault) → IsErrAnd result (λ fault. fault ≡ cause) → result ≡ Err cause

@@ -6,23 +6,15 @@ use Rattle.hart_frame.specs.declared.wire.kind.FrameKind.{FrameKind}
 use Rattle.hart_frame.specs.wire.FrameParts.{FrameParts}
 use Rattle.hart_cli.specs.encode.Encode.{IsEncoding, IsRequestOf}
 use Rattle.hart_cli.specs.encode.MessageWords.{MessageWords}
-use Rattle.hart_line.specs.script.Words.{IsAddressWord, IsCommandWord, IsDataWord, IsWho}
-use Rattle.hart_cli.proofs.lemmas.text.MessageLine.{IsMessageLine-one, OneBody}
-
--- the law of words: each word has one value
-pub record OneValue : Type 0 where
-  pub who : (word : List ℕ) (m n : MasterId) → IsWho word m → IsWho word n → m ≡ n
-  pub address : (word : List ℕ) (m n : Address) → IsAddressWord word m → IsAddressWord word n → m ≡ n
-  pub command : (word : List ℕ) (m n : ℕ) → IsCommandWord word m → IsCommandWord word n → m ≡ n
-  pub payload : (word xs ys : List ℕ) → IsDataWord word xs → IsDataWord word ys → xs ≡ ys
+use Rattle.hart_cli.proofs.lemmas.text.MessageLine.{IsMessageLine-one}
 
 -- four words have one request
-IsRequestOf-one : OneValue → (words : MessageWords) (f g : FrameParts) → IsRequestOf words f → IsRequestOf words g → f ≡ g
-IsRequestOf-one one words f g p q =
-    let master = one.who words.who f.master g.master p.master q.master in
-    let address = one.address words.address f.address g.address p.address q.address in
-    let payload = one.payload words.payload f.payload g.payload p.payload q.payload in
-    let command : f.command ≡ g.command = one.command words.command f.command g.command p.command q.command in
+IsRequestOf-one : (words : MessageWords) (f g : FrameParts) → IsRequestOf words f → IsRequestOf words g → f ≡ g
+IsRequestOf-one words f g p q =
+    let master : f.master ≡ g.master = cc (p.master, q.master) in
+    let address : f.address ≡ g.address = cc (p.address, q.address) in
+    let payload : f.payload ≡ g.payload = cc (p.payload, q.payload) in
+    let command : f.command ≡ g.command = cc (p.command, q.command) in
     let kind : f.kind ≡ g.kind = p.kind ∙ sym q.kind in
     let burst : f.burst ≡ g.burst = p.burst ∙ sym q.burst in
     let expansion : f.expansion ≡ g.expansion = p.expansion ∙ sym q.expansion in
@@ -33,7 +25,7 @@ IsRequestOf-one one words f g p q =
     same
 
 -- words have one text
-pub IsEncoding-one : OneValue → OneBody → (words : MessageWords) (xs ys : List ℕ) → IsEncoding words xs → IsEncoding words ys → xs ≡ ys
-IsEncoding-one one law words xs ys p q =
-    let frames = IsRequestOf-one one words p.frame q.frame p.request q.request in
-    IsMessageLine-one law p.frame q.frame words.preambles xs ys frames p.line q.line
+pub IsEncoding-one : (words : MessageWords) (xs ys : List ℕ) → IsEncoding words xs → IsEncoding words ys → xs ≡ ys
+IsEncoding-one words xs ys p q =
+    let frames = IsRequestOf-one words p.frame q.frame p.request q.request in
+    IsMessageLine-one p.frame q.frame words.preambles xs ys frames p.line q.line

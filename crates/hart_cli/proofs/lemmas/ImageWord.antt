@@ -1,5 +1,5 @@
 -- The device of a call, and the fault of its image, are one.
-use Rattle.std.proofs.Common.{◌≡◌, ◌≢◌, ℕ, ◌+◌, ◌<◌, true, List, [], ◌∷◌, length, take, slice_index, Option, Some, None, ap, subst, sym}
+use Rattle.std.proofs.Common.{◌≡◌, ◌≢◌, ℕ, ◌+◌, ◌<◌, true, List, length, take, slice_index, Option, Some, None, ap, subst, sym}
 use Rattle.std.proofs.Common.{◌∙◌, inl, inr, arith, refl, false, ◌/◌, ◌%◌, Result, Ok, Err}
 use Rattle.std.specs.Prelude.{MatchResult}
 use Rattle.std.specs.List.{AllPass}
@@ -14,19 +14,19 @@ use Rattle.hex.proofs.HexLemmas.{decode_pairs-err, decode_sized-odd, decode_size
 use Rattle.hart_device.specs.Device.{DeviceState}
 use Rattle.hart_device.specs.image.Image.{IsImageOf, IsImageFault}
 use Rattle.hart_device.specs.declared.fault.DeviceFault.{DeviceFault}
-use Rattle.hart_device.specs.declared.fault.DeviceFault.TheVariants.{BadField, BadLength, BadVersion}
+use Rattle.hart_device.proofs.lemmas.Laws.{images_have_no_fault}
 use Rattle.hart_cli.specs.declared.fault.CliFault.{CliFault}
 use Rattle.hart_cli.specs.declared.fault.CliFault.TheVariants.{BadHex, Image}
 use Rattle.hart_cli.specs.ImageWord.{HasImageFault, IsBadHexWord, IsDeviceOf, IsImageWord}
 
--- the laws of images: an image is of one state, and has no fault
+-- the laws of images: an image is of one state, and bytes have one fault of an image
 abbrev pub OneState : Type 0
 OneState =
     (state other : DeviceState) (image : List ℕ) → IsImageOf state image → IsImageOf other image → state.identity ≡ other.identity
     → state.cold_start ≡ other.cold_start → state ≡ other
 
-abbrev pub NoImageFault : Type 0
-NoImageFault = (state : DeviceState) (image : List ℕ) (fault : DeviceFault) → IsImageOf state image → IsImageFault image fault → ⊥
+abbrev pub OneImageFault : Type 0
+OneImageFault = (image : List ℕ) (fault other : DeviceFault) → IsImageFault image fault → IsImageFault image other → fault ≡ other
 
 -- a call has one device
 pub IsDeviceOf-one : OneState → (image : Option (List ℕ)) (device other : DeviceState) → IsDeviceOf image device
@@ -130,50 +130,27 @@ fails_no_other_way word room r out e half given is even digits =
       | inr err ↦ digits _ _ err.1
     ]
 
--- bytes have one fault of an image
-IsImageFault-one : (image : List ℕ) (fault other : DeviceFault) → IsImageFault image fault → IsImageFault image other → fault ≡ other
-IsImageFault-one [] BadLength BadLength p q = refl
-IsImageFault-one [] BadLength _ p q = absurd q
-IsImageFault-one [] _ other p q = absurd p
-IsImageFault-one (version ∷ rest) BadVersion BadVersion p q = refl
-IsImageFault-one (version ∷ rest) BadVersion BadLength p q = cc (p, q.1)
-IsImageFault-one (version ∷ rest) BadVersion BadField p q = cc (p, q.1)
-IsImageFault-one (version ∷ rest) BadVersion _ p q = absurd q
-IsImageFault-one (version ∷ rest) BadLength BadVersion p q = cc (q, p.1)
-IsImageFault-one (version ∷ rest) BadLength BadLength p q = refl
-IsImageFault-one (version ∷ rest) BadLength BadField p q =
-    let same : q.0 ≡ p.0 = cc (sym q.1 ∙ p.1) in
-    absurd (p.2 (rw same at q.2))
-IsImageFault-one (version ∷ rest) BadLength _ p q = absurd q
-IsImageFault-one (version ∷ rest) BadField BadVersion p q = cc (q, p.1)
-IsImageFault-one (version ∷ rest) BadField BadLength p q =
-    let same : p.0 ≡ q.0 = cc (sym p.1 ∙ q.1) in
-    absurd (q.2 (rw same at p.2))
-IsImageFault-one (version ∷ rest) BadField BadField p q = refl
-IsImageFault-one (version ∷ rest) BadField _ p q = absurd q
-IsImageFault-one (version ∷ rest) _ other p q = absurd p
-
 -- an image has one fault
-pub HasImageFault-one : (image : Option (List ℕ)) (fault other : CliFault) → HasImageFault image fault → HasImageFault image other
+pub HasImageFault-one : OneImageFault → (image : Option (List ℕ)) (fault other : CliFault) → HasImageFault image fault → HasImageFault image other
     → fault ≡ other
-HasImageFault-one (Some word) (BadHex place) (BadHex other) p q = ap (λ (n : ℕ). BadHex n) (IsBadHexWord-one word place other p q)
-HasImageFault-one (Some word) (BadHex place) (Image other) p q = absurd (bad_is_no_word word place q.0 p q.1)
-HasImageFault-one (Some word) (BadHex place) _ p q = absurd q
-HasImageFault-one (Some word) (Image fault) (BadHex place) p q = absurd (bad_is_no_word word place p.0 q p.1)
-HasImageFault-one (Some word) (Image fault) (Image other) p q =
+HasImageFault-one faults (Some word) (BadHex place) (BadHex other) p q = ap (λ (n : ℕ). BadHex n) (IsBadHexWord-one word place other p q)
+HasImageFault-one faults (Some word) (BadHex place) (Image other) p q = absurd (bad_is_no_word word place q.0 p q.1)
+HasImageFault-one faults (Some word) (BadHex place) _ p q = absurd q
+HasImageFault-one faults (Some word) (Image fault) (BadHex place) p q = absurd (bad_is_no_word word place p.0 q p.1)
+HasImageFault-one faults (Some word) (Image fault) (Image other) p q =
     let same = decode_of-same word p.0 q.0 p.1 q.1 in
     let is : IsImageFault q.0 fault = subst (λ (image : List ℕ). IsImageFault image fault) same p.2 in
-    ap (λ (f : DeviceFault). Image f) (IsImageFault-one q.0 fault other is q.2)
-HasImageFault-one (Some word) (Image fault) _ p q = absurd q
-HasImageFault-one (Some word) _ other p q = absurd p
-HasImageFault-one None fault other p q = absurd p
+    ap (λ (f : DeviceFault). Image f) (faults q.0 fault other is q.2)
+HasImageFault-one faults (Some word) (Image fault) _ p q = absurd q
+HasImageFault-one faults (Some word) _ other p q = absurd p
+HasImageFault-one faults None fault other p q = absurd p
 
 -- an image with a device has no fault
-pub IsDeviceOf-faultless : NoImageFault → (image : Option (List ℕ)) (device : DeviceState) (fault : CliFault) → IsDeviceOf image device
+pub IsDeviceOf-faultless : (image : Option (List ℕ)) (device : DeviceState) (fault : CliFault) → IsDeviceOf image device
     → HasImageFault image fault → ⊥
-IsDeviceOf-faultless images (Some word) device (BadHex place) p q = bad_is_no_word word place p.2 q p.3
-IsDeviceOf-faultless images (Some word) device (Image fault) p q =
+IsDeviceOf-faultless (Some word) device (BadHex place) p q = bad_is_no_word word place p.2 q p.3
+IsDeviceOf-faultless (Some word) device (Image fault) p q =
     let same = decode_of-same word p.2 q.0 p.3 q.1 in
-    images device q.0 fault (subst (λ (image : List ℕ). IsImageOf device image) same p.4) q.2
-IsDeviceOf-faultless images (Some word) device _ p q = absurd q
-IsDeviceOf-faultless images None device fault p q = absurd q
+    images_have_no_fault device q.0 fault (subst (λ (image : List ℕ). IsImageOf device image) same p.4) q.2
+IsDeviceOf-faultless (Some word) device _ p q = absurd q
+IsDeviceOf-faultless None device fault p q = absurd q

@@ -2,4 +2,4 @@ use Rattle.hart_cli.proofs.lemmas.dump.Dump.{IsDump-one}
 use Rattle.hart_cli.proofs.dump.one_dump.Goals as goal
 
 pub returns : goal.returns
-returns c = IsDump-one c.frames_are_unambiguous.ensures.one_list c.inputs_are_unambiguous.ensures
+returns c = IsDump-one

@@ -5,7 +5,7 @@ pub returns-clause-one : goal.returns-clause-one
 returns-clause-one c = IsDeviceOf-one c.images_have_one_state.ensures.one_state
 
 pub returns-clause-one_fault : goal.returns-clause-one_fault
-returns-clause-one_fault c = HasImageFault-one
+returns-clause-one_fault c = HasImageFault-one c.bytes_have_one_image_fault.ensures
 
 pub returns-clause-no_fault : goal.returns-clause-no_fault
-returns-clause-no_fault c = IsDeviceOf-faultless c.images_have_no_fault.ensures
+returns-clause-no_fault c = IsDeviceOf-faultless

@@ -1,9 +1,8 @@
 -- What `hart dump` writes, from what was scanned.
 use Rattle.std.proofs.Common.{◌≡◌, ℕ, List, [], ◌++◌, Option, Some, Err, sym, ap, ◌∙◌, subst}
 use Rattle.hart_frame.specs.heard.Character.{Character}
-use Rattle.hart_frame.specs.heard.Frames.{AreFrames}
 use Rattle.hart_frame.specs.scan.Scanner.{Scan, finishing}
-use Rattle.hart_frame.specs.declared.heard.found.Found.{Found}
+use Rattle.hart_frame.proofs.lemmas.Laws.{frames_are_unambiguous-one_list}
 use Rattle.hart_cli.specs.declared.fault.CliFault.{CliFault}
 use Rattle.hart_cli.specs.declared.dump.frame_lines.FrameLines.{FrameLines}
 use Rattle.hart_cli.specs.dump.Dump.{AreFrameLines, DumpOutcome, HasDump, IsDump, StopsWriting}
@@ -13,29 +12,21 @@ use Rattle.hart_cli.specs.input.Input.{Ending}
 use Rattle.hart_cli.specs.text.InputChars.{HasChars}
 use Rattle.hart_cli.specs.stream.Stream.{FailsToWrite, Stream, WritesAll}
 use Rattle.hart_cli.proofs.lemmas.dump.FrameLines.{all_lines}
+use Rattle.hart_cli.proofs.lemmas.text.InputChars.{one_input}
 use Rattle.hart_cli.proofs.lemmas.dump.Writes.{FailsToWrite-on, WritesAll-on, in_time_on}
 
--- the law of frames: a list has one list of frames
-abbrev pub OneFrames : Type 0
-OneFrames = (chars : List Character) (from : ℕ) (xs ys : List Found) → AreFrames chars from xs → AreFrames chars from ys → xs ≡ ys
-
--- the law of items: an input has one list of characters
-abbrev pub OneInput : Type 0
-OneInput = (text : List ℕ) (ending : Ending) (xs ys : List Character) (f g : Option CliFault)
-    → HasChars text ending xs f → HasChars text ending ys g → (xs ≡ ys) × (f ≡ g)
-
 -- characters have one text
-AreFrameLines-one : OneFrames → (chars : List Character) (xs ys : List ℕ) → AreFrameLines chars xs → AreFrameLines chars ys → xs ≡ ys
-AreFrameLines-one frames chars xs ys p q =
-    p.text ∙ ap dump_text (frames chars 0 p.frames q.frames p.are_frames q.are_frames) ∙ sym q.text
+AreFrameLines-one : (chars : List Character) (xs ys : List ℕ) → AreFrameLines chars xs → AreFrameLines chars ys → xs ≡ ys
+AreFrameLines-one chars xs ys p q =
+    p.text ∙ ap dump_text (frames_are_unambiguous-one_list chars 0 p.frames q.frames p.are_frames q.are_frames) ∙ sym q.text
 
 -- an input has one text and one fault
-pub IsDump-one : OneFrames → OneInput → (input : List ℕ) (ending : Ending) (f g : Option CliFault) (xs ys : List ℕ)
+pub IsDump-one : (input : List ℕ) (ending : Ending) (f g : Option CliFault) (xs ys : List ℕ)
     → IsDump input ending f xs → IsDump input ending g ys → (f ≡ g) × (xs ≡ ys)
-IsDump-one frames inputs input ending f g xs ys p q =
-    let same = inputs input ending p.chars q.chars f g p.has_chars q.has_chars in
+IsDump-one input ending f g xs ys p q =
+    let same = one_input input ending p.chars q.chars f g p.has_chars q.has_chars in
     let P : List Character → Type 0 = λ chars. AreFrameLines chars xs in
-    (same.1, AreFrameLines-one frames q.chars xs ys (subst P same.0 p.are_lines) q.are_lines)
+    (same.1, AreFrameLines-one q.chars xs ys (subst P same.0 p.are_lines) q.are_lines)
 
 -- a write failed after an input was scanned
 pub dump_stops_at_end : {r r' w middle : Stream} {frames : FrameLines} {fault : Option CliFault} {new : Scan} {lines : List ℕ} (w' : Stream)

@@ -8,16 +8,19 @@ use Rattle.std.specs.List.{enumerate_from, flat_map}
 use Rattle.hart_device.specs.Bench.{bench_process}
 use Rattle.hart_device.specs.Device.{DeviceState}
 use Rattle.hart_device.specs.declared.process.Process.{Process}
+use Rattle.hart_frame.proofs.lemmas.Laws.{bodies_are_unambiguous-one_body}
 use Rattle.hart_line.specs.world.Promises.{start_from}
 use Rattle.hart_line.specs.world.Faults.{IsFault}
 use Rattle.hart_line.specs.world.Needs.{IsNeededBy}
-use Rattle.hart_line.specs.script.Rows.{HasFirstBadLine, IsScript}
+use Rattle.hart_line.specs.script.Rows.{IsScript}
 use Rattle.hart_master.specs.Master.{MasterState}
 use Rattle.hart_line.specs.world.Spoken.{AreSpoken, SpokenFrame}
 use Rattle.hart_line.specs.world.Step.{IsLast}
 use Rattle.hart_line.specs.world.World.{Start, World, state_of}
 use Rattle.hart_line.specs.declared.event.LineEvent.{LineEvent}
 use Rattle.hart_line.specs.declared.fault.Leg.{Leg}
+use Rattle.hart_line.proofs.lemmas.Laws.{scripts_have_one_last_world-no_fault, scripts_have_one_last_world-one_fault}
+use Rattle.hart_line.proofs.lemmas.Laws.{scripts_have_one_last_world-one_world}
 use Rattle.hart_line.specs.declared.fault.LineFault.{LineFault}
 use Rattle.hart_line.specs.declared.fault.LineFault.TheVariants as line_faults
 use Rattle.hart_line.specs.declared.line.report.Outcome.{Outcome}
@@ -32,7 +35,6 @@ use Rattle.hart_cli.specs.input.WholeInput.{WholeOutcome}
 use Rattle.hart_cli.specs.declared.fault.CliFault.{CliFault}
 use Rattle.hart_cli.specs.declared.fault.CliFault.TheVariants as faults
 use Rattle.hart_cli.specs.declared.input.InputEnd.TheVariants.{Ended}
-use Rattle.hart_cli.proofs.lemmas.text.MessageLine.{OneBody}
 
 -- the things of a list that goes on are numbered on
 numbered_on : {X : Type 0} (n : ℕ) (xs more : List X)
@@ -130,96 +132,67 @@ given_of_input device reader reader_after writer input (faults.Memory none) read
     (inr (record { input = input; whole = read; holds = is }), (Keeps-refl writer.bytes, refl))
 given_of_input device reader reader_after writer input _ read is = absurd is
 
--- the law of scripts: a text is one at most
-abbrev pub OneScript : Type 0
-OneScript = (text : List ℕ) (xs ys : List LineEvent) → IsScript text xs → IsScript text ys → xs ≡ ys
-
--- the law of worlds: a script has one last world at most
-abbrev pub OneLastWorld : Type 0
-OneLastWorld =
-    (start : Start) (events : List LineEvent) (one other : World) → IsLast start events one → IsLast start events other → one ≡ other
-
 same_spoken : (x y : Spoken) → x.party ≡ y.party → x.preambles ≡ y.preambles → x.bytes ≡ y.bytes → x ≡ y
 same_spoken x y party preambles bytes =
     ap₂ (λ (p : Party × ℕ) (b : List ℕ). record { party = p.0; preambles = p.1; bytes = b })
     (ap₂ (λ (p : Party) (n : ℕ). (p, n)) party preambles) bytes
 
 -- frames are spoken in one way
-AreSpoken-one : OneBody → (frames : List SpokenFrame) (xs ys : List Spoken) → AreSpoken frames xs → AreSpoken frames ys → xs ≡ ys
-AreSpoken-one bodies [] [] [] p q = refl
-AreSpoken-one bodies [] [] (y ∷ ys) p q = absurd q
-AreSpoken-one bodies [] (x ∷ xs) ys p q = absurd p
-AreSpoken-one bodies (said ∷ frames) [] ys p q = absurd p
-AreSpoken-one bodies (said ∷ frames) (x ∷ xs) [] p q = absurd q
-AreSpoken-one bodies (said ∷ frames) (x ∷ xs) (y ∷ ys) p q =
+AreSpoken-one : (frames : List SpokenFrame) (xs ys : List Spoken) → AreSpoken frames xs → AreSpoken frames ys → xs ≡ ys
+AreSpoken-one [] [] [] p q = refl
+AreSpoken-one [] [] (y ∷ ys) p q = absurd q
+AreSpoken-one [] (x ∷ xs) ys p q = absurd p
+AreSpoken-one (said ∷ frames) [] ys p q = absurd p
+AreSpoken-one (said ∷ frames) (x ∷ xs) [] p q = absurd q
+AreSpoken-one (said ∷ frames) (x ∷ xs) (y ∷ ys) p q =
     let first = same_spoken x y (p.0.party ∙ sym q.0.party) (p.0.preambles ∙ sym q.0.preambles)
-    (bodies said.frame x.bytes y.bytes p.0.body q.0.body) in
-    ap₂ (λ (z : Spoken) (zs : List Spoken). z ∷ zs) first (AreSpoken-one bodies frames xs ys p.1 q.1)
+    (bodies_are_unambiguous-one_body said.frame x.bytes y.bytes p.0.body q.0.body) in
+    ap₂ (λ (z : Spoken) (zs : List Spoken). z ∷ zs) first (AreSpoken-one frames xs ys p.1 q.1)
 
 -- a world has one text
-IsWorldText-one : OneBody → (start : Start) (world : World) (xs ys : List ℕ) → IsWorldText start world xs → IsWorldText start world ys
+IsWorldText-one : (start : Start) (world : World) (xs ys : List ℕ) → IsWorldText start world xs → IsWorldText start world ys
     → xs ≡ ys
-IsWorldText-one bodies start world xs ys p q =
-    let spoken = AreSpoken-one bodies world.spoken p.spoken q.spoken p.are_spoken q.are_spoken in
+IsWorldText-one start world xs ys p q =
+    let spoken = AreSpoken-one world.spoken p.spoken q.spoken p.are_spoken q.are_spoken in
     p.gives ∙ ap (λ (frames : List Spoken). sim_text frames world.outcomes (state_of start.device world)) spoken ∙ sym q.gives
 
 -- an input has one text
-pub IsSimulation-one : OneScript → OneLastWorld → OneBody → (device : DeviceState) (input xs ys : List ℕ)
+pub IsSimulation-one : (device : DeviceState) (input xs ys : List ℕ)
     → IsSimulation device input xs → IsSimulation device input ys → xs ≡ ys
-IsSimulation-one scripts worlds bodies device input xs ys p q =
+IsSimulation-one device input xs ys p q =
     let start = start_with device in
     let Leads : List LineEvent → Type 0 = λ events. IsLast start events p.world in
-    let led = subst Leads (scripts input p.events q.events p.script q.script) p.last in
+    let led = subst Leads (p.script.1 ∙ sym q.script.1) p.last in
     let Says : World → Type 0 = λ world. IsWorldText start world xs in
-    IsWorldText-one bodies start q.world xs ys (subst Says (worlds start q.events p.world q.world led q.last) p.world_text)
+    IsWorldText-one start q.world xs ys (subst Says (scripts_have_one_last_world-one_world start q.events p.world q.world led q.last) p.world_text)
     q.world_text
 
--- the law of bad lines: a script has none
-abbrev pub NoBadLine : Type 0
-NoBadLine = (text : List ℕ) (events : List LineEvent) (number : ℕ) → IsScript text events → HasFirstBadLine text number → ⊥
-
--- the law of damage: a script with a last world has none that is undetected
-abbrev pub NoFault : Type 0
-NoFault =
-    (start : Start) (events : List LineEvent) (world : World) (number : ℕ) (leg : Leg) → IsLast start events world
-    → IsFault start events (line_faults.Undetected number leg) → ⊥
-
 -- an input with a text has no fault
-pub IsSimulation-faultless : OneScript → NoBadLine → NoFault → (device : DeviceState) (input text : List ℕ) (fault : LineFault)
+pub IsSimulation-faultless : (device : DeviceState) (input text : List ℕ) (fault : LineFault)
     → IsSimulation device input text → HasLineFault device input fault → ⊥
-IsSimulation-faultless scripts lines worlds device input text (line_faults.BadLine number) p bad =
-    lines input p.events number p.script bad
-IsSimulation-faultless scripts lines worlds device input text (line_faults.Undetected number leg) p damage =
+IsSimulation-faultless device input text (line_faults.BadLine number) p bad =
+    cc (p.script.0, bad)
+IsSimulation-faultless device input text (line_faults.Undetected number leg) p damage =
     let Leads : List LineEvent → Type 0 = λ events. IsLast (start_with device) events p.world in
-    worlds (start_with device) damage.events p.world number leg
-    (subst Leads (scripts input p.events damage.events p.script damage.script) p.last) damage.is_fault
-IsSimulation-faultless scripts lines worlds device input text (line_faults.Memory none) p bad = bad
-
--- the laws of faults: a text has one first bad line at most, and a script one first leg whose damage is undetected
-abbrev pub OneBadLine : Type 0
-OneBadLine = (text : List ℕ) (number other : ℕ) → HasFirstBadLine text number → HasFirstBadLine text other → number ≡ other
-
-abbrev pub OneFault : Type 0
-OneFault =
-    (start : Start) (events : List LineEvent) (number other : ℕ) (leg another : Leg)
-    → IsFault start events (line_faults.Undetected number leg) → IsFault start events (line_faults.Undetected other another)
-    → (number ≡ other) × (leg ≡ another)
+    scripts_have_one_last_world-no_fault (start_with device) damage.events p.world number leg
+    (subst Leads (p.script.1 ∙ sym damage.script.1) p.last) damage.is_fault
+IsSimulation-faultless device input text (line_faults.Memory none) p bad = bad
 
 -- an input has one fault
-pub HasLineFault-one : OneScript → OneBadLine → NoBadLine → OneFault → (device : DeviceState) (input : List ℕ)
+pub HasLineFault-one : (device : DeviceState) (input : List ℕ)
     (fault other : LineFault) → HasLineFault device input fault → HasLineFault device input other → fault ≡ other
-HasLineFault-one scripts bad_lines lines legs device input (line_faults.BadLine number) (line_faults.BadLine other) p q =
-    ap (λ (n : ℕ). line_faults.BadLine n) (bad_lines input number other p q)
-HasLineFault-one scripts bad_lines lines legs device input (line_faults.BadLine number) (line_faults.Undetected other leg) p q =
-    absurd (lines input q.events number q.script p)
-HasLineFault-one scripts bad_lines lines legs device input (line_faults.Undetected number leg) (line_faults.BadLine other) p q =
-    absurd (lines input p.events other p.script q)
-HasLineFault-one scripts bad_lines lines legs device input (line_faults.Undetected number leg) (line_faults.Undetected other another)
+HasLineFault-one device input (line_faults.BadLine number) (line_faults.BadLine other) p q =
+    ap (λ (n : ℕ). line_faults.BadLine n) (cc (p, q))
+HasLineFault-one device input (line_faults.BadLine number) (line_faults.Undetected other leg) p q =
+    cc (q.script.0, p)
+HasLineFault-one device input (line_faults.Undetected number leg) (line_faults.BadLine other) p q =
+    cc (p.script.0, q)
+HasLineFault-one device input (line_faults.Undetected number leg) (line_faults.Undetected other another)
     p q =
     let At : List LineEvent → Type 0 = λ events. IsFault (start_with device) events (line_faults.Undetected number leg) in
-    let same = legs (start_with device) q.events number other leg another
-    (subst At (scripts input p.events q.events p.script q.script) p.is_fault) q.is_fault in
+    let same = scripts_have_one_last_world-one_fault (start_with device) q.events number other leg another
+    (subst At (p.script.1 ∙ sym q.script.1) p.is_fault) q.is_fault in
     ap₂ (λ (n : ℕ) (l : Leg). line_faults.Undetected n l) same.0 same.1
-HasLineFault-one scripts bad_lines lines legs device input (line_faults.Memory none) other p q = absurd p
-HasLineFault-one scripts bad_lines lines legs device input (line_faults.BadLine number) (line_faults.Memory none) p q = absurd q
-HasLineFault-one scripts bad_lines lines legs device input (line_faults.Undetected number leg) (line_faults.Memory none) p q = absurd q
+HasLineFault-one device input (line_faults.Memory none) other p q = absurd p
+HasLineFault-one device input (line_faults.BadLine number) (line_faults.Memory none) p q = absurd q
+HasLineFault-one device input (line_faults.Undetected number leg) (line_faults.Memory none) p q = absurd q

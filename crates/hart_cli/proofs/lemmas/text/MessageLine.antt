@@ -2,18 +2,15 @@
 use Rattle.std.proofs.Common.{◌≡◌, ℕ, List, ◌++◌, replicate, sym, ap, ◌∙◌, subst}
 use Rattle.hart_frame.specs.wire.FrameParts.{FrameParts}
 use Rattle.hart_frame.specs.wire.Body.{IsBody}
+use Rattle.hart_frame.proofs.lemmas.Laws.{bodies_are_unambiguous-one_body}
 use Rattle.hart_cli.specs.text.HexText.{hex_line}
 use Rattle.hart_cli.specs.text.MessageLine.{IsMessageLine}
 
--- the law of bodies: a frame has one body
-abbrev pub OneBody : Type 0
-OneBody = (f : FrameParts) (bytes others : List ℕ) → IsBody f bytes → IsBody f others → bytes ≡ others
-
 -- equal frames have one line
-pub IsMessageLine-one : OneBody → (f g : FrameParts) (preambles : ℕ) (xs ys : List ℕ) → f ≡ g → IsMessageLine f preambles xs
+pub IsMessageLine-one : (f g : FrameParts) (preambles : ℕ) (xs ys : List ℕ) → f ≡ g → IsMessageLine f preambles xs
     → IsMessageLine g preambles ys → xs ≡ ys
-IsMessageLine-one law f g preambles xs ys same p q =
+IsMessageLine-one f g preambles xs ys same p q =
     let P : FrameParts → Type 0 = λ frame. IsBody frame p.is_message.body in
-    let bodies = law g p.is_message.body q.is_message.body (subst P same p.is_message.is_body) q.is_message.is_body in
+    let bodies = bodies_are_unambiguous-one_body g p.is_message.body q.is_message.body (subst P same p.is_message.is_body) q.is_message.is_body in
     let messages = p.is_message.parts ∙ ap (λ (body : List ℕ). replicate preambles 255 ++ body) bodies ∙ sym q.is_message.parts in
     p.line ∙ ap hex_line messages ∙ sym q.line
