@@ -86,12 +86,12 @@ text_room {text = text} {rest = rest} old now scans waiting none few =
     (omega (arith, within.1, read, waiting.few, few, empty), omega (arith, within.0, read))
 
 -- lines are kept after others
-pub keeps_after : (a b : Scan) (before lines : List ℕ) → KeepsLines a b [] lines → KeepsLines a b before (before ++ lines)
-keeps_after a b before lines keeps = record {
+pub keeps_after : (a b : Scan) (before p q : List ℕ) → KeepsLines a b p q → KeepsLines a b (before ++ p) (before ++ q)
+keeps_after a b before p q keeps = record {
   given = keeps.given;
   moves = keeps.moves;
-  lines = ap (λ (xs : List ℕ). before ++ xs) keeps.lines;
-  few = omega (arith, keeps.few, length-append before lines);
+  lines = ap (λ (xs : List ℕ). before ++ xs) keeps.lines ∙ sym (append_assoc before p (dump_text keeps.given));
+  few = omega (arith, keeps.few, length-append before p, length-append before q);
 }
 
 -- a scanner that is not finished waits for more once it gives no frame
