@@ -13,6 +13,7 @@ use crate::fault::CliFault;
 use crate::input::{INPUT_LIMIT, InputEnd, PORTION_LEN, read_portion};
 use crate::output::write_all;
 use crate::stream::{Failed, Sink, Source};
+use crate::text::digits::Digits;
 use crate::text::items::may_begin;
 use hart_values::ByteList;
 use std::alloc::Global;
@@ -84,13 +85,14 @@ fn scan_input<R: Source, W: Sink>(
         (W.stream writer.old) (W.stream writer.new)
         frames.new result }
 {
+    let digits = Digits::new();
     let mut buffer = [0; PORTION_LEN];
     let mut ahead = Ahead::new();
     let mut place = 0;
     loop {
         let room = INPUT_LIMIT - place - ahead.len();
         let end = read_ahead(reader, &mut buffer, &mut ahead, room);
-        let rest = frames.scan_text(ahead.as_slice());
+        let rest = frames.scan_text(&digits, ahead.as_slice());
         write_all(writer, frames.lines.as_slice())?;
         frames.lines.clear();
         place += ahead.len() - rest.len();

@@ -9,6 +9,7 @@ ghost use Rattle.hart_cli.specs.text.Items.{NoPieceBegins};
 
 use crate::dump::text::push_frame_line;
 use crate::text::chunk::{Chunk, read_chunk};
+use crate::text::digits::Digits;
 use crate::text::items::leading_piece;
 use hart_frame::{Char, Scanner};
 use hart_values::ByteList;
@@ -43,7 +44,7 @@ impl FrameLines {
 
     /// Scans the items that a text begins with, keeps a line for each frame that they decide, and gives the rest of the text, at whose
     /// beginning no piece stands.
-    pub fn scan_text<'a>(&mut self, text: &'a [u8]) -> &'a [u8]
+    pub fn scan_text<'a>(&mut self, digits: &Digits, text: &'a [u8]) -> &'a [u8]
         requires waiting { IsWaiting self.old.scanner }
         requires none_kept { self.old.lines ≡ [] }
         requires few { length text.now ≤ most_ahead }
@@ -57,7 +58,7 @@ impl FrameLines {
         let mut chunk = Chunk::new();
         loop {
             chunk.clear();
-            let len = read_chunk(rest, &mut chunk);
+            let len = read_chunk(digits, rest, &mut chunk);
             self.scan_chunk(chunk.as_slice());
             rest = &rest[len..];
             let Some(lead) = leading_piece(rest) else {

@@ -1,0 +1,35 @@
+use Rattle.std.proofs.Common.{◌≡◌, ◌⊎◌, ◌<◌, ◌≤◌, ◌∙◌, ℕ, List, IsTrue, inl, inr, length, replicate, set, arith}
+use Rattle.std.proofs.lemmas.Bool.{cases_eq}
+use Rattle.std.proofs.lemmas.Grind.{get_or-set_at}
+use Rattle.std.proofs.lemmas.List.{get_or-replicate, get_or-set_other, set_past}
+use Rattle.hex.specs.Hex.{is_hex_digit}
+use Rattle.hart_line.specs.script.Items.{hex_value}
+use Rattle.hart_cli.specs.text.Digits.{AreDigitValues}
+use Rattle.hart_cli.proofs.text.digits.Digits.new.Goals as goal
+
+-- a table of numbers that are no values
+none_yet : (greater : ℕ) → 16 ≤ greater → AreDigitValues (replicate 256 greater)
+none_yet greater large byte below small = absurd (omega (arith, large, small, get_or-replicate 256 byte greater 0 below))
+
+-- a table with one value more
+one_more : (values : List ℕ) (place byte value : ℕ) → place ≡ byte → AreDigitValues values
+    → (value < 16 → IsTrue (is_hex_digit byte) × (hex_value byte ≡ value)) → AreDigitValues (set values place value)
+one_more values place byte value same are is other below small =
+    let order : (place < length values) ⊎ (length values ≤ place) = grind arith in
+    elim (cases_eq other place) [
+      | inl at ↦ elim order [
+        | inl within ↦
+            let new = get_or-set_at values place other value 0 at within in
+            rw (new, at ∙ same) (is (omega (arith, small, new)))
+        | inr past ↦ let kept = set_past values place value past in rw kept (are other below (rw kept at small))
+      ]
+      | inr apart ↦
+          let kept = get_or-set_other values place other value 0 apart in rw kept (are other below (rw kept at small))
+    ]
+
+pub loop-byte-init : goal.loop-byte-init
+loop-byte-init c = record { values = none_yet 255 (omega arith) }
+
+pub loop-byte-preserved : goal.loop-byte-preserved
+loop-byte-preserved c =
+    record { values = one_more c.loop-byte.values _ c.loop-byte.byte _ c.from.ensures c.loop-byte.invariant.values c.digit_value.ensures }
