@@ -43,8 +43,8 @@ IsTextFor-heard delivery brought device process answer text same_process brings 
 pub IsAnswer-one : (device : DeviceState) (input xs ys : List ℕ) → IsAnswer device input xs
     → IsAnswer device input ys → xs ≡ ys
 IsAnswer-one device input xs ys p q =
-    let same =
-    (one_input input (CameTo Ended) p.delivery q.delivery None None (HasChars.all p.delivery p.reads) (HasChars.all q.delivery q.reads)).0 in
+    let one = HasChars.all p.delivery p.reads in
+    let same = (one_input input (CameTo Ended) p.delivery q.delivery None None one (HasChars.all q.delivery q.reads)).0 in
     let P : List Character → Type 0 = λ delivery. IsTextFor device delivery xs in
     IsTextFor-one device q.delivery xs ys (subst P same p.text_for) q.text_for
 

@@ -131,8 +131,8 @@ fails_no_other_way word room r out e half given is even digits =
     ]
 
 -- an image has one fault
-pub HasImageFault-one : OneImageFault → (image : Option (List ℕ)) (fault other : CliFault) → HasImageFault image fault → HasImageFault image other
-    → fault ≡ other
+pub HasImageFault-one : OneImageFault → (image : Option (List ℕ)) (fault other : CliFault) → HasImageFault image fault
+    → HasImageFault image other → fault ≡ other
 HasImageFault-one faults (Some word) (BadHex place) (BadHex other) p q = ap (λ (n : ℕ). BadHex n) (IsBadHexWord-one word place other p q)
 HasImageFault-one faults (Some word) (BadHex place) (Image other) p q = absurd (bad_is_no_word word place q.0 p q.1)
 HasImageFault-one faults (Some word) (BadHex place) _ p q = absurd q

@@ -164,8 +164,8 @@ IsSimulation-one device input xs ys p q =
     let Leads : List LineEvent → Type 0 = λ events. IsLast start events p.world in
     let led = subst Leads (p.script.1 ∙ sym q.script.1) p.last in
     let Says : World → Type 0 = λ world. IsWorldText start world xs in
-    IsWorldText-one start q.world xs ys (subst Says (scripts_have_one_last_world-one_world start q.events p.world q.world led q.last) p.world_text)
-    q.world_text
+    let same = scripts_have_one_last_world-one_world start q.events p.world q.world led q.last in
+    IsWorldText-one start q.world xs ys (subst Says same p.world_text) q.world_text
 
 -- an input with a text has no fault
 pub IsSimulation-faultless : (device : DeviceState) (input text : List ℕ) (fault : LineFault)
