@@ -1,6 +1,7 @@
 //! Where the parts of a body stand.
 ghost use Rattle.std.specs.Prelude.{◌≡◌, ◌+◌, ◌<◌, ◌^◌, List, ℕ, IfOk, OnOk, IfErr};
 ghost use Rattle.hart_frame.specs.wire.Refusal.{IsRefusedWith, HasGoodByteCount};
+ghost use Rattle.hart_frame.specs.wire.Layout.{body_length, byte_count_in, delimiter_in};
 
 use crate::wire::delimiter::{UNIQUE_COMMAND_PLACE, read_delimiter};
 use crate::{FrameFault, FrameKind};
@@ -16,7 +17,7 @@ pub(crate) struct Layout {
 }
 
 impl Layout {
-    ghost use Rattle.hart_frame.specs.wire.Layout.{Describes, body_length, layout_length};
+    ghost use Rattle.hart_frame.specs.wire.Layout.{Describes, layout_length};
 
     /// The layout of the body that these bytes may begin with.
     ///
@@ -47,7 +48,8 @@ impl Layout {
 
 /// The length of the body of a request at a unique address, without expansion bytes, that has this byte count.
 pub fn unique_request_len(byte_count: u8) -> usize
-    ensures { result ≡ 9 + byte_count }
+    ensures len { result ≡ 9 + byte_count }
+    ensures body { (bytes : List ℕ) → delimiter_in bytes ≡ 0x82 → byte_count_in bytes ≡ byte_count → body_length bytes ≡ result }
 {
     body_len(UNIQUE_COMMAND_PLACE, byte_count)
 }
