@@ -177,22 +177,30 @@ fn push(scanner: &mut Scanner, character: Char) -> Option<()> {
     Some(())
 }
 
-/// As `by_character`, by chunks of so many characters at most. Characters with faults are pushed alone.
-fn by_chunks(chars: &[Char], size: usize) -> Option<usize> {
+/// What a chunk is made of.
+#[derive(Clone, Copy)]
+enum Chunks {
+    /// Faultless bytes; a character with faults is pushed alone.
+    Bytes,
+    /// Characters with and without faults.
+    Chars,
+}
+
+/// As `by_character`, by chunks of so many characters at most.
+fn by_chunks(chars: &[Char], size: usize, chunks: Chunks) -> Option<usize> {
     let mut scanner = Scanner::new();
     let mut heard: usize = 0;
     let mut stop = 0;
     for _ in 0..chars.len() {
         let rest = chars.get(heard..)?;
-        let Some(next) = rest.first() else {
+        if rest.is_empty() {
             break;
+        }
+        let count = match chunks {
+            Chunks::Bytes => push_bytes(&mut scanner, rest, size)?,
+            Chunks::Chars => push_chars(&mut scanner, rest, size)?,
         };
-        heard = if next.is_faultless() {
-            heard.checked_add(push_bytes(&mut scanner, rest, size)?)?
-        } else {
-            push(&mut scanner, *next)?;
-            heard.checked_add(1)?
-        };
+        heard = heard.checked_add(count)?;
         stop = taken(&mut scanner, chars, stop)?;
     }
     if heard != chars.len() {
@@ -201,8 +209,14 @@ fn by_chunks(chars: &[Char], size: usize) -> Option<usize> {
     last_taken(&mut scanner, chars, stop)
 }
 
-/// Pushes the first faultless characters, so many at most, if the scanner is drained, and gives how many it heard.
+/// Pushes the first faultless characters, so many at most, or the first if it has faults, if the scanner is drained, and gives how
+/// many it heard.
 fn push_bytes(scanner: &mut Scanner, chars: &[Char], size: usize) -> Option<usize> {
+    let first = chars.first()?;
+    if !first.is_faultless() {
+        push(scanner, *first)?;
+        return Some(1);
+    }
     let mut bytes = [0; MOST_RUN];
     let mut count: usize = 0;
     for (place, character) in bytes.iter_mut().zip(chars.iter().take(size)) {
@@ -218,12 +232,24 @@ fn push_bytes(scanner: &mut Scanner, chars: &[Char], size: usize) -> Option<usiz
     Some(scanner.push_bytes(bytes.get(..count)?))
 }
 
-/// Whether the last frame of a list stops there, character by character and by chunks of every size.
+/// Pushes the first characters, so many at most, if the scanner is drained, and gives how many it heard.
+fn push_chars(scanner: &mut Scanner, chars: &[Char], size: usize) -> Option<usize> {
+    let chunk = chars.get(..chars.len().min(size))?;
+    if !scanner.is_drained() || scanner.pushed() >= MOST_PUSHED {
+        return None;
+    }
+    Some(scanner.push_chars(chunk))
+}
+
+/// Whether the last frame of a list stops there, by chunks of every size.
+fn stops_by_chunks_at(chars: &[Char], stop: usize, chunks: Chunks) -> bool {
+    RUNS.iter()
+        .all(|size| by_chunks(chars, *size, chunks) == Some(stop))
+}
+
+/// Whether the last frame of a list stops there, character by character and by chunks of bytes.
 fn stops_every_way_at(chars: &[Char], stop: usize) -> bool {
-    by_character(chars) == Some(stop)
-        && RUNS
-            .iter()
-            .all(|size| by_chunks(chars, *size) == Some(stop))
+    by_character(chars) == Some(stop) && stops_by_chunks_at(chars, stop, Chunks::Bytes)
 }
 
 #[test]
@@ -231,6 +257,10 @@ fn a_scanner_gives_the_frames(rt: HostRuntime) -> Result<(), Fail> {
     for (row, (parts, want)) in HEARD.iter().enumerate() {
         let chars = heard(rt.alloc(), parts)?;
         assert!(rt; stops_every_way_at(&chars, *want), "of row {row}");
+        assert!(rt;
+            stops_by_chunks_at(&chars, *want, Chunks::Chars),
+            "of row {row}"
+        );
     }
     Ok(())
 }
