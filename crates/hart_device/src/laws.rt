@@ -21,8 +21,7 @@ ghost use Rattle.hart_device.specs.Device.{DeviceState, Nothing, Executes, Reset
 ghost use Rattle.hart_device.specs.image.Image.{IsImageOf, IsImageFault};
 
 use hart_commands::all_registers_are_listed_once;
-use hart_frame::{every_list_has_frames, first_starts_are_decided, frames_are_unambiguous};
-use hart_values::{address_bytes_are_unambiguous, packed_text_and_bytes_determine_each_other};
+use hart_values::packed_text_and_bytes_determine_each_other;
 
 /// A command that is refused, or not answered, has no effect. It changes nothing of the device but the cold start bit of its master,
 /// which the reply shows and clears; without a reply nothing changes at all.
