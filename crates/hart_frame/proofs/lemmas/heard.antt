@@ -8,5 +8,4 @@ pub mod Message
 pub mod Delivery
 pub mod Damage
 pub mod Example
-pub mod Prefix
 pub mod Start

@@ -1,5 +1,6 @@
 -- On the wire: a frame, and the bytes of its body and its message.
 pub mod Parity
+pub mod Prefix
 pub mod Lane
 pub mod Body
 pub mod UnambiguousBodies

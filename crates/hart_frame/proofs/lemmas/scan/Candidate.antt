@@ -20,7 +20,7 @@ use Rattle.hart_frame.specs.declared.wire.fault.FrameFault.TheVariants.{BadCheck
 use Rattle.hart_frame.specs.declared.wire.layout.Layout.{Layout}
 use Rattle.hart_frame.specs.declared.scan.candidate.Candidate.TheVariants.{Never, Whole}
 use Rattle.hart_frame.proofs.lemmas.heard.Body.{BeginsWithBody-heard, bytes_of-faultless, faultless-one}
-use Rattle.hart_frame.proofs.lemmas.heard.Prefix.{Describes-prefix, HasCheckByte-prefix, refused_more}
+use Rattle.hart_frame.proofs.lemmas.wire.Prefix.{Describes-prefix, HasCheckByte-prefix, refused_more}
 use Rattle.hart_frame.proofs.lemmas.heard.Place.{StandsIn-within, preamble}
 use Rattle.hart_frame.proofs.lemmas.wire.Parity.{check-even, even-check}
 use Rattle.hart_frame.proofs.lemmas.wire.Refusal.{not_refused}

@@ -57,19 +57,6 @@ never_other xs here count below within other =
     ∙ ap (take (suc (count - (here + 1)))) (drop_more xs here 0 (omega (arith, below, within))) in
     subst NeverBegin (sym rest) (never_first (get_or xs here 0) _ other)
 
--- a search begins where it is told to
-pub searching_start : (xs : List ℕ) (from seen : ℕ) → from ≤ seen → seen ≤ length xs → seen ≤ from + 269
-    → IsSearching xs from seen from seen
-searching_start xs from seen order within few = record {
-  after = omega arith;
-  place_within = omega (arith, order, within);
-  late = omega arith;
-  within = within;
-  few = few;
-  none = λ count here later all since below there. absurd (omega (arith, since, below));
-  before = λ fewer late early. absurd (omega (arith, late, early));
-}
-
 -- nothing is decided of so many bytes if what they have from the place of the search on may begin a frame
 still_open : (xs : List ℕ) (from seen place decided fewer : ℕ) → IsSearching xs from seen place decided → decided ≤ fewer
     → fewer ≤ length xs → from ≤ fewer → (place ≤ fewer → MayBegin (take (fewer - place) (drop place xs))) → IsOpenFrom (take fewer xs) from

@@ -2,7 +2,6 @@
 use Rattle.std.proofs.Common.{◌≡◌, ℕ, fold, bit_xor, ◌+◌, ◌-◌, ◌%◌, ◌<◌, ◌≤◌, ◌⊎◌, inl, inr, List, [], ◌∷◌, ◌++◌, length, take, get_or}
 use Rattle.std.proofs.Common.{replicate, refl, sym, ap, ◌∙◌, arith, append_assoc, length-append, subst}
 use Rattle.std.specs.List.{All}
-use Rattle.std.proofs.Math.ListN.{get_or-append}
 use Rattle.std.proofs.lemmas.List.{take_at, take_all, take-append-le, get_or_at, get_or_past, length-replicate}
 use Rattle.std.proofs.lemmas.List.Elements.{All-append, All-replicate, All-push, All-get_or}
 use Rattle.hart_frame.specs.declared.wire.kind.FrameKind.{FrameKind}
@@ -18,6 +17,7 @@ use Rattle.hart_frame.proofs.lemmas.wire.Body.{IsBody-push}
 use Rattle.hart_frame.proofs.lemmas.wire.UnambiguousBodies.{address_type-lt, kind_code-is}
 use Rattle.hart_frame.proofs.lemmas.wire.Refusal.{says, IsDelimiter-of}
 use Rattle.hart_frame.proofs.lemmas.wire.BodiesFound.{held_frame, Fit}
+use Rattle.hart_frame.proofs.lemmas.wire.Prefix.{HasGoodByteCount-more, count_more, count_place_more, delimiter_more}
 
 -- every element is a byte
 abbrev AreBytes : List ℕ → Type 0
@@ -30,33 +30,6 @@ fits_at bytes fit i =
       | inl below ↦ All-get_or (λ byte. byte < 256) bytes i 0 below fit
       | inr past ↦ omega (arith, get_or_past bytes i 0 past)
     ]
-
--- what follows changes neither the delimiter, nor where the byte count stands, nor the byte count
-delimiter_in-append : (bytes rest : List ℕ) → 0 < length bytes → delimiter_in (bytes ++ rest) ≡ delimiter_in bytes
-delimiter_in-append bytes rest some = get_or-append bytes rest 0 0 some
-
-byte_count_place-append : (bytes rest : List ℕ) → 0 < length bytes → byte_count_place (bytes ++ rest) ≡ byte_count_place bytes
-byte_count_place-append bytes rest some = omega (arith, delimiter_in-append bytes rest some)
-
-byte_count_in-append : (bytes rest : List ℕ) → 0 < length bytes → byte_count_place bytes < length bytes
-    → byte_count_in (bytes ++ rest) ≡ byte_count_in bytes
-byte_count_in-append bytes rest some within =
-    ap (λ (n : ℕ). get_or (bytes ++ rest) n 0) (byte_count_place-append bytes rest some)
-    ∙ get_or-append bytes rest 0 (byte_count_place bytes) within
-
-HasGoodByteCount-append : (bytes rest : List ℕ) → HasGoodByteCount bytes → HasGoodByteCount (bytes ++ rest)
-HasGoodByteCount-append bytes rest good =
-    let some : 0 < length bytes = good.0.0.0 in
-    let delimiter = delimiter_in-append bytes rest some in
-    let place = byte_count_place-append bytes rest some in
-    let count = byte_count_in-append bytes rest some good.0.1 in
-    let long = length-append bytes rest in
-    let is : IsDelimiter (delimiter_in (bytes ++ rest)) = subst IsDelimiter (sym delimiter) good.0.0.1 in
-    let enough : (delimiter_in (bytes ++ rest) % 8 ≡ 2) ⊎ (2 ≤ byte_count_in (bytes ++ rest)) = elim good.1 [
-      | inl stx ↦ inl (ap (λ (d : ℕ). d % 8) delimiter ∙ stx)
-      | inr two ↦ inr (omega (arith, count, two))
-    ] in
-    (((omega (arith, long, some), is), omega (arith, long, place, good.0.1)), enough)
 
 -- what can become a body with some bytes after it can without them
 CanBecomeBody-prefix : (bytes more : List ℕ) → CanBecomeBody (bytes ++ more) → CanBecomeBody bytes
@@ -77,12 +50,12 @@ CanBecomeBody-last bytes fit good last =
     let whole : List ℕ = bytes ++ check ∷ [] in
     let some : 0 < length bytes = good.0.0.0 in
     let long = length-append bytes (check ∷ []) in
-    let place = byte_count_place-append bytes (check ∷ []) some in
-    let count = byte_count_in-append bytes (check ∷ []) some good.0.1 in
+    let place = count_place_more bytes (check ∷ []) some in
+    let count = count_more bytes (check ∷ []) good.0.1 in
     let len : body_length whole ≡ length whole = omega (arith, place, count, last, long) in
     let all_fit : AreBytes whole = All-push (λ byte. byte < 256) bytes check fit is.byte in
     let fits : Fit whole (body_length whole) = λ k below. fits_at whole all_fit k in
-    let held = held_frame whole fits (HasGoodByteCount-append bytes (check ∷ []) good, omega (arith, len)) in
+    let held = held_frame whole fits (HasGoodByteCount-more bytes (check ∷ []) good, omega (arith, len)) in
     let prefix : take (body_length whole - 1) whole ≡ bytes =
     take_at bytes (check ∷ []) (body_length whole - 1) (omega (arith, len, long)) in
     let Checked : List ℕ → Type 0 = λ xs. IsCheckedPart held.frame xs in
@@ -102,13 +75,13 @@ CanBecomeBody-counted bytes fit good short =
     let missing = body_length bytes - 1 - length bytes in
     let zeros : List ℕ = replicate missing 0 in
     let some : 0 < length bytes = good.0.0.0 in
-    let place = byte_count_place-append bytes zeros some in
-    let count = byte_count_in-append bytes zeros some good.0.1 in
+    let place = count_place_more bytes zeros some in
+    let count = count_more bytes zeros good.0.1 in
     let long : length (bytes ++ zeros) ≡ length bytes + missing =
     length-append bytes zeros ∙ ap (λ (n : ℕ). length bytes + n) (length-replicate missing 0) in
     let fits = All-append (λ byte. byte < 256) bytes zeros fit (All-replicate (λ byte. byte < 256) missing 0 (omega arith)) in
     CanBecomeBody-prefix bytes zeros (
-    CanBecomeBody-last (bytes ++ zeros) fits (HasGoodByteCount-append bytes zeros good) (omega (arith, place, count, long, short))
+    CanBecomeBody-last (bytes ++ zeros) fits (HasGoodByteCount-more bytes zeros good) (omega (arith, place, count, long, short))
     )
 
 -- bytes that end before their byte count get one of 2
@@ -123,9 +96,9 @@ CanBecomeBody-begun bytes fit has short =
     length-append bytes zeros ∙ (let zeros_long = length-replicate {A = ℕ} missing 0 in omega (arith, zeros_long, short)) in
     let some : 0 < length prefix = omega (arith, prefix_long, has.0, short) in
     let long = length-append prefix (2 ∷ []) in
-    let delimiter = delimiter_in-append prefix (2 ∷ []) some ∙ delimiter_in-append bytes zeros has.0 in
+    let delimiter = delimiter_more prefix (2 ∷ []) some ∙ delimiter_more bytes zeros has.0 in
     let place : byte_count_place whole ≡ byte_count_place bytes =
-    byte_count_place-append prefix (2 ∷ []) some ∙ byte_count_place-append bytes zeros has.0 in
+    count_place_more prefix (2 ∷ []) some ∙ count_place_more bytes zeros has.0 in
     let count : byte_count_in whole ≡ 2 = get_or_at prefix 2 [] 0 (byte_count_place whole) (prefix_long ∙ sym place) in
     let is : IsDelimiter (delimiter_in whole) = subst IsDelimiter (sym delimiter) has.1 in
     let good : HasGoodByteCount whole =
@@ -168,14 +141,14 @@ IsTruncated-becomes bytes rest f len begins short =
     elim some [
       | inl none ↦ inl none
       | inr any ↦
-          let same = delimiter_in-append bytes rest any in
-          let place = byte_count_place-append bytes rest any in
+          let same = delimiter_more bytes rest any in
+          let place = count_place_more bytes rest any in
           let of : delimiter_of f ≡ delimiter_in bytes = sym said.delimiter ∙ same in
           let is : IsDelimiter (delimiter_in bytes) = subst IsDelimiter of (IsDelimiter-of f part.expansion_fits) in
           elim long [
             | inr no_count ↦ inr (inl ((any, is), no_count))
             | inl within ↦
-                let count = byte_count_in-append bytes rest any within in
+                let count = count_more bytes rest within in
                 let kind = kind_code-is f.kind in
                 let form : address_type f.address < 2 = address_type-lt f.address in
                 let low : delimiter_in bytes % 8 ≡ kind_code f.kind = omega (arith, of, kind, form, part.expansion_fits) in
