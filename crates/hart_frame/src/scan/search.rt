@@ -1,11 +1,11 @@
 //! The search of frames in faultless bytes, where they lie.
-ghost use Rattle.std.specs.Prelude.{None, false, ◌≡◌, ◌≢◌, ◌<◌, ◌≤◌, ◌+◌, ℕ, All, MatchOption, length, slice_index, take};
+ghost use Rattle.std.specs.Prelude.{None, ◌≡◌, ◌≢◌, ◌<◌, ◌≤◌, ◌+◌, ℕ, All, MatchOption, length, slice_index, take};
 ghost use Rattle.hart_frame.specs.scan.Search.{HasNoPreamble, IsNextCandidate, IsSearched};
 
 use crate::scan::candidate::{Candidate, candidate_in};
 use crate::wire::layout::Layout;
 use crate::wire::message::PREAMBLE;
-use std::simd::prelude::*;
+use memchr::memchr;
 
 /// What a search of bytes finds.
 #[derive(Clone, Copy)]
@@ -82,31 +82,10 @@ fn next_preamble(bytes: &[u8], from: usize) -> usize
     if bytes.get(from) == Some(&PREAMBLE) {
         return from;
     }
-    let start = skip_others(bytes, from);
-    start + other_bytes(&bytes[start..])
-}
-
-/// A later place, with no preamble byte before it from a place on: whole blocks of 32 other bytes are passed.
-fn skip_others(bytes: &[u8], from: usize) -> usize
-    requires { from ≤ length bytes.now }
-    ensures after { from ≤ result }
-    ensures within { result ≤ length bytes.now }
-    ensures others { (place : ℕ) → from ≤ place → place < result → slice_index bytes.now place ≢ 255 }
-{
-    let mut place = from;
-    while bytes.len() - place >= 32 && !has_preamble(bytes, place) {
-        place += 32;
+    match memchr(PREAMBLE, &bytes[from..]) {
+        Some(offset) => from + offset,
+        None => bytes.len(),
     }
-    place
-}
-
-/// Whether a preamble byte is among the 32 bytes from a place on.
-fn has_preamble(bytes: &[u8], at: usize) -> bool
-    requires { at + 32 ≤ length bytes.now }
-    ensures { result ≡ false → (place : ℕ) → at ≤ place → place < at + 32 → slice_index bytes.now place ≢ 255 }
-{
-    let block = u8x32::from_slice(&bytes[at..]);
-    block.simd_eq(u8x32::splat(PREAMBLE)).to_bitmask() != 0
 }
 
 /// The place of the first other byte from a place on, or the place after the last byte if there is none.
@@ -118,18 +97,6 @@ fn preamble_end(bytes: &[u8], from: usize) -> usize
     ensures other { result < length bytes.now → slice_index bytes.now result ≢ 255 }
 {
     from + preamble_bytes(&bytes[from..])
-}
-
-/// How many bytes stand before the first preamble byte.
-fn other_bytes(bytes: &[u8]) -> usize
-    ensures within { result ≤ length bytes.now }
-    ensures others { All (λ byte. byte ≢ 255) (take result bytes.now) }
-    ensures first { result < length bytes.now → slice_index bytes.now result ≡ 255 }
-{
-    bytes
-        .iter()
-        .position(|byte| *byte == PREAMBLE)
-        .unwrap_or(bytes.len())
 }
 
 /// How many preamble bytes stand before the first other byte.

@@ -1,28 +1,30 @@
-use Rattle.std.proofs.Common.{◌≡◌, ◌≢◌, ◌+◌, ◌-◌, ◌<◌, ◌≤◌, ◌⊎◌, inl, inr}
-use Rattle.std.proofs.Common.{ℕ, length, drop, take, slice_index, arith, sym, ◌∙◌, ap, length-drop}
+use Rattle.std.proofs.Common.{◌≡◌, ◌≢◌, ◌≤◌, ◌<◌, ◌+◌, ◌-◌, ◌==◌, true, ℕ, List, length, drop, take, slice_index, arith, length-drop, ◌∙◌}
+use Rattle.std.proofs.lemmas.Bool.Decides.{nat_tests}
 use Rattle.std.proofs.lemmas.List.{length-take-le}
-use Rattle.hart_frame.proofs.lemmas.scan.Search.{all_rest, read_rest}
+use Rattle.memchr.specs.Find.{Nowhere, Passes, is_byte}
+use Rattle.hart_frame.proofs.lemmas.scan.Search.{read_rest}
 use Rattle.hart_frame.proofs.scan.search.next_preamble.Goals as goal
 
-pub returns : goal.returns
-returns c =
-    let bytes = c.args.bytes.now in
-    let start = c.skip_others-start.result in
-    let skipped = c.skip_others-start.ensures in
-    let count = c.other_bytes.result in
-    let long : length (take (length bytes - start) (drop start bytes)) ≡ length bytes - start =
-    length-take-le (length bytes - start) (drop start bytes) (omega (arith, length-drop start bytes)) in
-    let within = c.other_bytes.ensures.within in
-    let later = all_rest bytes start count (λ byte. byte ≢ 255) (omega (arith, within, long)) c.other_bytes.ensures.others in
-    record {
-      after = omega (arith, skipped.after);
-      within = omega (arith, within, long, skipped.within);
-      others = λ place after before.
-          let cases : (place < start) ⊎ (start ≤ place) = grind arith in
-          elim cases [ inl early ↦ skipped.others place after early | inr late ↦ later place late before ];
-      preamble = λ before.
-          sym (read_rest bytes start (start + count) (omega arith) before)
-          ∙ ap (λ (k : ℕ). slice_index (take (length bytes - start) (drop start bytes)) k)
-          (let e : start + count - start ≡ count = omega arith in e)
-          ∙ c.other_bytes.ensures.first (omega (arith, before, long));
-    }
+-- a byte that does not pass the test is another
+is_other : (byte : ℕ) → ((byte == 255) ≡ true → ⊥) → byte ≢ 255
+is_other byte other same = other (grind (arith, nat_tests, same))
+
+-- where no byte of the rest passes it, none of the list does
+others : (bytes : List ℕ) (from count : ℕ) → Nowhere (Passes (is_byte 255) (take (length bytes - from) (drop from bytes))) 0 count
+    → count ≤ length bytes - from → (place : ℕ) → from ≤ place → place < from + count → slice_index bytes place ≢ 255
+others bytes from count nowhere within place after before same =
+    is_other _ (nowhere (place - from) (omega arith) (omega (arith, after, before)))
+    (read_rest bytes from place after (omega (arith, before, within)) ∙ same)
+
+-- the rest is as long as the list is after the place
+long : (bytes : List ℕ) (from : ℕ) → length (take (length bytes - from) (drop from bytes)) ≡ length bytes - from
+long bytes from = length-take-le (length bytes - from) (drop from bytes) (omega (arith, length-drop from bytes))
+
+pub returns-in-Some-clause-others : goal.returns-in-Some-clause-others
+returns-in-Some-clause-others c = others c.args.bytes.now c.args.from c.in-Some.offset c.in-Some.ensures.0.before
+    (omega (arith, c.in-Some.ensures.0.high, long c.args.bytes.now c.args.from))
+
+pub returns-in-None-clause-others : goal.returns-in-None-clause-others
+returns-in-None-clause-others c = λ place after before.
+    others c.args.bytes.now c.args.from _ c.in-None.ensures (omega (arith, long c.args.bytes.now c.args.from)) place after
+    (omega (arith, before, long c.args.bytes.now c.args.from))
