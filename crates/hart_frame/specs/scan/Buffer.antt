@@ -33,8 +33,8 @@ scan_of b = record {
   drained = is_drained b.state;
 }
 
--- Characters are stored if they are at most 269, of which the last alone may have faults; the list has at most 538 bytes, and
--- places fit in 64 bits.
+-- Characters are stored if the held bytes begin within the list, which has at most 538; the character kept after them, if there is
+-- one, has faults; together they are at most 269, and their places fit in 64 bits.
 pub record IsStored (b : Buffer) : Type 0 where
   pub within : b.from ≤ length b.bytes
   pub room : length b.bytes ≤ 538

@@ -68,7 +68,7 @@ IsCandidate bytes (Never count) = (count ≤ length bytes) × NeverBegin (take c
 IsCandidate bytes Open = MayBegin bytes
 IsCandidate bytes (Whole layout) = IsWhole layout bytes × MayBeginBefore (2 + layout_length layout) bytes
 
--- Between so many and so many bytes show that no frame begins; open ones are fewer; no body has more than 267.
+-- Between so many and so many bytes show that no frame begins; open ones are fewer than the second number; no body has more than 267.
 abbrev pub IsShort : ℕ → ℕ → List ℕ → Candidate → Type 0
 IsShort least most bytes (Never count) = (least ≤ count) × (count ≤ most)
 IsShort least most bytes Open = length bytes < most

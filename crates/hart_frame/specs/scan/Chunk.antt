@@ -28,7 +28,7 @@ pub record Hears (old new : Scan) (chunk : List Character) (count : ℕ) : Type 
   pub finished : new.finished ≡ old.finished
 
 -- A scanner hears some first characters of a chunk, at most up to the first at which a frame is decided: nothing is decided in what
--- it then holds, or a frame begins that.
+-- it then holds, or that begins with a frame.
 pub record HearsPart (old new : Scan) (chunk : List Character) (count : ℕ) : Type 0 where
   pub within : count ≤ length chunk
   pub some : 0 < count

@@ -25,9 +25,9 @@ abbrev pub IsOpenAll : List ℕ → Sighting → Type 0
 IsOpenAll bytes found =
     (found.decided ≡ length bytes) × (length bytes < found.place + 269) × MayBegin (drop found.place bytes)
 
--- A search of a list from a place on finds a place at or after it, at most 269 bytes before the end of those that show it: no frame
--- begins before it, and from it on these bytes begin with a frame, or else all bytes decide nothing; and fewer, from those seen
--- before on, decide nothing.
+-- A search of a list from a place on finds a place at or after it, at most 269 bytes before the end of those that show it, which
+-- are at least those seen before: no frame begins before it, and from it on these bytes begin with a frame, or else all bytes decide
+-- nothing; and fewer, from those seen before on, decide nothing.
 pub record IsSearched (bytes : List ℕ) (from seen : ℕ) (found : Sighting) : Type 0 where
   pub after : from ≤ found.place
   pub order : found.place ≤ found.decided
@@ -48,7 +48,7 @@ abbrev pub HasThree : List ℕ → ℕ → Type 0
 HasThree bytes place = (place + 3 ≤ length bytes) × (slice_index bytes place ≡ 255) × (slice_index bytes (place + 1) ≡ 255)
     × (slice_index bytes (place + 2) ≡ 255)
 
--- The next candidate from a place on is the first preamble byte that no two more follow.
+-- The next candidate from a place on is the first preamble byte at or after it, right after which there are not two more.
 pub record IsNextCandidate (bytes : List ℕ) (from start : ℕ) : Type 0 where
   pub after : from ≤ start
   pub within : start < length bytes

@@ -216,7 +216,7 @@ impl Buffer {
         }
     }
 
-    /// Passes all bytes of the list, and removes them if there is no room after them for as many as are held.
+    /// Passes all bytes of the list, and removes them if there is no room after them for as many as may be held.
     fn pass_all(&mut self)
         ensures room { length self.new.bytes + 269 ≤ 538 }
         ensures same { self.new ≡ record self.old { bytes = self.new.bytes; from = length self.new.bytes } }
