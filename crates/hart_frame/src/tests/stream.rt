@@ -248,7 +248,7 @@ fn stops_by_chunks_at(chars: &[Char], stop: usize, chunks: Chunks) -> bool {
 }
 
 /// Whether the last frame of a list stops there, character by character and by chunks of bytes.
-fn stops_every_way_at(chars: &[Char], stop: usize) -> bool {
+fn stops_at(chars: &[Char], stop: usize) -> bool {
     by_character(chars) == Some(stop) && stops_by_chunks_at(chars, stop, Chunks::Bytes)
 }
 
@@ -256,7 +256,7 @@ fn stops_every_way_at(chars: &[Char], stop: usize) -> bool {
 fn a_scanner_gives_the_frames(rt: HostRuntime) -> Result<(), Fail> {
     for (row, (parts, want)) in HEARD.iter().enumerate() {
         let chars = heard(rt.alloc(), parts)?;
-        assert!(rt; stops_every_way_at(&chars, *want), "of row {row}");
+        assert!(rt; stops_at(&chars, *want), "of row {row}");
         assert!(rt;
             stops_by_chunks_at(&chars, *want, Chunks::Chars),
             "of row {row}"
@@ -329,7 +329,7 @@ fn noise_is_passed(rt: HostRuntime) -> Result<(), Fail> {
         let chars = heard(rt.alloc(), parts)?;
         let bytes = bytes_of(rt.alloc(), &chars)?;
         let passed = match noise_stop(&chars, want) {
-            Some(stop) => stops_every_way_at(&chars, stop) && at_once(&chars, &bytes) == Some(stop),
+            Some(stop) => stops_at(&chars, stop) && at_once(&chars, &bytes) == Some(stop),
             None => false,
         };
         assert!(rt; passed, "of row {row}");
