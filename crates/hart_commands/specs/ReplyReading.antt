@@ -1,4 +1,4 @@
--- How the data of a reply with code 0 are read, where so many bytes and a content do not say it (HCF_SPEC-127).
+-- How the data of a reply with code 0 are read (HCF_SPEC-127).
 use Rattle.std.specs.Prelude.{ℕ, ◌+◌, ◌-◌, ◌*◌, ◌/◌, ◌==◌, ◌&&◌, min, nat_lt, if◌then◌else◌, List, [], ◌∷◌, length, take, drop, map}
 use Rattle.std.specs.Prelude.{slice_index, Option, Some, None}
 use Rattle.std.specs.Simd.{first_chunks}

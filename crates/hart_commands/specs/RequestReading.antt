@@ -1,4 +1,4 @@
--- How the data bytes of a request are read, where a command reads them in a way of its own (HCF_SPEC-127). Of the own profile are
+-- How the data bytes of a request are read (HCF_SPEC-127). Of the own profile are
 -- the meanings of the codes 9 and 12, and the order of refusals.
 use Rattle.std.specs.Prelude.{ℕ, ◌+◌, ◌*◌, ◌==◌, nat_lt, if◌then◌else◌, List, [], ◌∷◌, length, take, Result, Ok, Err, Some, None}
 use Rattle.hart_values.specs.declared.loop_mode.LoopMode.TheVariants.{Disabled, Enabled}

@@ -95,7 +95,7 @@ pub fn overwrites_are_valid()
 {}
 
 /// The payload that a reply is written as is read as that reply, for every well-made reply; and every reply that is read is
-/// well made, and is written as the front of the payload that it was read from, so nothing that it says is lost.
+/// well made, and is written as the front of the payload that it was read from: its bytes are handed on as they came.
 pub fn written_payloads_are_read_again()
     ensures again { (reply : Reply) → IsReply reply → reply_reading reply.command (reply_payload reply) ≡ Some reply }
     ensures well_made { (command : ℕ) (payload : List ℕ) (reply : Reply)

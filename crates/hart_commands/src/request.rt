@@ -215,7 +215,7 @@ impl Request {
     }
 }
 
-/// Whether a command is known: whether [`Request::read`] refuses its data with another code than 64, if it does.
+/// Whether a command is known: whether [`Request::read`] refuses no data of it with code 64.
 pub(crate) fn is_known(command: u8) -> bool
     ensures { result ≡ is_known command }
 {

@@ -75,7 +75,7 @@ preambles_of word =
     let count = digits_value 10 digits in
     if all_ascii_digits digits && nat_lt 0 (length digits) && nat_le 5 count && nat_le count 20 then Some count else None
 
--- A number of preamble bytes and three words with the data are what `encode` is given, if none but the data is missing.
+-- A number of preamble bytes and three words with the data are what `encode` is given, if none of the first four is missing.
 abbrev pub message_words : Option ℕ → Option Text → Option Text → Option Text → Text → Option MessageWords
 message_words (Some preambles) (Some who) (Some address) (Some command) payload =
     Some (record { who = who; address = address; command = command; payload = payload; preambles = preambles })
@@ -88,8 +88,8 @@ words_of rows = message_words
     (first_of (codes "WHO") rows) (first_of (codes "ADDRESS") rows) (first_of (codes "COMMAND") rows)
     (unwrap_or (first_of (codes "DATA") rows) [])
 
--- The matches of the subcommands `answer` and `sim` give the word of the image, or none, and those of `encode` the words of the
--- call; those of `dump` have nothing to give.
+-- The call of a subcommand by its name: `answer` and `sim` with the word of the image, or none; `dump`; `encode` with its words, if
+-- the matches give them. No other name has one.
 abbrev pub call_named : Text → List Row → Option Call
 call_named name rows =
     if bytes_eq name (codes "answer") then Some (Answer (first_of (codes "image") rows))

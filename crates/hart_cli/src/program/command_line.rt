@@ -118,7 +118,7 @@ fn encode_words<'a>(given: &ArgMatches<'a>) -> Option<EncodeWords<'a>>
     })
 }
 
-/// The number of preamble bytes that a word writes.
+/// The number of preamble bytes that a word writes, or `None` if it writes none from 5 to 20.
 fn preambles_of(word: &str) -> Option<u8>
     ensures { result ≡ preambles_of word.now }
 {

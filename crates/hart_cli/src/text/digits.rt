@@ -51,7 +51,7 @@ impl Digits {
     }
 }
 
-/// The value of a digit, or a greater number if the byte is none.
+/// The value of a digit, or a number greater than 15 if the byte is none.
 fn digit_value(byte: u8) -> u8
     ensures { result < 16 → IsTrue (is_hex_digit byte) × (hex_value byte ≡ result) }
 {

@@ -1,8 +1,8 @@
 //! The rows of the table of replies.
 ghost use Rattle.std.specs.Prelude.{◌≡◌, ◌<◌, ◌≤◌, length, map};
 ghost use Rattle.hart_commands.specs.ReplyData.{content_reading};
-ghost use Rattle.hart_commands.specs.ReplyReading.{saying, current_of, polling_of, tag_of, identity_reading, dynamic_reading, variables_reading};
-ghost use Rattle.hart_commands.specs.ReplyReading.{more_reading};
+ghost use Rattle.hart_commands.specs.ReplyReading.{saying, current_of, polling_of, tag_of, identity_reading, dynamic_reading};
+ghost use Rattle.hart_commands.specs.ReplyReading.{variables_reading, more_reading};
 ghost use Rattle.hart_commands.specs.Values.{unit_value_of, variable_of};
 
 use crate::identity::FIRST_BYTE;

@@ -104,7 +104,7 @@ after_refusal state frame = record state {
   cold_start = if is_answered state frame then with_master frame.master false state.cold_start else state.cold_start;
 }
 
--- A frame is judged by its code: with code 0 what it asks is carried out, and with another code it is refused with that.
+-- What a frame that is answered comes to: with code 0 the request that it asks, and with another code its refusal with that.
 abbrev pub judged_of : DeviceState → FrameParts → Reading
 judged_of state frame = if code_of state frame == 0 then reading_of frame else Err (code_of state frame)
 

@@ -56,9 +56,9 @@ asking_master identity (delimiter ∷ others) =
     then Some (if nat_lt (slice_index address 0) 128 then Secondary else Primary) else None
 asking_master identity [] = None
 
--- A garbled request of a master has, after its head of six characters and whatever their faults, a command, a byte count, as many
--- characters of a payload as that says, and one for the check byte. The command is what was heard in its place, and the communication
--- faults are those of all its characters.
+-- A garbled request of a master has, after its head of six characters, a command, a byte count, as many characters of a payload as
+-- that says, and one for the check byte, whatever the faults of these. The command is what was heard in its place, and the
+-- communication faults are those of all its characters.
 abbrev pub garbled_after : List Character → List Character → MasterId → Option GarbledRequest
 garbled_after chars (command ∷ byte_count ∷ after) master =
     if nat_lt byte_count.byte (length after) then Some (record {
@@ -68,8 +68,8 @@ garbled_after chars (command ∷ byte_count ∷ after) master =
     }) else None
 garbled_after chars _ master = None
 
--- Characters begin with a garbled request for a device if a master asks it with the first six. A request without any fault has this
--- form too; but a delivery with it has a frame, and so brings no garbled request.
+-- Characters begin with a garbled request for a device if a master asks it with the first six, and the rest of one follows them. A
+-- request without any fault has this form too; but a delivery with it has a frame, and so brings no garbled request.
 abbrev pub garbled_request : IdentityParts → List Character → Option GarbledRequest
 garbled_request identity chars = option_and_then (garbled_after chars (drop 6 chars)) (asking_master identity (take 6 chars))
 

@@ -7,7 +7,7 @@ use Rattle.hart_device.specs.Device.{DeviceState}
 use Rattle.hart_device.specs.declared.process.Process.{Process}
 use Rattle.hart_line.specs.world.Spoken.{SpokenFrame, frame_of}
 
--- The device gave this answer, and is in this state, after what it was brought, which is of this kind.
+-- The device gave this answer, and is in this state, after something that it was brought, of which this holds.
 pub record AnswersTo (IsBrought : Brought → Type 0) (device : DeviceState) (process : Process) (answer : Option FrameParts)
     (after : DeviceState) : Type 0 where
   pub brought : Brought
@@ -20,7 +20,7 @@ abbrev pub IsSpeakable : Option SpokenFrame → Type 0
 IsSpeakable None = Unit {0}
 IsSpeakable (Some said) = (2 ≤ said.preambles) × (body : List ℕ) × IsBody said.frame body
 
--- The frame that was sent, if one was, is the one that was spoken.
+-- The frame that was sent, if one was, is the one that was spoken, after two preamble bytes at least, and it has a body.
 pub record IsSent (sent : Option FrameParts) (said : Option SpokenFrame) : Type 0 where
   pub frame : frame_of said ≡ sent
   pub speakable : IsSpeakable said

@@ -34,29 +34,31 @@ pub record ArrivesAmong (chars : List Character) (sent arrived : Option FramePar
   pub are_frames : AreFrames chars 0 frames
   pub detected : IsDetected sent frames arrived
 
--- What they bring the device then. A frame that is brought is the one that was sent.
+-- What characters whose damage is detected bring the device, if this was sent. A frame that is brought is the one that was sent.
 pub record ReachesAmong (identity : IdentityParts) (chars : List Character) (sent : Option FrameParts) (brought : Brought) : Type 0 where
   pub frame : Option FrameParts
   pub arrives : ArrivesAmong chars sent frame
   pub brings : BringsBy identity chars arrives.frames brought
 
--- Their damage is undetected if it is not detected: some frame was heard that is not the one sent, or more than one frame was heard.
+-- The damage of characters is undetected if it is not detected: some frame was heard that is not the one sent, or more than one frame was heard.
 pub record IsUndetectedAmong (chars : List Character) (sent : Option FrameParts) : Type 0 where
   pub frames : List Found
   pub are_frames : AreFrames chars 0 frames
   pub not_detected : (arrived : Option FrameParts) → IsDetected sent frames arrived → ⊥
 
--- What arrives in a leg, what it brings the device, and whether its damage is undetected, is so of the characters that are heard in it.
+-- What arrives in a leg is what arrives among the characters that are heard in it.
 pub record Arrives (heard : Heard) (sent : Option SpokenFrame) (arrived : Option FrameParts) : Type 0 where
   pub chars : List Character
   pub are_heard : AreHeard heard sent chars
   pub among : ArrivesAmong chars (frame_of sent) arrived
 
+-- What a leg brings the device is what those characters bring it.
 pub record Reaches (identity : IdentityParts) (heard : Heard) (sent : Option SpokenFrame) (brought : Brought) : Type 0 where
   pub chars : List Character
   pub are_heard : AreHeard heard sent chars
   pub among : ReachesAmong identity chars (frame_of sent) brought
 
+-- The damage of a leg is undetected if that of those characters is.
 pub record IsUndetected (heard : Heard) (sent : Option SpokenFrame) : Type 0 where
   pub chars : List Character
   pub are_heard : AreHeard heard sent chars

@@ -37,7 +37,8 @@ returns c =
     let command : Character = c.in_ok-get-2.field-0.now in
     let count : Character = c.in_ok-get-3.field-0.now in
     let garbled = c.in_ok-garbled.ensures.lookup.0 in
-    let many : c.unique_request_len.result - 0 ≡ 9 + count.byte = omega (arith, c.unique_request_len.ensures.len, c.byte-byte_count.ensures) in
+    let many : c.unique_request_len.result - 0 ≡ 9 + count.byte =
+    omega (arith, c.unique_request_len.ensures.len, c.byte-byte_count.ensures) in
     let is = asked c.args.identity.now chars _ _ _ _ _ c.in_ok-get.ensures.lookup.0.2 c.asking_master.ensures c.in_ok-master.was
     c.in_ok-get-3.ensures.lookup.3.0 c.in_ok-get-2.ensures.lookup.1 c.in_ok-get-3.ensures.lookup.1
     ∙ enough chars (drop 8 chars) _ command count (omega (arith, length-drop 8 chars, garbled.1, many)) in
