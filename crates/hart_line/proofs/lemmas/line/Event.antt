@@ -1,8 +1,7 @@
 -- A submission, the switch of protection and a restart on the line are those of the world.
-use Rattle.std.proofs.Common.{◌≡◌, refl, true, Option, None, Some, [], ◌∷◌, ◌++◌, Bool, length}
+use Rattle.std.proofs.Common.{◌≡◌, true, Option, [], ◌∷◌, ◌++◌, Bool, length, arith}
 use Rattle.hart_values.specs.declared.address.Address.{Address}
 use Rattle.hart_values.specs.declared.master_id.MasterId.{MasterId}
-use Rattle.hart_values.specs.declared.master_id.MasterId.TheVariants.{Primary, Secondary}
 use Rattle.hart_values.specs.declared.each_master.EachMaster.{EachMaster}
 use Rattle.hart_values.specs.EachMaster.{of_master, with_master}
 use Rattle.hart_commands.specs.declared.request.Request.{Request}
@@ -16,8 +15,7 @@ use Rattle.hart_line.specs.declared.line.masters.Masters.{Masters}
 use Rattle.hart_line.specs.declared.line.report.Outcome.{Outcome}
 
 with_master-own : {A : Type 0} (who : MasterId) (each : EachMaster A) → with_master who (of_master who each) each ≡ each
-with_master-own Primary each = refl
-with_master-own Secondary each = refl
+with_master-own who each = grind arith
 
 pub submitted_stands : (start : Start) (world : World) (who : MasterId) (address : Address) (request : Request)
     (fault : Option MasterFault) (outcome : Outcome) (line : LineState) (masters : Masters) → Stands start world line
@@ -25,35 +23,14 @@ pub submitted_stands : (start : Start) (world : World) (who : MasterId) (address
     (λ left. AreHeld start.retries (with_master who left world.hands) masters)
     → Stands start (submitted world who address request fault)
     (record line { masters = masters; outcomes = line.outcomes ++ outcome ∷ [] })
-submitted_stands start world who address request None outcome line masters s submits = record {
-  device_is = s.device_is;
-  masters_are = rw s.outcomes_are at submits.1;
-  outcomes_are = rw (s.outcomes_are, submits.0);
-  spoken_are = s.spoken_are;
-}
-submitted_stands start world who address request (Some fault) outcome line masters s submits = record {
-  device_is = s.device_is;
-  masters_are = rw (with_master-own who world.hands) at submits.1;
-  outcomes_are = rw (s.outcomes_are, submits.0);
-  spoken_are = s.spoken_are;
-}
+submitted_stands start world who address request fault outcome line masters s submits = grind (arith, with_master-own)
 
 pub protected_stands : (start : Start) (world : World) (on : Bool) (line : LineState) (device : DeviceState) → Stands start world line
     → device ≡ record line.device { protected = on }
     → Stands start (record world { protected = on }) (record line { device = device })
-protected_stands start world on line device s is = record {
-  device_is = rw (is, s.device_is);
-  masters_are = s.masters_are;
-  outcomes_are = s.outcomes_are;
-  spoken_are = s.spoken_are;
-}
+protected_stands start world on line device s is = grind arith
 
 pub restarted_stands : (start : Start) (world : World) (line : LineState) (device : DeviceState) → Stands start world line
     → device ≡ restarted line.device
     → Stands start (record world { cold_start = for_both true }) (record line { device = device })
-restarted_stands start world line device s is = record {
-  device_is = rw (is, s.device_is);
-  masters_are = s.masters_are;
-  outcomes_are = s.outcomes_are;
-  spoken_are = s.spoken_are;
-}
+restarted_stands start world line device s is = grind arith

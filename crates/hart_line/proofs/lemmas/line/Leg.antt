@@ -1,5 +1,5 @@
 -- What arrives in a leg, what it brings the device, and what is spoken.
-use Rattle.std.proofs.Common.{◌≡◌, ℕ, ◌≤◌, ◌∙◌, ap, subst, refl, arith, length-append, Option, None, Some, List, [], ◌∷◌, ◌++◌, length}
+use Rattle.std.proofs.Common.{◌≡◌, ℕ, ◌≤◌, ap, subst, refl, arith, length-append, Option, None, Some, List, [], ◌∷◌, ◌++◌, length}
 use Rattle.std.proofs.Common.{replicate}
 use Rattle.hart_frame.specs.heard.Character.{Character, faultless}
 use Rattle.hart_frame.specs.wire.FrameParts.{FrameParts}
@@ -26,15 +26,12 @@ use Rattle.hart_line.specs.declared.line.report.Party.{Party}
 use Rattle.hart_line.specs.declared.line.report.Party.TheVariants as parties
 use Rattle.hart_line.specs.declared.line.report.Spoken.{Spoken}
 use Rattle.hart_line.proofs.lemmas.world.Arrival.{delivery_identity}
-use Rattle.hart_line.proofs.lemmas.world.Basics.{some_one}
 
 -- WHAT CHARACTERS BRING
 -- A frame that arrives is brought.
 frame_brought : (identity : IdentityParts) (chars : List Character) (sent : Option FrameParts) (frames : List Found) (frame : FrameParts)
     → IsDetected sent frames (Some frame) → BringsBy identity chars frames (OneFrame frame)
-frame_brought identity chars sent [] frame detected = cc
-frame_brought identity chars sent (found ∷ []) frame detected = ap OneFrame (some_one (detected.1 ∙ detected.0))
-frame_brought identity chars sent (found ∷ other ∷ more) frame detected = absurd detected
+frame_brought identity chars sent frames frame detected = grind arith
 
 pub among_frame : (identity : IdentityParts) (chars : List Character) (sent : Option FrameParts) (frame : FrameParts)
     → ArrivesAmong chars sent (Some frame) → ReachesAmong identity chars sent (OneFrame frame)
@@ -44,10 +41,7 @@ among_frame identity chars sent frame a =
 -- If none arrives it is brought what characters without a frame bring.
 none_brought : (identity : IdentityParts) (chars : List Character) (sent : Option FrameParts) (frames : List Found) (brought : Brought)
     → IsDetected sent frames None → BringsBy identity chars [] brought → BringsBy identity chars frames brought
-none_brought identity chars sent [] brought detected brings = brings
-none_brought identity chars sent (found ∷ []) brought detected brings =
-    let never : None ≡ Some found.frame = detected.1 ∙ detected.0 in cc
-none_brought identity chars sent (found ∷ other ∷ more) brought detected brings = absurd detected
+none_brought identity chars sent frames brought detected brings = grind arith
 
 pub among_none : (identity : IdentityParts) (chars : List Character) (sent : Option FrameParts) (brought : Brought)
     → ArrivesAmong chars sent None → BringsBy identity chars [] brought → ReachesAmong identity chars sent brought
@@ -78,10 +72,7 @@ answered_among chars sent device process (Some reply) a is = record {
 -- WHAT A LEG BRINGS
 -- In no characters there is no garbled request, so they bring nothing.
 nothing_garbled : (identity : IdentityParts) (request : GarbledRequest) → HasGarbled identity [] request → ⊥
-nothing_garbled identity request has =
-    let start = has.first_start.start in
-    let all = ap length start.split ∙ length-append (start.prefix ++ faultless (255 ∷ 255 ∷ [])) (start.first ∷ start.rest) in
-    omega (arith, all)
+nothing_garbled identity request has = grind (arith, length-append)
 
 pub nothing_arrives : (sent : Option FrameParts) → ArrivesAmong [] sent None
 nothing_arrives sent = record { frames = []; are_frames = messages_have_their_frame_alone-nothing; detected = refl }
@@ -97,8 +88,7 @@ nothing_reaches identity heard said are = record {
 
 -- With nothing sent a clean leg brings nothing.
 pub silence_reaches : (identity : IdentityParts) (said : Option SpokenFrame) → IsSent None said → Reaches identity Clean said NoMessage
-silence_reaches identity None is = nothing_reaches identity Clean None refl
-silence_reaches identity (Some said) is = let none = is.frame in cc
+silence_reaches identity said is = grind (arith, nothing_reaches)
 
 -- Otherwise the frame that was sent arrives in it, and is brought.
 message_arrives : (said : SpokenFrame) → IsSpeakable (Some said) → Arrives Clean (Some said) (Some said.frame)
@@ -116,8 +106,7 @@ message_arrives said is =
     }
 
 pub clean_arrives : (sent : Option FrameParts) (said : Option SpokenFrame) → IsSent sent said → Arrives Clean said sent
-clean_arrives sent None is = rw (← is.frame) (record { chars = []; are_heard = refl; among = nothing_arrives None })
-clean_arrives sent (Some said) is = rw (← is.frame) (message_arrives said is.speakable)
+clean_arrives sent said is = grind (arith, message_arrives, nothing_arrives)
 
 pub clean_reaches : (identity : IdentityParts) (frame : FrameParts) (said : Option SpokenFrame)
     → IsSent (Some frame) said → Reaches identity Clean said (OneFrame frame)
@@ -135,15 +124,12 @@ clean_reaches identity frame (Some said) is =
 -- What is spoken after enough preamble bytes was sent.
 pub speaks_sent : (party : Party) (preambles : ℕ) (sent : Option FrameParts) (old new : List Spoken) → 2 ≤ preambles
     → Speaks (spoken_by party preambles sent) old new → IsSent sent (spoken_by party preambles sent)
-speaks_sent party preambles None old new enough speaks = record { frame = refl; speakable = tt }
-speaks_sent party preambles (Some frame) old new enough speaks =
-    record { frame = refl; speakable = (enough, speaks.0.bytes, speaks.1.body) }
+speaks_sent party preambles sent old new enough speaks = grind arith
 
 -- A master speaks what it sends in its turn.
 said_by : (Silent : Type 0) (Sent : InHand → Type 0) (who : MasterId) (hand : Option InHand) (frame : Option FrameParts)
     → Sends who hand frame Silent Sent → spoken_by (party_of who) master_preambles frame ≡ sent_by who hand
-said_by Silent Sent who hand None sends = rw sends.0 refl
-said_by Silent Sent who hand (Some frame) sends = rw (sends.1, sends.2) refl
+said_by Silent Sent who hand frame sends = grind arith
 
 pub says_request : (Silent : Type 0) (Sent : InHand → Type 0) (who : MasterId) (hand : Option InHand) (frame : Option FrameParts)
     (old new : List Spoken) → Sends who hand frame Silent Sent → Speaks (spoken_by (party_of who) master_preambles frame) old new

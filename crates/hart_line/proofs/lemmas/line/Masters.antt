@@ -1,5 +1,5 @@
 -- What the masters of a line do is what the world says of their hands.
-use Rattle.std.proofs.Common.{◌≡◌, ℕ, refl, Bool, true, false, if◌then◌else◌, List, Option, None, Some, Ok, Err}
+use Rattle.std.proofs.Common.{◌≡◌, ℕ, List, Option, Err, arith}
 use Rattle.hart_values.specs.declared.address.Address.{Address}
 use Rattle.hart_values.specs.declared.master_id.MasterId.{MasterId}
 use Rattle.hart_frame.specs.heard.Character.{Character}
@@ -7,11 +7,8 @@ use Rattle.hart_frame.specs.wire.FrameParts.{FrameParts}
 use Rattle.hart_commands.specs.declared.reply.Reply.{Reply}
 use Rattle.hart_commands.specs.declared.request.Request.{Request}
 use Rattle.hart_master.specs.Master.{DeliveryBrings, hand_submitted, result_submitted}
-use Rattle.hart_master.specs.Pairing.{may_ask}
 use Rattle.hart_master.specs.declared.fault.MasterFault.{MasterFault}
-use Rattle.hart_master.specs.declared.fault.MasterFault.TheVariants.{WrongAddress}
 use Rattle.hart_master.specs.declared.fault.Rejected.{Rejected}
-use Rattle.hart_master.specs.declared.hand.Hand.TheVariants.{Empty, ToSend}
 use Rattle.hart_line.specs.line.Masters.{Concludes, Sends, Submits, hand_of}
 use Rattle.hart_line.specs.world.Step.{submission_fault}
 use Rattle.hart_line.specs.world.World.{InHand}
@@ -23,27 +20,17 @@ pub refused_submits : (held : Option InHand) (place : ℕ) (address : Address) (
     (Left : Option InHand → Type 0) → result_submitted (hand_of held) address request ≡ Err rejected
     → (hand_submitted (hand_of held) address request ≡ hand_of held → Left held)
     → Submits held place address request (submission_fault held address request) (Refused rejected.fault) Left
-refused_submits (Some other) place address request rejected Left is left = (cc, left refl)
-refused_submits None place address request rejected Left is left = by_test (may_ask address request) is left
-  where
-    by_test : (may : Bool)
-        → (if may then Ok (tt {0}) else Err (record { fault = WrongAddress; request = request })) ≡ Err rejected
-        → ((if may then ToSend (record { address = address; request = request; sendings = 0 }) else Empty) ≡ Empty → Left None)
-        → Submits None place address request (if may then None else Some WrongAddress) (Refused rejected.fault) Left
-    by_test true is left = cc
-    by_test false is left = (cc, left refl)
+refused_submits held place address request rejected Left is left = grind arith
 
 pub sends_more : {Silent Silent' : Type 0} {Sent Sent' : InHand → Type 0} (who : MasterId) (held : Option InHand)
     (frame : Option FrameParts) → (Silent → Silent') → ((sent : InHand) → Sent sent → Sent' sent)
     → Sends who held frame Silent Sent → Sends who held frame Silent' Sent'
-sends_more who held None silent sent s = (s.0, silent s.1)
-sends_more who held (Some frame) silent sent s = (s.0, s.1, s.2, sent s.0 s.3)
+sends_more who held frame silent sent s = grind arith
 
 pub submits_more : {Left Left' : Option InHand → Type 0} (held : Option InHand) (place : ℕ) (address : Address) (request : Request)
     (fault : Option MasterFault) (outcome : Outcome) → ((left : Option InHand) → Left left → Left' left)
     → Submits held place address request fault outcome Left → Submits held place address request fault outcome Left'
-submits_more held place address request None outcome more s = (s.0, more _ s.1)
-submits_more held place address request (Some fault) outcome more s = (s.0, more _ s.1)
+submits_more held place address request fault outcome more s = grind arith
 
 pub concludes_more : {Left Left' : Option InHand → Type 0} {who : MasterId} {retries : ℕ} {held : InHand} {returned : Option FrameParts}
     {outcomes outcomes' : List Outcome} → ((left : Option InHand) → Left left → Left' left)
@@ -54,5 +41,4 @@ concludes_more more c =
 -- Between two turns a master awaits nothing, so that no delivery brings it a reply.
 pub nothing_brought : (id : MasterId) (held : Option InHand) (delivery : List Character) (reply : Reply)
     → DeliveryBrings id (hand_of held) delivery reply → ⊥
-nothing_brought id None delivery reply brought = brought
-nothing_brought id (Some held) delivery reply brought = brought
+nothing_brought id held delivery reply brought = grind arith

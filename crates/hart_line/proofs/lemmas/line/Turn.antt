@@ -1,13 +1,12 @@
 -- A turn of the line is a turn of the world.
-use Rattle.std.proofs.Common.{◌≡◌, ◌==◌, ◌&&◌, Bool, true, false, if◌then◌else◌, ap, ◌∙◌, refl, Option, None, Some, List, ◌++◌}
-use Rattle.std.proofs.Common.{◌⊎◌, inl, inr, append_assoc, arith}
+use Rattle.std.proofs.Common.{◌≡◌, ◌&&◌, Bool, false, if◌then◌else◌, ◌∙◌, refl, Option, None, Some, List, ◌++◌}
+use Rattle.std.proofs.Common.{◌⊎◌, append_assoc, arith}
 use Rattle.std.specs.Option.{option_to_list}
 use Rattle.hart_values.specs.declared.master_id.MasterId.{MasterId}
 use Rattle.hart_frame.specs.wire.FrameParts.{FrameParts}
 use Rattle.hart_values.specs.EachMaster.{of_master, with_master}
-use Rattle.hart_device.specs.answer.Answer.{asked_effect, code_of, is_answered, reading_of}
-use Rattle.hart_device.specs.Device.{DeviceState, Effect, Executes, Nothing, Resets, after, after_reply}
-use Rattle.hart_device.specs.answer.Delivery.{Brought, Garbled, NoMessage, OneFrame, state_after_delivery}
+use Rattle.hart_device.specs.Device.{DeviceState, Effect, Nothing, after, after_reply}
+use Rattle.hart_device.specs.answer.Delivery.{Brought, state_after_delivery}
 use Rattle.hart_line.specs.world.Damage.{Arrives, Reaches}
 use Rattle.hart_frame.specs.wire.Message.{IsPreambleCount}
 use Rattle.hart_line.specs.line.Leg.{AnswersTo, IsSent}
@@ -22,7 +21,6 @@ use Rattle.hart_line.specs.declared.line.report.Party.TheVariants as parties
 use Rattle.hart_line.specs.declared.line.report.Spoken.{Spoken}
 use Rattle.hart_line.proofs.lemmas.line.Leg.{said_back, speaks_sent}
 use Rattle.hart_line.proofs.lemmas.world.Arrival.{AreSpoken-more, frame_in, left_alone, none_reaches, reaches_cases}
-use Rattle.hart_line.proofs.lemmas.world.Basics.{some_one}
 use Rattle.hart_line.proofs.lemmas.world.State.{state-after}
 
 -- What the device answered to what this leg brought it was spoken after what was said in it.
@@ -67,28 +65,20 @@ replied_stands start world heard answer line a held same = record {
 -- What an answer leaves is what its command leaves, but for the cold start bit of its master; silence leaves all.
 reply_leaves : (id : MasterId) (effect : Effect) (state : DeviceState)
     → after_reply id (after id effect state) ≡ record (after id effect state) { cold_start = with_master id false state.cold_start }
-reply_leaves id Nothing state = refl
-reply_leaves id (Executes overwrite) state = refl
-reply_leaves id Resets state = refl
+reply_leaves id effect state = grind arith
 
 answer_leaves : (answered zero : Bool) (asked : Effect) (id : MasterId) (state : DeviceState)
     → (if answered then after_reply id (after id (if answered && zero then asked else Nothing) state) else state)
     ≡ record (after id (if answered && zero then asked else Nothing) state) {
       cold_start = if answered then with_master id false state.cold_start else state.cold_start;
     }
-answer_leaves true zero asked id state = reply_leaves id (if zero then asked else Nothing) state
-answer_leaves false zero asked id state = refl
+answer_leaves answered zero asked id state = grind (arith, reply_leaves)
 
 state_after-effect : (state : DeviceState) (id : MasterId) (held : InHand) (brought : Brought)
     → (frame_in brought ≡ None) ⊎ (frame_in brought ≡ Some (spoken_request id held).frame)
     → state_after_delivery state brought
     ≡ record (after id (effect_on state brought) state) { cold_start = cold_start_after state id brought }
-state_after-effect state id held (Garbled request) known = refl
-state_after-effect state id held NoMessage known = refl
-state_after-effect state id held (OneFrame frame) (inl is) = cc
-state_after-effect state id held (OneFrame frame) (inr is) =
-    let master : frame.master ≡ id = ap (λ (f : FrameParts). f.master) (some_one is) in
-    rw (← master) (answer_leaves (is_answered state frame) (code_of state frame == 0) (asked_effect (reading_of frame)) frame.master state)
+state_after-effect state id held brought known = grind (arith, answer_leaves)
 
 -- The masters end a turn: with a request in hand it is concluded, and otherwise nothing changes.
 abbrev pub Ends : Start → World → MasterId → Option InHand → Option FrameParts → LineState → Type 0

@@ -1,5 +1,5 @@
 -- The byte that two hex digits write.
-use Rattle.std.proofs.Common.{◌≡◌, ℕ, ◌+◌, ◌*◌, Bool, true, List, [], ◌∷◌, get_or, Option, Some, None, Ok, is_some, unwrap_or, refl, ap}
+use Rattle.std.proofs.Common.{◌≡◌, ℕ, ◌+◌, ◌*◌, Bool, true, List, [], ◌∷◌, get_or, Option, Some, None, Ok, is_some, unwrap_or}
 use Rattle.std.proofs.Common.{◌∙◌, arith}
 use Rattle.std.proofs.Math.Nat.{mul_comm}
 use Rattle.std.specs.Prelude.{◌&&◌, if◌then◌else◌}
@@ -11,9 +11,7 @@ use Rattle.hex.specs.Hex.{decode_pairs, digit_or_error, hex_digit_value, is_hex_
 pair_read : (high low : ℕ) (a b : Option ℕ)
     → result_ok ((digit_or_error high 0 a >>= (λ h. digit_or_error low 1 b >>= (λ l. Ok (h * 16 + l)))) >>= (λ byte. Ok (byte ∷ [])))
     ≡ (if is_some a && is_some b then Some ((16 * unwrap_or a 0 + unwrap_or b 0) ∷ []) else None)
-pair_read high low None b = refl
-pair_read high low (Some x) None = refl
-pair_read high low (Some x) (Some y) = ap (λ (n : ℕ). Some ((n + y) ∷ [])) (mul_comm x 16)
+pair_read high low a b = grind (arith, mul_comm)
 
 -- `hex` reads two bytes if both are digits
 decode_pairs-two : (high low : ℕ) → result_ok (decode_pairs 0 (high ∷ low ∷ []))

@@ -4,7 +4,7 @@ use Rattle.std.proofs.Common.{Some, refl, sym, ap, ◌∙◌, arith}
 use Rattle.std.specs.Int.{bit_at}
 use Rattle.std.specs.Option.{option_map}
 use Rattle.std.specs.Prelude.{◌==◌, ◌&&◌}
-use Rattle.std.proofs.lemmas.Bool.{eqb-false, eqb-true, false_from_ne_true}
+use Rattle.std.proofs.lemmas.Bool.{eqb-false, eqb-true}
 use Rattle.std.proofs.lemmas.Bool.Decides.{nat_tests}
 use Rattle.std.proofs.lemmas.List.{append-nil, append_assoc, length-append, take_rest}
 use Rattle.std.proofs.lemmas.Nat.Bits.{bit_at-lt}
@@ -27,8 +27,7 @@ fault_bits faults test = grind (arith, nat_tests, set_bit)
 
 -- a bit that is none of theirs is not set in fault bits
 clear_bit : (faults bit : ℕ) → AreFaultBits faults → bit < 8 → (IsFaultBit bit → ⊥) → bit_at faults bit ≡ 0
-clear_bit faults bit are small other =
-    let not_one : bit_at faults bit ≢ 1 = λ set. other (are.only bit small set) in omega (arith, bit_at-lt faults bit)
+clear_bit faults bit are small other = grind (arith, bit_at-lt, are.only)
 
 -- and fault bits pass the test
 fault_bits_tested : (faults : ℕ) → faults ≢ 0 → AreFaultBits faults → are_some_fault_bits faults ≡ true
@@ -36,8 +35,7 @@ fault_bits_tested faults some are = grind (arith, nat_tests, clear_bit)
 
 -- a valid item passes its test
 valid_tested : (item : Item) → IsValidItem item → is_valid_item item ≡ true
-valid_tested (Plain high low) valid = grind (arith)
-valid_tested (Faulty high low fault_high fault_low) valid = grind (arith, fault_bits_tested)
+valid_tested item valid = grind (arith, fault_bits_tested)
 
 -- both of two tests pass if they pass together
 and_both : (a b : Bool) → (a && b) ≡ true → (a ≡ true) × (b ≡ true)
@@ -45,8 +43,7 @@ and_both a b both = grind arith
 
 -- an item that passes the test is valid
 valid : (item : Item) → is_valid_item item ≡ true → IsValidItem item
-valid (Plain high low) test = grind (arith)
-valid (Faulty high low fault_high fault_low) test = grind (arith, and_both, fault_bits)
+valid item test = grind (arith, and_both, fault_bits)
 
 -- the characters of a text that begins with an item are that of the item and those of the rest
 pub items_of-item : (text : List ℕ) (item : Item) (tail : List ℕ) → BeginsWithItem text item tail
@@ -64,10 +61,7 @@ items_of-item text (Faulty high low fault_high fault_low) tail begins =
 -- an item that would begin a text in which none does is not valid
 invalid : (text : List ℕ) (item : Item) (tail : List ℕ) (chars : Option (List Character)) → NoItemBegins text
     → text ≡ item_spelling item ++ tail → EndsBefore tail item → item_before item chars ≡ None
-invalid text item tail chars none spelled ends =
-    let no : is_valid_item item ≡ false =
-    false_from_ne_true (is_valid_item item) (λ test. none item tail (record { valid = valid item test; spelled = spelled; ends = ends })) in
-    rw no refl
+invalid text item tail chars none spelled ends = grind (arith, valid)
 
 -- an item before no characters gives none
 before_none : (item : Item) → item_before item None ≡ None
@@ -97,8 +91,7 @@ ReadsTo text chars rest = items_of text ≡ option_map (λ more. chars ++ more) 
 
 -- no characters before others are these
 map_nil : (o : Option (List Character)) → o ≡ option_map (λ more. [] ++ more) o
-map_nil None = refl
-map_nil (Some chars) = refl
+map_nil o = grind arith
 
 -- at its beginning nothing of a text is read
 pub ReadsTo-nothing : (text : List ℕ) → ReadsTo text [] text
@@ -107,13 +100,11 @@ ReadsTo-nothing text = map_nil (items_of text)
 -- characters, one more and others are one list
 map_push : (chars : List Character) (char : Character) (o : Option (List Character))
     → option_map (λ more. chars ++ more) (option_map (λ more. char ∷ more) o) ≡ option_map (λ more. (chars ++ char ∷ []) ++ more) o
-map_push chars char None = refl
-map_push chars char (Some more) = ap Some (sym (append_assoc chars (char ∷ []) more))
+map_push chars char o = grind (arith, append_assoc)
 
 -- an item is spelled by two bytes at least
 item_spelling-length : (item : Item) → 2 ≤ length (item_spelling item)
-item_spelling-length (Plain x y) = omega arith
-item_spelling-length (Faulty x y v w) = omega arith
+item_spelling-length item = grind arith
 
 -- a text is read one item further
 pub item_read : (text : List ℕ) (chars new : List Character) (rest : List ℕ) (char : Character) (len : ℕ) → ReadsTo text chars rest
@@ -137,17 +128,14 @@ item_read text chars new rest char len reads lead pushed =
 pub no_items : (text : List ℕ) (chars : List Character) (rest : List ℕ) → (length rest ≡ 0 → ⊥) → ReadsTo text chars rest
     → NoItemBegins rest → items_of text ≡ None
 no_items text chars [] some reads nowhere = absurd (some refl)
-no_items text chars (byte ∷ rest) some reads nowhere =
-    reads ∙ ap (λ o. option_map (λ more. chars ++ more) o) (items_of-none byte rest nowhere)
+no_items text chars (byte ∷ rest) some reads nowhere = rw (items_of-none byte rest nowhere) at reads
 
 -- a text that is read to its end has the characters that were read
 pub all_items : (text : List ℕ) (chars : List Character) (rest : List ℕ) → length rest ≡ 0 → ReadsTo text chars rest
     → items_of text ≡ Some chars
 unfolding items_of
-all_items text chars [] ended reads = reads ∙ ap Some (append-nil chars)
-all_items text chars (byte ∷ rest) ended reads = absurd (omega arith)
+all_items text chars rest ended reads = grind (arith, append-nil)
 
 -- a word with a byte has the characters of its items
 pub word_items : (word : List ℕ) → (length word ≡ 0 → ⊥) → items_word_of word ≡ items_of word
-word_items [] some = absurd (some refl)
-word_items (byte ∷ word) some = refl
+word_items word some = grind arith

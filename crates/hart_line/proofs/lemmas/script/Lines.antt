@@ -12,9 +12,7 @@ place_of n len le = grind (arith, nat_tests)
 
 pub place_or_length : (p : ℕ → Bool) (xs : List ℕ) (found : Option ℕ) (result : ℕ) → result ≡ unwrap_or found (length xs)
     → found ≡ cond (ltb (position_or_len p xs) (length xs)) (Some (position_or_len p xs)) None → result ≡ position_or_len p xs
-place_or_length p xs found result e f =
-    e ∙ ap (λ (o : Option ℕ). unwrap_or o (length xs)) f
-    ∙ place_of (position_or_len p xs) (length xs) (prefix_len-le-length (λ x. not (p x)) xs)
+place_or_length p xs found result e f = grind (arith, nat_tests, prefix_len-le-length)
 
 -- a place is within the list
 pub position_within : (p : ℕ → Bool) (xs : List ℕ) → position_or_len p xs ≤ length xs
@@ -42,8 +40,7 @@ first_part p (x ∷ xs) = first_part-at p x xs (p x) refl (first_part p xs)
 
 -- a part that has bytes is kept
 kept : (part : List ℕ) (others : List (List ℕ)) → 0 < length part → filter has_bytes (part ∷ others) ≡ part ∷ filter has_bytes others
-kept [] others some = absurd (omega arith)
-kept (x ∷ part) others some = refl
+kept part others some = grind arith
 
 -- a line that begins with no blank begins with a byte of its first word
 first_byte : (line : List ℕ) → 0 < length line → is_blank (get_or line 0 0) ≡ false → 0 < position_or_len is_blank line

@@ -1,8 +1,8 @@
 -- Scripts: what the lines of a text say, line by line.
-use Rattle.std.proofs.Common.{◌≡◌, ℕ, ◌+◌, ◌<◌, suc, Bool, true, false, cond, List, [], ◌∷◌, ◌++◌, get_or, length, Option, None, Some, Ok}
-use Rattle.std.proofs.Common.{Err, inr, refl, sym, ap, ◌∙◌, drop, subst, take, arith}
-use Rattle.std.specs.Prelude.{IsTrue, is_none, ◌==◌}
-use Rattle.std.specs.List.{cons_option, position_from, slice_split}
+use Rattle.std.proofs.Common.{◌≡◌, ℕ, ◌+◌, ◌<◌, suc, Bool, false, List, [], ◌∷◌, ◌++◌, get_or, length, Option, None, Some, Ok}
+use Rattle.std.proofs.Common.{Err, sym, ap, ◌∙◌, drop, subst, take, arith}
+use Rattle.std.specs.Prelude.{IsTrue, ◌==◌}
+use Rattle.std.specs.List.{position_from, slice_split}
 use Rattle.std.specs.Option.{option_or, option_to_list}
 use Rattle.std.specs.Str.Lines.{strip_carriage_return}
 use Rattle.std.proofs.lemmas.Bool.Decides.{nat_tests}
@@ -14,34 +14,22 @@ use Rattle.hart_line.specs.script.Rows.{AreEvents, event_of, first_bad_line, Has
 use Rattle.hart_line.specs.script.Rows.{IsScriptFault, lines_in_words, SaysLine}
 use Rattle.hart_line.specs.declared.event.LineEvent.{LineEvent}
 use Rattle.hart_line.specs.declared.fault.LineFault.{LineFault}
-use Rattle.hart_line.specs.declared.fault.LineFault.TheVariants.{BadLine, Memory, Undetected}
 
 -- the first place in some elements and more is one in the first ones, or else in the others
 position_from-append : {X : Type 0} (p : X → Bool) (i : ℕ) (xs ys : List X)
     → position_from p i (xs ++ ys) ≡ option_or (position_from p i xs) (position_from p (i + length xs) ys)
 position_from-append p i [] ys = ap (λ (k : ℕ). position_from p k ys) (omega arith)
-position_from-append p i (x ∷ xs) ys = at (p x) _ _ _ (position_from-append p (i + 1) xs ys
-    ∙ ap (λ (k : ℕ). option_or (position_from p (i + 1) xs) (position_from p k ys)) (omega arith))
-  where
-    at : (passes : Bool) (whole first others : Option ℕ) → whole ≡ option_or first others
-        → cond passes (Some i) whole ≡ option_or (cond passes (Some i) first) others
-    at true whole first others later = refl
-    at false whole first others later = later
+position_from-append p i (x ∷ xs) ys = grind (arith, position_from-append p (i + 1) xs ys)
 
 -- a comment is not bad and says no event
 comment : (word : List ℕ) (words : List (List ℕ)) → IsTrue (is_skipped (word ∷ words))
     → (is_bad_line (word ∷ words) ≡ false) × (event_of (word ∷ words) ≡ None)
-comment [] words skipped = cc skipped
-comment (byte ∷ word) words skipped =
-    let hash : byte ≡ 35 = grind (arith, nat_tests) in
-    subst (λ b. (is_bad_line ((b ∷ word) ∷ words) ≡ false) × (event_of ((b ∷ word) ∷ words) ≡ None)) (sym hash) (refl, refl)
+comment word words skipped = grind (arith, nat_tests)
 
 -- a line that is skipped or says an event is not bad, and says that event
 good_line : (number : ℕ) (words : List (List ℕ)) (said : Option LineEvent) → SaysLine number words (Ok said)
     → (is_bad_line words ≡ false) × (event_of words ≡ said)
-good_line number [] None says = (refl, refl)
-good_line number (word ∷ words) None says = comment word words says
-good_line number words (Some event) says = let good : is_none (event_of words) ≡ false = rw says refl in (grind arith, says)
+good_line number words said says = grind (arith, comment)
 
 -- the line of a part of a text, in words, stands at its place
 pub record StandsAt (text : List ℕ) (n : ℕ) (words : List (List ℕ)) : Type 0 where
@@ -69,14 +57,7 @@ stands_at text n part line short is stripped =
 AreEvents-push : (lines : List (List (List ℕ))) (events : List LineEvent) (words : List (List ℕ)) (said : Option LineEvent)
     → AreEvents lines events → is_bad_line words ≡ false → event_of words ≡ said
     → AreEvents (lines ++ words ∷ []) (events ++ option_to_list said)
-AreEvents-push lines events words said before good says = (
-  position_from-append is_bad_line 1 lines (words ∷ []) ∙ rw (before.0, good) refl,
-  rw (filter_map-append event_of lines (words ∷ []), ← before.1, says) (ap (λ more. events ++ more) (one said)),
-)
-  where
-    one : (said : Option LineEvent) → option_to_list said ≡ cons_option said []
-    one None = refl
-    one (Some event) = refl
+AreEvents-push lines events words said before good says = grind (arith, position_from-append, filter_map-append)
 
 -- one line of a text more
 pub AreEvents-more : (text : List ℕ) (n m number : ℕ) (words : List (List ℕ)) (events new : List LineEvent) (said : Option LineEvent)
@@ -113,7 +94,4 @@ first_bad text n number words events stands counted before bad =
 pub line_fault : (text : List ℕ) (n number : ℕ) (words : List (List ℕ)) (events : List LineEvent) (fault : LineFault)
     → StandsAt text n words → number ≡ n + 1 → AreEvents (take n (lines_in_words text)) events → SaysLine number words (Err fault)
     → IsScriptFault text fault
-line_fault text n number words events (BadLine at) stands counted before says =
-    rw says.0 (first_bad text n number words events stands counted before says.1)
-line_fault text n number words events (Memory room) stands counted before says = inr (n, words, stands.within, stands.is, says)
-line_fault text n number words events (Undetected event leg) stands counted before says = says
+line_fault text n number words events fault stands counted before says = grind (arith, first_bad)

@@ -1,5 +1,5 @@
 -- Words of messages to send.
-use Rattle.std.proofs.Common.{◌≡◌, ℕ, ◌<◌, ◌≤◌, ◌^◌, true, false, List, [], ◌∷◌, get_or, length, None, Result, Ok, Err, refl, arith}
+use Rattle.std.proofs.Common.{◌≡◌, ℕ, ◌<◌, ◌≤◌, ◌^◌, true, false, List, [], ◌∷◌, get_or, length, None, Result, refl, arith}
 use Rattle.std.specs.List.{starts_with}
 use Rattle.std.specs.Prelude.{nat_eq}
 use Rattle.std.specs.Result.{OkIff, result_ok}
@@ -27,13 +27,11 @@ decimal_of-no_text most_digits word no_text =
 decimal_of-ok : {E : Type 0} (most_digits : ℕ) (word : List ℕ) (read : Result ℕ E) → length word ≤ most_digits
     → OkIff read ((all_ascii_digits word ≡ true) × (0 < length word) × (digits_value 10 word < 2 ^ 8)) (digits_value 10 word)
     → result_ok read ≡ decimal_of most_digits 255 word
-decimal_of-ok most_digits word (Ok number) short is = grind (arith, nat_tests)
-decimal_of-ok most_digits word (Err fault) short is = grind (arith, nat_tests)
+decimal_of-ok most_digits word read short is = grind (arith, nat_tests)
 
 -- a word that begins with no plus sign has none as its first byte
 no_plus : (word : List ℕ) → starts_with nat_eq word (43 ∷ []) ≡ false → get_or word 0 0 ≡ 43 → ⊥
-no_plus [] none plus = omega arith
-no_plus (first ∷ word) none plus = let begins = rw plus at none in cc begins
+no_plus word none plus = grind arith
 
 -- what `parse` reads of a word without a sign is its number in decimal
 pub decimal_of-parsed : {E : Type 0} (most_digits : ℕ) (word : List ℕ) (read : Result ℕ E) → ParsesUnsigned 8 10 word read

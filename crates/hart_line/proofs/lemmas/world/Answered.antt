@@ -1,6 +1,6 @@
 -- Each accepted reply was accepted in the turn of the last sending.
-use Rattle.std.proofs.Common.{◌≡◌, ℕ, ◌+◌, nat_le, zero, suc, ap, ◌∙◌, sym, refl, subst, arith, ◌≤◌, slice_index, Option, None, Some, Bool}
-use Rattle.std.proofs.Common.{true, false, List, [], ◌∷◌, ◌++◌, slice_set, ◌⊎◌, inl, inr, if◌then◌else◌}
+use Rattle.std.proofs.Common.{◌≡◌, ℕ, ◌+◌, ap, ◌∙◌, sym, subst, arith, ◌≤◌, slice_index, Option, None, Some}
+use Rattle.std.proofs.Common.{List, [], ◌∷◌, ◌++◌, slice_set, ◌⊎◌, inl, inr}
 use Rattle.std.specs.List.{slice_get}
 use Rattle.hart_values.specs.declared.master_id.MasterId.{MasterId}
 use Rattle.hart_frame.specs.wire.FrameParts.{FrameParts}
@@ -21,7 +21,7 @@ use Rattle.hart_line.specs.declared.event.Heard.{Heard}
 use Rattle.hart_line.specs.declared.event.LineEvent.{LineEvent}
 use Rattle.hart_line.specs.declared.event.LineEvent.TheVariants.{Turn}
 use Rattle.hart_line.specs.declared.line.report.Outcome.{Outcome}
-use Rattle.hart_line.specs.declared.line.report.Outcome.TheVariants.{Answered, NoReply, Unfinished}
+use Rattle.hart_line.specs.declared.line.report.Outcome.TheVariants.{Answered}
 use Rattle.hart_line.specs.declared.line.report.Party.{Party}
 use Rattle.hart_line.proofs.lemmas.world.Arrival.{arrives_cases, frame_in}
 use Rattle.hart_line.proofs.lemmas.world.Basics.{of_master-same, slice_get-cases, some_one}
@@ -32,21 +32,12 @@ use Rattle.hart_line.proofs.lemmas.world.Submitted.{held_in}
 slice_set-cases : {A : Type 0} (xs : List A) (k : ℕ) (y : A) (n : ℕ) (x : A) → slice_get (slice_set xs k y) n ≡ Some x
     → (slice_get xs n ≡ Some x) ⊎ ((n ≡ k) × (y ≡ x))
 slice_set-cases [] k y n x is = inl is
-slice_set-cases (z ∷ xs) zero y zero x is = inr (refl, some_one is)
-slice_set-cases (z ∷ xs) zero y (suc n) x is = inl is
-slice_set-cases (z ∷ xs) (suc k) y zero x is = inl is
-slice_set-cases (z ∷ xs) (suc k) y (suc n) x is =
-    elim (slice_set-cases xs k y n x is) [ inl old ↦ inl old | inr new ↦ inr (ap suc new.0, new.1) ]
+slice_set-cases (z ∷ xs) k y n x is = grind (arith, slice_set-cases xs)
 
 -- A reply that is the outcome was accepted.
 outcome_answered : (retries s : ℕ) (accepted : Option Reply) (reply : Reply) (sendings : ℕ)
     → outcome_of retries s accepted ≡ Answered reply sendings → (accepted ≡ Some reply) × (sendings ≡ s)
-outcome_answered retries s (Some heard) reply sendings is = (cc, cc)
-outcome_answered retries s None reply sendings is = absurd (by_test (nat_le s retries) is)
-  where
-    by_test : (b : Bool) → (if b then Unfinished s else NoReply s) ≡ Answered reply sendings → ⊥
-    by_test true is = cc
-    by_test false is = cc
+outcome_answered retries s accepted reply sendings is = grind arith
 
 -- What was accepted came back, and is a reply.
 pub record CameBack (who : MasterId) (held : InHand) (returned : Option FrameParts) (reply : Reply) : Type 0 where
@@ -56,13 +47,11 @@ pub record CameBack (who : MasterId) (held : InHand) (returned : Option FramePar
 
 came_back : (who : MasterId) (held : InHand) (returned : Option FrameParts) (reply : Reply)
     → Accepts who (Some held) returned (Some reply) → CameBack who held returned reply
-came_back who held None reply accepts = cc
-came_back who held (Some frame) reply accepts = record { frame = frame; came = refl; is_reply = accepts }
+came_back who held returned reply accepts = grind arith
 
 -- A frame that came back is the answer to what was sent.
 frame_of-by : (party : Party) (preambles : ℕ) (frame : Option FrameParts) → frame_of (spoken_by party preambles frame) ≡ frame
-frame_of-by party preambles None = refl
-frame_of-by party preambles (Some frame) = refl
+frame_of-by party preambles frame = grind arith
 
 pub record AnswersSent (state : DeviceState) (process : Process) (sent : FrameParts) (brought : Brought) (frame : FrameParts)
     : Type 0 where
@@ -145,8 +134,7 @@ not_answered : (outcomes : List Outcome) (outcome : Outcome) (number : ℕ) (rep
     → (outcome ≡ Answered reply sendings → ⊥)
     → slice_get (outcomes ++ outcome ∷ []) number ≡ Some (Answered reply sendings)
     → slice_get outcomes number ≡ Some (Answered reply sendings)
-not_answered outcomes outcome number reply sendings none is =
-    elim (slice_get-cases outcomes outcome number _ is) [ inl old ↦ old | inr new ↦ absurd (none new) ]
+not_answered outcomes outcome number reply sendings none is = grind (arith, slice_get-cases)
 
 -- The request that was answered is the one that was submitted.
 as_submitted : (start : Start) (events : List LineEvent) (number : ℕ) (reply : Reply) (sendings : ℕ)

@@ -1,12 +1,11 @@
 -- What an option and a list hold, and what one of two masters has.
-use Rattle.std.proofs.Common.{◌≡◌, ◌≢◌, ℕ, ◌+◌, arith, zero, suc, ap, Option, None, Some, refl, List}
-use Rattle.std.proofs.Common.{[], ◌∷◌, ◌++◌, length, slice_set, ◌⊎◌, inl, inr}
+use Rattle.std.proofs.Common.{◌≡◌, ◌≢◌, ℕ, ◌+◌, arith, Option, None, Some, refl, List}
+use Rattle.std.proofs.Common.{[], ◌∷◌, ◌++◌, length, slice_set, ◌⊎◌}
 use Rattle.std.specs.List.{slice_get}
 use Rattle.std.proofs.lemmas.Grind.{common_steps}
 use Rattle.hart_values.specs.EachMaster.{of_master, with_master}
 use Rattle.hart_values.specs.declared.each_master.EachMaster.{EachMaster}
 use Rattle.hart_values.specs.declared.master_id.MasterId.{MasterId}
-use Rattle.hart_values.specs.declared.master_id.MasterId.TheVariants.{Primary, Secondary}
 
 -- Options that are one hold one thing.
 pub some_one : {A : Type 0} {x y : A} → Some x ≡ Some y → x ≡ y
@@ -14,20 +13,15 @@ some_one is = cc
 
 -- A master has what it was given, and the other one what it had.
 pub of_master-same : {A : Type 0} (id : MasterId) (a : A) (each : EachMaster A) → of_master id (with_master id a each) ≡ a
-of_master-same Primary a each = refl
-of_master-same Secondary a each = refl
+of_master-same id a each = grind arith
 
 pub with_master-cases : {A : Type 0} (id who : MasterId) (a : Option A) (each : EachMaster (Option A)) (x : A)
     → of_master id (with_master who a each) ≡ Some x → ((id ≡ who) × (a ≡ Some x)) ⊎ ((id ≢ who) × (of_master id each ≡ Some x))
-with_master-cases Primary Primary a each x is = inl (refl, is)
-with_master-cases Primary Secondary a each x is = inr ((λ same. cc), is)
-with_master-cases Secondary Primary a each x is = inr ((λ same. cc), is)
-with_master-cases Secondary Secondary a each x is = inl (refl, is)
+with_master-cases id who a each x is = grind arith
 
 -- Neither master has anything before a script.
 pub nothing_first : {A B : Type 0} {x : A} (id : MasterId) → of_master id (record { primary = None; secondary = None }) ≡ Some x → B
-nothing_first Primary is = cc
-nothing_first Secondary is = cc
+nothing_first id is = grind arith
 
 -- What is in a list with one more.
 pub length-one_more : {A : Type 0} (xs : List A) (x : A) → length (xs ++ x ∷ []) ≡ length xs + 1
@@ -39,25 +33,18 @@ slice_get-last (y ∷ xs) x = slice_get-last xs x
 
 pub slice_get-append : {A : Type 0} (xs ys : List A) (n : ℕ) (x : A) → slice_get xs n ≡ Some x → slice_get (xs ++ ys) n ≡ Some x
 slice_get-append [] ys n x is = cc
-slice_get-append (y ∷ xs) ys zero x is = is
-slice_get-append (y ∷ xs) ys (suc n) x is = slice_get-append xs ys n x is
+slice_get-append (y ∷ xs) ys n x is = grind (arith, slice_get-append xs ys)
 
 pub slice_get-cases : {A : Type 0} (xs : List A) (y : A) (n : ℕ) (x : A) → slice_get (xs ++ y ∷ []) n ≡ Some x
     → (slice_get xs n ≡ Some x) ⊎ (y ≡ x)
-slice_get-cases [] y zero x is = inr (some_one is)
-slice_get-cases [] y (suc n) x is = cc
-slice_get-cases (z ∷ xs) y zero x is = inl is
-slice_get-cases (z ∷ xs) y (suc n) x is = slice_get-cases xs y n x is
+slice_get-cases [] y n x is = grind arith
+slice_get-cases (z ∷ xs) y n x is = grind (arith, slice_get-cases xs)
 
 -- What is found after a store.
 pub slice_get-set_same : {A : Type 0} (xs : List A) (k : ℕ) (x y : A) → slice_get xs k ≡ Some x → slice_get (slice_set xs k y) k ≡ Some y
 slice_get-set_same [] k x y is = cc
-slice_get-set_same (z ∷ xs) zero x y is = refl
-slice_get-set_same (z ∷ xs) (suc k) x y is = slice_get-set_same xs k x y is
+slice_get-set_same (z ∷ xs) k x y is = grind (arith, slice_get-set_same xs)
 
 pub slice_get-set_other : {A : Type 0} (xs : List A) (k n : ℕ) (y : A) → n ≢ k → slice_get (slice_set xs k y) n ≡ slice_get xs n
 slice_get-set_other [] k n y apart = refl
-slice_get-set_other (z ∷ xs) zero zero y apart = absurd (apart refl)
-slice_get-set_other (z ∷ xs) zero (suc n) y apart = refl
-slice_get-set_other (z ∷ xs) (suc k) zero y apart = refl
-slice_get-set_other (z ∷ xs) (suc k) (suc n) y apart = slice_get-set_other xs k n y (λ same. apart (ap suc same))
+slice_get-set_other (z ∷ xs) k n y apart = grind (arith, slice_get-set_other xs)

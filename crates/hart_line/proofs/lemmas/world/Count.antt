@@ -1,19 +1,19 @@
 -- A submission is executed at most as often as it is sent.
-use Rattle.std.proofs.Common.{◌≡◌, ℕ, ◌+◌, ◌≤◌, ◌==◌, zero, suc, ap, ◌∙◌, sym, refl, arith, Option, None, Some, Bool, true, false}
-use Rattle.std.proofs.Common.{List, [], ◌∷◌, ◌++◌, slice_set, if◌then◌else◌, nat_le}
+use Rattle.std.proofs.Common.{◌≡◌, ℕ, ◌+◌, ◌≤◌, ◌==◌, refl, arith, Option, Some, Bool}
+use Rattle.std.proofs.Common.{List, [], ◌∷◌, ◌++◌, slice_set, if◌then◌else◌}
 use Rattle.std.specs.List.{slice_get}
-use Rattle.std.proofs.lemmas.Bool.{eqb-true, eqb-false}
+use Rattle.std.proofs.lemmas.Bool.Decides.{nat_tests}
 use Rattle.std.proofs.lemmas.Grind.{common_steps}
 use Rattle.hart_commands.specs.declared.reply.Reply.{Reply}
-use Rattle.hart_device.specs.Device.{Effect, Nothing, Executes, Resets}
+use Rattle.hart_device.specs.Device.{Effect}
 use Rattle.hart_line.specs.world.Executions.{times_executed}
 use Rattle.hart_line.specs.world.Promises.{IsStepOf, sendings_in}
 use Rattle.hart_line.specs.world.Step.{IsLast, effect_on, executions_after, outcome_of}
 use Rattle.hart_line.specs.world.World.{Execution, InHand, Start, World, first_world, state_of}
 use Rattle.hart_line.specs.declared.event.LineEvent.{LineEvent}
 use Rattle.hart_line.specs.declared.line.report.Outcome.{Outcome}
-use Rattle.hart_line.specs.declared.line.report.Outcome.TheVariants.{NoReply, Unfinished, Refused}
-use Rattle.hart_line.proofs.lemmas.world.Basics.{slice_get-set_other, slice_get-set_same}
+use Rattle.hart_line.specs.declared.line.report.Outcome.TheVariants.{Unfinished, Refused}
+use Rattle.hart_line.proofs.lemmas.world.Basics.{slice_get-append, slice_get-set_other, slice_get-set_same}
 use Rattle.hart_line.proofs.lemmas.world.Steps.{by_cases, to_last}
 use Rattle.hart_line.proofs.lemmas.world.Submitted.{held_in}
 
@@ -22,43 +22,24 @@ IsCounted world = (number : ℕ) → times_executed number world.executions ≤ 
 
 times_executed-more : (effect : Effect) (own number : ℕ) (executions : List Execution)
     → times_executed number (executions_after effect own executions) ≤ times_executed number executions + (if own == number then 1 else 0)
-times_executed-more Nothing own number executions = omega arith
-times_executed-more Resets own number executions = omega arith
-times_executed-more (Executes overwrite) own number [] = grind (arith, common_steps)
-times_executed-more (Executes overwrite) own number (e ∷ es) =
-    let rest = times_executed-more (Executes overwrite) own number es in grind (arith, common_steps, rest)
+times_executed-more effect own number [] = grind (arith, common_steps)
+times_executed-more effect own number (e ∷ es) =
+    let rest = times_executed-more effect own number es in grind (arith, common_steps, rest)
 
 -- One more outcome, which was never sent.
 sendings-append : (outcomes : List Outcome) (outcome : Outcome) (number : ℕ)
     → sendings_in (slice_get outcomes number) ≤ sendings_in (slice_get (outcomes ++ outcome ∷ []) number)
-sendings-append [] outcome number = omega arith
-sendings-append (o ∷ os) outcome zero = omega arith
-sendings-append (o ∷ os) outcome (suc n) = sendings-append os outcome n
+sendings-append outcomes outcome number = grind (arith, slice_get-append)
 
 sendings_in-outcome : (retries s : ℕ) (accepted : Option Reply) → sendings_in (Some (outcome_of retries s accepted)) ≡ s
-sendings_in-outcome retries s None = by_test (nat_le s retries)
-  where
-    by_test : (b : Bool) → sendings_in (Some (if b then Unfinished s else NoReply s)) ≡ s
-    by_test true = refl
-    by_test false = refl
-sendings_in-outcome retries s (Some reply) = refl
+sendings_in-outcome retries s accepted = grind arith
 
 counts_by : (b : Bool) (hand : InHand) (outcomes : List Outcome) (outcome : Outcome) (number before after : ℕ)
     → (hand.submission == number) ≡ b
     → slice_get outcomes hand.submission ≡ Some (Unfinished hand.sendings) → sendings_in (Some outcome) ≡ hand.sendings + 1
     → before ≤ sendings_in (slice_get outcomes number) → after ≤ before + (if b then 1 else 0)
     → after ≤ sendings_in (slice_get (slice_set outcomes hand.submission outcome) number)
-counts_by true hand outcomes outcome number before after same there sent old more =
-    let number_is : hand.submission ≡ number = eqb-true hand.submission number same in
-    let was : sendings_in (slice_get outcomes number) ≡ hand.sendings = ap (λ n. sendings_in (slice_get outcomes n))
-    (sym number_is) ∙ ap sendings_in there in
-    let now : sendings_in (slice_get (slice_set outcomes hand.submission outcome) number) ≡ hand.sendings + 1 =
-    ap (λ n. sendings_in (slice_get (slice_set outcomes hand.submission outcome) n)) (sym number_is)
-    ∙ ap sendings_in (slice_get-set_same outcomes hand.submission _ outcome there) ∙ sent in omega arith
-counts_by false hand outcomes outcome number before after differs there sent old more =
-    let now : sendings_in (slice_get (slice_set outcomes hand.submission outcome) number) ≡ sendings_in (slice_get outcomes number) =
-    ap sendings_in (slice_get-set_other outcomes hand.submission number outcome (λ same. eqb-false hand.submission number differs
-    (sym same))) in omega arith
+counts_by b hand outcomes outcome number before after same there sent old more = grind (arith, nat_tests, slice_get-set_same, slice_get-set_other)
 
 step_counted : (start : Start) (events : List LineEvent) (world next : World) (event : LineEvent)
     → IsStepOf start (first_world start) events world event next → IsCounted world → IsCounted next

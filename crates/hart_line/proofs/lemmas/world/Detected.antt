@@ -64,12 +64,10 @@ heard_detected (Chars chars) (Some said) long (inr check) u =
     not_undetected chars [] None u u.are_heard (damaged_messages_have_no_other_frame-check said.frame said.preambles chars check) refl
 
 sent_long : (who : MasterId) (hand : Option InHand) → IsLong (sent_by who hand)
-sent_long who None = tt
-sent_long who (Some held) = omega arith
+sent_long who hand = grind arith
 
 frame_long : (party : Party) (preambles : ℕ) (frame : Option FrameParts) → 5 ≤ preambles → IsLong (spoken_by party preambles frame)
-frame_long party preambles None enough = tt
-frame_long party preambles (Some frame) enough = omega (arith, enough)
+frame_long party preambles frame enough = grind arith
 
 leg_detected : (start : Start) (world : World) (event : LineEvent) (leg : Leg)
     → 5 ≤ start.device.identity.response_preambles → HasDetectable start world event leg → HasUndetected start world event leg → ⊥

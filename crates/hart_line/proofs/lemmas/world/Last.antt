@@ -1,5 +1,5 @@
 -- The registers of all executions are those of the last ones.
-use Rattle.std.proofs.Common.{◌≡◌, ℕ, ◌==◌, ◌||◌, suc, ap, ◌∙◌, sym, refl, arith, Ok, Some, None, Bool, true, false, List}
+use Rattle.std.proofs.Common.{◌≡◌, ℕ, ◌==◌, ◌||◌, suc, ◌∙◌, sym, refl, arith, Ok, Some, None, Bool, true, false, List}
 use Rattle.std.proofs.Common.{[], ◌∷◌, ◌++◌, if◌then◌else◌, ◌⊎◌, inl, inr}
 use Rattle.std.specs.List.{AllByRecursion, Contains, slice_get}
 use Rattle.std.proofs.lemmas.Bool.{eqb-true}
@@ -31,10 +31,7 @@ pub record IsWriteOf (requests : List Request) (execution : Execution) : Type 0 
 
 same_overwrite : (requests : List Request) (a b : Execution) → a.submission ≡ b.submission → IsWriteOf requests a → IsWriteOf requests b
     → a.overwrite ≡ b.overwrite
-same_overwrite requests a b same x y =
-    let request : x.request ≡ y.request =
-    some_one (sym x.submitted_as ∙ ap (slice_get requests) same ∙ y.submitted_as) in
-    some_one (sym x.overwrites ∙ ap overwrite_of request ∙ y.overwrites)
+same_overwrite requests a b same x y = cc
 
 arrived_executes : (state : DeviceState) (who : MasterId) (held : InHand) (requests : List Request)
     (brought : Brought) (overwrite : Overwrite) → slice_get requests held.submission ≡ Some held.request

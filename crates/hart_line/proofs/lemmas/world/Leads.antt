@@ -1,5 +1,5 @@
 -- A script leads to one world, and has one fault at most.
-use Rattle.std.proofs.Common.{◌≡◌, ℕ, ◌<◌, ap, ◌∙◌, sym, refl, subst, arith, Option, None, Some, List, [], ◌∷◌, ◌++◌, zero, suc, take, drop}
+use Rattle.std.proofs.Common.{◌≡◌, ℕ, ◌<◌, ap, ◌∙◌, sym, subst, arith, Option, None, Some, List, [], ◌∷◌, ◌++◌, zero, suc, take, drop}
 use Rattle.std.proofs.Common.{length, inl, inr}
 use Rattle.std.specs.List.{slice_get}
 use Rattle.std.proofs.lemmas.Bool.Decides.{leb_tells}
@@ -17,14 +17,13 @@ use Rattle.hart_device.specs.declared.identity_parts.IdentityParts.{IdentityPart
 use Rattle.hart_device.proofs.lemmas.Laws.{deliveries_bring_one-one}
 use Rattle.hart_master.proofs.lemmas.Laws.{replies_are_decided-one_reply}
 use Rattle.hart_line.specs.world.Damage.{AreHeard, Arrives, IsDetected, IsUndetected, Reaches, ReachesAmong}
-use Rattle.hart_line.specs.world.Spoken.{SpokenFrame, frame_of}
-use Rattle.hart_line.specs.world.Step.{Accepts, IsLast, IsTurn, LeadsTo, Step, replied, sent_back, sent_by}
-use Rattle.hart_line.specs.world.Step.{turned}
+use Rattle.hart_line.specs.world.Spoken.{SpokenFrame}
+use Rattle.hart_line.specs.world.Step.{Accepts, IsLast, IsTurn, LeadsTo, Step, sent_back, sent_by}
 use Rattle.hart_line.specs.world.World.{InHand, Start, World, first_world}
 use Rattle.hart_line.specs.declared.event.Heard.{Heard}
 use Rattle.hart_line.specs.declared.event.Heard.TheVariants.{Clean, Lost, Chars}
 use Rattle.hart_line.specs.declared.event.LineEvent.{LineEvent}
-use Rattle.hart_line.specs.declared.event.LineEvent.TheVariants.{Submit, Turn, Protect, Noise, Restart}
+use Rattle.hart_line.specs.declared.event.LineEvent.TheVariants.{Turn, Noise}
 use Rattle.hart_line.specs.declared.fault.Leg.{Leg}
 use Rattle.hart_line.specs.declared.fault.Leg.TheVariants as legs
 use Rattle.hart_line.specs.world.Faults.{HasUndetected, IsFault}
@@ -44,17 +43,11 @@ AreHeard-one (Chars given) sent a b x y = x ∙ sym y
 
 IsDetected-one : (sent : Option FrameParts) (frames : List Found) (a b : Option FrameParts) → IsDetected sent frames a
     → IsDetected sent frames b → a ≡ b
-IsDetected-one sent [] a b x y = x ∙ sym y
-IsDetected-one sent (found ∷ []) a b x y = x.1 ∙ sym y.1
-IsDetected-one sent (found ∷ other ∷ more) a b x y = absurd x
+IsDetected-one sent frames a b x y = grind arith
 
 pub Arrives-one : (heard : Heard) (sent : Option SpokenFrame) (a b : Option FrameParts) → Arrives heard sent a
     → Arrives heard sent b → a ≡ b
-Arrives-one heard sent a b s t =
-    let same = AreHeard-one heard sent s.chars t.chars s.are_heard t.are_heard in
-    let frames = frames_are_unambiguous-one_list t.chars 0 s.among.frames t.among.frames (rw same at s.among.are_frames)
-    t.among.are_frames in
-    IsDetected-one (frame_of sent) t.among.frames a b (rw frames at s.among.detected) t.among.detected
+Arrives-one heard sent a b s t = grind (arith, AreHeard-one, frames_are_unambiguous-one_list, IsDetected-one)
 
 -- A leg brings the device one thing.
 brings_among : {identity : IdentityParts} {chars : List Character} {sent : Option FrameParts} {brought : Brought}
@@ -71,11 +64,7 @@ Reaches-one identity heard sent a b s t =
 -- Damage that is detected is not undetected.
 arrives_detected : (heard : Heard) (sent : Option SpokenFrame) (arrived : Option FrameParts)
     → Arrives heard sent arrived → IsUndetected heard sent → ⊥
-arrives_detected heard sent arrived a u =
-    let same = AreHeard-one heard sent a.chars u.chars a.are_heard u.are_heard in
-    let frames = frames_are_unambiguous-one_list u.chars 0 a.among.frames u.among.frames (rw same at a.among.are_frames)
-    u.among.are_frames in
-    u.among.not_detected arrived (rw frames at a.among.detected)
+arrives_detected heard sent arrived a u = grind (arith, AreHeard-one, frames_are_unambiguous-one_list)
 
 reaches_detected : (identity : IdentityParts) (heard : Heard) (sent : Option SpokenFrame) (brought : Brought)
     → Reaches identity heard sent brought → IsUndetected heard sent → ⊥
@@ -84,13 +73,7 @@ reaches_detected identity heard sent brought r u =
 
 Accepts-one : (who : MasterId) (hand : Option InHand) (returned : Option FrameParts) (a b : Option Reply)
     → Accepts who hand returned a → Accepts who hand returned b → a ≡ b
-Accepts-one who None returned a b x y = x ∙ sym y
-Accepts-one who (Some held) None a b x y = x ∙ sym y
-Accepts-one who (Some held) (Some frame) None None x y = refl
-Accepts-one who (Some held) (Some frame) None (Some s) x y = absurd (x s y)
-Accepts-one who (Some held) (Some frame) (Some r) None x y = absurd (y r x)
-Accepts-one who (Some held) (Some frame) (Some r) (Some s) x y =
-    ap Some (replies_are_decided-one_reply who held.address held.request frame r s x y)
+Accepts-one who hand returned a b x y = grind (arith, replies_are_decided-one_reply)
 
 IsTurn-one : (start : Start) (world : World) (who : MasterId) (up down : Heard) (a b : World)
     → IsTurn start world who up down a → IsTurn start world who up down b → a ≡ b
@@ -98,19 +81,14 @@ IsTurn-one start world who up down a b s t =
     let hand = of_master who world.hands in
     let brought = Reaches-one start.device.identity up (sent_by who hand) s.brought t.brought s.arrives t.arrives in
     let returned = Arrives-one down (sent_back start world t.brought) s.returned t.returned (rw brought at s.returns) t.returns in
-    let accepted = Accepts-one who hand t.returned s.accepted t.accepted (rw returned at s.accepts) t.accepts in
-    s.next_is ∙ ap (λ f. turned start world who hand f s.accepted) brought
-    ∙ ap (turned start world who hand t.brought) accepted ∙ sym t.next_is
+    let accepted = Accepts-one who hand t.returned s.accepted t.accepted (rw returned at s.accepts) t.accepts in cc
 
 pub step_one : (start : Start) (world : World) (event : LineEvent) (a b : World)
     → Step start world event a → Step start world event b → a ≡ b
-step_one start world (Submit who address request) a b s t = s ∙ sym t
-step_one start world (Protect on) a b s t = s ∙ sym t
-step_one start world Restart a b s t = s ∙ sym t
 step_one start world (Turn who up down) a b s t = IsTurn-one start world who up down a b s t
 step_one start world (Noise chars) a b s t =
-    s.next_is ∙ ap (replied start world)
-    (Reaches-one start.device.identity (Chars chars) None s.brought t.brought s.arrives t.arrives) ∙ sym t.next_is
+    let same = Reaches-one start.device.identity (Chars chars) None s.brought t.brought s.arrives t.arrives in cc
+step_one start world event a b s t = s ∙ sym t
 
 -- A script leads to one world.
 pub leads_one : (start : Start) (events : List LineEvent) (world a b : World)
@@ -143,14 +121,9 @@ step_detected start world event next leg step undetected = undetected
 
 undetected_one : (start : Start) (world : World) (event : LineEvent) (leg another : Leg)
     → HasUndetected start world event leg → HasUndetected start world event another → leg ≡ another
-undetected_one start world (Turn who up down) legs.Up legs.Up u v = refl
 undetected_one start world (Turn who up down) legs.Up legs.Down u v = absurd (reaches_detected start.device.identity up _ v.0 v.1 u)
 undetected_one start world (Turn who up down) legs.Down legs.Up u v = absurd (reaches_detected start.device.identity up _ u.0 u.1 v)
-undetected_one start world (Turn who up down) legs.Down legs.Down u v = refl
-undetected_one start world (Turn who up down) leg legs.Noise u v = absurd v
-undetected_one start world (Noise chars) legs.Noise legs.Noise u v = refl
-undetected_one start world (Noise chars) legs.Noise another u v = absurd v
-undetected_one start world event leg another u v = absurd u
+undetected_one start world event leg another u v = grind arith
 
 -- Events that lead on past one have no undetected damage in it.
 past_detected : (start : Start) (prefix : List LineEvent) (event : LineEvent) (suffix : List LineEvent) (from world last : World)

@@ -1,28 +1,21 @@
 -- No mark is greater than the number of executions.
-use Rattle.std.proofs.Common.{◌≡◌, ℕ, ◌≤◌, arith, List, length, Option, Some, inl, inr}
+use Rattle.std.proofs.Common.{◌≡◌, ℕ, ◌≤◌, arith, List, length, Option, Some}
 use Rattle.std.proofs.lemmas.List.{length-append}
 use Rattle.hart_values.specs.declared.each_master.EachMaster.{EachMaster}
 use Rattle.hart_values.specs.declared.master_id.MasterId.{MasterId}
 use Rattle.hart_values.specs.EachMaster.{of_master}
-use Rattle.hart_device.specs.Device.{Effect, Nothing, Executes, Resets}
+use Rattle.hart_device.specs.Device.{Effect}
 use Rattle.hart_line.specs.world.Step.{Step, effect_on, executions_after, marks_after}
 use Rattle.hart_line.specs.world.World.{Execution, MarksWithin, Start, World, first_world, state_of}
 use Rattle.hart_line.specs.declared.event.LineEvent.{LineEvent}
-use Rattle.hart_line.proofs.lemmas.world.Basics.{nothing_first, some_one, with_master-cases}
+use Rattle.hart_line.proofs.lemmas.world.Basics.{nothing_first, with_master-cases}
 use Rattle.hart_line.proofs.lemmas.world.Steps.{by_cases}
 
 effect_marks : (effect : Effect) (who : MasterId) (number : ℕ) (executions : List Execution) (marks : EachMaster (Option ℕ))
     → ((id : MasterId) (mark : ℕ) → of_master id marks ≡ Some mark → mark ≤ length executions)
     → (id : MasterId) (mark : ℕ) → of_master id (marks_after effect who (length executions) marks) ≡ Some mark
     → mark ≤ length (executions_after effect number executions)
-effect_marks Nothing who number executions marks within id mark is = within id mark is
-effect_marks (Executes overwrite) who number executions marks within id mark is =
-    let bound = within id mark is in omega (arith, length-append {A = Execution})
-effect_marks Resets who number executions marks within id mark is =
-    elim (with_master-cases id who (Some (length executions)) marks mark is) [
-      | inl (own, new) ↦ (let same : length executions ≡ mark = some_one new in omega arith)
-      | inr old ↦ within id mark old.1
-    ]
+effect_marks effect who number executions marks within id mark is = grind (arith, length-append, with_master-cases)
 
 pub step_marks : (start : Start) (world : World) (event : LineEvent) (next : World) → Step start world event next → MarksWithin world
     → MarksWithin next

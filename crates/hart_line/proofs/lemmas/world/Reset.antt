@@ -1,17 +1,14 @@
 -- What holds since a master's last reset, and after a refused command.
-use Rattle.std.proofs.Common.{◌≡◌, ◌≢◌, ℕ, ◌+◌, ◌%◌, ◌≤◌, nat_lt, ap, ◌∙◌, sym, refl, subst, arith, Option, None, Some, IfSome, Ok, false}
+use Rattle.std.proofs.Common.{◌≡◌, ◌≢◌, ℕ, ◌+◌, ◌%◌, ◌≤◌, nat_lt, ap, ◌∙◌, sym, refl, subst, arith, Option, Some, IfSome, Ok, false}
 use Rattle.std.proofs.Common.{List, [], ◌∷◌, ◌++◌, length, append_assoc, append-nil, ◌⊎◌, inl, inr, Bool, if◌then◌else◌}
 use Rattle.std.proofs.lemmas.List.{length-append}
 use Rattle.std.proofs.lemmas.Bool.{ltb-false}
 use Rattle.hart_values.specs.declared.master_id.MasterId.{MasterId}
-use Rattle.hart_values.specs.declared.master_id.MasterId.TheVariants.{Primary, Secondary}
 use Rattle.hart_frame.specs.wire.FrameParts.{FrameParts}
 use Rattle.hart_values.specs.EachMaster.{of_master, with_master}
 use Rattle.hart_values.specs.declared.each_master.EachMaster.{EachMaster}
 use Rattle.hart_commands.specs.Registers.{registers_of}
-use Rattle.hart_commands.specs.RequestData.{Reading}
 use Rattle.hart_commands.specs.declared.reply.Reply.{Reply}
-use Rattle.hart_commands.specs.declared.request.Request.{Request}
 use Rattle.hart_commands.specs.declared.request.Request.TheVariants.{ResetChanged}
 use Rattle.hart_device.specs.answer.Answer.{after_refusal, code_of, effect_of, is_answered, reading_of}
 use Rattle.hart_device.specs.answer.Delivery.{Brought}
@@ -21,12 +18,12 @@ use Rattle.hart_device.proofs.lemmas.Laws.{resets_name_this_counter-only}
 use Rattle.hart_line.specs.world.Promises.{HasNoReset, IsLastReset, IsRefusedByDevice, IsStepOf}
 use Rattle.hart_line.specs.world.Step.{IsLast, IsTurn, LeadsTo, cold_start_after, effect_on, executions_after, marks_after}
 use Rattle.hart_line.specs.world.Step.{turned}
-use Rattle.hart_line.specs.world.World.{Execution, InHand, Start, World, first_world, is_changed, overwrites_of, state_of}
+use Rattle.hart_line.specs.world.World.{Execution, InHand, Start, World, first_world, overwrites_of, state_of}
 use Rattle.hart_line.specs.declared.event.Heard.{Heard}
 use Rattle.hart_line.specs.declared.event.LineEvent.{LineEvent}
 use Rattle.hart_line.specs.declared.event.LineEvent.TheVariants.{Turn}
-use Rattle.hart_line.proofs.lemmas.world.Arrival.{frame_in, no_effect}
-use Rattle.hart_line.proofs.lemmas.world.Basics.{some_one}
+use Rattle.hart_line.proofs.lemmas.world.Arrival.{no_effect}
+use Rattle.hart_line.proofs.lemmas.world.Basics.{of_master-same}
 use Rattle.hart_line.proofs.lemmas.world.Leads.{leads_on, step_one}
 use Rattle.hart_line.proofs.lemmas.world.Steps.{by_cases, to_last, turn_cases}
 
@@ -57,11 +54,7 @@ leads_grows start events world last = to_last start world events (λ now later. 
 -- MARKS STAY WHERE THERE IS NO RESET
 marks_kept : (effect : Effect) (id who : MasterId) (count : ℕ) (marks : EachMaster (Option ℕ)) → (id ≡ who → effect ≢ Resets)
     → of_master id (marks_after effect who count marks) ≡ of_master id marks
-marks_kept Resets Primary Primary count marks apart = absurd (apart refl refl)
-marks_kept Resets Secondary Secondary count marks apart = absurd (apart refl refl)
-marks_kept Resets Primary Secondary count marks apart = refl
-marks_kept Resets Secondary Primary count marks apart = refl
-marks_kept effect id who count marks apart = refl
+marks_kept effect id who count marks apart = grind arith
 
 leads_kept : (start : Start) (events : List LineEvent) (world last : World) (id : MasterId) → LeadsTo start world events last
     → HasNoReset start world events id → of_master id last.marks ≡ of_master id world.marks
@@ -95,39 +88,24 @@ reset_marks : (start : Start) (world : World) (who : MasterId) (up down : Heard)
     → effect_on (state_of start.device world) step.brought ≡ Resets
     → (of_master who next.marks ≡ Some (length world.executions)) × (next.executions ≡ world.executions)
 reset_marks start world who up down next step resets = elim (turn_cases start world who up down next step) [
-  | inl s ↦ rw (s.next_is, resets) (own who, refl)
-  | inr silent ↦ (
-      let quiet : Nothing ≡ Resets = sym (no_effect (state_of start.device world) step.brought silent.none) ∙ resets in cc)
+  | inl s ↦ rw (s.next_is, resets) (of_master-same who _ world.marks, refl)
+  | inr silent ↦ (let quiet = no_effect (state_of start.device world) step.brought silent.none in cc)
 ]
-  where
-    own : (id : MasterId) → of_master id (with_master id (Some (length world.executions)) world.marks) ≡ Some (length world.executions)
-    own Primary = refl
-    own Secondary = refl
 
 changed_of : (initial : DeviceState) (world : World) (who : MasterId) (mark : ℕ) → of_master who world.marks ≡ Some mark
     → of_master who (state_of initial world).changed ≡ nat_lt mark (length world.executions)
-changed_of initial world Primary mark is = ap (λ m. is_changed initial.changed.primary m (length world.executions)) is
-changed_of initial world Secondary mark is = ap (λ m. is_changed initial.changed.secondary m (length world.executions)) is
+changed_of initial world who mark is = grind arith
 
 none_more : (old more : List Execution) → length (old ++ more) ≤ length old → old ++ more ≡ old
 none_more old [] same = append-nil old
 none_more old (e ∷ more) same = absurd (omega (arith, length-append old (e ∷ more)))
 
 IfSome-along : (given : Option ℕ) (a b : ℕ) → a ≡ b → IfSome given (λ counter. counter ≡ b) → IfSome given (λ counter. a ≡ counter)
-IfSome-along None a b same h = tt
-IfSome-along (Some counter) a b same h = same ∙ sym h
+IfSome-along given a b same h = grind arith
 
 given_one : (state : DeviceState) (frame : FrameParts) (given : Option ℕ) → reading_of frame ≡ Ok (ResetChanged given)
     → effect_of state frame ≡ Resets → IfSome given (λ n. n ≡ state.counter)
-given_one state frame given is resets =
-    let asked = resets_name_this_counter-only state frame resets in
-    subst (λ c. IfSome c (λ n. n ≡ state.counter)) (reset_one (ok_one (sym asked.3 ∙ is))) asked.4
-  where
-    reset_one : {a b : Option ℕ} → ResetChanged a ≡ ResetChanged b → a ≡ b
-    reset_one eq = cc
-
-    ok_one : {x y : Request} → ◌≡◌ {A = Reading} (Ok x) (Ok y) → x ≡ y
-    ok_one eq = cc
+given_one state frame given is resets = grind (arith, resets_name_this_counter-only)
 
 -- After a step of a script its last world is one that the events after it lead to.
 after_step : (start : Start) (events : List LineEvent) (last : World) → IsLast start events last → (before next : World) (event : LineEvent)
@@ -169,8 +147,7 @@ unseen start events last run who before given r clear =
 -- A refused command, or one that is not answered, has no effect.
 refused_effect : (state : DeviceState) (frame : FrameParts) → (code_of state frame ≢ 0) ⊎ (is_answered state frame ≡ false)
     → effect_of state frame ≡ Nothing
-refused_effect state frame (inl code) = refused_commands_change_nothing-refused state frame code
-refused_effect state frame (inr silent) = refused_commands_change_nothing-silent state frame silent
+refused_effect state frame refused = grind (arith, refused_commands_change_nothing-refused, refused_commands_change_nothing-silent)
 
 -- A turn without an effect changes no more of the device than cold start bits.
 unmoved : (start : Start) (world : World) (who : MasterId) (held : InHand) (brought : Brought) (accepted : Option Reply)
@@ -184,25 +161,15 @@ pub refused_step : (start : Start) (events : List LineEvent) (before next : Worl
 refused_step start events before next r = elim (turn_cases start before r.who r.up r.down next r.turn.step) [
   | inl s ↦ (
       let state = state_of start.device before in
-      let frame : frame_in r.turn.step.brought ≡ Some r.frame = ap frame_in r.brought in
-      let master : r.frame.master ≡ r.who = elim s.known [
-        | inl none ↦ apart (sym none ∙ frame)
-        | inr sent ↦ ap (λ (f : FrameParts). f.master) (some_one (sym frame ∙ sent))
-      ] in
+      let master : r.frame.master ≡ r.who = grind arith in
       let cold_start : cold_start_after state r.who r.turn.step.brought
-      ≡ (if is_answered state r.frame then with_master r.frame.master false state.cold_start else state.cold_start) =
-      ap (cold_start_after state r.who) r.brought
-      ∙ ap (λ (who : MasterId). if is_answered state r.frame then with_master who false state.cold_start else state.cold_start)
-      (sym master) in
+      ≡ (if is_answered state r.frame then with_master r.frame.master false state.cold_start else state.cold_start) = grind arith in
       ap (state_of start.device) s.next_is
       ∙ unmoved start before r.who s.held r.turn.step.brought r.turn.step.accepted
       (ap (effect_on state) r.brought ∙ refused_effect state r.frame r.refused)
       ∙ ap (λ (bits : EachMaster Bool). record state { cold_start = bits }) cold_start)
-  | inr silent ↦ apart (sym silent.none ∙ ap frame_in r.brought)
+  | inr silent ↦ grind arith
 ]
-  where
-    apart : {A : Type 0} {x : FrameParts} → None ≡ Some x → A
-    apart is = cc
 
 pub refused_last : (start : Start) (events : List LineEvent) (last : World) → IsLast start events last → (before next : World)
     (r : IsRefusedByDevice start events before next) → r.turn.suffix ≡ []

@@ -1,9 +1,9 @@
 -- The state of the device in a world, after an effect.
-use Rattle.std.proofs.Common.{◌≡◌, ℕ, ◌+◌, ◌%◌, ◌≤◌, ◌<◌, ◌||◌, nat_lt, ap, ◌∙◌, sym, refl, arith, Option, None, Some, Bool, true, false}
+use Rattle.std.proofs.Common.{◌≡◌, ℕ, ◌+◌, ◌%◌, ◌≤◌, ◌<◌, ◌||◌, nat_lt, ap, ◌∙◌, sym, refl, arith, Option, Some, Bool, true, false}
 use Rattle.std.proofs.Common.{List, [], ◌∷◌, ◌++◌, length}
 use Rattle.std.proofs.lemmas.List.{map-append}
 use Rattle.std.proofs.Math.Nat.{mod-add-mod, mod-eq_of_lt}
-use Rattle.std.proofs.lemmas.Bool.{lt-ltb, le-ltb}
+use Rattle.std.proofs.lemmas.Bool.Decides.{nat_tests}
 use Rattle.hart_values.specs.declared.master_id.MasterId.{MasterId}
 use Rattle.hart_values.specs.declared.master_id.MasterId.TheVariants.{Primary, Secondary}
 use Rattle.hart_commands.specs.Registers.{Contents, registers_of, overwritten}
@@ -16,12 +16,10 @@ use Rattle.hart_line.specs.world.Step.{executions_after, marks_after}
 -- A mark lies before one execution more.
 is_changed-more : (initially : Bool) (mark : Option ℕ) (count : ℕ) → ((m : ℕ) → mark ≡ Some m → m ≤ count)
     → true ≡ is_changed initially mark (count + 1)
-is_changed-more true None count within = refl
-is_changed-more false None count within = sym (lt-ltb 0 (count + 1) (omega arith))
-is_changed-more initially (Some m) count within = let h = within m refl in sym (lt-ltb m (count + 1) (omega arith))
+is_changed-more initially mark count within = grind (arith, nat_tests)
 
 is_changed-now : (initially : Bool) (count : ℕ) → false ≡ is_changed initially (Some count) count
-is_changed-now initially count = sym (le-ltb count count (omega arith))
+is_changed-now initially count = grind (arith, nat_tests)
 
 counted : (counter count : ℕ) → ((counter + count) % 65536 + 1) % 65536 ≡ (counter + (count + 1)) % 65536
 counted counter count = mod-add-mod (counter + count) 65536 1 ∙ ap (λ n. n % 65536) (omega arith)
@@ -30,14 +28,7 @@ counted counter count = mod-add-mod (counter + count) 65536 1 ∙ ap (λ n. n % 
 pub same_state : (a b : DeviceState) → a.identity ≡ b.identity → a.contents ≡ b.contents → a.counter ≡ b.counter
     → a.changed.primary ≡ b.changed.primary → a.changed.secondary ≡ b.changed.secondary → a.protected ≡ b.protected
     → a.cold_start ≡ b.cold_start → a ≡ b
-same_state a b identity contents counter primary secondary protected cold_start = λ i. record {
-  identity = identity i;
-  contents = contents i;
-  counter = counter i;
-  changed = record { primary = primary i; secondary = secondary i };
-  protected = protected i;
-  cold_start = cold_start i;
-}
+same_state a b identity contents counter primary secondary protected cold_start = grind arith
 
 contents-more : (executions : List Execution) (execution : Execution) (initial : Contents)
     → overwritten execution.overwrite (registers_of (overwrites_of executions) initial)
@@ -72,14 +63,13 @@ state-after initial world next Secondary number Resets within executions marks p
 
 -- THE FIRST WORLD
 or_none : (b : Bool) → (b || nat_lt 0 0) ≡ b
-or_none true = refl
-or_none false = refl
+or_none b = grind arith
 
 small_mod : (n : ℕ) → n < 65536 → (n + 0) % 65536 ≡ n
-small_mod n h = let same : n + 0 ≡ n = omega arith in rw same (mod-eq_of_lt h)
+small_mod n h = grind (arith, mod-eq_of_lt)
 
 -- The device stands for the world before a script.
 pub state-first : (start : Start) → start.device.counter < 65536
     → state_of start.device (first_world start) ≡ start.device
 state-first start small = same_state _ _ refl (registers_of_lists-none start.device.contents) (small_mod start.device.counter small)
-    (or_none start.device.changed.primary) (or_none start.device.changed.secondary) refl refl
+    (grind arith) (grind arith) refl refl

@@ -1,6 +1,6 @@
 -- A request in hand is unfinished, and is the one that was submitted under its number, to its master and for its address.
 use Rattle.std.proofs.Common.{◌≡◌, ℕ, ◌+◌, ◌<◌, zero, suc, ap, ◌∙◌, sym, refl, subst, Option, None, Some, option_map, List, [], ◌∷◌, ◌++◌}
-use Rattle.std.proofs.Common.{add-one, drop, get_or, length, slice_set, take, inl, inr}
+use Rattle.std.proofs.Common.{add-one, drop, get_or, length, slice_set, take, inl, inr, arith}
 use Rattle.std.specs.List.{slice_get}
 use Rattle.std.proofs.lemmas.List.{length-set, take_more}
 use Rattle.std.proofs.lemmas.List.Elements.{All-append, All-get_or}
@@ -18,7 +18,7 @@ use Rattle.hart_line.specs.world.World.{InHand, Start, World, first_world}
 use Rattle.hart_line.specs.declared.event.LineEvent.{LineEvent}
 use Rattle.hart_line.specs.declared.event.LineEvent.TheVariants.{Submit, Turn}
 use Rattle.hart_line.specs.declared.line.report.Outcome.{Outcome}
-use Rattle.hart_line.specs.declared.line.report.Outcome.TheVariants.{Answered, NoReply, Unfinished, Refused}
+use Rattle.hart_line.specs.declared.line.report.Outcome.TheVariants.{Unfinished, Refused}
 use Rattle.hart_line.proofs.lemmas.world.Basics.{length-one_more, nothing_first, slice_get-append, slice_get-last, slice_get-set_other}
 use Rattle.hart_line.proofs.lemmas.world.Basics.{slice_get-set_same, some_one, with_master-cases}
 use Rattle.hart_line.proofs.lemmas.world.Steps.{along, by_cases}
@@ -35,8 +35,7 @@ pub record IsAlong (submissions : List Submission) (world : World) (later : List
 
 drop-first : {A : Type 0} (n : ℕ) (xs : List A) (x : A) (later : List A) → drop n xs ≡ x ∷ later
     → (slice_get xs n ≡ Some x) × (drop (suc n) xs ≡ later)
-drop-first zero [] x later is = cc
-drop-first zero (y ∷ xs) x later is = (cc, cc)
+drop-first zero xs x later is = grind arith
 drop-first (suc n) [] x later is = cc
 drop-first (suc n) (y ∷ xs) x later is = drop-first n xs x later is
 
@@ -67,13 +66,7 @@ submits_along submissions world who address request later a = record {
 -- What stays in hand after a turn is unfinished, and is the same but for its sendings.
 left_unfinished : (held left : InHand) (outcome : Outcome) → hand_left held outcome ≡ Some left
     → (outcome ≡ Unfinished left.sendings) × (record held { sendings = left.sendings } ≡ left)
-left_unfinished held left (Unfinished n) is =
-    let same : record held { sendings = n } ≡ left = some_one is in
-    let sendings : n ≡ left.sendings = ap (λ (h : InHand). h.sendings) same in
-    let Left : ℕ → Type 0 = λ s. record held { sendings = s } ≡ left in (ap Unfinished sendings, subst Left sendings same)
-left_unfinished held left (Answered reply n) is = cc
-left_unfinished held left (NoReply n) is = cc
-left_unfinished held left (Refused fault) is = cc
+left_unfinished held left outcome is = grind arith
 
 sends_along : (submissions : List Submission) (start : Start) (world : World) (who : MasterId) (held : InHand)
     (brought : Brought) (accepted : Option Reply) (event : LineEvent) (later : List LineEvent) → of_master who world.hands ≡ Some held
@@ -143,8 +136,7 @@ made_of events number submission made there =
 
 requests_of-append : (prefix suffix : List LineEvent) → requests_of (prefix ++ suffix) ≡ requests_of prefix ++ requests_of suffix
 requests_of-append [] suffix = refl
-requests_of-append (Submit who address request ∷ prefix) suffix = ap (λ rs. request ∷ rs) (requests_of-append prefix suffix)
-requests_of-append (event ∷ prefix) suffix = requests_of-append prefix suffix
+requests_of-append (event ∷ prefix) suffix = grind (arith, requests_of-append prefix suffix)
 
 -- One event more.
 pub made_more : (events : List LineEvent) (n : ℕ) (unused : LineEvent) → n < length events → AreWellMade (take n events)

@@ -1,18 +1,14 @@
 -- Unrefused writes are executed in their turn, and nothing else is.
-use Rattle.std.proofs.Common.{◌≡◌, ℕ, ◌==◌, nat_lt, ap, ◌∙◌, sym, refl, subst, Option, None, Some, IsSome, IsTrue, Bool, true}
-use Rattle.std.proofs.Common.{false, List, [], ◌∷◌, ◌++◌, if◌then◌else◌, ◌⊎◌, inl, inr}
+use Rattle.std.proofs.Common.{◌≡◌, ℕ, ap, ◌∙◌, sym, refl, subst, Option, None, Some, IsSome, IsTrue}
+use Rattle.std.proofs.Common.{List, [], ◌∷◌, ◌++◌, ◌⊎◌, inl, inr, arith}
 use Rattle.std.specs.List.{slice_get}
-use Rattle.std.specs.Prelude.{option_map}
 use Rattle.hart_values.specs.declared.master_id.MasterId.{MasterId}
 use Rattle.hart_frame.specs.wire.FrameParts.{FrameParts}
-use Rattle.hart_values.specs.EachMaster.{of_master}
 use Rattle.hart_commands.specs.Registers.{Overwrite, overwrite_of}
-use Rattle.hart_commands.specs.ReplyData.{content_reading, reply_reading}
+use Rattle.hart_commands.specs.ReplyData.{reply_reading}
 use Rattle.hart_commands.specs.RequestCode.{is_write}
-use Rattle.hart_commands.specs.RequestData.{IsRequest, command_of, is_known}
+use Rattle.hart_commands.specs.RequestData.{IsRequest, command_of}
 use Rattle.hart_commands.proofs.lemmas.Laws.{requests_have_their_command, writes_have_overwrites-exactly, written_data_are_their_request}
-use Rattle.hart_commands.specs.declared.content.ReplyContent.{ReplyContent}
-use Rattle.hart_commands.specs.declared.content.ReplyContent.TheVariants.{Refused}
 use Rattle.hart_commands.specs.declared.reply.Reply.{Reply}
 use Rattle.hart_commands.specs.declared.request.Request.{Request}
 use Rattle.hart_device.specs.answer.Answer.{code_of, effect_of}
@@ -22,11 +18,11 @@ use Rattle.hart_device.proofs.lemmas.Laws.{answers_give_their_code-answered, wri
 use Rattle.hart_device.proofs.lemmas.Laws.{writes_execute_their_overwrite-only}
 use Rattle.hart_line.specs.world.Promises.{AnswersLastSending, AreWellMade, IsExecutedFromHand, IsExecutedInItsTurn, IsStepOf}
 use Rattle.hart_line.specs.world.Promises.{IsUnrefusedWrite, brought_in_step, requests_of, submission_in, submissions_of}
-use Rattle.hart_line.specs.world.Step.{IsTurn, Step, effect_on, executions_after, spoken_request, submission_fault, submitted}
+use Rattle.hart_line.specs.world.Step.{IsTurn, Step, effect_on, executions_after, spoken_request, submitted}
 use Rattle.hart_line.specs.world.World.{Execution, InHand, Start, World, first_world, state_of}
 use Rattle.hart_line.specs.declared.event.Heard.{Heard}
 use Rattle.hart_line.specs.declared.event.LineEvent.{LineEvent}
-use Rattle.hart_line.specs.declared.event.LineEvent.TheVariants.{Submit, Turn, Noise}
+use Rattle.hart_line.specs.declared.event.LineEvent.TheVariants.{Turn}
 use Rattle.hart_line.proofs.lemmas.world.Arrival.{frame_in}
 use Rattle.hart_line.proofs.lemmas.world.Basics.{some_one}
 use Rattle.hart_line.proofs.lemmas.world.Steps.{IsSending, turn_cases}
@@ -35,44 +31,16 @@ use Rattle.hart_line.proofs.lemmas.world.Submitted.{held_in, made_of, request_th
 -- THE CODE OF A REPLY
 reading_code : (command : ℕ) (payload : List ℕ) (reply : Reply) (code : ℕ) → reply_reading command payload ≡ Some reply
     → slice_get payload 0 ≡ Some code → reply.code ≡ code
-reading_code command [] reply code read is = cc
-reading_code command (c ∷ []) reply code read is = cc
-reading_code command (c ∷ status ∷ bytes) reply code read is =
-    by_tests (nat_lt 127 c) (c == 0) (is_known command) (content_reading command bytes) read ∙ some_one is
-  where
-    replying : ReplyContent → Reply
-    replying content = record { command = command; code = c; status = record { 0 = status }; content = content }
-
-    by_content : (content : Option ReplyContent)
-        → option_map (λ x. let r : Reply = record { command = command; code = c; status = record { 0 = status }; content = x } in r) content
-        ≡ Some reply → reply.code ≡ c
-    by_content None read = cc
-    by_content (Some content) read = ap (λ (r : Reply). r.code) (sym (some_one read))
-
-    by_tests : (above success known : Bool) (content : Option ReplyContent)
-        → (if above then None else if success
-        then option_map (λ x. let r : Reply = record { command = command; code = c; status = record { 0 = status }; content = x } in
-        r) content
-        else if known then Some (record { command = command; code = c; status = record { 0 = status }; content = Refused }) else None)
-        ≡ Some reply → reply.code ≡ c
-    by_tests true success known content read = cc
-    by_tests false true known content read = by_content content read
-    by_tests false false true content read = ap (λ (r : Reply). r.code) (sym (some_one read))
-    by_tests false false false content read = cc
+reading_code command payload reply code read is = grind arith
 
 -- EXECUTIONS
 named_by : (overwrite : Option Overwrite) → IsSome overwrite → (named : Overwrite) × (overwrite ≡ Some named)
-named_by None none = cc
-named_by (Some overwrite) there = (overwrite, refl)
+named_by overwrite there = grind arith
 
 -- A write that is not refused and arrives in a turn is the frame that was sent.
 sent_write : (state : DeviceState) (sent : FrameParts) (brought : Brought) → (frame_in brought ≡ None) ⊎ (frame_in brought ≡ Some sent)
     → IsUnrefusedWrite state brought → (brought ≡ OneFrame sent) × IsUnrefusedWrite state (OneFrame sent)
-sent_write state sent NoMessage known write = absurd write
-sent_write state sent (Garbled request) known write = absurd write
-sent_write state sent (OneFrame frame) (inl none) write = cc
-sent_write state sent (OneFrame frame) (inr is) write =
-    let same : OneFrame frame ≡ OneFrame sent = ap OneFrame (some_one is) in (same, subst (IsUnrefusedWrite state) same write)
+sent_write state sent brought known write = grind arith
 
 sending_executes : (start : Start) (events : List LineEvent) (before next : World) (who : MasterId) (up down : Heard)
     (turn : IsTurn start before who up down next) (s : IsSending start before who up down next turn)
@@ -150,9 +118,7 @@ frame_stays state frame number executions (Executes overwrite) is other =
 
 arrived_stays : (state : DeviceState) (brought : Brought) (number : ℕ) (executions : List Execution)
     → (IsUnrefusedWrite state brought → ⊥) → executions_after (effect_on state brought) number executions ≡ executions
-arrived_stays state NoMessage number executions other = refl
-arrived_stays state (Garbled request) number executions other = refl
-arrived_stays state (OneFrame frame) number executions other = frame_stays state frame number executions _ refl other
+arrived_stays state brought number executions other = grind (arith, frame_stays)
 
 pub step_stays : (start : Start) (before : World) (event : LineEvent) (next : World) (step : Step start before event next)
     → (IsUnrefusedWrite (state_of start.device before) (brought_in_step start before event next step) → ⊥)
@@ -162,11 +128,4 @@ step_stays start before (Turn who up down) next step other = elim (turn_cases st
       ∙ arrived_stays (state_of start.device before) step.brought s.held.submission before.executions other
   | inr silent ↦ ap (λ (w : World). w.executions) silent.next_is
 ]
-step_stays start before (Noise chars) next step other = ap (λ (w : World). w.executions) step.next_is
-step_stays start before (Submit who address request) next step other =
-    ap (λ (w : World). w.executions) step ∙ by_fault (submission_fault (of_master who before.hands) address request)
-  where
-    by_fault : (fault : _) → (submitted before who address request fault).executions ≡ before.executions
-    by_fault None = refl
-    by_fault (Some fault) = refl
-step_stays start before event next step other = ap (λ (w : World). w.executions) step
+step_stays start before event next step other = grind arith
