@@ -35,8 +35,7 @@ frame_brought identity chars sent frames frame detected = grind arith
 
 pub among_frame : (identity : IdentityParts) (chars : List Character) (sent : Option FrameParts) (frame : FrameParts)
     → ArrivesAmong chars sent (Some frame) → ReachesAmong identity chars sent (OneFrame frame)
-among_frame identity chars sent frame a =
-    record { frame = Some frame; arrives = a; brings = frame_brought identity chars sent a.frames frame a.detected }
+among_frame identity chars sent frame a = record { frame = Some frame; arrives = a; brings = grind arith }
 
 -- If none arrives it is brought what characters without a frame bring.
 none_brought : (identity : IdentityParts) (chars : List Character) (sent : Option FrameParts) (frames : List Found) (brought : Brought)
@@ -45,8 +44,7 @@ none_brought identity chars sent frames brought detected brings = grind arith
 
 pub among_none : (identity : IdentityParts) (chars : List Character) (sent : Option FrameParts) (brought : Brought)
     → ArrivesAmong chars sent None → BringsBy identity chars [] brought → ReachesAmong identity chars sent brought
-among_none identity chars sent brought a brings =
-    record { frame = None; arrives = a; brings = none_brought identity chars sent a.frames brought a.detected brings }
+among_none identity chars sent brought a brings = record { frame = None; arrives = a; brings = grind arith }
 
 -- What the code answers to characters without a frame is the reply to what they bring.
 abbrev pub IsReply : IdentityParts → List Character → Option FrameParts → Type 0
@@ -126,16 +124,11 @@ pub speaks_sent : (party : Party) (preambles : ℕ) (sent : Option FrameParts) (
     → Speaks (spoken_by party preambles sent) old new → IsSent sent (spoken_by party preambles sent)
 speaks_sent party preambles sent old new enough speaks = grind arith
 
--- A master speaks what it sends in its turn.
-said_by : (Silent : Type 0) (Sent : InHand → Type 0) (who : MasterId) (hand : Option InHand) (frame : Option FrameParts)
-    → Sends who hand frame Silent Sent → spoken_by (party_of who) master_preambles frame ≡ sent_by who hand
-said_by Silent Sent who hand frame sends = grind arith
-
 pub says_request : (Silent : Type 0) (Sent : InHand → Type 0) (who : MasterId) (hand : Option InHand) (frame : Option FrameParts)
     (old new : List Spoken) → Sends who hand frame Silent Sent → Speaks (spoken_by (party_of who) master_preambles frame) old new
     → Speaks (sent_by who hand) old new × IsSent frame (sent_by who hand)
 says_request Silent Sent who hand frame old new sends speaks =
-    let said = said_by Silent Sent who hand frame sends in
+    let said : spoken_by (party_of who) master_preambles frame ≡ sent_by who hand = grind arith in
     (rw said at speaks, rw said at (speaks_sent (party_of who) master_preambles frame old new (omega arith) speaks))
 
 -- The device speaks its answer to what it was brought.

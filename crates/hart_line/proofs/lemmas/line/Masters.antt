@@ -2,11 +2,9 @@
 use Rattle.std.proofs.Common.{◌≡◌, ℕ, List, Option, Err, arith}
 use Rattle.hart_values.specs.declared.address.Address.{Address}
 use Rattle.hart_values.specs.declared.master_id.MasterId.{MasterId}
-use Rattle.hart_frame.specs.heard.Character.{Character}
 use Rattle.hart_frame.specs.wire.FrameParts.{FrameParts}
-use Rattle.hart_commands.specs.declared.reply.Reply.{Reply}
 use Rattle.hart_commands.specs.declared.request.Request.{Request}
-use Rattle.hart_master.specs.Master.{DeliveryBrings, hand_submitted, result_submitted}
+use Rattle.hart_master.specs.Master.{hand_submitted, result_submitted}
 use Rattle.hart_master.specs.declared.fault.MasterFault.{MasterFault}
 use Rattle.hart_master.specs.declared.fault.Rejected.{Rejected}
 use Rattle.hart_line.specs.line.Masters.{Concludes, Sends, Submits, hand_of}
@@ -37,8 +35,3 @@ pub concludes_more : {Left Left' : Option InHand → Type 0} {who : MasterId} {r
     → Concludes who retries held returned outcomes outcomes' Left → Concludes who retries held returned outcomes outcomes' Left'
 concludes_more more c =
     record { accepted = c.accepted; accepts = c.accepts; outcomes_are = c.outcomes_are; left = more _ c.left }
-
--- Between two turns a master awaits nothing, so that no delivery brings it a reply.
-pub nothing_brought : (id : MasterId) (held : Option InHand) (delivery : List Character) (reply : Reply)
-    → DeliveryBrings id (hand_of held) delivery reply → ⊥
-nothing_brought id held delivery reply brought = grind arith

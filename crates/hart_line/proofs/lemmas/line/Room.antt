@@ -16,12 +16,6 @@ room_for_first event more line r =
     let noises = sum_by-cons (λ e. cond (is_noise e) 1 0) event more in
     record { outcomes = omega (arith, submissions, r.outcomes); spoken = omega (arith, turns, noises, r.spoken) }
 
--- So it is for the events that are left, and after the next of them for those that are left then.
-pub room_for_next : (events : List LineEvent) (n : ℕ) (unused : LineEvent) (line : LineState) → n < length events
-    → HasRoomFor (drop n events) line → HasRoomFor (get_or events n unused ∷ []) line
-room_for_next events n unused line here r =
-    room_for_first _ (drop (n + 1) events) line (subst (λ es. HasRoomFor es line) (drop_more events n unused here) r)
-
 pub room_for_others : (events : List LineEvent) (n : ℕ) (unused : LineEvent) (old new : LineState) → n < length events
     → HasRoomFor (drop n events) old → LeavesRoom (get_or events n unused) old new → HasRoomFor (drop (n + 1) events) new
 room_for_others events n unused old new here r leaves =

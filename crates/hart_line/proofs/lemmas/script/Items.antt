@@ -93,10 +93,6 @@ ReadsTo text chars rest = items_of text ≡ option_map (λ more. chars ++ more) 
 map_nil : (o : Option (List Character)) → o ≡ option_map (λ more. [] ++ more) o
 map_nil o = grind arith
 
--- at its beginning nothing of a text is read
-pub ReadsTo-nothing : (text : List ℕ) → ReadsTo text [] text
-ReadsTo-nothing text = map_nil (items_of text)
-
 -- characters, one more and others are one list
 map_push : (chars : List Character) (char : Character) (o : Option (List Character))
     → option_map (λ more. chars ++ more) (option_map (λ more. char ∷ more) o) ≡ option_map (λ more. (chars ++ char ∷ []) ++ more) o

@@ -1,22 +1,14 @@
 -- The first word of a line.
-use Rattle.std.proofs.Common.{◌≡◌, ℕ, ◌+◌, ◌<◌, ◌≤◌, suc, Bool, true, false, cond, ltb, List, [], ◌∷◌, get_or, length, take, drop, Option}
-use Rattle.std.proofs.Common.{Some, None, not, unwrap_or, refl, ap, ◌∙◌, arith}
+use Rattle.std.proofs.Common.{◌≡◌, ℕ, ◌+◌, ◌<◌, suc, Bool, true, false, cond, ltb, List, [], ◌∷◌, get_or, length, take, drop, Option}
+use Rattle.std.proofs.Common.{Some, None, unwrap_or, refl, ap, ◌∙◌, arith}
 use Rattle.std.specs.List.{filter, onto_first, position_or_len, slice_split}
 use Rattle.std.proofs.lemmas.Bool.Decides.{nat_tests}
 use Rattle.std.proofs.lemmas.List.Sums.{prefix_len-le-length}
 use Rattle.hart_line.specs.script.Lines.{has_bytes, is_blank, words_of}
 
--- the place of a test, or the length if there is none
-place_of : (n len : ℕ) → n ≤ len → unwrap_or (cond (ltb n len) (Some n) None) len ≡ n
-place_of n len le = grind (arith, nat_tests)
-
 pub place_or_length : (p : ℕ → Bool) (xs : List ℕ) (found : Option ℕ) (result : ℕ) → result ≡ unwrap_or found (length xs)
     → found ≡ cond (ltb (position_or_len p xs) (length xs)) (Some (position_or_len p xs)) None → result ≡ position_or_len p xs
 place_or_length p xs found result e f = grind (arith, nat_tests, prefix_len-le-length)
-
--- a place is within the list
-pub position_within : (p : ℕ → Bool) (xs : List ℕ) → position_or_len p xs ≤ length xs
-position_within p xs = prefix_len-le-length (λ x. not (p x)) xs
 
 -- the first part stands before the first element that passes, and the other ones after it
 record FirstPart (p : ℕ → Bool) (xs : List ℕ) : Type 0 where

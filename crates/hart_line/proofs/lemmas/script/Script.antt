@@ -1,5 +1,5 @@
 -- Scripts: what the lines of a text say, line by line.
-use Rattle.std.proofs.Common.{◌≡◌, ℕ, ◌+◌, ◌<◌, suc, Bool, false, List, [], ◌∷◌, ◌++◌, get_or, length, Option, None, Some, Ok}
+use Rattle.std.proofs.Common.{◌≡◌, ℕ, ◌+◌, ◌<◌, suc, Bool, false, List, [], ◌∷◌, ◌++◌, get_or, length, Option, Some, Ok}
 use Rattle.std.proofs.Common.{Err, sym, ap, ◌∙◌, drop, subst, take, arith}
 use Rattle.std.specs.Prelude.{IsTrue, ◌==◌}
 use Rattle.std.specs.List.{position_from, slice_split}
@@ -10,7 +10,7 @@ use Rattle.std.proofs.lemmas.List.{get_or-map, length-map, length-take-le, take-
 use Rattle.std.proofs.lemmas.List.Elements.{filter_map-append}
 use Rattle.std.proofs.Math.Seq.{drop-cons}
 use Rattle.hart_line.specs.script.Lines.{lines_of, words_of}
-use Rattle.hart_line.specs.script.Rows.{AreEvents, event_of, first_bad_line, HasFirstBadLine, is_bad_line, is_skipped, IsScript}
+use Rattle.hart_line.specs.script.Rows.{AreEvents, event_of, first_bad_line, HasFirstBadLine, is_bad_line, IsScript}
 use Rattle.hart_line.specs.script.Rows.{IsScriptFault, lines_in_words, SaysLine}
 use Rattle.hart_line.specs.declared.event.LineEvent.{LineEvent}
 use Rattle.hart_line.specs.declared.fault.LineFault.{LineFault}
@@ -21,15 +21,10 @@ position_from-append : {X : Type 0} (p : X → Bool) (i : ℕ) (xs ys : List X)
 position_from-append p i [] ys = ap (λ (k : ℕ). position_from p k ys) (omega arith)
 position_from-append p i (x ∷ xs) ys = grind (arith, position_from-append p (i + 1) xs ys)
 
--- a comment is not bad and says no event
-comment : (word : List ℕ) (words : List (List ℕ)) → IsTrue (is_skipped (word ∷ words))
-    → (is_bad_line (word ∷ words) ≡ false) × (event_of (word ∷ words) ≡ None)
-comment word words skipped = grind (arith, nat_tests)
-
 -- a line that is skipped or says an event is not bad, and says that event
 good_line : (number : ℕ) (words : List (List ℕ)) (said : Option LineEvent) → SaysLine number words (Ok said)
     → (is_bad_line words ≡ false) × (event_of words ≡ said)
-good_line number words said says = grind (arith, comment)
+good_line number words said says = grind (arith, nat_tests)
 
 -- the line of a part of a text, in words, stands at its place
 pub record StandsAt (text : List ℕ) (n : ℕ) (words : List (List ℕ)) : Type 0 where

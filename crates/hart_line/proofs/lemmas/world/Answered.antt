@@ -81,13 +81,10 @@ returned_answers : (start : Start) (world : World) (down : Heard) (sent : FrameP
     → AnswersSent (state_of start.device world) start.process sent brought frame
 returned_answers start world down sent brought returned frame known back came who held reply is_reply =
     elim (arrives_cases down (sent_back start world brought) returned back) [
-      | inl none ↦ absurd (apart (sym none ∙ came))
+      | inl none ↦ absurd (cc (none, came))
       | inr is ↦ answers_sent (state_of start.device world) start.process sent brought frame known
           (sym (is ∙ frame_of-by _ _ (answer_to (state_of start.device world) start.process brought)) ∙ came) who held reply is_reply
     ]
-  where
-    apart : {A : Type 0} {x : A} → None ≡ Some x → ⊥
-    apart is = cc
 
 sending_answered : (start : Start) (events : List LineEvent) (world next : World) (who : MasterId) (up down : Heard)
     (turn : IsTurn start world who up down next) → IsSending start world who up down next turn

@@ -3,23 +3,17 @@ use Rattle.std.proofs.Common.{◌≡◌, Bool, if◌then◌else◌, Option, None
 use Rattle.std.proofs.Common.{append-nil, arith}
 use Rattle.std.specs.Option.{option_to_list}
 use Rattle.hart_frame.specs.wire.FrameParts.{FrameParts}
-use Rattle.hart_frame.specs.declared.heard.found.Found.{Found}
-use Rattle.hart_device.specs.answer.Delivery.{Brought, BringsBy, Garbled, NoMessage, OneFrame, state_after_delivery}
+use Rattle.hart_device.specs.answer.Delivery.{Brought, Garbled, NoMessage, OneFrame, state_after_delivery}
 use Rattle.hart_device.specs.Device.{DeviceState, Effect, Nothing, after, after_reply}
 use Rattle.hart_values.specs.declared.master_id.MasterId.{MasterId}
 use Rattle.hart_device.specs.declared.identity_parts.IdentityParts.{IdentityParts}
-use Rattle.hart_frame.specs.heard.Character.{Character}
-use Rattle.hart_line.specs.world.Damage.{Arrives, IsDetected, Reaches}
+use Rattle.hart_line.specs.world.Damage.{Arrives, Reaches}
 use Rattle.hart_line.specs.world.Step.{effect_on}
 use Rattle.hart_line.specs.world.Spoken.{AreSpoken, IsSpoken, SpokenFrame, Speaks, frame_of}
 use Rattle.hart_line.specs.declared.event.Heard.{Heard}
 use Rattle.hart_line.specs.declared.line.report.Spoken.{Spoken}
 
 -- What arrives is nothing, or what was sent.
-IsDetected-cases : (sent : Option FrameParts) (frames : List Found) (arrived : Option FrameParts) → IsDetected sent frames arrived
-    → (arrived ≡ None) ⊎ (arrived ≡ sent)
-IsDetected-cases sent frames arrived detected = grind arith
-
 pub arrives_cases : (heard : Heard) (sent : Option SpokenFrame) (arrived : Option FrameParts) → Arrives heard sent arrived
     → (arrived ≡ None) ⊎ (arrived ≡ frame_of sent)
 arrives_cases heard sent arrived a = grind arith
@@ -29,11 +23,6 @@ abbrev pub frame_in : Brought → Option FrameParts
 frame_in (OneFrame frame) = Some frame
 frame_in (Garbled request) = None
 frame_in NoMessage = None
-
-BringsBy-cases : (identity : IdentityParts) (chars : List Character) (sent : Option FrameParts) (frames : List Found)
-    (arrived : Option FrameParts) (brought : Brought) → IsDetected sent frames arrived → BringsBy identity chars frames brought
-    → (frame_in brought ≡ None) ⊎ (frame_in brought ≡ sent)
-BringsBy-cases identity chars sent frames arrived brought detected brings = grind arith
 
 pub reaches_cases : (identity : IdentityParts) (heard : Heard) (sent : Option SpokenFrame) (brought : Brought)
     → Reaches identity heard sent brought → (frame_in brought ≡ None) ⊎ (frame_in brought ≡ frame_of sent)

@@ -39,7 +39,8 @@ counts_by : (b : Bool) (hand : InHand) (outcomes : List Outcome) (outcome : Outc
     → slice_get outcomes hand.submission ≡ Some (Unfinished hand.sendings) → sendings_in (Some outcome) ≡ hand.sendings + 1
     → before ≤ sendings_in (slice_get outcomes number) → after ≤ before + (if b then 1 else 0)
     → after ≤ sendings_in (slice_get (slice_set outcomes hand.submission outcome) number)
-counts_by b hand outcomes outcome number before after same there sent old more = grind (arith, nat_tests, slice_get-set_same, slice_get-set_other)
+counts_by b hand outcomes outcome number before after same there sent old more =
+    grind (arith, nat_tests, slice_get-set_same, slice_get-set_other)
 
 step_counted : (start : Start) (events : List LineEvent) (world next : World) (event : LineEvent)
     → IsStepOf start (first_world start) events world event next → IsCounted world → IsCounted next

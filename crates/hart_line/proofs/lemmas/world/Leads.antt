@@ -8,7 +8,6 @@ use Rattle.std.proofs.lemmas.Option.{slice_get_within}
 use Rattle.hart_values.specs.declared.master_id.MasterId.{MasterId}
 use Rattle.hart_frame.specs.heard.Character.{Character}
 use Rattle.hart_frame.specs.wire.FrameParts.{FrameParts}
-use Rattle.hart_frame.specs.declared.heard.found.Found.{Found}
 use Rattle.hart_frame.proofs.lemmas.Laws.{bodies_are_unambiguous-one_body, frames_are_unambiguous-one_list}
 use Rattle.hart_values.specs.EachMaster.{of_master}
 use Rattle.hart_commands.specs.declared.reply.Reply.{Reply}
@@ -16,7 +15,7 @@ use Rattle.hart_device.specs.answer.Delivery.{Brings, Brought}
 use Rattle.hart_device.specs.declared.identity_parts.IdentityParts.{IdentityParts}
 use Rattle.hart_device.proofs.lemmas.Laws.{deliveries_bring_one-one}
 use Rattle.hart_master.proofs.lemmas.Laws.{replies_are_decided-one_reply}
-use Rattle.hart_line.specs.world.Damage.{AreHeard, Arrives, IsDetected, IsUndetected, Reaches, ReachesAmong}
+use Rattle.hart_line.specs.world.Damage.{AreHeard, Arrives, IsUndetected, Reaches, ReachesAmong}
 use Rattle.hart_line.specs.world.Spoken.{SpokenFrame}
 use Rattle.hart_line.specs.world.Step.{Accepts, IsLast, IsTurn, LeadsTo, Step, sent_back, sent_by}
 use Rattle.hart_line.specs.world.World.{InHand, Start, World, first_world}
@@ -41,13 +40,9 @@ AreHeard-one Clean (Some said) a b x y =
 AreHeard-one Lost sent a b x y = x ∙ sym y
 AreHeard-one (Chars given) sent a b x y = x ∙ sym y
 
-IsDetected-one : (sent : Option FrameParts) (frames : List Found) (a b : Option FrameParts) → IsDetected sent frames a
-    → IsDetected sent frames b → a ≡ b
-IsDetected-one sent frames a b x y = grind arith
-
 pub Arrives-one : (heard : Heard) (sent : Option SpokenFrame) (a b : Option FrameParts) → Arrives heard sent a
     → Arrives heard sent b → a ≡ b
-Arrives-one heard sent a b s t = grind (arith, AreHeard-one, frames_are_unambiguous-one_list, IsDetected-one)
+Arrives-one heard sent a b s t = grind (arith, AreHeard-one, frames_are_unambiguous-one_list)
 
 -- A leg brings the device one thing.
 brings_among : {identity : IdentityParts} {chars : List Character} {sent : Option FrameParts} {brought : Brought}

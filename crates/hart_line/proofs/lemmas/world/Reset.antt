@@ -176,4 +176,4 @@ pub refused_last : (start : Start) (events : List LineEvent) (last : World) → 
     → state_of start.device last ≡ after_refusal (state_of start.device before) r.frame
 refused_last start events last run before next r end =
     let after = after_step start events last run before next _ r.turn in
-    let same : last ≡ next = rw end at after in ap (state_of start.device) same ∙ refused_step start events before next r
+    let same : last ≡ next = rw end at after in rw same (refused_step start events before next r)

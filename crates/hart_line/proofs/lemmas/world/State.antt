@@ -1,5 +1,5 @@
 -- The state of the device in a world, after an effect.
-use Rattle.std.proofs.Common.{◌≡◌, ℕ, ◌+◌, ◌%◌, ◌≤◌, ◌<◌, ◌||◌, nat_lt, ap, ◌∙◌, sym, refl, arith, Option, Some, Bool, true, false}
+use Rattle.std.proofs.Common.{◌≡◌, ℕ, ◌+◌, ◌%◌, ◌≤◌, ◌<◌, ap, ◌∙◌, sym, refl, arith, Option, Some, Bool, true, false}
 use Rattle.std.proofs.Common.{List, [], ◌∷◌, ◌++◌, length}
 use Rattle.std.proofs.lemmas.List.{map-append}
 use Rattle.std.proofs.Math.Nat.{mod-add-mod, mod-eq_of_lt}
@@ -62,14 +62,8 @@ state-after initial world next Secondary number Resets within executions marks p
     (same_state _ _ refl refl refl refl (is_changed-now initial.changed.secondary (length world.executions)) refl refl)
 
 -- THE FIRST WORLD
-or_none : (b : Bool) → (b || nat_lt 0 0) ≡ b
-or_none b = grind arith
-
-small_mod : (n : ℕ) → n < 65536 → (n + 0) % 65536 ≡ n
-small_mod n h = grind (arith, mod-eq_of_lt)
-
 -- The device stands for the world before a script.
 pub state-first : (start : Start) → start.device.counter < 65536
     → state_of start.device (first_world start) ≡ start.device
-state-first start small = same_state _ _ refl (registers_of_lists-none start.device.contents) (small_mod start.device.counter small)
+state-first start small = same_state _ _ refl (registers_of_lists-none start.device.contents) (grind (arith, mod-eq_of_lt))
     (grind arith) (grind arith) refl refl

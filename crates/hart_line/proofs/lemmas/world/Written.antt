@@ -12,7 +12,7 @@ use Rattle.hart_commands.proofs.lemmas.Laws.{requests_have_their_command, writes
 use Rattle.hart_commands.specs.declared.reply.Reply.{Reply}
 use Rattle.hart_commands.specs.declared.request.Request.{Request}
 use Rattle.hart_device.specs.answer.Answer.{code_of, effect_of}
-use Rattle.hart_device.specs.answer.Delivery.{Brought, Garbled, NoMessage, OneFrame}
+use Rattle.hart_device.specs.answer.Delivery.{Brought, OneFrame}
 use Rattle.hart_device.specs.Device.{DeviceState, Effect, Nothing, Executes, Resets}
 use Rattle.hart_device.proofs.lemmas.Laws.{answers_give_their_code-answered, writes_execute_their_overwrite-executes}
 use Rattle.hart_device.proofs.lemmas.Laws.{writes_execute_their_overwrite-only}
@@ -51,8 +51,7 @@ sending_executes start events before next who up down turn s there made write =
     let frame = (spoken_request who s.held).frame in
     let sent = sent_write state frame turn.brought s.known write in
     let named = named_by (overwrite_of s.held.request) ((writes_have_overwrites-exactly s.held.request).0 sent.1.0) in
-    let executes : effect_of state frame ≡ Executes named.0 =
-    writes_execute_their_overwrite-executes state frame s.held.request named.0 sent.1.1 sent.1.2
+    let executes = writes_execute_their_overwrite-executes state frame s.held.request named.0 sent.1.1 sent.1.2
     (written_data_are_their_request s.held.request made) named.1 in
     record {
       held = s.held;
@@ -60,8 +59,7 @@ sending_executes start events before next who up down turn s there made write =
       submitted_as = there;
       overwrite = named.0;
       overwrites = named.1;
-      executed = ap (λ (w : World). w.executions) s.next_is
-          ∙ ap (λ e. executions_after e s.held.submission before.executions) (ap (effect_on state) sent.0 ∙ executes);
+      executed = grind arith;
     }
 
 pub turn_executed : (start : Start) (events : List LineEvent) → AreWellMade events
@@ -72,13 +70,8 @@ turn_executed start events made before next who up down here write =
     elim (turn_cases start before who up down next here.step) [
       | inl s ↦ (let there = (held_in start events here who s.held s.in_hand).submitted_as in
           sending_executes start events before next who up down here.step s there (made_of events s.held.submission _ made there) write)
-      | inr silent ↦ absurd (unsent here.step.brought silent.none write)
+      | inr silent ↦ (let none = silent.none in absurd (grind arith))
     ]
-  where
-    unsent : (brought : Brought) → frame_in brought ≡ None → IsUnrefusedWrite (state_of start.device before) brought → ⊥
-    unsent (OneFrame frame) none write = cc
-    unsent (Garbled request) none write = write
-    unsent NoMessage none write = write
 
 -- AN ACCEPTED REPLY
 pub answered_executed : (start : Start) (events : List LineEvent) → AreWellMade events → (number : ℕ) (request : Request)

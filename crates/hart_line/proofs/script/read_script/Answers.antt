@@ -1,22 +1,13 @@
-use Rattle.std.specs.Str.Lines.{strip_carriage_return}
-use Rattle.std.proofs.Common.{ℕ, ◌∙◌, ◌+◌, length, None, Some, refl, ap, arith, sym, rules, tests}
+use Rattle.std.proofs.Common.{ℕ, ◌+◌, length, None, Some, ap, arith, sym, rules, tests}
 use Rattle.std.specs.Bool.{◌==◌}
 use Rattle.std.proofs.lemmas.Iterator.Consumers.{YieldsList-at, YieldsList-end, YieldsList-turn}
 use Rattle.std.proofs.lemmas.Iterator.Splits.{YieldsList-from_slice_split}
-use Rattle.std.proofs.lemmas.List.{append-nil, length-map, length_push}
+use Rattle.std.proofs.lemmas.List.{append-nil, length_push}
 use Rattle.std.proofs.lemmas.Result.{err_from_is_err_and}
 use Rattle.hart_line.specs.Filling.{Filled}
 use Rattle.hart_line.specs.declared.event.LineEvent.{LineEvent}
-use Rattle.hart_line.proofs.lemmas.script.Script.{AreEvents-more, line_fault, parts_of, stands_at, whole_script}
+use Rattle.hart_line.proofs.lemmas.script.Script.{AreEvents-more, line_fault, stands_at, whole_script}
 use Rattle.hart_line.proofs.script.read_script.Goals as goal
-
-pub loop-part-init : goal.loop-part-init
-loop-part-init c = rw c.in_ok-events.ensures.empty (record {
-  counted = refl;
-  few = omega arith;
-  room = c.count_lines.ensures ∙ length-map (parts_of c.args.text.now) strip_carriage_return;
-  said = (refl, refl);
-})
 
 pub returns-in_err-event-clause-fault : goal.returns-in_err-event-clause-fault
 returns-in_err-event-clause-fault c =

@@ -1,5 +1,4 @@
 use Rattle.std.proofs.Common.{refl}
-use Rattle.std.proofs.lemmas.Result.{IfErr-weaker, IfOk-weaker}
 use Rattle.hart_device.specs.answer.Delivery.{NoMessage, OneFrame}
 use Rattle.hart_line.specs.declared.event.Heard.TheVariants.{Lost}
 use Rattle.hart_line.proofs.lemmas.line.Leg.{clean_reaches, nothing_reaches, silence_reaches}
@@ -28,17 +27,3 @@ returns-in-Lost-clause-answers g c = λ said is. rw c.in-Lost.is (record {
   answer_is = refl;
   after_is = refl;
 })
-
-pub returns-in-Chars-clause-answers : goal.returns-in-Chars-clause-answers
-returns-in-Chars-clause-answers g c = IfOk-weaker c.answer_among.result _ _ (λ is_answered among said is.
-    let a = rw (c.as_slice.ensures, ← is.frame) at among in rw c.in-Chars.is (record {
-      brought = a.brought;
-      is_brought = record { chars = _; are_heard = refl; among = a.is_brought };
-      answer_is = a.answer_is;
-      after_is = a.after_is;
-    })) c.answer_among.ensures.answers
-
-pub returns-in-Chars-clause-undetected : goal.returns-in-Chars-clause-undetected
-returns-in-Chars-clause-undetected g c = IfErr-weaker c.answer_among.result _ _ (λ damage among said is.
-    rw c.in-Chars.is (record { chars = _; are_heard = refl; among = rw (c.as_slice.ensures, ← is.frame) at among }))
-    c.answer_among.ensures.undetected

@@ -2,7 +2,7 @@ use Rattle.std.proofs.Common.{◌<◌, arith, rules, refl, subst}
 use Rattle.std.proofs.lemmas.List.{take_all}
 use Rattle.hart_line.specs.world.Promises.{AreWellMade, start_from}
 use Rattle.hart_line.proofs.lemmas.line.Reached.{fault_at, of_last, reached_first, reached_more, reached_report, reached_whole}
-use Rattle.hart_line.proofs.lemmas.line.Room.{room_for_next, room_for_others}
+use Rattle.hart_line.proofs.lemmas.line.Room.{room_for_others}
 use Rattle.hart_line.proofs.lemmas.Laws.{scripts_have_one_last_world-no_fault, scripts_have_one_last_world-one_fault}
 use Rattle.hart_line.proofs.lemmas.Laws.{scripts_keep_their_promises-first_world}
 use Rattle.hart_line.proofs.lemmas.world.Submitted.{made_more}
@@ -19,12 +19,6 @@ loop-index-init g c =
       room = rw (c.new-line.ensures, c.requires.room.no_outcomes, c.requires.room.nothing_spoken)
           (record { outcomes = omega (arith, c.requires.room.outcomes); spoken = omega (arith, c.requires.room.spoken) });
     }
-
-pub step-requires : goal.step-requires
-step-requires g c = record {
-  room = rw c.index-events-index.is
-      (room_for_next c.args.events.now c.loop-index.index _ _ c.loop-index-test.true c.loop-index.invariant.room);
-}
 
 pub returns-in-Err-clause-fault : goal.returns-in-Err-clause-fault
 returns-in-Err-clause-fault g c =

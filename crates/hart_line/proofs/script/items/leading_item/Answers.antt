@@ -1,7 +1,7 @@
 use Rattle.std.proofs.Common.{◌≡◌, ◌≢◌, ◌≤◌, ℕ, List, length, [], ◌∷◌, get_or, refl, sym, ◌∙◌, subst, arith}
 use Rattle.std.proofs.lemmas.Bool.{iff_false}
 use Rattle.hart_frame.specs.heard.Character.{AreFaultBits, Character}
-use Rattle.hart_line.specs.script.Items.{AreDigits, BeginsAsItem, byte_of, EndsBefore, Faulty, NoItemBegins, Plain}
+use Rattle.hart_line.specs.script.Items.{AreDigits, BeginsAsItem, byte_of, Faulty, NoItemBegins, Plain}
 use Rattle.hart_line.proofs.script.items.leading_item.Goals as goal
 
 -- an item without fault bits begins a text
@@ -13,14 +13,10 @@ begins_as_plain (x ∷ []) char byte some d b n e = absurd (omega arith)
 begins_as_plain (x ∷ y ∷ tail) char byte some d b n e = record {
   item = Plain x y;
   tail = tail;
-  begins = record { valid = d; spelled = refl; ends = ends tail n };
+  begins = record { valid = d; spelled = refl; ends = grind arith };
   long = refl;
   means = cc;
 }
-  where
-    ends : (rest : List ℕ) → (get_or rest 0 0 ≡ 33 → ⊥) → EndsBefore rest (Plain x y)
-    ends [] other = tt
-    ends (next ∷ rest) other = other
 
 -- an item with fault bits begins a text
 begins_as_faulty : (text : List ℕ) (char : Character) (byte faults : ℕ) → 5 ≤ length text → AreDigits (get_or text 0 0) (get_or text 1 0)
@@ -45,9 +41,7 @@ no_item_begins : (text : List ℕ) → get_or text 2 0 ≡ 33
     → (5 ≤ length text → AreDigits (get_or text 3 0) (get_or text 4 0) → byte_of (get_or text 3 0) (get_or text 4 0) ≢ 0
     → AreFaultBits (byte_of (get_or text 3 0) (get_or text 4 0)) → ⊥)
     → NoItemBegins text
-no_item_begins text m f (Plain x y) [] h = let mark = rw h.spelled at m in omega arith
-no_item_begins text m f (Plain x y) (z ∷ tail) h = h.ends (rw h.spelled at m)
-no_item_begins text m f (Faulty x y v w) tail h = (rw h.spelled at f) (omega arith) h.valid.1 h.valid.2 h.valid.3
+no_item_begins text m f item tail h = grind arith
 
 pub returns-then-not-gives_faults : goal.returns-then-not-gives_faults
 returns-then-not-gives_faults c =
@@ -61,19 +55,6 @@ returns c =
     (c.gives_faults.ensures.0 c.if-not-gives_faults.false)
     c.in_ok-faults.ensures.0 c.in_ok-faults.ensures.1 c.if-faults-eq0.false (c.in_ok-char-2.ensures.accepted.0 refl)
     c.in_ok-char-2.ensures.kept
-
-pub returns-in_default-text : goal.returns-in_default-text
-returns-in_default-text c = no_item_begins _ (c.gives_faults.ensures.0 c.if-not-gives_faults.false) (λ long d z a. omega arith)
-
-pub returns-in_err-faults : goal.returns-in_err-faults
-returns-in_err-faults c =
-    rw (c.from_residual-in_err-faults.ensures)
-    (no_item_begins _ (c.gives_faults.ensures.0 c.if-not-gives_faults.false) (λ long d z a. c.in_err-faults.ensures d))
-
-pub returns-then-faults-eq0 : goal.returns-then-faults-eq0
-returns-then-faults-eq0 c =
-    no_item_begins _ (c.gives_faults.ensures.0 c.if-not-gives_faults.false)
-    (λ long d z a. z (sym c.in_ok-faults.ensures.1 ∙ c.if-faults-eq0.true))
 
 pub returns-in_err-char-2 : goal.returns-in_err-char-2
 returns-in_err-char-2 c =

@@ -1,19 +1,10 @@
-use Rattle.std.proofs.Common.{◌∙◌, arith, ap, refl}
+use Rattle.std.proofs.Common.{◌∙◌, arith, ap}
 use Rattle.std.proofs.lemmas.Bool.Decides.{nat_tests}
 use Rattle.std.proofs.lemmas.List.{length_push}
 use Rattle.hart_frame.specs.heard.Character.{Character}
 use Rattle.hart_line.specs.Filling.{Filled}
-use Rattle.hart_line.proofs.lemmas.script.Items.{all_items, item_read, no_items, ReadsTo-nothing, word_items}
+use Rattle.hart_line.proofs.lemmas.script.Items.{all_items, item_read, no_items, word_items}
 use Rattle.hart_line.proofs.script.items.read_items.Goals as goal
-
-pub loop-lead-init : goal.loop-lead-init
-loop-lead-init c =
-    rw c.in_ok-chars.ensures.empty (record { few = omega arith; room = refl; reads = ReadsTo-nothing c.args.word.now })
-
-pub push-requires : goal.push-requires
-push-requires c =
-    let read = item_read _ _ _ _ _ _ c.loop-lead.invariant.reads c.in-Some.ensures refl in
-    rw c.loop-lead.invariant.room (omega (arith, read.0, read.1, c.loop-lead.invariant.few))
 
 pub loop-lead-preserved : goal.loop-lead-preserved
 loop-lead-preserved c =

@@ -2,7 +2,7 @@ use Rattle.std.proofs.Common.{rules, tests}
 use Rattle.std.proofs.lemmas.Iterator.{YieldsList-from_slice}
 use Rattle.std.proofs.lemmas.Iterator.Search.{position_from_yields_List}
 use Rattle.hart_line.specs.script.Lines.{is_blank}
-use Rattle.hart_line.proofs.lemmas.script.Lines.{place_or_length, position_within}
+use Rattle.hart_line.proofs.lemmas.script.Lines.{place_or_length}
 use Rattle.hart_line.proofs.script.lines.len_before_blank.Goals as goal
 
 pub returns-clause-place : goal.returns-clause-place
@@ -10,6 +10,3 @@ returns-clause-place c =
     place_or_length is_blank c.args.line.now c.position.result c.unwrap_or.result c.unwrap_or.ensures
     (position_from_yields_List is_blank _ _ _ c.position.ensures.ran (YieldsList-from_slice c.args.line.now cc)
     (λ x b q k. search (rules, tests)))
-
-pub returns-clause-within : goal.returns-clause-within
-returns-clause-within c = rw (returns-clause-place c) (position_within is_blank c.args.line.now)
