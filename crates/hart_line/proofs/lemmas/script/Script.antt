@@ -60,8 +60,7 @@ pub AreEvents-more : (text : List ℕ) (n m number : ℕ) (words : List (List �
     → new ≡ events ++ option_to_list said → AreEvents (take m (lines_in_words text)) new
 AreEvents-more text n m number words events new said stands more before says pushed =
     let lines = lines_in_words text in
-    let cut : take m lines ≡ take n lines ++ words ∷ [] =
-    ap (λ (k : ℕ). take k lines) more ∙ take_more lines n words stands.within ∙ ap (λ ws. take n lines ++ ws ∷ []) stands.is in
+    let cut : take m lines ≡ take n lines ++ words ∷ [] = grind (arith, take_more, stands.within, stands.is) in
     let good = good_line number words said says in
     rw (cut, pushed) (AreEvents-push (take n lines) events words said before good.0 good.1)
 

@@ -10,7 +10,7 @@ use Rattle.hart_commands.specs.declared.request.Request.{Request}
 use Rattle.hart_commands.proofs.lemmas.Laws.{written_data_are_their_request}
 use Rattle.hart_device.specs.answer.Answer.{reading_of}
 use Rattle.hart_device.specs.answer.Delivery.{Brought, Garbled, NoMessage, OneFrame}
-use Rattle.hart_device.specs.Device.{DeviceState, Effect, Nothing, Executes, Resets}
+use Rattle.hart_device.specs.Device.{DeviceState, Effect, Executes}
 use Rattle.hart_device.proofs.lemmas.Laws.{registers_of_lists-again, registers_of_lists-first, writes_execute_their_overwrite-only}
 use Rattle.hart_line.specs.world.Executions.{has_execution_of, last_executions}
 use Rattle.hart_line.specs.world.Promises.{AreWellMade, IsStepOf, requests_of}
@@ -58,10 +58,9 @@ AllByRecursion-append P (y ∷ xs) x all p = (all.0, AllByRecursion-append P xs 
 effect_writes : (effect : Effect) (number : ℕ) (requests : List Request) (executions : List Execution)
     → ((overwrite : Overwrite) → effect ≡ Executes overwrite → IsWriteOf requests (record { submission = number; overwrite = overwrite }))
     → AllByRecursion (IsWriteOf requests) executions → AllByRecursion (IsWriteOf requests) (executions_after effect number executions)
-effect_writes Nothing number requests executions writes all = all
 effect_writes (Executes overwrite) number requests executions writes all =
     AllByRecursion-append (IsWriteOf requests) executions _ all (writes overwrite refl)
-effect_writes Resets number requests executions writes all = all
+effect_writes effect number requests executions writes all = all
 
 are_writes : (start : Start) (events : List LineEvent) → AreWellMade events → (last : World) → IsLast start events last
     → AllByRecursion (IsWriteOf (requests_of events)) last.executions

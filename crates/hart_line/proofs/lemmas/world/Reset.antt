@@ -35,10 +35,9 @@ pub record Grows (old new : List Execution) : Type 0 where
 effect_grows : (effect : Effect) (number : ℕ) (old now : List Execution) → Grows old now → Grows old (executions_after effect number now)
 effect_grows (Executes overwrite) number old now g = record {
   more = g.more ++ record { submission = number; overwrite = overwrite } ∷ [];
-  is = ap (λ xs. xs ++ record { submission = number; overwrite = overwrite } ∷ []) g.is ∙ append_assoc old g.more _;
+  is = grind (arith, append_assoc);
 }
-effect_grows Nothing number old now g = g
-effect_grows Resets number old now g = g
+effect_grows effect number old now g = g
 
 leads_grows : (start : Start) (events : List LineEvent) (world last : World) → LeadsTo start world events last
     → Grows world.executions last.executions

@@ -13,7 +13,7 @@ use Rattle.hart_commands.specs.declared.reply.Reply.{Reply}
 use Rattle.hart_commands.specs.declared.request.Request.{Request}
 use Rattle.hart_device.specs.answer.Answer.{code_of, effect_of}
 use Rattle.hart_device.specs.answer.Delivery.{Brought, OneFrame}
-use Rattle.hart_device.specs.Device.{DeviceState, Effect, Nothing, Executes, Resets}
+use Rattle.hart_device.specs.Device.{DeviceState, Effect, Executes}
 use Rattle.hart_device.proofs.lemmas.Laws.{answers_give_their_code-answered, writes_execute_their_overwrite-executes}
 use Rattle.hart_device.proofs.lemmas.Laws.{writes_execute_their_overwrite-only}
 use Rattle.hart_line.specs.world.Promises.{AnswersLastSending, AreWellMade, IsExecutedFromHand, IsExecutedInItsTurn, IsStepOf}
@@ -101,13 +101,12 @@ answered_executed start events made number request reply sendings a submitted wr
 frame_stays : (state : DeviceState) (frame : FrameParts) (number : ℕ) (executions : List Execution) (effect : Effect)
     → effect_of state frame ≡ effect → (IsUnrefusedWrite state (OneFrame frame) → ⊥)
     → executions_after effect number executions ≡ executions
-frame_stays state frame number executions Nothing is other = refl
-frame_stays state frame number executions Resets is other = refl
 frame_stays state frame number executions (Executes overwrite) is other =
     let asked = writes_execute_their_overwrite-only state frame overwrite is in
     let named : IsSome (overwrite_of asked.2) = rw asked.4 refl in
     let command = (requests_have_their_command frame.command frame.payload asked.2 asked.3).0 in
     absurd (other (rw command at ((writes_have_overwrites-exactly asked.2).1 named), asked.0, asked.1))
+frame_stays state frame number executions effect is other = refl
 
 arrived_stays : (state : DeviceState) (brought : Brought) (number : ℕ) (executions : List Execution)
     → (IsUnrefusedWrite state brought → ⊥) → executions_after (effect_on state brought) number executions ≡ executions

@@ -1,4 +1,4 @@
-use Rattle.std.proofs.Common.{None, Some}
+use Rattle.std.proofs.Common.{arith}
 use Rattle.std.specs.Option.{option_copied}
 use Rattle.hart_device.specs.answer.Delivery.{OneFrame}
 use Rattle.hart_line.proofs.lemmas.line.Leg.{among_frame, answered_among}
@@ -14,12 +14,7 @@ returns-in-Some-clause-answers g c = record {
 }
 
 pub returns-in_default-reply_to_garbled-clause-answers : goal.returns-in_default-reply_to_garbled-clause-answers
-returns-in_default-reply_to_garbled-clause-answers g c =
-    answered_among c.args.chars.now (option_copied c.args.sent) c.args.device.now c.args.process.now None
-    (rw c.in_default.is at c.in_ok-frame.ensures.arrives) c.in_default-reply_to_garbled.ensures.reply
+returns-in_default-reply_to_garbled-clause-answers g c = grind (arith, answered_among)
 
 pub returns-clause-answers : goal.returns-clause-answers
-returns-clause-answers g c =
-    answered_among c.args.chars.now (option_copied c.args.sent) c.args.device.now c.args.process.now
-    (Some c.in-Some-reply_to_garbled.answer)
-    (rw c.in_default.is at c.in_ok-frame.ensures.arrives) c.in-Some-reply_to_garbled.ensures.reply
+returns-clause-answers g c = grind (arith, answered_among)

@@ -1,6 +1,5 @@
-use Rattle.std.proofs.Common.{refl}
-use Rattle.hart_device.specs.answer.Delivery.{NoMessage, OneFrame}
-use Rattle.hart_line.specs.declared.event.Heard.TheVariants.{Lost}
+use Rattle.std.proofs.Common.{arith}
+use Rattle.hart_device.specs.answer.Delivery.{OneFrame}
 use Rattle.hart_line.proofs.lemmas.line.Leg.{clean_reaches, nothing_reaches, silence_reaches}
 use Rattle.hart_line.proofs.line.leg.answer_in.Goals as goal
 
@@ -13,17 +12,7 @@ returns-in-Some-clause-answers g c = λ said is. rw c.in-Clean.is (record {
 })
 
 pub returns-in-None-clause-answers : goal.returns-in-None-clause-answers
-returns-in-None-clause-answers g c = λ said is. rw c.in-Clean.is (record {
-  brought = NoMessage;
-  is_brought = silence_reaches c.args.device.now.identity said (rw c.in-None.is at is);
-  answer_is = refl;
-  after_is = refl;
-})
+returns-in-None-clause-answers g c = grind (arith, silence_reaches)
 
 pub returns-in-Lost-clause-answers : goal.returns-in-Lost-clause-answers
-returns-in-Lost-clause-answers g c = λ said is. rw c.in-Lost.is (record {
-  brought = NoMessage;
-  is_brought = nothing_reaches c.args.device.now.identity Lost said refl;
-  answer_is = refl;
-  after_is = refl;
-})
+returns-in-Lost-clause-answers g c = grind (arith, nothing_reaches)
