@@ -1,5 +1,5 @@
 -- Detectable damage is detected, and a script of which all damage is detected has a last world.
-use Rattle.std.proofs.Common.{◌≡◌, true, ℕ, ◌≤◌, ◌∙◌, sym, refl, subst, arith, Option, None, Some, List, [], ◌∷◌, length, take, inl}
+use Rattle.std.proofs.Common.{◌≡◌, ℕ, ◌≤◌, refl, subst, arith, Option, None, Some, List, [], ◌∷◌, length, take, inl}
 use Rattle.std.proofs.Common.{inr}
 use Rattle.hart_values.specs.declared.master_id.MasterId.{MasterId}
 use Rattle.hart_frame.specs.heard.Character.{Character, faultless}
@@ -15,22 +15,20 @@ use Rattle.hart_frame.proofs.lemmas.Laws.{damaged_messages_have_no_other_frame-c
 use Rattle.hart_frame.proofs.lemmas.Laws.{frames_are_unambiguous-one_list, messages_have_their_frame_alone-message}
 use Rattle.hart_frame.proofs.lemmas.Laws.{messages_have_their_frame_alone-nothing}
 use Rattle.hart_master.proofs.lemmas.Laws.{replies_are_decided-decided}
-use Rattle.hart_device.specs.Device.{for_both}
 use Rattle.hart_line.specs.world.Damage.{Arrives, IsDetectable, IsDetected, IsUndetected, Reaches}
 use Rattle.hart_line.specs.world.Faults.{AreAllDetected, HasDetectable, HasUndetected, IsFault, IsNotDetectable, LegsAreDetected}
 use Rattle.hart_line.specs.world.Spoken.{SpokenFrame, frame_of, spoken_by}
-use Rattle.hart_line.specs.world.Step.{Accepts, LeadsTo, Step, replied, sent_back, sent_by, submission_fault, submitted, turned}
+use Rattle.hart_line.specs.world.Step.{Accepts, LeadsTo, Step, sent_back, sent_by}
 use Rattle.hart_line.specs.world.World.{InHand, Start, World, first_world, state_of}
 use Rattle.hart_line.specs.declared.event.Heard.{Heard}
 use Rattle.hart_line.specs.declared.event.Heard.TheVariants.{Clean, Lost, Chars}
 use Rattle.hart_line.specs.declared.event.LineEvent.{LineEvent}
-use Rattle.hart_line.specs.declared.event.LineEvent.TheVariants.{Submit, Turn, Protect, Noise, Restart}
+use Rattle.hart_line.specs.declared.event.LineEvent.TheVariants.{Submit, Turn, Noise}
 use Rattle.hart_line.specs.declared.fault.Leg.{Leg}
 use Rattle.hart_line.specs.declared.fault.Leg.TheVariants as legs
 use Rattle.hart_line.specs.declared.fault.LineFault.{LineFault}
-use Rattle.hart_line.specs.declared.fault.LineFault.TheVariants.{BadLine, Memory, Undetected}
+use Rattle.hart_line.specs.declared.fault.LineFault.TheVariants.{Undetected}
 use Rattle.hart_line.specs.declared.line.report.Party.{Party}
-use Rattle.hart_line.proofs.lemmas.world.Basics.{some_one}
 use Rattle.hart_line.proofs.lemmas.world.Leads.{Reaches-one, leads_one}
 
 -- DETECTABLE DAMAGE
@@ -63,32 +61,27 @@ heard_detected (Chars chars) (Some said) long (inl marked) u =
 heard_detected (Chars chars) (Some said) long (inr check) u =
     not_undetected chars [] None u u.are_heard (damaged_messages_have_no_other_frame-check said.frame said.preambles chars check) refl
 
-sent_long : (who : MasterId) (hand : Option InHand) → IsLong (sent_by who hand)
-sent_long who hand = grind arith
-
 frame_long : (party : Party) (preambles : ℕ) (frame : Option FrameParts) → 5 ≤ preambles → IsLong (spoken_by party preambles frame)
 frame_long party preambles frame enough = grind arith
 
 leg_detected : (start : Start) (world : World) (event : LineEvent) (leg : Leg)
     → 5 ≤ start.device.identity.response_preambles → HasDetectable start world event leg → HasUndetected start world event leg → ⊥
 leg_detected start world (Turn who up down) legs.Up enough d u =
-    heard_detected up _ (sent_long who (of_master who world.hands)) d u
+    heard_detected up _ (grind arith) d u
 leg_detected start world (Turn who up down) legs.Down enough d u =
     let same = Reaches-one start.device.identity up (sent_by who (of_master who world.hands)) d.0 u.0 d.1 u.1 in
     heard_detected down (sent_back start world u.0)
     (frame_long _ _ (answer_to (state_of start.device world) start.process u.0) enough)
-    (subst (λ brought. IsDetectable down (sent_back start world brought)) same d.2) u.2
+    (rw same at d.2) u.2
 leg_detected start world event leg enough d u = d
 
 pub fault_not_detectable : (start : Start) (events : List LineEvent) (fault : LineFault)
     → 5 ≤ start.device.identity.response_preambles → IsFault start events fault → IsNotDetectable start events fault
 fault_not_detectable start events (Undetected number leg) enough f = λ world event last is d.
     let reached : f.0 ≡ world = leads_one start (take number events) (first_world start) f.0 world f.2 last in
-    let same : f.1 ≡ event = some_one (sym f.3 ∙ is) in
-    leg_detected start world event leg enough d
-    (subst (λ e. HasUndetected start world e leg) same (subst (λ w. HasUndetected start w f.1 leg) reached f.4))
-fault_not_detectable start events (Memory room) enough f = tt
-fault_not_detectable start events (BadLine line) enough f = tt
+    let same : f.1 ≡ event = cc (f.3, is) in
+    leg_detected start world event leg enough d (rw (same, reached) at f.4)
+fault_not_detectable start events fault enough f = tt
 
 -- SCRIPTS WHOSE DAMAGE IS DETECTED
 pub record Accepted (who : MasterId) (hand : Option InHand) (returned : Option FrameParts) : Type 0 where
@@ -114,14 +107,13 @@ reaches_one identity heard sent brought a =
 
 step_exists : (start : Start) (world : World) (event : LineEvent) → LegsAreDetected start world event
     → (next : World) × Step start world event next
-step_exists start world (Submit who address request) detected =
-    (submitted world who address request (submission_fault (of_master who world.hands) address request), refl)
+step_exists start world (Submit who address request) detected = (_, refl)
 step_exists start world (Turn who up down) detected =
     let hand = of_master who world.hands in
     let brought = reaches_one start.device.identity up (sent_by who hand) detected.0 detected.1 in
     let back = detected.2 brought.0 brought.1 in
     let a = accepted_of who hand back.0 in (
-      turned start world who hand brought.0 a.accepted,
+      _,
       record {
         brought = brought.0;
         arrives = brought.1;
@@ -132,11 +124,10 @@ step_exists start world (Turn who up down) detected =
         next_is = refl;
       },
     )
-step_exists start world (Protect on) detected = (record world { protected = on }, refl)
-step_exists start world Restart detected = (record world { cold_start = for_both true }, refl)
 step_exists start world (Noise chars) detected =
     let brought = reaches_one start.device.identity (Chars chars) None None detected in
-    (replied start world brought.0, record { brought = brought.0; arrives = brought.1; next_is = refl })
+    (_, record { brought = brought.0; arrives = brought.1; next_is = refl })
+step_exists start world event detected = (_, refl)
 
 pub leads_exists : (start : Start) (world : World) (events : List LineEvent) → AreAllDetected start world events
     → (last : World) × LeadsTo start world events last

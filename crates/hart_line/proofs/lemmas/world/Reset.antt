@@ -125,12 +125,10 @@ unseen start events last run who before given r clear =
     let resets : effect_on (state_of start.device before) r.turn.step.brought ≡ Resets =
     ap (effect_on (state_of start.device before)) r.brought ∙ r.resets in
     let here = reset_marks start before who r.up r.down r.next r.turn.step resets in
-    let marked : of_master who last.marks ≡ Some (length before.executions) =
-    leads_kept start r.turn.suffix r.next last who after r.last ∙ here.0 in
+    let marked = leads_kept start r.turn.suffix r.next last who after r.last ∙ here.0 in
     let grows = leads_grows start r.turn.suffix r.next last after in
-    let since : last.executions ≡ before.executions ++ grows.more = grows.is ∙ ap (λ xs. xs ++ grows.more) here.1 in
-    let bit : nat_lt (length before.executions) (length last.executions) ≡ false =
-    sym (changed_of start.device last who (length before.executions) marked) ∙ clear in
+    let since : last.executions ≡ before.executions ++ grows.more = cc (grows.is, here.1) in
+    let bit = sym (changed_of start.device last who (length before.executions) marked) ∙ clear in
     let ahead = ltb-false (length before.executions) (length last.executions) bit in
     let same : last.executions ≡ before.executions =
     since ∙ none_more before.executions grows.more (rw since at ahead) in
@@ -160,7 +158,6 @@ pub refused_step : (start : Start) (events : List LineEvent) (before next : Worl
 refused_step start events before next r = elim (turn_cases start before r.who r.up r.down next r.turn.step) [
   | inl s ↦ (
       let state = state_of start.device before in
-      let master : r.frame.master ≡ r.who = grind arith in
       let cold_start : cold_start_after state r.who r.turn.step.brought
       ≡ (if is_answered state r.frame then with_master r.frame.master false state.cold_start else state.cold_start) = grind arith in
       ap (state_of start.device) s.next_is

@@ -52,10 +52,8 @@ submits_along : (submissions : List Submission) (world : World) (who : MasterId)
 submits_along submissions world who address request later a = record {
   to_come = next_to_come submissions world.outcomes (Unfinished 0) _ (submissions_of later) a.to_come;
   hands = λ id held is. elim (with_master-cases id who _ world.hands held is) [
-    | inl (own, new) ↦ subst (IsHeld submissions (world.outcomes ++ Unfinished 0 ∷ []) id) (some_one new) (record {
-      submitted_as = rw own (drop-first (length world.outcomes) submissions _ (submissions_of later) a.to_come).0;
-      unfinished = slice_get-last world.outcomes (Unfinished 0);
-    })
+    | inl (own, new) ↦ (let first = drop-first (length world.outcomes) submissions _ (submissions_of later) a.to_come in
+        grind (arith, slice_get-last))
     | inr (apart, old) ↦ record {
       submitted_as = (a.hands id held old).submitted_as;
       unfinished = slice_get-append world.outcomes (Unfinished 0 ∷ []) held.submission _ (a.hands id held old).unfinished;

@@ -1,6 +1,6 @@
 -- Unrefused writes are executed in their turn, and nothing else is.
-use Rattle.std.proofs.Common.{◌≡◌, ℕ, ap, ◌∙◌, sym, refl, subst, Option, None, Some, IsSome, IsTrue}
-use Rattle.std.proofs.Common.{List, [], ◌∷◌, ◌++◌, ◌⊎◌, inl, inr, arith}
+use Rattle.std.proofs.Common.{◌≡◌, ℕ, ap, ◌∙◌, sym, refl, Option, None, Some, IsSome, IsTrue}
+use Rattle.std.proofs.Common.{List, ◌⊎◌, inl, inr, arith}
 use Rattle.std.specs.List.{slice_get}
 use Rattle.hart_values.specs.declared.master_id.MasterId.{MasterId}
 use Rattle.hart_frame.specs.wire.FrameParts.{FrameParts}
@@ -19,7 +19,7 @@ use Rattle.hart_device.proofs.lemmas.Laws.{writes_execute_their_overwrite-only}
 use Rattle.hart_line.specs.world.Promises.{AnswersLastSending, AreWellMade, IsExecutedFromHand, IsExecutedInItsTurn, IsStepOf}
 use Rattle.hart_line.specs.world.Promises.{IsUnrefusedWrite, brought_in_step, requests_of, submission_in, submissions_of}
 use Rattle.hart_line.specs.world.Step.{IsTurn, Step, effect_on, executions_after, spoken_request, submitted}
-use Rattle.hart_line.specs.world.World.{Execution, InHand, Start, World, first_world, state_of}
+use Rattle.hart_line.specs.world.World.{Execution, Start, World, first_world, state_of}
 use Rattle.hart_line.specs.declared.event.Heard.{Heard}
 use Rattle.hart_line.specs.declared.event.LineEvent.{LineEvent}
 use Rattle.hart_line.specs.declared.event.LineEvent.TheVariants.{Turn}
@@ -87,14 +87,12 @@ answered_executed start events made number request reply sendings a submitted wr
     let code : code_of state frame ≡ 0 = sym (reading_code t.answer.command t.answer.payload reply _ t.is_reply.read coded.2) ∙ success in
     let same : t.held.request ≡ request = some_one (sym (request_there events number _ a.submitted_as) ∙ submitted) in
     let unrefused : IsUnrefusedWrite state (OneFrame frame) = (rw (← same) at write, coded.0, code) in
-    let e = turn_executed start events made t.before t.next t.who t.up t.down t.turn
-    (subst (IsUnrefusedWrite state) (sym t.brought) unrefused) in
-    let held : e.held ≡ t.held = some_one (sym e.in_hand ∙ t.in_hand) in record {
+    let e = turn_executed start events made t.before t.next t.who t.up t.down t.turn (rw t.brought unrefused) in
+    let held : e.held ≡ t.held = cc (e.in_hand, t.in_hand) in record {
       answered = a;
       overwrite = e.overwrite;
-      overwrites = ap overwrite_of (sym same ∙ ap (λ (h : InHand). h.request) (sym held)) ∙ e.overwrites;
-      executed = e.executed ∙ ap (λ n. t.before.executions ++ record { submission = n; overwrite = e.overwrite } ∷ [])
-          (ap (λ (h : InHand). h.submission) held ∙ t.of_submission);
+      overwrites = cc (e.overwrites, held, same);
+      executed = grind (arith, e.executed, t.of_submission);
     }
 
 -- NOTHING ELSE
