@@ -6,7 +6,7 @@ use Rattle.hart_values.specs.declared.master_id.MasterId.{MasterId}
 use Rattle.hart_frame.specs.wire.FrameParts.{FrameParts}
 use Rattle.hart_commands.specs.declared.reply.Reply.{Reply}
 use Rattle.hart_device.specs.answer.Answer.{answer_of, effect_of}
-use Rattle.hart_device.specs.answer.Delivery.{Brought, Garbled, NoMessage, OneFrame, answer_to}
+use Rattle.hart_device.specs.answer.Delivery.{Brought, Garbled, OneFrame, answer_to}
 use Rattle.hart_device.specs.Device.{DeviceState}
 use Rattle.hart_device.specs.declared.process.Process.{Process}
 use Rattle.hart_master.specs.Acceptance.{IsReplyTo}
@@ -62,16 +62,11 @@ answers_sent : (state : DeviceState) (process : Process) (sent : FrameParts) (br
     → (frame_in brought ≡ None) ⊎ (frame_in brought ≡ Some sent) → answer_to state process brought ≡ Some frame
     → (who : MasterId) (held : InHand) (reply : Reply) → IsReplyTo who held.address held.request frame reply
     → AnswersSent state process sent brought frame
-answers_sent state process sent NoMessage frame known answered who held reply is_reply = cc
 answers_sent state process sent (Garbled request) frame known answered who held reply is_reply =
     let Faulty : FrameParts → Type 0 = λ f. 128 ≤ slice_index f.payload 0 in
     absurd (communication_faults_are_no_reply-frame who held.address held.request frame reply
     (subst Faulty (some_one answered) (omega arith)) is_reply)
-answers_sent state process sent (OneFrame f) frame (inl is) answered who held reply is_reply = cc
-answers_sent state process sent (OneFrame f) frame (inr is) answered who held reply is_reply = record {
-  arrived_is = ap OneFrame (some_one is);
-  answered = rw (some_one is) at answered;
-}
+answers_sent state process sent brought frame known answered who held reply is_reply = grind arith
 
 returned_answers : (start : Start) (world : World) (down : Heard) (sent : FrameParts) (brought : Brought)
     (returned : Option FrameParts) (frame : FrameParts)

@@ -66,13 +66,11 @@ frame_long party preambles frame enough = grind arith
 
 leg_detected : (start : Start) (world : World) (event : LineEvent) (leg : Leg)
     → 5 ≤ start.device.identity.response_preambles → HasDetectable start world event leg → HasUndetected start world event leg → ⊥
-leg_detected start world (Turn who up down) legs.Up enough d u =
-    heard_detected up _ (grind arith) d u
+leg_detected start world (Turn who up down) legs.Up enough d u = heard_detected up _ (grind arith) d u
 leg_detected start world (Turn who up down) legs.Down enough d u =
     let same = Reaches-one start.device.identity up (sent_by who (of_master who world.hands)) d.0 u.0 d.1 u.1 in
     heard_detected down (sent_back start world u.0)
-    (frame_long _ _ (answer_to (state_of start.device world) start.process u.0) enough)
-    (rw same at d.2) u.2
+    (frame_long _ _ (answer_to (state_of start.device world) start.process u.0) enough) (rw same at d.2) u.2
 leg_detected start world event leg enough d u = d
 
 pub fault_not_detectable : (start : Start) (events : List LineEvent) (fault : LineFault)

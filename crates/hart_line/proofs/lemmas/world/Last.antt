@@ -5,7 +5,6 @@ use Rattle.std.specs.List.{AllByRecursion, Contains, slice_get}
 use Rattle.std.proofs.lemmas.Bool.{eqb-true}
 use Rattle.hart_values.specs.declared.master_id.MasterId.{MasterId}
 use Rattle.hart_commands.specs.Registers.{Contents, Overwrite, overwrite_of, overwritten, registers_of}
-use Rattle.hart_commands.specs.RequestData.{Reading}
 use Rattle.hart_commands.specs.declared.request.Request.{Request}
 use Rattle.hart_commands.proofs.lemmas.Laws.{written_data_are_their_request}
 use Rattle.hart_device.specs.answer.Answer.{reading_of}
@@ -44,11 +43,8 @@ arrived_executes state who held requests (Garbled request) overwrite there readi
 arrived_executes state who held requests (OneFrame frame) overwrite there reading (inl none) is = cc
 arrived_executes state who held requests (OneFrame frame) overwrite there reading (inr sent) is =
     let asked = writes_execute_their_overwrite-only state (spoken_request who held).frame overwrite (rw (some_one sent) at is) in
-    let same : asked.2 ≡ held.request = ok_one (sym asked.3 ∙ reading) in
+    let same : asked.2 ≡ held.request = cc (asked.3, reading) in
     record { request = held.request; submitted_as = there; overwrites = rw (← same) asked.4 }
-  where
-    ok_one : {x y : Request} → ◌≡◌ {A = Reading} (Ok x) (Ok y) → x ≡ y
-    ok_one eq = cc
 
 -- ALL EXECUTIONS OF A SCRIPT ARE WRITES OF THEIR SUBMISSIONS
 AllByRecursion-append : {A : Type 0} (P : A → Type 0) (xs : List A) (x : A) → AllByRecursion P xs → P x → AllByRecursion P (xs ++ x ∷ [])
@@ -90,8 +86,7 @@ contains_by_head : (requests : List Request) (execution e : Execution) (later : 
     → (has_execution_of execution.submission later ≡ true → Contains (overwrites_of later) execution.overwrite)
     → (b || has_execution_of execution.submission later) ≡ true → Contains (overwrites_of (e ∷ later)) execution.overwrite
 contains_by_head requests execution e later true same write head tail executed =
-    let one = same_overwrite requests e execution (eqb-true e.submission execution.submission same) head write in
-    (0, omega arith, cc)
+    let one = same_overwrite requests e execution (eqb-true e.submission execution.submission same) head write in (0, omega arith, cc)
 contains_by_head requests execution e later false same write head tail executed =
     let there = tail executed in (suc there.0, omega (arith, there.1), there.2)
 

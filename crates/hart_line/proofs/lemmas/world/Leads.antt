@@ -20,7 +20,7 @@ use Rattle.hart_line.specs.world.Spoken.{SpokenFrame}
 use Rattle.hart_line.specs.world.Step.{Accepts, IsLast, IsTurn, LeadsTo, Step, sent_back, sent_by}
 use Rattle.hart_line.specs.world.World.{InHand, Start, World, first_world}
 use Rattle.hart_line.specs.declared.event.Heard.{Heard}
-use Rattle.hart_line.specs.declared.event.Heard.TheVariants.{Clean, Lost, Chars}
+use Rattle.hart_line.specs.declared.event.Heard.TheVariants.{Clean, Chars}
 use Rattle.hart_line.specs.declared.event.LineEvent.{LineEvent}
 use Rattle.hart_line.specs.declared.event.LineEvent.TheVariants.{Turn, Noise}
 use Rattle.hart_line.specs.declared.fault.Leg.{Leg}
@@ -32,13 +32,10 @@ use Rattle.hart_line.proofs.lemmas.world.Steps.{leads_between}
 
 AreHeard-one : (heard : Heard) (sent : Option SpokenFrame) (a b : List Character) → AreHeard heard sent a
     → AreHeard heard sent b → a ≡ b
-AreHeard-one Clean None a b x y = x ∙ sym y
 AreHeard-one Clean (Some said) a b x y =
     let body = bodies_are_unambiguous-one_body said.frame x.1.body y.1.body x.1.is_body y.1.is_body in
-    let bytes : x.0 ≡ y.0 = x.1.parts ∙ rw body (sym y.1.parts) in
-    x.2 ∙ rw bytes (sym y.2)
-AreHeard-one Lost sent a b x y = x ∙ sym y
-AreHeard-one (Chars given) sent a b x y = x ∙ sym y
+    let bytes : x.0 ≡ y.0 = x.1.parts ∙ rw body (sym y.1.parts) in x.2 ∙ rw bytes (sym y.2)
+AreHeard-one heard sent a b x y = grind arith
 
 pub Arrives-one : (heard : Heard) (sent : Option SpokenFrame) (a b : Option FrameParts) → Arrives heard sent a
     → Arrives heard sent b → a ≡ b

@@ -74,12 +74,11 @@ by_cases start world P cases (Submit who address request) next step = subst (P (
     by_fault (Some fault) = cases.refuses who address request fault
 by_cases start world P cases (Turn who up down) next step = elim (turn_cases start world who up down next step) [
   | inl sending ↦ cases.sends who up down next step sending
-  | inr silent ↦ subst (P (Turn who up down)) (sym silent.next_is) (cases.others (Turn who up down) _ _ _ (λ later. refl))
+  | inr silent ↦ rw silent.next_is (cases.others (Turn who up down) _ _ _ (λ later. refl))
 ]
-by_cases start world P cases (Protect on) next step = subst (P (Protect on)) (sym step) (cases.others (Protect on) _ _ _ (λ later. refl))
-by_cases start world P cases (Noise chars) next step =
-    subst (P (Noise chars)) (sym step.next_is) (cases.others (Noise chars) _ _ _ (λ later. refl))
-by_cases start world P cases Restart next step = subst (P Restart) (sym step) (cases.others Restart _ _ _ (λ later. refl))
+by_cases start world P cases (Protect on) next step = rw step (cases.others (Protect on) _ _ _ (λ later. refl))
+by_cases start world P cases (Noise chars) next step = rw step.next_is (cases.others (Noise chars) _ _ _ (λ later. refl))
+by_cases start world P cases Restart next step = rw step (cases.others Restart _ _ _ (λ later. refl))
 
 -- EVERY STEP
 -- What holds before all events and is kept by each step holds of each world of these events and of the events that are left there.
