@@ -4,7 +4,6 @@ use Rattle.std.proofs.Common.{replicate}
 use Rattle.hart_frame.specs.heard.Character.{Character, faultless}
 use Rattle.hart_frame.specs.wire.FrameParts.{FrameParts}
 use Rattle.hart_frame.specs.wire.Message.{IsMessage}
-use Rattle.hart_frame.specs.declared.heard.found.Found.{Found}
 use Rattle.hart_frame.proofs.lemmas.Laws.{messages_have_their_frame_alone-message, messages_have_their_frame_alone-nothing}
 use Rattle.std.specs.Option.{MatchOption}
 use Rattle.hart_values.specs.declared.master_id.MasterId.{MasterId}
@@ -14,7 +13,7 @@ use Rattle.hart_device.specs.answer.Garbled.{HasGarbled, garbled_reply}
 use Rattle.hart_device.specs.declared.answer.garbled.GarbledRequest.{GarbledRequest}
 use Rattle.hart_device.specs.declared.identity_parts.IdentityParts.{IdentityParts}
 use Rattle.hart_device.specs.declared.process.Process.{Process}
-use Rattle.hart_line.specs.world.Damage.{AreHeard, Arrives, ArrivesAmong, IsDetected, Reaches, ReachesAmong}
+use Rattle.hart_line.specs.world.Damage.{AreHeard, Arrives, ArrivesAmong, Reaches, ReachesAmong}
 use Rattle.hart_line.specs.line.Leg.{AnswersTo, IsSent, IsSpeakable}
 use Rattle.hart_line.specs.line.Masters.{Sends}
 use Rattle.hart_line.specs.world.Spoken.{SpokenFrame, Speaks, frame_of, master_preambles, party_of, spoken_by}
@@ -29,19 +28,11 @@ use Rattle.hart_line.proofs.lemmas.world.Arrival.{delivery_identity}
 
 -- WHAT CHARACTERS BRING
 -- A frame that arrives is brought.
-frame_brought : (identity : IdentityParts) (chars : List Character) (sent : Option FrameParts) (frames : List Found) (frame : FrameParts)
-    → IsDetected sent frames (Some frame) → BringsBy identity chars frames (OneFrame frame)
-frame_brought identity chars sent frames frame detected = grind arith
-
 pub among_frame : (identity : IdentityParts) (chars : List Character) (sent : Option FrameParts) (frame : FrameParts)
     → ArrivesAmong chars sent (Some frame) → ReachesAmong identity chars sent (OneFrame frame)
 among_frame identity chars sent frame a = record { frame = Some frame; arrives = a; brings = grind arith }
 
 -- If none arrives it is brought what characters without a frame bring.
-none_brought : (identity : IdentityParts) (chars : List Character) (sent : Option FrameParts) (frames : List Found) (brought : Brought)
-    → IsDetected sent frames None → BringsBy identity chars [] brought → BringsBy identity chars frames brought
-none_brought identity chars sent frames brought detected brings = grind arith
-
 pub among_none : (identity : IdentityParts) (chars : List Character) (sent : Option FrameParts) (brought : Brought)
     → ArrivesAmong chars sent None → BringsBy identity chars [] brought → ReachesAmong identity chars sent brought
 among_none identity chars sent brought a brings = record { frame = None; arrives = a; brings = grind arith }

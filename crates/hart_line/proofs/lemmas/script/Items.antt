@@ -89,10 +89,6 @@ items_of-none byte (low ∷ a ∷ b ∷ rest) none = at_mark rest (a == 33) refl
 abbrev pub ReadsTo : List ℕ → List Character → List ℕ → Type 0
 ReadsTo text chars rest = items_of text ≡ option_map (λ more. chars ++ more) (items_of rest)
 
--- no characters before others are these
-map_nil : (o : Option (List Character)) → o ≡ option_map (λ more. [] ++ more) o
-map_nil o = grind arith
-
 -- characters, one more and others are one list
 map_push : (chars : List Character) (char : Character) (o : Option (List Character))
     → option_map (λ more. chars ++ more) (option_map (λ more. char ∷ more) o) ≡ option_map (λ more. (chars ++ char ∷ []) ++ more) o
