@@ -1,4 +1,5 @@
-use Rattle.std.proofs.Common.{◌≡◌, ◌≢◌, ◌<◌, ℕ, List, length, [], ◌∷◌, ◌++◌, get_or, Some, None, refl, sym, ap, ◌∙◌, subst, arith}
+use Rattle.std.proofs.Common.{◌≡◌, ◌≢◌, ◌<◌, ℕ, List, length, [], ◌∷◌, ◌++◌, get_or, drop, Some, None, refl, sym, ap, ◌∙◌, arith}
+use Rattle.std.proofs.lemmas.Grind.{common_steps}
 use Rattle.std.proofs.lemmas.Bool.{iff_false}
 use Rattle.std.proofs.lemmas.List.{length-append}
 use Rattle.hart_frame.specs.heard.Character.{Character}
@@ -9,11 +10,10 @@ use Rattle.hart_cli.proofs.text.items.leading_piece.Goals as goal
 
 -- a separator begins a text
 begins_as_separator : (text : List ℕ) → 0 < length text → IsSeparator (get_or text 0 0) → BeginsAs text None 1
-begins_as_separator [] some s = absurd (omega arith)
-begins_as_separator (x ∷ text) some s = record {
-  piece = Separator x;
-  tail = text;
-  begins = record { valid = s; spelled = refl; whole = tt };
+begins_as_separator text some s = record {
+  piece = Separator _;
+  tail = drop 1 text;
+  begins = record { valid = s; spelled = grind (arith, common_steps); whole = tt };
   long = refl;
   means = refl;
 }
@@ -21,58 +21,43 @@ begins_as_separator (x ∷ text) some s = record {
 -- an item short of the end of a text is a piece
 begins_as_piece : (text : List ℕ) (char : Character) (len : ℕ) → BeginsAsItem text char len → len ≢ length text
     → BeginsAs text (Some char) len
-begins_as_piece text char len b short =
-    let long = ap (λ (xs : List ℕ). length xs) b.begins.spelled ∙ length-append (item_spelling b.item) b.tail in
-    let size = b.long in
-    record {
-      piece = Item b.item;
-      tail = b.tail;
-      begins = record {
-        valid = b.begins.valid;
-        spelled = b.begins.spelled;
-        whole = (λ none. let all = ap (λ (xs : List ℕ). length xs) none in short (omega arith), b.begins.ends);
-      };
-      long = b.long;
-      means = ap (λ (u : Character). u ∷ []) b.means;
-    }
+begins_as_piece text char len b short = record {
+  piece = Item b.item;
+  tail = b.tail;
+  begins = record {
+    valid = b.begins.valid;
+    spelled = b.begins.spelled;
+    whole = (λ none. grind (arith, common_steps, b.begins.spelled, b.long), b.begins.ends);
+  };
+  long = b.long;
+  means = cc (b.means);
+}
 
 -- no piece begins if neither a separator stands nor an item short of the end
 no_piece_begins : (text : List ℕ) → (IsSeparator (get_or text 0 0) → ⊥)
     → ((item : items.Item) (tail : List ℕ) → BeginsWithItem text item tail → tail ≢ [] → ⊥) → NoPieceBegins text
-no_piece_begins text s n (Separator a) tail h =
-    s (subst (λ (xs : List ℕ). IsSeparator (get_or xs 0 0)) (sym h.spelled) h.valid)
+no_piece_begins text s n (Separator a) tail h = s (rw (h.spelled) (h.valid))
 no_piece_begins text s n (Item item) tail h =
     n item tail (record { valid = h.valid; spelled = h.spelled; ends = h.whole.1 }) h.whole.0
 
 -- if one item is a whole text, no other one is short of its end
 one_whole_item : (p q : items.Item) (tail : List ℕ) → item_spelling p ≡ item_spelling q ++ tail → EndsBefore tail q → tail ≢ [] → ⊥
-one_whole_item (Plain a b) (Plain x y) tail e d some = some (cc e)
-one_whole_item (Plain a b) (Faulty x y v w) tail e d some = cc e
-one_whole_item (Faulty a b c z) (Plain x y) tail e d some =
-    let mark : tail ≡ 33 ∷ c ∷ z ∷ [] = cc e in (subst (λ (xs : List ℕ). EndsBefore xs (Plain x y)) mark d) refl
-one_whole_item (Faulty a b c z) (Faulty x y v w) tail e d some = some (cc e)
+one_whole_item (Plain a b) q tail e d some = grind arith
+one_whole_item (Faulty a b c z) q tail e d some = grind arith
 
 -- the text is the item if they are as long
 is_spelling : (text spelled tail : List ℕ) → text ≡ spelled ++ tail → length spelled ≡ length text → text ≡ spelled
-is_spelling text [] [] e long = e
-is_spelling text [] (x ∷ tail) e long = let all = ap (λ (xs : List ℕ). length xs) e in absurd (omega arith)
-is_spelling [] (s ∷ spelled) tail e long = cc e
-is_spelling (t ∷ text) (s ∷ spelled) tail e long =
-    let same : t ≡ s = cc in
-    let rest : text ≡ spelled ++ tail = cc in
-    let more = is_spelling text spelled tail rest (omega arith) in
-    cc
+is_spelling text spelled [] e long = grind (arith, common_steps)
+is_spelling text spelled (x ∷ tail) e long = absurd (omega (arith, length-append spelled (x ∷ tail), ap length e))
 
 pub returns-then-is_separator : goal.returns-then-is_separator
-returns-then-is_separator c =
-    let found = c.in_ok-first.ensures.item.3 in
-    begins_as_separator _ found.0 (subst IsSeparator (found.1 0) (c.is_separator.ensures.0 c.if-is_separator.true))
+returns-then-is_separator c = grind (arith, begins_as_separator c.args.text.now, c.in_ok-first.ensures.item)
 
 pub returns-in_err-item : goal.returns-in_err-item
 returns-in_err-item c =
     let found = c.in_ok-first.ensures.item.3 in
     rw (c.from_residual-in_err-item.ensures)
-    (no_piece_begins _ (λ s. iff_false c.is_separator.ensures c.if-is_separator.false (subst IsSeparator (sym (found.1 0)) s))
+    (no_piece_begins _ (λ s. iff_false c.is_separator.ensures c.if-is_separator.false (rw (found.1 0) s))
     (λ item tail begins some. c.in_err-item.ensures item tail begins))
 
 pub returns-then-item-text : goal.returns-then-item-text
@@ -80,7 +65,7 @@ returns-then-item-text c =
     let found = c.in_ok-first.ensures.item.3 in
     let b = c.in_ok-item.ensures in
     let whole = is_spelling _ (item_spelling b.item) b.tail b.begins.spelled (b.long ∙ c.if-item-text.true) in
-    no_piece_begins _ (λ s. iff_false c.is_separator.ensures c.if-is_separator.false (subst IsSeparator (sym (found.1 0)) s))
+    no_piece_begins _ (λ s. iff_false c.is_separator.ensures c.if-is_separator.false (rw (found.1 0) s))
     (λ item tail begins some. one_whole_item b.item item tail (sym whole ∙ begins.spelled) begins.ends some)
 
 pub returns : goal.returns
