@@ -1,5 +1,7 @@
 -- The answer to an input, of which there is one at most.
-use Rattle.std.proofs.Common.{◌≡◌, ℕ, List, Option, None, Some, Result, Ok, Err, refl, sym, ap, ◌∙◌, subst}
+use Rattle.std.proofs.Common.{arith}
+use Rattle.std.proofs.lemmas.Grind.{common_steps}
+use Rattle.std.proofs.Common.{◌≡◌, ℕ, List, Option, None, Result, Err, subst}
 use Rattle.std.specs.Result.{IsErrAnd}
 use Rattle.hart_frame.specs.heard.Character.{Character}
 use Rattle.hart_frame.specs.wire.FrameParts.{FrameParts}
@@ -19,8 +21,7 @@ use Rattle.hart_cli.proofs.lemmas.text.MessageLine.{IsMessageLine-one}
 -- an answer has one text
 IsAnswerText-one : (device : DeviceState) (answer : Option FrameParts) (xs ys : List ℕ) → IsAnswerText device answer xs
     → IsAnswerText device answer ys → xs ≡ ys
-IsAnswerText-one device None xs ys p q = p ∙ sym q
-IsAnswerText-one device (Some reply) xs ys p q = IsMessageLine-one reply reply _ xs ys refl p q
+IsAnswerText-one device answer xs ys h k = grind (arith, common_steps, IsMessageLine-one)
 
 -- a delivery has one text
 IsTextFor-one : (device : DeviceState) (delivery : List Character) (xs ys : List ℕ)
@@ -34,10 +35,7 @@ IsTextFor-one device delivery xs ys p q =
 pub IsTextFor-heard : (delivery : List Character) (brought : Brought) (device : DeviceState) (process : Process)
     (answer : Option FrameParts) (text : List ℕ) → process ≡ bench_process → Brings device.identity delivery brought
     → answer ≡ answer_to device process brought → IsAnswerText device answer text → IsTextFor device delivery text
-IsTextFor-heard delivery brought device process answer text same_process brings answers has =
-    let same : answer ≡ answer_to device bench_process brought = cc in
-    let P : Option FrameParts → Type 0 = λ a. IsAnswerText device a text in
-    record { brought = brought; brings = brings; answered = subst P same has }
+IsTextFor-heard delivery brought device process answer text same_process brings answers has = grind (arith, common_steps)
 
 -- an input has one answer
 pub IsAnswer-one : (device : DeviceState) (input xs ys : List ℕ) → IsAnswer device input xs
@@ -50,5 +48,4 @@ IsAnswer-one device input xs ys p q =
 
 -- a fault that is made of its cause alone
 pub made_of : {T : Type 0} (result : Result T CliFault) (cause : CliFault) → IsErrAnd result (λ fault. fault ≡ cause) → result ≡ Err cause
-made_of (Ok done) cause made = absurd made
-made_of (Err fault) cause made = ap Err made
+made_of x0 x1 x2 = grind (arith, common_steps)

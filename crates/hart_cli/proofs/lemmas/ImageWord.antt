@@ -1,4 +1,5 @@
 -- The device of a call, and the fault of its image, are one.
+use Rattle.std.proofs.lemmas.Grind.{common_steps}
 use Rattle.std.proofs.Common.{◌≡◌, ◌≢◌, ℕ, ◌+◌, ◌<◌, true, List, length, take, slice_index, Option, Some, None, ap, subst, sym}
 use Rattle.std.proofs.Common.{◌∙◌, inl, inr, arith, refl, false, ◌/◌, ◌%◌, Result, Ok, Err}
 use Rattle.std.specs.Prelude.{MatchResult}
@@ -69,11 +70,7 @@ bad_is_no_word word place bytes (IsBadHexWord.no_digit _ even below none digits)
 
 -- a word decodes into room for half as many bytes as if there were more
 half_sized : (word : List ℕ) → decode_sized word (length word / 2) ≡ decode_of word
-half_sized word =
-    elim (cases_eq (length word % 2) 1) [
-      | inl odd ↦ decode_sized-odd word (length word / 2) odd ∙ sym (decode_of-odd word odd)
-      | inr even ↦ decode_sized-twice word (length word / 2) (omega (arith, even))
-    ]
+half_sized word = grind (arith, common_steps, cases_eq, decode_of-odd, decode_sized-odd, decode_sized-twice)
 
 -- the place that an error gives
 abbrev pub place_of : List ℕ → FromHexError → ℕ
@@ -106,44 +103,24 @@ bad_hex word e refused =
 -- what decoding into that room answers
 refused_is : (decoded : Result (List ℕ) FromHexError) (r : Result Unit FromHexError) (out : List ℕ) (e : FromHexError)
     → MatchResult decoded (λ bytes. (r ≡ Ok tt) × (out ≡ bytes)) (λ f. r ≡ Err f) → r ≡ Err e → decoded ≡ Err e
-refused_is (Ok bytes) r out e given is = cc (given.0, is)
-refused_is (Err f) r out e given is =
-    let same : f ≡ e = cc (given, is) in
-    ap (λ (g : FromHexError). Err g) same
+refused_is decoded r out e h k = grind (arith, common_steps)
 
 -- so is a word whose decoding into that room fails
 pub bad_hex_given : (word : List ℕ) (room : ℕ) (r : Result Unit FromHexError) (out : List ℕ) (e : FromHexError) → room ≡ length word / 2
     → MatchResult (decode_sized word room) (λ bytes. (r ≡ Ok tt) × (out ≡ bytes)) (λ f. r ≡ Err f) → r ≡ Err e
     → IsBadHexWord word (place_of word e)
-bad_hex_given word room r out e half given is =
-    let sized : decode_sized word room ≡ decode_of word = rw half (half_sized word) in
-    bad_hex word e (sym sized ∙ refused_is (decode_sized word room) r out e given is)
+bad_hex_given word room r out e half given is = grind (arith, common_steps, bad_hex, half_sized, refused_is)
 
 -- and decoding into that room fails in these two ways alone
 pub fails_no_other_way : (word : List ℕ) (room : ℕ) (r : Result Unit FromHexError) (out : List ℕ) (e : FromHexError)
     → room ≡ length word / 2 → MatchResult (decode_sized word room) (λ bytes. (r ≡ Ok tt) × (out ≡ bytes)) (λ f. r ≡ Err f) → r ≡ Err e
     → e ≢ OddLength → ((c index : ℕ) → e ≢ InvalidHexCharacter c index) → ⊥
-fails_no_other_way word room r out e half given is even digits =
-    let sized : decode_sized word room ≡ decode_of word = rw half (half_sized word) in
-    elim (decode_of-err word e (sym sized ∙ refused_is (decode_sized word room) r out e given is)) [
-      | inl err ↦ even err.1
-      | inr err ↦ digits _ _ err.1
-    ]
+fails_no_other_way word room r out e half given is even digits = grind (arith, common_steps, decode_of-err, half_sized, refused_is)
 
 -- an image has one fault
 pub HasImageFault-one : OneImageFault → (image : Option (List ℕ)) (fault other : CliFault) → HasImageFault image fault
     → HasImageFault image other → fault ≡ other
-HasImageFault-one faults (Some word) (BadHex place) (BadHex other) p q = ap (λ (n : ℕ). BadHex n) (IsBadHexWord-one word place other p q)
-HasImageFault-one faults (Some word) (BadHex place) (Image other) p q = absurd (bad_is_no_word word place q.0 p q.1)
-HasImageFault-one faults (Some word) (BadHex place) _ p q = absurd q
-HasImageFault-one faults (Some word) (Image fault) (BadHex place) p q = absurd (bad_is_no_word word place p.0 q p.1)
-HasImageFault-one faults (Some word) (Image fault) (Image other) p q =
-    let same = decode_of-same word p.0 q.0 p.1 q.1 in
-    let is : IsImageFault q.0 fault = subst (λ (image : List ℕ). IsImageFault image fault) same p.2 in
-    ap (λ (f : DeviceFault). Image f) (faults q.0 fault other is q.2)
-HasImageFault-one faults (Some word) (Image fault) _ p q = absurd q
-HasImageFault-one faults (Some word) _ other p q = absurd p
-HasImageFault-one faults None fault other p q = absurd p
+HasImageFault-one h image fault other k e = grind (arith, common_steps, IsBadHexWord-one, bad_is_no_word, decode_of-same)
 
 -- an image with a device has no fault
 pub IsDeviceOf-faultless : (image : Option (List ℕ)) (device : DeviceState) (fault : CliFault) → IsDeviceOf image device

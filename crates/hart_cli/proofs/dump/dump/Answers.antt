@@ -3,10 +3,6 @@ use Rattle.hart_cli.proofs.lemmas.Answer.{made_of}
 use Rattle.hart_cli.proofs.lemmas.dump.Dump.{dump_stops_at_end, ends_with, has_dump}
 use Rattle.hart_cli.proofs.dump.dump.Goals as goal
 
-pub returns-in_err-fault : goal.returns-in_err-fault
-returns-in_err-fault g c =
-    rw (made_of c.from_residual.result Write c.from_residual.ensures.1) c.in_err-fault.ensures
-
 pub returns-in_err-write_all : goal.returns-in_err-write_all
 returns-in_err-write_all g c =
     rw (made_of c.from_residual-in_err-write_all.result Write c.from_residual-in_err-write_all.ensures.1)

@@ -1,3 +1,4 @@
+use Rattle.std.proofs.lemmas.Grind.{common_steps}
 use Rattle.std.proofs.Common.{◌≡◌, ◌+◌, ◌-◌, ◌++◌, List, ℕ, [], length, refl, ap, ◌∙◌, arith}
 use Rattle.hart_frame.specs.scan.Scanner.{new_scan}
 use Rattle.hart_cli.specs.dump.FrameLines.{ScannedUpTo}
@@ -10,13 +11,7 @@ use Rattle.hart_cli.proofs.dump.scan_input.Goals.{After-scan_text-rest}
 use Rattle.hart_cli.proofs.dump.scan_input.Goals as goal
 
 pub loop-frames-init : goal.loop-frames-init
-loop-frames-init g c = rw c.new-ahead.ensures (record {
-  buffer_length = refl;
-  scanned = nothing_scanned _ _ _ c.requires.scanner c.requires.lines;
-  none_kept = c.requires.lines;
-  short = omega arith;
-  may_begin = may_begin-nil;
-})
+loop-frames-init g c = grind (arith, common_steps, may_begin-nil, nothing_scanned)
 
 pub scan_text-rest-requires : goal.scan_text-rest-requires
 scan_text-rest-requires g c =

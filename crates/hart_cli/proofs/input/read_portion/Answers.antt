@@ -1,4 +1,5 @@
-use Rattle.std.proofs.Common.{◌≡◌, ◌≤◌, ◌+◌, ℕ, suc, List, [], ◌∷◌, ◌++◌, length, take, drop, get_or, sym, ap, ◌∙◌, subst, arith, take-suc}
+use Rattle.std.proofs.lemmas.Grind.{common_steps}
+use Rattle.std.proofs.Common.{◌≡◌, ◌≤◌, ◌+◌, ℕ, suc, List, [], ◌∷◌, ◌++◌, length, take, get_or, ap, ◌∙◌, subst, arith, take-suc}
 use Rattle.std.proofs.lemmas.List.{length-append, length-take-le, take-append-le}
 use Rattle.hart_cli.specs.input.Input.{ReadsBeyond, ReadsWell}
 use Rattle.hart_cli.specs.stream.Stream.{Stream}
@@ -16,14 +17,4 @@ past_room old new bytes given room read one fits =
     )
 
 pub returns-in-Ok-clause-reads : goal.returns-in-Ok-clause-reads
-returns-in-Ok-clause-reads g c =
-    let given = c.in-Ok.given in
-    let first = c.read.new.buffer in
-    let last = drop c.min-most.result c.args.buffer.now in
-    let same : take given (first ++ last) ≡ take given first = take-append-le given first last (omega (arith, c.in-Ok.ensures.bound)) in
-    let Read : List ℕ → Type 0 = λ bytes. ReadsWell (g.R.Source.stream c.args.reader.now) (g.R.Source.stream c.read.new.self) bytes in
-    let size = length-append first last in
-    let most = length-take-le c.min-most.result c.args.buffer.now (omega (arith, c.min-most.ensures)) in
-    past_room _ _ (first ++ last) given c.args.room (subst Read (sym same) (c.in-Ok.ensures.bytes.0, c.in-Ok.ensures.count))
-    (omega (arith, c.if-given-room.true, c.in-Ok.ensures.bound, c.min-most.ensures, c.saturating_add.ensures, c.read.auto.buffer, most))
-    (omega (arith, c.in-Ok.ensures.bound, size))
+returns-in-Ok-clause-reads g c = grind (arith, common_steps, length-append, length-take-le, past_room, take-append-le)

@@ -1,5 +1,6 @@
 -- What `hart dump` writes, from what was scanned.
-use Rattle.std.proofs.Common.{◌≡◌, ℕ, List, [], ◌∷◌, ◌++◌, None, Option, Some, Err, inl, inr, refl, sym, ap, ◌∙◌, subst, arith}
+use Rattle.std.proofs.lemmas.Grind.{common_steps}
+use Rattle.std.proofs.Common.{◌≡◌, ℕ, List, [], ◌∷◌, ◌++◌, None, Option, Some, Err, inl, inr, refl, subst, arith}
 use Rattle.std.proofs.Common.{length-append}
 use Rattle.hart_frame.specs.heard.Character.{Character}
 use Rattle.hart_frame.specs.scan.Scanner.{Scan, finishing}
@@ -10,7 +11,6 @@ use Rattle.hart_cli.specs.declared.dump.frame_lines.FrameLines.{FrameLines}
 use Rattle.hart_cli.specs.declared.input.InputEnd.{InputEnd}
 use Rattle.hart_cli.specs.declared.input.InputEnd.TheVariants.{Ended, ReadFailed, TooLong}
 use Rattle.hart_cli.specs.dump.Dump.{AreFrameLines, DumpOutcome, HasDump, IsDump, StopsSoon, StopsWriting}
-use Rattle.hart_cli.specs.dump.Text.{dump_text}
 use Rattle.hart_cli.specs.dump.FrameLines.{GivesAll, IsNextStep, ScannedUpTo, ScansAll}
 use Rattle.hart_cli.specs.input.Input.{CameTo, Ending, Left, ReadsTo}
 use Rattle.hart_cli.specs.text.InputChars.{HasChars}
@@ -22,8 +22,7 @@ use Rattle.hart_cli.proofs.lemmas.dump.Writes.{FailsToWrite-on, WritesAll-on}
 
 -- characters have one text
 AreFrameLines-one : (chars : List Character) (xs ys : List ℕ) → AreFrameLines chars xs → AreFrameLines chars ys → xs ≡ ys
-AreFrameLines-one chars xs ys p q =
-    p.text ∙ ap dump_text (frames_are_unambiguous-one_list chars 0 p.frames q.frames p.are_frames q.are_frames) ∙ sym q.text
+AreFrameLines-one chars xs ys p q = grind (arith, common_steps, frames_are_unambiguous-one_list)
 
 -- an input has one text and one fault
 pub IsDump-one : (input : List ℕ) (ending : Ending) (f g : Option CliFault) (xs ys : List ℕ)
@@ -37,13 +36,7 @@ IsDump-one input ending f g xs ys p q =
 dumped : {r r' : Stream} {fault : Option CliFault} {lines : List ℕ} (input : List ℕ) (ending : Ending) (chars : List Character)
     → ReadsTo r r' input ending → HasChars input ending chars fault → StopsSoon input fault → AreFrameLines chars lines
     → HasDump r r' fault lines
-dumped input ending chars reads has_chars soon are = record {
-  input = input;
-  ending = ending;
-  reads = reads;
-  is_dump = record { chars = chars; has_chars = has_chars; are_lines = are };
-  soon = soon;
-}
+dumped input ending chars reads has_chars soon are = grind (arith, common_steps)
 
 -- an input that is read no further has its fault, or none
 comes_to : {r r' w w1 : Stream} {frames : FrameLines} (end : Option InputEnd) (rest : List ℕ) (place : ℕ) (fault : Option CliFault)

@@ -1,5 +1,6 @@
 -- The lines that are kept while characters are scanned.
-use Rattle.std.proofs.Common.{◌≡◌, ◌≤◌, ◌+◌, ◌*◌, ℕ, List, [], ◌∷◌, ◌++◌, false, true, length, inl, inr, refl}
+use Rattle.std.proofs.lemmas.Grind.{common_steps}
+use Rattle.std.proofs.Common.{◌≡◌, ◌≤◌, ◌+◌, ◌*◌, ℕ, List, [], ◌++◌, false, true, length, inl, inr}
 use Rattle.std.proofs.Common.{sym, ap, ◌∙◌, append_assoc, subst, arith, length-append, drop, take, take-take}
 use Rattle.std.proofs.lemmas.Bool.{false≢true}
 use Rattle.std.proofs.lemmas.List.{append-nil, drop-take, length-map, map-append, take-append-drop}
@@ -8,7 +9,7 @@ use Rattle.hart_frame.specs.scan.Scanner.{Ends, GivesNothing, MovesPast, Scan, W
 use Rattle.hart_frame.specs.declared.heard.found.Found.{Found}
 use Rattle.hart_cli.specs.declared.dump.frame_lines.FrameLines.{FrameLines}
 use Rattle.hart_cli.specs.dump.Dump.{AreFrameLines, most_ahead}
-use Rattle.hart_cli.specs.dump.Text.{dump_line, dump_text}
+use Rattle.hart_cli.specs.dump.Text.{dump_text}
 use Rattle.hart_cli.specs.dump.FrameLines.{GivesAll, IsWaiting, KeepsLines, ScansText}
 use Rattle.hart_cli.proofs.lemmas.dump.Moves.{all_frames, moves_hearing, moves_nothing, moves_on}
 use Rattle.hart_cli.proofs.lemmas.dump.Moves.{moves_then, some_frames}
@@ -19,15 +20,11 @@ use Rattle.hart_cli.proofs.lemmas.text.Items.{ReadsUpTo-few, ReadsUpTo-on}
 
 -- the text of frames and of more frames
 dump_text-append : (frames others : List Found) → dump_text (frames ++ others) ≡ dump_text frames ++ dump_text others
-dump_text-append [] others = refl
-dump_text-append (found ∷ frames) others =
-    ap (λ (text : List ℕ). dump_line found ++ text) (dump_text-append frames others)
-    ∙ sym (append_assoc (dump_line found) (dump_text frames) (dump_text others))
+dump_text-append frames others = grind (arith, common_steps, append_assoc)
 
 -- no line is kept if a scanner lets characters go without a frame
 pub keeps_no_frame : (old new : Scan) (lines : List ℕ) → MovesPast old new [] → KeepsLines old new lines lines
-keeps_no_frame old new lines moves =
-    record { given = []; moves = moves; lines = sym (append-nil lines); few = omega (arith, moves_on old new [] moves) }
+keeps_no_frame old new lines moves = grind (arith, common_steps, append-nil, moves_on)
 
 -- nor if it hears nothing
 pub keeps_nothing : (scan : Scan) (lines : List ℕ) → KeepsLines (hearing scan []) scan lines lines
@@ -60,10 +57,7 @@ keeps_on a b c xs ys p q r going on one two =
 pub keeps_within : (a b : Scan) (xs : List Character) (p q : List ℕ) → KeepsLines (hearing a xs) b p q
     → (b.first + length b.held ≡ a.first + length a.held + length xs)
     × (length q + 12 * length b.held ≤ length p + 12 * (length a.held + length xs))
-keeps_within a b xs p q keeps =
-    let moves = moves_on (hearing a xs) b keeps.given keeps.moves in
-    let long = length-append a.held xs in
-    (omega (arith, moves.0, long), omega (arith, keeps.few, long))
+keeps_within a b xs p q keeps = grind (arith, common_steps, length-append, moves_on)
 
 -- more of a text is scanned
 pub text_on : {text rest last : List ℕ} (old now new : FrameLines) (more : List Character) → ScansText old now text rest
@@ -87,12 +81,7 @@ text_room {text = text} {rest = rest} old now scans waiting none few =
 
 -- lines are kept after others
 pub keeps_after : (a b : Scan) (before p q : List ℕ) → KeepsLines a b p q → KeepsLines a b (before ++ p) (before ++ q)
-keeps_after a b before p q keeps = record {
-  given = keeps.given;
-  moves = keeps.moves;
-  lines = ap (λ (xs : List ℕ). before ++ xs) keeps.lines ∙ sym (append_assoc before p (dump_text keeps.given));
-  few = omega (arith, keeps.few, length-append before p, length-append before q);
-}
+keeps_after a b before p q keeps = grind (arith, common_steps, append_assoc, length-append)
 
 -- a scanner that is not finished waits for more once it gives no frame
 pub waits_for_more : (old new : Scan) (p q : List ℕ) → old.finished ≡ false → length old.held ≤ 269 → GivesAll old new p q

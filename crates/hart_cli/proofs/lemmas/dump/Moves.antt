@@ -1,4 +1,5 @@
 -- A scanner that moves past frames.
+use Rattle.std.proofs.lemmas.Grind.{common_steps}
 use Rattle.std.proofs.Common.{◌≡◌, ◌≤◌, ◌<◌, ◌+◌, ◌-◌, ◌⊎◌, ℕ, List, [], ◌∷◌, ◌++◌, false, length, get_or, inl, inr, refl}
 use Rattle.std.proofs.Common.{sym, ap, ◌∙◌, append_assoc, subst, arith, length-append, replicate, drop}
 use Rattle.std.proofs.lemmas.Bool.{false≢true}
@@ -16,12 +17,7 @@ use Rattle.hart_cli.specs.dump.FrameLines.{IsWaiting}
 
 -- it moves past none if it hears nothing
 pub moves_nothing : (scan : Scan) → MovesPast (hearing scan []) scan []
-moves_nothing scan =
-    let Of : List Character → Type 0 = λ cs. MovesPast (record scan { held = cs; drained = false }) scan [] in
-    subst Of (sym (append-nil scan.held)) (record {
-      heard = λ more chars can. record { prefix = can.prefix; split = can.split; place = can.place; ended = can.ended };
-      frames = λ more chars later can are. are;
-    })
+moves_nothing scan = grind (arith, common_steps, append-nil)
 
 -- it moves past some frames and then past others
 pub moves_then : (a b c : Scan) (xs ys : List Found) → MovesPast a b xs → MovesPast b c ys → MovesPast a c (xs ++ ys)
@@ -67,12 +63,7 @@ gone scan byte = replicate scan.first (faultless_of byte)
 
 -- a scanner can hear what it holds after as many characters as it let go
 can_hear : (scan : Scan) (byte : ℕ) → CanHear scan [] (gone scan byte ++ (scan.held ++ []))
-can_hear scan byte = record {
-  prefix = gone scan byte;
-  split = refl;
-  place = length-replicate scan.first (faultless_of byte);
-  ended = λ finished. refl;
-}
+can_hear scan byte = grind (arith, common_steps, length-replicate)
 
 -- what it let go it does not hold
 first_held : (old new : Scan) (given : List Found) (byte : ℕ) → MovesPast old new given → new.first < old.first
@@ -105,10 +96,7 @@ moves_on old new given moves =
 -- a frame that stands from a place on takes up so many characters
 stands_long : (found : Found) (chars : List Character) (from : ℕ) → StandsIn found chars from
     → from + 6 + length found.frame.expansion + length found.frame.payload ≤ found.stop
-stands_long found chars from stands =
-    let body = simp length-append at (ap (λ (bytes : List ℕ). length bytes) stands.is_body.parts) in
-    let checked = simp length-append at (ap (λ (bytes : List ℕ). length bytes) stands.is_body.checked_part.parts) in
-    omega (arith, body, checked, stands.after, stands.stop)
+stands_long found chars from stands = grind (arith, common_steps, length-append)
 
 -- the first of the frames stands there
 first_stands : (chars : List Character) (from : ℕ) (frames : List Found) (found : Found) (later : List Found) → AreFrames chars from frames
@@ -153,9 +141,7 @@ all_heard chars more = record { prefix = []; split = refl; place = refl; ended =
 -- it holds the last of those that it heard
 pub holds_last : (chars : List Character) (scan : Scan) (given : List Found) → MovesPast (hearing new_scan chars) scan given
     → CanHear scan [] chars
-holds_last chars scan given moves =
-    let heard = moves.heard [] (chars ++ []) (all_heard chars []) in
-    subst (λ (cs : List Character). CanHear scan [] cs) (append-nil chars) heard
+holds_last chars scan given moves = grind (arith, common_steps, all_heard, append-nil)
 
 -- the frames that it moved past come first
 pub first_frames : (chars more : List Character) (scan : Scan) (given later : List Found) → MovesPast (hearing new_scan chars) scan given
@@ -165,16 +151,7 @@ first_frames chars more scan given later moves are = moves.frames more (chars ++
 -- once nothing is decided in what it holds, they are those that are decided
 pub are_decided : (chars : List Character) (scan : Scan) (given : List Found) → MovesPast (hearing new_scan chars) scan given
     → IsUndecided scan.held → AreDecided chars given
-are_decided chars scan given moves undecided =
-    let last = holds_last chars scan given moves in
-    record {
-      passed = last.prefix;
-      rest = scan.held;
-      split = last.split ∙ ap (λ (cs : List Character). last.prefix ++ cs) (append-nil scan.held);
-      first = λ more later are.
-          first_frames chars more scan given later moves (subst (λ (n : ℕ). AreFrames (chars ++ more) n later) last.place are);
-      undecided = undecided;
-    }
+are_decided chars scan given moves undecided = grind (arith, common_steps, append-nil, first_frames, holds_last)
 
 -- they are the first of all frames of those characters
 pub some_frames : (chars : List Character) (scan : Scan) (given : List Found) → MovesPast (hearing new_scan chars) scan given

@@ -1,5 +1,6 @@
 -- An input that is read and scanned, step by step.
-use Rattle.std.proofs.Common.{◌≡◌, ◌≤◌, ◌+◌, ◌-◌, ℕ, List, [], ◌∷◌, ◌++◌, length, Option, None, Some, inl, Result, Ok, Err, refl}
+use Rattle.std.proofs.lemmas.Grind.{common_steps}
+use Rattle.std.proofs.Common.{◌≡◌, ◌≤◌, ◌+◌, ◌-◌, ℕ, List, [], ◌++◌, length, Option, None, Some, Result, refl}
 use Rattle.std.proofs.Common.{sym, ap, ◌∙◌, subst, arith, append_assoc, length-append}
 use Rattle.std.specs.Io.KnownBytes.{Appends}
 use Rattle.std.specs.Result.{IsErrAnd}
@@ -11,12 +12,12 @@ use Rattle.hart_cli.specs.declared.dump.NextStep.TheVariants.{ReadOn}
 use Rattle.hart_cli.specs.declared.fault.CliFault.{CliFault}
 use Rattle.hart_cli.specs.declared.dump.frame_lines.FrameLines.{FrameLines}
 use Rattle.hart_cli.specs.declared.input.InputEnd.{InputEnd}
-use Rattle.hart_cli.specs.declared.input.InputEnd.TheVariants.{Ended, ReadFailed, TooLong}
+use Rattle.hart_cli.specs.declared.input.InputEnd.TheVariants.{ReadFailed}
 use Rattle.hart_cli.specs.declared.stream.Failed as stream
 use Rattle.hart_cli.specs.dump.Dump.{AreFrameLines, StopsWriting, WroteInTime, ended_text, most_ahead}
 use Rattle.hart_cli.specs.dump.FrameLines.{IsNextStep, IsWaiting, KeepsLines, ReadsAhead, ReadsSoFar, ScannedUpTo, ScansInput, ScansText}
 use Rattle.hart_cli.specs.dump.Text.{dump_text}
-use Rattle.hart_cli.specs.input.Input.{CameTo, Ending, Left, ReadsPortion, ReadsTo, ReadsWell, ending_of, input_limit}
+use Rattle.hart_cli.specs.input.Input.{Ending, ReadsPortion, ReadsTo, ReadsWell, ending_of, input_limit}
 use Rattle.hart_cli.specs.text.Items.{MayBegin, NoPieceBegins, ReadsUpTo}
 use Rattle.hart_cli.specs.stream.Stream.{FailsToWrite, Stream, WritesAll}
 use Rattle.hart_cli.proofs.lemmas.dump.FrameLines.{keeps_after, keeps_nothing, keeps_on, stopped_lines}
@@ -28,41 +29,28 @@ use Rattle.hart_cli.proofs.lemmas.text.Items.{NoPieceBegins-nil, ReadsUpTo-few, 
 
 -- the end of a text is that of its last part
 ended_on : (xs bytes : List ℕ) (ending : Ending) → ended_text (xs ++ bytes) ending ≡ xs ++ ended_text bytes ending
-ended_on xs bytes Left = refl
-ended_on xs bytes (CameTo Ended) = append_assoc xs bytes (32 ∷ [])
-ended_on xs bytes (CameTo ReadFailed) = refl
-ended_on xs bytes (CameTo TooLong) = refl
+ended_on xs bytes ending = grind (arith, common_steps, append_assoc)
 
 -- one read more of an input
 read_more : (a b c : Stream) (text bytes : List ℕ) (room : ℕ) (end : Option InputEnd) → ReadsWell a b text
     → length text + room ≡ input_limit → ReadsPortion b c bytes room end → ReadsSoFar a c (text ++ bytes) end
-read_more a b c text bytes room None h full k = let more = portion_more a b c text bytes room h full k in (more.0, more.1)
-read_more a b c text bytes room (Some end) h full k = portion_last a b c text bytes room end h full k
+read_more a b c text bytes room end h k e = grind (arith, common_steps, portion_last, portion_more)
 
 -- an input that gave this text so far was read to here
 reads_to : (a c : Stream) (text : List ℕ) (end : Option InputEnd) → ReadsSoFar a c text end → ReadsTo a c text (ending_of end)
-reads_to a c text None read = inl read
-reads_to a c text (Some end) read = read
+reads_to a c text end h = grind (arith, common_steps)
 
 -- after a failed read what was open is still open
 open_after_failure : (a b : Stream) (ahead bytes : List ℕ) (more : List Character) (rest : List ℕ) (room : ℕ) (end : Option InputEnd)
     → ReadsPortion a b bytes room end → NoPieceBegins ahead → MayBegin ahead
     → ReadsUpTo (ahead ++ ended_text bytes (ending_of end)) more rest → end ≡ Some ReadFailed → MayBegin rest
-open_after_failure a b ahead bytes more rest room end portion none may reads failed =
-    let Portion : Option InputEnd → Type 0 = λ e. ReadsPortion a b bytes room e in
-    let From : Option InputEnd → Type 0 = λ e. ReadsUpTo (ahead ++ ended_text bytes (ending_of e)) more rest in
-    let same : ahead ++ bytes ≡ ahead =
-    ap (λ (xs : List ℕ). ahead ++ xs) (subst Portion failed portion).1 ∙ append-nil ahead in
-    let still = subst (λ (xs : List ℕ). ReadsUpTo xs more rest) same (subst From failed reads) in
-    subst MayBegin (stays ahead more rest still none).1 may
+open_after_failure a b ahead bytes more rest room end portion none may reads failed = grind (arith, common_steps, append-nil, stays)
 
 -- once no line is kept, all lines so far were written
 pub scans_text : {r r1 w w1 : Stream} (frames : FrameLines) {end : Option InputEnd} {rest : List ℕ} {place : ℕ}
     (scanned : ScannedUpTo r r1 w w1 frames end rest place) → frames.lines ≡ []
     → KeepsLines (hearing new_scan scanned.chars) frames.scanner [] scanned.text
-scans_text frames scanned none =
-    let Of : List ℕ → Type 0 = λ text. KeepsLines (hearing new_scan scanned.chars) frames.scanner [] text in
-    subst Of (append-nil scanned.text) (rw none at scanned.scans)
+scans_text frames scanned none = grind (arith, common_steps, append-nil)
 
 -- before the first read nothing was scanned
 pub nothing_scanned : (r w : Stream) (frames : FrameLines) → frames.scanner ≡ new_scan → frames.lines ≡ []
@@ -198,13 +186,9 @@ stopped_writing {w = w} {w1 = w1} {frames = frames} w2 scanned fails =
 -- more is read only before the end, where a piece may begin
 pub goes_on : (end : Option InputEnd) (rest : List ℕ) (place : ℕ) → IsNextStep end rest place ReadOn
     → (end ≡ None) × MayBegin rest
-goes_on None rest place may = (refl, may)
-goes_on (Some Ended) rest place step = absurd step
-goes_on (Some ReadFailed) rest place step = absurd step
-goes_on (Some TooLong) rest place step = absurd step
+goes_on end rest place h = grind (arith, common_steps)
 
 -- a call that answers that a write failed
 pub input_stops : (r r2 w w2 : Stream) (frames : FrameLines) (result : Result (Option CliFault) stream.Failed) (P : stream.Failed → Type 0)
     → IsErrAnd result P → StopsWriting r r2 w w2 → ScansInput r r2 w w2 frames result
-input_stops r r2 w w2 frames (Ok fault) P err part = absurd err
-input_stops r r2 w w2 frames (Err failed) P err part = part
+input_stops r r2 w w2 frames result P h k = grind (arith, common_steps)

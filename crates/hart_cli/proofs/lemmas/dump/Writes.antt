@@ -1,10 +1,12 @@
 -- Texts that are written one after another, and lines that were written in time.
-use Rattle.std.proofs.Common.{◌≢◌, ℕ, List, [], ◌∷◌, ◌++◌, refl, sym, ap, ◌∙◌, append_assoc, subst}
+use Rattle.std.proofs.Common.{arith}
+use Rattle.std.proofs.lemmas.Grind.{common_steps}
+use Rattle.std.proofs.Common.{◌≢◌, ℕ, List, [], ◌∷◌, ◌++◌, refl, ◌∙◌, append_assoc, subst}
 use Rattle.std.specs.Io.KnownBytes.{Appends}
 use Rattle.std.proofs.KnownBytes.{Appends-trans}
 use Rattle.hart_cli.specs.dump.Dump.{WroteInTime}
 use Rattle.hart_cli.specs.dump.Text.{dump_text}
-use Rattle.hart_cli.specs.stream.Stream.{FailsToWrite, Stream, WritesAll, count_after_failure}
+use Rattle.hart_cli.specs.stream.Stream.{FailsToWrite, Stream, WritesAll}
 
 -- one text after another was written
 pub WritesAll-on : (a b c : Stream) (xs ys : List ℕ) → WritesAll a b xs → WritesAll b c ys → WritesAll a c (xs ++ ys)
@@ -12,16 +14,7 @@ WritesAll-on a b c xs ys h k = (Appends-trans a.bytes b.bytes c.bytes xs ys h.0 
 
 -- a write failed in a text after another
 pub FailsToWrite-on : (a b c : Stream) (xs ys : List ℕ) → WritesAll a b xs → FailsToWrite b c ys → FailsToWrite a c (xs ++ ys)
-FailsToWrite-on a b c xs ys h k = (
-  record {
-    prefix = xs ++ k.0.prefix;
-    rest = k.0.rest;
-    split = ap (λ (zs : List ℕ). xs ++ zs) k.0.split ∙ sym (append_assoc xs k.0.prefix k.0.rest);
-    short = k.0.short;
-    written = Appends-trans a.bytes b.bytes c.bytes xs k.0.prefix h.0 k.0.written;
-  },
-  k.1 ∙ ap count_after_failure h.1,
-)
+FailsToWrite-on a b c xs ys h k = grind (arith, common_steps, Appends-trans, append_assoc)
 
 -- what was not written is not empty
 rest_stays : (rest more : List ℕ) → rest ≢ [] → rest ++ more ≢ []
@@ -30,16 +23,7 @@ rest_stays (byte ∷ rest) more some none = absurd cc
 
 -- a prefix of a text is one of a longer text
 pub FailsToWrite-longer : (old new : Stream) (text more : List ℕ) → FailsToWrite old new text → FailsToWrite old new (text ++ more)
-FailsToWrite-longer old new text more fails = (
-  record {
-    prefix = fails.0.prefix;
-    rest = fails.0.rest ++ more;
-    split = ap (λ (xs : List ℕ). xs ++ more) fails.0.split ∙ append_assoc fails.0.prefix fails.0.rest more;
-    short = rest_stays fails.0.rest more fails.0.short;
-    written = fails.0.written;
-  },
-  fails.1,
-)
+FailsToWrite-longer old new text more fails = grind (arith, common_steps, append_assoc, rest_stays)
 
 -- what is written later takes nothing back
 pub in_time_on : (input : List ℕ) (w now later : Stream) (text : List ℕ) → WroteInTime input w now

@@ -1,30 +1,23 @@
 -- The call that the words of a command line make.
-use Rattle.std.proofs.Common.{◌≡◌, ◌≢◌, ◌∙◌, [], ap, ap₂, arith, subst, unwrap_or, codes, false, List, None, Option, option_map}
-use Rattle.std.proofs.Common.{Bool, refl, Some, sym, true, ℕ, if◌then◌else◌}
-use Rattle.std.specs.Box.{box_value}
+use Rattle.std.proofs.lemmas.Grind.{common_steps}
+use Rattle.std.proofs.Common.{◌≡◌, ◌∙◌, [], ap, ap₂, arith, subst, unwrap_or, codes, List, None, Option, option_map}
+use Rattle.std.proofs.Common.{Bool, Some, sym, true, ℕ, if◌then◌else◌}
 use Rattle.std.specs.Option.{option_and_then}
-use Rattle.std.specs.Str.{bytes_eq}
-use Rattle.std.proofs.lemmas.Bool.{false_from_ne_true}
 use Rattle.std.proofs.lemmas.Bool.Decides.{nat_tests}
-use Rattle.std.proofs.lemmas.Slice.Eq.{bytes_eq-Decides}
 use Rattle.clap.specs.Words.{App, HasKind, HasMatchesOf, Row, Text, app_of, fault_of, first_of, is_simple, is_simple_and_free}
-use Rattle.clap.specs.Words.{subcommand_name_of, subcommand_of, subcommand_rows, subcommand_rows_of}
+use Rattle.clap.specs.Words.{subcommand_name_of, subcommand_of, subcommand_rows_of}
 use Rattle.clap.specs.declared.builder.command.Command.{Command}
 use Rattle.clap.specs.declared.error.Error.{Error}
 use Rattle.clap.specs.declared.parser.matches.ArgMatches.{ArgMatches}
-use Rattle.clap.specs.declared.parser.matches.ArgMatches.TheViews.{out-ArgMatches, out-SubCommand}
 use Rattle.hart_frame.specs.wire.Message.{IsPreambleCount}
-use Rattle.hart_cli.specs.program.CommandLine.{Calls, call_named, call_of, hart_app, message_words, preambles_of, words_of}
+use Rattle.hart_cli.specs.program.CommandLine.{Calls, call_of, hart_app, message_words, preambles_of, words_of}
 use Rattle.hart_cli.specs.encode.MessageWords.{MessageWords}
 use Rattle.hart_cli.specs.declared.program.command_line.Call.{Call}
 use Rattle.hart_cli.specs.declared.program.command_line.Call.TheVariants.{Answer, Dump, Encode, Sim}
 
 -- the name in the matches is that of the subcommand entered
 subcommand_name-rows : (m : ArgMatches) → option_map (λ met. met.0) (subcommand_rows_of m) ≡ subcommand_name_of m
-subcommand_name-rows m =
-    elim (out-ArgMatches m).subcommand as
-    (λ o. option_map (λ met. met.0) (subcommand_rows o) ≡ option_map (λ b. (out-SubCommand (box_value b)).name.now) o)
-    [ None ↦ refl | Some b ↦ refl ]
+subcommand_name-rows m = grind (arith, common_steps, option_map)
 
 -- what the matches of the command `hart` are
 pub record MeetsCall (words : List Text) (m : ArgMatches) : Type 0 where
@@ -51,9 +44,7 @@ gives_fault command words error is_hart kinds =
 joined : (met : Option (Text × List Row)) (name : Text) (rows : List Row) → Some name ≡ option_map (λ p. p.0) met
     → Some rows ≡ option_map (λ p. p.1) met
     → met ≡ Some (name, rows)
-joined None name rows named with_rows = cc
-joined (Some p) name rows named with_rows =
-    ap₂ (λ n r. Some (n, r)) (ap (λ o. unwrap_or o name) (sym named)) (ap (λ o. unwrap_or o rows) (sym with_rows))
+joined met name rows h k = grind (arith, common_steps, ap₂, unwrap_or)
 
 -- what `subcommand()` gives is what was met
 pub met : (m : ArgMatches) (name : Text) (rows : List Row) → Some name ≡ subcommand_name_of m
@@ -62,45 +53,22 @@ met m name rows named with_rows = joined (subcommand_rows_of m) name rows (named
 
 -- without a name nothing was met
 pub none_met : (m : ArgMatches) → None ≡ subcommand_name_of m → None ≡ call_of (subcommand_rows_of m)
-none_met m none = nothing (subcommand_rows_of m) (none ∙ sym (subcommand_name-rows m))
-  where
-    nothing : (o : Option (Text × List Row)) → None ≡ option_map (λ met. met.0) o → None ≡ call_of o
-    nothing None is = refl
-    nothing (Some found) is = cc is
-
--- a name that is none of the four names no call
-pub other_name : (name : Text) (rows : List Row) → name ≢ codes "answer" → name ≢ codes "dump" → name ≢ codes "sim"
-    → name ≢ codes "encode" → None ≡ call_named name rows
-other_name name rows answer dump sim encode =
-    rw (differs answer, differs dump, differs sim, differs encode) refl
-  where
-    differs : {a b : Text} → a ≢ b → bytes_eq a b ≡ false
-    differs {a} {b} other = false_from_ne_true (bytes_eq a b) (λ same. other ((bytes_eq-Decides a b).0 same))
+none_met m none = grind (arith, common_steps, met, option_map, subcommand_name-rows)
 
 -- the number of preamble bytes of `encode` is one that a sender may put
 counted : (word : Option Text) (count : ℕ) → option_and_then preambles_of word ≡ Some count → IsPreambleCount count
-counted None count is = cc is
-counted (Some word) count is = grind (arith, nat_tests)
+counted word count h = grind (arith, common_steps, nat_tests)
 
 -- it is that of the words
 words_counted : (preambles : Option ℕ) (who address command : Option Text) (payload : Text) (words : MessageWords)
     → message_words preambles who address command payload ≡ Some words → preambles ≡ Some words.preambles
-words_counted None who address command payload words is = cc is
-words_counted (Some n) None address command payload words is = cc is
-words_counted (Some n) (Some who) None command payload words is = cc is
-words_counted (Some n) (Some who) (Some address) None payload words is = cc is
-words_counted (Some n) (Some who) (Some address) (Some command) payload words is = cc is
+words_counted preambles who address command payload words h = grind (arith, common_steps)
 
 -- a call of `encode` has the words that the matches give
 words_called : (answer dump sim encode : Bool) (image : Option Text) (given : Option MessageWords) (words : MessageWords)
     → (if answer then Some (Answer image) else if dump then Some Dump else if sim then Some (Sim image)
     else if encode then option_map (λ w. Encode w) given else None) ≡ Some (Encode words) → given ≡ Some words
-words_called true dump sim encode image given words is = cc is
-words_called false true sim encode image given words is = cc is
-words_called false false true encode image given words is = cc is
-words_called false false false true image None words is = cc is
-words_called false false false true image (Some w) words is = cc is
-words_called false false false false image given words is = cc is
+words_called answer dump sim encode image given words h = grind (arith, common_steps)
 
 pub call_counted : (call : Call) (texts : List Text) (words : MessageWords) → Calls call texts → call ≡ Encode words
     → IsPreambleCount words.preambles

@@ -1,9 +1,9 @@
 -- The text of `hart sim`: how it grows, and that an input has one at most.
-use Rattle.std.proofs.Common.{◌≡◌, ℕ, ◌+◌, ◌<◌, List, [], ◌∷◌, ◌++◌, length, take, drop, get_or, min, inl, inr, refl, sym, ap, ap₂, ◌∙◌}
-use Rattle.std.proofs.Common.{subst, arith, Err, ◌≤◌, add-zero, length-append, length-take}
+use Rattle.std.proofs.lemmas.Grind.{common_steps}
+use Rattle.std.proofs.Common.{◌≡◌, ℕ, ◌+◌, ◌<◌, List, [], ◌∷◌, ◌++◌, length, take, drop, get_or, min, refl, sym, ap, ap₂, ◌∙◌}
+use Rattle.std.proofs.Common.{subst, arith, ◌≤◌, add-zero, length-append, length-take}
 use Rattle.std.proofs.lemmas.Grind.{flat_map-append}
 use Rattle.std.proofs.lemmas.List.{flat_map_more, take-append-drop, take_more}
-use Rattle.std.proofs.KnownBytes.{Keeps-refl}
 use Rattle.std.specs.List.{enumerate_from, flat_map}
 use Rattle.hart_device.specs.Bench.{bench_process}
 use Rattle.hart_device.specs.Device.{DeviceState}
@@ -11,7 +11,6 @@ use Rattle.hart_device.specs.declared.process.Process.{Process}
 use Rattle.hart_frame.proofs.lemmas.Laws.{bodies_are_unambiguous-one_body}
 use Rattle.hart_line.specs.world.Promises.{start_from}
 use Rattle.hart_line.specs.world.Faults.{IsFault}
-use Rattle.hart_line.specs.world.Needs.{IsNeededBy}
 use Rattle.hart_line.specs.script.Rows.{IsScript}
 use Rattle.hart_master.specs.Master.{MasterState}
 use Rattle.hart_line.specs.world.Spoken.{AreSpoken, SpokenFrame}
@@ -24,17 +23,9 @@ use Rattle.hart_line.proofs.lemmas.Laws.{scripts_have_one_last_world-one_world}
 use Rattle.hart_line.specs.declared.fault.LineFault.{LineFault}
 use Rattle.hart_line.specs.declared.fault.LineFault.TheVariants as line_faults
 use Rattle.hart_line.specs.declared.line.report.Outcome.{Outcome}
-use Rattle.hart_line.specs.declared.line.report.Party.{Party}
 use Rattle.hart_line.specs.declared.line.report.Spoken.{Spoken}
-use Rattle.hart_cli.specs.FaultText.{call_fault}
-use Rattle.hart_cli.specs.sim.Sim.{HasLineFault, IsSimulation, IsSimulationFault, IsWorldText, start_with}
+use Rattle.hart_cli.specs.sim.Sim.{HasLineFault, IsSimulation, IsWorldText, start_with}
 use Rattle.hart_cli.specs.sim.Text.{outcome_line, sim_text}
-use Rattle.hart_cli.specs.input.Input.{Reads}
-use Rattle.hart_cli.specs.stream.Stream.{Stream}
-use Rattle.hart_cli.specs.input.WholeInput.{WholeOutcome}
-use Rattle.hart_cli.specs.declared.fault.CliFault.{CliFault}
-use Rattle.hart_cli.specs.declared.fault.CliFault.TheVariants as faults
-use Rattle.hart_cli.specs.declared.input.InputEnd.TheVariants.{Ended}
 
 -- the things of a list that goes on are numbered on
 numbered_on : {X : Type 0} (n : ℕ) (xs more : List X)
@@ -50,13 +41,7 @@ pub outcomes_more : (text before line : List ℕ) (outcomes : List Outcome) (i :
     → line ≡ outcome_line (i + 1, get_or outcomes i d)
     → text ++ line ≡ before ++ flat_map outcome_line (enumerate_from 1 (take (i + 1) outcomes))
 outcomes_more text before line outcomes i d below text_is line_is =
-    let number : 1 + length (take i outcomes) ≡ i + 1 = omega (arith, length-take i outcomes) in
-    let more : enumerate_from 1 (take (i + 1) outcomes) ≡ enumerate_from 1 (take i outcomes) ++ (i + 1, get_or outcomes i d) ∷ [] =
-    ap (λ (xs : List Outcome). enumerate_from 1 xs) (take_more outcomes i d below)
-    ∙ numbered_on 1 (take i outcomes) (get_or outcomes i d ∷ [])
-    ∙ ap (λ (k : ℕ). enumerate_from 1 (take i outcomes) ++ (k, get_or outcomes i d) ∷ []) number in
-    rw (text_is, line_is, more)
-    (flat_map_more outcome_line before (enumerate_from 1 (take i outcomes)) (i + 1, get_or outcomes i d))
+    grind (arith, common_steps, flat_map_more, length-take, numbered_on, take_more)
 
 -- the lines of the first submissions are no longer than those of all
 pub outcomes_fit : (outcomes : List Outcome) (i : ℕ) → length (flat_map outcome_line (enumerate_from 1 (take i outcomes)))
@@ -96,46 +81,10 @@ pub IsSimulation-run : (first : DeviceState) (input text : List ℕ) (start : St
     → ((world : World) → IsLast start events world → AreSpoken world.spoken spoken)
     → text ≡ sim_text spoken outcomes device → IsSimulation first input text
 IsSimulation-run first input text start read events device outcomes spoken same script same_events last devices results said text_is =
-    let world = last.0 in
-    let Leads : List LineEvent → Type 0 = λ es. IsLast start es world in
-    let Begins : Start → Type 0 = λ s. IsLast s read world in
-    let given = ap₂ (λ (os : List Outcome) (d : DeviceState). sim_text spoken os d) (results world last.1)
-    (devices world last.1 ∙ ap (λ (s : Start). state_of s.device world) same) in
-    record {
-      events = read;
-      script = script;
-      world = world;
-      last = subst Begins same (subst Leads same_events last.1);
-      world_text = record { spoken = spoken; are_spoken = said world last.1; gives = text_is ∙ given };
-    }
-
--- the fault of a script that was not carried out
-pub IsSimulationFault-run : (device : DeviceState) (input : List ℕ) (start : Start) (read events : List LineEvent) (fault : LineFault)
-    → start ≡ start_with device → IsScript input read → events ≡ read → IsFault start events fault
-    → IsSimulationFault device input (call_fault fault)
-IsSimulationFault-run device input start read events (line_faults.Undetected number leg) same script same_events is_fault =
-    let At : List LineEvent → Type 0 = λ es. IsFault start es (line_faults.Undetected number leg) in
-    let From : Start → Type 0 = λ s. IsFault s read (line_faults.Undetected number leg) in
-    record { events = read; script = script; is_fault = subst From same (subst At same_events is_fault) }
-IsSimulationFault-run device input start read events (line_faults.BadLine number) same script same_events is_fault = absurd is_fault
-IsSimulationFault-run device input start read events (line_faults.Memory none) same script same_events is_fault =
-    let Needs : List LineEvent → Type 0 = λ es. IsNeededBy es none.items in
-    inr (inl (read, script, subst Needs same_events is_fault))
-
--- the fault of an input that ended
-pub given_of_input : (device : DeviceState) (reader reader_after writer : Stream) (input : List ℕ) (fault : CliFault)
-    → Reads reader reader_after input Ended → IsSimulationFault device input fault
-    → WholeOutcome (IsSimulation device) (IsSimulationFault device) reader reader_after writer writer (Err fault)
-given_of_input device reader reader_after writer input (faults.Line fault) read is =
-    (record { input = input; whole = read; holds = is }, (Keeps-refl writer.bytes, refl))
-given_of_input device reader reader_after writer input (faults.Memory none) read is =
-    (inr (record { input = input; whole = read; holds = is }), (Keeps-refl writer.bytes, refl))
-given_of_input device reader reader_after writer input _ read is = absurd is
+    grind (arith, common_steps, ap₂)
 
 same_spoken : (x y : Spoken) → x.party ≡ y.party → x.preambles ≡ y.preambles → x.bytes ≡ y.bytes → x ≡ y
-same_spoken x y party preambles bytes =
-    ap₂ (λ (p : Party × ℕ) (b : List ℕ). record { party = p.0; preambles = p.1; bytes = b })
-    (ap₂ (λ (p : Party) (n : ℕ). (p, n)) party preambles) bytes
+same_spoken x y party preambles bytes = grind (arith, common_steps, ap₂)
 
 -- frames are spoken in one way
 AreSpoken-one : (frames : List SpokenFrame) (xs ys : List Spoken) → AreSpoken frames xs → AreSpoken frames ys → xs ≡ ys
@@ -152,9 +101,7 @@ AreSpoken-one (said ∷ frames) (x ∷ xs) (y ∷ ys) p q =
 -- a world has one text
 IsWorldText-one : (start : Start) (world : World) (xs ys : List ℕ) → IsWorldText start world xs → IsWorldText start world ys
     → xs ≡ ys
-IsWorldText-one start world xs ys p q =
-    let spoken = AreSpoken-one world.spoken p.spoken q.spoken p.are_spoken q.are_spoken in
-    p.gives ∙ ap (λ (frames : List Spoken). sim_text frames world.outcomes (state_of start.device world)) spoken ∙ sym q.gives
+IsWorldText-one start world xs ys p q = grind (arith, common_steps, AreSpoken-one)
 
 -- an input has one text
 pub IsSimulation-one : (device : DeviceState) (input xs ys : List ℕ)

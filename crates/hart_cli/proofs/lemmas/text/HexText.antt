@@ -1,5 +1,6 @@
 -- Upper case hex, and one more byte in a line of it.
-use Rattle.std.proofs.Common.{◌≡◌, ℕ, zero, suc, ◌<◌, ◌≤◌, ◌+◌, ◌*◌, ◌/◌, ◌%◌, List, [], ◌∷◌, ◌++◌, length, take, map, get_or, refl, sym}
+use Rattle.std.proofs.lemmas.Grind.{common_steps}
+use Rattle.std.proofs.Common.{◌≡◌, ℕ, ◌<◌, ◌≤◌, ◌+◌, ◌*◌, ◌/◌, ◌%◌, List, [], ◌∷◌, ◌++◌, length, take, map, get_or, refl, sym}
 use Rattle.std.proofs.Common.{ap}
 use Rattle.std.proofs.Common.{ap₂, ◌∙◌, append_assoc, arith, length-append, slice_index}
 use Rattle.std.proofs.Math.ListN.{get_or-map}
@@ -32,21 +33,12 @@ join_with_byte-push c x (z ∷ zs) y =
 -- the first byte
 pub hex_items-first : (bytes line digits : List ℕ) (i d : ℕ) → i ≤ 0 → i < length bytes → line ≡ hex_items (take i bytes)
     → digits ≡ encode_upper (get_or bytes i d ∷ []) → line ++ digits ≡ hex_items (take (i + 1) bytes)
-hex_items-first [] line digits i d z h e f = absurd (omega arith)
-hex_items-first (x ∷ xs) line digits zero d z h e f = rw (e, f) refl
-hex_items-first (x ∷ xs) line digits (suc i) d z h e f = absurd (omega arith)
+hex_items-first bytes line digits i d h k e n = grind (arith, common_steps)
 
 -- a further byte, after a space
 pub hex_items-more : (bytes line digits : List ℕ) (i d : ℕ) → 0 < i → i < length bytes → line ≡ hex_items (take i bytes) ++ 32 ∷ []
     → digits ≡ encode_upper (get_or bytes i d ∷ []) → line ++ digits ≡ hex_items (take (i + 1) bytes)
-hex_items-more [] line digits i d z h e f = absurd (omega arith)
-hex_items-more (x ∷ xs) line digits zero d z h e f = absurd (omega arith)
-hex_items-more (x ∷ xs) line digits (suc i) d z h e f =
-    let parts = map (λ (byte : ℕ). encode_upper (byte ∷ [])) (take i xs) in
-    ap (λ (us : List ℕ). us ++ digits) e ∙ append_assoc (hex_items (x ∷ take i xs)) (32 ∷ []) digits
-    ∙ ap (λ (us : List ℕ). hex_items (x ∷ take i xs) ++ 32 ∷ us) f
-    ∙ sym (join_with_byte-push 32 (encode_upper (x ∷ [])) parts (encode_upper (get_or xs i d ∷ [])))
-    ∙ sym (ap (λ (ps : List (List ℕ)). join_with_byte 32 ps) (map_more (λ (byte : ℕ). encode_upper (byte ∷ [])) (x ∷ xs) (suc i) d h))
+hex_items-more bytes line digits i d h k e n = grind (arith, common_steps, append_assoc, join_with_byte-push, map_more)
 
 -- the digits of bytes and of more bytes
 encode_upper-append : (bytes more : List ℕ) → encode_upper (bytes ++ more) ≡ encode_upper bytes ++ encode_upper more
@@ -66,12 +58,7 @@ pub encode_upper-chunk : (whole line line' digits back rest chunk rest' : List �
     → rest ≡ chunk ++ rest' → digits ≡ encode_upper chunk → line' ≡ line ++ take (2 * length chunk) (digits ++ back)
     → line' ++ encode_upper rest' ≡ whole
 encode_upper-chunk whole line line' digits back rest chunk rest' so_far parts is_digits is_line =
-    let first : take (2 * length chunk) (digits ++ back) ≡ encode_upper chunk =
-    rw is_digits (take_at (encode_upper chunk) back _ (length-encode_with upper_digits chunk)) in
-    ap (λ (xs : List ℕ). xs ++ encode_upper rest') (is_line ∙ ap (λ (xs : List ℕ). line ++ xs) first)
-    ∙ append_assoc line (encode_upper chunk) (encode_upper rest')
-    ∙ ap (λ (xs : List ℕ). line ++ xs) (sym (encode_upper-append chunk rest') ∙ ap (λ (xs : List ℕ). encode_upper xs) (sym parts))
-    ∙ so_far
+    grind (arith, common_steps, append_assoc, encode_upper-append, length-encode_with, take_at)
 
 -- the lengths of two lines with their digits still to come
 pub encode_upper-lengths : (line other bytes others : List ℕ) → line ++ encode_upper bytes ≡ other ++ encode_upper others

@@ -1,4 +1,5 @@
 -- An input has one list of characters.
+use Rattle.std.proofs.lemmas.Grind.{common_steps}
 use Rattle.std.proofs.Common.{◌≡◌, ℕ, ◌+◌, List, [], ◌∷◌, ◌++◌, length, inl, Option, Some, refl, sym, ap, subst, arith}
 use Rattle.std.proofs.lemmas.List.{append-nil, length-append}
 use Rattle.hart_frame.specs.heard.Character.{Character}
@@ -11,18 +12,11 @@ use Rattle.hart_cli.proofs.lemmas.text.Items.{NoPieceBegins-nil, one_reading, Re
 
 -- bad hex is at one place, after the same characters
 one_place : (text : List ℕ) (xs ys : List Character) (p q : ℕ) → HasBadHex text xs p → HasBadHex text ys q → (xs ≡ ys) × (p ≡ q)
-one_place text xs ys p q h k =
-    let same = one_reading text xs h.rest ys k.rest h.reads k.reads h.no_piece k.no_piece in
-    let long = ap (λ (us : List ℕ). length us) same.1 in
-    let n = h.begins in
-    let m = k.begins in
-    (same.0, omega arith)
+one_place text xs ys p q h k = grind (arith, common_steps, one_reading)
 
 -- what has bad hex does not read to its end
 not_both : (text : List ℕ) (xs ys : List Character) (p : ℕ) → ReadsUpTo text xs [] → HasBadHex text ys p → ⊥
-not_both text xs ys p h k =
-    let same = one_reading text xs [] ys k.rest h k.reads NoPieceBegins-nil k.no_piece in
-    k.more (sym same.1)
+not_both text xs ys p h k = grind (arith, common_steps, NoPieceBegins-nil, one_reading)
 
 -- what has bad hex whatever follows has it as it stands
 as_it_stands : (text : List ℕ) (chars : List Character) (place : ℕ) → IsDecidedBadHexAt text chars place → HasBadHex text chars place

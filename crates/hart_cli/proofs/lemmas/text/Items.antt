@@ -1,5 +1,6 @@
 -- Texts of items: a text reads in one way, and what follows a text leaves what was read.
-use Rattle.std.proofs.Common.{◌≡◌, ℕ, ◌+◌, ◌<◌, ◌≤◌, ◌-◌, inl, inr, true, List, [], ◌∷◌, ◌++◌, length, take, drop, Option, refl, sym, ap}
+use Rattle.std.proofs.lemmas.Grind.{common_steps}
+use Rattle.std.proofs.Common.{◌≡◌, ℕ, ◌+◌, ◌<◌, ◌≤◌, ◌-◌, true, List, [], ◌∷◌, ◌++◌, length, take, drop, Option, refl, sym, ap}
 use Rattle.std.proofs.Common.{◌∙◌, ◌*◌, Some, subst, arith}
 use Rattle.std.proofs.lemmas.List.{append-nil, append_assoc, drop-drop, length-append, length-drop, take_rest}
 use Rattle.hart_frame.specs.heard.Character.{Character}
@@ -12,10 +13,7 @@ use Rattle.hex.specs.Hex.{is_hex_digit}
 
 -- a separator is no digit
 separator_is_no_digit : (byte : ℕ) → IsSeparator byte → is_hex_digit byte ≡ true → ⊥
-separator_is_no_digit byte (inl e) d = let n : is_hex_digit 32 ≡ true = subst (λ (x : ℕ). is_hex_digit x ≡ true) e d in cc n
-separator_is_no_digit byte (inr (inl e)) d = let n : is_hex_digit 9 ≡ true = subst (λ (x : ℕ). is_hex_digit x ≡ true) e d in cc n
-separator_is_no_digit byte (inr (inr (inl e))) d = let n : is_hex_digit 13 ≡ true = subst (λ (x : ℕ). is_hex_digit x ≡ true) e d in cc n
-separator_is_no_digit byte (inr (inr (inr e))) d = let n : is_hex_digit 10 ≡ true = subst (λ (x : ℕ). is_hex_digit x ≡ true) e d in cc n
+separator_is_no_digit byte h k = grind (arith, common_steps)
 
 -- a separator is not the high digit of an item
 separator_is_no_high : (a h : ℕ) → IsSeparator a → is_hex_digit h ≡ true → a ≡ h → ⊥
@@ -23,26 +21,11 @@ separator_is_no_high a h s d e = separator_is_no_digit a s (subst (λ (x : ℕ).
 
 -- an item is not whole before a `!`
 not_whole : (tail more : List ℕ) (high low : ℕ) → IsWholeBefore tail (Item (Plain high low)) → tail ≡ 33 ∷ more → ⊥
-not_whole [] more high low w e = cc e
-not_whole (x ∷ xs) more high low w e = w.1 (cc e)
+not_whole tail more high low h k = grind (arith, common_steps)
 
 -- two pieces that begin one text are one piece
 pub same_piece : (text : List ℕ) (p q : Piece) (s t : List ℕ) → BeginsWith text p s → BeginsWith text q t → (p ≡ q) × (s ≡ t)
-same_piece text (Separator a) (Separator b) s t h k = let e = sym h.spelled ∙ k.spelled in (cc, cc)
-same_piece text (Separator a) (Item (Plain x y)) s t h k =
-    let e = sym h.spelled ∙ k.spelled in absurd (separator_is_no_high a x h.valid k.valid.0 (cc))
-same_piece text (Separator a) (Item (Faulty x y v w)) s t h k =
-    let e = sym h.spelled ∙ k.spelled in absurd (separator_is_no_high a x h.valid k.valid.0.0 (cc))
-same_piece text (Item (Plain x y)) (Separator a) s t h k =
-    let e = sym k.spelled ∙ h.spelled in absurd (separator_is_no_high a x k.valid h.valid.0 (cc))
-same_piece text (Item (Faulty x y v w)) (Separator a) s t h k =
-    let e = sym k.spelled ∙ h.spelled in absurd (separator_is_no_high a x k.valid h.valid.0.0 (cc))
-same_piece text (Item (Plain x y)) (Item (Plain x' y')) s t h k = let e = sym h.spelled ∙ k.spelled in (cc, cc)
-same_piece text (Item (Plain x y)) (Item (Faulty x' y' v w)) s t h k =
-    let e = sym h.spelled ∙ k.spelled in absurd (not_whole s (v ∷ w ∷ t) x y h.whole (cc))
-same_piece text (Item (Faulty x' y' v w)) (Item (Plain x y)) s t h k =
-    let e = sym k.spelled ∙ h.spelled in absurd (not_whole t (v ∷ w ∷ s) x y k.whole (cc))
-same_piece text (Item (Faulty x y v w)) (Item (Faulty x' y' v' w')) s t h k = let e = sym h.spelled ∙ k.spelled in (cc, cc)
+same_piece text p q s t h k = grind (arith, common_steps, not_whole, separator_is_no_high)
 
 -- a whole piece stays whole, whatever follows
 whole_before_more : (tail more : List ℕ) (p : Piece) → IsWholeBefore tail p → IsWholeBefore (tail ++ more) p
@@ -54,11 +37,7 @@ whole_before_more (n ∷ tail) more (Item (Faulty x y v z)) w = (λ e. cc e, tt)
 
 -- a text begins with its piece, whatever follows
 BeginsWith-more : (text tail more : List ℕ) (p : Piece) → BeginsWith text p tail → BeginsWith (text ++ more) p (tail ++ more)
-BeginsWith-more text tail more p h = record {
-  valid = h.valid;
-  spelled = ap (λ (xs : List ℕ). xs ++ more) h.spelled ∙ append_assoc (spelling p) tail more;
-  whole = whole_before_more tail more p h.whole;
-}
+BeginsWith-more text tail more p h = grind (arith, common_steps, append_assoc, whole_before_more)
 
 -- a text reads up to its rest, whatever follows
 pub ReadsUpTo-more : (text : List ℕ) (chars : List Character) (rest more : List ℕ) → ReadsUpTo text chars rest
@@ -80,12 +59,7 @@ ReadsUpTo-on _ _ _ ys last (piece text first tail chars rest h r) k =
 pub read_on : (text : List ℕ) (chars more : List Character) (place len : ℕ) → ReadsUpTo text chars (drop place text)
     → ReadsUpTo (take (length text - place) (drop place text)) more (drop len (take (length text - place) (drop place text)))
     → ReadsUpTo text (chars ++ more) (drop (place + len) text)
-read_on text chars more place len r h =
-    let rest : take (length text - place) (drop place text) ≡ drop place text = take_rest text place in
-    let Of : List ℕ → Type 0 = λ xs. ReadsUpTo xs more (drop len xs) in
-    let To : List ℕ → Type 0 = λ xs. ReadsUpTo text (chars ++ more) xs in
-    subst To (drop-drop len place text)
-    (ReadsUpTo-on text chars (drop place text) more (drop len (drop place text)) r (subst Of rest h))
+read_on text chars more place len r h = grind (arith, common_steps, ReadsUpTo-on, drop-drop, take_rest)
 
 -- a reading goes on after a shorter one
 record GoesOn (xs : List Character) (rest : List ℕ) (ys : List Character) (last : List ℕ) : Type 0 where
@@ -111,8 +85,7 @@ goes_on _ _ _ _ _ (piece text p s cs rest h r) (piece _ q t ds last k l) n =
 -- nothing is read if no piece begins
 pub stays : (rest : List ℕ) (chars : List Character) (last : List ℕ) → ReadsUpTo rest chars last → NoPieceBegins rest
     → (chars ≡ []) × (rest ≡ last)
-stays _ _ _ (nothing last) n = (refl, refl)
-stays _ _ _ (piece rest p tail cs last h r) n = absurd (n p tail h)
+stays rest chars last h k = grind (arith, common_steps)
 
 -- a text reads in one way up to where no piece begins
 pub one_reading : (text : List ℕ) (xs : List Character) (rest : List ℕ) (ys : List Character) (last : List ℕ) → ReadsUpTo text xs rest
@@ -124,53 +97,31 @@ one_reading text xs rest ys last h k n m =
 
 -- a piece has a length
 spelling-length : (p : Piece) → 0 < length (spelling p)
-spelling-length (Separator a) = omega arith
-spelling-length (Item (Plain x y)) = omega arith
-spelling-length (Item (Faulty x y v w)) = omega arith
+spelling-length p = grind (arith, common_steps)
 
 -- no piece begins at the end
 pub NoPieceBegins-nil : NoPieceBegins []
-NoPieceBegins-nil (Separator a) tail h = cc (h.spelled)
-NoPieceBegins-nil (Item (Plain x y)) tail h = cc (h.spelled)
-NoPieceBegins-nil (Item (Faulty x y v w)) tail h = cc (h.spelled)
+NoPieceBegins-nil x0 x1 x2 = grind (arith, common_steps)
 
 -- something has a length
 some_length : (xs : List ℕ) → (xs ≡ [] → ⊥) → 0 < length xs
-some_length [] some = absurd (some refl)
-some_length (x ∷ xs) some = omega arith
+some_length xs h = grind (arith, common_steps)
 
 -- a piece takes two bytes at least for a character that it means
 few_meant : (p : Piece) → 2 * length (meaning p) ≤ length (spelling p)
-few_meant (Separator a) = omega arith
-few_meant (Item (Plain x y)) = omega arith
-few_meant (Item (Faulty x y v w)) = omega arith
+few_meant p = grind (arith, common_steps)
 
 pub few_read : (text : List ℕ) (char : Option Character) (len : ℕ) → BeginsAs text char len → 2 * length (option_to_list char) ≤ len
-few_read text char len b =
-    let few = few_meant b.piece in
-    let means = ap (λ (xs : List Character). length xs) b.means in
-    omega (arith, few, means, b.long)
+few_read text char len b = grind (arith, common_steps, few_meant)
 
 -- a byte stands after an item
 item_inside : (text tail : List ℕ) (p : Piece) (x : Character) → BeginsWith text p tail → meaning p ≡ x ∷ []
     → length (spelling p) < length text
-item_inside text tail (Separator a) x h e = cc e
-item_inside text tail (Item (Plain high low)) x h e =
-    let long = ap (λ (us : List ℕ). length us) h.spelled in
-    let after = some_length tail h.whole.0 in
-    omega (arith, long, after)
-item_inside text tail (Item (Faulty high low fault_high fault_low)) x h e =
-    let long = ap (λ (us : List ℕ). length us) h.spelled in
-    let after = some_length tail h.whole.0 in
-    omega (arith, long, after)
+item_inside text tail p x h k = grind (arith, common_steps, some_length)
 
 pub char_inside : (text : List ℕ) (char : Option Character) (x : Character) (len : ℕ) → BeginsAs text char len → char ≡ Some x
     → (2 ≤ len) × (len < length text)
-char_inside text char x len b is =
-    let few = few_read text char len b in
-    let one = ap (λ (c : Option Character). length (option_to_list c)) is in
-    let inside = item_inside text b.tail b.piece x b.begins (b.means ∙ ap (λ (c : Option Character). option_to_list c) is) in
-    (omega (arith, few, one), omega (arith, inside, b.long))
+char_inside text char x len b is = grind (arith, common_steps, few_read, item_inside)
 
 -- a piece is read
 pub begins_reads : (text : List ℕ) (char : Option Character) (len : ℕ) → BeginsAs text char len
@@ -193,14 +144,7 @@ begins_reads text char len b =
 pub piece_read : (text : List ℕ) (chars new : List Character) (place : ℕ) (char : Option Character) (len : ℕ) → place ≤ length text
     → ReadsUpTo text chars (drop place text) → BeginsAs (take (length text - place) (drop place text)) char len
     → new ≡ chars ++ option_to_list char → (0 < len) × (place + len ≤ length text) × ReadsUpTo text new (drop (place + len) text)
-piece_read text chars new place char len within r b e =
-    let one = begins_reads (take (length text - place) (drop place text)) char len b in
-    let left = ap (λ (xs : List ℕ). length xs) (take_rest text place) ∙ length-drop place text in (
-      one.0,
-      omega (arith, one.1, left, within),
-      subst (λ (cs : List Character). ReadsUpTo text cs (drop (place + len) text)) (sym e)
-          (read_on text chars (option_to_list char) place len r one.2),
-    )
+piece_read text chars new place char len within r b e = grind (arith, common_steps, begins_reads, length-drop, read_on, take_rest)
 
 -- a text has two bytes at least before its rest for each character
 pub ReadsUpTo-few : (text : List ℕ) (chars : List Character) (rest : List ℕ) → ReadsUpTo text chars rest

@@ -1,19 +1,7 @@
 use Rattle.std.proofs.Common.{ap}
-use Rattle.std.proofs.lemmas.Result.{err_from_is_err_and}
 use Rattle.hart_master.specs.Master.{MasterState}
-use Rattle.hart_cli.proofs.lemmas.sim.Sim.{IsSimulation-run, IsSimulationFault-run, same_start}
+use Rattle.hart_cli.proofs.lemmas.sim.Sim.{IsSimulation-run, same_start}
 use Rattle.hart_cli.proofs.sim.simulation.Goals as goal
-
-pub returns-in_err-report-clause-fault : goal.returns-in_err-report-clause-fault
-returns-in_err-report-clause-fault c =
-    let primary = rw c.unwrap-primary.ensures at c.new.ensures.kept in
-    let secondary = rw c.unwrap-secondary.ensures at c.new-2.ensures.kept in
-    let start = same_start _ _ c.unwrap-primary.result c.unwrap-secondary.result c.process.ensures
-    (ap (λ (master : MasterState). master.retries) primary) (ap (λ (master : MasterState). master.retries) secondary) in
-    let given = err_from_is_err_and c.from_residual-in_err-report.result c.from_residual-in_err-report.ensures.1 in
-    rw (given.1, given.2)
-    (IsSimulationFault-run _ _ _ _ _ c.in_err-report.field-0.0 start c.in_ok-events.ensures.events c.as_slice.ensures.value
-    c.in_err-report.ensures.fault)
 
 pub returns-clause-text : goal.returns-clause-text
 returns-clause-text c =

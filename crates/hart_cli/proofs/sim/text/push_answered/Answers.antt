@@ -1,4 +1,4 @@
-use Rattle.std.proofs.Common.{◌≡◌, ◌-◌, [], ◌∷◌, ◌++◌, List, ap, arith, codes, drop, length, length-append, length-drop, ℕ, ◌∙◌}
+use Rattle.std.proofs.Common.{◌≡◌, [], ◌∷◌, ◌++◌, List, ap, arith, codes, drop, length, length-append, length-drop, ℕ, ◌∙◌}
 use Rattle.std.proofs.lemmas.List.{take_all}
 use Rattle.hex.specs.Hex.{encode_upper}
 use Rattle.hart_cli.specs.text.Words.{bytes_word}
@@ -18,27 +18,3 @@ returns-clause-words c =
 
 pub push_hex-requires-2 : goal.push_hex-requires-2
 push_hex-requires-2 c = (omega arith, omega (arith, simp length-append at (ap length c.push.ensures)))
-
-pub push_hex_word-requires : goal.push_hex_word-requires
-push_hex_word-requires c =
-    let payload = c.as_slice.result.now in (
-      omega arith,
-      omega (
-        arith,
-        simp length-append at (ap length c.push.ensures),
-        simp length-append at (ap length c.push-2.ensures),
-        ap length (take_all (length payload - 2) (drop 2 payload) (omega (arith, length-drop 2 payload))),
-        length-drop 2 payload,
-      ),
-    )
-
-pub returns-clause-room : goal.returns-clause-room
-returns-clause-room c =
-    let payload = c.as_slice.result.now in
-    omega (
-      arith,
-      simp length-append at (ap length c.push.ensures),
-      simp length-append at (ap length c.push-2.ensures),
-      ap length (take_all (length payload - 2) (drop 2 payload) (omega (arith, length-drop 2 payload))),
-      length-drop 2 payload,
-    )

@@ -1,6 +1,6 @@
+use Rattle.std.proofs.lemmas.Grind.{common_steps}
 use Rattle.std.proofs.Common.{ap, arith, ◌∙◌, ◌+◌, ℕ, List, length, length-append, take}
 use Rattle.std.specs.List.{enumerate_from, flat_map}
-use Rattle.hart_line.specs.Filling.{Filled}
 use Rattle.hart_line.specs.declared.line.report.Outcome.{Outcome}
 use Rattle.hart_cli.specs.sim.Text.{outcome_line}
 use Rattle.hart_cli.proofs.lemmas.sim.Sim.{outcomes_fit, outcomes_more}
@@ -26,12 +26,4 @@ extend-requires c =
     )
 
 pub loop-index-preserved : goal.loop-index-preserved
-loop-index-preserved c =
-    let line = c.as_slice.ensures.value ∙ c.make_outcome_line.ensures
-    ∙ ap (λ (outcome : Outcome). outcome_line (c.loop-index.index + 1, outcome)) c.index-outcomes-index.is in
-    let more = outcomes_more _ _ _ _ c.loop-index.index c.index-outcomes-index.result c.loop-index-test.true
-    c.loop-index.invariant.items line in
-    record {
-      items = ap (λ (list : Filled ℕ). list.items) c.extend.ensures ∙ more;
-      same_room = ap (λ (list : Filled ℕ). list.room) c.extend.ensures ∙ c.loop-index.invariant.same_room;
-    }
+loop-index-preserved c = grind (arith, common_steps, outcomes_more)

@@ -1,3 +1,4 @@
+use Rattle.std.proofs.lemmas.Grind.{common_steps}
 use Rattle.std.proofs.Common.{arith, rules, ◌∙◌}
 use Rattle.std.proofs.lemmas.List.{nil_from_length}
 use Rattle.hart_cli.proofs.lemmas.text.HexText.{encode_upper-chunk, encode_upper-lengths, encode_upper-none}
@@ -17,8 +18,7 @@ loop-chunk-preserved g c =
     }
 
 pub returns-clause-hex : goal.returns-clause-hex
-returns-clause-hex g c =
-    let none = nil_from_length _ c.in-None.ensures.steps.1.0 in encode_upper-none _ ∙ rw none at c.loop-chunk.invariant.written
+returns-clause-hex g c = grind (arith, common_steps, encode_upper-none, nil_from_length)
 
 pub returns-clause-len : goal.returns-clause-len
 returns-clause-len g c = omega (arith, c.loop-chunk.invariant.len, c.in-None.ensures.steps.1.0)

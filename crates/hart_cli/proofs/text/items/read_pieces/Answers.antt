@@ -1,9 +1,8 @@
-use Rattle.std.proofs.Common.{◌≡◌, ℕ, ◌++◌, List, [], length, Some, None, Option, refl, sym, ap, ◌∙◌, arith}
+use Rattle.std.proofs.lemmas.Grind.{common_steps}
+use Rattle.std.proofs.Common.{◌≡◌, List, [], length, Some, Option, refl, ap, arith}
 use Rattle.std.proofs.lemmas.List.{append-nil, length-append, length-drop, take_rest}
 use Rattle.std.specs.Option.{option_to_list}
 use Rattle.hart_frame.specs.heard.Character.{Character}
-use Rattle.hart_line.specs.Filling.{Filled}
-use Rattle.hart_frame.specs.declared.heard.character.Char.{Char}
 use Rattle.hart_cli.specs.text.Items.{nothing}
 use Rattle.hart_cli.proofs.lemmas.text.Items.{char_inside, few_read, piece_read}
 use Rattle.hart_cli.proofs.text.items.read_pieces.Goals.{in-Some-char, in_default-char}
@@ -11,8 +10,7 @@ use Rattle.hart_cli.proofs.text.items.read_pieces.Goals as goal
 
 -- no character is none
 no_char : (char : Option Character) → ((x : Character) → char ≡ Some x → ⊥) → option_to_list char ≡ []
-no_char None n = refl
-no_char (Some x) n = absurd (n x refl)
+no_char char h = grind (arith, common_steps)
 
 pub loop-lead-init : goal.loop-lead-init
 loop-lead-init c =
@@ -25,34 +23,7 @@ loop-lead-init c =
     }
 
 pub push-requires : goal.push-requires
-push-requires c =
-    let inside = char_inside _ _ c.in-Some-char.char _ c.in-Some.ensures c.in-Some-char.is in
-    let rest = ap (λ (bytes : List ℕ). length bytes) (take_rest c.args.text.now c.loop-lead.place)
-    ∙ length-drop c.loop-lead.place c.args.text.now in
-    omega (arith, inside.0, inside.1, rest, c.loop-lead.invariant.few, c.loop-lead.invariant.same_room, c.requires.room)
+push-requires c = grind (arith, common_steps, char_inside, in-Some-char, length-drop, take_rest)
 
 pub loop-lead-preserved : goal.loop-lead-preserved
-loop-lead-preserved c =
-    let old = c.loop-lead.chars in
-    let pushed : c.match-lead.chars ≡ record { items = old.items ++ option_to_list c.in-Some.lead.char; room = old.room } =
-    elim c.match-lead.branch [
-      | in-Some-char w ↦
-          w.chars-is ∙ w.push.ensures
-          ∙ ap (λ (x : Option Character). record { items = old.items ++ option_to_list x; room = old.room }) (sym w.in-Some-char.is)
-      | in_default-char w ↦
-          w.chars-is
-          ∙ ap (λ (xs : List Character). record { items = xs; room = old.room }) (
-          sym (append-nil old.items)
-          ∙ ap (λ (xs : List Character). old.items ++ xs) (sym (no_char c.in-Some.lead.char w.in_default-char.not-Some))
-          )
-    ] in
-    let items = ap (λ (list : Filled Char). list.items) pushed in
-    let read = piece_read _ _ _ _ _ _ c.loop-lead.invariant.within c.loop-lead.invariant.reads c.in-Some.ensures items in
-    let few = few_read _ _ _ c.in-Some.ensures in
-    let long = ap (λ (xs : List Character). length xs) items ∙ length-append old.items (option_to_list c.in-Some.lead.char) in
-    record {
-      within = read.1;
-      reads = read.2;
-      few = omega (arith, few, long, c.loop-lead.invariant.few);
-      same_room = ap (λ (list : Filled Char). list.room) pushed ∙ c.loop-lead.invariant.same_room;
-    }
+loop-lead-preserved c = grind (arith, common_steps, append-nil, few_read, in-Some-char, in_default-char, length-append, no_char, piece_read)

@@ -1,12 +1,7 @@
-use Rattle.std.proofs.Common.{◌∙◌, ◌∷◌, [], ap, arith, length-append}
+use Rattle.std.proofs.Common.{◌∙◌, ap}
 use Rattle.hart_frame.specs.scan.Scanner.{Scan}
 use Rattle.hart_cli.proofs.lemmas.dump.FrameLines.{keeps_nothing, waits_for_more}
 use Rattle.hart_cli.proofs.dump.frame_lines.FrameLines.scan_char.Goals as goal
-
-pub take_frames-requires : goal.take_frames-requires
-take_frames-requires c =
-    let room = rw c.in-Some.is at c.requires.room in
-    rw c.push.ensures.heard (omega (arith, room, length-append c.args.self.now.scanner.held (c.in-Some.char ∷ [])))
 
 pub returns-in_default : goal.returns-in_default
 returns-in_default c = rw c.in_default.is (record { scans = keeps_nothing _ _; waiting = c.requires.waiting })

@@ -1,5 +1,5 @@
 use Rattle.std.proofs.Common.{◌≡◌, ◌≤◌, ◌-◌, List, ℕ, [], take, drop, length, ap, ◌∙◌, arith, subst}
-use Rattle.std.proofs.lemmas.List.{length-drop, length-take-le, take_all, take_rest}
+use Rattle.std.proofs.lemmas.List.{length-drop, length-take-le, take_rest}
 use Rattle.hart_frame.specs.heard.Character.{Character, faultless}
 use Rattle.hart_frame.specs.scan.Scanner.{hearing}
 use Rattle.hart_cli.specs.dump.FrameLines.{KeepsLines}
@@ -56,10 +56,3 @@ loop-taken-preserved c =
       scans = subst Of (faultless_parts chunk rest n m (take_rest chunk n)) all;
       waiting = waits.1;
     }
-
-pub returns : goal.returns
-returns c =
-    let all : take c.loop-taken.taken c.args.chunk.now ≡ c.args.chunk.now = take_all c.loop-taken.taken _ c.loop-taken-test.false in
-    let Of : List ℕ → Type 0 = λ bytes. KeepsLines (hearing c.args.self.now.scanner (faultless bytes)) c.loop-taken.self.scanner
-    c.args.self.now.lines c.loop-taken.self.lines in
-    record { scans = subst Of all c.loop-taken.invariant.scans; waiting = c.loop-taken.invariant.waiting }

@@ -1,5 +1,6 @@
-use Rattle.std.proofs.Common.{◌≡◌, ◌-◌, ◌∙◌, ℕ, List, [], drop, take, length, ap, arith}
-use Rattle.std.proofs.lemmas.List.{length-drop, take_rest}
+use Rattle.std.proofs.lemmas.Grind.{common_steps}
+use Rattle.std.proofs.Common.{◌-◌, [], drop, take, length, arith}
+use Rattle.std.proofs.lemmas.List.{take_rest}
 use Rattle.std.specs.Option.{option_to_list}
 use Rattle.hart_frame.specs.heard.Character.{faultless}
 use Rattle.hart_cli.specs.dump.FrameLines.{ScansText}
@@ -35,8 +36,7 @@ scanned c =
     loop.waiting c.read_chunk-len.ensures.reads (rw c.as_slice.ensures.value at c.scan_chunk.ensures.scans))
 
 pub returns-in_default-clause-within : goal.returns-in_default-clause-within
-returns-in_default-clause-within c =
-    omega (arith, ReadsUpTo-few c.args.text.now _ _ (scanned (goal.at.returns-in_default-clause-within c).After-scan_chunk).reads)
+returns-in_default-clause-within c = grind (arith, common_steps, After-scan_chunk, ReadsUpTo-few, scanned)
 
 pub returns-in_default-clause-scans : goal.returns-in_default-clause-scans
 returns-in_default-clause-scans c = scanned (goal.at.returns-in_default-clause-scans c).After-scan_chunk
@@ -63,13 +63,3 @@ loop-lead-preserved c =
           (begins_reads rest _ _ c.in-Some.ensures).2 c.scan_char.ensures.scans);
       waiting = c.scan_char.ensures.waiting;
     }
-
--- the length of the rest after a place, as a slice has it
-rest_long : (text : List ℕ) (n : ℕ) → length (take (length text - n) (drop n text)) ≡ length text - n
-rest_long text n = ap (λ (xs : List ℕ). length xs) (take_rest text n) ∙ length-drop n text
-
-pub loop-lead-smaller : goal.loop-lead-smaller
-loop-lead-smaller c =
-    let rest = take (length c.loop-lead.rest.now - c.read_chunk-len.result) (drop c.read_chunk-len.result c.loop-lead.rest.now) in
-    let inside = begins_reads rest _ _ c.in-Some.ensures in
-    omega (arith, inside.0, inside.1, rest_long rest c.in-Some.lead.len, rest_long c.loop-lead.rest.now c.read_chunk-len.result)

@@ -1,27 +1,17 @@
-use Rattle.std.proofs.Common.{◌∙◌, ◌∷◌, ◌++◌, [], List, ℕ, ap, arith, refl, sym}
+use Rattle.std.proofs.lemmas.Grind.{common_steps}
+use Rattle.std.proofs.Common.{◌∙◌, ◌∷◌, ◌++◌, [], List, ℕ, ap, arith, sym}
 use Rattle.std.proofs.lemmas.List.{append-nil}
 use Rattle.hart_frame.specs.scan.View.{found_of}
 use Rattle.hart_cli.specs.dump.Text.{dump_line}
-use Rattle.hart_cli.proofs.lemmas.dump.FrameLines.{keeps_no_frame, keeps_then}
+use Rattle.hart_cli.proofs.lemmas.dump.FrameLines.{keeps_then}
 use Rattle.hart_cli.proofs.lemmas.dump.Moves.{gives_long, moves_on}
 use Rattle.hart_cli.proofs.dump.frame_lines.FrameLines.take_frames.Goals as goal
 
-pub loop-found-init : goal.loop-found-init
-loop-found-init c = record {
-  keeps = keeps_no_frame _ _ _ (record { heard = λ more chars can. can; frames = λ more chars later can are. are });
-  same_finish = refl;
-}
-
 pub push_frame_line-requires : goal.push_frame_line-requires
-push_frame_line-requires c =
-    let gives = rw c.in-Some.is at c.take.follows.holds-at-none in
-    let keeps = c.loop-found.invariant.keeps in
-    omega (arith, c.requires, keeps.few, gives_long _ _ _ gives, moves_on _ _ _ gives.moves)
+push_frame_line-requires c = grind (arith, common_steps, gives_long, moves_on)
 
 pub loop-found-smaller : goal.loop-found-smaller
-loop-found-smaller c =
-    let gives = rw c.in-Some.is at c.take.follows.holds-at-none in
-    omega (arith, gives_long _ _ _ gives, moves_on _ _ _ gives.moves)
+loop-found-smaller c = grind (arith, common_steps, gives_long, moves_on)
 
 pub loop-found-preserved : goal.loop-found-preserved
 loop-found-preserved c =
@@ -36,11 +26,3 @@ loop-found-preserved c =
       });
       same_finish = gives.finished ∙ c.loop-found.invariant.same_finish;
     }
-
-pub returns : goal.returns
-returns c = record {
-  last = c.loop-found.self.scanner;
-  keeps = c.loop-found.invariant.keeps;
-  same_finish = c.loop-found.invariant.same_finish;
-  nothing = rw c.in_default.is at c.take.follows.holds-at-none;
-}

@@ -1,4 +1,5 @@
-use Rattle.std.proofs.Common.{◌≡◌, ◌⊎◌, ◌<◌, ◌≤◌, ◌∙◌, ℕ, List, IsTrue, inl, inr, length, replicate, set, arith}
+use Rattle.std.proofs.lemmas.Grind.{common_steps}
+use Rattle.std.proofs.Common.{◌≡◌, ◌<◌, ◌≤◌, ℕ, List, IsTrue, replicate, set, arith}
 use Rattle.std.proofs.lemmas.Bool.{cases_eq}
 use Rattle.std.proofs.lemmas.Grind.{get_or-set_at}
 use Rattle.std.proofs.lemmas.List.{get_or-replicate, get_or-set_other, set_past}
@@ -15,17 +16,7 @@ none_yet greater large byte below small = absurd (omega (arith, large, small, ge
 one_more : (values : List ℕ) (place byte value : ℕ) → place ≡ byte → AreDigitValues values
     → (value < 16 → IsTrue (is_hex_digit byte) × (hex_value byte ≡ value)) → AreDigitValues (set values place value)
 one_more values place byte value same are is other below small =
-    let order : (place < length values) ⊎ (length values ≤ place) = grind arith in
-    elim (cases_eq other place) [
-      | inl at ↦ elim order [
-        | inl within ↦
-            let new = get_or-set_at values place other value 0 at within in
-            rw (new, at ∙ same) (is (omega (arith, small, new)))
-        | inr past ↦ let kept = set_past values place value past in rw kept (are other below (rw kept at small))
-      ]
-      | inr apart ↦
-          let kept = get_or-set_other values place other value 0 apart in rw kept (are other below (rw kept at small))
-    ]
+    grind (arith, common_steps, cases_eq, get_or-set_at, get_or-set_other, set_past)
 
 pub loop-byte-init : goal.loop-byte-init
 loop-byte-init c = record { values = none_yet 255 (omega arith) }

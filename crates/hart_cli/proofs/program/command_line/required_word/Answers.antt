@@ -1,7 +1,0 @@
-use Rattle.std.proofs.Common.{ap, true, ◌∙◌}
-use Rattle.clap.specs.Words.{Rule, rule_of}
-use Rattle.hart_cli.proofs.program.command_line.required_word.Goals as goal
-
-pub returns-clause-rule : goal.returns-clause-rule
-returns-clause-rule c =
-    ap rule_of c.help.ensures ∙ ap rule_of c.required.ensures ∙ ap (λ (rule : Rule). record rule { required = true }) c.new.ensures.rule
