@@ -48,4 +48,4 @@ IsAnswer-one device input xs ys p q =
 
 -- a fault that is made of its cause alone
 pub made_of : {T : Type 0} (result : Result T CliFault) (cause : CliFault) → IsErrAnd result (λ fault. fault ≡ cause) → result ≡ Err cause
-made_of x0 x1 x2 = grind (arith, common_steps)
+made_of result cause made = grind (arith, common_steps)

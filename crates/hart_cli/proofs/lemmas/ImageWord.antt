@@ -1,6 +1,6 @@
 -- The device of a call, and the fault of its image, are one.
 use Rattle.std.proofs.lemmas.Grind.{common_steps}
-use Rattle.std.proofs.Common.{◌≡◌, ◌≢◌, ℕ, ◌+◌, ◌<◌, true, List, length, take, slice_index, Option, Some, None, ap, subst, sym}
+use Rattle.std.proofs.Common.{◌≡◌, ◌≢◌, ℕ, ◌+◌, ◌<◌, true, List, length, take, slice_index, Option, Some, None, subst, sym}
 use Rattle.std.proofs.Common.{◌∙◌, inl, inr, arith, refl, false, ◌/◌, ◌%◌, Result, Ok, Err}
 use Rattle.std.specs.Prelude.{MatchResult}
 use Rattle.std.specs.List.{AllPass}
@@ -41,10 +41,7 @@ IsDeviceOf-one states (Some word) device other p q =
 -- an element of the first ones, all of which are digits, is a digit
 digit_before : (word : List ℕ) (place n : ℕ) → place < n → n < length word → AllPass is_hex_digit (take n word)
     → is_hex_digit (slice_index word place) ≡ true
-digit_before word place n before below digits =
-    let long = length-take n word in
-    let digit = All-get_or (λ c. is_hex_digit c ≡ true) (take n word) place 0 (omega (arith, long)) digits in
-    ap is_hex_digit (sym (get_or-take n word place 0 before)) ∙ digit
+digit_before word place n before below digits = grind (arith, All-get_or, get_or-take, length-take)
 
 -- a word is bad hex at one place
 IsBadHexWord-one : (word : List ℕ) (place other : ℕ) → IsBadHexWord word place → IsBadHexWord word other → place ≡ other

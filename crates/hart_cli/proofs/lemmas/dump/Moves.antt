@@ -102,9 +102,7 @@ stands_long found chars from stands = grind (arith, common_steps, length-append)
 first_stands : (chars : List Character) (from : ℕ) (frames : List Found) (found : Found) (later : List Found) → AreFrames chars from frames
     → frames ≡ found ∷ later → StandsIn found chars from
 first_stands chars from _ found later (none n empty) is = absurd cc
-first_stands chars from _ found later (first n g rest is_first are) is =
-    let same : g ≡ found = cc in
-    subst (λ (f : Found). StandsIn f chars from) same is_first.stands
+first_stands chars from _ found later (first n g rest is_first are) is = grind arith
 
 -- a scanner that gives a frame lets so many characters go
 pub gives_long : (old new : Scan) (found : Found) → Gives old new found

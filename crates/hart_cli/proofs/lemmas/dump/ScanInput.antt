@@ -163,17 +163,8 @@ written {w = w} {w1 = w1} {frames = frames} w2 scanned on =
 pub stops_in : {r r2 w w1 : Stream} {frames : FrameLines} {end : Option InputEnd} {rest : List ℕ} {place : ℕ} (w2 : Stream)
     (scanned : ScannedUpTo r r2 w w1 frames end rest place) (lines last : List ℕ) → AreFrameLines scanned.chars lines
     → FailsToWrite w w2 lines → FailsToWrite w1 w2 last → StopsWriting r r2 w w2
-stops_in {r = r} {r2 = r2} {w = w} {w1 = w1} {end = end} {rest = rest} w2 scanned lines last are fails last_fails = record {
-  input = scanned.input;
-  ending = ending_of end;
-  reads = reads_to r r2 scanned.input end scanned.read;
-  chars = scanned.chars;
-  scanned = record { rest = rest; reads = scanned.reads; few = scanned.few };
-  lines = lines;
-  are_lines = are;
-  fails = fails;
-  in_time = in_time_on scanned.input w w1 w2 last_fails.0.prefix scanned.in_time last_fails.0.written;
-}
+stops_in {r = r} {r2 = r2} {w = w} {w1 = w1} {end = end} {rest = rest} w2 scanned lines last are fails last_fails =
+    grind (arith, in_time_on, reads_to)
 
 -- a write failed in the lines that were kept
 pub stopped_writing : {r r2 w w1 : Stream} {frames : FrameLines} {end : Option InputEnd} {rest : List ℕ} {place : ℕ} (w2 : Stream)

@@ -1,6 +1,6 @@
 -- The call that the words of a command line make.
 use Rattle.std.proofs.lemmas.Grind.{common_steps}
-use Rattle.std.proofs.Common.{◌≡◌, ◌∙◌, [], ap, ap₂, arith, subst, unwrap_or, codes, List, None, Option, option_map}
+use Rattle.std.proofs.Common.{◌≡◌, ◌∙◌, [], ap, arith, subst, codes, List, None, Option, option_map}
 use Rattle.std.proofs.Common.{Bool, Some, sym, true, ℕ, if◌then◌else◌}
 use Rattle.std.specs.Option.{option_and_then}
 use Rattle.std.proofs.lemmas.Bool.Decides.{nat_tests}
@@ -17,7 +17,7 @@ use Rattle.hart_cli.specs.declared.program.command_line.Call.TheVariants.{Answer
 
 -- the name in the matches is that of the subcommand entered
 subcommand_name-rows : (m : ArgMatches) → option_map (λ met. met.0) (subcommand_rows_of m) ≡ subcommand_name_of m
-subcommand_name-rows m = grind (arith, common_steps, option_map)
+subcommand_name-rows m = grind (arith, common_steps)
 
 -- what the matches of the command `hart` are
 pub record MeetsCall (words : List Text) (m : ArgMatches) : Type 0 where
@@ -44,7 +44,7 @@ gives_fault command words error is_hart kinds =
 joined : (met : Option (Text × List Row)) (name : Text) (rows : List Row) → Some name ≡ option_map (λ p. p.0) met
     → Some rows ≡ option_map (λ p. p.1) met
     → met ≡ Some (name, rows)
-joined met name rows h k = grind (arith, common_steps, ap₂, unwrap_or)
+joined met name rows h k = grind (arith, common_steps)
 
 -- what `subcommand()` gives is what was met
 pub met : (m : ArgMatches) (name : Text) (rows : List Row) → Some name ≡ subcommand_name_of m
@@ -53,7 +53,7 @@ met m name rows named with_rows = joined (subcommand_rows_of m) name rows (named
 
 -- without a name nothing was met
 pub none_met : (m : ArgMatches) → None ≡ subcommand_name_of m → None ≡ call_of (subcommand_rows_of m)
-none_met m none = grind (arith, common_steps, met, option_map, subcommand_name-rows)
+none_met m none = grind (arith, common_steps, met, subcommand_name-rows)
 
 -- the number of preamble bytes of `encode` is one that a sender may put
 counted : (word : Option Text) (count : ℕ) → option_and_then preambles_of word ≡ Some count → IsPreambleCount count

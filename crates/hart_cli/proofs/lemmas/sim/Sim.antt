@@ -1,6 +1,6 @@
 -- The text of `hart sim`: how it grows, and that an input has one at most.
 use Rattle.std.proofs.lemmas.Grind.{common_steps}
-use Rattle.std.proofs.Common.{◌≡◌, ℕ, ◌+◌, ◌<◌, List, [], ◌∷◌, ◌++◌, length, take, drop, get_or, min, refl, sym, ap, ap₂, ◌∙◌}
+use Rattle.std.proofs.Common.{◌≡◌, ℕ, ◌+◌, ◌<◌, List, [], ◌∷◌, ◌++◌, length, take, drop, get_or, min, refl, sym, ap, ◌∙◌}
 use Rattle.std.proofs.Common.{subst, arith, ◌≤◌, add-zero, length-append, length-take}
 use Rattle.std.proofs.lemmas.Grind.{flat_map-append}
 use Rattle.std.proofs.lemmas.List.{flat_map_more, take-append-drop, take_more}
@@ -17,7 +17,6 @@ use Rattle.hart_line.specs.world.Spoken.{AreSpoken, SpokenFrame}
 use Rattle.hart_line.specs.world.Step.{IsLast}
 use Rattle.hart_line.specs.world.World.{Start, World, state_of}
 use Rattle.hart_line.specs.declared.event.LineEvent.{LineEvent}
-use Rattle.hart_line.specs.declared.fault.Leg.{Leg}
 use Rattle.hart_line.proofs.lemmas.Laws.{scripts_have_one_last_world-no_fault, scripts_have_one_last_world-one_fault}
 use Rattle.hart_line.proofs.lemmas.Laws.{scripts_have_one_last_world-one_world}
 use Rattle.hart_line.specs.declared.fault.LineFault.{LineFault}
@@ -31,9 +30,7 @@ use Rattle.hart_cli.specs.sim.Text.{outcome_line, sim_text}
 numbered_on : {X : Type 0} (n : ℕ) (xs more : List X)
     → enumerate_from n (xs ++ more) ≡ enumerate_from n xs ++ enumerate_from (n + length xs) more
 numbered_on n [] more = ap (λ (k : ℕ). enumerate_from k more) (sym (add-zero n))
-numbered_on n (x ∷ xs) more =
-    let same : n + 1 + length xs ≡ n + length (x ∷ xs) = omega arith in
-    ap (λ zs. (n, x) ∷ zs) (numbered_on (n + 1) xs more ∙ ap (λ (k : ℕ). enumerate_from (n + 1) xs ++ enumerate_from k more) same)
+numbered_on n (x ∷ xs) more = grind (arith, numbered_on (n + 1) xs more)
 
 -- the line of one more submission
 pub outcomes_more : (text before line : List ℕ) (outcomes : List Outcome) (i : ℕ) (d : Outcome) → i < length outcomes
@@ -81,22 +78,19 @@ pub IsSimulation-run : (first : DeviceState) (input text : List ℕ) (start : St
     → ((world : World) → IsLast start events world → AreSpoken world.spoken spoken)
     → text ≡ sim_text spoken outcomes device → IsSimulation first input text
 IsSimulation-run first input text start read events device outcomes spoken same script same_events last devices results said text_is =
-    grind (arith, common_steps, ap₂)
+    grind (arith, common_steps)
 
 same_spoken : (x y : Spoken) → x.party ≡ y.party → x.preambles ≡ y.preambles → x.bytes ≡ y.bytes → x ≡ y
-same_spoken x y party preambles bytes = grind (arith, common_steps, ap₂)
+same_spoken x y party preambles bytes = grind (arith, common_steps)
 
 -- frames are spoken in one way
 AreSpoken-one : (frames : List SpokenFrame) (xs ys : List Spoken) → AreSpoken frames xs → AreSpoken frames ys → xs ≡ ys
-AreSpoken-one [] [] [] p q = refl
-AreSpoken-one [] [] (y ∷ ys) p q = absurd q
-AreSpoken-one [] (x ∷ xs) ys p q = absurd p
-AreSpoken-one (said ∷ frames) [] ys p q = absurd p
-AreSpoken-one (said ∷ frames) (x ∷ xs) [] p q = absurd q
+AreSpoken-one [] xs ys p q = grind arith
 AreSpoken-one (said ∷ frames) (x ∷ xs) (y ∷ ys) p q =
-    let first = same_spoken x y (p.0.party ∙ sym q.0.party) (p.0.preambles ∙ sym q.0.preambles)
-    (bodies_are_unambiguous-one_body said.frame x.bytes y.bytes p.0.body q.0.body) in
-    ap₂ (λ (z : Spoken) (zs : List Spoken). z ∷ zs) first (AreSpoken-one frames xs ys p.1 q.1)
+    let body = bodies_are_unambiguous-one_body said.frame x.bytes y.bytes p.0.body q.0.body in
+    let rest = AreSpoken-one frames xs ys p.1 q.1 in
+    grind (arith, p.0, q.0, body, rest, same_spoken)
+AreSpoken-one (said ∷ frames) xs ys p q = grind arith
 
 -- a world has one text
 IsWorldText-one : (start : Start) (world : World) (xs ys : List ℕ) → IsWorldText start world xs → IsWorldText start world ys
@@ -128,18 +122,11 @@ IsSimulation-faultless device input text (line_faults.Memory none) p bad = bad
 -- an input has one fault
 pub HasLineFault-one : (device : DeviceState) (input : List ℕ)
     (fault other : LineFault) → HasLineFault device input fault → HasLineFault device input other → fault ≡ other
-HasLineFault-one device input (line_faults.BadLine number) (line_faults.BadLine other) p q =
-    ap (λ (n : ℕ). line_faults.BadLine n) (cc (p, q))
-HasLineFault-one device input (line_faults.BadLine number) (line_faults.Undetected other leg) p q =
-    cc (q.script.0, p)
-HasLineFault-one device input (line_faults.Undetected number leg) (line_faults.BadLine other) p q =
-    cc (p.script.0, q)
-HasLineFault-one device input (line_faults.Undetected number leg) (line_faults.Undetected other another)
-    p q =
+HasLineFault-one device input (line_faults.BadLine number) other p q = grind arith
+HasLineFault-one device input (line_faults.Undetected number leg) (line_faults.Undetected other another) p q =
     let At : List LineEvent → Type 0 = λ events. IsFault (start_with device) events (line_faults.Undetected number leg) in
     let same = scripts_have_one_last_world-one_fault (start_with device) q.events number other leg another
     (subst At (p.script.1 ∙ sym q.script.1) p.is_fault) q.is_fault in
-    ap₂ (λ (n : ℕ) (l : Leg). line_faults.Undetected n l) same.0 same.1
+    cc (same.0, same.1)
+HasLineFault-one device input (line_faults.Undetected number leg) other p q = grind arith
 HasLineFault-one device input (line_faults.Memory none) other p q = absurd p
-HasLineFault-one device input (line_faults.BadLine number) (line_faults.Memory none) p q = absurd q
-HasLineFault-one device input (line_faults.Undetected number leg) (line_faults.Memory none) p q = absurd q

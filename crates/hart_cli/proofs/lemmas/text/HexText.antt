@@ -1,8 +1,8 @@
 -- Upper case hex, and one more byte in a line of it.
 use Rattle.std.proofs.lemmas.Grind.{common_steps}
-use Rattle.std.proofs.Common.{◌≡◌, ℕ, ◌<◌, ◌≤◌, ◌+◌, ◌*◌, ◌/◌, ◌%◌, List, [], ◌∷◌, ◌++◌, length, take, map, get_or, refl, sym}
+use Rattle.std.proofs.Common.{◌≡◌, ℕ, ◌<◌, ◌≤◌, ◌+◌, ◌*◌, List, [], ◌∷◌, ◌++◌, length, take, map, get_or, refl, sym}
 use Rattle.std.proofs.Common.{ap}
-use Rattle.std.proofs.Common.{ap₂, ◌∙◌, append_assoc, arith, length-append, slice_index}
+use Rattle.std.proofs.Common.{append_assoc, arith, length-append}
 use Rattle.std.proofs.Math.ListN.{get_or-map}
 use Rattle.std.specs.Char.{to_ascii_uppercase}
 use Rattle.std.specs.List.{join_with_byte}
@@ -19,16 +19,13 @@ upper_digit n = sym (get_or-map to_ascii_uppercase lower_digits n 0)
 pub upper-encode_lower : (bytes : List ℕ) → map to_ascii_uppercase (encode_lower bytes) ≡ encode_upper bytes
 unfolding encode_with
 upper-encode_lower [] = refl
-upper-encode_lower (byte ∷ bytes) =
-    ap₂ (λ (digit : ℕ) (digits : List ℕ). digit ∷ digits) (upper_digit (byte / 16))
-    (ap₂ (λ (digit : ℕ) (digits : List ℕ). digit ∷ digits) (upper_digit (byte % 16)) (upper-encode_lower bytes))
+upper-encode_lower (byte ∷ bytes) = grind (arith, upper_digit, upper-encode_lower bytes)
 
 -- one more part after the last of one or more
 join_with_byte-push : (c : ℕ) (x : List ℕ) (xs : List (List ℕ)) (y : List ℕ)
     → join_with_byte c ((x ∷ xs) ++ y ∷ []) ≡ join_with_byte c (x ∷ xs) ++ c ∷ y
 join_with_byte-push c x [] y = refl
-join_with_byte-push c x (z ∷ zs) y =
-    ap (λ (ws : List ℕ). x ++ c ∷ ws) (join_with_byte-push c z zs y) ∙ sym (append_assoc x (c ∷ join_with_byte c (z ∷ zs)) (c ∷ y))
+join_with_byte-push c x (z ∷ zs) y = grind (arith, append_assoc, join_with_byte-push c z zs y)
 
 -- the first byte
 pub hex_items-first : (bytes line digits : List ℕ) (i d : ℕ) → i ≤ 0 → i < length bytes → line ≡ hex_items (take i bytes)
@@ -44,9 +41,7 @@ hex_items-more bytes line digits i d h k e n = grind (arith, common_steps, appen
 encode_upper-append : (bytes more : List ℕ) → encode_upper (bytes ++ more) ≡ encode_upper bytes ++ encode_upper more
 unfolding encode_with
 encode_upper-append [] more = refl
-encode_upper-append (byte ∷ bytes) more =
-    ap (λ (digits : List ℕ). slice_index upper_digits (byte / 16) ∷ slice_index upper_digits (byte % 16) ∷ digits)
-    (encode_upper-append bytes more)
+encode_upper-append (byte ∷ bytes) more = grind (arith, encode_upper-append bytes more)
 
 -- no bytes have no digits
 pub encode_upper-none : (line : List ℕ) → line ≡ line ++ encode_upper []

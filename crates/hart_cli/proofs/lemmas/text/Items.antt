@@ -90,10 +90,7 @@ stays rest chars last h k = grind (arith, common_steps)
 -- a text reads in one way up to where no piece begins
 pub one_reading : (text : List ℕ) (xs : List Character) (rest : List ℕ) (ys : List Character) (last : List ℕ) → ReadsUpTo text xs rest
     → ReadsUpTo text ys last → NoPieceBegins rest → NoPieceBegins last → (xs ≡ ys) × (rest ≡ last)
-one_reading text xs rest ys last h k n m =
-    let on = goes_on text xs rest ys last h k m in
-    let still = stays rest on.between last on.reads n in
-    (sym (on.chars ∙ ap (λ (us : List Character). xs ++ us) still.0 ∙ append-nil xs), still.1)
+one_reading text xs rest ys last h k n m = grind (arith, append-nil, goes_on, stays)
 
 -- a piece has a length
 spelling-length : (p : Piece) → 0 < length (spelling p)
@@ -101,7 +98,7 @@ spelling-length p = grind (arith, common_steps)
 
 -- no piece begins at the end
 pub NoPieceBegins-nil : NoPieceBegins []
-NoPieceBegins-nil x0 x1 x2 = grind (arith, common_steps)
+NoPieceBegins-nil p tail h = grind (arith, common_steps)
 
 -- something has a length
 some_length : (xs : List ℕ) → (xs ≡ [] → ⊥) → 0 < length xs
@@ -150,9 +147,4 @@ piece_read text chars new place char len within r b e = grind (arith, common_ste
 pub ReadsUpTo-few : (text : List ℕ) (chars : List Character) (rest : List ℕ) → ReadsUpTo text chars rest
     → 2 * length chars + length rest ≤ length text
 ReadsUpTo-few _ _ _ (nothing rest) = omega arith
-ReadsUpTo-few _ _ _ (piece text p tail chars rest h r) =
-    let few = ReadsUpTo-few tail chars rest r in
-    let one = few_meant p in
-    let long = ap (λ (us : List ℕ). length us) h.spelled ∙ length-append (spelling p) tail in
-    let all = length-append (meaning p) chars in
-    omega (arith, few, one, long, all)
+ReadsUpTo-few _ _ _ (piece text p tail chars rest h r) = grind (arith, few_meant, length-append, ReadsUpTo-few tail chars rest r)

@@ -1,5 +1,6 @@
 -- One write after another, on the bytes that are known.
-use Rattle.std.proofs.Common.{◌≡◌, ℕ, List, ◌++◌, Option, sym, ap, ◌∙◌, append_assoc, ◌-◌, length, take, drop}
+use Rattle.std.proofs.Common.{arith}
+use Rattle.std.proofs.Common.{◌≡◌, ℕ, List, ◌++◌, Option, append_assoc, ◌-◌, length, take, drop}
 use Rattle.std.proofs.lemmas.List.{take_rest, take-append-drop}
 use Rattle.std.proofs.KnownBytes.{Appends-trans}
 use Rattle.std.specs.Io.KnownBytes.{Appends}
@@ -13,12 +14,4 @@ pub record AppendsUpTo (old new : Option (List ℕ)) (text rest : List ℕ) : Ty
 -- one write more
 pub AppendsUpTo-more : (a b c : Option (List ℕ)) (text rest : List ℕ) (n m : ℕ) → m ≡ length rest - n → AppendsUpTo a b text rest
     → Appends b c (take n rest) → AppendsUpTo a c text (take m (drop n rest))
-AppendsUpTo-more a b c text rest n m e h k =
-    let left : take m (drop n rest) ≡ drop n rest = ap (λ (i : ℕ). take i (drop n rest)) e ∙ take_rest rest n in
-    record {
-      prefix = h.prefix ++ take n rest;
-      split = h.split ∙ ap (λ (xs : List ℕ). h.prefix ++ xs) (sym (take-append-drop n rest))
-          ∙ sym (append_assoc h.prefix (take n rest) (drop n rest))
-          ∙ ap (λ (xs : List ℕ). (h.prefix ++ take n rest) ++ xs) (sym left);
-      appended = Appends-trans a b c h.prefix (take n rest) h.appended k;
-    }
+AppendsUpTo-more a b c text rest n m e h k = grind (arith, Appends-trans, append_assoc, take-append-drop, take_rest)

@@ -1,5 +1,5 @@
 use Rattle.std.proofs.lemmas.Grind.{common_steps}
-use Rattle.std.proofs.Common.{◌≡◌, arith, true, unwrap_or, ℕ, None, Option, Some, Result}
+use Rattle.std.proofs.Common.{◌≡◌, arith, true, ℕ, None, Option, Some, Result}
 use Rattle.std.specs.Result.{result_ok}
 use Rattle.std.specs.Str.{all_ascii_digits}
 use Rattle.std.specs.Str.Parse.{ParsesUnsigned, digits_value}
@@ -17,17 +17,15 @@ digits_tell = numerals_by_value (λ ds. all_ascii_digits ds ≡ true) tells_all_
 -- a word that is not read as a number writes none
 not_read : {E : Type 0} (word : Text) (read : Result ℕ E) (found : Option ℕ) → ParsesUnsigned 8 10 word read → found ≡ result_ok read
     → found ≡ None → None ≡ preambles_of word
-not_read x0 x1 x2 x3 x4 x5 = grind (arith, common_steps, digits_tell, nat_tests)
+not_read word read found parses is none = grind (arith, common_steps, digits_tell, nat_tests)
 
 -- and one that is read as a number from 5 to 20 writes it
 is_read : {E : Type 0} (word : Text) (read : Result ℕ E) (found : Option ℕ) (count : ℕ) → ParsesUnsigned 8 10 word read
     → found ≡ result_ok read → found ≡ Some count → IsPreambleCount count → Some count ≡ preambles_of word
-is_read x0 x1 x2 x3 x4 x5 x6 x7 = grind (arith, common_steps, digits_tell, nat_tests, unwrap_or)
+is_read word read found count parses is some fits = grind (arith, common_steps, digits_tell, nat_tests)
 
 pub returns-in_err-count : goal.returns-in_err-count
 returns-in_err-count c = grind (arith, common_steps, not_read)
 
 pub returns : goal.returns
-returns c =
-    is_read c.args.word.now c.parse.result _ _ c.parse.ensures.value.0 c.ok.ensures.value c.in_ok-count.was
-    (c.is_preamble_count.ensures.0 c.if-not-is_preamble_count.false)
+returns c = grind (arith, is_read)

@@ -29,11 +29,7 @@ scan_chunk-requires c =
 -- the chunk is scanned
 scanned : (c : After-scan_chunk) → ScansText c.args.self.now c.scan_chunk.new.self c.args.text.now
     (take (length c.loop-lead.rest.now - c.read_chunk-len.result) (drop c.read_chunk-len.result c.loop-lead.rest.now))
-scanned c =
-    let loop = c.loop-lead.invariant in
-    rw (take_rest c.loop-lead.rest.now c.read_chunk-len.result)
-    (text_on c.args.self.now c.loop-lead.self c.scan_chunk.new.self (faultless c.read_chunk-len.new.chunk) loop.scans c.requires.waiting
-    loop.waiting c.read_chunk-len.ensures.reads (rw c.as_slice.ensures.value at c.scan_chunk.ensures.scans))
+scanned c = grind (arith, take_rest, text_on)
 
 pub returns-in_default-clause-within : goal.returns-in_default-clause-within
 returns-in_default-clause-within c = grind (arith, common_steps, After-scan_chunk, ReadsUpTo-few, scanned)
