@@ -32,11 +32,9 @@ OneImageFault = (image : List ℕ) (fault other : DeviceFault) → IsImageFault 
 -- a call has one device
 pub IsDeviceOf-one : OneState → (image : Option (List ℕ)) (device other : DeviceState) → IsDeviceOf image device
     → IsDeviceOf image other → device ≡ other
-IsDeviceOf-one states None device other p q = p ∙ sym q
+IsDeviceOf-one states None device other p q = cc
 IsDeviceOf-one states (Some word) device other p q =
-    let same = decode_of-same word p.2 q.2 p.3 q.3 in
-    let of : IsImageOf device q.2 = subst (λ (image : List ℕ). IsImageOf device image) same p.4 in
-    states device other q.2 of q.4 (p.0 ∙ sym q.0) (p.1 ∙ sym q.1)
+    states device other q.2 (rw (decode_of-same word p.2 q.2 p.3 q.3) at p.4) q.4 (cc (p.0, q.0)) (cc (p.1, q.1))
 
 -- an element of the first ones, all of which are digits, is a digit
 digit_before : (word : List ℕ) (place n : ℕ) → place < n → n < length word → AllPass is_hex_digit (take n word)
@@ -57,13 +55,9 @@ IsBadHexWord-one word place other (IsBadHexWord.no_digit _ even below none digit
 
 -- a word that is bad hex is that of no image
 bad_is_no_word : (word : List ℕ) (place : ℕ) (bytes : List ℕ) → IsBadHexWord word place → IsImageWord word bytes → ⊥
-bad_is_no_word word _ bytes (IsBadHexWord.odd is) writes =
-    let ok = decode_of-ok word bytes writes in
-    omega (arith, is, ok.0)
+bad_is_no_word word _ bytes (IsBadHexWord.odd is) writes = grind (arith, decode_of-ok word bytes writes)
 bad_is_no_word word place bytes (IsBadHexWord.no_digit _ even below none digits) writes =
-    let ok = decode_of-ok word bytes writes in
-    let digit = All-get_or (λ c. is_hex_digit c ≡ true) word place 0 below ok.1 in
-    cc (none, digit)
+    cc (none, All-get_or (λ c. is_hex_digit c ≡ true) word place 0 below (decode_of-ok word bytes writes).1)
 
 -- a word decodes into room for half as many bytes as if there were more
 half_sized : (word : List ℕ) → decode_sized word (length word / 2) ≡ decode_of word

@@ -1,6 +1,6 @@
 -- What `hart dump` writes, from what was scanned.
 use Rattle.std.proofs.lemmas.Grind.{common_steps}
-use Rattle.std.proofs.Common.{◌≡◌, ℕ, List, [], ◌∷◌, ◌++◌, None, Option, Some, Err, inl, inr, refl, subst, arith}
+use Rattle.std.proofs.Common.{◌≡◌, ℕ, List, [], ◌∷◌, ◌++◌, None, Option, Some, Err, inl, inr, refl, arith}
 use Rattle.std.proofs.Common.{length-append}
 use Rattle.hart_frame.specs.heard.Character.{Character}
 use Rattle.hart_frame.specs.scan.Scanner.{Scan, finishing}
@@ -29,8 +29,7 @@ pub IsDump-one : (input : List ℕ) (ending : Ending) (f g : Option CliFault) (x
     → IsDump input ending f xs → IsDump input ending g ys → (f ≡ g) × (xs ≡ ys)
 IsDump-one input ending f g xs ys p q =
     let same = one_input input ending p.chars q.chars f g p.has_chars q.has_chars in
-    let P : List Character → Type 0 = λ chars. AreFrameLines chars xs in
-    (same.1, AreFrameLines-one q.chars xs ys (subst P same.0 p.are_lines) q.are_lines)
+    (same.1, AreFrameLines-one q.chars xs ys (rw same.0 at p.are_lines) q.are_lines)
 
 -- an input has this fault, if any, and these lines
 dumped : {r r' : Stream} {fault : Option CliFault} {lines : List ℕ} (input : List ℕ) (ending : Ending) (chars : List Character)

@@ -1,8 +1,7 @@
 -- The lines that are kept while characters are scanned.
 use Rattle.std.proofs.lemmas.Grind.{common_steps}
-use Rattle.std.proofs.Common.{◌≡◌, ◌≤◌, ◌+◌, ◌*◌, ℕ, List, [], ◌++◌, false, true, length, inl, inr}
+use Rattle.std.proofs.Common.{◌≡◌, ◌≤◌, ◌+◌, ◌*◌, ℕ, List, [], ◌++◌, false, true, length}
 use Rattle.std.proofs.Common.{sym, ap, ◌∙◌, append_assoc, subst, arith, length-append, drop, take, take-take}
-use Rattle.std.proofs.lemmas.Bool.{false≢true}
 use Rattle.std.proofs.lemmas.List.{append-nil, drop-take, length-map, map-append, take-append-drop}
 use Rattle.hart_frame.specs.heard.Character.{Character, faultless}
 use Rattle.hart_frame.specs.scan.Scanner.{Ends, GivesNothing, MovesPast, Scan, Waits, finishing, hearing, new_scan}
@@ -35,9 +34,7 @@ pub keeps_then : (a b c : Scan) (p q r : List ℕ) → KeepsLines a b p q → Ke
 keeps_then a b c p q r one two = record {
   given = one.given ++ two.given;
   moves = moves_then a b c one.given two.given one.moves two.moves;
-  lines = two.lines ∙ ap (λ (xs : List ℕ). xs ++ dump_text two.given) one.lines
-      ∙ append_assoc p (dump_text one.given) (dump_text two.given)
-      ∙ ap (λ (xs : List ℕ). p ++ xs) (sym (dump_text-append one.given two.given));
+  lines = grind (arith, one.lines, two.lines, append_assoc, dump_text-append one.given two.given);
   few = omega (arith, one.few, two.few);
 }
 
@@ -106,8 +103,7 @@ waits_for_more old new p q going few all =
     )
   where
     waits_of : (old new : Scan) → old.finished ≡ false → GivesNothing old new → Waits old new
-    waits_of old new going (inl waits) = waits
-    waits_of old new going (inr ends) = absurd (false≢true (sym going ∙ ends.finished))
+    waits_of old new going gives = grind arith
 
 -- once a scanner that was new has ended, the lines that were kept of it are all
 pub all_lines : (chars : List Character) (scan new : Scan) (text rest : List ℕ) → KeepsLines (hearing new_scan chars) scan [] text
@@ -116,14 +112,11 @@ all_lines chars scan new text rest keeps all = record {
   frames = keeps.given ++ (all.keeps.given ++ []);
   are_frames = all_frames chars scan all.last new keeps.given all.keeps.given keeps.moves all.keeps.moves
       (ends_of all.last new all.same_finish all.nothing);
-  text = ap (λ (xs : List ℕ). xs ++ rest) keeps.lines ∙ ap (λ (xs : List ℕ). dump_text keeps.given ++ xs) all.keeps.lines
-      ∙ sym (dump_text-append keeps.given all.keeps.given)
-      ∙ ap (λ (fs : List Found). dump_text (keeps.given ++ fs)) (sym (append-nil all.keeps.given));
+  text = grind (arith, keeps.lines, all.keeps.lines, append-nil, dump_text-append);
 }
   where
     ends_of : (old new : Scan) → old.finished ≡ true → GivesNothing old new → Ends old new
-    ends_of old new finished (inl waits) = absurd (false≢true (sym waits.going ∙ finished))
-    ends_of old new finished (inr ends) = ends
+    ends_of old new finished gives = grind arith
 
 -- a prefix of the lines that were kept is one of all lines
 pub stopped_lines : (chars : List Character) (scan : Scan) (text : List ℕ) (old new : Stream)
@@ -146,14 +139,9 @@ length-faultless bytes = length-map bytes _
 
 -- what is taken at once is what is taken in two parts
 take_parts : (n m : ℕ) (xs : List ℕ) → take n xs ++ take m (drop n xs) ≡ take (n + m) xs
-take_parts n m xs =
-    ap (λ (ys : List ℕ). ys ++ take m (drop n xs)) (sym (take-take n (n + m) xs (omega arith)))
-    ∙ ap (λ (ys : List ℕ). take n (take (n + m) xs) ++ ys) (sym (drop-take n m xs))
-    ∙ take-append-drop n (take (n + m) xs)
+take_parts n m xs = grind (arith, take-append-drop n (take (n + m) xs), take-take n (n + m) xs, drop-take n m xs)
 
 -- the faultless characters of two parts of a chunk
 pub faultless_parts : (chunk rest : List ℕ) (n m : ℕ) → rest ≡ drop n chunk
     → faultless (take n chunk) ++ faultless (take m rest) ≡ faultless (take (n + m) chunk)
-faultless_parts chunk rest n m is =
-    sym (map-append _ (take n chunk) (take m rest)) ∙ ap (λ (ys : List ℕ). faultless (take n chunk ++ take m ys)) is
-    ∙ ap faultless (take_parts n m chunk)
+faultless_parts chunk rest n m is = rw (is, ← take_parts n m chunk) (sym (map-append _ (take n chunk) (take m (drop n chunk))))

@@ -24,8 +24,7 @@ pub moves_then : (a b c : Scan) (xs ys : List Found) → MovesPast a b xs → Mo
 moves_then a b c xs ys one two = record {
   heard = λ more chars can. two.heard more chars (one.heard more chars can);
   frames = λ more chars later can are.
-      let Of : List Found → Type 0 = λ fs. AreFrames chars a.first fs in
-      subst Of (sym (append_assoc xs ys later))
+      rw (append_assoc xs ys later)
       (one.frames more chars (ys ++ later) can (two.frames more chars later (one.heard more chars can) are));
 }
 
@@ -167,14 +166,11 @@ all_frames chars scan last after given more moves on ends =
     let can : CanHear (finishing scan) [] chars =
     record { prefix = held.prefix; split = held.split; place = held.place; ended = λ finished. refl } in
     let end = on.heard [] chars can in
-    let split : chars ≡ end.prefix ++ last.held = end.split ∙ ap (λ (cs : List Character). end.prefix ++ cs) (append-nil last.held) in
+    let split : chars ≡ end.prefix ++ last.held = rw append-nil at end.split in
     let empty : HasNoFrame chars last.first =
-    subst (λ (n : ℕ). HasNoFrame chars n) end.place
-    (subst (λ (cs : List Character). HasNoFrame cs (length end.prefix)) (sym split) (no_frame_held end.prefix last.held ends.none)) in
+    rw (split, ← end.place) (no_frame_held end.prefix last.held ends.none) in
     let are = on.frames [] chars [] can (AreFrames.none last.first empty) in
-    let Of : List Character → Type 0 = λ cs. AreFrames cs 0 (given ++ (more ++ [])) in
-    let From : List Character → Type 0 = λ cs. AreFrames cs scan.first (more ++ []) in
-    subst Of (append-nil chars) (first_frames chars [] scan given (more ++ []) moves (subst From (sym (append-nil chars)) are))
+    rw append-nil at (first_frames chars [] scan given (more ++ []) moves (rw append-nil are))
 
 -- a new scanner waits for what it is to hear
 pub new_waits : IsWaiting new_scan

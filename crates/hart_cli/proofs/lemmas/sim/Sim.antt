@@ -1,7 +1,7 @@
 -- The text of `hart sim`: how it grows, and that an input has one at most.
 use Rattle.std.proofs.lemmas.Grind.{common_steps}
 use Rattle.std.proofs.Common.{◌≡◌, ℕ, ◌+◌, ◌<◌, List, [], ◌∷◌, ◌++◌, length, take, drop, get_or, min, refl, sym, ap, ◌∙◌}
-use Rattle.std.proofs.Common.{subst, arith, ◌≤◌, add-zero, length-append, length-take}
+use Rattle.std.proofs.Common.{arith, ◌≤◌, add-zero, length-append, length-take}
 use Rattle.std.proofs.lemmas.Grind.{flat_map-append}
 use Rattle.std.proofs.lemmas.List.{flat_map_more, take-append-drop, take_more}
 use Rattle.std.specs.List.{enumerate_from, flat_map}
@@ -10,7 +10,6 @@ use Rattle.hart_device.specs.Device.{DeviceState}
 use Rattle.hart_device.specs.declared.process.Process.{Process}
 use Rattle.hart_frame.proofs.lemmas.Laws.{bodies_are_unambiguous-one_body}
 use Rattle.hart_line.specs.world.Promises.{start_from}
-use Rattle.hart_line.specs.world.Faults.{IsFault}
 use Rattle.hart_line.specs.script.Rows.{IsScript}
 use Rattle.hart_master.specs.Master.{MasterState}
 use Rattle.hart_line.specs.world.Spoken.{AreSpoken, SpokenFrame}
@@ -44,14 +43,8 @@ outcomes_more text before line outcomes i d below text_is line_is =
 pub outcomes_fit : (outcomes : List Outcome) (i : ℕ) → length (flat_map outcome_line (enumerate_from 1 (take i outcomes)))
     ≤ length (flat_map outcome_line (enumerate_from 1 outcomes))
 outcomes_fit outcomes i =
-    let first = enumerate_from 1 (take i outcomes) in
-    let rest = enumerate_from (1 + length (take i outcomes)) (drop i outcomes) in
-    let all = ap (λ (xs : List Outcome). enumerate_from 1 xs) (sym (take-append-drop i outcomes))
-    ∙ numbered_on 1 (take i outcomes) (drop i outcomes) in
-    let long = ap (λ (xs : List (ℕ × Outcome)). length (flat_map outcome_line xs)) all
-    ∙ ap (λ (xs : List ℕ). length xs) (flat_map-append outcome_line first rest)
-    ∙ length-append (flat_map outcome_line first) (flat_map outcome_line rest) in
-    omega (arith, long)
+    let all = numbered_on 1 (take i outcomes) (drop i outcomes) in
+    grind (arith, all, take-append-drop i outcomes, flat_map-append, length-append)
 
 -- the length of the lines up to one more submission, if it is not above the greatest number
 pub outcomes_longer : (len most : ℕ) (line : List ℕ) (outcomes : List Outcome) (i : ℕ) (d : Outcome) → i < length outcomes
@@ -60,9 +53,7 @@ pub outcomes_longer : (len most : ℕ) (line : List ℕ) (outcomes : List Outcom
     → min (len + length line) most ≡ min (length (flat_map outcome_line (enumerate_from 1 (take (i + 1) outcomes)))) most
 outcomes_longer len most line outcomes i d below len_is line_is =
     let before = flat_map outcome_line (enumerate_from 1 (take i outcomes)) in
-    let more = outcomes_more before [] line outcomes i d below refl line_is in
-    let long = sym (length-append before line) ∙ ap (λ (xs : List ℕ). length xs) more in
-    rw (sym long, len_is) (omega arith)
+    omega (arith, length-append before line, ap length (outcomes_more before [] line outcomes i d below refl line_is))
 
 -- a script starts with the device
 pub same_start : (device : DeviceState) (process : Process) (primary secondary : MasterState) → process ≡ bench_process
@@ -101,22 +92,19 @@ IsWorldText-one start world xs ys p q = grind (arith, common_steps, AreSpoken-on
 pub IsSimulation-one : (device : DeviceState) (input xs ys : List ℕ)
     → IsSimulation device input xs → IsSimulation device input ys → xs ≡ ys
 IsSimulation-one device input xs ys p q =
-    let start = start_with device in
-    let Leads : List LineEvent → Type 0 = λ events. IsLast start events p.world in
-    let led = subst Leads (p.script.1 ∙ sym q.script.1) p.last in
-    let Says : World → Type 0 = λ world. IsWorldText start world xs in
-    let same = scripts_have_one_last_world-one_world start q.events p.world q.world led q.last in
-    IsWorldText-one start q.world xs ys (subst Says same p.world_text) q.world_text
+    grind (
+      arith,
+      scripts_have_one_last_world-one_world (start_with device) q.events p.world q.world,
+      IsWorldText-one (start_with device) q.world xs ys,
+    )
 
 -- an input with a text has no fault
 pub IsSimulation-faultless : (device : DeviceState) (input text : List ℕ) (fault : LineFault)
     → IsSimulation device input text → HasLineFault device input fault → ⊥
-IsSimulation-faultless device input text (line_faults.BadLine number) p bad =
-    cc (p.script.0, bad)
+IsSimulation-faultless device input text (line_faults.BadLine number) p bad = grind arith
 IsSimulation-faultless device input text (line_faults.Undetected number leg) p damage =
-    let Leads : List LineEvent → Type 0 = λ events. IsLast (start_with device) events p.world in
     scripts_have_one_last_world-no_fault (start_with device) damage.events p.world number leg
-    (subst Leads (p.script.1 ∙ sym damage.script.1) p.last) damage.is_fault
+    (rw (p.script.1 ∙ sym damage.script.1) at p.last) damage.is_fault
 IsSimulation-faultless device input text (line_faults.Memory none) p bad = bad
 
 -- an input has one fault
@@ -124,9 +112,8 @@ pub HasLineFault-one : (device : DeviceState) (input : List ℕ)
     (fault other : LineFault) → HasLineFault device input fault → HasLineFault device input other → fault ≡ other
 HasLineFault-one device input (line_faults.BadLine number) other p q = grind arith
 HasLineFault-one device input (line_faults.Undetected number leg) (line_faults.Undetected other another) p q =
-    let At : List LineEvent → Type 0 = λ events. IsFault (start_with device) events (line_faults.Undetected number leg) in
     let same = scripts_have_one_last_world-one_fault (start_with device) q.events number other leg another
-    (subst At (p.script.1 ∙ sym q.script.1) p.is_fault) q.is_fault in
+    (rw (p.script.1 ∙ sym q.script.1) at p.is_fault) q.is_fault in
     cc (same.0, same.1)
 HasLineFault-one device input (line_faults.Undetected number leg) other p q = grind arith
 HasLineFault-one device input (line_faults.Memory none) other p q = absurd p

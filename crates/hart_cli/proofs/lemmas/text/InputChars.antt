@@ -1,13 +1,12 @@
 -- An input has one list of characters.
 use Rattle.std.proofs.lemmas.Grind.{common_steps}
-use Rattle.std.proofs.Common.{◌≡◌, ℕ, ◌+◌, List, [], ◌∷◌, ◌++◌, length, inl, Option, Some, refl, sym, ap, subst, arith}
+use Rattle.std.proofs.Common.{◌≡◌, ℕ, ◌+◌, List, [], ◌∷◌, ◌++◌, length, inl, Option, refl, sym, subst, arith}
 use Rattle.std.proofs.lemmas.List.{append-nil, length-append}
 use Rattle.hart_frame.specs.heard.Character.{Character}
 use Rattle.hart_cli.specs.input.Input.{Ending}
 use Rattle.hart_cli.specs.text.InputChars.{all, bad_hex, decided_bad_hex, failure, HasChars, limit}
 use Rattle.hart_cli.specs.text.Items.{closed, HasBadHex, IsDecidedBadHexAt, MayBegin, ReadsSoFarAs, ReadsUpTo, Separator}
 use Rattle.hart_cli.specs.declared.fault.CliFault.{CliFault}
-use Rattle.hart_cli.specs.declared.fault.CliFault.TheVariants as faults
 use Rattle.hart_cli.proofs.lemmas.text.Items.{NoPieceBegins-nil, one_reading, ReadsUpTo-more}
 
 -- bad hex is at one place, after the same characters
@@ -34,13 +33,11 @@ one_so_far text xs ys h k = (one_reading text xs h.rest ys k.rest h.reads k.read
 -- an input has one list of characters and one fault
 pub one_input : (text : List ℕ) (ending : Ending) (xs ys : List Character) (f g : Option CliFault)
     → HasChars text ending xs f → HasChars text ending ys g → (xs ≡ ys) × (f ≡ g)
-one_input text _ _ _ _ _ (all xs h) (all ys k) = ((one_reading (closed text) xs [] ys [] h k NoPieceBegins-nil NoPieceBegins-nil).0, refl)
 one_input text _ _ _ _ _ (all xs h) (bad_hex ys q k) = absurd (not_both (closed text) xs ys q h k)
+one_input text _ _ _ _ _ (all xs h) (all ys k) = ((one_reading (closed text) xs [] ys [] h k NoPieceBegins-nil NoPieceBegins-nil).0, refl)
 one_input text _ _ _ _ _ (bad_hex xs p h) (all ys k) = absurd (not_both (closed text) ys xs p k h)
-one_input text _ _ _ _ _ (bad_hex xs p h) (bad_hex ys q k) =
-    let same = one_place (closed text) xs ys p q h k in (same.0, ap (λ (n : ℕ). Some (faults.BadHex n)) same.1)
-one_input text _ _ _ _ _ (decided_bad_hex xs p h) (decided_bad_hex ys q k) =
-    let same = one_decided text xs ys p q h k in (same.0, ap (λ (n : ℕ). Some (faults.BadHex n)) same.1)
+one_input text _ _ _ _ _ (bad_hex xs p h) (bad_hex ys q k) = grind (arith, one_place (closed text) xs ys p q h k)
+one_input text _ _ _ _ _ (decided_bad_hex xs p h) (decided_bad_hex ys q k) = grind (arith, one_decided text xs ys p q h k)
 one_input text _ _ _ _ _ (failure xs h) (failure ys k) = (one_so_far text xs ys h k, refl)
 one_input text _ _ _ _ _ (limit xs h) (limit ys k) = (one_so_far text xs ys h k, refl)
 

@@ -5,8 +5,8 @@ use Rattle.std.proofs.Common.{◌∙◌, ◌*◌, Some, subst, arith}
 use Rattle.std.proofs.lemmas.List.{append-nil, append_assoc, drop-drop, length-append, length-drop, take_rest}
 use Rattle.hart_frame.specs.heard.Character.{Character}
 use Rattle.hart_cli.specs.text.Items.{BeginsAs, BeginsWith, IsSeparator, IsWholeBefore, Item, meaning, NoPieceBegins, nothing}
-use Rattle.hart_cli.specs.text.Items.{Piece, piece, ReadsUpTo, Separator, spelling}
-use Rattle.hart_line.specs.script.Items.{Faulty, Plain}
+use Rattle.hart_cli.specs.text.Items.{Piece, piece, ReadsUpTo, spelling}
+use Rattle.hart_line.specs.script.Items.{Plain}
 use Rattle.std.proofs.Math.Seq.{drop-append_seam}
 use Rattle.std.specs.Option.{option_to_list}
 use Rattle.hex.specs.Hex.{is_hex_digit}
@@ -29,11 +29,8 @@ same_piece text p q s t h k = grind (arith, common_steps, not_whole, separator_i
 
 -- a whole piece stays whole, whatever follows
 whole_before_more : (tail more : List ℕ) (p : Piece) → IsWholeBefore tail p → IsWholeBefore (tail ++ more) p
-whole_before_more tail more (Separator a) w = tt
-whole_before_more [] more (Item (Plain x y)) w = absurd (w.0 refl)
-whole_before_more (n ∷ tail) more (Item (Plain x y)) w = (λ e. cc e, w.1)
-whole_before_more [] more (Item (Faulty x y v z)) w = absurd (w.0 refl)
-whole_before_more (n ∷ tail) more (Item (Faulty x y v z)) w = (λ e. cc e, tt)
+whole_before_more [] more p w = grind arith
+whole_before_more (n ∷ tail) more p w = grind arith
 
 -- a text begins with its piece, whatever follows
 BeginsWith-more : (text tail more : List ℕ) (p : Piece) → BeginsWith text p tail → BeginsWith (text ++ more) p (tail ++ more)
@@ -124,18 +121,11 @@ char_inside text char x len b is = grind (arith, common_steps, few_read, item_in
 pub begins_reads : (text : List ℕ) (char : Option Character) (len : ℕ) → BeginsAs text char len
     → (0 < len) × (len ≤ length text) × ReadsUpTo text (option_to_list char) (drop len text)
 begins_reads text char len b =
-    let long = ap (λ (xs : List ℕ). length xs) b.begins.spelled ∙ length-append (spelling b.piece) b.tail in
     let some = spelling-length b.piece in
-    let size = b.long in
-    let tail : drop len text ≡ b.tail =
-    ap (λ (n : ℕ). drop n text) (sym size) ∙ ap (λ (xs : List ℕ). drop (length (spelling b.piece)) xs) b.begins.spelled
-    ∙ drop-append_seam (spelling b.piece) b.tail in (
-      omega arith,
-      omega arith,
-      subst (λ (xs : List ℕ). ReadsUpTo text (option_to_list char) xs) (sym tail)
-          (subst (λ (cs : List Character). ReadsUpTo text cs b.tail) (append-nil (meaning b.piece) ∙ b.means)
-          (piece text b.piece b.tail [] b.tail b.begins (nothing b.tail))),
-    )
+    let long = length-append (spelling b.piece) b.tail in
+    let tail : drop len text ≡ b.tail = rw (← b.long, b.begins.spelled) (drop-append_seam (spelling b.piece) b.tail) in
+    let read = piece text b.piece b.tail [] b.tail b.begins (nothing b.tail) in
+    (grind arith, grind (arith, b.begins.spelled), rw (tail, ← b.means) (rw append-nil at read))
 
 -- a text is read one piece further
 pub piece_read : (text : List ℕ) (chars new : List Character) (place : ℕ) (char : Option Character) (len : ℕ) → place ≤ length text
