@@ -1,27 +1,19 @@
-use Rattle.std.proofs.Common.{◌≡◌, ◌≤◌, ◌<◌, ◌+◌, ◌*◌, ◌/◌, ◌%◌, ℕ, inr, refl, sym, subst, slice_index, arith, Option, None, IfNone}
+use Rattle.std.proofs.Common.{◌≡◌, ◌≤◌, ◌<◌, ◌+◌, ◌*◌, ◌/◌, ◌%◌, ℕ, inr, slice_index, arith}
 use Rattle.std.proofs.Common.{List, [], ◌∷◌, length}
-use Rattle.std.proofs.lemmas.Nat.{div-mul-add, mod-mul-add}
+use Rattle.std.proofs.lemmas.Grind.{elements}
 use Rattle.std.proofs.Math.Facts.{Fits-lt-pow}
 use Rattle.hart_device.proofs.image.read_parts.Goals as goal
-
-none_with : {A : Type 0} {P : Type 0} (result : Option A) → result ≡ None → P → IfNone result P
-none_with {P = P} result is p = subst (λ r. IfNone r P) (sym is) p
 
 pub returns-in_err-flags-clause-refused : goal.returns-in_err-flags-clause-refused
 returns-in_err-flags-clause-refused c =
     let above : slice_index c.args.ending.now 2 ≤ 7 → ⊥ = λ within. let no = c.in_err-flags.ensures.accepted.1 within in cc in
-    none_with _ c.from_residual-in_err-flags.ensures (inr (omega (arith, above)))
+    rw c.from_residual-in_err-flags.ensures (inr (omega (arith, above)))
 
 -- three bytes are a number in two bytes, and the last of them
 counter_and_flags : (bytes : List ℕ) (counter flags : ℕ) → length bytes ≡ 3
     → counter ≡ slice_index bytes 0 * 256 + slice_index bytes 1 → slice_index bytes 1 < 256 → flags ≡ slice_index bytes 2
     → counter / 256 ∷ counter % 256 ∷ flags ∷ [] ≡ bytes
-counter_and_flags [] counter flags three is low last = absurd (omega (arith, three))
-counter_and_flags (a ∷ []) counter flags three is low last = absurd (omega (arith, three))
-counter_and_flags (a ∷ b ∷ []) counter flags three is low last = absurd (omega (arith, three))
-counter_and_flags (a ∷ b ∷ c ∷ []) counter flags three is low last =
-    rw (is, last, div-mul-add a 256 b low, mod-mul-add a 256 b low) refl
-counter_and_flags (a ∷ b ∷ c ∷ d ∷ more) counter flags three is low last = absurd (omega (arith, three))
+counter_and_flags bytes counter flags three is low last = grind (arith, elements)
 
 pub returns-clause-ending : goal.returns-clause-ending
 returns-clause-ending c =

@@ -1,5 +1,5 @@
 -- A delivery brings a device one thing.
-use Rattle.std.proofs.Common.{◌≡◌, inl, inr, List, [], ◌∷◌, ap, sym, subst, ◌∙◌, refl, Option, None, Some}
+use Rattle.std.proofs.Common.{◌≡◌, inl, inr, List, [], ◌∷◌, ap, subst, ◌∙◌, refl, Option, None, Some, arith}
 use Rattle.std.specs.Option.{MatchOption}
 use Rattle.hart_frame.specs.heard.Character.{Character}
 use Rattle.hart_frame.specs.wire.FrameParts.{FrameParts}
@@ -19,15 +19,7 @@ use Rattle.hart_device.proofs.lemmas.answer.Garbled.{garbled_decided, garbled_on
 -- what some frames bring is one thing
 BringsBy-one : (identity : IdentityParts) (chars : List Character) (frames : List Found) (a b : Brought)
     → BringsBy identity chars frames a → BringsBy identity chars frames b → a ≡ b
-BringsBy-one identity chars [] (OneFrame f) b p q = absurd p
-BringsBy-one identity chars [] (Garbled r) (OneFrame f) p q = absurd q
-BringsBy-one identity chars [] (Garbled r) (Garbled s) p q = ap Garbled (garbled_one identity chars r s p q)
-BringsBy-one identity chars [] (Garbled r) NoMessage p q = absurd (q r p)
-BringsBy-one identity chars [] NoMessage (OneFrame f) p q = absurd q
-BringsBy-one identity chars [] NoMessage (Garbled s) p q = absurd (p s q)
-BringsBy-one identity chars [] NoMessage NoMessage p q = refl
-BringsBy-one identity chars (found ∷ []) a b p q = p ∙ sym q
-BringsBy-one identity chars (found ∷ other ∷ more) a b p q = p ∙ sym q
+BringsBy-one identity chars frames a b p q = grind (arith, garbled_one)
 
 -- any list of the frames of a delivery says what it brings
 pub by_frames : (identity : IdentityParts) (chars : List Character) (frames : List Found) (brought : Brought)
@@ -60,9 +52,7 @@ Brings-found identity chars =
 
 -- only no frames are no frame
 pub none_of : (frames : List Found) → NoFrame ≡ lone_of frames → frames ≡ []
-none_of [] is = refl
-none_of (found ∷ []) is = cc
-none_of (found ∷ other ∷ more) is = cc
+none_of frames is = grind arith
 
 -- so the reply to the garbled request of a delivery without a frame is the answer to what that brings
 abbrev pub IsReply : IdentityParts → List Character → Option FrameParts → Type 0

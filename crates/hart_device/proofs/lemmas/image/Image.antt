@@ -1,5 +1,5 @@
 -- What an image says, and that it says one thing.
-use Rattle.std.proofs.Common.{◌≡◌, ◌≢◌, ℕ, suc, ◌+◌, ◌-◌, ◌/◌, ◌%◌, ◌^◌, ◌<◌, ◌≤◌, ◌⊎◌, inl, inr, refl, sym, ap, ◌∙◌, subst}
+use Rattle.std.proofs.Common.{◌≡◌, ◌≢◌, ℕ, ◌+◌, ◌-◌, ◌/◌, ◌%◌, ◌^◌, ◌<◌, ◌≤◌, ◌⊎◌, inl, inr, refl, sym, ap, ◌∙◌, subst}
 use Rattle.std.proofs.Common.{arith, Bool, true, if◌then◌else◌, Some, None, List, [], ◌∷◌, ◌++◌, length, drop, replicate}
 use Rattle.std.proofs.Common.{slice_index}
 use Rattle.std.specs.List.{Contains, flat_map, slice_index_or, sum_by}
@@ -13,12 +13,12 @@ use Rattle.hart_commands.specs.Registers.{AreValid, Contents, bytes_in, register
 use Rattle.hart_commands.specs.declared.register.Register.{Register}
 use Rattle.hart_commands.specs.declared.register.Register.TheVariants.{Polling, Mode, Message, Tag, Descriptor, Date, Assembly, LongTag}
 use Rattle.hart_device.specs.declared.fault.DeviceFault.{DeviceFault}
-use Rattle.hart_device.specs.declared.fault.DeviceFault.TheVariants.{BadField, BadLength, BadVersion, BroadcastAddress, OutOfRange}
+use Rattle.hart_device.specs.declared.fault.DeviceFault.TheVariants.{BadField, BadLength, BadVersion}
 use Rattle.hart_device.specs.Device.{DeviceState}
 use Rattle.hart_device.specs.Identity.{two_bytes}
 use Rattle.hart_device.specs.image.Image.{HasBadField, IsImageOf, IsImageFault, IsLongTagOf, flags_of, image_ending}
 use Rattle.hart_device.specs.image.Image.{image_bytes}
-use Rattle.hart_device.specs.image.Image.{image_length, registers_of_version, registers_of_version_1}
+use Rattle.hart_device.specs.image.Image.{registers_of_version, registers_of_version_1}
 use Rattle.hart_device.specs.image.ImageParts.{state_with}
 use Rattle.hart_device.specs.registers.Ranges.{HoldsInvalid, contents_in, end_of, standing_for, start_of}
 use Rattle.hart_device.specs.registers.Values.{values_of}
@@ -35,15 +35,15 @@ known_version version listed known = grind (arith, nat_tests)
 -- A version has one list of registers.
 one_list : (version : ℕ) (listed other : List Register) → registers_of_version version ≡ Some listed
     → registers_of_version version ≡ Some other → listed ≡ other
-one_list version listed other known same = let both = sym known ∙ same in cc
+one_list version listed other known same = cc
 
 -- The registers of a version stand end to end.
 ends_of : (version : ℕ) (listed : List Register) → registers_of_version version ≡ Some listed → end_to_end 0 listed ≡ true
-ends_of version listed known = elim (known_version version listed known) [ inl one ↦ rw one.1 refl | inr two ↦ rw two.1 refl ]
+ends_of version listed known = grind (arith, nat_tests)
 
 -- The long tag is not among the registers of version 1.
 no_long_tag : Contains registers_of_version_1 LongTag → ⊥
-no_long_tag has = absurd (grind (arith, elements, has.1, has.2))
+no_long_tag has = grind (arith, elements, has.1, has.2)
 
 -- Every other register is.
 pub in_version_1 : (register : Register) → register ≢ LongTag → Contains registers_of_version_1 register
@@ -139,10 +139,7 @@ read_is version listed known parts array prefix end fill long_tag contents valid
 pub last_is : (version : ℕ) (prefix end : List ℕ) → length end ≡ 3
     → slice_index (version ∷ (prefix ++ end)) (length (version ∷ (prefix ++ end)) - 1) ≡ slice_index end 2
 last_is version prefix end three =
-    let last : length (version ∷ (prefix ++ end)) - 1 ≡ suc (length prefix + 2) = grind (arith, common_steps) in
-    let flags : slice_index (version ∷ (prefix ++ end)) (suc (length prefix + 2)) ≡ slice_index end 2 =
-    grind (arith, common_steps, elements) in
-    rw last flags
+    grind (arith, common_steps, elements)
 
 -- What stands for a register before the end of some bytes stands for it also if others follow them.
 pub before_others : (register : Register) (prefix others : List ℕ) → end_of register ≤ length prefix
@@ -185,29 +182,9 @@ no_fault state (version ∷ rest) BadField is (listed, known, len, inr above) =
     absurd (omega (arith, flags, flags_of-le state.changed state.protected))
 no_fault state (version ∷ rest) _ is faulty = faulty
 
--- No bytes have the fault of a bad length alone.
-length_of_none : (fault : DeviceFault) → IsImageFault [] fault → fault ≡ BadLength
-length_of_none BadLength faulty = refl
-length_of_none _ faulty = absurd faulty
-
 -- Bytes have one fault.
 pub one_fault : (image : List ℕ) (fault other : DeviceFault) → IsImageFault image fault → IsImageFault image other → fault ≡ other
-one_fault [] fault other p q = length_of_none fault p ∙ sym (length_of_none other q)
-one_fault (version ∷ rest) BadVersion BadVersion p q = refl
-one_fault (version ∷ rest) BadLength BadLength p q = refl
-one_fault (version ∷ rest) BadField BadField p q = refl
-one_fault (version ∷ rest) BadVersion BadLength unknown (listed, known, wrong) = let no = sym unknown ∙ known in cc
-one_fault (version ∷ rest) BadVersion BadField unknown (listed, known, len, bad) = let no = sym unknown ∙ known in cc
-one_fault (version ∷ rest) BadLength BadVersion (listed, known, wrong) unknown = let no = sym unknown ∙ known in cc
-one_fault (version ∷ rest) BadField BadVersion (listed, known, len, bad) unknown = let no = sym unknown ∙ known in cc
-one_fault (version ∷ rest) BadLength BadField (listed, known, wrong) (other, same, len, bad) =
-    absurd (wrong (len ∙ ap image_length (one_list version other listed same known)))
-one_fault (version ∷ rest) BadField BadLength (listed, known, len, bad) (other, same, wrong) =
-    absurd (wrong (len ∙ ap image_length (one_list version listed other known same)))
-one_fault (version ∷ rest) fault BroadcastAddress p q = absurd q
-one_fault (version ∷ rest) fault OutOfRange p q = absurd q
-one_fault (version ∷ rest) BroadcastAddress other p q = absurd p
-one_fault (version ∷ rest) OutOfRange other p q = absurd p
+one_fault image fault other p q = grind (arith, nat_tests, one_list)
 
 -- Flags determine what they are of.
 flags_determine : (a b c x y z : Bool)

@@ -1,6 +1,6 @@
 -- What an image of version 1 says, whose registers are read of an array of them all.
 use Rattle.std.proofs.Common.{◌≡◌, ◌≢◌, ◌≤◌, ℕ, List, [], ◌++◌, length, refl, sym, ◌∙◌, arith, rules}
-use Rattle.std.proofs.Common.{Option, None, Some, IfSome, IfNone, IfOk, IfErr}
+use Rattle.std.proofs.Common.{Option, IfSome, IfNone, IfOk, IfErr}
 use Rattle.std.specs.List.{flat_map}
 use Rattle.std.specs.Option.{ok_or}
 use Rattle.hart_commands.specs.declared.register.Register.{Register}
@@ -12,13 +12,11 @@ use Rattle.hart_device.proofs.lemmas.registers.Range.{filled}
 
 pub refused_or : {A E Bad : Type 0} (P : E → Type 0) (read : Option A) (fault : E) → IfNone read Bad → (Bad → P fault)
     → IfErr (ok_or read fault) P
-refused_or P None fault bad gives = gives bad
-refused_or P (Some x) fault bad gives = tt
+refused_or P read fault bad gives = grind (arith, gives)
 
 pub kept_or : {A E : Type 0} (P Q R S : A → Type 0) (read : Option A) (fault : E) → IfSome read P → IfSome read Q → IfSome read R
     → ((x : A) → P x → Q x → R x → S x) → IfOk (ok_or read fault) S
-kept_or P Q R S None fault p q r gives = tt
-kept_or P Q R S (Some x) fault p q r gives = gives x p q r
+kept_or P Q R S read fault p q r gives = grind (arith, gives)
 
 -- Every register but the long tag ends before the long tag.
 before_long_tag : (register : Register) → register ≢ LongTag → end_of register ≤ 50

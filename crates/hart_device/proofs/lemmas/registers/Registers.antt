@@ -1,5 +1,5 @@
 -- The registers that lists of overwrites leave.
-use Rattle.std.proofs.Common.{◌≡◌, ℕ, ◌<◌, zero, suc, ap, ◌∙◌, sym, refl, subst, arith, Option, None, Some, unwrap_or}
+use Rattle.std.proofs.Common.{◌≡◌, ℕ, ◌<◌, zero, suc, ap, sym, arith, Option, None, unwrap_or}
 use Rattle.std.proofs.Common.{List, [], ◌∷◌, ◌++◌, length}
 use Rattle.std.specs.List.{Contains, slice_index_or}
 use Rattle.std.specs.Option.{option_or}
@@ -19,9 +19,6 @@ pub same_contents : (contents others : Contents)
     → ((register : Register) → bytes_in contents register ≡ bytes_in others register) → contents ≡ others
 same_contents contents others = contents_determined contents (bytes_in others)
 
-pub same_bytes : (f g : Register → List ℕ) → ((register : Register) → f register ≡ g register) → contents_by f ≡ contents_by g
-same_bytes f g same = ap contents_by (λ i register. same register i)
-
 -- After an overwrite a register holds the bytes that it names, or what it held.
 pub bytes_in-overwritten : (overwrite : Overwrite) (old : Contents) (register : Register)
     → bytes_in (overwritten overwrite old) register ≡ unwrap_or (named_in overwrite register) (bytes_in old register)
@@ -33,24 +30,21 @@ bytes_in-registers_of overwrites initial =
     bytes_in-contents_by (λ register. unwrap_or (last_named overwrites register) (bytes_in initial register))
 
 pub unwrap_or-option_or : {A : Type 0} (a b : Option A) (d : A) → unwrap_or (option_or a b) d ≡ unwrap_or a (unwrap_or b d)
-unwrap_or-option_or None b d = refl
-unwrap_or-option_or (Some x) b d = refl
+unwrap_or-option_or a b d = grind arith
 
 pub option_or-None : {A : Type 0} (a : Option A) → option_or a None ≡ a
-option_or-None None = refl
-option_or-None (Some x) = refl
+option_or-None a = grind arith
 
 pub option_or-assoc : {A : Type 0} (a b c : Option A) → option_or (option_or a b) c ≡ option_or a (option_or b c)
-option_or-assoc None b c = refl
-option_or-assoc (Some x) b c = refl
+option_or-assoc a b c = grind arith
 
 -- A new overwrite comes last.
 pub last_named-append : (overwrites : List Overwrite) (overwrite : Overwrite) (register : Register)
     → last_named (overwrites ++ overwrite ∷ []) register ≡ option_or (named_in overwrite register) (last_named overwrites register)
 last_named-append [] overwrite register = sym (option_or-None (named_in overwrite register))
 last_named-append (o ∷ os) overwrite register =
-    ap (λ x. option_or x (named_in o register)) (last_named-append os overwrite register)
-    ∙ option_or-assoc (named_in overwrite register) (last_named os register) (named_in o register)
+    rw (last_named-append os overwrite register)
+    (option_or-assoc (named_in overwrite register) (last_named os register) (named_in o register))
 
 -- One that comes again later changes nothing.
 pub last_named-again : (later : List Overwrite) (overwrite : Overwrite) (register : Register) (k : ℕ)
@@ -58,37 +52,29 @@ pub last_named-again : (later : List Overwrite) (overwrite : Overwrite) (registe
     → option_or (last_named later register) (named_in overwrite register) ≡ last_named later register
 last_named-again [] overwrite register k within there = absurd (omega arith)
 last_named-again (o ∷ os) overwrite register zero within there =
-    subst (λ (x : Overwrite). option_or (option_or (last_named os register) (named_in x register)) (named_in overwrite register)
-    ≡ option_or (last_named os register) (named_in x register)) (sym there)
-    (option_or-assoc (last_named os register) (named_in overwrite register) (named_in overwrite register)
-    ∙ ap (option_or (last_named os register)) (twice (named_in overwrite register)))
+    let same : o ≡ overwrite = there in
+    rw same (twice (last_named os register) (named_in overwrite register))
   where
-    twice : {A : Type 0} (a : Option A) → option_or a a ≡ a
-    twice None = refl
-    twice (Some x) = refl
+    twice : {A : Type 0} (a b : Option A) → option_or (option_or a b) b ≡ option_or a b
+    twice a b = grind arith
 last_named-again (o ∷ os) overwrite register (suc k) within there =
     let earlier = last_named-again os overwrite register k (omega arith) there in
     again_below (last_named os register) (named_in overwrite register) (named_in o register) earlier
   where
     again_below : {A : Type 0} (a b c : Option A) → option_or a b ≡ a → option_or (option_or a c) b ≡ option_or a c
-    again_below None None c h = option_or-None c
-    again_below None (Some x) c h = cc
-    again_below (Some x) b c h = refl
+    again_below a b c h = grind arith
 
 pub registers_of-cons : (overwrite : Overwrite) (later : List Overwrite) (initial : Contents)
     → registers_of (overwrite ∷ later) initial ≡ registers_of later (overwritten overwrite initial)
-registers_of-cons overwrite later initial = same_bytes _ _ (λ register.
-    unwrap_or-option_or (last_named later register) (named_in overwrite register) (bytes_in initial register)
-    ∙ ap (unwrap_or (last_named later register)) (sym (bytes_in-overwritten overwrite initial register)))
+registers_of-cons overwrite later initial =
+    same_contents _ _ (λ register. grind (arith, bytes_in-registers_of, bytes_in-overwritten, unwrap_or-option_or))
 
 pub registers_of-append : (overwrites : List Overwrite) (overwrite : Overwrite) (initial : Contents)
     → registers_of (overwrites ++ overwrite ∷ []) initial ≡ overwritten overwrite (registers_of overwrites initial)
-registers_of-append overwrites overwrite initial = same_bytes _ _ (λ register.
-    ap (λ x. unwrap_or x (bytes_in initial register)) (last_named-append overwrites overwrite register)
-    ∙ unwrap_or-option_or (named_in overwrite register) (last_named overwrites register) (bytes_in initial register)
-    ∙ ap (unwrap_or (named_in overwrite register)) (sym (bytes_in-registers_of overwrites initial register)))
+registers_of-append overwrites overwrite initial = same_contents _ _ (λ register.
+    grind (arith, last_named-append, bytes_in-registers_of, bytes_in-overwritten, unwrap_or-option_or))
 
 pub registers_of-again : (overwrite : Overwrite) (later : List Overwrite) (initial : Contents) → Contains later overwrite
     → registers_of (overwrite ∷ later) initial ≡ registers_of later initial
-registers_of-again overwrite later initial there = same_bytes _ _ (λ register.
-    ap (λ x. unwrap_or x (bytes_in initial register)) (last_named-again later overwrite register there.0 there.1 there.2))
+registers_of-again overwrite later initial there = same_contents _ _ (λ register.
+    let again = last_named-again later overwrite register there.0 there.1 there.2 in grind (arith, bytes_in-registers_of, again))

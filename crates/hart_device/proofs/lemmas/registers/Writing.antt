@@ -1,8 +1,7 @@
 -- Writing registers into an array, one after another.
-use Rattle.std.proofs.Common.{◌≡◌, ◌≢◌, ℕ, ◌+◌, ◌-◌, ◌<◌, ◌≤◌, ◌⊎◌, inl, inr, ap, ◌∙◌, sym, subst, arith}
-use Rattle.std.proofs.Common.{List, length, take, drop, nat_lt, if◌then◌else◌, Option, None, unwrap_or, Bool, true, false, ◌==◌, refl}
+use Rattle.std.proofs.Common.{◌≡◌, ◌≢◌, ℕ, ◌+◌, ◌-◌, ◌<◌, ◌≤◌, ◌⊎◌, inl, inr, ap, ◌∙◌, arith}
+use Rattle.std.proofs.Common.{List, length, take, drop, nat_lt, if◌then◌else◌, Option, None, unwrap_or, refl}
 use Rattle.std.specs.List.{AllPairs, Contains, slice_index_or, slice_range}
-use Rattle.std.proofs.lemmas.Bool.{eqb-true}
 use Rattle.std.proofs.lemmas.Bool.Decides.{nat_tests}
 use Rattle.std.proofs.lemmas.List.{get_or_default}
 use Rattle.std.proofs.lemmas.Slice.{between_is, take-put_mid_below, drop-put_mid}
@@ -39,13 +38,7 @@ AreWrittenBefore place given old now = (k : ℕ) → k < length registers
 -- Registers at two places of the list are not the same.
 places_differ : AllPairs (λ register other. register ≢ other) registers → (j k : ℕ) → j < length registers → k < length registers → j ≢ k
     → register_at j ≢ register_at k
-places_differ once j k j_within k_within differ = by_order (nat_lt j k) refl
-  where
-    by_order : (less : Bool) → nat_lt j k ≡ less → register_at j ≢ register_at k
-    by_order true test = once j k Polling (grind (arith, nat_tests, test)) k_within
-    by_order false test =
-        let after : k < j = grind (arith, nat_tests, test, differ) in
-        λ same. once k j Polling after j_within (sym same)
+places_differ once j k j_within k_within differ same = grind (arith, once j k Polling, once k j Polling)
 
 -- After one more of them is written, one more stands written.
 pub one_more : (given : Register → Option (List ℕ)) (old now new : List ℕ) (place : ℕ) → place < length registers
@@ -53,18 +46,8 @@ pub one_more : (given : Register → Option (List ℕ)) (old now new : List ℕ)
     → standing_for (register_at place) new ≡ given_to given old (register_at place)
     → ((other : Register) → other ≢ register_at place → standing_for other new ≡ standing_for other now)
     → AreWrittenBefore place given old now → AreWrittenBefore (place + 1) given old new
-one_more given old now new place within once written others before k k_within = by_place (k == place) refl
-  where
-    by_place : (same : Bool) → (k == place) ≡ same → standing_for (register_at k) new
-        ≡ (if nat_lt k (place + 1) then given_to given old (register_at k) else standing_for (register_at k) old)
-    by_place true same =
-        let is : k ≡ place = eqb-true k place same in
-        let less : nat_lt k (place + 1) ≡ true = grind (arith, nat_tests, is) in
-        rw less (subst (λ n. standing_for (register_at n) new ≡ given_to given old (register_at n)) (sym is) written)
-    by_place false same =
-        let differ : k ≢ place = λ is. absurd (grind (arith, nat_tests, is, same)) in
-        let test : nat_lt k (place + 1) ≡ nat_lt k place = grind (arith, nat_tests, differ) in
-        rw test (others (register_at k) (places_differ once k place k_within within differ) ∙ before k k_within)
+one_more given old now new place within once written others before k k_within =
+    grind (arith, nat_tests, written, places_differ once k place k_within within, others (register_at k), before k k_within)
 
 -- So it does also if it is given nothing.
 pub none_more : (given : Register → Option (List ℕ)) (old now : List ℕ) (place : ℕ) → place < length registers
@@ -82,7 +65,4 @@ pub all_written : (given : Register → Option (List ℕ)) (old now : List ℕ) 
 all_written given old now place end every before register =
     let listed = every register in
     let same : register_at listed.0 ≡ register = get_or_default registers listed.0 Polling register listed.1 ∙ listed.2 in
-    let held = before listed.0 listed.1 in
-    let is : standing_for (register_at listed.0) now ≡ given_to given old (register_at listed.0) =
-    grind (arith, nat_tests, held) in
-    subst (λ (r : Register). standing_for r now ≡ given_to given old r) same is
+    grind (arith, nat_tests, before listed.0 listed.1, same)

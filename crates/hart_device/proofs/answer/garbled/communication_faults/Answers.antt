@@ -1,4 +1,4 @@
-use Rattle.std.proofs.Common.{◌≡◌, ◌<◌, ◌∙◌, ℕ, List, Result, Ok, Err, IfOk, Bool, refl, sym, arith, bit_or}
+use Rattle.std.proofs.Common.{◌≡◌, ◌<◌, ◌∙◌, ℕ, List, Result, Ok, IfOk, Bool, refl, arith, bit_or}
 use Rattle.hart_frame.specs.heard.Character.{Character}
 use Rattle.hart_device.specs.answer.Garbled.{communication_faults, has_fault, has_odd_bit}
 use Rattle.hart_device.specs.answer.Status.{bit_if}
@@ -16,8 +16,7 @@ fits : (chars : List Character) → communication_faults chars < 128
 fits chars = sum_fits (has_fault 6 chars) (has_fault 5 chars) (has_fault 4 chars) (has_odd_bit chars) (has_fault 1 chars)
 
 of_ok : {E : Type 0} (result : Result ℕ E) (x y : ℕ) → result ≡ Ok x → IfOk result (λ n. n ≡ y) → x ≡ y
-of_ok (Ok z) x y is known = let same : z ≡ x = cc in sym same ∙ known
-of_ok (Err e) x y is known = cc
+of_ok result x y is known = grind arith
 
 pub unwrap-requires : goal.unwrap-requires
 unwrap-requires c =

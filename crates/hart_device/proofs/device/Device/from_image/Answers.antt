@@ -1,12 +1,11 @@
-use Rattle.std.proofs.Common.{ap, refl, Result, Ok, Err, IsOk, IsErr}
+use Rattle.std.proofs.Common.{ap, refl, arith, Result, IsOk, IsErr}
 use Rattle.hart_device.specs.Device.{DeviceState}
 use Rattle.hart_device.specs.image.Image.{IsImageOf}
 use Rattle.hart_device.proofs.lemmas.Laws.{images_have_no_fault}
 use Rattle.hart_device.proofs.device.Device.from_image.Goals as goal
 
 not_both : {A E : Type 0} (result : Result A E) → IsErr result → IsOk result → ⊥
-not_both (Ok x) err ok = cc
-not_both (Err e) err ok = cc
+not_both result err ok = grind arith
 
 pub returns-in_err-parts-clause-accepted : goal.returns-in_err-parts-clause-accepted
 returns-in_err-parts-clause-accepted g c =

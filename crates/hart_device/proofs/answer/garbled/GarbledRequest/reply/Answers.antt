@@ -1,4 +1,5 @@
 use Rattle.std.proofs.Common.{◌≡◌, ℕ, ◌+◌, List, [], ◌∷◌, ◌++◌, length, ap, ◌∙◌, arith, refl, slice_index}
+use Rattle.std.proofs.lemmas.Grind.{elements}
 use Rattle.hart_values.specs.address.DeviceNumbers.{DeviceNumbers}
 use Rattle.hart_values.specs.declared.address.Address.{Address}
 use Rattle.hart_values.specs.declared.address.Address.TheVariants.{Unique}
@@ -7,10 +8,7 @@ use Rattle.hart_device.proofs.answer.garbled.GarbledRequest.reply.Goals as goal
 
 -- two bytes by their places
 two : (bytes : List ℕ) (a b : ℕ) → length bytes ≡ 2 → slice_index bytes 0 ≡ a → slice_index bytes 1 ≡ b → bytes ≡ a ∷ b ∷ []
-two [] a b len p q = absurd (omega (arith, len))
-two (x ∷ []) a b len p q = absurd (omega (arith, len))
-two (x ∷ y ∷ []) a b len p q = cc
-two (x ∷ y ∷ z ∷ more) a b len p q = absurd (omega (arith, len))
+two bytes a b len p q = grind (arith, elements)
 
 pub returns : goal.returns
 returns c =
