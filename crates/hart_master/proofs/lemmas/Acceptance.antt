@@ -1,5 +1,5 @@
 -- Deliveries with exactly one frame, and what they are accepted as.
-use Rattle.std.proofs.Common.{◌≡◌, List, [], ◌∷◌, subst}
+use Rattle.std.proofs.Common.{◌≡◌, List, [], ◌∷◌}
 use Rattle.hart_values.specs.declared.master_id.MasterId.{MasterId}
 use Rattle.hart_values.specs.declared.address.Address.{Address}
 use Rattle.hart_frame.specs.heard.Character.{Character}
@@ -22,14 +22,10 @@ NoOther chars found = (other : Found) → IsAlone chars other → other ≡ foun
 -- a frame that is known to be alone is the only one
 pub no_other : (chars : List Character) (found : Found)
     → ((frames : List Found) → AreFrames chars 0 frames → Alone found ≡ lone_of frames) → NoOther chars found
-no_other chars found only other alone = same (only (other ∷ []) alone)
-  where
-    same : Alone found ≡ Alone other → other ≡ found
-    same is = cc
+no_other chars found only other alone = let same = only (other ∷ []) alone in cc
 
 -- what a delivery is accepted as, its frame is
 pub IsReplyTo-alone : (id : MasterId) (address : Address) (request : Request) (chars : List Character) (found : Found) (reply : Reply)
     → NoOther chars found → IsAccepted id address request chars reply → IsReplyTo id address request found.frame reply
 IsReplyTo-alone id address request chars found reply no_other accepted =
-    let P : Found → Type 0 = λ f. IsReplyTo id address request f.frame reply in
-    subst P (no_other accepted.found accepted.alone) accepted.is_reply
+    rw (no_other accepted.found accepted.alone) at accepted.is_reply

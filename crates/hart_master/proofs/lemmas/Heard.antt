@@ -1,31 +1,24 @@
 -- A delivery with exactly one frame brings what this frame brings.
-use Rattle.std.proofs.Common.{List}
+use Rattle.std.proofs.Common.{List, arith}
 use Rattle.hart_values.specs.declared.master_id.MasterId.{MasterId}
 use Rattle.hart_frame.specs.heard.Character.{Character}
 use Rattle.hart_frame.specs.declared.heard.found.Found.{Found}
 use Rattle.hart_commands.specs.declared.reply.Reply.{Reply}
 use Rattle.hart_master.specs.declared.event.MasterEvent.{MasterEvent}
-use Rattle.hart_master.specs.declared.event.MasterEvent.TheVariants.{Answered, Nothing, Retry, NoReply}
+use Rattle.hart_master.specs.declared.event.MasterEvent.TheVariants.{Answered, Nothing}
 use Rattle.hart_master.specs.declared.hand.Hand.{Hand}
-use Rattle.hart_master.specs.declared.hand.Hand.TheVariants.{Empty, ToSend, Awaiting}
 use Rattle.hart_master.specs.Master.{DeliveryBrings, FrameBrings, IsHeard}
 use Rattle.hart_master.proofs.lemmas.Acceptance.{IsAlone, NoOther, IsReplyTo-alone}
 
 -- what its frame brings, a delivery brings
 pub frame_brings : (id : MasterId) (hand : Hand) (chars : List Character) (found : Found) (reply : Reply)
     → IsAlone chars found → FrameBrings id hand found.frame reply → DeliveryBrings id hand chars reply
-frame_brings id (Awaiting transaction time) chars found reply alone is_reply =
-    record { found = found; alone = alone; is_reply = is_reply }
-frame_brings id Empty chars found reply alone never = absurd never
-frame_brings id (ToSend transaction) chars found reply alone never = absurd never
+frame_brings id hand chars found reply alone is_reply = grind arith
 
 -- and the other way round
 pub brings_frame : (id : MasterId) (hand : Hand) (chars : List Character) (found : Found) (reply : Reply)
     → NoOther chars found → DeliveryBrings id hand chars reply → FrameBrings id hand found.frame reply
-brings_frame id (Awaiting transaction time) chars found reply no_other accepted =
-    IsReplyTo-alone id transaction.address transaction.request chars found reply no_other accepted
-brings_frame id Empty chars found reply no_other never = absurd never
-brings_frame id (ToSend transaction) chars found reply no_other never = absurd never
+brings_frame id hand chars found reply no_other accepted = grind (arith, IsReplyTo-alone)
 
 -- so what is heard of the frame is heard of the delivery
 pub heard_of_frame : (id : MasterId) (hand : Hand) (chars : List Character) (found : Found) (event : MasterEvent)
@@ -35,5 +28,4 @@ heard_of_frame id hand chars found (Answered reply sendings) alone no_other hear
     (frame_brings id hand chars found reply alone heard.0, heard.1)
 heard_of_frame id hand chars found Nothing alone no_other heard =
     λ reply brings. heard reply (brings_frame id hand chars found reply no_other brings)
-heard_of_frame id hand chars found Retry alone no_other never = never
-heard_of_frame id hand chars found (NoReply sendings) alone no_other never = never
+heard_of_frame id hand chars found _ alone no_other never = absurd never
