@@ -19,14 +19,11 @@ pub sum_fits : (a b c d e : Bool) → bit_if a 64 + bit_if b 32 + bit_if c 16 + 
 sum_fits a b c d e = grind arith
 
 -- a fault is heard where its bit is
-tested : (faults fault bit : ℕ) → fault ≡ 2 ^ bit → not (bit_and faults fault == 0) ≡ (bit_at faults bit == 1)
-tested faults fault bit is = let masked = and_pow faults bit in let small = bit_at-lt faults bit in grind (arith, nat_tests)
-
 pub fault_found : (chars : List Character) (fault bit : ℕ) → fault ≡ 2 ^ bit
     → list_any (λ character. not (bit_and character.faults fault == 0)) chars ≡ has_fault bit chars
 fault_found [] fault bit is = refl
 fault_found (c ∷ chars) fault bit is =
-    let here = tested c.faults fault bit is in let there = fault_found chars fault bit is in cc
+    grind (arith, nat_tests, and_pow c.faults bit, bit_at-lt c.faults bit, fault_found chars fault bit is)
 
 -- the number of characters that have a bit in their bytes
 abbrev pub count : ℕ → List Character → ℕ

@@ -1,8 +1,8 @@
 -- What an image says, and that it says one thing.
-use Rattle.std.proofs.Common.{◌≡◌, ◌≢◌, ℕ, ◌+◌, ◌-◌, ◌/◌, ◌%◌, ◌^◌, ◌<◌, ◌≤◌, ◌⊎◌, inl, inr, refl, sym, ap, ◌∙◌, subst}
-use Rattle.std.proofs.Common.{arith, Bool, true, if◌then◌else◌, Some, None, List, [], ◌∷◌, ◌++◌, length, drop, replicate}
+use Rattle.std.proofs.Common.{◌≡◌, ◌≢◌, ℕ, ◌-◌, ◌/◌, ◌%◌, ◌^◌, ◌<◌, ◌≤◌, ◌⊎◌, inl, inr, refl, sym, ap, ◌∙◌, subst}
+use Rattle.std.proofs.Common.{arith, Bool, true, Some, List, [], ◌∷◌, ◌++◌, length, drop}
 use Rattle.std.proofs.Common.{slice_index}
-use Rattle.std.specs.List.{Contains, flat_map, slice_index_or, sum_by}
+use Rattle.std.specs.List.{Contains, flat_map, sum_by}
 use Rattle.std.proofs.lemmas.Bool.Decides.{nat_tests}
 use Rattle.std.proofs.lemmas.Grind.{common_steps, elements}
 use Rattle.std.proofs.lemmas.List.{drop_at, take-append-le}
@@ -17,10 +17,9 @@ use Rattle.hart_device.specs.declared.fault.DeviceFault.TheVariants.{BadField, B
 use Rattle.hart_device.specs.Device.{DeviceState}
 use Rattle.hart_device.specs.Identity.{two_bytes}
 use Rattle.hart_device.specs.image.Image.{HasBadField, IsImageOf, IsImageFault, IsLongTagOf, flags_of, image_ending}
-use Rattle.hart_device.specs.image.Image.{image_bytes}
 use Rattle.hart_device.specs.image.Image.{registers_of_version, registers_of_version_1}
 use Rattle.hart_device.specs.image.ImageParts.{state_with}
-use Rattle.hart_device.specs.registers.Ranges.{HoldsInvalid, contents_in, end_of, standing_for, start_of}
+use Rattle.hart_device.specs.registers.Ranges.{HoldsInvalid, contents_in, end_of, standing_for}
 use Rattle.hart_device.specs.registers.Values.{values_of}
 use Rattle.hart_device.specs.declared.identity_parts.IdentityParts.{IdentityParts}
 use Rattle.hart_device.specs.declared.image.ImageParts.{ImageParts}
@@ -60,7 +59,10 @@ in_version_1 LongTag differs = absurd (differs refl)
 listed_or_not : (version : ℕ) (listed : List Register) → registers_of_version version ≡ Some listed
     → ((register : Register) → Contains registers register) → (register : Register)
     → Contains listed register ⊎ ((register ≡ LongTag) × (Contains listed LongTag → ⊥) × Contains listed Tag)
-listed_or_not version listed known every register = by_version (known_version version listed known) register
+listed_or_not version listed known every register = elim (known_version version listed known) [
+  | inl one ↦ rw one.1 (in_first register)
+  | inr two ↦ inl (rw two.1 (every register))
+]
   where
     in_first : (r : Register)
         → Contains registers_of_version_1 r
@@ -68,33 +70,20 @@ listed_or_not version listed known every register = by_version (known_version ve
     in_first LongTag = inr (refl, no_long_tag, in_version_1 Tag (λ e. cc))
     in_first r = inl (in_version_1 r (λ e. cc))
 
-    by_version : ((version ≡ 1) × (listed ≡ registers_of_version_1)) ⊎ ((version ≡ 2) × (listed ≡ registers)) → (r : Register)
-        → Contains listed r ⊎ ((r ≡ LongTag) × (Contains listed LongTag → ⊥) × Contains listed Tag)
-    by_version (inl one) r =
-        subst (λ (xs : List Register). Contains xs r ⊎ ((r ≡ LongTag) × (Contains xs LongTag → ⊥) × Contains xs Tag))
-        (sym one.1) (in_first r)
-    by_version (inr two) r = inl (rw two.1 (every r))
-
 -- What an image of a version says of its device.
 said : (state : DeviceState) (version : ℕ) (rest : List ℕ) (listed : List Register) → registers_of_version version ≡ Some listed
     → IsImageOf state (version ∷ rest)
     → (rest ≡ flat_map (bytes_in state.contents) listed ++ image_ending state)
     × ((Contains listed LongTag → ⊥) → IsLongTagOf state.contents.tag state.contents.long_tag)
 said state version rest listed known is =
-    let first : version ≡ is.version = ap (λ xs. slice_index xs 0) is.written in
-    let list : is.listed ≡ listed = one_list is.version is.listed listed is.known (rw (← first) known) in (
-      ap (drop 1) is.written ∙ ap (λ listed. flat_map (bytes_in state.contents) listed ++ image_ending state) list,
-      subst (λ (listed : List Register). (Contains listed LongTag → ⊥) → IsLongTagOf state.contents.tag state.contents.long_tag)
-          list is.long_tag,
-    )
+    let written = is.written in
+    let list : is.listed ≡ listed = cc in
+    (cc, rw list at is.long_tag)
 
 -- A state has one image of each version.
 pub one_image : (state : DeviceState) (image other : List ℕ) (is : IsImageOf state image) (other_is : IsImageOf state other)
     → is.version ≡ other_is.version → image ≡ other
-one_image state image other is other_is same =
-    let list : is.listed ≡ other_is.listed =
-    one_list is.version is.listed other_is.listed is.known (rw same other_is.known) in
-    is.written ∙ (λ i. image_bytes (same i) (list i) state) ∙ sym other_is.written
+one_image state image other is other_is same = cc
 
 -- The flags are below 8.
 pub flags_of-le : (changed : EachMaster Bool) (protected : Bool) → flags_of changed protected ≤ 7
@@ -109,10 +98,8 @@ held_len state valid = length_written (bytes_in state.contents) (λ r. (valid r)
 pub held_in_image : (state : DeviceState) → AreValid state.contents → (listed : List Register) → end_to_end 0 listed ≡ true
     → (register : Register) → Contains listed register
     → standing_for register (flat_map (bytes_in state.contents) listed ++ image_ending state) ≡ bytes_in state.contents register
-held_in_image state valid listed ends register is_listed =
-    let same : slice_index_or listed is_listed.0 register ≡ register = is_listed.2 in
-    subst (λ (r : Register). standing_for r (flat_map (bytes_in state.contents) listed ++ image_ending state) ≡ bytes_in state.contents r)
-    same (written (bytes_in state.contents) [] (image_ending state) listed ends (λ r. (valid r).0) is_listed.0 register is_listed.1)
+held_in_image state valid listed ends register there =
+    rw there.2 at (written (bytes_in state.contents) [] (image_ending state) listed ends (λ r. (valid r).0) there.0 register there.1)
 
 -- What was read of the registers in an array, and of the bytes that end an image, is what the image says.
 pub read_is : (version : ℕ) (listed : List Register) → registers_of_version version ≡ Some listed
@@ -121,19 +108,18 @@ pub read_is : (version : ℕ) (listed : List Register) → registers_of_version 
     → values_of parts.values ≡ contents_in array → AreValid (values_of parts.values) × (parts.counter < 2 ^ 16)
     → two_bytes parts.counter ++ flags_of parts.flags.changed parts.flags.protected ∷ [] ≡ end
     → (identity : IdentityParts) → IsImageOf (state_with identity parts) (version ∷ (prefix ++ end))
-read_is version listed known parts array prefix end fill long_tag contents valid ends identity = record {
-  contents = valid.0;
-  counter = valid.1;
-  version = version;
-  listed = listed;
-  known = known;
-  long_tag = subst (λ (c : Contents). (Contains listed LongTag → ⊥) → IsLongTagOf c.tag c.long_tag) (sym contents) long_tag;
-  written = ap (λ xs. version ∷ xs) (ap (λ xs. prefix ++ xs) (sym ends)
-      ∙ ap (λ xs. xs ++ image_ending (state_with identity parts)) (sym fill)
-      ∙ ap (λ (bytes : Register → List ℕ). flat_map bytes listed ++ image_ending (state_with identity parts))
-      (λ i register. sym (bytes_in-contents_by (λ r. standing_for r array) register) i)
-      ∙ ap (λ (c : Contents). flat_map (bytes_in c) listed ++ image_ending (state_with identity parts)) (sym contents));
-}
+read_is version listed known parts array prefix end fill long_tag contents valid ends identity =
+    let held : flat_map (bytes_in (contents_in array)) listed ≡ prefix =
+    (λ i. flat_map (λ register. bytes_in-contents_by (λ r. standing_for r array) register i) listed) ∙ fill in
+    record {
+      contents = valid.0;
+      counter = valid.1;
+      version = version;
+      listed = listed;
+      known = known;
+      long_tag = subst (λ (c : Contents). (Contains listed LongTag → ⊥) → IsLongTagOf c.tag c.long_tag) (sym contents) long_tag;
+      written = rw (← ends, ← held, contents);
+    }
 
 -- The flags are the last byte of an image.
 pub last_is : (version : ℕ) (prefix end : List ℕ) → length end ≡ 3
@@ -144,10 +130,7 @@ last_is version prefix end three =
 -- What stands for a register before the end of some bytes stands for it also if others follow them.
 pub before_others : (register : Register) (prefix others : List ℕ) → end_of register ≤ length prefix
     → standing_for register (prefix ++ others) ≡ standing_for register prefix
-before_others register prefix others fits =
-    between_is (prefix ++ others) (start_of register) (end_of register)
-    ∙ ap (drop (start_of register)) (take-append-le (end_of register) prefix others fits)
-    ∙ sym (between_is prefix (start_of register) (end_of register))
+before_others register prefix others fits = grind (arith, common_steps, between_is, take-append-le)
 
 -- A register that is bad in the array, or bad flags in the bytes that end an image, are a bad field.
 pub bad_field : (version : ℕ) (listed : List Register) (array prefix end : List ℕ) → length end ≡ 3
@@ -162,24 +145,17 @@ bad_field version listed array prefix end three has whole (inr above) = inr (rw 
 pub no_fault : (state : DeviceState) (image : List ℕ) (fault : DeviceFault) → IsImageOf state image → IsImageFault image fault → ⊥
 no_fault state [] fault is faulty = let none = is.written in cc
 no_fault state (version ∷ rest) BadVersion is faulty =
-    let first : version ≡ is.version = ap (λ xs. slice_index xs 0) is.written in
-    let unknown : registers_of_version is.version ≡ None = subst (λ v. registers_of_version v ≡ None) first faulty in
-    let no = sym unknown ∙ is.known in
-    cc
+    let written = is.written in cc
 no_fault state (version ∷ rest) BadLength is (listed, known, wrong) =
     let len = held_len state is.contents listed in
-    let says = said state version rest listed known is in
-    let all : length rest ≡ sum_by size_of listed + 3 = ap (λ (xs : List ℕ). length xs) says.0 ∙ (grind (arith, common_steps)) in
-    wrong (omega (arith, all))
+    wrong (grind (arith, common_steps, (said state version rest listed known is).0, len))
 no_fault state (version ∷ rest) BadField is (listed, known, len, inl (register, there, bad)) =
     let after = (said state version rest listed known is).0 in
     bad (rw (after, held_in_image state is.contents listed (ends_of version listed known) register there) (is.contents register))
 no_fault state (version ∷ rest) BadField is (listed, known, len, inr above) =
     let after : rest ≡ flat_map (bytes_in state.contents) listed ++ image_ending state = (said state version rest listed known is).0 in
     let last = last_is version (flat_map (bytes_in state.contents) listed) (image_ending state) refl in
-    let flags : 7 < flags_of state.changed state.protected =
-    subst (λ n. 7 < n) last (subst (λ (xs : List ℕ). 7 < slice_index (version ∷ xs) (length (version ∷ xs) - 1)) after above) in
-    absurd (omega (arith, flags, flags_of-le state.changed state.protected))
+    absurd (omega (arith, rw (after, last) at above, flags_of-le state.changed state.protected))
 no_fault state (version ∷ rest) _ is faulty = faulty
 
 -- Bytes have one fault.
@@ -187,25 +163,15 @@ pub one_fault : (image : List ℕ) (fault other : DeviceFault) → IsImageFault 
 one_fault image fault other p q = grind (arith, nat_tests, one_list)
 
 -- Flags determine what they are of.
-flags_determine : (a b c x y z : Bool)
-    → ◌≡◌ {A = ℕ} ((if a then 1 else 0) + (if b then 2 else 0) + (if c then 4 else 0))
-    ((if x then 1 else 0) + (if y then 2 else 0) + (if z then 4 else 0))
-    → (a ≡ x) × (b ≡ y) × (c ≡ z)
-flags_determine a b c x y z same = grind arith
+flags_determine : (changed others : EachMaster Bool) (protected other : Bool)
+    → flags_of changed protected ≡ flags_of others other → (changed ≡ others) × (protected ≡ other)
+flags_determine changed others protected other same = grind arith
 
 -- A state is determined by its parts.
 same_state : (state other : DeviceState) → state.identity ≡ other.identity → state.contents ≡ other.contents
     → state.counter ≡ other.counter → state.changed ≡ other.changed → state.protected ≡ other.protected
     → state.cold_start ≡ other.cold_start → state ≡ other
-same_state state other identity contents counter changed protected cold_start =
-    λ i. record {
-      identity = identity i;
-      contents = contents i;
-      counter = counter i;
-      changed = changed i;
-      protected = protected i;
-      cold_start = cold_start i;
-    }
+same_state state other identity contents counter changed protected cold_start = grind arith
 
 -- Contents are determined by what an image says of them.
 one_contents : (state other : DeviceState) (listed : List Register)
@@ -220,15 +186,14 @@ one_contents state other listed one_text is_listed same long_tag other_long_tag 
   where
     one_long_tag : (tag a b : List ℕ) → IsLongTagOf tag a → IsLongTagOf tag b → a ≡ b
     one_long_tag tag a b (text, packed, is) (others, other_packed, other_is) =
-        is ∙ ap (λ xs. xs ++ replicate 24 0x20) (one_text text others tag packed other_packed) ∙ sym other_is
+        let same = one_text text others tag packed other_packed in cc
 
     by_listed : (register : Register)
         → Contains listed register ⊎ ((register ≡ LongTag) × (Contains listed LongTag → ⊥) × Contains listed Tag)
         → bytes_in state.contents register ≡ bytes_in other.contents register
     by_listed register (inl there) = same register there
     by_listed register (inr (is, not, tag)) =
-        let mine = subst (λ (t : List ℕ). IsLongTagOf t state.contents.long_tag) (same Tag tag) (long_tag not) in
-        rw is (one_long_tag other.contents.tag state.contents.long_tag other.contents.long_tag mine (other_long_tag not))
+        rw is (one_long_tag other.contents.tag _ _ (rw (same Tag tag) at (long_tag not)) (other_long_tag not))
 
 -- An image is of one state.
 pub one_state : (state other : DeviceState) (image : List ℕ) → ((register : Register) → Contains registers register)
@@ -237,25 +202,23 @@ pub one_state : (state other : DeviceState) (image : List ℕ) → ((register : 
 one_state state other [] every one_text is other_is identity cold_start = let none = is.written in cc
 one_state state other (version ∷ rest) every one_text is other_is identity cold_start =
     let listed = is.listed in
-    let first : is.version ≡ version = ap (λ xs. slice_index xs 0) (sym is.written) in
-    let known : registers_of_version version ≡ Some listed = rw (← first) is.known in
+    let written = is.written in
+    let known : registers_of_version version ≡ Some listed = cc in
     let says = said state version rest listed known is in
     let other_says = said other version rest listed known other_is in
-    let same : flat_map (bytes_in state.contents) listed ++ image_ending state
-    ≡ flat_map (bytes_in other.contents) listed ++ image_ending other =
-    sym says.0 ∙ other_says.0 in
+    let same = sym says.0 ∙ other_says.0 in
     let table = ends_of version listed known in
     let contents : state.contents ≡ other.contents =
     one_contents state other listed one_text (listed_or_not version listed known every) (λ register there.
     sym (held_in_image state is.contents listed table register there) ∙ ap (standing_for register) same
     ∙ held_in_image other other_is.contents listed table register there) says.1 other_says.1 in
     let ends : image_ending state ≡ image_ending other =
-    sym (drop_at _ (image_ending state) (sum_by size_of listed) (held_len state is.contents listed))
-    ∙ ap (drop (sum_by size_of listed)) same
-    ∙ drop_at _ (image_ending other) (sum_by size_of listed) (held_len other other_is.contents listed) in
+    rw (
+      drop_at _ (image_ending state) (sum_by size_of listed) (held_len state is.contents listed),
+      drop_at _ (image_ending other) (sum_by size_of listed) (held_len other other_is.contents listed),
+    )
+    at (ap (drop (sum_by size_of listed)) same) in
     let high : state.counter / 256 ≡ other.counter / 256 = ap (λ xs. slice_index xs 0) ends in
     let low : state.counter % 256 ≡ other.counter % 256 = ap (λ xs. slice_index xs 1) ends in
-    let bits = flags_determine state.changed.primary state.changed.secondary state.protected
-    other.changed.primary other.changed.secondary other.protected (ap (λ xs. slice_index xs 2) ends) in
-    same_state state other identity contents (omega (arith, high, low)) (λ i. record { primary = bits.0 i; secondary = bits.1 i }) bits.2
-    cold_start
+    let bits = flags_determine state.changed other.changed state.protected other.protected (ap (λ xs. slice_index xs 2) ends) in
+    same_state state other identity contents (omega (arith, high, low)) bits.0 bits.1 cold_start
