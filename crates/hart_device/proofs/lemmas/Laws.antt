@@ -11,28 +11,16 @@ use Rattle.hart_commands.specs.declared.request.Request.TheVariants.{ResetChange
 use Rattle.hart_device.specs.Device.{DeviceState, Executes, Nothing, Resets}
 use Rattle.hart_device.specs.answer.Answer.{answer_of, asked_effect, code_of, effect_of, is_answered, reading_of, reply_of}
 use Rattle.hart_device.specs.answer.Delivery.{Brings, Brought}
-use Rattle.hart_device.specs.answer.Garbled.{HasGarbled}
 use Rattle.hart_device.specs.image.Image.{IsImageFault, IsImageOf}
 use Rattle.hart_device.specs.registers.Ranges.{array_length, end_of, standing_for, start_of}
-use Rattle.hart_device.specs.declared.answer.garbled.GarbledRequest.{GarbledRequest}
 use Rattle.hart_device.specs.declared.fault.DeviceFault.{DeviceFault}
 use Rattle.hart_device.specs.declared.identity_parts.IdentityParts.{IdentityParts}
 use Rattle.hart_device.specs.declared.process.Process.{Process}
 use Rattle.hart_device.proofs.lemmas.answer.Delivery.{Brings-found, Brings-one}
 use Rattle.hart_device.proofs.lemmas.answer.Effect.{answered_if, effect_executes_only, judged_has_code, refused, resets_only}
-use Rattle.hart_device.proofs.lemmas.answer.Garbled.{garbled_decided, garbled_one}
 use Rattle.hart_device.proofs.lemmas.image.Image.{no_fault}
 use Rattle.hart_device.proofs.lemmas.registers.Range.{filled, table}
 use Rattle.hart_device.proofs.lemmas.registers.Registers.{registers_of-again, registers_of-append, registers_of-cons}
-
-pub garbled_requests_are_decided-one : (identity : IdentityParts) (chars : List Character) (request other : GarbledRequest)
-    → HasGarbled identity chars request → HasGarbled identity chars other → request ≡ other
-garbled_requests_are_decided-one = garbled_one
-
-pub garbled_requests_are_decided-decided : (identity : IdentityParts) (chars : List Character)
-    → ((request : GarbledRequest) × HasGarbled identity chars request)
-    ⊎ ((request : GarbledRequest) → HasGarbled identity chars request → ⊥)
-garbled_requests_are_decided-decided = garbled_decided
 
 pub deliveries_bring_one-brings : (identity : IdentityParts) (delivery : List Character)
     → (brought : Brought) × Brings identity delivery brought

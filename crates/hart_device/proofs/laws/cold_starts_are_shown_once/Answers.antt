@@ -1,4 +1,4 @@
-use Rattle.std.proofs.Common.{if◌then◌else◌, ◌≡◌, ◌∙◌, ℕ, Bool, Some, IsSomeAnd, slice_get, ap, subst, false, true}
+use Rattle.std.proofs.Common.{if◌then◌else◌, ◌≡◌, ◌∙◌, ℕ, Bool, Some, IsSomeAnd, slice_get, ap, subst, false}
 use Rattle.std.specs.Int.{bit_at}
 use Rattle.hart_values.specs.EachMaster.{of_master}
 use Rattle.hart_values.specs.declared.each_master.EachMaster.{EachMaster}
@@ -8,7 +8,7 @@ use Rattle.hart_device.specs.Device.{DeviceState}
 use Rattle.hart_device.specs.Process.{has_more_status}
 use Rattle.hart_device.specs.answer.Status.{is_loop_current_fixed}
 use Rattle.hart_device.specs.declared.process.Process.{Process}
-use Rattle.hart_device.proofs.lemmas.answer.ColdStart.{bit_in_status, cleared, effect_keeps, set_for, status_of, stays, with_this}
+use Rattle.hart_device.proofs.lemmas.answer.ColdStart.{bit_in_status, cleared, effect_keeps, status_of, with_this}
 use Rattle.hart_device.proofs.laws.cold_starts_are_shown_once.Goals as goal
 
 shown : (state : DeviceState) (process : Process) (frame reply : FrameParts) → answer_of state process frame ≡ Some reply
@@ -25,9 +25,6 @@ shown state process frame reply is =
 pub returns-clause-shown : goal.returns-clause-shown
 returns-clause-shown c = shown
 
-pub returns-clause-set : goal.returns-clause-set
-returns-clause-set c = λ state master. set_for master true
-
 pub returns-clause-once : goal.returns-clause-once
 returns-clause-once c = λ state process frame later reply answered same is.
     let bits = cleared (is_answered state frame) frame.master (effect_of state frame) state answered in
@@ -38,7 +35,3 @@ returns-clause-once c = λ state process frame later reply answered same is.
 
 pub returns-clause-cleared : goal.returns-clause-cleared
 returns-clause-cleared c = λ state frame. cleared (is_answered state frame) frame.master (effect_of state frame) state
-
-pub returns-clause-stays : goal.returns-clause-stays
-returns-clause-stays c = λ state frame is.
-    ap (λ (s : DeviceState). s.cold_start) (stays (is_answered state frame) frame.master (effect_of state frame) state is)

@@ -1,5 +1,5 @@
 use Rattle.hart_device.specs.answer.Answer.{asked_effect, code_of, effect_of, is_answered, reading_of}
-use Rattle.hart_device.proofs.lemmas.answer.ColdStart.{stays, without_effect}
+use Rattle.hart_device.proofs.lemmas.answer.ColdStart.{without_effect}
 use Rattle.hart_device.proofs.lemmas.answer.Effect.{refused}
 use Rattle.hart_device.proofs.laws.refused_commands_change_nothing.Goals as goal
 
@@ -9,6 +9,3 @@ returns-clause-refused c = λ state frame.
 
 pub returns-clause-stays : goal.returns-clause-stays
 returns-clause-stays c = λ state frame. without_effect (is_answered state frame) frame.master (effect_of state frame) state
-
-pub returns-clause-stays_in_silence : goal.returns-clause-stays_in_silence
-returns-clause-stays_in_silence c = λ state frame. stays (is_answered state frame) frame.master (effect_of state frame) state

@@ -1,4 +1,4 @@
-use Rattle.hart_device.proofs.lemmas.registers.Registers.{registers_of-cons, registers_of-append, registers_of-again, bytes_in-registers_of}
+use Rattle.hart_device.proofs.lemmas.registers.Registers.{registers_of-cons, registers_of-append, registers_of-again}
 use Rattle.hart_device.proofs.laws.registers_of_lists.Goals as goal
 
 pub returns-clause-first : goal.returns-clause-first
@@ -9,6 +9,3 @@ returns-clause-last c = registers_of-append
 
 pub returns-clause-again : goal.returns-clause-again
 returns-clause-again c = registers_of-again
-
-pub returns-clause-each : goal.returns-clause-each
-returns-clause-each c = bytes_in-registers_of

@@ -16,10 +16,6 @@ use Rattle.hart_device.specs.answer.Status.{bit_if}
 abbrev pub left_by : Bool → MasterId → Effect → DeviceState → DeviceState
 left_by answered master effect state = if answered then after_reply master (after master effect state) else state
 
-pub stays : (answered : Bool) (master : MasterId) (effect : Effect) (state : DeviceState) → answered ≡ false
-    → left_by answered master effect state ≡ state
-stays answered master effect state is = grind arith
-
 pub without_effect : (answered : Bool) (master : MasterId) (effect : Effect) (state : DeviceState) → effect ≡ Nothing
     → left_by answered master effect state
     ≡ record state { cold_start = if answered then with_master master false state.cold_start else state.cold_start }
@@ -45,9 +41,6 @@ pub status_of : (holds : Bool) (frame reply : FrameParts) (answer : Reply) (P : 
     → IsSomeAnd (slice_get reply.payload 1) P
 status_of true frame reply answer P is has = let same : reply_parts frame (reply_payload answer) ≡ reply = cc in rw (← same) has
 status_of false frame reply answer P is has = cc
-
-pub set_for : (master : MasterId) (bit : Bool) → of_master master (record { primary = bit; secondary = bit }) ≡ bit
-set_for master bit = grind arith
 
 pub with_this : (master : MasterId) (bit : Bool) (bits : EachMaster Bool) → of_master master (with_master master bit bits) ≡ bit
 with_this master bit bits = grind arith
