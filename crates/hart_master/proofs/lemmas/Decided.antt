@@ -7,6 +7,7 @@ use Rattle.hart_values.specs.declared.address.Address.{Address}
 use Rattle.hart_frame.specs.heard.Character.{Character}
 use Rattle.hart_frame.specs.wire.FrameParts.{FrameParts}
 use Rattle.hart_frame.specs.heard.Frames.{AreFrames}
+use Rattle.hart_frame.proofs.lemmas.Laws.{every_list_has_frames, frames_are_unambiguous-one_list}
 use Rattle.hart_frame.specs.declared.heard.found.Found.{Found}
 use Rattle.hart_commands.specs.ReplyData.{reply_reading}
 use Rattle.hart_commands.specs.declared.request.Request.{Request}
@@ -17,10 +18,6 @@ use Rattle.hart_master.proofs.lemmas.Acceptance.{IsAlone, NoOther, IsReplyTo-alo
 -- a fact holds or does not
 abbrev Decided : Type 0 → Type 0
 Decided P = P ⊎ (P → ⊥)
-
--- the law that a list of characters has one list of frames
-abbrev pub OneList : Type 0
-OneList = (chars : List Character) (from : ℕ) (xs ys : List Found) → AreFrames chars from xs → AreFrames chars from ys → xs ≡ ys
 
 -- there is a reply with this, or none
 abbrev pub OneOrNone : (Reply → Type 0) → Type 0
@@ -54,24 +51,23 @@ decided_alone id address request chars found alone no_other (inr nothing) =
     inr (λ reply accepted. nothing reply (IsReplyTo-alone id address request chars found reply no_other accepted))
 
 -- and one with no frame, or with several, as none
-decided_by : OneList → (id : MasterId) (address : Address) (request : Request)
-    → ((frame : FrameParts) → OneOrNone (IsReplyTo id address request frame))
-    → (chars : List Character) (frames : List Found) → AreFrames chars 0 frames → OneOrNone (IsAccepted id address request chars)
-decided_by law id address request each chars [] are =
-    inr (λ reply accepted. let same = law chars 0 [] (accepted.found ∷ []) are accepted.alone in cc)
-decided_by law id address request each chars (found ∷ []) are =
+decided_by : (id : MasterId) (address : Address) (request : Request) (chars : List Character) (frames : List Found)
+    → AreFrames chars 0 frames → OneOrNone (IsAccepted id address request chars)
+decided_by id address request chars [] are =
+    inr (λ reply accepted. let same = frames_are_unambiguous-one_list chars 0 [] (accepted.found ∷ []) are accepted.alone in cc)
+decided_by id address request chars (found ∷ []) are =
     decided_alone id address request chars found are
-    (λ other alone. let same = law chars 0 (other ∷ []) (found ∷ []) alone are in cc) (each found.frame)
-decided_by law id address request each chars (found ∷ second ∷ later) are =
-    inr (λ reply accepted. let same = law chars 0 (found ∷ second ∷ later) (accepted.found ∷ []) are accepted.alone in cc)
+    (λ other alone. let same = frames_are_unambiguous-one_list chars 0 (other ∷ []) (found ∷ []) alone are in cc)
+    (reply_decided id address request found.frame)
+decided_by id address request chars (found ∷ second ∷ later) are =
+    inr (λ reply accepted.
+    let same = frames_are_unambiguous-one_list chars 0 (found ∷ second ∷ later) (accepted.found ∷ []) are accepted.alone in cc)
 
-pub acceptance_decided : OneList
-    → ((id : MasterId) (address : Address) (request : Request) (frame : FrameParts) → OneOrNone (IsReplyTo id address request frame))
-    → ((chars : List Character) (from : ℕ) → (frames : List Found) × AreFrames chars from frames)
-    → (id : MasterId) (address : Address) (request : Request) (chars : List Character) → OneOrNone (IsAccepted id address request chars)
-acceptance_decided law each every id address request chars =
-    let frames = every chars 0 in
-    decided_by law id address request (each id address request) chars frames.0 frames.1
+pub acceptance_decided : (id : MasterId) (address : Address) (request : Request) (chars : List Character)
+    → OneOrNone (IsAccepted id address request chars)
+acceptance_decided id address request chars =
+    let frames = every_list_has_frames chars 0 in
+    decided_by id address request chars frames.0 frames.1
 
 -- a payload whose first byte is above 127 is read as no reply
 pub never_read : (command : ℕ) (payload : List ℕ) (reply : Reply) → 128 ≤ slice_index payload 0

@@ -2,5 +2,4 @@ use Rattle.hart_master.proofs.lemmas.Decided.{acceptance_decided}
 use Rattle.hart_master.proofs.laws.acceptance_is_decided.Goals as goal
 
 pub returns-clause-decided : goal.returns-clause-decided
-returns-clause-decided c =
-    acceptance_decided c.frames_are_unambiguous.ensures.one_list c.replies_are_decided.ensures.decided c.every_list_has_frames.ensures
+returns-clause-decided c = acceptance_decided
