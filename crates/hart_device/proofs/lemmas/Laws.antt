@@ -1,5 +1,5 @@
 -- The laws of devices, for the proofs of this crate and of those above.
-use Rattle.std.proofs.Common.{◌≡◌, ◌≢◌, ◌≤◌, ◌⊎◌, ◌∙◌, ap, rules, false, true, ℕ, Contains, List, [], ◌∷◌, ◌++◌, length, sym}
+use Rattle.std.proofs.Common.{◌≡◌, ◌≢◌, ◌≤◌, ◌⊎◌, ◌∙◌, ap, refl, rules, false, true, ℕ, Contains, List, [], ◌∷◌, ◌++◌, length, sym}
 use Rattle.std.proofs.Common.{IfSome, Ok, Option, Some, slice_get}
 use Rattle.std.specs.List.{flat_map}
 use Rattle.hart_frame.specs.heard.Character.{Character}
@@ -19,7 +19,7 @@ use Rattle.hart_device.specs.declared.process.Process.{Process}
 use Rattle.hart_device.proofs.lemmas.answer.Delivery.{Brings-found, Brings-one}
 use Rattle.hart_device.proofs.lemmas.answer.Effect.{answered_if, effect_executes_only, judged_has_code, refused, resets_only}
 use Rattle.hart_device.proofs.lemmas.image.Image.{no_fault}
-use Rattle.hart_device.proofs.lemmas.registers.Range.{filled, table}
+use Rattle.hart_device.proofs.lemmas.registers.Range.{filled}
 use Rattle.hart_device.proofs.lemmas.registers.Registers.{registers_of-again, registers_of-append, registers_of-cons}
 
 pub deliveries_bring_one-brings : (identity : IdentityParts) (delivery : List Character)
@@ -93,4 +93,4 @@ ranges_apart register other differ = search rules
 
 pub ranges_fill : (array : List ℕ) → length array ≡ array_length
     → flat_map (λ register. standing_for register array) registers ≡ array
-ranges_fill array len = filled array 0 registers table (sym len)
+ranges_fill array len = filled array 0 registers refl (sym len)

@@ -16,10 +16,6 @@ abbrev pub end_to_end : ℕ → List Register → Bool
 end_to_end from [] = true
 end_to_end from (register ∷ later) = (start_of register == from) && end_to_end (end_of register) later
 
--- So it is in the table of the ranges.
-pub table : end_to_end 0 registers ≡ true
-table = refl
-
 starts : (from : ℕ) (register : Register) (later : List Register) → end_to_end from (register ∷ later) ≡ true
     → (start_of register ≡ from) × (end_to_end (end_of register) later ≡ true)
 starts from register later h = grind (arith, nat_tests)

@@ -1,6 +1,6 @@
 -- Writing registers into an array, one after another.
 use Rattle.std.proofs.Common.{◌≡◌, ◌≢◌, ℕ, ◌+◌, ◌-◌, ◌<◌, ◌≤◌, ◌⊎◌, inl, inr, ap, ◌∙◌, arith}
-use Rattle.std.proofs.Common.{List, length, take, drop, nat_lt, if◌then◌else◌, Option, None, unwrap_or, refl}
+use Rattle.std.proofs.Common.{List, length, take, drop, nat_lt, if◌then◌else◌, Option, None, unwrap_or}
 use Rattle.std.specs.List.{AllPairs, Contains, slice_index_or, slice_range}
 use Rattle.std.proofs.lemmas.Bool.Decides.{nat_tests}
 use Rattle.std.proofs.lemmas.List.{get_or_default}
@@ -53,10 +53,7 @@ one_more given old now new place within once written others before k k_within =
 pub none_more : (given : Register → Option (List ℕ)) (old now : List ℕ) (place : ℕ) → place < length registers
     → AllPairs (λ register other. register ≢ other) registers → given (register_at place) ≡ None
     → AreWrittenBefore place given old now → AreWrittenBefore (place + 1) given old now
-none_more given old now place within once none before =
-    let here = before place within in
-    let held : standing_for (register_at place) now ≡ standing_for (register_at place) old = grind (arith, nat_tests, here) in
-    one_more given old now now place within once (rw none held) (λ other differ. refl) before
+none_more given old now place within once none before k k_within = grind (arith, nat_tests, none, before k k_within)
 
 -- All of them have been written at the end of the list.
 pub all_written : (given : Register → Option (List ℕ)) (old now : List ℕ) (place : ℕ) → length registers ≤ place

@@ -1,7 +1,7 @@
-use Rattle.std.proofs.Common.{◌≡◌, ℕ, ap, sym, ◌∙◌, List, ◌∷◌, ◌++◌, length, take, length-append, refl, arith}
-use Rattle.std.specs.List.{flat_map, slice_index_or}
+use Rattle.std.proofs.Common.{◌≡◌, refl, arith}
+use Rattle.std.specs.List.{slice_index_or}
 use Rattle.std.proofs.lemmas.Grind.{common_steps}
-use Rattle.hart_commands.specs.Registers.{Contents, bytes_in, registers}
+use Rattle.hart_commands.specs.Registers.{bytes_in, registers}
 use Rattle.hart_commands.specs.declared.register.Register.TheVariants.{Polling}
 use Rattle.hart_device.proofs.lemmas.registers.Range.{next_size, next_written}
 use Rattle.hart_device.proofs.device.Device.image.Goals as goal
@@ -28,11 +28,8 @@ loop-register-preserved g c =
     let len = next_size place within in
     let before = c.loop-register.invariant in
     let got : c.get.result.now ≡ bytes_in c.args.self.now.contents (slice_index_or registers place Polling) =
-    c.get.ensures.value ∙ ap (λ (contents : Contents). bytes_in contents (slice_index_or registers place Polling))
-    c.registers-registers.ensures.contents in
+    rw c.registers-registers.ensures.contents at c.get.ensures.value in
     record {
-      bytes = c.extend_from_slice.ensures ∙ ap (λ xs. xs ++ c.get.result.now) before.bytes
-          ∙ ap (λ xs. 2 ∷ (flat_map (bytes_in c.args.self.now.contents) (take place registers) ++ xs)) got ∙ ap (λ xs. 2 ∷ xs) (sym bytes);
-      len = ap (λ (xs : List ℕ). length xs) c.extend_from_slice.ensures ∙ length-append c.loop-register.image c.get.result.now
-          ∙ (omega (arith, before.len, len, c.get.ensures.size));
+      bytes = rw (c.extend_from_slice.ensures, before.bytes, got, bytes);
+      len = grind (arith, common_steps, c.extend_from_slice.ensures, before.len, len, c.get.ensures.size);
     }
