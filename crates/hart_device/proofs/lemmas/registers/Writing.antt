@@ -50,10 +50,9 @@ one_more given old now new place within once written others before k k_within =
     grind (arith, nat_tests, written, places_differ once k place k_within within, others (register_at k), before k k_within)
 
 -- So it does also if it is given nothing.
-pub none_more : (given : Register → Option (List ℕ)) (old now : List ℕ) (place : ℕ) → place < length registers
-    → AllPairs (λ register other. register ≢ other) registers → given (register_at place) ≡ None
+pub none_more : (given : Register → Option (List ℕ)) (old now : List ℕ) (place : ℕ) → given (register_at place) ≡ None
     → AreWrittenBefore place given old now → AreWrittenBefore (place + 1) given old now
-none_more given old now place within once none before k k_within = grind (arith, nat_tests, none, before k k_within)
+none_more given old now place none before k k_within = grind (arith, nat_tests, none, before k k_within)
 
 -- All of them have been written at the end of the list.
 pub all_written : (given : Register → Option (List ℕ)) (old now : List ℕ) (place : ℕ) → length registers ≤ place

@@ -26,6 +26,5 @@ loop-register-preserved c = elim c.match-get.branch [
   | in_default w ↦
       let named = sym c.get.ensures.named ∙ ap (option_map (λ bytes. bytes.now)) w.in_default.is in
       rw w.self-is (none_more (named_in c.args.overwrite.now) c.args.self.now.bytes c.loop-register.self.bytes
-      c.loop-register.register-index c.loop-register-test.true all_registers_are_listed_once-once
-      named c.loop-register.invariant)
+      c.loop-register.register-index named c.loop-register.invariant)
 ]
