@@ -34,10 +34,7 @@ BeginsWithBody-heard chars f len heard =
 -- the characters of a heard body
 pub take-heard : (chars : List Character) (f : FrameParts) (len : ℕ) (heard : BeginsWithHeard chars f len)
     → take len chars ≡ faultless heard.body
-take-heard chars f len heard =
-    ap (take len) heard.split
-    ∙ take_at (faultless heard.body) heard.rest len (length-map heard.body (λ (byte : ℕ). record { byte = byte; faults = 0 })
-    ∙ sym heard.whole)
+take-heard chars f len heard = grind (arith, take_at, length-map)
 
 -- a character that is read at a place has the byte there
 pub byte_at : (chars : List Character) (i : ℕ) (c : Character) → i < length chars → c ≡ get_or chars i c
@@ -56,17 +53,7 @@ pub record SaidBy (chars : List Character) (delimiter place count : ℕ) : Type 
 pub said_by : (chars : List Character) (first counted : Character) (delimiter place count : ℕ) → 0 < length chars
     → first ≡ get_or chars 0 first → delimiter ≡ first.byte → place < length chars → counted ≡ get_or chars place counted
     → count ≡ counted.byte → place ≡ 3 + 4 * (delimiter / 128) + delimiter / 32 % 4 → SaidBy chars delimiter place count
-said_by chars first counted delimiter place count some first_is is within counted_is counts at =
-    let long = length-map chars (λ (character : Character). character.byte) in
-    let delimiter_is : delimiter_in (bytes_of chars) ≡ delimiter = byte_at chars 0 first some first_is ∙ sym is in
-    let place_is : byte_count_place (bytes_of chars) ≡ place = omega (arith, delimiter_is, at) in
-    record {
-      delimiter_is = delimiter_is;
-      place_is = place_is;
-      count_is = ap (λ (n : ℕ). get_or (bytes_of chars) n 0) place_is ∙ byte_at chars place counted within counted_is ∙ sym counts;
-      some = omega (arith, long, some);
-      within = omega (arith, long, within);
-    }
+said_by chars first counted delimiter place count some first_is is within counted_is counts at = grind (arith, length-map, byte_at)
 
 -- faultless characters have no fault
 pub no_fault : (chars : List Character) (bytes : List ℕ) → chars ≡ faultless bytes → All (λ character. character.faults ≡ 0) chars
@@ -78,7 +65,4 @@ no_fault chars bytes are =
 -- a faultless character is made of its byte
 pub faultless_made : (first : Character) (others : List Character) (rest : List ℕ) → first.faults ≡ 0 → others ≡ faultless rest
     → first ∷ others ≡ faultless (first.byte ∷ rest)
-faultless_made first others rest faults same =
-    let of : ℕ → ℕ → List Character → List Character = λ b f cs. (record { byte = b; faults = f }) ∷ cs in
-    let all : of first.byte first.faults others ≡ of first.byte 0 (faultless rest) = cc in
-    all
+faultless_made first others rest faults same = grind arith

@@ -71,10 +71,7 @@ record BeginsWith (bytes prefix : List ℕ) : Type 0 where
 begins_sent : (bytes prefix : List ℕ) (more : List Character) → AreHeardOrMarked bytes (faultless prefix ++ more) → BeginsWith bytes prefix
 begins_sent bytes [] more heard = record { rest = bytes; parts = refl }
 begins_sent [] (byte ∷ prefix) more heard = absurd heard
-begins_sent (sent ∷ bytes) (byte ∷ prefix) more heard =
-    let others = begins_sent bytes prefix more heard.1 in
-    let same = clear_is sent byte heard.0 in
-    record { rest = others.rest; parts = ap (λ (b : ℕ). b ∷ bytes) (sym same) ∙ ap (λ (bs : List ℕ). byte ∷ bs) others.parts }
+begins_sent (sent ∷ bytes) (byte ∷ prefix) more heard = grind (arith, clear_is, begins_sent bytes prefix more heard.1)
 
 -- WHERE A FRAME CAN STAND
 -- a body gives its delimiter and its length
@@ -104,9 +101,7 @@ part_at chars found from count place stands is =
 -- the body there begins with its delimiter
 first_at : (f : FrameParts) (body : List ℕ) (rest : List Character) → IsBody f body
     → get_or (faultless body ++ rest) 0 preamble ≡ clear (delimiter_of f)
-first_at f body rest is =
-    ap (λ (xs : List ℕ). get_or (faultless xs ++ rest) 0 preamble)
-    (is.parts ∙ ap (λ (xs : List ℕ). xs ++ is.check ∷ []) is.checked_part.parts)
+first_at f body rest is = grind (arith, preamble)
 
 -- what was sent: so many preamble bytes, and bytes that begin with no preamble byte; and what was heard of it
 record IsHeard (left : ℕ) (body : List ℕ) (chars : List Character) : Type 0 where
@@ -198,22 +193,12 @@ own frame left chars = record { start = left; stop = length chars; frame = frame
 -- what marked damage is heard of
 marked_heard : (frame : FrameParts) (preambles : ℕ) (chars : List Character) (damage : IsMarkedDamage frame preambles chars)
     → IsHeard damage.left damage.body chars
-marked_heard frame preambles chars damage =
-    let said = says_of frame damage.body damage.is_body in
-    record {
-      some = omega (arith, said.whole);
-      delimiter = λ same. delimiter_of-other frame damage.body damage.is_body (sym said.delimiter ∙ same);
-      heard = damage.heard;
-      no_two_preambles = damage.no_two_preambles;
-    }
+marked_heard frame preambles chars damage = grind (arith, says_of, delimiter_of-other)
 
 -- found frames are the same if their parts are
 same_found : (found : Found) (frame : FrameParts) (start stop : ℕ) → found.start ≡ start → found.stop ≡ stop → found.frame ≡ frame
     → found ≡ record { start = start; stop = stop; frame = frame }
-same_found found frame start stop starts stops frames =
-    let of : ℕ → ℕ → FrameParts → Found = λ s t f. record { start = s; stop = t; frame = f } in
-    let all : of found.start found.stop found.frame ≡ of start stop frame = cc in
-    all
+same_found found frame start stop starts stops frames = grind arith
 
 -- a frame that stands there is the message's own
 marked_own : BodyLaws → (frame : FrameParts) (preambles : ℕ) (chars : List Character) (damage : IsMarkedDamage frame preambles chars)
@@ -255,16 +240,7 @@ AreFrames-marked laws frame preambles chars damage =
 -- what check damage is heard of
 check_heard : (frame : FrameParts) (preambles : ℕ) (chars : List Character) (damage : IsCheckDamage frame preambles chars)
     → IsHeard damage.left damage.bytes chars
-check_heard frame preambles chars damage =
-    let said = says_of frame damage.body damage.is_body in
-    let Heard : List Character → Type 0 = λ cs. AreHeardOrMarked (replicate damage.left 255 ++ damage.bytes) cs in
-    record {
-      some = omega (arith, said.whole, damage.replaces.same_length);
-      delimiter = λ same.
-          delimiter_of-other frame damage.body damage.is_body (sym said.delimiter ∙ sym damage.replaces.same_delimiter ∙ same);
-      heard = subst Heard (sym damage.heard) (heard_faultless (replicate damage.left 255 ++ damage.bytes));
-      no_two_preambles = damage.no_two_preambles;
-    }
+check_heard frame preambles chars damage = grind (arith, says_of, delimiter_of-other, heard_faultless)
 
 -- the bytes that are heard give the length of the body that was sent
 check_length : (frame : FrameParts) (preambles : ℕ) (chars : List Character) (damage : IsCheckDamage frame preambles chars)

@@ -1,8 +1,8 @@
 -- The request that shows what damage is.
-use Rattle.std.proofs.Common.{◌≡◌, ℕ, zero, suc, ◌<◌, inl, inr, List, [], ◌∷◌, ◌++◌, length, drop, get_or, replicate, refl, ap, ◌∙◌, arith}
+use Rattle.std.proofs.Common.{◌≡◌, ℕ, zero, suc, ◌<◌, inl, List, [], ◌∷◌, ◌++◌, length, drop, get_or, replicate, refl, ap, ◌∙◌, arith}
 use Rattle.std.proofs.Common.{length-append, subst}
 use Rattle.std.specs.Int.{bit_at}
-use Rattle.std.specs.List.{AllByRecursion, AllZip}
+use Rattle.std.specs.List.{AllByRecursion}
 use Rattle.std.proofs.lemmas.List.{drop_at, length-replicate}
 use Rattle.std.proofs.lemmas.List.Elements.{All-from_recursion}
 use Rattle.hart_frame.specs.wire.Body.{IsBody}
@@ -47,9 +47,7 @@ IsOther character = character.byte < 255
 none_in_row : (chars : List Character) → AllByRecursion IsOther chars → HasNoTwoPreambles chars
 none_in_row [] others [] rest same = cc
 none_in_row [] others (character ∷ prefix) rest same = cc
-none_in_row (character ∷ chars) others [] rest same =
-    let byte : character.byte ≡ 255 = ap (λ (cs : List Character). (get_or cs 0 preamble).byte) same in
-    omega (arith, byte, others.0)
+none_in_row (character ∷ chars) others [] rest same = grind (arith, preamble)
 none_in_row (character ∷ chars) others (other ∷ prefix) rest same =
     none_in_row chars others.1 prefix rest (ap (drop 1) same)
 
@@ -66,11 +64,7 @@ parity_bit (suc (suc (suc (suc (suc (suc (suc zero))))))) below set = absurd (om
 parity_bit (suc (suc (suc (suc (suc (suc (suc (suc bit)))))))) below set = absurd (omega arith)
 
 faulty : IsHeardOrMarked 128 (record { byte = 129; faults = 64 })
-faulty = inr (record {
-  byte = omega arith;
-  fault_bits = record { byte = omega arith; only = parity_bit };
-  some = λ none. omega (arith, none);
-})
+faulty = grind (arith, parity_bit)
 
 pub faulty_is_marked : IsMarkedDamage identity_request 5 faulty_address
 faulty_is_marked = record {
@@ -112,17 +106,7 @@ abbrev pub OneBody : Type 0
 OneBody = (f : FrameParts) (bytes others : List ℕ) → IsBody f bytes → IsBody f others → bytes ≡ others
 
 pub other_is_not_marked : OneBody → IsMarkedDamage identity_request 5 other_address → ⊥
-other_is_not_marked one_body damage =
-    let sent : ℕ → List ℕ → List ℕ = λ left body. replicate left 255 ++ body in
-    let body = one_body identity_request damage.body request_body damage.is_body request_is in
-    let long = length-heard (sent damage.left damage.body) other_address damage.heard in
-    let both = length-append (replicate damage.left 255) damage.body in
-    let left : damage.left ≡ 2 = omega (arith, long, both, length-replicate {A = ℕ} damage.left 255, ap length body) in
-    let same : sent damage.left damage.body ≡ sent 2 request_body =
-    ap (λ (n : ℕ). sent n damage.body) left ∙ ap (sent 2) body in
-    let heard : AllZip IsHeardOrMarked (sent 2 request_body) other_address =
-    subst (λ bytes. AllZip IsHeardOrMarked bytes other_address) same damage.heard in
-    omega (arith, clear_is 128 129 heard.1.1.1.0)
+other_is_not_marked one_body damage = grind (arith, request_is, length-heard, length-append, length-replicate, clear_is)
 
 -- of what is as long as these two preamble bytes are left
 two_left : OneBody → (row : List ℕ) → length row ≡ 7 → (damage : IsCheckDamage identity_request 5 (faultless row)) → damage.left ≡ 2

@@ -1,5 +1,5 @@
 -- Every list of characters has its frames.
-use Rattle.std.proofs.Common.{◌≡◌, ◌≢◌, ℕ, zero, suc, ◌+◌, ◌<◌, ◌≤◌, ◌⊎◌, inl, inr, List, [], ◌∷◌, ◌++◌, length, take, drop, refl, sym, ap}
+use Rattle.std.proofs.Common.{◌≡◌, ℕ, zero, suc, ◌+◌, ◌<◌, ◌≤◌, ◌⊎◌, inl, inr, List, [], ◌∷◌, ◌++◌, length, take, drop, refl, sym, ap}
 use Rattle.std.proofs.Common.{◌∙◌, arith, subst}
 use Rattle.std.proofs.lemmas.List.{take-append-drop, take-map, take_rest, length-take-le}
 use Rattle.hart_frame.specs.wire.FrameParts.{FrameParts}
@@ -24,13 +24,7 @@ pub record FaultlessFirst (first : Character) (others : List Character) : Type 0
 faultless_first : (first : Character) (others : List Character) (bytes : List ℕ) → first ∷ others ≡ faultless bytes
     → FaultlessFirst first others
 faultless_first first others [] same = absurd cc
-faultless_first first others (byte ∷ bytes) same =
-    let here : first ≡ record { byte = byte; faults = 0 } = cc in
-    record {
-      faults = ap (λ (character : Character). character.faults) here;
-      rest = bytes;
-      others_are = cc;
-    }
+faultless_first first others (byte ∷ bytes) same = grind arith
 
 pub record Faultless (chars : List Character) : Type 0 where
   pub bytes : List ℕ
@@ -111,19 +105,7 @@ same_pair x y rest a b more same = record { first = cc; second = cc }
 
 -- whether a character is a faultless preamble byte
 preamble_decided : (x : Character) → (x ≡ preamble) ⊎ (x ≡ preamble → ⊥)
-preamble_decided x =
-    let bytes : (x.byte ≡ 255) ⊎ (x.byte ≢ 255) = grind arith in
-    let faults : (x.faults ≡ 0) ⊎ (x.faults ≢ 0) = grind arith in
-    elim bytes [
-      | inr other ↦ inr (λ is. other (ap (λ (c : Character). c.byte) is))
-      | inl preamble_byte ↦ elim faults [
-        | inr faulty ↦ inr (λ is. faulty (ap (λ (c : Character). c.faults) is))
-        | inl clear ↦ inl (
-            let of : ℕ → ℕ → Character = λ b f. record { byte = b; faults = f } in
-            let all : of x.byte x.faults ≡ of 255 0 = cc in
-            all)
-      ]
-    ]
+preamble_decided x = grind arith
 
 -- what is heard after two preamble bytes stands there
 here_heard : (chars : List Character) (x y : Character) (rest : List Character) (place : ℕ) → place ≤ length chars

@@ -1,5 +1,5 @@
 -- Where a frame stands, and where the body begins that is heard there.
-use Rattle.std.proofs.Common.{◌≡◌, ℕ, ◌+◌, ◌-◌, ◌<◌, ◌≤◌, ◌⊎◌, inl, inr, List, [], ◌∷◌, ◌++◌, length, take, drop, get_or, refl, sym, ap}
+use Rattle.std.proofs.Common.{◌≡◌, ℕ, ◌+◌, ◌-◌, ◌<◌, ◌≤◌, List, [], ◌∷◌, ◌++◌, length, take, drop, get_or, refl, sym, ap}
 use Rattle.std.proofs.Common.{◌∙◌, arith, append_assoc, length-append}
 use Rattle.std.proofs.lemmas.List.{take-append-drop, length-take-le, take_rest, drop_at, length-map}
 use Rattle.hart_frame.specs.wire.FrameParts.{FrameParts}
@@ -44,11 +44,7 @@ StandsIn-heard chars (x ∷ y ∷ rest) place first second f len within is long 
 -- what stands at a place begins there
 pub StandsIn-at : (chars : List Character) (place from : ℕ) (found : Found) (stands : StandsIn found chars from)
     → found.start ≡ place + 2 → drop place chars ≡ faultless (255 ∷ 255 ∷ stands.body) ++ stands.rest
-StandsIn-at chars place from found stands start =
-    let whole : chars ≡ stands.prefix ++ (faultless (255 ∷ 255 ∷ stands.body) ++ stands.rest) =
-    stands.split ∙ append_assoc stands.prefix (faultless (255 ∷ 255 ∷ stands.body)) stands.rest in
-    ap (drop place) whole
-    ∙ drop_at stands.prefix (faultless (255 ∷ 255 ∷ stands.body) ++ stands.rest) place (omega (arith, start, stands.start))
+StandsIn-at chars place from found stands start = grind (arith, append_assoc, drop_at)
 
 -- and is heard there
 pub StandsIn-hears : (chars tail : List Character) (place from : ℕ) (found : Found) (stands : StandsIn found chars from)
@@ -65,26 +61,12 @@ StandsIn-hears chars tail place from found stands start is = record {
 -- what stands after a place stands in the list from that place on
 pub StandsIn-from : (found : Found) (chars : List Character) (place from : ℕ) → StandsIn found chars place → from + 2 ≤ found.start
     → StandsIn found chars from
-StandsIn-from found chars place from stands after = record {
-  prefix = stands.prefix;
-  body = stands.body;
-  rest = stands.rest;
-  split = stands.split;
-  is_body = stands.is_body;
-  after = omega (arith, after, stands.start);
-  start = stands.start;
-  stop = stands.stop;
-}
+StandsIn-from found chars place from stands after = grind arith
 
 -- a frame that does not stand right at a place stands later
 pub start-later : (found : Found) (chars : List Character) (from place : ℕ) → StandsIn found chars from → place + 2 ≤ found.start
     → (StandsIn found chars place → found.start ≡ place + 2 → ⊥) → place + 1 + 2 ≤ found.start
-start-later found chars from place stands after not_here =
-    let cases : (found.start ≡ place + 2) ⊎ (place + 1 + 2 ≤ found.start) = grind arith in
-    elim cases [
-      | inl here ↦ absurd (not_here (StandsIn-from found chars from place stands after) here)
-      | inr later ↦ later
-    ]
+start-later found chars from place stands after not_here = grind (arith, StandsIn-from)
 
 -- a frame lies within the list
 pub record LiesWithin (found : Found) (chars : List Character) (from : ℕ) : Type 0 where
@@ -93,18 +75,7 @@ pub record LiesWithin (found : Found) (chars : List Character) (from : ℕ) : Ty
   pub within : found.stop ≤ length chars
 
 pub StandsIn-within : (found : Found) (chars : List Character) (from : ℕ) → StandsIn found chars from → LiesWithin found chars from
-StandsIn-within found chars from stands =
-    let all = ap length stands.split in
-    let rest = length-append (stands.prefix ++ faultless (255 ∷ 255 ∷ stands.body)) stands.rest in
-    let prefix = length-append stands.prefix (faultless (255 ∷ 255 ∷ stands.body)) in
-    let body : length (faultless stands.body) ≡ length stands.body =
-    length-map stands.body (λ (byte : ℕ). record { byte = byte; faults = 0 }) in
-    let some = ap length stands.is_body.parts ∙ length-append stands.is_body.checked (stands.is_body.check ∷ []) in
-    record {
-      after = omega (arith, stands.after, stands.start);
-      some = omega (arith, stands.start, stands.stop, some);
-      within = omega (arith, stands.stop, all, rest, prefix, body);
-    }
+StandsIn-within found chars from stands = grind (arith, length-append, length-map)
 
 -- none stands from the end of the list on
 pub HasNoFrame-end : (chars : List Character) (from : ℕ) → length chars ≤ from → HasNoFrame chars from

@@ -1,6 +1,6 @@
 -- Where a body may start in a list of characters.
 use Rattle.std.proofs.Common.{◌≡◌, ◌≢◌, ℕ, zero, suc, ◌+◌, ◌-◌, ◌<◌, ◌≤◌, ◌⊎◌, inl, inr, List, [], ◌∷◌, ◌++◌, length, take, drop, get_or}
-use Rattle.std.proofs.Common.{sym, subst, ap, ◌∙◌, arith, length-append, drop-cons, append_assoc}
+use Rattle.std.proofs.Common.{sym, ap, ◌∙◌, arith, length-append, drop-cons, append_assoc}
 use Rattle.std.proofs.lemmas.List.{get_or-append-add, length-take-le, take-append-drop}
 use Rattle.hart_frame.specs.heard.Character.{Character}
 use Rattle.hart_frame.specs.heard.Start.{HasNoStart, IsFirstStart, IsStart}
@@ -64,19 +64,7 @@ is_start_from chars place d at =
 
 -- characters are the same or not
 same_or_other : (a b : Character) → (a ≡ b) ⊎ (a ≢ b)
-same_or_other a b =
-    let bytes : (a.byte ≡ b.byte) ⊎ (a.byte ≢ b.byte) = grind arith in
-    let faults : (a.faults ≡ b.faults) ⊎ (a.faults ≢ b.faults) = grind arith in
-    elim bytes [
-      | inr other ↦ inr (λ is. other (ap (λ (c : Character). c.byte) is))
-      | inl same_byte ↦ elim faults [
-        | inr other ↦ inr (λ is. other (ap (λ (c : Character). c.faults) is))
-        | inl same_faults ↦ inl (
-            let of : ℕ → ℕ → Character = λ byte faults. record { byte = byte; faults = faults } in
-            let all : of a.byte a.faults ≡ of b.byte b.faults = cc in
-            all)
-      ]
-    ]
+same_or_other a b = grind arith
 
 -- whether a body may start at a place
 start_decided : (chars : List Character) (place : ℕ) → 2 ≤ place → place < length chars → IsStart place chars ⊎ (IsStart place chars → ⊥)
@@ -105,12 +93,7 @@ no_start chars place none end other is = omega (arith, none other is, (starts_at
 -- if there is none at a place either, there is none up to the next
 pub none_before_next : (chars : List Character) (place : ℕ) → NoneBefore chars place → (IsStart place chars → ⊥)
     → NoneBefore chars (place + 1)
-none_before_next chars place none not_here other is =
-    let cases : (other ≡ place) ⊎ (place + 1 ≤ other) = let later = none other is in grind arith in
-    elim cases [
-      | inr later ↦ later
-      | inl here ↦ absurd (not_here (subst (λ (n : ℕ). IsStart n chars) here is))
-    ]
+none_before_next chars place none not_here other is = grind arith
 
 pub none_before_two : (chars : List Character) → NoneBefore chars 2
 none_before_two chars other is = (starts_at chars other preamble is).after_two

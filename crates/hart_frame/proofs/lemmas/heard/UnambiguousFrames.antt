@@ -16,10 +16,7 @@ OnePrefix = (f g : FrameParts) (bytes : List ℕ) (m n : ℕ) → BeginsWithBody
 
 -- what is found is the same if its parts are
 same_found : (f g : Found) → f.start ≡ g.start → f.stop ≡ g.stop → f.frame ≡ g.frame → f ≡ g
-same_found f g starts stops frames =
-    let of : ℕ → ℕ → FrameParts → Found = λ start stop frame. record { start = start; stop = stop; frame = frame } in
-    let all : of f.start f.stop f.frame ≡ of g.start g.stop g.frame = cc in
-    all
+same_found f g starts stops frames = grind arith
 
 -- one frame stands at one place
 StandsIn-one : OnePrefix → (f g : Found) (chars : List Character) (m n : ℕ) → StandsIn f chars m → StandsIn g chars n

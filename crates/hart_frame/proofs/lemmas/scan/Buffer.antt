@@ -1,12 +1,12 @@
 -- A buffer stays sound, and what it stands for then.
-use Rattle.std.proofs.Common.{◌≡◌, ℕ, ◌+◌, ◌-◌, ◌≤◌, inl, true, IsTrue, List, [], ◌++◌, length}
+use Rattle.std.proofs.Common.{◌≡◌, ℕ, ◌+◌, ◌-◌, ◌≤◌, true, IsTrue, List, [], ◌++◌, length}
 use Rattle.std.proofs.Common.{take, drop, Option, None, refl, sym, ap, ◌∙◌, arith, subst}
 use Rattle.std.specs.Option.{option_to_list}
 use Rattle.std.proofs.Math.Seq.{drop-append-add, drop-append_seam}
 use Rattle.std.proofs.lemmas.List.{append-nil, drop-append-le, drop-drop, drop-take}
 use Rattle.hart_frame.specs.heard.Character.{Character, faultless}
 use Rattle.hart_frame.specs.heard.Frames.{IsUndecided}
-use Rattle.hart_frame.specs.scan.Buffer.{IsMeant, IsSound, IsWaiting, held_bytes, is_drained, scan_of}
+use Rattle.hart_frame.specs.scan.Buffer.{IsSound, IsWaiting, held_bytes, is_drained, scan_of}
 use Rattle.hart_frame.specs.scan.Decision.{NoneBeginHeld}
 use Rattle.hart_frame.specs.scan.Scanner.{GivesNothing, Scan, MovesPast, Waits}
 use Rattle.hart_frame.specs.declared.scan.buffer.Buffer.{Buffer}
@@ -25,9 +25,7 @@ held_passed b count = sym (drop-drop count b.from b.bytes)
 
 pub moves_passed : (b : Buffer) (count : ℕ) → count ≤ length (held_bytes b) → NoneBeginHeld b count
     → MovesPast (scan_of b) (scan_of (passed b count)) []
-moves_passed b count within none =
-    moves_places (scan_of b) (scan_of (passed b count)) (held_bytes b) (option_to_list b.damaged) count refl
-    (ap (λ (xs : List ℕ). faultless xs ++ option_to_list b.damaged) (held_passed b count)) refl refl within none
+moves_passed b count within none = grind (arith, moves_places, held_passed)
 
 pub none_long : (o : Option Character) → o ≡ None → option_to_list o ≡ []
 none_long o is = ap (λ (p : Option Character). option_to_list p) is
@@ -94,12 +92,8 @@ drained_is (Stands layout) is = absurd cc
 
 -- a drained buffer waits
 pub waits_drained : (b : Buffer) → IsSound b → b.state ≡ Drained → IsWaiting b
-waits_drained b sound is =
-    let Meant : State → Type 0 = λ state. IsMeant b state in
-    subst Meant is sound.meant
+waits_drained b sound is = grind arith
 
 -- so nothing is given
 pub still : (b : Buffer) → IsSound b → b.state ≡ Drained → GivesNothing (scan_of b) (scan_of b)
-still b sound is =
-    let of : State → Scan = λ state. record (scan_of b) { drained = is_drained state } in
-    inl (waits b (scan_of b) (waits_drained b sound is) (ap of is))
+still b sound is = grind (arith, waits, waits_drained)

@@ -1,16 +1,16 @@
 -- What is known of bytes by how they begin.
 use Rattle.std.proofs.Common.{◌≡◌, ◌≢◌, ℕ, zero, suc, ◌+◌, ◌<◌, ◌≤◌, ◌⊎◌, inl, inr, List, [], ◌∷◌, ◌++◌, length, take, drop, get_or, refl}
 use Rattle.std.proofs.Common.{sym}
-use Rattle.std.proofs.Common.{ap, ◌∙◌, ◌%◌, arith, subst, append_assoc, length-append}
+use Rattle.std.proofs.Common.{ap, ◌∙◌, arith, subst, append_assoc, length-append}
 use Rattle.std.proofs.lemmas.List.{append-nil, length-map, map-append, take-append-le, take-map, take_at, get_or_at, get_or-take}
 use Rattle.std.proofs.lemmas.List.{get_or_append_left, get_or-map, length-take, length-take-le, take-append-drop, take_all}
 use Rattle.std.proofs.lemmas.List.Elements.{All-from_get_or}
 use Rattle.std.proofs.Math.Seq.{take-append-add}
 use Rattle.hart_frame.specs.wire.FrameParts.{FrameParts}
 use Rattle.hart_frame.specs.wire.Body.{IsBody, BeginsWithBody}
-use Rattle.hart_frame.specs.wire.Layout.{Describes, body_length, byte_count_in, byte_count_place, layout_length}
+use Rattle.hart_frame.specs.wire.Layout.{Describes, body_length, byte_count_place, layout_length}
 use Rattle.hart_frame.specs.wire.Parity.{HasEvenParity, IsCheckByte}
-use Rattle.hart_frame.specs.wire.Refusal.{HasByteCount, HasCheckByte, HasDelimiter, HasGoodByteCount, IsDelimiter, IsTruncated}
+use Rattle.hart_frame.specs.wire.Refusal.{HasCheckByte, HasDelimiter, HasGoodByteCount, IsTruncated}
 use Rattle.hart_frame.specs.heard.Character.{Character, faultless}
 use Rattle.hart_frame.specs.heard.Body.{bytes_of, BeginsWithHeard}
 use Rattle.hart_frame.specs.heard.Frames.{IsUndecided}
@@ -27,9 +27,7 @@ use Rattle.hart_frame.proofs.lemmas.wire.Refusal.{not_refused}
 use Rattle.hart_frame.proofs.lemmas.scan.Scan.{skip_one}
 
 bytes_of_append : (xs : List ℕ) (tail : List Character) → bytes_of (faultless xs ++ tail) ≡ xs ++ bytes_of tail
-bytes_of_append xs tail =
-    map-append (λ (character : Character). character.byte) (faultless xs) tail
-    ∙ ap (λ (ys : List ℕ). ys ++ bytes_of tail) (bytes_of-faultless xs)
+bytes_of_append xs tail = grind (arith, map-append, bytes_of-faultless)
 
 -- what never becomes a body is none, whatever follows
 nothing_never_body : (xs : List ℕ) (tail : List Character) → NeverBecomeBody xs → (f : FrameParts) (body : List ℕ)
@@ -43,9 +41,7 @@ nothing_never_body xs tail is f body rest is_body same =
     (refused_more xs (bytes_of tail) is.fault is.decided is.refused)
 
 first_byte_same : (x y : ℕ) (xs ys : List Character) → record { byte = x; faults = 0 } ∷ xs ≡ record { byte = y; faults = 0 } ∷ ys → x ≡ y
-first_byte_same x y xs ys same =
-    let firsts : record { byte = x; faults = 0 } ≡ (let c : Character = record { byte = y; faults = 0 } in c) = cc in
-    ap (λ (c : Character). c.byte) firsts
+first_byte_same x y xs ys same = grind arith
 
 tails_same : (x y : Character) (xs ys : List Character) → x ∷ xs ≡ y ∷ ys → xs ≡ ys
 tails_same x y xs ys same = cc
@@ -125,10 +121,7 @@ nothing_open_body xs tail truncated ends f body rest is same =
     ]
 
 no_tail : (tail more : List Character) → NothingFollows tail → tail ≡ preamble ∷ more → ⊥
-no_tail tail more ends same = elim ends [
-  | inl nothing ↦ let both = sym nothing ∙ same in absurd cc
-  | inr (c, cs, is, faulty) ↦ faulty (ap (λ (d : Character). d.faults) (heads_same c preamble cs more (sym is ∙ same)))
-]
+no_tail tail more ends same = grind (arith, heads_same, preamble)
 
 -- characters with these after them begin with no frame
 abbrev Before : List Character → List ℕ → Type 0
@@ -174,42 +167,12 @@ undecided_open xs may =
 -- fewer bytes than go up to a byte count end too early
 pub truncated_count : (xs : List ℕ) (fewer : ℕ) → HasDelimiter xs → fewer ≤ byte_count_place xs → fewer ≤ length xs
     → IsTruncated (take fewer xs)
-truncated_count xs fewer has before within =
-    let long = length-take-le fewer xs within in
-    let cases : (fewer ≡ 0) ⊎ (0 < fewer) = grind arith in
-    elim cases [
-      | inl empty ↦ inl (omega (arith, long, empty))
-      | inr some ↦
-          let first = get_or-take fewer xs 0 0 some in
-          inr (inl ((omega (arith, long, some), subst IsDelimiter (sym first) has.1), omega (arith, long, before, first)))
-    ]
+truncated_count xs fewer has before within = grind (arith, length-take-le, get_or-take)
 
 -- and so do fewer than go up to a check byte
 pub truncated_check : (xs : List ℕ) (fewer : ℕ) → HasGoodByteCount xs → fewer < body_length xs → fewer ≤ length xs
     → IsTruncated (take fewer xs)
-truncated_check xs fewer has before within =
-    let long = length-take-le fewer xs within in
-    let cases : (fewer ≤ byte_count_place xs) ⊎ (byte_count_place xs < fewer) = grind arith in
-    elim cases [
-      | inl early ↦ truncated_count xs fewer has.0.0 early within
-      | inr late ↦
-          let first = get_or-take fewer xs 0 0 (omega (arith, late)) in
-          let place : byte_count_place (take fewer xs) ≡ byte_count_place xs = omega (arith, first) in
-          let count : byte_count_in (take fewer xs) ≡ byte_count_in xs =
-          ap (λ (n : ℕ). get_or (take fewer xs) n 0) place ∙ get_or-take fewer xs (byte_count_place xs) 0 late in
-          let delimiter : HasDelimiter (take fewer xs) = (omega (arith, long, late), subst IsDelimiter (sym first) has.0.0.1) in
-          let counted : HasByteCount (take fewer xs) = (delimiter, omega (arith, long, late, place)) in
-          inr (inr (
-            (
-              counted,
-              elim has.1 [
-                | inl stx ↦ inl (ap (λ (d : ℕ). d % 8) first ∙ stx)
-                | inr enough ↦ inr (omega (arith, count, enough))
-              ],
-            ),
-            omega (arith, long, before, place, count),
-          ))
-    ]
+truncated_check xs fewer has before within = grind (arith, length-take-le, truncated_count, get_or-take)
 
 -- fewer bytes than so many of a list may begin a frame if two preamble bytes come first, and fewer after them end too early
 pub may_begin_before : (count : ℕ) (xs : List ℕ) → ((fewer : ℕ) → fewer < count → IsTruncated (take fewer xs))
@@ -313,6 +276,4 @@ second_never (x ∷ y ∷ xs) long first other = (
 
 pub whole_cut : (layout : Layout) (xs : List ℕ) (len check : ℕ) → len ≡ layout_length layout → len ≤ length xs → IsCut layout xs len
     → ((i : ℕ) → get_or xs i 0 < 256) → IsCheckByte (take len xs) check → check ≡ 0 → IsBodyCandidate xs (Whole layout)
-whole_cut layout xs len check same within cut fits is even =
-    let Of : ℕ → Type 0 = λ n. (n ≤ length xs) × IsWholeBody layout (take n xs) × ((fewer : ℕ) → fewer < n → IsTruncated (take fewer xs)) in
-    subst Of same (within, whole_body layout xs len check cut fits is even, cut.fewer)
+whole_cut layout xs len check same within cut fits is even = grind (arith, whole_body)

@@ -66,9 +66,7 @@ undecided_more a b xs ys going moves undecided =
 -- the first part of a chunk, and then the first of the rest
 take_part : (chunk : List Character) (n r : ℕ) → n + r ≤ length chunk
     → take n chunk ++ take r (slice_range chunk n (length chunk)) ≡ take (n + r) chunk
-take_part chunk n r within =
-    ap (λ (cs : List Character). take n chunk ++ cs) (take-take r (length chunk - n) (drop n chunk) (omega (arith, within)))
-    ∙ sym (take-add n r chunk)
+take_part chunk n r within = grind (arith, take-take, take-add)
 
 -- a part of the rest of a chunk is a part of the chunk
 rest_within : (b c : Scan) (chunk : List Character) (n r : ℕ) → n ≤ length chunk → HearsPart b c (slice_range chunk n (length chunk)) r
@@ -110,13 +108,7 @@ heard_then a b c chunk n r inside so part =
 -- so many characters more are let go or held
 pub heard_length : (a b : Scan) (chunk : List Character) (n : ℕ) → n ≤ length chunk → MovesPast (hearing a (take n chunk)) b []
     → b.first + length b.held ≡ a.first + length a.held + n
-heard_length a b chunk n within moves =
-    omega (
-      arith,
-      moves_length (hearing a (take n chunk)) b [] moves,
-      length-append a.held (take n chunk),
-      length-take-le n chunk within,
-    )
+heard_length a b chunk n within moves = grind (arith, moves_length, length-append, length-take-le)
 
 -- what a peek makes of one character that was heard
 abbrev pub Peeked : Scan → Buffer → Character → Option Layout → Type 0
@@ -128,21 +120,15 @@ Peeked old new character seen = MatchOption seen (GivesNothing (hearing old (cha
 seen_one : (old : Scan) (new : Buffer) (character : Character) (seen : Option Layout) → old.finished ≡ false
     → Peeked old new character seen
     → MovesPast (hearing old (character ∷ [])) (scan_of new) [] × StopsAt (scan_of new) 1 1 × (new.finished ≡ old.finished)
-seen_one old new character None going nothing =
-    let waits = waits_only (hearing old (character ∷ [])) (scan_of new) going nothing in
-    (waits.moves, inl (waits.drained, waits.undecided, refl), waits.unfinished ∙ sym going)
+seen_one old new character None going nothing = grind (arith, waits_only)
 seen_one old new character (Some layout) going (moves, busy, whole, finished) =
     (moves, inr (busy, holds_frame new layout whole), finished ∙ sym going)
 
 pub peeked : (old : Scan) (mid new : Buffer) (character : Character) (seen : Option Layout) → scan_of mid ≡ hearing old (character ∷ [])
     → mid.finished ≡ false → MatchOption seen (GivesNothing (scan_of mid) (scan_of new)) (HoldsWhole mid new)
     → Peeked old new character seen
-peeked old mid new character None heard going nothing =
-    let Of : Scan → Type 0 = λ s. GivesNothing s (scan_of new) in
-    subst Of heard nothing
-peeked old mid new character (Some layout) heard going holds =
-    let Of : Scan → Type 0 = λ s. MovesPast s (scan_of new) [] in
-    (subst Of heard holds.moves, holds.undrained, holds.begins, holds.finished ∙ going)
+peeked old mid new character None heard going nothing = grind arith
+peeked old mid new character (Some layout) heard going holds = grind arith
 
 pub first_one : (chunk : List Character) (character : Character) → 0 < length chunk → character ≡ get_or chunk 0 character
     → take 1 chunk ≡ character ∷ []
@@ -177,16 +163,7 @@ pub record IsHearing (old now : Buffer) (chunk : List Character) (taken : ℕ) :
   pub so : HeardSo (scan_of old) (scan_of now) chunk taken
 
 pub hearing_start : (b : Buffer) (chunk : List Character) → IsSound b → b.state ≡ Drained → IsHearing b b chunk 0
-hearing_start b chunk sound drained = record {
-  sound = sound;
-  drained = drained;
-  within = omega arith;
-  so = record {
-    going = (waits_drained b sound drained).going;
-    moves = moves_none (hearing (scan_of b) []) (scan_of b) (sym (append-nil (scan_of b).held)) refl refl;
-    before = λ fewer below. absurd (omega (arith, below));
-  };
-}
+hearing_start b chunk sound drained = grind (arith, waits_drained, moves_none, append-nil)
 
 -- the next part is heard, and still nothing is decided
 pub hearing_on : (old now new : Buffer) (chunk : List Character) (n r : ℕ) → IsHearing old now chunk n → IsSound new → new.state ≡ Drained
@@ -199,10 +176,7 @@ hearing_on old now new chunk n r hears sound drained part = record {
 }
 
 busy_holds : (scan : Scan) (count all : ℕ) → (scan.drained ≡ true → ⊥) → StopsAt scan count all → (m n : ℕ) → StopsAt scan m n
-busy_holds scan count all busy stops m n = elim stops [
-  | inl waits ↦ absurd (busy waits.0)
-  | inr holds ↦ inr holds
-]
+busy_holds scan count all busy stops m n = grind arith
 
 -- or a frame stands
 pub hears_until : (old now new : Buffer) (chunk : List Character) (n r : ℕ) → IsHearing old now chunk n → (is_drained new.state ≡ true → ⊥)
@@ -221,16 +195,7 @@ hears_until old now new chunk n r hears busy part =
 -- all of a chunk is heard
 pub hears_all : (old now : Buffer) (chunk : List Character) (n : ℕ) → IsHearing old now chunk n → length chunk ≤ n
     → Hears (scan_of old) (scan_of now) chunk n
-hears_all old now chunk n hears ended =
-    let waiting = waits_drained now hears.sound hears.drained in
-    record {
-      within = hears.within;
-      some = λ some. omega (arith, some, ended);
-      moves = hears.so.moves;
-      before = hears.so.before;
-      stops = inl (ap is_drained hears.drained, undecided_waiting now waiting, omega (arith, ended, hears.within));
-      finished = waiting.going ∙ sym hears.so.going;
-    }
+hears_all old now chunk n hears ended = grind (arith, waits_drained, undecided_waiting)
 
 -- there is room for the rest of a chunk
 pub room_left : {X : Type 0} (old now : Buffer) (heard : List Character) (chunk : List X) (n : ℕ) → length heard ≡ length chunk
@@ -269,10 +234,4 @@ bytes_heard old new chunk n count within some hears =
 -- and the rest of it is the rest of its characters
 pub rest_heard : (old new : Scan) (chunk : List ℕ) (n count : ℕ) → HearsPart old new (faultless (slice_range chunk n (length chunk))) count
     → HearsPart old new (slice_range (faultless chunk) n (length (faultless chunk))) count
-rest_heard old new chunk n count hears =
-    let make = λ (byte : ℕ). let c : Character = record { byte = byte; faults = 0 } in c in
-    let Of : List Character → Type 0 = λ cs. HearsPart old new cs count in
-    let same : slice_range (faultless chunk) n (length (faultless chunk)) ≡ faultless (slice_range chunk n (length chunk)) =
-    ap (λ (k : ℕ). take (k - n) (drop n (faultless chunk))) (length-map chunk make)
-    ∙ ap (take (length chunk - n)) (drop-map make n chunk) ∙ take-map make (length chunk - n) (drop n chunk) in
-    subst Of (sym same) hears
+rest_heard old new chunk n count hears = grind (arith, length-map, drop-map, take-map)

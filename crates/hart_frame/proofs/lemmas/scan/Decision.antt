@@ -8,7 +8,7 @@ use Rattle.hart_frame.specs.wire.Body.{IsBody, IsCheckedPart}
 use Rattle.hart_frame.specs.wire.Layout.{body_length, layout_length}
 use Rattle.hart_frame.specs.heard.Character.{Character, faultless}
 use Rattle.hart_frame.specs.scan.Buffer.{IsEnded, IsSound, IsWaiting, held_bytes, is_drained, scan_of}
-use Rattle.hart_frame.specs.scan.Candidate.{BeginWithNone, IsWhole, IsWholeBody, MayBegin}
+use Rattle.hart_frame.specs.scan.Candidate.{BeginWithNone, IsWhole, IsWholeBody}
 use Rattle.hart_frame.specs.scan.Chunk.{BeginsWithFrame}
 use Rattle.hart_frame.specs.scan.Decision.{GivesSpan, HoldsWhole, IsHeldOpen, IsHeldSearched, NoneBeginHeld}
 use Rattle.hart_frame.specs.scan.Scanner.{Scan, MovesPast, GivesNothing}
@@ -31,10 +31,7 @@ use Rattle.hart_frame.proofs.lemmas.scan.Undecided.{nothing_before}
 ends_by : (o : Option Character) (finished : Bool) (more : List Character) → IfSome o (λ c. c.faults ≢ 0)
     → (finished ≡ true) ⊎ (o ≢ None) → (IsTrue finished → more ≡ []) → NothingFollows (option_to_list o ++ more)
 ends_by (Some c) finished more faulty ended whole = inr (c, more, refl, faulty)
-ends_by None finished more faulty ended whole = elim ended [
-  | inl is ↦ inl (whole is)
-  | inr some ↦ absurd (some refl)
-]
+ends_by None finished more faulty ended whole = grind arith
 
 false_of : (b : Bool) → (b ≡ true → ⊥) → b ≡ false
 false_of true not = absurd (not refl)
@@ -101,14 +98,7 @@ held_stands : (b : Buffer) (found : Sighting) (layout : Option Layout) → found
     → (IsEnded b → found.layout ≡ None → found.place < length (held_bytes b) → ⊥) → layout ≡ found.layout
     → MatchOption layout (IsOpenAll (held_bytes b) found) (λ l. IsWhole l (drop found.place (take found.decided (held_bytes b))))
     → MatchOption layout (IsHeldOpen b found.place) (λ l. IsWhole l (drop found.place (held_bytes b)))
-held_stands b found None order within last same opened =
-    let cases : (length (held_bytes b) ≡ found.place) ⊎ (found.place < length (held_bytes b)) = grind arith in
-    elim cases [
-      | inl all ↦ inl all
-      | inr some ↦
-          let going = not_ended b (λ ended. last ended (sym same) some) in
-          inr (opened.1, opened.2, going.1, going.0)
-    ]
+held_stands b found None order within last same opened = grind (arith, not_ended)
 held_stands b found (Some layout) order within last same whole =
     let held = held_bytes b in
     let n = found.decided in
@@ -144,11 +134,7 @@ span_of b layout =
     record { at = b.from + 2; layout = layout; start = b.first + 2; stop = b.first + (2 + layout_length layout) }
 
 held_released : (b : Buffer) (layout : Layout) (whole : IsWhole layout (held_bytes b)) → held_bytes (released b layout) ≡ whole.rest
-held_released b layout whole =
-    let front : List ℕ = 255 ∷ 255 ∷ whole.body in
-    let count : 2 + layout_length layout ≡ length front = omega (arith, whole.whole.exact) in
-    held_passed b (2 + layout_length layout) ∙ ap (drop (2 + layout_length layout)) whole.parts
-    ∙ drop_at front whole.rest (2 + layout_length layout) (sym count)
+held_released b layout whole = grind (arith, held_passed, drop_at)
 
 -- two preamble bytes and the body come first of what is held
 held_whole : (b : Buffer) (layout : Layout) (whole : IsWhole layout (held_bytes b))
@@ -241,9 +227,7 @@ holds_frame b layout whole =
     )
 
 nothing_damaged : (c : Character) (more : List Character) → c.faults ≢ 0 → BeginWithNone (c ∷ more)
-nothing_damaged c more faulty f body rest is same =
-    let first : c ≡ preamble = cc in
-    faulty (ap (λ (d : Character). d.faults) first)
+nothing_damaged c more faulty f body rest is same = grind (arith, preamble)
 
 -- a character with faults is let go
 pub moves_damaged : (o : Option Character) (old new : Scan) → IfSome o (λ c. c.faults ≢ 0) → is_some o ≡ true → old.held ≡ option_to_list o
@@ -265,17 +249,7 @@ given_nothing b mid found new is same after =
 -- what a buffer waits with that holds something from there on
 pub waits_open : (b : Buffer) (place : ℕ) → IsHeldOpen b place → place ≤ length (held_bytes b) → length (held_bytes (passed b place)) ≢ 0
     → IsWaiting (record (passed b place) { state = Drained })
-waits_open b place opened within some =
-    let rest = ap length (held_passed b place) in
-    elim opened [
-      | inl all ↦ absurd (some (omega (arith, rest, all, length-drop place (held_bytes b))))
-      | inr (few, may, clear, going) ↦ record {
-        clear = clear;
-        going = going;
-        few = omega (arith, few, rest, length-drop place (held_bytes b));
-        may = subst MayBegin (sym (held_passed b place)) may;
-      }
-    ]
+waits_open b place opened within some = grind (arith, held_passed, length-drop)
 
 pub given_open : (b : Buffer) (found : Sighting) → IsHeldSearched b found → IsWaiting (record (passed b found.place) { state = Drained })
     → GivesNothing (scan_of b) (scan_of (record (passed b found.place) { state = Drained }))
@@ -288,12 +262,4 @@ given_open b found is waiting =
 -- a frame stands if it begins what is held then
 pub given_stands : (b : Buffer) (found : Sighting) (layout : Layout) → b.state ≡ Busy → IsHeldSearched b found
     → IsWhole layout (drop found.place (held_bytes b)) → HoldsWhole b (record (passed b found.place) { state = Stands layout }) layout
-given_stands b found layout busy is whole =
-    let Whole : List ℕ → Type 0 = λ xs. IsWhole layout xs in
-    record {
-      moves = moves_passed b found.place is.within is.none;
-      finished = refl;
-      busy = ap is_drained busy;
-      undrained = refl;
-      begins = subst Whole (sym (held_passed b found.place)) whole;
-    }
+given_stands b found layout busy is whole = grind (arith, moves_passed, held_passed)

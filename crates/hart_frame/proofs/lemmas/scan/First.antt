@@ -52,10 +52,7 @@ all_heard scan new count all stops nothing = elim stops [
 ]
 
 ends_only : (old new : Scan) → old.finished ≡ true → GivesNothing old new → Ends old new
-ends_only old new finished nothing = elim nothing [
-  | inl waits ↦ absurd (false≢true (sym waits.going ∙ finished))
-  | inr ends ↦ ends
-]
+ends_only old new finished nothing = grind arith
 
 last_given : (chars : List Character) (waiting new : Scan) (given : Option Found) → IsHistory chars (finishing waiting) []
     → MatchOption given (GivesNothing (finishing waiting) new) (Gives (finishing waiting) new)

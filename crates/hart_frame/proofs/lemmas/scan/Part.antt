@@ -34,13 +34,7 @@ undecided_from xs ends =
 -- what is held and the first of a chunk after it, as the first of both
 heard_bytes : (b : Buffer) (chunk : List ℕ) (count : ℕ) → IsWaiting b
     → (scan_of b).held ++ take count (faultless chunk) ≡ faultless (take (length (held_bytes b) + count) (held_bytes b ++ chunk))
-heard_bytes b chunk count waiting =
-    let make = λ (byte : ℕ). let c : Character = record { byte = byte; faults = 0 } in c in
-    let held = held_bytes b in
-    ap (λ (cs : List Character). cs ++ take count (faultless chunk)) (held_clear b waiting.clear)
-    ∙ ap (λ (cs : List Character). faultless held ++ cs) (take-map make count chunk)
-    ∙ sym (map-append make held (take count chunk))
-    ∙ ap faultless (sym (take-append-add held chunk count))
+heard_bytes b chunk count waiting = grind (arith, held_clear, take-map, map-append, take-append-add)
 
 -- a buffer that kept what was found in what it held and in a part after it
 pub record IsKept (old new : Buffer) (part : List ℕ) (found : Sighting) : Type 0 where
@@ -61,17 +55,8 @@ Holds old new part found layout = MatchOption layout
 holds_kept : (old new : Buffer) (part : List ℕ) (found : Sighting) → IsKept old new part found → (layout : Option Layout)
     → MatchOption layout (IsOpenAll (held_bytes old ++ part) found)
     (λ l. IsWhole l (drop found.place (take found.decided (held_bytes old ++ part)))) → Holds old new part found layout
-holds_kept old new part found kept None (all, few, may) =
-    let total = held_bytes old ++ part in
-    let held : held_bytes new ≡ drop found.place total =
-    kept.held ∙ ap (λ (n : ℕ). drop found.place (take n total)) all ∙ ap (drop found.place) (take-length total) in (
-      omega (arith, ap length held, length-drop found.place total, few),
-      subst MayBegin (sym held) may,
-      all ∙ length-append (held_bytes old) part,
-    )
-holds_kept old new part found kept (Some layout) whole =
-    let Whole : List ℕ → Type 0 = λ xs. IsWhole layout xs in
-    subst Whole (sym kept.held) whole
+holds_kept old new part found kept None (all, few, may) = grind (arith, take-length, length-drop, length-append)
+holds_kept old new part found kept (Some layout) whole = grind arith
 
 -- so it is what its state means
 meant_kept : (old new : Buffer) (part : List ℕ) (found : Sighting) → IsKept old new part found → (layout : Option Layout)

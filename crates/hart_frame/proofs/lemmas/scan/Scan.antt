@@ -46,15 +46,7 @@ pub heard_at : (scan : Scan) (more chars : List Character) (hears : CanHear scan
 heard_at scan more chars hears = ap (drop scan.first) hears.split ∙ drop_at hears.prefix (scan.held ++ more) scan.first hears.place
 
 pub moves_none : (old new : Scan) → new.held ≡ old.held → new.first ≡ old.first → new.finished ≡ old.finished → MovesPast old new []
-moves_none old new held firsts finished = record {
-  heard = λ more chars hears. record {
-    prefix = hears.prefix;
-    split = hears.split ∙ ap (λ (cs : List Character). hears.prefix ++ (cs ++ more)) (sym held);
-    place = hears.place ∙ sym firsts;
-    ended = λ is. hears.ended (sym finished ∙ is);
-  };
-  frames = λ more chars later hears frames. let Are : ℕ → Type 0 = λ n. AreFrames chars n later in subst Are firsts frames;
-}
+moves_none old new held firsts finished = grind arith
 
 pub moves_then : (a b c : Scan) (given : List Found) → MovesPast a b [] → MovesPast b c given → MovesPast a c given
 moves_then a b c given p q = record {

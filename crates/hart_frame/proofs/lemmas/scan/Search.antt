@@ -227,11 +227,7 @@ searching_next xs from seen place decided start searching order next =
 
 -- what ends too early ends too early if it ends earlier
 truncated_take : (xs : List ℕ) (n : ℕ) → n ≤ length xs → IsTruncated xs → IsTruncated (take n xs)
-truncated_take xs n within truncated = elim truncated [
-  | inl empty ↦ inl (omega (arith, length-take-le n xs within, empty, within))
-  | inr (inl no_count) ↦ truncated_count xs n no_count.0 (omega (arith, no_count.1, within)) within
-  | inr (inr no_check) ↦ truncated_check xs n no_check.0 (omega (arith, no_check.1, within)) within
-]
+truncated_take xs n within truncated = grind (arith, length-take-le, truncated_count, truncated_check)
 
 may_take_two : (xs : List ℕ) (n : ℕ) → n ≤ length xs + 2 → IsTruncated xs → MayBegin (take n (255 ∷ 255 ∷ xs))
 may_take_two xs zero within truncated = inl refl
@@ -249,14 +245,7 @@ may_take_one (suc (suc n)) within = absurd (omega (arith, within))
 
 -- the first of bytes that may begin a frame may
 pub may_take : (xs : List ℕ) (n : ℕ) → n ≤ length xs → MayBegin xs → MayBegin (take n xs)
-may_take xs n within may =
-    let Of : List ℕ → Type 0 = λ ys. MayBegin (take n ys) in
-    elim may [
-      | inl none ↦ subst Of (sym none) (may_take_none n)
-      | inr (inl one) ↦ subst Of (sym one) (may_take_one n (omega (arith, within, ap length one)))
-      | inr (inr (after, two, truncated)) ↦
-          subst Of (sym two) (may_take_two after n (omega (arith, within, ap length two)) truncated)
-    ]
+may_take xs n within may = grind (arith, may_take_none, may_take_one, may_take_two)
 
 -- the whole list decides nothing, if it is searched to its end
 all_open : (xs : List ℕ) (from seen place decided : ℕ) → IsSearching xs from seen place decided → from ≤ seen → MayBegin (drop place xs)
@@ -301,13 +290,7 @@ whole_take layout xs n whole long within =
 -- and stays one if more bytes follow
 pub whole_append : (layout : Layout) (xs ys : List ℕ) (place : ℕ) → place ≤ length xs → IsWhole layout (drop place xs)
     → IsWhole layout (drop place (xs ++ ys))
-whole_append layout xs ys place within whole = record {
-  body = whole.body;
-  rest = whole.rest ++ ys;
-  parts = drop-append-le place xs ys within ∙ ap (λ (zs : List ℕ). zs ++ ys) whole.parts
-      ∙ append_assoc (255 ∷ 255 ∷ whole.body) whole.rest ys;
-  whole = whole.whole;
-}
+whole_append layout xs ys place within whole = grind (arith, drop-append-le, append_assoc)
 
 pub searched_stands : (xs : List ℕ) (from seen place decided more : ℕ) (layout : Layout) → IsSearching xs from seen place decided
     → from ≤ seen
@@ -353,19 +336,10 @@ searched_stands xs from seen place decided more layout searching order whole may
 -- what is read in the rest of a list is read in the list
 pub read_rest : (xs : List ℕ) (from place : ℕ) → from ≤ place → place < length xs
     → get_or (take (length xs - from) (drop from xs)) (place - from) 0 ≡ get_or xs place 0
-read_rest xs from place after within =
-    ap (λ (ys : List ℕ). get_or ys (place - from) 0) (take_rest xs from) ∙ get_or-drop from xs (place - from) 0
-    ∙ ap (λ (k : ℕ). get_or xs k 0) (let e : from + (place - from) ≡ place = omega (arith, after) in e)
+read_rest xs from place after within = grind (arith, take_rest, get_or-drop)
 
 -- so what is said of the first of the rest is said of them in the list
 pub all_rest : (xs : List ℕ) (from count : ℕ) (Of : ℕ → Type 0) → count ≤ length xs - from
     → All Of (take count (take (length xs - from) (drop from xs))) → (place : ℕ) → from ≤ place → place < from + count
     → Of (get_or xs place 0)
-all_rest xs from count Of within all place after before =
-    let rest = take (length xs - from) (drop from xs) in
-    let long = length-take-le count rest
-    (omega (arith, within, length-take-le (length xs - from) (drop from xs) (omega (arith, length-drop from xs)))) in
-    let read : get_or (take count rest) (place - from) 0 ≡ get_or xs place 0 =
-    get_or-take count rest (place - from) 0 (omega (arith, after, before))
-    ∙ read_rest xs from place after (omega (arith, within, before)) in
-    subst Of read (all (place - from) 0 (omega (arith, long, after, before)))
+all_rest xs from count Of within all place after before = grind (arith, length-take-le, length-drop, get_or-take, read_rest)

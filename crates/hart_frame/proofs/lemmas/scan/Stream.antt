@@ -1,8 +1,7 @@
 -- The frames given since a scanner was new are the first of what was pushed, and all of them after the finish.
-use Rattle.std.proofs.Common.{◌≡◌, ◌+◌, false, IsTrue, List, [], ◌∷◌, ◌++◌, length, refl, sym, ap, ◌∙◌, subst, append_assoc, arith}
+use Rattle.std.proofs.Common.{◌≡◌, ◌+◌, false, IsTrue, List, [], ◌∷◌, ◌++◌, length, refl, ap, subst, append_assoc, arith}
 use Rattle.std.proofs.Common.{length-append}
 use Rattle.std.proofs.lemmas.List.{append-nil}
-use Rattle.std.proofs.lemmas.Bool.{false≢true}
 use Rattle.hart_frame.specs.heard.Character.{Character, faultless}
 use Rattle.hart_frame.specs.heard.Frames.{AreFrames}
 use Rattle.hart_frame.specs.scan.Scanner.{Scan, CanHear, MovesPast, finishing, hearing, new_scan}
@@ -20,54 +19,19 @@ record IsStreamed (past : List Character) (scan : Scan) (given : List Found) : T
       → AreFrames (past ++ more) scan.first later → AreFrames (past ++ more) 0 (given ++ later)
 
 streamed_new : IsStreamed [] new_scan []
-streamed_new = record {
-  hears = λ more ended. record { prefix = []; split = refl; place = refl; ended = ended };
-  frames = λ more later ended frames. frames;
-}
+streamed_new = grind arith
 
 streamed_pushed : (past : List Character) (scan : Scan) (given : List Found) (cs : List Character) → scan.finished ≡ false
     → IsStreamed past scan given → IsStreamed (past ++ cs) (hearing scan cs) given
-streamed_pushed past scan given cs going streamed =
-    let never : (more : List Character) → IsTrue scan.finished → more ≡ [] = λ more is. absurd (false≢true (sym going ∙ is)) in
-    record {
-      hears = λ more ended.
-          let before = streamed.hears (cs ++ more) (never (cs ++ more)) in
-          record {
-            prefix = before.prefix;
-            split = append_assoc past cs more ∙ before.split
-                ∙ ap (λ (ds : List Character). before.prefix ++ ds) (sym (append_assoc scan.held cs more));
-            place = before.place;
-            ended = ended;
-          };
-      frames = λ more later ended frames.
-          let From : List Character → Type 0 = λ ds. AreFrames ds scan.first later in
-          let All : List Character → Type 0 = λ ds. AreFrames ds 0 (given ++ later) in
-          let same = append_assoc past cs more in
-          subst All (sym same) (streamed.frames (cs ++ more) later (never (cs ++ more)) (subst From same frames));
-    }
+streamed_pushed past scan given cs going streamed = grind (arith, append_assoc)
 
 streamed_finished : (past : List Character) (scan : Scan) (given : List Found) → IsStreamed past scan given
     → IsStreamed past (finishing scan) given
-streamed_finished past scan given streamed = record {
-  hears = λ more ended.
-      let before = streamed.hears more (λ _. ended refl) in
-      record { prefix = before.prefix; split = before.split; place = before.place; ended = ended };
-  frames = λ more later ended frames. streamed.frames more later (λ _. ended refl) frames;
-}
+streamed_finished past scan given streamed = grind arith
 
 streamed_taken : (past : List Character) (old new : Scan) (given found : List Found) → IsStreamed past old given
     → MovesPast old new found → new.finished ≡ old.finished → IsStreamed past new (given ++ found)
-streamed_taken past old new given found streamed moves finished =
-    let ended_old : (more : List Character) → (IsTrue new.finished → more ≡ []) → IsTrue old.finished → more ≡ [] =
-    λ more ended is. ended (finished ∙ is) in
-    record {
-      hears = λ more ended. moves.heard more (past ++ more) (streamed.hears more (ended_old more ended));
-      frames = λ more later ended frames.
-          let All : List Found → Type 0 = λ fs. AreFrames (past ++ more) 0 fs in
-          let hears = streamed.hears more (ended_old more ended) in
-          let from = moves.frames more (past ++ more) later hears frames in
-          subst All (sym (append_assoc given found later)) (streamed.frames more (found ++ later) (ended_old more ended) from);
-    }
+streamed_taken past old new given found streamed moves finished = grind (arith, append_assoc)
 
 -- a chunk that was heard at once
 streamed_chunk : (past : List Character) (old new : Scan) (given : List Found) (chunk : List Character) → old.finished ≡ false
@@ -89,10 +53,7 @@ streamed past scan given (push_chars before old new frames chunk history going m
 streamed past scan given (take_view before old new frames found history gave) =
     streamed_taken before old new frames (found ∷ []) (streamed before old frames history) gave.moves gave.finished
 streamed past scan given (wait before old new frames history waited) =
-    let Given : List Found → Type 0 = λ fs. IsStreamed before new fs in
-    let after = streamed_taken before old new frames [] (streamed before old frames history) waited.moves
-    (waited.unfinished ∙ sym waited.going) in
-    subst Given (append-nil frames) after
+    grind (arith, streamed_taken, append-nil, streamed before old frames history)
 streamed past scan given (finish before old frames history) = streamed_finished before old frames (streamed before old frames history)
 
 -- the frames given so far are the first ones

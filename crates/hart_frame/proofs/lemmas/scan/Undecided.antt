@@ -1,8 +1,7 @@
 -- What a scanner keeps of what it is to decide.
 use Rattle.std.proofs.Common.{◌≡◌, ℕ, ◌+◌, ◌-◌, ◌<◌, ◌≤◌, ◌⊎◌, inl, inr, false, List, [], ◌∷◌, ◌++◌, length, replicate, drop, get_or, refl}
-use Rattle.std.proofs.Common.{sym, ap, ◌∙◌, arith, subst, append_assoc, length-append, length-drop}
+use Rattle.std.proofs.Common.{sym, ap, ◌∙◌, arith, append_assoc, length-append, length-drop}
 use Rattle.std.proofs.lemmas.List.{append-nil, drop_at, drop-append-le, get_or_at, get_or_append_left, get_or-replicate, length-replicate}
-use Rattle.std.proofs.lemmas.Bool.{false≢true}
 use Rattle.hart_frame.specs.heard.Character.{Character, faultless}
 use Rattle.hart_frame.specs.heard.Place.{StandsIn}
 use Rattle.hart_frame.specs.heard.Frames.{AreFrames, HasNoFrame, IsFirst, IsUndecided, none, first}
@@ -31,9 +30,7 @@ same_head f g xs ys same = cc
 pub head_first : (chars : List Character) (from : ℕ) (frames : List Found) → AreFrames chars from frames
     → (g : Found) (later : List Found) → frames ≡ g ∷ later → IsFirst g chars from
 head_first chars from frames (none n empty) g later same = absurd cc
-head_first chars from frames (first n f more is rest) g later same =
-    let Of : Found → Type 0 = λ found. IsFirst found chars n in
-    subst Of (same_head f g more later same) is
+head_first chars from frames (first n f more is rest) g later same = grind (arith, same_head)
 
 -- what stands in a list stands after others
 pub stands_after : (prefix cs rest : List Character) (found : Found) (n : ℕ) → length prefix ≡ n → StandsIn found cs 0
@@ -83,12 +80,7 @@ held_stands s found stands = stands_after (replicate s.first other) s.held [] fo
 -- and what stands there from the first character on that it holds, it holds
 pub stands_held : (s : Scan) (chars : List Character) (found : Found) → CanHear s [] chars → StandsIn found chars s.first
     → StandsIn (record { start = found.start - s.first; stop = found.stop - s.first; frame = found.frame }) s.held 0
-stands_held s chars found hears stands =
-    let Stands : List Character → Type 0 = λ cs. StandsIn found cs s.first in
-    let here = stands_in hears.prefix (s.held ++ []) found s.first hears.place (subst Stands hears.split stands) in
-    let Held : List Character → Type 0 =
-    λ cs. StandsIn (record { start = found.start - s.first; stop = found.stop - s.first; frame = found.frame }) cs 0 in
-    subst Held (append-nil s.held) here
+stands_held s chars found hears stands = grind (arith, stands_in, append-nil)
 
 pub no_frames : (chars : List Character) (from : ℕ) (frames : List Found) → AreFrames chars from frames → frames ≡ []
     → HasNoFrame chars from
@@ -187,10 +179,7 @@ holds_gives old new holds nothing = elim nothing [
 
 -- nothing is given before the finish
 pub waits_only : (old new : Scan) → old.finished ≡ false → GivesNothing old new → Waits old new
-waits_only old new going nothing = elim nothing [
-  | inl waits ↦ waits
-  | inr ends ↦ absurd (false≢true (sym going ∙ ends.finished))
-]
+waits_only old new going nothing = grind arith
 
 -- what is moved past is let go, and the rest is held
 pub moves_length : (a b : Scan) (given : List Found) → MovesPast a b given → b.first + length b.held ≡ a.first + length a.held

@@ -1,5 +1,5 @@
 -- Whether bytes begin with a body is decided.
-use Rattle.std.proofs.Common.{◌≡◌, ◌≢◌, ℕ, zero, suc, fold, bit_xor, ◌+◌, ◌-◌, ◌*◌, ◌/◌, ◌%◌, ◌<◌, ◌≤◌, ◌⊎◌, inl, inr, Bool, true, false}
+use Rattle.std.proofs.Common.{◌≡◌, ℕ, zero, suc, fold, bit_xor, ◌+◌, ◌-◌, ◌*◌, ◌/◌, ◌%◌, ◌<◌, ◌≤◌, ◌⊎◌, inl, inr, Bool, true, false}
 use Rattle.std.proofs.Common.{List, [], ◌∷◌, length, take, drop, get_or, refl, sym, ap, ◌∙◌, arith, subst}
 use Rattle.std.specs.List.{All, slice_range}
 use Rattle.hart_values.specs.address.AddressBytes.{IsAddressBytes, first_byte}
@@ -99,18 +99,12 @@ pub record HeldKind (byte : ℕ) : Type 0 where
   pub is : kind_code kind ≡ byte % 8
 
 held_kind : (byte : ℕ) → IsDelimiter byte → HeldKind byte
-held_kind byte delimiter = elim delimiter.1 [
-  | inl stx ↦ record { kind = Stx; is = sym stx }
-  | inr ack ↦ record { kind = Ack; is = sym ack }
-]
+held_kind byte delimiter = grind arith
 
 pub long_enough : (kind : FrameKind) (payload : List ℕ) (byte count : ℕ) → kind_code kind ≡ byte % 8 → length payload ≡ count
     → (byte % 8 ≡ 2) ⊎ (2 ≤ count) → IsLongEnough kind payload
 long_enough Stx payload byte count is long good = tt
-long_enough Ack payload byte count is long good = elim good [
-  | inl stx ↦ absurd (omega (arith, is, stx))
-  | inr enough ↦ omega (arith, long, enough)
-]
+long_enough Ack payload byte count is long good = grind arith
 
 -- the first so many bytes fit
 abbrev pub Fit : List ℕ → ℕ → Type 0
@@ -123,12 +117,7 @@ pub record Unfit (bytes : List ℕ) (n : ℕ) : Type 0 where
   pub large : 256 ≤ get_or bytes place 0
 
 fit_more : (bytes : List ℕ) (n : ℕ) → Fit bytes n → get_or bytes n 0 < 256 → Fit bytes (suc n)
-fit_more bytes n fits small k below =
-    let cases : (k < n) ⊎ (k ≡ n) = grind arith in
-    elim cases [
-      | inl before ↦ fits k before
-      | inr last ↦ rw last small
-    ]
+fit_more bytes n fits small k below = grind arith
 
 fit_decided : (bytes : List ℕ) (n : ℕ) → Fit bytes n ⊎ Unfit bytes n
 fit_decided bytes zero = inl (λ k below. absurd (omega (arith, below)))
@@ -271,17 +260,7 @@ with_byte_count bytes has = elim has.0.1.1 [
 
 -- whether a byte is a delimiter
 delimiter_decided : (byte : ℕ) → IsDelimiter byte ⊎ (IsDelimiter byte → ⊥)
-delimiter_decided byte =
-    let layers : (byte / 8 % 4 ≡ 0) ⊎ (0 < byte / 8 % 4) = grind arith in
-    let kinds : (byte % 8 ≡ 2) ⊎ (byte % 8 ≡ 6) ⊎ ((byte % 8 ≢ 2) × (byte % 8 ≢ 6)) = grind arith in
-    elim layers [
-      | inr other ↦ inr (λ is. omega (arith, is.0, other))
-      | inl wired ↦ elim kinds [
-        | inl stx ↦ inl (wired, inl stx)
-        | inr (inl ack) ↦ inl (wired, inr ack)
-        | inr (inr neither) ↦ inr (λ is. elim is.1 [ inl stx ↦ neither.0 stx | inr ack ↦ neither.1 ack ])
-      ]
-    ]
+delimiter_decided byte = grind arith
 
 -- whether bytes begin with a body
 pub body_decided : (bytes : List ℕ) → BodyAhead bytes ⊎ HasNoBody bytes

@@ -1,5 +1,5 @@
 -- An exclusive or lane by lane, and of all lanes at the end, is that of all bytes.
-use Rattle.std.proofs.Common.{◌≡◌, ℕ, zero, suc, ◌+◌, ◌*◌, ◌<◌, ◌≤◌, List, [], ◌∷◌, ◌++◌, refl, sym, ap, ◌∙◌, arith}
+use Rattle.std.proofs.Common.{◌≡◌, ℕ, zero, suc, ◌+◌, ◌*◌, ◌<◌, ◌≤◌, List, [], ◌∷◌, refl, sym, ap, ◌∙◌, arith}
 use Rattle.std.proofs.Common.{fold, bit_xor, take, drop, length, mul-zero, take-add, take-append-drop}
 use Rattle.std.specs.List.{slice_index_or}
 use Rattle.std.specs.Simd.{first_chunks}
@@ -32,11 +32,7 @@ pub xor_of-zip2 : (xs ys : List ℕ) → length xs ≡ length ys → xor_of (zip
 xor_of-zip2 [] [] same = refl
 xor_of-zip2 [] (y ∷ ys) same = absurd (omega arith)
 xor_of-zip2 (x ∷ xs) [] same = absurd (omega arith)
-xor_of-zip2 (x ∷ xs) (y ∷ ys) same =
-    fold-start (bit_xor x y) (zip2 bit_xor xs ys)
-    ∙ ap (bit_xor (bit_xor x y)) (xor_of-zip2 xs ys (omega arith))
-    ∙ crossed x y (xor_of xs) (xor_of ys)
-    ∙ sym (ap (λ p. bit_xor p (fold bit_xor y ys)) (fold-start x xs) ∙ ap (bit_xor (bit_xor x (xor_of xs))) (fold-start y ys))
+xor_of-zip2 (x ∷ xs) (y ∷ ys) same = grind (arith, fold-start, bit_xor, crossed, xor_of-zip2 xs ys (omega arith))
 
 -- both folds of std are one
 pub fold_l-fold : (start : ℕ) (bytes : List ℕ) → fold_l bit_xor start bytes ≡ fold bit_xor start bytes
@@ -48,28 +44,14 @@ pub first_chunks-at : {X : Type 0} (n count index : ℕ) (xs : List X) → index
     → slice_index_or (first_chunks n count xs) index [] ≡ take n (drop (n * index) xs)
 first_chunks-at n zero index xs below = absurd (omega arith)
 first_chunks-at n (suc count) zero xs below = rw (mul-zero n) refl
-first_chunks-at n (suc count) (suc index) xs below =
-    first_chunks-at n count index (drop n xs) (omega arith)
-    ∙ ap (take n) (drop-drop (n * index) n xs ∙ ap (λ k. drop k xs) (next n index))
-  where
-    next : (n index : ℕ) → n + n * index ≡ n * suc index
-    next n index = grind arith
+first_chunks-at n (suc count) (suc index) xs below = grind (arith, drop-drop, first_chunks-at n count index (drop n xs) (omega arith))
 
 -- one more block of so many
 pub xor_of-block : (width index : ℕ) (bytes lanes block : List ℕ) → length lanes ≡ width → width * index + width ≤ length bytes
     → block ≡ take width (drop (width * index) bytes) → xor_of lanes ≡ xor_of (take (width * index) bytes)
     → xor_of (zip2 bit_xor lanes block) ≡ xor_of (take (width * (index + 1)) bytes)
 xor_of-block width index bytes lanes block full within is before =
-    let from = width * index in
-    let to : from + width ≡ width * (index + 1) = grind arith in
-    let long : length block ≡ width = rw is (length-chunk from width bytes within) in
-    xor_of-zip2 lanes block (full ∙ sym long)
-    ∙ ap (λ x. bit_xor x (xor_of block)) before
-    ∙ sym (fold-start (xor_of (take from bytes)) block)
-    ∙ sym (fold-append bit_xor 0 (take from bytes) block)
-    ∙ ap (λ (x : List ℕ). xor_of (take from bytes ++ x)) is
-    ∙ ap xor_of (sym (take-add from width bytes))
-    ∙ ap (λ (k : ℕ). xor_of (take k bytes)) to
+    grind (arith, length-chunk, xor_of-zip2, bit_xor, fold-start, fold-append, take-add)
 
 -- the rest after the blocks
 pub xor_of-rest : (count : ℕ) (bytes lanes rest : List ℕ) → xor_of lanes ≡ xor_of (take count bytes) → rest ≡ drop count bytes

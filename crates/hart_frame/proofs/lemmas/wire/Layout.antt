@@ -66,10 +66,7 @@ delimiter-parts delimiter taken = omega (arith, taken.0)
 -- equal parts join to equal lists
 joined : (address : List ℕ) {d e c f l m : ℕ} {xs ys ps qs : List ℕ} → d ≡ e → xs ≡ ys → c ≡ f → l ≡ m → ps ≡ qs
     → d ∷ address ++ xs ++ c ∷ l ∷ ps ≡ e ∷ address ++ ys ++ f ∷ m ∷ qs
-joined address {d} {e} {c} {f} {l} {m} {xs} {ys} {ps} {qs} delimiters expansions commands counts payloads =
-    let of : ℕ → List ℕ → ℕ → ℕ → List ℕ → List ℕ = λ d xs c l ps. d ∷ address ++ xs ++ c ∷ l ∷ ps in
-    let all : of d xs c l ps ≡ of e ys f m qs = cc in
-    all
+joined address {d} {e} {c} {f} {l} {m} {xs} {ys} {ps} {qs} delimiters expansions commands counts payloads = grind arith
 
 -- what stands in the bytes by their layout is what the check byte covers
 pub IsCheckedPart-in : (bytes : List ℕ) (layout : Layout) (frame : FrameParts) → Describes layout bytes → HasCheckByte bytes

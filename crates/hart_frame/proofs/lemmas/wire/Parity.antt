@@ -1,5 +1,5 @@
 -- The exclusive or of bytes has a bit if an odd number of them have it.
-use Rattle.std.proofs.Common.{◌≡◌, ℕ, ◌+◌, ◌%◌, ◌<◌, List, [], ◌∷◌, ◌++◌, sym, ap, ◌∙◌, arith, cond, eqb, fold, bit_xor, get_or, suc}
+use Rattle.std.proofs.Common.{◌≡◌, ℕ, ◌+◌, ◌%◌, ◌<◌, List, [], ◌∷◌, ◌++◌, sym, ◌∙◌, arith, cond, eqb, fold, bit_xor, get_or, suc}
 use Rattle.std.proofs.lemmas.List.Sums.{sum_by-append}
 use Rattle.std.specs.Int.{bit_at}
 use Rattle.std.proofs.lemmas.Nat.Bits.{bit_at_xor, bit_at-lt, bit_at-zero, same_from_bits_below}
@@ -33,10 +33,7 @@ xor_fits (byte ∷ bytes) start first each =
 
 pub IsCheckByte-fold : (bytes : List ℕ) (check : ℕ) → ((i : ℕ) → get_or bytes i 0 < 256) → check ≡ fold bit_xor 0 bytes
     → IsCheckByte bytes check
-IsCheckByte-fold bytes check each e = record {
-  byte = rw e (xor_fits bytes 0 (omega arith) each);
-  odd = λ bit below. ap (λ x. bit_at x bit) e ∙ xor_parity bytes 0 bit ∙ (let none = bit_at-zero bit in omega arith);
-}
+IsCheckByte-fold bytes check each e = grind (arith, xor_fits, xor_parity, bit_at-zero)
 
 -- the count over two lists
 bit_count-append : (bit : ℕ) (xs ys : List ℕ) → bit_count bit (xs ++ ys) ≡ bit_count bit xs + bit_count bit ys

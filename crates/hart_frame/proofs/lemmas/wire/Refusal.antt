@@ -1,5 +1,5 @@
 -- What begins with a body is not refused.
-use Rattle.std.proofs.Common.{◌≡◌, ℕ, ◌+◌, ◌*◌, ◌/◌, ◌%◌, ◌<◌, ◌≤◌, ◌⊎◌, inl, inr, List, [], ◌∷◌, ◌++◌, length, take, drop, get_or, sym, ap}
+use Rattle.std.proofs.Common.{◌≡◌, ℕ, ◌+◌, ◌*◌, ◌%◌, ◌<◌, ◌≤◌, ◌⊎◌, inl, inr, List, [], ◌∷◌, ◌++◌, length, take, drop, get_or, sym, ap}
 use Rattle.std.proofs.Common.{◌∙◌, arith, append_assoc, length-append, subst, Result, Ok, Err}
 use Rattle.std.specs.Result.{IfOk, IfErr}
 use Rattle.std.proofs.lemmas.List.{length-take-le, take-append-drop, get_or_at}
@@ -27,12 +27,7 @@ pub record Says (bytes : List ℕ) (f : FrameParts) (len : ℕ) : Type 0 where
 -- how long the checked part is
 length-checked : (f : FrameParts) (checked : List ℕ) (part : IsCheckedPart f checked)
     → length checked ≡ 4 + 4 * address_type f.address + length f.expansion + length f.payload
-length-checked f checked part =
-    let address = length-address _ _ _ _ part.address_bytes in
-    let parts = ap length part.parts in
-    let all = length-append (delimiter_of f ∷ part.address ++ f.expansion) (f.command ∷ length f.payload ∷ f.payload) in
-    let prefix = length-append (delimiter_of f ∷ part.address) f.expansion in
-    omega (arith, parts, all, prefix, address)
+length-checked f checked part = grind (arith, length-address, length-append)
 
 kind_code-either : (byte : ℕ) (kind : FrameKind) → byte % 8 ≡ kind_code kind → (byte % 8 ≡ 2) ⊎ (byte % 8 ≡ 6)
 kind_code-either byte Stx low = inl low
@@ -40,12 +35,7 @@ kind_code-either byte Ack low = inr low
 
 -- the delimiter of a frame with at most 3 expansion bytes is one of this profile
 pub IsDelimiter-of : (f : FrameParts) → length f.expansion ≤ 3 → IsDelimiter (delimiter_of f)
-IsDelimiter-of f few =
-    let kind = kind_code-is f.kind in
-    let form : address_type f.address < 2 = address_type-lt f.address in
-    let low : delimiter_of f % 8 ≡ kind_code f.kind = omega (arith, kind, form, few) in
-    let layer : delimiter_of f / 8 % 4 ≡ 0 = omega (arith, kind, form, few) in
-    (layer, kind_code-either (delimiter_of f) f.kind low)
+IsDelimiter-of f few = grind (arith, kind_code-is, address_type-lt, kind_code-either)
 
 pub says : (bytes : List ℕ) (f : FrameParts) (len : ℕ) → BeginsWithBody bytes f len → Says bytes f len
 says bytes f len begins =

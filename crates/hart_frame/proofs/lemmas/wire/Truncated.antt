@@ -24,22 +24,11 @@ abbrev AreBytes : List ℕ → Type 0
 AreBytes bytes = All (λ byte. byte < 256) bytes
 
 fits_at : (bytes : List ℕ) → AreBytes bytes → (i : ℕ) → get_or bytes i 0 < 256
-fits_at bytes fit i =
-    let cases : (i < length bytes) ⊎ (length bytes ≤ i) = grind arith in
-    elim cases [
-      | inl below ↦ All-get_or (λ byte. byte < 256) bytes i 0 below fit
-      | inr past ↦ omega (arith, get_or_past bytes i 0 past)
-    ]
+fits_at bytes fit i = grind (arith, All-get_or, get_or_past)
 
 -- what can become a body with some bytes after it can without them
 CanBecomeBody-prefix : (bytes more : List ℕ) → CanBecomeBody (bytes ++ more) → CanBecomeBody bytes
-CanBecomeBody-prefix bytes more can = record {
-  rest = more ++ can.rest;
-  frame = can.frame;
-  count = can.count;
-  begins = let Begins : List ℕ → Type 0 = λ xs. BeginsWithBody xs can.frame can.count in
-      subst Begins (append_assoc bytes more can.rest) can.begins;
-}
+CanBecomeBody-prefix bytes more can = grind (arith, append_assoc)
 
 -- bytes that lack only their check byte get it
 CanBecomeBody-last : (bytes : List ℕ) → AreBytes bytes → HasGoodByteCount bytes → body_length bytes ≡ length bytes + 1
@@ -119,11 +108,7 @@ CanBecomeBody-none [] none =
 CanBecomeBody-none (byte ∷ bytes) none = absurd (omega (arith, none))
 
 pub CanBecomeBody-truncated : (bytes : List ℕ) → AreBytes bytes → IsTruncated bytes → CanBecomeBody bytes
-CanBecomeBody-truncated bytes fit truncated = elim truncated [
-  | inl none ↦ CanBecomeBody-none bytes none
-  | inr (inl no_count) ↦ CanBecomeBody-begun bytes fit no_count.0 no_count.1
-  | inr (inr no_check) ↦ CanBecomeBody-counted bytes fit no_check.0 no_check.1
-]
+CanBecomeBody-truncated bytes fit truncated = grind (arith, CanBecomeBody-none, CanBecomeBody-begun, CanBecomeBody-counted)
 
 -- the byte count of a frame is none that is refused
 enough : (kind : FrameKind) (payload : List ℕ) (byte count : ℕ) → byte % 8 ≡ kind_code kind → count ≡ length payload

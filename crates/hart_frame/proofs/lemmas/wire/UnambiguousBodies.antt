@@ -11,7 +11,6 @@ use Rattle.hart_values.specs.address.AddressBytes.{IsAddressBytes}
 use Rattle.hart_frame.specs.declared.wire.kind.FrameKind.{FrameKind}
 use Rattle.hart_frame.specs.declared.wire.kind.FrameKind.TheVariants.{Stx, Ack}
 use Rattle.hart_frame.specs.wire.FrameParts.{FrameParts}
-use Rattle.hart_frame.specs.wire.Parity.{HasEvenParity}
 use Rattle.hart_frame.specs.wire.Delimiter.{delimiter_of, kind_code, address_type}
 use Rattle.hart_frame.proofs.lemmas.wire.Parity.{check-one}
 use Rattle.hart_frame.specs.wire.Body.{IsBody, BeginsWithBody}
@@ -70,25 +69,12 @@ record SameDelimiter (f g : FrameParts) : Type 0 where
 
 same_delimiter : (f g : FrameParts) → length f.expansion ≤ 3 → length g.expansion ≤ 3
     → delimiter_of f ≡ delimiter_of g → SameDelimiter f g
-same_delimiter f g few fewer same =
-    let c = kind_code-is f.kind in
-    let d = kind_code-is g.kind in
-    let kinds : kind_code f.kind ≡ kind_code g.kind = omega (arith, c, d, address_type-lt f.address, address_type-lt g.address) in
-    record {
-      kind = kind_code-one f.kind g.kind kinds;
-      form = omega (arith, c, d, address_type-lt f.address, address_type-lt g.address);
-      expansion = omega (arith, c, d, address_type-lt f.address, address_type-lt g.address);
-    }
+same_delimiter f g few fewer same = grind (arith, kind_code-is, address_type-lt, kind_code-one)
 
 -- frames with the same parts are the same
 same_frames : (f g : FrameParts) → f.kind ≡ g.kind → f.master ≡ g.master → f.burst ≡ g.burst → f.address ≡ g.address
     → f.expansion ≡ g.expansion → f.command ≡ g.command → f.payload ≡ g.payload → f ≡ g
-same_frames f g kinds masters bursts addresses expansions commands payloads =
-    let of : FrameKind → MasterId → Bool → Address → List ℕ → ℕ → List ℕ → FrameParts =
-    λ k m b a e c p. record { kind = k; master = m; burst = b; address = a; expansion = e; command = c; payload = p } in
-    let all : of f.kind f.master f.burst f.address f.expansion f.command f.payload
-    ≡ of g.kind g.master g.burst g.address g.expansion g.command g.payload = cc in
-    all
+same_frames f g kinds masters bursts addresses expansions commands payloads = grind arith
 
 -- a body and what follows it, part by part
 pub spread : (f : FrameParts) (body rest : List ℕ) (is : IsBody f body)
@@ -139,20 +125,7 @@ last_fits bytes last fit =
 
 -- a frame has one body
 pub IsBody-one : OneList → (f : FrameParts) (body other : List ℕ) → IsBody f body → IsBody f other → body ≡ other
-IsBody-one law f body other p q =
-    let a = p.checked_part in
-    let b = q.checked_part in
-    let addresses = law _ _ _ _ _ a.address_bytes b.address_bytes in
-    let checked : p.checked ≡ q.checked =
-    a.parts ∙ ap (λ (xs : List ℕ). delimiter_of f ∷ xs ++ f.expansion ++ f.command ∷ length f.payload ∷ f.payload) addresses
-    ∙ sym b.parts in
-    let moved : other ≡ p.checked ++ q.check ∷ [] = q.parts ∙ ap (λ (xs : List ℕ). xs ++ q.check ∷ []) (sym checked) in
-    let fits : ℕ → Type 0 = λ byte. byte < 256 in
-    let checks = check-one p.checked p.check q.check
-    (last_fits p.checked p.check (All-same fits _ body (sym p.parts) p.bytes_fit))
-    (last_fits p.checked q.check (All-same fits _ other (sym moved) q.bytes_fit))
-    (subst HasEvenParity p.parts p.parity) (subst HasEvenParity moved q.parity) in
-    p.parts ∙ ap (λ (check : ℕ). p.checked ++ check ∷ []) checks ∙ sym moved
+IsBody-one law f body other p q = grind (arith, check-one, last_fits, All-same)
 
 -- one prefix of a list at most is a body, of one frame
 pub BeginsWithBody-one : OneReading → (f g : FrameParts) (bytes : List ℕ) (m n : ℕ)
@@ -165,7 +138,4 @@ BeginsWithBody-one law f g bytes m n p q =
 
 -- a body is the prefix of any list that begins with it
 pub BeginsWithBody-append : (f : FrameParts) (body rest : List ℕ) → IsBody f body → BeginsWithBody (body ++ rest) f (length body)
-BeginsWithBody-append f body rest is = record {
-  within = omega (arith, length-append body rest);
-  body = rw (take_at body rest (length body) refl) is;
-}
+BeginsWithBody-append f body rest is = grind (arith, length-append, take_at)
