@@ -1,4 +1,5 @@
 -- The laws of bodies, of frames, of first starts, of damage and of the scanner, for the proofs of this crate and of those above.
+use Rattle.std.proofs.Common.{arith}
 use Rattle.std.proofs.Common.{◌≡◌, ◌≤◌, ◌⊎◌, ℕ, List, [], ◌∷◌, ◌++◌, length, refl, sym, ◌+◌, ◌<◌, IsTrue}
 use Rattle.std.proofs.lemmas.List.{append-nil}
 use Rattle.hart_values.proofs.lemmas.Laws.{address_bytes_are_unambiguous-one_list, address_bytes_are_unambiguous-one_reading}
@@ -66,10 +67,12 @@ first_starts_are_decided-decided = first_start_decided
 pub damaged_messages_have_no_other_frame-marked : (frame : FrameParts) (preambles : ℕ) (chars : List Character)
     (damage : IsMarkedDamage frame preambles chars)
     → AreFrames chars 0 [] ⊎ AreFrames chars 0 (record { start = damage.left; stop = length chars; frame = frame } ∷ [])
-damaged_messages_have_no_other_frame-marked = AreFrames-marked (record {
-  one_frame = bodies_are_unambiguous-one_frame;
-  no_proper_prefix = bodies_are_unambiguous-no_proper_prefix;
-})
+damaged_messages_have_no_other_frame-marked =
+    grind (
+      arith,
+      AreFrames-marked
+          (record { one_frame = bodies_are_unambiguous-one_frame; no_proper_prefix = bodies_are_unambiguous-no_proper_prefix }),
+    )
 
 pub damaged_messages_have_no_other_frame-check : (frame : FrameParts) (preambles : ℕ) (chars : List Character)
     → IsCheckDamage frame preambles chars → AreFrames chars 0 []

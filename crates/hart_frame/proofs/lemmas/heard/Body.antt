@@ -1,5 +1,5 @@
 -- Characters that begin with a body, and their bytes.
-use Rattle.std.proofs.Common.{◌≡◌, ℕ, ◌+◌, ◌*◌, ◌/◌, ◌%◌, ◌<◌, List, [], ◌∷◌, ◌++◌, length, take, get_or, refl}
+use Rattle.std.proofs.Common.{◌≡◌, ℕ, ◌+◌, ◌*◌, ◌/◌, ◌%◌, ◌<◌, List, [], ◌∷◌, length, take, get_or, refl}
 use Rattle.std.proofs.Common.{sym, ap, ◌∙◌, arith, subst}
 use Rattle.std.specs.List.{All}
 use Rattle.std.proofs.lemmas.List.Elements.{All-map}
@@ -24,12 +24,7 @@ faultless-one bytes others same = sym (bytes_of-faultless bytes) ∙ ap bytes_of
 pub BeginsWithBody-heard : (chars : List Character) (f : FrameParts) (len : ℕ) → BeginsWithHeard chars f len
     → BeginsWithBody (bytes_of chars) f len
 BeginsWithBody-heard chars f len heard =
-    let bytes : bytes_of chars ≡ heard.body ++ bytes_of heard.rest =
-    ap bytes_of heard.split ∙ map-append (λ (character : Character). character.byte) (faultless heard.body) heard.rest
-    ∙ ap (λ (xs : List ℕ). xs ++ bytes_of heard.rest) (bytes_of-faultless heard.body) in
-    let Begins : List ℕ → Type 0 = λ xs. BeginsWithBody xs f (length heard.body) in
-    let Of : ℕ → Type 0 = λ n. BeginsWithBody (bytes_of chars) f n in
-    subst Of (sym heard.whole) (subst Begins (sym bytes) (BeginsWithBody-append f heard.body (bytes_of heard.rest) heard.is_body))
+    grind (arith, map-append, bytes_of-faultless heard.body, BeginsWithBody-append f heard.body (bytes_of heard.rest) heard.is_body)
 
 -- the characters of a heard body
 pub take-heard : (chars : List Character) (f : FrameParts) (len : ℕ) (heard : BeginsWithHeard chars f len)

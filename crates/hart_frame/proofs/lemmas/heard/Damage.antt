@@ -94,9 +94,12 @@ part_at : (chars : List Character) (found : Found) (from count place : ℕ) (sta
     → place ≡ length stands.prefix + count
     → get_or chars place preamble ≡ get_or (faultless (255 ∷ 255 ∷ []) ++ (faultless stands.body ++ stands.rest)) count preamble
 part_at chars found from count place stands is =
-    ap (λ (n : ℕ). get_or chars n preamble) is
-    ∙ ap (λ (cs : List Character). get_or cs (length stands.prefix + count) preamble) (parts chars found from stands)
-    ∙ get_or-append-add stands.prefix (faultless (255 ∷ 255 ∷ []) ++ (faultless stands.body ++ stands.rest)) count preamble
+    grind (
+      arith,
+      preamble,
+      parts chars found from stands,
+      get_or-append-add stands.prefix (faultless (255 ∷ 255 ∷ []) ++ (faultless stands.body ++ stands.rest)) count preamble,
+    )
 
 -- the body there begins with its delimiter
 first_at : (f : FrameParts) (body : List ℕ) (rest : List Character) → IsBody f body
@@ -146,10 +149,13 @@ not_after left body chars found from is stands after =
 not_before : (left : ℕ) (body : List ℕ) (chars : List Character) (found : Found) (from : ℕ) → IsHeard left body chars
     → (stands : StandsIn found chars from) → length stands.prefix + 2 < left → ⊥
 not_before left body chars found from is stands before =
-    delimiter_of-other found.frame stands.body stands.is_body
-    (preamble_at left body chars (length stands.prefix + 2) (delimiter_of found.frame) is before
-    (part_at chars found from 2 (length stands.prefix + 2) stands refl
-    ∙ first_at found.frame stands.body stands.rest stands.is_body))
+    grind (
+      arith,
+      delimiter_of-other found.frame stands.body stands.is_body
+          (preamble_at left body chars (length stands.prefix + 2) (delimiter_of found.frame) is before
+          (part_at chars found from 2 (length stands.prefix + 2) stands refl
+          ∙ first_at found.frame stands.body stands.rest stands.is_body)),
+    )
 
 -- so a frame starts at the delimiter
 start_is : (left : ℕ) (body : List ℕ) (chars : List Character) (found : Found) (from : ℕ) → IsHeard left body chars
@@ -245,10 +251,7 @@ check_heard frame preambles chars damage = grind (arith, says_of, delimiter_of-o
 -- the bytes that are heard give the length of the body that was sent
 check_length : (frame : FrameParts) (preambles : ℕ) (chars : List Character) (damage : IsCheckDamage frame preambles chars)
     → body_length damage.bytes ≡ length damage.bytes
-check_length frame preambles chars damage =
-    let said = says_of frame damage.body damage.is_body in
-    let replaces = damage.replaces in
-    omega (arith, said.whole, replaces.same_length, replaces.same_byte_count, replaces.same_delimiter)
+check_length frame preambles chars damage = grind (arith, says_of frame damage.body damage.is_body)
 
 -- so a frame that stands there has all of them, and their parity is not even
 check_none : (frame : FrameParts) (preambles : ℕ) (chars : List Character) (damage : IsCheckDamage frame preambles chars)

@@ -1,9 +1,9 @@
 -- Every list of characters has its frames.
-use Rattle.std.proofs.Common.{◌≡◌, ℕ, zero, suc, ◌+◌, ◌<◌, ◌≤◌, ◌⊎◌, inl, inr, List, [], ◌∷◌, ◌++◌, length, take, drop, refl, sym, ap}
+use Rattle.std.proofs.Common.{◌≡◌, ℕ, zero, suc, ◌+◌, ◌<◌, ◌≤◌, ◌⊎◌, inl, inr, List, [], ◌∷◌, length, take, drop, refl, sym, ap}
 use Rattle.std.proofs.Common.{◌∙◌, arith, subst}
 use Rattle.std.proofs.lemmas.List.{take-append-drop, take-map, take_rest, length-take-le}
 use Rattle.hart_frame.specs.wire.FrameParts.{FrameParts}
-use Rattle.hart_frame.specs.wire.Body.{IsBody, BeginsWithBody}
+use Rattle.hart_frame.specs.wire.Body.{BeginsWithBody}
 use Rattle.hart_frame.specs.heard.Character.{Character, faultless}
 use Rattle.hart_frame.specs.heard.Body.{bytes_of, BeginsWithHeard}
 use Rattle.hart_frame.specs.heard.Place.{StandsIn}
@@ -57,16 +57,7 @@ NothingHeard chars = (f : FrameParts) (len : ℕ) → BeginsWithHeard chars f le
 heard_whole : (chars : List Character) (f : FrameParts) (len : ℕ) → BeginsWithBody (bytes_of chars) f len → Faultless (take len chars)
     → BeginsWithHeard chars f len
 heard_whole chars f len begins all =
-    let bytes : all.bytes ≡ take len (bytes_of chars) =
-    sym (bytes_of-faultless all.bytes) ∙ ap bytes_of (sym all.are) ∙ sym (take-map (λ (character : Character). character.byte) len chars) in
-    let Is : List ℕ → Type 0 = λ xs. IsBody f xs in
-    record {
-      body = all.bytes;
-      rest = drop len chars;
-      split = sym (take-append-drop len chars) ∙ ap (λ (xs : List Character). xs ++ drop len chars) all.are;
-      is_body = subst Is (sym bytes) begins.body;
-      whole = sym (ap length bytes ∙ length-take-le len (bytes_of chars) begins.within);
-    }
+    grind (arith, bytes_of-faultless, take-map, take-append-drop len chars, length-take-le len (bytes_of chars) begins.within)
 
 damaged_body : (chars : List Character) (f : FrameParts) (len : ℕ) → BeginsWithBody (bytes_of chars) f len
     → (Faultless (take len chars) → ⊥)

@@ -23,26 +23,19 @@ delimiter_of-lt f few = omega (arith, kind_code-is f.kind, address_type-lt f.add
 -- the bytes of a list that a frame stands in
 bytes-split : (bytes : List ℕ) (found : Found) (from : ℕ) (stands : StandsIn found (faultless bytes) from)
     → bytes ≡ bytes_of stands.prefix ++ (255 ∷ 255 ∷ (stands.body ++ bytes_of stands.rest))
-bytes-split bytes found from stands =
-    let byte_of : Character → ℕ = λ character. character.byte in
-    let marked : List ℕ = 255 ∷ 255 ∷ stands.body in
-    sym (bytes_of-faultless bytes) ∙ ap bytes_of stands.split
-    ∙ map-append byte_of (stands.prefix ++ faultless marked) stands.rest
-    ∙ ap (λ (xs : List ℕ). xs ++ bytes_of stands.rest) (map-append byte_of stands.prefix (faultless marked))
-    ∙ append_assoc (bytes_of stands.prefix) (bytes_of (faultless marked)) (bytes_of stands.rest)
-    ∙ ap (λ (xs : List ℕ). bytes_of stands.prefix ++ (xs ++ bytes_of stands.rest)) (bytes_of-faultless marked)
+bytes-split bytes found from stands = grind (arith, bytes_of-faultless bytes, map-append, append_assoc, bytes_of-faultless)
 
 -- a frame starts with its delimiter
 starts : (bytes : List ℕ) (found : Found) (from : ℕ) → StandsIn found (faultless bytes) from
     → get_or bytes found.start 0 ≡ delimiter_of found.frame
 starts bytes found from stands =
-    let prefix : List ℕ = bytes_of stands.prefix in
-    let prefix_len : length prefix ≡ length stands.prefix = length-map stands.prefix (λ (character : Character). character.byte) in
-    let place : found.start ≡ length prefix + 2 = omega (arith, stands.start, prefix_len) in
-    ap (λ (n : ℕ). get_or bytes n 0) place
-    ∙ ap (λ (xs : List ℕ). get_or xs (length prefix + 2) 0) (bytes-split bytes found from stands)
-    ∙ get_or-append-add prefix (255 ∷ 255 ∷ (stands.body ++ bytes_of stands.rest)) 2 0
-    ∙ ap (λ (xs : List ℕ). get_or xs 0 0) (spread found.frame stands.body (bytes_of stands.rest) stands.is_body)
+    grind (
+      arith,
+      length-map,
+      bytes-split bytes found from stands,
+      get_or-append-add,
+      spread found.frame stands.body (bytes_of stands.rest) stands.is_body,
+    )
 
 -- so none starts among the preamble bytes
 starts-after : (bytes body : List ℕ) (preambles : ℕ) (found : Found) (from : ℕ) → bytes ≡ replicate preambles 255 ++ body

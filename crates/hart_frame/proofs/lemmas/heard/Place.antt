@@ -1,6 +1,6 @@
 -- Where a frame stands, and where the body begins that is heard there.
-use Rattle.std.proofs.Common.{◌≡◌, ℕ, ◌+◌, ◌-◌, ◌<◌, ◌≤◌, List, [], ◌∷◌, ◌++◌, length, take, drop, get_or, refl, sym, ap}
-use Rattle.std.proofs.Common.{◌∙◌, arith, append_assoc, length-append}
+use Rattle.std.proofs.Common.{◌≡◌, ℕ, ◌+◌, ◌-◌, ◌<◌, ◌≤◌, List, [], ◌∷◌, ◌++◌, length, take, drop, get_or}
+use Rattle.std.proofs.Common.{arith, append_assoc, length-append}
 use Rattle.std.proofs.lemmas.List.{take-append-drop, length-take-le, take_rest, drop_at, length-map}
 use Rattle.hart_frame.specs.wire.FrameParts.{FrameParts}
 use Rattle.hart_frame.specs.heard.Character.{Character, faultless}
@@ -26,20 +26,14 @@ pub StandsIn-heard : (chars tail : List Character) (place : ℕ) (first second :
 StandsIn-heard chars [] place first second f len within is long x_is y_is x_pre y_pre heard = absurd (omega arith)
 StandsIn-heard chars (x ∷ []) place first second f len within is long x_is y_is x_pre y_pre heard = absurd (omega arith)
 StandsIn-heard chars (x ∷ y ∷ rest) place first second f len within is long x_is y_is x_pre y_pre heard =
-    let after = take_rest (x ∷ y ∷ rest) 2 in
-    let parts = joined x y rest (faultless heard.body ++ heard.rest) (sym x_is ∙ x_pre) (sym y_is ∙ y_pre) (sym after ∙ heard.split) in
-    let prefix_len = length-take-le place chars within in
-    record {
-      prefix = take place chars;
-      body = heard.body;
-      rest = heard.rest;
-      split = sym (take-append-drop place chars) ∙ ap (λ (xs : List Character). take place chars ++ xs) (sym is ∙ parts)
-          ∙ sym (append_assoc (take place chars) (faultless (255 ∷ 255 ∷ heard.body)) heard.rest);
-      is_body = heard.is_body;
-      after = omega (arith, prefix_len);
-      start = omega (arith, prefix_len);
-      stop = omega (arith, prefix_len, heard.whole);
-    }
+    grind (
+      arith,
+      take_rest (x ∷ y ∷ rest) 2,
+      joined,
+      length-take-le place chars within,
+      take-append-drop place chars,
+      append_assoc (take place chars) (faultless (255 ∷ 255 ∷ heard.body)) heard.rest,
+    )
 
 -- what stands at a place begins there
 pub StandsIn-at : (chars : List Character) (place from : ℕ) (found : Found) (stands : StandsIn found chars from)
@@ -50,13 +44,8 @@ StandsIn-at chars place from found stands start = grind (arith, append_assoc, dr
 pub StandsIn-hears : (chars tail : List Character) (place from : ℕ) (found : Found) (stands : StandsIn found chars from)
     → found.start ≡ place + 2 → tail ≡ drop place chars
     → BeginsWithHeard (take (length tail - 2) (drop 2 tail)) found.frame (length stands.body)
-StandsIn-hears chars tail place from found stands start is = record {
-  body = stands.body;
-  rest = stands.rest;
-  split = take_rest tail 2 ∙ ap (drop 2) (is ∙ StandsIn-at chars place from found stands start);
-  is_body = stands.is_body;
-  whole = refl;
-}
+StandsIn-hears chars tail place from found stands start is =
+    grind (arith, take_rest tail 2, StandsIn-at chars place from found stands start)
 
 -- what stands after a place stands in the list from that place on
 pub StandsIn-from : (found : Found) (chars : List Character) (place from : ℕ) → StandsIn found chars place → from + 2 ≤ found.start
@@ -79,6 +68,4 @@ StandsIn-within found chars from stands = grind (arith, length-append, length-ma
 
 -- none stands from the end of the list on
 pub HasNoFrame-end : (chars : List Character) (from : ℕ) → length chars ≤ from → HasNoFrame chars from
-HasNoFrame-end chars from end found stands =
-    let lies = StandsIn-within found chars from stands in
-    omega (arith, end, lies.after, lies.some, lies.within)
+HasNoFrame-end chars from end found stands = grind (arith, StandsIn-within found chars from stands)

@@ -69,18 +69,15 @@ same_or_other a b = grind arith
 -- whether a body may start at a place
 start_decided : (chars : List Character) (place : ℕ) → 2 ≤ place → place < length chars → IsStart place chars ⊎ (IsStart place chars → ⊥)
 start_decided chars place after within =
-    let no : (StartsAt chars place preamble → ⊥) → IsStart place chars → ⊥ = λ never is. never (starts_at chars place preamble is) in
-    elim (same_or_other (get_or chars (place - 2) preamble) preamble) [
-      | inr not_one ↦ inr (no (λ at. not_one at.one))
-      | inl one ↦ elim (same_or_other (get_or chars (place - 1) preamble) preamble) [
-        | inr not_two ↦ inr (no (λ at. not_two at.two))
-        | inl two ↦ elim (same_or_other (get_or chars place preamble) preamble) [
-          | inl three ↦ inr (no (λ at. at.other three))
-          | inr other ↦ inl (is_start_from chars place preamble
-              (record { after_two = after; within = within; one = one; two = two; other = other }))
-        ]
-      ]
-    ]
+    grind (
+      arith,
+      preamble,
+      starts_at,
+      same_or_other (get_or chars (place - 2) preamble) preamble,
+      same_or_other (get_or chars (place - 1) preamble) preamble,
+      same_or_other (get_or chars place preamble) preamble,
+      is_start_from,
+    )
 
 -- no start lies before a place
 abbrev pub NoneBefore : List Character → ℕ → Type 0

@@ -65,10 +65,7 @@ pub kept_after : (held chunk bytes new : List ℕ) (from place stop count : ℕ)
     → count ≤ stop → place ≤ length held → new ≡ bytes ++ take (stop - count) chunk
     → drop (from + place) new ≡ drop place (take stop (held ++ chunk))
 kept_after held chunk bytes new from place stop count within same long after inside is =
-    let part = take (stop - count) chunk in
-    let rest : drop from new ≡ held ++ part =
-    ap (drop from) is ∙ drop-append-le from bytes part within ∙ ap (λ (xs : List ℕ). xs ++ part) same in
-    sym (drop-drop place from new) ∙ ap (drop place) (rest ∙ sym (first_both held chunk stop count long after))
+    grind (arith, drop-append-le, drop-drop place from new, first_both held chunk stop count long after)
 
 -- what is kept of a chunk alone
 pub kept_past : (held chunk bytes new : List ℕ) (from place stop count : ℕ) → from ≡ length bytes → count ≡ length held

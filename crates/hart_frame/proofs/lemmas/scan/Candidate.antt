@@ -192,21 +192,7 @@ pub record IsCut (layout : Layout) (xs : List ℕ) (len : ℕ) : Type 0 where
 pub cut_off : (layout : Layout) (xs : List ℕ) (len : ℕ) → HasCheckByte xs → Describes layout xs → len ≡ layout_length layout
     → IsCut layout xs len
 cut_off layout xs len has is same =
-    let whole : len ≡ body_length xs = omega (arith, same, is.command, is.count) in
-    let within : len ≤ length xs = omega (arith, whole, has.1) in
-    let parts : take len xs ++ drop len xs ≡ xs = take-append-drop len xs in
-    let long = length-take-le len xs within in
-    let Has : List ℕ → Type 0 = λ ys. HasCheckByte ys in
-    let Of : List ℕ → Type 0 = λ ys. Describes layout ys in
-    let all : body_length (take len xs ++ drop len xs) ≡ len = ap (λ (ys : List ℕ). body_length ys) parts ∙ sym whole in
-    let cut = HasCheckByte-prefix (take len xs) (drop len xs) (subst Has (sym parts) has) (omega (arith, all, long)) in
-    record {
-      described = Describes-prefix layout (take len xs) (drop len xs) (subst Of (sym parts) is) cut.0.0.0.1;
-      checked = cut.0;
-      exact = omega (arith, same, long);
-      whole = sym cut.1 ∙ all;
-      fewer = λ n below. truncated_check xs n has.0 (omega (arith, below, whole)) (omega (arith, below, within));
-    }
+    grind (arith, take-append-drop len xs, length-take-le, HasCheckByte-prefix, Describes-prefix, truncated_check)
 
 -- they never become a body if their parity is odd
 pub odd_body : (layout : Layout) (xs : List ℕ) (len check : ℕ) → IsCut layout xs len → IsCheckByte (take len xs) check → check ≢ 0

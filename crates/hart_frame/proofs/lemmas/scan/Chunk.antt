@@ -168,12 +168,12 @@ hearing_start b chunk sound drained = grind (arith, waits_drained, moves_none, a
 -- the next part is heard, and still nothing is decided
 pub hearing_on : (old now new : Buffer) (chunk : List Character) (n r : ℕ) → IsHearing old now chunk n → IsSound new → new.state ≡ Drained
     → HearsPart (scan_of now) (scan_of new) (slice_range chunk n (length chunk)) r → IsHearing old new chunk (n + r)
-hearing_on old now new chunk n r hears sound drained part = record {
-  sound = sound;
-  drained = drained;
-  within = rest_within (scan_of now) (scan_of new) chunk n r hears.within part;
-  so = heard_then (scan_of old) (scan_of now) (scan_of new) chunk n r hears.within hears.so part;
-}
+hearing_on old now new chunk n r hears sound drained part =
+    grind (
+      arith,
+      rest_within (scan_of now) (scan_of new) chunk n r hears.within part,
+      heard_then (scan_of old) (scan_of now) (scan_of new) chunk n r hears.within hears.so part,
+    )
 
 busy_holds : (scan : Scan) (count all : ℕ) → (scan.drained ≡ true → ⊥) → StopsAt scan count all → (m n : ℕ) → StopsAt scan m n
 busy_holds scan count all busy stops m n = grind arith

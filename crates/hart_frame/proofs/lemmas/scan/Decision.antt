@@ -109,21 +109,17 @@ held_stands b found (Some layout) order within last same whole =
 -- what is found at last
 pub held_searched : (b : Buffer) (found : Sighting) → IsLookedAt b found
     → (IsEnded b → found.layout ≡ None → found.place < length (held_bytes b) → ⊥) → IsHeldSearched b found
-held_searched b found looked last = record {
-  within = omega (arith, looked.searched.order, looked.searched.within);
-  none = none_found b found looked;
-  stands = held_stands b found found.layout looked.searched.order looked.searched.within last refl looked.searched.stands;
-}
+held_searched b found looked last =
+    grind (
+      arith,
+      none_found b found looked,
+      held_stands b found found.layout looked.searched.order looked.searched.within last refl looked.searched.stands,
+    )
 
 -- a frame that begins what is held is given
 body_here : (b : Buffer) (layout : Layout) (whole : IsWhole layout (held_bytes b))
     → slice_range b.bytes (b.from + 2) (b.from + 2 + layout_length layout) ≡ whole.body
-body_here b layout whole =
-    let n = layout_length layout in
-    let rest : drop (b.from + 2) b.bytes ≡ whole.body ++ whole.rest =
-    sym (drop-drop 2 b.from b.bytes) ∙ ap (drop 2) whole.parts in
-    ap (λ (k : ℕ). take k (drop (b.from + 2) b.bytes)) (let e : b.from + 2 + n - (b.from + 2) ≡ n = omega arith in e)
-    ∙ ap (take n) rest ∙ take_at whole.body whole.rest n (sym whole.whole.exact)
+body_here b layout whole = grind (arith, drop-drop 2 b.from b.bytes, take_at)
 
 -- a buffer that gave the frame that it began with
 abbrev pub released : Buffer → Layout → Buffer
@@ -139,14 +135,7 @@ held_released b layout whole = grind (arith, held_passed, drop_at)
 -- two preamble bytes and the body come first of what is held
 held_whole : (b : Buffer) (layout : Layout) (whole : IsWhole layout (held_bytes b))
     → (scan_of b).held ≡ faultless (255 ∷ 255 ∷ whole.body) ++ (scan_of (released b layout)).held
-held_whole b layout whole =
-    let make = λ (byte : ℕ). let c : Character = record { byte = byte; faults = 0 } in c in
-    let damaged = option_to_list b.damaged in
-    let front : List ℕ = 255 ∷ 255 ∷ whole.body in
-    ap (λ (xs : List ℕ). faultless xs ++ damaged) whole.parts
-    ∙ ap (λ (cs : List Character). cs ++ damaged) (map-append make front whole.rest)
-    ∙ append_assoc (faultless front) (faultless whole.rest) damaged
-    ∙ ap (λ (xs : List ℕ). faultless front ++ (faultless xs ++ damaged)) (sym (held_released b layout whole))
+held_whole b layout whole = grind (arith, map-append, append_assoc, held_released b layout whole)
 
 pub gives_span : (b : Buffer) (layout : Layout) → IsSound b → is_drained b.state ≡ false → IsWhole layout (held_bytes b)
     → GivesSpan b (released b layout) (span_of b layout)
@@ -242,9 +231,7 @@ moves_damaged (Some c) old new faulty some held empty firsts finished =
 pub given_nothing : (b mid : Buffer) (found : Sighting) (new : Scan) → IsHeldSearched b found → mid ≡ passed b found.place
     → GivesNothing (scan_of mid) new → GivesNothing (scan_of b) new
 given_nothing b mid found new is same after =
-    let After : Buffer → Type 0 = λ x. GivesNothing (scan_of x) new in
-    gives_nothing_then (scan_of b) (scan_of (passed b found.place)) new (moves_passed b found.place is.within is.none) refl
-    (subst After same after)
+    grind (arith, gives_nothing_then, passed b found.place, moves_passed b found.place is.within is.none)
 
 -- what a buffer waits with that holds something from there on
 pub waits_open : (b : Buffer) (place : ℕ) → IsHeldOpen b place → place ≤ length (held_bytes b) → length (held_bytes (passed b place)) ≢ 0

@@ -29,9 +29,7 @@ given_first past more scan found history ended =
 
 -- it lies in the list
 first_in : (found : Found) (chars : List Character) → IsFirst found chars 0 → IsFirstIn found chars
-first_in found chars is =
-    let lies = StandsIn-within found chars 0 is.stands in
-    record { first = is; order = lies.some; within = lies.within }
+first_in found chars is = grind (arith, StandsIn-within found chars 0 is.stands)
 
 -- a scanner that heard so many characters of a list gives its first frame
 pub first_given : (chars : List Character) (count : ℕ) (mid new : Scan) (found : Found)
@@ -58,12 +56,13 @@ last_given : (chars : List Character) (waiting new : Scan) (given : Option Found
     → MatchOption given (GivesNothing (finishing waiting) new) (Gives (finishing waiting) new)
     → MatchOption given (HasNoFrame chars 0) (λ found. IsFirstIn found chars)
 last_given chars waiting new None history nothing =
-    no_frames chars 0 [] (history_all chars [] (record {
-      last = finishing waiting;
-      after = new;
-      history = history;
-      ended = ends_only (finishing waiting) new refl nothing;
-    })) refl
+    grind (
+      arith,
+      no_frames chars 0 []
+          (history_all chars []
+          (record { last = finishing waiting; after = new; history = history; ended = ends_only (finishing waiting) new refl nothing }))
+          refl,
+    )
 last_given chars waiting new (Some found) history gives =
     let Of : List Character → Type 0 = λ cs. IsFirst found cs 0 in
     first_in found chars (subst Of (append-nil chars) (given_first chars [] new found

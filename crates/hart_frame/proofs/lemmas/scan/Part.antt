@@ -13,7 +13,6 @@ use Rattle.hart_frame.specs.scan.Chunk.{Hears, StopsAt}
 use Rattle.hart_frame.specs.scan.Scanner.{Scan, hearing}
 use Rattle.hart_frame.specs.scan.Search.{IsOpenAll, IsOpenFrom, IsSearched}
 use Rattle.hart_frame.specs.declared.scan.buffer.Buffer.{Buffer}
-use Rattle.hart_frame.specs.declared.scan.buffer.State.{State}
 use Rattle.hart_frame.specs.declared.scan.search.Sighting.{Sighting}
 use Rattle.hart_frame.proofs.lemmas.scan.Buffer.{held_clear}
 use Rattle.hart_frame.proofs.lemmas.scan.Candidate.{undecided_open}
@@ -67,12 +66,7 @@ meant_kept old new part found kept (Some layout) whole = whole
 
 pub sound_kept : (old new : Buffer) (part : List ℕ) (found : Sighting) → IsStored new → IsKept old new part found → IsSound new
 sound_kept old new part found stored kept =
-    let Meant : State → Type 0 = λ state. IsMeant new state in
-    record {
-      stored = stored;
-      meant = subst Meant (sym kept.state)
-          (meant_kept old new part found kept found.layout (holds_kept old new part found kept found.layout kept.searched.stands));
-    }
+    grind (arith, meant_kept old new part found kept found.layout (holds_kept old new part found kept found.layout kept.searched.stands))
 
 -- and it stops where nothing more is decided, or where a frame stands
 stops_kept : (old new : Buffer) (part : List ℕ) (found : Sighting) → IsKept old new part found → (layout : Option Layout) (count : ℕ)

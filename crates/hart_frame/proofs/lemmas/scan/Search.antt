@@ -25,9 +25,7 @@ take_more xs n m order = ap (λ (k : ℕ). take k xs) (let e : m ≡ n + (m - n)
 
 -- the first bytes of two lists in a row
 pub take_both : (xs ys : List ℕ) (n : ℕ) → length xs ≤ n → take n (xs ++ ys) ≡ xs ++ take (n - length xs) ys
-take_both xs ys n long =
-    ap (λ (k : ℕ). take k (xs ++ ys)) (let e : n ≡ length xs + (n - length xs) = omega (arith, long) in e)
-    ∙ take-append-add xs ys (n - length xs)
+take_both xs ys n long = grind (arith, take-append-add xs ys (n - length xs))
 
 -- where none begins, none begins if more bytes follow
 pub none_append : (xs ys : List ℕ) (from to : ℕ) → to ≤ length xs → NoneBegin xs from to → NoneBegin (xs ++ ys) from to

@@ -1,5 +1,5 @@
 -- The frames given since a scanner was new are the first of what was pushed, and all of them after the finish.
-use Rattle.std.proofs.Common.{◌≡◌, ◌+◌, false, IsTrue, List, [], ◌∷◌, ◌++◌, length, refl, ap, subst, append_assoc, arith}
+use Rattle.std.proofs.Common.{◌≡◌, ◌+◌, false, IsTrue, List, [], ◌∷◌, ◌++◌, length, refl, subst, append_assoc, arith}
 use Rattle.std.proofs.Common.{length-append}
 use Rattle.std.proofs.lemmas.List.{append-nil}
 use Rattle.hart_frame.specs.heard.Character.{Character, faultless}
@@ -37,9 +37,7 @@ streamed_taken past old new given found streamed moves finished = grind (arith, 
 streamed_chunk : (past : List Character) (old new : Scan) (given : List Found) (chunk : List Character) → old.finished ≡ false
     → IsStreamed past old given → MovesPast (hearing old chunk) new [] → new.finished ≡ old.finished → IsStreamed (past ++ chunk) new given
 streamed_chunk past old new given chunk going streamed moves finished =
-    let pushed = streamed_pushed past old given chunk going streamed in
-    let Given : List Found → Type 0 = λ fs. IsStreamed (past ++ chunk) new fs in
-    subst Given (append-nil given) (streamed_taken (past ++ chunk) (hearing old chunk) new given [] pushed moves finished)
+    grind (arith, streamed_pushed past old given chunk going streamed, append-nil given, streamed_taken)
 
 -- so it is after every history
 streamed : (past : List Character) (scan : Scan) (given : List Found) → IsHistory past scan given → IsStreamed past scan given
@@ -60,18 +58,12 @@ streamed past scan given (finish before old frames history) = streamed_finished 
 pub history_first : OneList → (past more : List Character) (scan : Scan) (given frames : List Found) → IsHistory past scan given
     → (IsTrue scan.finished → more ≡ []) → AreFrames (past ++ more) 0 frames → (later : List Found) × (frames ≡ given ++ later)
 history_first one past more scan given frames history ended are =
-    let later = AreFrames-found (past ++ more) scan.first in
-    let all = (streamed past scan given history).frames more later.0 ended later.1 in
-    (later.0, one (past ++ more) 0 frames (given ++ later.0) are all)
+    grind (arith, AreFrames-found (past ++ more) scan.first, streamed past scan given history)
 
 -- what was pushed was let go or is held
 pub history_length : (past : List Character) (scan : Scan) (given : List Found) → IsHistory past scan given
     → scan.first + length scan.held ≡ length past
-history_length past scan given history =
-    let hears = (streamed past scan given history).hears [] (λ _. refl) in
-    let before = length-append past ([]) in
-    let held = length-append scan.held ([]) in
-    omega (arith, ap length hears.split, hears.place, before, held, length-append hears.prefix (scan.held ++ []))
+history_length past scan given history = grind (arith, streamed past scan given history, length-append past ([]), length-append)
 
 -- after the end they are all
 pub history_all : (past : List Character) (given : List Found) → IsWholeHistory past given → AreFrames past 0 given

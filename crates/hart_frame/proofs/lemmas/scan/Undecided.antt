@@ -56,21 +56,7 @@ stands_after prefix cs rest found n long stands =
 -- and what stands after others stands in the list
 pub stands_in : (prefix cs : List Character) (found : Found) (n : ℕ) → length prefix ≡ n → StandsIn found (prefix ++ cs) n
     → StandsIn (record { start = found.start - n; stop = found.stop - n; frame = found.frame }) cs 0
-stands_in prefix cs found n long stands =
-    let body = faultless (255 ∷ 255 ∷ stands.body) in
-    let size = length-drop n stands.prefix in
-    record {
-      prefix = drop n stands.prefix;
-      body = stands.body;
-      rest = stands.rest;
-      split = sym (drop_at prefix cs n long) ∙ ap (drop n) (stands.split ∙ append_assoc stands.prefix body stands.rest)
-          ∙ drop-append-le n stands.prefix (body ++ stands.rest) stands.after
-          ∙ sym (append_assoc (drop n stands.prefix) body stands.rest);
-      is_body = stands.is_body;
-      after = omega arith;
-      start = omega (arith, size, stands.start, stands.after);
-      stop = omega (arith, size, stands.stop, stands.after);
-    }
+stands_in prefix cs found n long stands = grind (arith, length-drop n stands.prefix, drop_at prefix cs n long, append_assoc, drop-append-le)
 
 -- what a scanner holds, stands in all that it heard
 pub held_stands : (s : Scan) (found : Found) → StandsIn found s.held 0

@@ -228,13 +228,7 @@ checked bytes whole fits =
 
 -- otherwise one of them does not fit
 unfit : (bytes : List ℕ) → Unfit bytes (body_length bytes) → HasNoBody bytes
-unfit bytes large f len begins =
-    let said = says bytes f len begins in
-    let long = length-take-le len bytes begins.within in
-    let small : get_or (take len bytes) large.place 0 < 256 =
-    All-get_or (λ byte. byte < 256) (take len bytes) large.place 0
-    (omega (arith, long, said.whole, large.below)) begins.body.bytes_fit in
-    omega (arith, small, get_or-take len bytes large.place 0 (omega (arith, said.whole, large.below)), large.large)
+unfit bytes large f len begins = grind (arith, says bytes f len begins, length-take-le len bytes begins.within, All-get_or, get_or-take)
 
 counted : (bytes : List ℕ) → HasGoodByteCount bytes → BodyAhead bytes ⊎ HasNoBody bytes
 counted bytes good =

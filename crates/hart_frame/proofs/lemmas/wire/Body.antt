@@ -1,5 +1,5 @@
 -- What a body consists of.
-use Rattle.std.proofs.Common.{◌≡◌, ℕ, ◌+◌, ◌-◌, ◌<◌, ◌≤◌, List, [], ◌∷◌, ◌++◌, length, take, get_or, refl, sym, ap, ◌∙◌, arith}
+use Rattle.std.proofs.Common.{ℕ, ◌-◌, ◌<◌, ◌≤◌, List, [], ◌∷◌, ◌++◌, length, take, refl, arith}
 use Rattle.std.specs.List.{All}
 use Rattle.std.proofs.lemmas.List.Elements.{All-push}
 use Rattle.std.proofs.lemmas.List.{take_more, take_all}
@@ -24,28 +24,11 @@ IsBody-push frame checked check part fits check_byte = record {
 pub BeginsWithBody-prefix : (bytes : List ℕ) (frame : FrameParts) (len : ℕ) → 1 ≤ len → len ≤ length bytes
     → All (λ byte. byte < 256) (take len bytes) → IsCheckedPart frame (take (len - 1) bytes) → IsCheckByte (take len bytes) 0
     → BeginsWithBody bytes frame len
-BeginsWithBody-prefix bytes frame len some within fits part check = record {
-  within = within;
-  body = record {
-    checked = take (len - 1) bytes;
-    check = get_or bytes (len - 1) 0;
-    checked_part = part;
-    parts = ap (λ n. take n bytes) (let last : len ≡ len - 1 + 1 = omega arith in last) ∙ take_more bytes (len - 1) 0 (omega arith);
-    bytes_fit = fits;
-    parity = even-check (take len bytes) check;
-  };
-}
+BeginsWithBody-prefix bytes frame len some within fits part check =
+    grind (arith, take_more bytes (len - 1) 0 (omega arith), even-check (take len bytes) check)
 
 -- bytes of even parity, all but the last of which are what the check byte covers, are a body
 pub IsBody-whole : (bytes : List ℕ) (frame : FrameParts) → 1 ≤ length bytes → All (λ byte. byte < 256) bytes
     → IsCheckedPart frame (take (length bytes - 1) bytes) → HasEvenParity bytes → IsBody frame bytes
-IsBody-whole bytes frame some fits part even = record {
-  checked = take (length bytes - 1) bytes;
-  check = get_or bytes (length bytes - 1) 0;
-  checked_part = part;
-  parts = sym (take_all (length bytes) bytes (omega arith))
-      ∙ ap (λ n. take n bytes) (let last : length bytes ≡ length bytes - 1 + 1 = omega arith in last)
-      ∙ take_more bytes (length bytes - 1) 0 (omega arith);
-  bytes_fit = fits;
-  parity = even;
-}
+IsBody-whole bytes frame some fits part even =
+    grind (arith, take_all (length bytes) bytes (omega arith), take_more bytes (length bytes - 1) 0 (omega arith))

@@ -15,11 +15,7 @@ use Rattle.hart_frame.proofs.lemmas.wire.UnambiguousBodies.{length-address}
 
 -- a range and the next range are one range
 slice_range-join : (xs : List ℕ) (a b c : ℕ) → a ≤ b → b ≤ c → slice_range xs a b ++ slice_range xs b c ≡ slice_range xs a c
-slice_range-join xs a b c ab bc =
-    let split = take-add (b - a) (c - b) (drop a xs) in
-    let dropped : drop (b - a) (drop a xs) ≡ drop b xs = drop-drop (b - a) a xs ∙ ap (λ n. drop n xs) (omega arith) in
-    let whole : c - a ≡ (b - a) + (c - b) = omega arith in
-    sym (ap (λ n. take n (drop a xs)) whole ∙ split ∙ ap (λ (ys : List ℕ). take (b - a) (drop a xs) ++ take (c - b) ys) dropped)
+slice_range-join xs a b c ab bc = grind (arith, take-add (b - a) (c - b) (drop a xs), drop-drop (b - a) a xs)
 
 -- a range is its first element and the rest
 slice_range-first : (xs : List ℕ) (a c : ℕ) → a < c → a < length xs → get_or xs a 0 ∷ slice_range xs (a + 1) c ≡ slice_range xs a c
@@ -32,18 +28,14 @@ slice_range-first xs a c ac within =
 cut : (xs : List ℕ) (i j k : ℕ) → 1 ≤ i → i ≤ j → j + 2 ≤ k → k ≤ length xs
     → take k xs ≡ get_or xs 0 0 ∷ slice_range xs 1 i ++ slice_range xs i j ++ get_or xs j 0 ∷ get_or xs (j + 1) 0 ∷ slice_range xs (j + 2) k
 cut xs i j k low middle high within =
-    let first = slice_range-first xs 0 i (omega arith) (omega arith) in
-    let prefix : get_or xs 0 0 ∷ slice_range xs 1 i ++ slice_range xs i j ≡ slice_range xs 0 j =
-    ap (λ (ys : List ℕ). ys ++ slice_range xs i j) first ∙ slice_range-join xs 0 i j (omega arith) middle in
-    let counted = slice_range-first xs (j + 1) k (omega arith) (omega arith) in
-    let places : j + 1 + 1 ≡ j + 2 = omega arith in
-    let last : get_or xs (j + 1) 0 ∷ slice_range xs (j + 2) k ≡ slice_range xs (j + 1) k =
-    ap (λ n. get_or xs (j + 1) 0 ∷ slice_range xs n k) (sym places) ∙ counted in
-    let back : get_or xs j 0 ∷ get_or xs (j + 1) 0 ∷ slice_range xs (j + 2) k ≡ slice_range xs j k =
-    ap (λ (ys : List ℕ). get_or xs j 0 ∷ ys) last ∙ slice_range-first xs j k (omega arith) (omega arith) in
-    let all : slice_range xs 0 k ≡ take k xs = ap (λ n. take n xs) (omega arith) in
-    sym (ap (λ (ys : List ℕ). ys ++ get_or xs j 0 ∷ get_or xs (j + 1) 0 ∷ slice_range xs (j + 2) k) prefix
-    ∙ ap (λ (ys : List ℕ). slice_range xs 0 j ++ ys) back ∙ slice_range-join xs 0 j k (omega arith) (omega arith) ∙ all)
+    grind (
+      arith,
+      slice_range-first xs 0 i (omega arith) (omega arith),
+      slice_range-join xs 0 i j (omega arith) middle,
+      slice_range-first xs (j + 1) k (omega arith) (omega arith),
+      slice_range-first xs j k (omega arith) (omega arith),
+      slice_range-join xs 0 j k (omega arith) (omega arith),
+    )
 
 -- what stands in the bytes where the layout says
 pub record StandsByLayout (bytes : List ℕ) (layout : Layout) (frame : FrameParts) : Type 0 where

@@ -21,9 +21,7 @@ bit_count-cons bit byte bytes =
 xor_parity : (bytes : List ℕ) (start bit : ℕ) → bit_at (fold bit_xor start bytes) bit ≡ (bit_at start bit + bit_count bit bytes) % 2
 xor_parity [] start bit = omega (arith, bit_at-lt start bit)
 xor_parity (byte ∷ bytes) start bit =
-    let rest = xor_parity bytes (bit_xor start byte) bit in
-    let joined = bit_at_xor start byte bit in
-    rest ∙ (let counted = bit_count-cons bit byte bytes in omega (arith, joined, counted))
+    grind (arith, xor_parity bytes (bit_xor start byte) bit, bit_at_xor start byte bit, bit_count-cons bit byte bytes)
 
 -- an exclusive or of bytes is a byte
 xor_fits : (bytes : List ℕ) (start : ℕ) → start < 256 → ((i : ℕ) → get_or bytes i 0 < 256) → fold bit_xor start bytes < 256

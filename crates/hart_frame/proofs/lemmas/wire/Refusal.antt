@@ -10,7 +10,6 @@ use Rattle.hart_frame.specs.declared.wire.fault.FrameFault.TheVariants.{TooShort
 use Rattle.hart_frame.specs.declared.wire.fault.FrameFault.TheVariants.{ShortReply}
 use Rattle.hart_frame.specs.wire.FrameParts.{FrameParts, IsLongEnough}
 use Rattle.hart_frame.specs.wire.Delimiter.{delimiter_of, kind_code, address_type}
-use Rattle.hart_frame.specs.wire.Parity.{HasEvenParity}
 use Rattle.hart_frame.specs.wire.Layout.{delimiter_in, byte_count_place, byte_count_in, body_length}
 use Rattle.hart_frame.specs.wire.Refusal.{IsRefusedWith, IsDelimiter}
 use Rattle.hart_frame.specs.wire.Body.{IsCheckedPart, BeginsWithBody}
@@ -83,23 +82,10 @@ not_refused bytes f len TooShortReply begins refused = refused
 not_refused bytes f len BadPreamble begins refused = refused
 not_refused bytes f len BadDelimiter begins refused =
     refused.1 (subst IsDelimiter (sym (says bytes f len begins).delimiter) (IsDelimiter-of f begins.body.checked_part.expansion_fits))
-not_refused bytes f len Truncated begins refused =
-    let said = says bytes f len begins in
-    elim refused [
-      | inl empty ↦ omega (arith, said, empty)
-      | inr (inl no_count) ↦ omega (arith, said, no_count.1)
-      | inr (inr no_check) ↦ omega (arith, said, no_check.1)
-    ]
-not_refused bytes f len BadCheck begins refused =
-    let said = says bytes f len begins in
-    let HasParity : ℕ → Type 0 = λ n. HasEvenParity (take n bytes) in
-    refused.1 (subst HasParity said.whole begins.body.parity)
+not_refused bytes f len Truncated begins refused = grind (arith, says bytes f len begins)
+not_refused bytes f len BadCheck begins refused = grind (arith, says bytes f len begins)
 not_refused bytes f len ShortReply begins refused =
-    let said = says bytes f len begins in
-    let kind = kind_code-is f.kind in
-    let few : address_type f.address < 2 = address_type-lt f.address in
-    not_short f.kind f.payload begins.body.checked_part.payload_fits (omega (arith, said.count, refused.2))
-    (omega (arith, said.delimiter, refused.1, kind, few, begins.body.checked_part.expansion_fits))
+    grind (arith, says bytes f len begins, kind_code-is, address_type-lt f.address, not_short)
 
 pub only : ((f g : FrameParts) (bytes : List ℕ) (m n : ℕ) → BeginsWithBody bytes f m → BeginsWithBody bytes g n → (f ≡ g) × (m ≡ n))
     → (bytes : List ℕ) (result : Result (FrameParts × ℕ) FrameFault)

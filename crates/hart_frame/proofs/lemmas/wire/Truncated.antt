@@ -7,7 +7,7 @@ use Rattle.std.proofs.lemmas.List.Elements.{All-append, All-replicate, All-push,
 use Rattle.hart_frame.specs.declared.wire.kind.FrameKind.{FrameKind}
 use Rattle.hart_frame.specs.declared.wire.kind.FrameKind.TheVariants.{Stx, Ack}
 use Rattle.hart_frame.specs.wire.FrameParts.{FrameParts, IsLongEnough}
-use Rattle.hart_frame.specs.wire.Delimiter.{delimiter_of, kind_code, address_type}
+use Rattle.hart_frame.specs.wire.Delimiter.{kind_code}
 use Rattle.hart_frame.specs.wire.Body.{IsBody, IsCheckedPart, BeginsWithBody, HasNoBody, CanBecomeBody}
 use Rattle.hart_frame.specs.wire.Layout.{delimiter_in, byte_count_place, byte_count_in, body_length}
 use Rattle.hart_frame.specs.wire.Parity.{IsCheckByte}
@@ -119,29 +119,17 @@ enough Ack payload byte count low is long = inr (omega (arith, is, long))
 pub IsTruncated-becomes : (bytes rest : List ℕ) (f : FrameParts) (len : ℕ) → BeginsWithBody (bytes ++ rest) f len
     → length bytes < len → IsTruncated bytes
 IsTruncated-becomes bytes rest f len begins short =
-    let said = says (bytes ++ rest) f len begins in
-    let part = begins.body.checked_part in
-    let some : (length bytes ≡ 0) ⊎ (0 < length bytes) = grind arith in
-    let long : (byte_count_place bytes < length bytes) ⊎ (length bytes ≤ byte_count_place bytes) = grind arith in
-    elim some [
-      | inl none ↦ inl none
-      | inr any ↦
-          let same = delimiter_more bytes rest any in
-          let place = count_place_more bytes rest any in
-          let of : delimiter_of f ≡ delimiter_in bytes = sym said.delimiter ∙ same in
-          let is : IsDelimiter (delimiter_in bytes) = subst IsDelimiter of (IsDelimiter-of f part.expansion_fits) in
-          elim long [
-            | inr no_count ↦ inr (inl ((any, is), no_count))
-            | inl within ↦
-                let count = count_more bytes rest within in
-                let kind = kind_code-is f.kind in
-                let form : address_type f.address < 2 = address_type-lt f.address in
-                let low : delimiter_in bytes % 8 ≡ kind_code f.kind = omega (arith, of, kind, form, part.expansion_fits) in
-                let good =
-                enough f.kind f.payload (delimiter_in bytes) (byte_count_in bytes) low (sym count ∙ said.count) part.payload_fits in
-                inr (inr ((((any, is), within), good), omega (arith, said.whole, place, count, short)))
-          ]
-    ]
+    grind (
+      arith,
+      says (bytes ++ rest) f len begins,
+      delimiter_more,
+      count_place_more,
+      IsDelimiter-of,
+      count_more,
+      kind_code-is,
+      address_type-lt f.address,
+      enough,
+    )
 
 -- what can become a body and is none ends too early
 pub IsTruncated-only : (bytes : List ℕ) → CanBecomeBody bytes → HasNoBody bytes → IsTruncated bytes

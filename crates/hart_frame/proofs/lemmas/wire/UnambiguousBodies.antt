@@ -1,6 +1,6 @@
 -- A list of bytes begins with one body at most, and that body has one frame at most.
 use Rattle.std.proofs.Common.{◌≡◌, ℕ, ◌+◌, ◌*◌, ◌<◌, ◌≤◌, Bool, List, [], ◌∷◌, ◌++◌, length, take, drop, refl, sym, ap, ◌∙◌, arith}
-use Rattle.std.proofs.Common.{append_assoc, length-append, subst}
+use Rattle.std.proofs.Common.{append_assoc, length-append}
 use Rattle.std.proofs.lemmas.List.{take_at, drop_at, append_cancel_right, take-append-drop, length-take-le}
 use Rattle.std.specs.List.{All}
 use Rattle.std.proofs.lemmas.List.Elements.{All-same, All-drop, All-head}
@@ -27,12 +27,14 @@ pub record SameParts (prefix other : List ℕ) (back rest : List ℕ) : Type 0 w
 
 same_parts : (prefix other back rest : List ℕ) → length prefix ≡ length other → prefix ++ back ≡ other ++ rest
     → SameParts prefix other back rest
-same_parts prefix other back rest lengths whole = record {
-  prefixes = sym (take_at prefix back (length prefix) refl) ∙ ap (take (length prefix)) whole
-      ∙ take_at other rest (length prefix) (sym lengths);
-  backs = sym (drop_at prefix back (length prefix) refl) ∙ ap (drop (length prefix)) whole
-      ∙ drop_at other rest (length prefix) (sym lengths);
-}
+same_parts prefix other back rest lengths whole =
+    grind (
+      arith,
+      take_at prefix back (length prefix) refl,
+      take_at other rest (length prefix) (sym lengths),
+      drop_at prefix back (length prefix) refl,
+      drop_at other rest (length prefix) (sym lengths),
+    )
 
 same_heads : (x y : ℕ) (xs ys : List ℕ) → x ∷ xs ≡ y ∷ ys → x ≡ y
 same_heads x y xs ys e = cc
@@ -91,25 +93,18 @@ pub record SameBodies (f g : FrameParts) (body other rest more : List ℕ) : Typ
 pub same_bodies : OneReading → (f g : FrameParts) (body other rest more : List ℕ)
     → IsBody f body → IsBody g other → body ++ rest ≡ other ++ more → SameBodies f g body other rest more
 same_bodies law f g body other rest more p q whole =
-    let a = p.checked_part in
-    let b = q.checked_part in
-    let spreads = sym (spread f body rest p) ∙ whole ∙ spread g other more q in
-    let delimiters = same_delimiter f g a.expansion_fits b.expansion_fits (same_heads _ _ _ _ spreads) in
-    let addresses = same_parts a.address b.address _ _
-    (omega (arith, delimiters.form, length-address _ _ _ _ a.address_bytes, length-address _ _ _ _ b.address_bytes))
-    (same_tails _ _ _ _ spreads) in
-    let expansions = same_parts f.expansion g.expansion _ _ delimiters.expansion addresses.backs in
-    let commands = same_heads _ _ _ _ expansions.backs in
-    let counts = same_tails _ _ _ _ expansions.backs in
-    let payloads = same_parts f.payload g.payload _ _ (same_heads _ _ _ _ counts) (same_tails _ _ _ _ counts) in
-    let rests = same_tails _ _ _ _ payloads.backs in
-    let P : List ℕ → Type 0 = λ xs. IsAddressBytes g.master g.burst g.address xs in
-    let reading = law _ _ _ _ _ _ a.address a.address_bytes (subst P (sym addresses.prefixes) b.address_bytes) in
-    record {
-      frames = same_frames f g delimiters.kind reading.0 reading.1 reading.2 expansions.prefixes commands payloads.prefixes;
-      bodies = append_cancel_right body other rest (whole ∙ ap (λ (t : List ℕ). other ++ t) (sym rests));
-      rests = rests;
-    }
+    grind (
+      arith,
+      spread f body rest p,
+      spread g other more q,
+      same_delimiter,
+      same_heads,
+      same_parts,
+      length-address,
+      same_tails,
+      same_frames,
+      append_cancel_right,
+    )
 
 -- an address has one list of bytes, for each master bit and burst bit
 abbrev pub OneList : Type 0
@@ -131,10 +126,13 @@ IsBody-one law f body other p q = grind (arith, check-one, last_fits, All-same)
 pub BeginsWithBody-one : OneReading → (f g : FrameParts) (bytes : List ℕ) (m n : ℕ)
     → BeginsWithBody bytes f m → BeginsWithBody bytes g n → (f ≡ g) × (m ≡ n)
 BeginsWithBody-one law f g bytes m n p q =
-    let same = same_bodies law f g (take m bytes) (take n bytes) (drop m bytes) (drop n bytes) p.body q.body
-    (take-append-drop m bytes ∙ sym (take-append-drop n bytes)) in
-    let lengths = ap length same.bodies in
-    (same.frames, omega (arith, lengths, length-take-le m bytes p.within, length-take-le n bytes q.within))
+    grind (
+      arith,
+      same_bodies law f g (take m bytes) (take n bytes) (drop m bytes) (drop n bytes) p.body q.body
+          (take-append-drop m bytes ∙ sym (take-append-drop n bytes)),
+      length-take-le m bytes p.within,
+      length-take-le n bytes q.within,
+    )
 
 -- a body is the prefix of any list that begins with it
 pub BeginsWithBody-append : (f : FrameParts) (body rest : List ℕ) → IsBody f body → BeginsWithBody (body ++ rest) f (length body)
