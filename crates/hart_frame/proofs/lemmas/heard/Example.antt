@@ -90,12 +90,7 @@ other_is_check = record {
   body = request_body;
   is_body = request_is;
   bytes = other_bytes 130;
-  replaces = record {
-    same_length = refl;
-    same_delimiter = refl;
-    same_byte_count = refl;
-    bytes_fit = All-from_recursion IsByte (other_bytes 130) (other_fits 130 (omega arith));
-  };
+  replaces = grind (arith, bytes_fit, All-from_recursion, other_fits);
   heard = refl;
   parity = λ even. omega (arith, even.even 0 (omega arith));
   no_two_preambles = none_in_row _ (omega arith, (omega arith, (omega arith, (omega arith, tt))));

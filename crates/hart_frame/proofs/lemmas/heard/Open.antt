@@ -54,10 +54,7 @@ open_begins becomes place chars all opened =
         prefix = opened.prefix;
         body = body;
         rest = rest;
-        split = ap (λ (cs : List Character). cs ++ faultless can.rest) opened.split
-            ∙ append_assoc opened.prefix two (faultless can.rest)
-            ∙ ap (λ (cs : List Character). opened.prefix ++ (preamble ∷ preamble ∷ cs)) parts
-            ∙ sym (append_assoc opened.prefix (faultless (255 ∷ 255 ∷ body)) rest);
+        split = grind (arith, append_assoc, preamble);
         is_body = can.begins.body;
         after = omega arith;
         start = refl;

@@ -46,12 +46,7 @@ is_start_from chars place d at =
     ap (λ n. get_or chars n d) (let e : suc (suc k) ≡ place = omega (arith, at.after_two) in e) in
     let last : List Character = drop (suc (suc (suc k))) chars in
     let dropped : drop k chars ≡ preamble ∷ preamble ∷ get_or chars place d ∷ last =
-    drop-cons chars k d (omega (arith, at.after_two, at.within))
-    ∙ ap (λ (x : Character). x ∷ drop (suc k) chars) at.one
-    ∙ ap (λ (xs : List Character). preamble ∷ xs) (drop-cons chars (suc k) d (omega (arith, at.after_two, at.within)))
-    ∙ ap (λ (x : Character). preamble ∷ x ∷ drop (suc (suc k)) chars) second
-    ∙ ap (λ (xs : List Character). preamble ∷ preamble ∷ xs) (drop-cons chars (suc (suc k)) d (omega (arith, at.after_two, at.within)))
-    ∙ ap (λ (x : Character). preamble ∷ preamble ∷ x ∷ last) third in
+    grind (arith, drop-cons, preamble) in
     record {
       prefix = take k chars;
       first = get_or chars place d;

@@ -1,7 +1,6 @@
 -- What a chunk is to a scanner that hears it at once, or in parts.
 use Rattle.std.proofs.Common.{◌≡◌, ℕ, ◌+◌, ◌-◌, ◌<◌, ◌≤◌, ◌^◌, ◌⊎◌, inl, inr, true, false, List, [], ◌∷◌, ◌++◌, length, take}
 use Rattle.std.proofs.Common.{Option, None, Some, drop, get_or, refl, sym, ap, ◌∙◌, arith, subst, append_assoc, length-append, length-drop}
-use Rattle.std.proofs.lemmas.Bool.{false≢true}
 use Rattle.std.proofs.lemmas.List.{append-nil, drop-map, take-map, take-take, length-map, length-take-le}
 use Rattle.std.proofs.Math.Seq.{take-add}
 use Rattle.std.specs.List.{slice_range}
@@ -29,21 +28,9 @@ append_none (c ∷ cs) more none = absurd cc
 pub moves_hearing : (a b : Scan) (cs : List Character) → a.finished ≡ false → MovesPast a b [] → MovesPast (hearing a cs) (hearing b cs) []
 moves_hearing a b cs going p =
     let before : (more chars : List Character) → CanHear (hearing a cs) more chars → CanHear a (cs ++ more) chars =
-    λ more chars hears. record {
-      prefix = hears.prefix;
-      split = hears.split ∙ ap (λ (ds : List Character). hears.prefix ++ ds) (append_assoc a.held cs more);
-      place = hears.place;
-      ended = λ is. absurd (false≢true (sym going ∙ is));
-    } in
+    grind (arith, append_assoc) in
     record {
-      heard = λ more chars hears.
-          let after = p.heard (cs ++ more) chars (before more chars hears) in
-          record {
-            prefix = after.prefix;
-            split = after.split ∙ ap (λ (ds : List Character). after.prefix ++ ds) (sym (append_assoc b.held cs more));
-            place = after.place;
-            ended = λ is. append_none cs more (after.ended is);
-          };
+      heard = grind (arith, append_assoc, append_none);
       frames = λ more chars later hears frames. p.frames (cs ++ more) chars later (before more chars hears) frames;
     }
 

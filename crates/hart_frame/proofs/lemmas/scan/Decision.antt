@@ -178,13 +178,7 @@ gives_then old mid new span moves finished busy gives = record {
 pub gives_nothing_then : (old mid new : Scan) → MovesPast old mid [] → mid.finished ≡ old.finished → GivesNothing mid new
     → GivesNothing old new
 gives_nothing_then old mid new moves finished nothing = elim nothing [
-  | inl waits ↦ inl (record {
-    going = sym finished ∙ waits.going;
-    moves = moves_then old mid new [] moves waits.moves;
-    undecided = waits.undecided;
-    unfinished = waits.unfinished;
-    drained = waits.drained;
-  })
+  | inl waits ↦ grind (arith, waits, moves_then)
   | inr ends ↦ inr (record {
     finished = sym finished ∙ ends.finished;
     none = nothing_before old mid moves ends.none;

@@ -102,14 +102,8 @@ pub searching_never : (xs : List ℕ) (from seen place decided count more : ℕ)
     → (more ≤ decided) ⊎ (more ≤ place + count) → IsSearching xs from seen (place + 1) more
 searching_never xs from seen place decided count more searching order inside never short least above either =
     let room = length-drop place xs in
-    let fits : more ≤ length xs = elim either [
-      | inl same ↦ omega (arith, same, searching.within)
-      | inr same ↦ omega (arith, same, never.0, room, searching.place_within)
-    ] in
-    let few : more ≤ place + 1 + 269 = elim either [
-      | inl same ↦ omega (arith, same, searching.few)
-      | inr same ↦ omega (arith, same, short)
-    ] in
+    let fits : more ≤ length xs = grind arith in
+    let few : more ≤ place + 1 + 269 = grind arith in
     record {
       after = omega (arith, searching.after);
       place_within = omega (arith, inside);
@@ -132,10 +126,7 @@ searching_never xs from seen place decided count more searching order inside nev
             | inl before ↦ searching.before fewer late before
             | inr not ↦
                 still_open xs from seen place decided fewer searching not (omega (arith, early, fits)) (omega (arith, order, late))
-                (λ reached. never.2 (fewer - place) (elim either [
-                  | inl same ↦ omega (arith, same, early, not)
-                  | inr same ↦ omega (arith, same, early, reached)
-                ]))
+                (λ reached. grind arith)
           ];
     }
 
@@ -147,12 +138,7 @@ three_never xs here (within, first, second, third) =
     let d = drop_more xs (here + 2) 0 (omega (arith, within)) in
     let rest = drop (here + 3) xs in
     let parts : drop here xs ≡ 255 ∷ 255 ∷ 255 ∷ rest =
-    a ∙ ap (λ (ys : List ℕ). get_or xs here 0 ∷ ys) (b ∙ ap (λ (ys : List ℕ). get_or xs (here + 1) 0 ∷ ys)
-    (ap (λ (n : ℕ). drop n xs) (let e : here + 1 + 1 ≡ here + 2 = omega arith in e) ∙ d
-    ∙ ap (λ (n : ℕ). get_or xs (here + 2) 0 ∷ drop n xs) (let e : here + 2 + 1 ≡ here + 3 = omega arith in e)))
-    ∙ ap (λ (x : ℕ). x ∷ get_or xs (here + 1) 0 ∷ get_or xs (here + 2) 0 ∷ rest) first
-    ∙ ap (λ (x : ℕ). 255 ∷ x ∷ get_or xs (here + 2) 0 ∷ rest) second
-    ∙ ap (λ (x : ℕ). 255 ∷ 255 ∷ x ∷ rest) third in
+    grind arith in
     let Is : List ℕ → Type 0 = λ ys. IsCandidate ys (Never 3) in
     let empty : (fewer : ℕ) → fewer < 1 → IsTruncated (take fewer (255 ∷ rest)) = λ fewer below.
     let none : fewer ≡ 0 = omega (arith, below) in
@@ -203,13 +189,7 @@ searching_run xs from seen place decided (suc count) searching order within pass
           let next = searching_never xs from seen place decided 3 more searching order (omega (arith, three.0))
           (three_never xs place three) (omega arith) (omega arith) (omega arith) either in
           let rest = searching_run xs from seen (place + 1) more count next order (omega (arith, within)) later in
-          let most : (rest.needed ≤ decided) ⊎ (rest.needed ≤ place + 1 + count + 2) = elim rest.most [
-            | inr few ↦ inr few
-            | inl same ↦ elim either [
-              | inl old ↦ inl (omega (arith, same, old))
-              | inr new ↦ inr (omega (arith, same, new))
-            ]
-          ] in
+          let most : (rest.needed ≤ decided) ⊎ (rest.needed ≤ place + 1 + count + 2) = grind arith in
           subst Passed there
           (record { needed = rest.needed; searching = rest.searching; least = omega (arith, rest.least); most = most })
     ]
@@ -299,14 +279,8 @@ searched_stands xs from seen place decided more layout searching order whole may
     let room = length-drop place xs in
     let long : length (drop place xs) ≡ 2 + layout_length layout + length whole.rest =
     ap length whole.parts ∙ length-append (255 ∷ 255 ∷ whole.body) whole.rest ∙ omega (arith, whole.whole.exact) in
-    let fits : more ≤ length xs = elim either [
-      | inl same ↦ omega (arith, same, searching.within)
-      | inr same ↦ omega (arith, same, long, room, searching.place_within)
-    ] in
-    let few : more ≤ place + 269 = elim either [
-      | inl same ↦ omega (arith, same, searching.few)
-      | inr same ↦ omega (arith, same, short)
-    ] in
+    let fits : more ≤ length xs = grind arith in
+    let few : more ≤ place + 269 = grind arith in
     record {
       after = searching.after;
       order = omega (arith, above);
@@ -320,10 +294,7 @@ searched_stands xs from seen place decided more layout searching order whole may
             | inl before ↦ searching.before fewer late before
             | inr not ↦
                 still_open xs from seen place decided fewer searching not (omega (arith, early, fits)) (omega (arith, order, late))
-                (λ reached. may (fewer - place) (elim either [
-                  | inl same ↦ omega (arith, same, early, not)
-                  | inr same ↦ omega (arith, same, early, reached)
-                ]))
+                (λ reached. grind arith)
           ];
       stands =
           let Of : List ℕ → Type 0 = λ ys. IsWhole layout ys in

@@ -42,11 +42,7 @@ stands_after prefix cs rest found n long stands =
       prefix = prefix ++ stands.prefix;
       body = stands.body;
       rest = stands.rest ++ rest;
-      split = ap (λ (xs : List Character). prefix ++ (xs ++ rest)) stands.split
-          ∙ ap (λ (xs : List Character). prefix ++ xs) (append_assoc (stands.prefix ++ body) stands.rest rest
-          ∙ append_assoc stands.prefix body (stands.rest ++ rest))
-          ∙ sym (append_assoc prefix stands.prefix (body ++ (stands.rest ++ rest)))
-          ∙ sym (append_assoc (prefix ++ stands.prefix) body (stands.rest ++ rest));
+      split = grind (arith, append_assoc);
       is_body = stands.is_body;
       after = omega (arith, size, long);
       start = omega (arith, size, long, stands.start);

@@ -1,10 +1,9 @@
 -- Whether bytes begin with a body is decided.
-use Rattle.std.proofs.Common.{◌≡◌, ℕ, zero, suc, fold, bit_xor, ◌+◌, ◌-◌, ◌*◌, ◌/◌, ◌%◌, ◌<◌, ◌≤◌, ◌⊎◌, inl, inr, Bool, true, false}
+use Rattle.std.proofs.Common.{◌≡◌, ℕ, zero, suc, fold, bit_xor, ◌+◌, ◌-◌, ◌*◌, ◌/◌, ◌%◌, ◌<◌, ◌≤◌, ◌⊎◌, inl, inr, Bool}
 use Rattle.std.proofs.Common.{List, [], ◌∷◌, length, take, drop, get_or, refl, sym, ap, ◌∙◌, arith, subst}
 use Rattle.std.specs.List.{All, slice_range}
 use Rattle.hart_values.specs.address.AddressBytes.{IsAddressBytes, first_byte}
 use Rattle.hart_values.specs.declared.master_id.MasterId.{MasterId}
-use Rattle.hart_values.specs.declared.master_id.MasterId.TheVariants.{Primary, Secondary}
 use Rattle.hart_values.specs.declared.address.Address.{Address}
 use Rattle.hart_values.specs.declared.address.Address.TheVariants.{Polling, Unique}
 use Rattle.std.proofs.lemmas.List.Elements.{All-from_get_or, All-get_or}
@@ -37,14 +36,8 @@ first_byte_read byte below =
     let top : (byte < 128) ⊎ (128 ≤ byte) = grind arith in
     let next : (byte % 128 < 64) ⊎ (64 ≤ byte % 128) = grind arith in
     elim top [
-      | inl low ↦ elim next [
-        | inl clear ↦ record { master = Secondary; burst = false; is = omega (arith, below, low, clear) }
-        | inr set ↦ record { master = Secondary; burst = true; is = omega (arith, below, low, set) }
-      ]
-      | inr high ↦ elim next [
-        | inl clear ↦ record { master = Primary; burst = false; is = omega (arith, below, high, clear) }
-        | inr set ↦ record { master = Primary; burst = true; is = omega (arith, below, high, set) }
-      ]
+      | inl low ↦ grind arith
+      | inr high ↦ grind arith
     ]
 
 -- one byte, or five, hold an address
@@ -71,17 +64,7 @@ five_bytes a b c d e fit =
       master = first.master;
       burst = first.burst;
       address = Unique (record { expanded_type = 256 * (a % 64) + b; device_id = 65536 * c + 256 * d + e });
-      is = record {
-        type_high = a % 64;
-        type_low = b;
-        id_high = c;
-        id_middle = d;
-        id_low = e;
-        five = ap (λ (x : ℕ). x ∷ b ∷ c ∷ d ∷ e ∷ []) first.is;
-        ranges = (omega arith, fit 1 0 (omega arith), fit 2 0 (omega arith), fit 3 0 (omega arith), fit 4 0 (omega arith));
-        expanded_type = refl;
-        device_id = refl;
-      };
+      is = grind arith;
     }
 
 held_address : (bytes : List ℕ) (form : ℕ) → All (λ byte. byte < 256) bytes → form < 2 → length bytes ≡ 1 + 4 * form → HeldAddress bytes
@@ -167,14 +150,7 @@ held_frame bytes fits whole =
     } in
     let describes : Describes layout bytes = record { kind = said.is; address = refl; command = refl; count = refl } in
     let payload_len = length-slice_range bytes (j + 2) (j + 2 + n) (omega arith) (omega (arith, whole.1)) in
-    let stands : StandsByLayout bytes layout frame = record {
-      kind = refl;
-      address = held.is;
-      expansion = refl;
-      command = refl;
-      payload = refl;
-      payload_fits = long_enough said.kind payload (delimiter_in bytes) n said.is (payload_len ∙ omega arith) whole.0.1;
-    } in
+    let stands : StandsByLayout bytes layout frame = grind (arith, long_enough) in
     record { frame = frame; part = IsCheckedPart-in bytes layout frame describes whole stands }
 
 -- bytes begin with some body
@@ -191,10 +167,7 @@ pub even_body : (bytes : List ℕ) (len : ℕ) → len ≡ body_length bytes →
     → IsCheckByte (take len bytes) 0 → (frame : FrameParts) × BeginsWithBody bytes frame len
 even_body bytes len is whole fit check =
     let long = length-take-le len bytes (omega (arith, is, whole.1)) in
-    let fits : Fit bytes (body_length bytes) = λ k below.
-    let small : get_or (take len bytes) k 0 < 256 =
-    All-get_or (λ byte. byte < 256) (take len bytes) k 0 (omega (arith, long, is, below)) fit in
-    omega (arith, small, get_or-take len bytes k 0 (omega (arith, is, below))) in
+    let fits : Fit bytes (body_length bytes) = grind (arith, All-get_or, get_or-take) in
     let held = held_frame bytes fits whole in
     let IsPart : ℕ → Type 0 = λ n. IsCheckedPart held.frame (take (n - 1) bytes) in (
       held.frame,
@@ -208,12 +181,7 @@ checked bytes whole fits =
     let len = body_length bytes in
     let prefix = take len bytes in
     let prefix_len = length-take-le len bytes whole.1 in
-    let at : (k : ℕ) → get_or prefix k 0 < 256 = λ k.
-    let cases : (k < len) ⊎ (len ≤ k) = grind arith in
-    elim cases [
-      | inl below ↦ omega (arith, get_or-take len bytes k 0 below, fits k below)
-      | inr past ↦ omega (arith, get_or_past prefix k 0 (omega (arith, prefix_len, past)))
-    ] in
+    let at : (k : ℕ) → get_or prefix k 0 < 256 = grind (arith, get_or-take, get_or_past) in
     let check = fold bit_xor 0 prefix in
     let is = IsCheckByte-fold prefix check at refl in
     let fit : All (λ byte. byte < 256) prefix = All-from_get_or (λ byte. byte < 256) prefix 0 (λ k below. at k) in

@@ -50,13 +50,7 @@ says bytes f len begins =
     let regrouped : bytes ≡ prefix ++ length f.payload ∷ (f.payload ++ begins.body.check ∷ rest) = whole ∙ simp append_assoc in
     let address = length-address _ _ _ _ part.address_bytes in
     let prefix_len : length prefix ≡ byte_count_place bytes =
-    omega (
-      arith,
-      place,
-      address,
-      length-append (delimiter_of f ∷ part.address ++ f.expansion) (f.command ∷ []),
-      length-append (delimiter_of f ∷ part.address) f.expansion,
-    ) in
+    grind (arith, length-append) in
     let count : byte_count_in bytes ≡ length f.payload =
     ap (λ (xs : List ℕ). get_or xs (byte_count_place bytes) 0) regrouped
     ∙ get_or_at prefix (length f.payload) _ 0 (byte_count_place bytes) prefix_len in
