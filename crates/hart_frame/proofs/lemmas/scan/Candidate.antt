@@ -102,13 +102,12 @@ nothing_long xs tail ends body rest longer same =
           let short = ap length nothing in
           omega (arith, lengths, length-append (faultless xs) tail, length-append (faultless body) rest, long, body_long, longer, short)
       | inr (c, cs, is, faulty) ↦
-          let there : get_or (faultless xs ++ tail) (length xs) c ≡ c =
-          ap (λ (ds : List Character). get_or (faultless xs ++ ds) (length xs) c) is ∙ get_or_at (faultless xs) c cs c (length xs) long in
-          let here : get_or (faultless body ++ rest) (length xs) c ≡ make (get_or body (length xs) 0) =
-          get_or_append_left (faultless body) rest c (length xs) (omega (arith, longer, body_long))
-          ∙ get_or-map make body (length xs) 0 c longer in
-          let both : c ≡ make (get_or body (length xs) 0) = sym there ∙ ap (λ (ds : List Character). get_or ds (length xs) c) same ∙ here in
-          faulty (ap (λ (d : Character). d.faults) both)
+          grind (
+            arith,
+            get_or_at (faultless xs) c cs c (length xs) long,
+            get_or_append_left (faultless body) rest c (length xs) (omega (arith, longer, body_long)),
+            get_or-map make body (length xs) 0 c longer,
+          )
     ]
 
 nothing_open_body : (xs : List ℕ) (tail : List Character) → IsTruncated xs → NothingFollows tail → (f : FrameParts)

@@ -179,11 +179,7 @@ pub gives_nothing_then : (old mid new : Scan) → MovesPast old mid [] → mid.f
     → GivesNothing old new
 gives_nothing_then old mid new moves finished nothing = elim nothing [
   | inl waits ↦ grind (arith, waits, moves_then)
-  | inr ends ↦ inr (record {
-    finished = sym finished ∙ ends.finished;
-    none = nothing_before old mid moves ends.none;
-    renewed = ends.renewed;
-  })
+  | inr ends ↦ grind (arith, nothing_before old mid moves ends.none)
 ]
 
 -- a buffer that begins with a frame holds it

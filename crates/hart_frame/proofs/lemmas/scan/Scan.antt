@@ -59,13 +59,11 @@ moves_then a b c given p q = record {
 pub moves_drop : (old new : Scan) (gone : Character) → old.held ≡ gone ∷ new.held → new.first ≡ old.first + 1 → new.finished ≡ old.finished
     → ((more : List Character) → (IsTrue old.finished → more ≡ []) → BeginWithNone (old.held ++ more)) → MovesPast old new []
 moves_drop old new gone held firsts finished nothing = record {
-  heard = λ more chars hears. record {
-    prefix = hears.prefix ++ gone ∷ [];
-    split = hears.split ∙ ap (λ (cs : List Character). hears.prefix ++ (cs ++ more)) held
-        ∙ sym (append_assoc hears.prefix (gone ∷ []) (new.held ++ more));
-    place = omega (arith, length-append hears.prefix (gone ∷ []), hears.place, firsts);
-    ended = λ is. hears.ended (sym finished ∙ is);
-  };
+  heard = λ more chars hears. grind (
+    arith,
+    append_assoc hears.prefix (gone ∷ []) (new.held ++ more),
+    length-append hears.prefix (gone ∷ []),
+  );
   frames = λ more chars later hears frames.
       let Nothing : List Character → Type 0 = λ cs. BeginWithNone cs in
       let here = subst Nothing (sym (heard_at old more chars hears)) (nothing more hears.ended) in
@@ -78,30 +76,21 @@ pub moves_frame : (old new : Scan) (f : FrameParts) (body : List ℕ) → old.he
     → new.first ≡ old.first + 2 + length body → new.finished ≡ old.finished
     → MovesPast old new (record { start = old.first + 2; stop = new.first; frame = f } ∷ [])
 moves_frame old new f body held is firsts finished = record {
-  heard = λ more chars hears. record {
-    prefix = hears.prefix ++ faultless (255 ∷ 255 ∷ body);
-    split = hears.split ∙ ap (λ (cs : List Character). hears.prefix ++ (cs ++ more)) held
-        ∙ ap (λ (cs : List Character). hears.prefix ++ cs) (append_assoc (faultless (255 ∷ 255 ∷ body)) new.held more)
-        ∙ sym (append_assoc hears.prefix (faultless (255 ∷ 255 ∷ body)) (new.held ++ more));
-    place =
-        let long : length (faultless body) ≡ length body = length-map body (λ (byte : ℕ). record { byte = byte; faults = 0 }) in
-        omega (arith, length-append hears.prefix (faultless (255 ∷ 255 ∷ body)), long, hears.place, firsts);
-    ended = λ is. hears.ended (sym finished ∙ is);
-  };
+  heard = λ more chars hears. grind (
+    arith,
+    append_assoc (faultless (255 ∷ 255 ∷ body)) new.held more,
+    append_assoc hears.prefix (faultless (255 ∷ 255 ∷ body)) (new.held ++ more),
+    length-map,
+    length-append hears.prefix (faultless (255 ∷ 255 ∷ body)),
+  );
   frames = λ more chars later hears frames.
       let found : Found = record { start = old.first + 2; stop = new.first; frame = f } in
-      let stands : StandsIn found chars old.first = record {
-        prefix = hears.prefix;
-        body = body;
-        rest = new.held ++ more;
-        split = hears.split ∙ ap (λ (cs : List Character). hears.prefix ++ (cs ++ more)) held
-            ∙ ap (λ (cs : List Character). hears.prefix ++ cs) (append_assoc (faultless (255 ∷ 255 ∷ body)) new.held more)
-            ∙ sym (append_assoc hears.prefix (faultless (255 ∷ 255 ∷ body)) (new.held ++ more));
-        is_body = is;
-        after = omega (arith, hears.place);
-        start = omega (arith, hears.place);
-        stop = omega (arith, hears.place, firsts);
-      } in
+      let stands : StandsIn found chars old.first =
+      grind (
+        arith,
+        append_assoc (faultless (255 ∷ 255 ∷ body)) new.held more,
+        append_assoc hears.prefix (faultless (255 ∷ 255 ∷ body)) (new.held ++ more),
+      ) in
       AreFrames.first old.first found later (record {
         stands = stands;
         least = λ other there. (StandsIn-within other chars old.first there).after;

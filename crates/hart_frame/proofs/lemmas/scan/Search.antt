@@ -140,9 +140,7 @@ three_never xs here (within, first, second, third) =
     let parts : drop here xs ≡ 255 ∷ 255 ∷ 255 ∷ rest =
     grind arith in
     let Is : List ℕ → Type 0 = λ ys. IsCandidate ys (Never 3) in
-    let empty : (fewer : ℕ) → fewer < 1 → IsTruncated (take fewer (255 ∷ rest)) = λ fewer below.
-    let none : fewer ≡ 0 = omega (arith, below) in
-    subst (λ (n : ℕ). IsTruncated (take n (255 ∷ rest))) (sym none) (inl refl) in
+    let empty : (fewer : ℕ) → fewer < 1 → IsTruncated (take fewer (255 ∷ rest)) = grind arith in
     subst Is (sym parts) (
       omega arith,
       never_after 255 255 (255 ∷ []) (record {
@@ -177,9 +175,7 @@ searching_run xs from seen place decided (suc count) searching order within pass
     λ here since below. passed here (omega (arith, since)) (omega (arith, below)) in
     elim (passed place (omega arith) (omega arith)) [
       | inl other ↦
-          let others : (here : ℕ) → place ≤ here → here < place + 1 → get_or xs here 0 ≢ 255 = λ here since below.
-          let same : place ≡ here = omega (arith, since, below) in
-          subst (λ (n : ℕ). get_or xs n 0 ≢ 255) same other in
+          let others : (here : ℕ) → place ≤ here → here < place + 1 → get_or xs here 0 ≢ 255 = grind arith in
           subst Passed there (searching_run xs from seen (place + 1) decided count
           (searching_others xs from seen place decided (place + 1) searching (omega arith) (omega (arith, within)) others) order
           (omega (arith, within)) later)

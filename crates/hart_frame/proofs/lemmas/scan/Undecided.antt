@@ -1,5 +1,5 @@
 -- What a scanner keeps of what it is to decide.
-use Rattle.std.proofs.Common.{◌≡◌, ℕ, ◌+◌, ◌-◌, ◌<◌, ◌≤◌, ◌⊎◌, inl, inr, false, List, [], ◌∷◌, ◌++◌, length, replicate, drop, get_or, refl}
+use Rattle.std.proofs.Common.{◌≡◌, ℕ, ◌+◌, ◌-◌, ◌<◌, ◌≤◌, ◌⊎◌, inl, inr, false, List, [], ◌∷◌, ◌++◌, length, replicate, drop, refl}
 use Rattle.std.proofs.Common.{sym, ap, ◌∙◌, arith, append_assoc, length-append, length-drop}
 use Rattle.std.proofs.lemmas.List.{append-nil, drop_at, drop-append-le, get_or_at, get_or_append_left, get_or-replicate, length-replicate}
 use Rattle.hart_frame.specs.heard.Character.{Character, faultless}
@@ -92,12 +92,18 @@ preamble_held s prefix rest same =
     let cases : (k < s.first) ⊎ (s.first ≤ k) = grind arith in
     elim cases [
       | inl early ↦
-          let here : get_or (sample s) k other ≡ other =
-          get_or_append_left (replicate s.first other) (s.held ++ []) other k (omega (arith, early, length-replicate s.first other))
-          ∙ get_or-replicate s.first k other other early in
-          let there : get_or (sample s) k other ≡ preamble =
-          ap (λ (cs : List Character). get_or cs k other) same ∙ get_or_at prefix preamble rest other k refl in
-          absurd (other_preamble (sym here ∙ there))
+          grind (
+            arith,
+            get_or_append_left (replicate s.first other) (s.held ++ []) other k (omega (
+              arith,
+              early,
+              length-replicate s.first other,
+            )),
+            get_or-replicate s.first k other other early,
+            preamble,
+            get_or_at prefix preamble rest other k refl,
+            other_preamble,
+          )
       | inr late ↦ late
     ]
 

@@ -1,6 +1,6 @@
 -- Whether bytes begin with a body is decided.
 use Rattle.std.proofs.Common.{◌≡◌, ℕ, zero, suc, fold, bit_xor, ◌+◌, ◌-◌, ◌*◌, ◌/◌, ◌%◌, ◌<◌, ◌≤◌, ◌⊎◌, inl, inr, Bool}
-use Rattle.std.proofs.Common.{List, [], ◌∷◌, length, take, drop, get_or, refl, sym, ap, ◌∙◌, arith, subst}
+use Rattle.std.proofs.Common.{List, [], ◌∷◌, length, take, get_or, refl, sym, ap, ◌∙◌, arith, subst}
 use Rattle.std.specs.List.{All, slice_range}
 use Rattle.hart_values.specs.address.AddressBytes.{IsAddressBytes, first_byte}
 use Rattle.hart_values.specs.declared.master_id.MasterId.{MasterId}
@@ -117,10 +117,7 @@ fit_decided bytes (suc n) = elim (fit_decided bytes n) [
 fit_range : (bytes : List ℕ) (n i : ℕ) → Fit bytes n → 1 ≤ i → i ≤ n → i ≤ length bytes → All (λ byte. byte < 256) (slice_range bytes 1 i)
 fit_range bytes n i fits some low within =
     All-from_get_or (λ byte. byte < 256) (slice_range bytes 1 i) 0 (λ k below.
-    let long = length-slice_range bytes 1 i some within in
-    let at = get_or-take (i - 1) (drop 1 bytes) k 0 (omega (arith, below, long)) in
-    let here : get_or (drop 1 bytes) k 0 ≡ get_or bytes (1 + k) 0 = get_or_after_one bytes k 0 in
-    omega (arith, at, here, fits (1 + k) (omega (arith, below, long))))
+    grind (arith, length-slice_range bytes 1 i some within, get_or-take, get_or_after_one bytes k 0))
 
 -- bytes that go on to their check byte hold a frame
 pub record HeldFrame (bytes : List ℕ) : Type 0 where
