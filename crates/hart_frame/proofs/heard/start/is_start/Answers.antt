@@ -1,4 +1,4 @@
-use Rattle.std.proofs.Common.{◌≡◌, ◌≢◌, ◌&&◌, not, nat_eq, ℕ, ◌-◌, ◌<◌, List, length, Bool, true, false, Option, None, Some, IfSome, refl}
+use Rattle.std.proofs.Common.{◌≡◌, ◌≢◌, ◌&&◌, not, nat_eq, ℕ, ◌<◌, List, length, Bool, true, false, Option, None, Some, IfSome, refl}
 use Rattle.std.proofs.Common.{sym, ap, ◌∙◌, arith, get_or}
 use Rattle.std.proofs.lemmas.Bool.{false≢true}
 use Rattle.std.proofs.lemmas.List.{get_or_default}
@@ -13,12 +13,7 @@ abbrev differ : Character → Character → Bool
 differ a b = not (nat_eq a.byte b.byte && nat_eq a.faults b.faults)
 
 differ-no : (a b : Character) → differ a b ≡ false → a ≡ b
-differ-no a b e =
-    let bytes : a.byte ≡ b.byte = grind (arith, nat_tests) in
-    let faults : a.faults ≡ b.faults = grind (arith, nat_tests) in
-    let of : ℕ → ℕ → Character = λ byte faults. record { byte = byte; faults = faults } in
-    let all : of a.byte a.faults ≡ of b.byte b.faults = cc in
-    all
+differ-no a b e = grind (arith, nat_tests)
 
 differ-same : (a : Character) → differ a a ≡ false
 differ-same a = grind (arith, nat_tests)
@@ -40,24 +35,4 @@ get_or-other : (chars : List Character) (i : ℕ) (x d : Character) → i < leng
 get_or-other chars i x d within is = get_or_default chars i d x within ∙ sym is
 
 pub returns : goal.returns
-returns c =
-    let chars = c.args.chars.now in
-    let place = c.args.place in
-    let third = c.index-chars-place-3.result in
-    let is_preamble = of_some c.new.result c.unwrap-preamble.result preamble c.unwrap-preamble.ensures c.new.ensures.kept in
-    let one = differ-no c.index-chars-place.result c.unwrap-preamble.result (sym c.ne.ensures ∙ c.if-ne.false) ∙ is_preamble in
-    let two = differ-no c.index-chars-place-2.result c.unwrap-preamble.result (sym c.ne-else-ne.ensures ∙ c.if-ne-2.false)
-    ∙ is_preamble in (
-      (λ yes. is_start_from chars place third (record {
-        after_two = c.requires.after_two;
-        within = c.requires.within;
-        one = get_or-other chars (place - 2) c.index-chars-place.result third (omega (arith, c.requires)) c.index-chars-place.is ∙ one;
-        two = get_or-other chars (place - 1) c.index-chars-place-2.result third (omega (arith, c.requires)) c.index-chars-place-2.is ∙ two;
-        other = λ same. differ-yes third c.unwrap-preamble.result (sym c.ne-2.ensures ∙ yes)
-            (c.index-chars-place-3.is ∙ same ∙ sym is_preamble);
-      })),
-      λ is.
-          let at = starts_at chars place third is in
-          differ-not third c.unwrap-preamble.result c.ne-2.result (sym c.ne-2.ensures)
-          (λ same. at.other (sym c.index-chars-place-3.is ∙ same ∙ is_preamble)),
-    )
+returns c = grind (arith, of_some, preamble, differ-no, is_start_from, get_or-other, differ-yes, starts_at, differ-not)

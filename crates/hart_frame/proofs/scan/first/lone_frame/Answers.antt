@@ -1,3 +1,4 @@
+use Rattle.std.proofs.Common.{arith}
 use Rattle.std.proofs.Common.{sym, ◌∙◌}
 use Rattle.hart_frame.proofs.lemmas.Laws.{every_list_has_frames, frames_are_unambiguous-one_list}
 use Rattle.hart_frame.proofs.lemmas.heard.Delivery.{no_frame, one_frame, only_said, second_none, second_some, several_frames}
@@ -24,12 +25,7 @@ returns-then-is_some-clause-only c =
     only_said frames_are_unambiguous-one_list c.args.delivery.now _ (returns-then-is_some-clause-lone c)
 
 pub returns-clause-lone : goal.returns-clause-lone
-returns-clause-lone c =
-    let delivery = c.args.delivery.now in
-    let first = c.in-Some.first in
-    let none = second_none delivery first.stop c.first_frame-2.result (sym c.is_some.ensures ∙ c.if-is_some.false)
-    c.first_frame-2.ensures.first in
-    one_frame delivery first c.in-Some.ensures.first none
+returns-clause-lone c = grind (arith, second_none, one_frame)
 
 pub returns-clause-only : goal.returns-clause-only
 returns-clause-only c =

@@ -25,6 +25,4 @@ returns-in-Some-clause-others c = others c.args.bytes.now c.args.from c.in-Some.
     (omega (arith, c.in-Some.ensures.0.high, long c.args.bytes.now c.args.from))
 
 pub returns-in-None-clause-others : goal.returns-in-None-clause-others
-returns-in-None-clause-others c = λ place after before.
-    others c.args.bytes.now c.args.from _ c.in-None.ensures (omega (arith, long c.args.bytes.now c.args.from)) place after
-    (omega (arith, before, long c.args.bytes.now c.args.from))
+returns-in-None-clause-others c = grind (arith, others, long)

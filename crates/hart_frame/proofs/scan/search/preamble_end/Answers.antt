@@ -1,4 +1,4 @@
-use Rattle.std.proofs.Common.{◌≡◌, ◌+◌, ◌-◌, ℕ, length, drop, take, slice_index, arith, ◌∙◌, ap, length-drop}
+use Rattle.std.proofs.Common.{◌≡◌, ◌-◌, length, drop, take, arith, length-drop}
 use Rattle.std.proofs.lemmas.List.{length-take-le}
 use Rattle.hart_frame.proofs.lemmas.scan.Search.{all_rest, read_rest}
 use Rattle.hart_frame.proofs.scan.search.preamble_end.Goals as goal
@@ -15,8 +15,5 @@ returns c =
       after = omega arith;
       within = omega (arith, within, long, c.requires);
       preambles = all_rest bytes from count (λ byte. byte ≡ 255) (omega (arith, within, long)) c.preamble_bytes.ensures.preambles;
-      other = λ before is.
-          c.preamble_bytes.ensures.next (omega (arith, before, long))
-          (ap (λ (k : ℕ). slice_index (take (length bytes - from) (drop from bytes)) k)
-          (let e : count ≡ from + count - from = omega arith in e) ∙ read_rest bytes from (from + count) (omega arith) before ∙ is);
+      other = grind (arith, read_rest);
     }

@@ -1,4 +1,4 @@
-use Rattle.std.proofs.Common.{◌≡◌, ◌+◌, ◌-◌, ◌<◌, ◌≤◌, ◌⊎◌, inl, inr, max, ℕ, List, length, drop, take, arith, sym, subst, length-drop}
+use Rattle.std.proofs.Common.{◌≡◌, ◌+◌, ◌-◌, ◌<◌, ◌≤◌, ◌⊎◌, inl, max, ℕ, List, length, drop, take, arith, sym, subst, length-drop}
 use Rattle.std.proofs.lemmas.List.{drop_all, take_rest}
 use Rattle.hart_frame.specs.scan.Candidate.{IsCandidate}
 use Rattle.hart_frame.specs.scan.Search.{IsSearched}
@@ -19,10 +19,7 @@ greater : (a b m k : ℕ) → m ≡ max a b → a ≤ k → (m ≤ k) ⊎ (m ≤
 greater a b m k is below = grind (arith, is, below)
 
 least : (n decided few more : ℕ) → decided ≤ more → few ≤ more → (n ≤ decided) ⊎ (n ≤ few) → n ≤ more
-least n decided few more one other most = elim most [
-  | inl old ↦ omega (arith, old, one)
-  | inr new ↦ omega (arith, new, other)
-]
+least n decided few more one other most = grind arith
 
 pub loop-start-preserved : goal.loop-start-preserved
 loop-start-preserved c =

@@ -1,7 +1,7 @@
-use Rattle.std.proofs.Common.{◌∙◌, ℕ, sym, arith}
+use Rattle.std.proofs.Common.{◌∙◌, sym, arith}
 use Rattle.std.proofs.lemmas.Bool.{false≢true}
 use Rattle.std.proofs.lemmas.List.{length-map}
-use Rattle.hart_frame.specs.heard.Character.{Character, faultless}
+use Rattle.hart_frame.specs.heard.Character.{faultless}
 use Rattle.hart_frame.specs.scan.Buffer.{scan_of}
 use Rattle.hart_frame.proofs.lemmas.scan.Buffer.{drained_is}
 use Rattle.hart_frame.proofs.lemmas.scan.Chunk.{hearing_on, hearing_start, hears_all, hears_until, rest_heard, room_left}
@@ -11,10 +11,7 @@ pub loop-taken-init : goal.loop-taken-init
 loop-taken-init c = hearing_start c.args.self.now (faultless c.args.chunk.now) c.requires.sound c.requires.drained
 
 pub push_part-taken-requires-clause-room : goal.push_part-taken-requires-clause-room
-push_part-taken-requires-clause-room c =
-    let chunk = c.args.chunk.now in
-    room_left c.args.self.now c.loop-taken.self (faultless chunk) chunk c.loop-taken.taken
-    (length-map chunk (λ (byte : ℕ). let c : Character = record { byte = byte; faults = 0 } in c)) c.loop-taken.invariant c.requires.room
+push_part-taken-requires-clause-room c = grind (arith, room_left, length-map)
 
 pub returns-then-not-is_drained-clause-hears : goal.returns-then-not-is_drained-clause-hears
 returns-then-not-is_drained-clause-hears c =
@@ -33,7 +30,4 @@ loop-taken-preserved c =
     c.push_part-taken.ensures.hears)
 
 pub returns-clause-hears : goal.returns-clause-hears
-returns-clause-hears c =
-    let chunk = c.args.chunk.now in
-    hears_all c.args.self.now c.loop-taken.self (faultless chunk) c.loop-taken.taken c.loop-taken.invariant
-    (omega (arith, c.loop-taken-test.false, length-map chunk (λ (byte : ℕ). let c : Character = record { byte = byte; faults = 0 } in c)))
+returns-clause-hears c = grind (arith, hears_all, length-map)

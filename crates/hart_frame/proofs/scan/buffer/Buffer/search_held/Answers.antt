@@ -1,7 +1,6 @@
-use Rattle.std.proofs.Common.{◌≡◌, ◌+◌, ◌∙◌, ℕ, List, Option, None, Some, false, not, length, arith, ap, refl, subst, sym}
+use Rattle.std.proofs.Common.{◌≡◌, ◌∙◌, ℕ, List, Option, None, Some, false, not, length, arith, ap, refl, subst, sym}
 use Rattle.std.specs.Option.{is_some}
 use Rattle.std.proofs.lemmas.Bool.{false≢true}
-use Rattle.hart_frame.specs.scan.Buffer.{held_bytes}
 use Rattle.hart_frame.specs.scan.Search.{IsSearched}
 use Rattle.hart_frame.specs.declared.scan.search.Sighting.{Sighting}
 use Rattle.hart_frame.specs.declared.wire.layout.Layout.{Layout}
@@ -20,22 +19,10 @@ none_is None is = refl
 none_is (Some layout) is = absurd cc
 
 pub loop-found-init : goal.loop-found-init
-loop-found-init c = record {
-  from = 0;
-  none = λ place below more ended. absurd (omega (arith, below));
-  searched = in_held (held_bytes c.args.self.now) c.held-held.result.now 0 c.search-found.result c.held-held.ensures.held
-      c.search-found.ensures;
-}
+loop-found-init c = grind (arith, in_held)
 
 pub loop-found-preserved : goal.loop-found-preserved
-loop-found-preserved c =
-    let b = c.args.self.now in
-    let found = c.loop-found.found in
-    looked_on b found c.search-found-in-loop-found.result c.requires.sound
-    (c.is_ended.ensures.0 c.loop-found-test.true) c.loop-found.invariant
-    (none_is found.layout (c.is_none.ensures ∙ ap not c.if-is_none.true))
-    (in_held (held_bytes b) c.held-held.result.now (found.place + 1) c.search-found-in-loop-found.result c.held-held.ensures.held
-    c.search-found-in-loop-found.ensures)
+loop-found-preserved c = grind (arith, looked_on, none_is, not, in_held)
 
 pub returns-else-found-held : goal.returns-else-found-held
 returns-else-found-held c =

@@ -1,5 +1,6 @@
-use Rattle.std.proofs.Common.{◌≡◌, ℕ, refl, sym, ap, subst, ◌∙◌, rules, None}
-use Rattle.hart_frame.specs.scan.Scanner.{Scan, Gives, GivesNothing}
+use Rattle.std.proofs.Common.{arith}
+use Rattle.std.proofs.Common.{◌≡◌, ℕ, refl, sym, ap, subst, ◌∙◌}
+use Rattle.hart_frame.specs.scan.Scanner.{Scan, Gives}
 use Rattle.hart_frame.specs.scan.Buffer.{scan_of}
 use Rattle.hart_frame.specs.scan.View.{parts_of, found_of}
 use Rattle.hart_frame.specs.declared.heard.found.Found.{Found}
@@ -19,8 +20,4 @@ returns c =
     ((refl, (λ _. tt), subst Old c.self.view_is (subst Of same gives)), record { after = tt })
 
 pub returns-in_err-span : goal.returns-in_err-span
-returns-in_err-span c =
-    let Old : Scan → Type 0 = λ old. GivesNothing old (scan_of c.next.new.self) in
-    let nothing = subst Old c.self.view_is c.in_err-span.ensures.given in
-    let is : c.from_residual.result ≡ None = search rules in
-    ((refl, (λ _. tt), rw is nothing), record { after = tt })
+returns-in_err-span c = grind arith

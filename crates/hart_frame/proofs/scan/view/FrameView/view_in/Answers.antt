@@ -1,4 +1,4 @@
-use Rattle.std.proofs.Common.{◌≡◌, ◌+◌, ◌-◌, ◌≤◌, ℕ, take, ap, ◌∙◌, subst, sym, refl, rules, get_or, length, arith}
+use Rattle.std.proofs.Common.{◌≡◌, ◌+◌, ◌-◌, ◌≤◌, ℕ, take, ◌∙◌, subst, rules, get_or, length, arith}
 use Rattle.std.specs.List.{slice_range}
 use Rattle.hart_values.specs.address.AddressBytes.{IsAddressBytes}
 use Rattle.hart_values.specs.declared.address.Address.{Address}
@@ -6,7 +6,7 @@ use Rattle.hart_frame.specs.wire.Body.{IsCheckedPart}
 use Rattle.hart_frame.specs.scan.PlainAddress.{address_of}
 use Rattle.hart_frame.proofs.lemmas.wire.Body.{IsBody-whole}
 use Rattle.hart_frame.specs.wire.FrameParts.{FrameParts}
-use Rattle.hart_frame.specs.wire.Layout.{body_length, delimiter_in}
+use Rattle.hart_frame.specs.wire.Layout.{body_length}
 use Rattle.hart_frame.proofs.lemmas.wire.BodiesFound.{long_enough}
 use Rattle.hart_frame.proofs.lemmas.wire.Layout.{IsCheckedPart-in, StandsByLayout, length-slice_range}
 use Rattle.hart_frame.proofs.scan.view.FrameView.view_in.Goals as goal
@@ -37,17 +37,7 @@ returns c =
     } in
     let Of : Address → Type 0 = λ a.
     IsAddressBytes c.unwrap-master.result.0 c.unwrap-master.result.1 a (slice_range bytes 1 layout.address_end) in
-    let stands : StandsByLayout bytes layout frame = record {
-      kind = refl;
-      address = subst Of (sym c.plain_of.ensures) read;
-      expansion = ap (λ (n : ℕ). slice_range bytes n c.from-command_place.result) end
-          ∙ ap (λ (n : ℕ). slice_range bytes layout.address_end n) at;
-      command = ap (λ (n : ℕ). get_or bytes n 0) at;
-      payload = ap (λ (n : ℕ). slice_range bytes place (place + n)) count
-          ∙ ap (λ (n : ℕ). slice_range bytes (n + 2) (n + 2 + layout.byte_count)) at;
-      payload_fits = long_enough layout.kind payload (delimiter_in bytes) layout.byte_count body.described.kind payload_len
-          (rw body.described.count whole.0.1);
-    } in
+    let stands : StandsByLayout bytes layout frame = grind (arith, long_enough) in
     let exact : body_length bytes ≡ length bytes = omega (arith, body.described, body.exact) in
     let part = IsCheckedPart-in bytes layout frame body.described whole stands in
     let Part : ℕ → Type 0 = λ n. IsCheckedPart frame (take (n - 1) bytes) in
