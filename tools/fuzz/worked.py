@@ -1,5 +1,9 @@
 """Worked messages and scripts, against which the model is held before it judges anything."""
 
+import re
+
+from .commands import PAGE
+
 REGISTERS = "010001" + "820820" * 14 + "000000"
 LONG_TAG = "20" * 32
 IMAGE_PREFIX = f"image 02{REGISTERS[2:]}"
@@ -47,35 +51,18 @@ DUMPED = (
     ("F F", "", "bad hex at 0"),
 )
 
+# What the bench device as it is new hears and replies, as docs/COMMANDS.md shows it.
+SHOWN = re.compile(r"^```\nrequest  ([0-9A-F\s]+)^(?:reply    ([0-9A-F\s]+)|silence\n)^```$", re.MULTILINE)
+ON_PAGE = SHOWN.findall(PAGE.read_text(encoding="utf-8"))
+
 # The input of `hart answer`, and its reply.
 ANSWERED = (
+    *ON_PAGE,
     ("FF FF FF FF FF 02 80 00 00 82", "FF" * 5 + "068000" + IDENTITY + "31"),
     ("FF FF 02 00 00 00 02", "FF" * 5 + "060000" + IDENTITY + "B1"),
     (INSIDE, "FF" * 5 + "068000" + IDENTITY + "31"),
     ("FF FF 02 80 00 00 82 FF FF 02 00 00 00 02", ""),
     (IDENTIFY_PUMP, ""),
-    (REQUEST + "00 00 4A", REPLY + "00" + IDENTITY + "F9"),
-    (REQUEST + "01 00 4B", REPLY + "01 07 00 00 20 41 C8 00 00 E1"),
-    (REQUEST + "02 00 48", REPLY + "02 0A 00 00 41 40 00 00 42 48 00 00 4D"),
-    (REQUEST + "03 00 49", REPLY + "03 0B 00 00 41 40 00 00 20 41 C8 00 00 EE"),
-    (REQUEST + "04 00 4E", REPLY + "04 02 40 00 08"),
-    (REQUEST + "06 01 05 48", REPLY + "06 04 00 48 05 00 01"),
-    (REQUEST + "06 02 40 01 0F", REPLY + "06 02 02 00 48"),
-    (REQUEST + "06 02 3F 02 73", REPLY + "06 02 0C 00 46"),
-    (REQUEST + "07 00 4D", REPLY + "07 04 00 00 00 01 4C"),
-    (REQUEST + "08 00 42", REPLY + "08 06 00 00 00 00 00 00 40"),
-    (REQUEST + "09 02 F5 09 BD", REPLY + "09 17 00 00 00 F5 00 27 41 40 00 00 C0 09 00 FA 7F A0 00 00 30 00 00 00 00 5F"),
-    (REQUEST + "0B 06 " + SPACES * 2 + "47", REPLY + "0B" + IDENTITY + "F2"),
-    (REQUEST + "0C 00 46", REPLY + "0C 1A 00 00 " + SPACES * 8 + "58"),
-    (REQUEST + "0D 00 47", REPLY + "0D 17 00 00 " + SPACES * 6 + "00 00 00 54"),
-    (REQUEST + "0E 00 44", REPLY + "0E 12 00 00 00 00 00 20 43 48 00 00 00 00 00 00 41 20 00 00 18"),
-    (REQUEST + "0F 00 45", REPLY + "0F 14 00 00 00 00 20 42 C8 00 00 00 00 00 00 3F 80 00 00 00 FA 00 BA"),
-    (REQUEST + "10 00 5A", REPLY + "10 05 00 00 00 00 00 5B"),
-    (REQUEST + "11 18 " + SPACES * 8 + "43", REPLY + "11 1A 00 40 " + SPACES * 8 + "05"),
-    (REQUEST + "12 15 " + TAG_OF_PUMP + SPACES * 4 + "1D 02 64 EE", REPLY + "12 17 00 40 " + TAG_OF_PUMP + SPACES * 4 + "1D 02 64 A8"),
-    (REQUEST + "12 15 " + TAG_OF_PUMP + SPACES * 4 + "1D 02 00 8A", REPLY + "12 02 09 00 57"),
-    (REQUEST + "13 03 01 23 45 3D", REPLY + "13 05 00 40 01 23 45 7F"),
-    (REQUEST + "13 03 01 23 45 3C", REPLY + "13 02 88 00 D7"),
     (REQUEST + "13 03 01 23!40 45 3D", REPLY + "13 02 C0 00 9F"),
     (REQUEST + "13 03!20 01 23 45 3C", REPLY + "13 02 A8 00 F7"),
     (REQUEST + "13 03!20 01 23!40 45 3C", REPLY + "13 02 E8 00 B7"),
@@ -89,19 +76,9 @@ ANSWERED = (
     (REQUEST + "13 03 01 23 45", ""),
     ("FF FF 00 " + REQUEST + "13 03 01 23 45 3C", ""),
     (REQUEST + "13 03 01 23 45 3C FF FF 02 80 00 00 82", "FF" * 5 + "068000" + IDENTITY + "31"),
-    (REQUEST + "13 02 01 23 79", REPLY + "13 02 05 00 5A"),
-    (REQUEST + "13 04 01 23 45 67 5D", REPLY + "13 05 00 40 01 23 45 7F"),
-    (REQUEST + "14 00 5E", REPLY + "14 22 00 00" + LONG_TAG + "78"),
-    (REQUEST + "15 20" + LONG_TAG + "7F", REPLY + "15" + IDENTITY + "EC"),
     ("FF FF 82 80 00 00 00 00 15 20" + LONG_TAG + "37", "FF" * 5 + "86800000000015" + IDENTITY + "A4"),
     (IDENTIFY_LONG_PUMP, ""),
-    (REQUEST + "16 20" + "FF" * 32 + "7C", REPLY + "16 22 00 40" + "FF" * 32 + "3A"),
     (REQUEST + "16 21" + "FF" * 33 + "82", REPLY + "16 22 00 40" + "FF" * 32 + "3A"),
-    (REQUEST + "16 1F" + "FF" * 31 + "BC", REPLY + "16 02 05 00 5F"),
-    (REQUEST + "26 02 00 01 6F", REPLY + "26 02 09 00 63"),
-    (REQUEST + "26 01 00 6D", REPLY + "26 02 05 00 6F"),
-    (REQUEST + "26 00 6C", REPLY + "26 04 00 00 00 00 6C"),
-    (REQUEST + "30 00 7A", REPLY + "30 1B 00 00" + " 00" * 25 + " 65"),
 )
 
 # The image of `hart answer`, its input, and its reply.
