@@ -1,5 +1,16 @@
+//! What a reply says, and the table of how it is read and written.
+ghost use Rattle.std.specs.Prelude.{◌≡◌, ◌≤◌, ◌++◌, length};
+ghost use Rattle.hart_commands.specs.ReplyData.{content_reading, content_bytes};
+
+use crate::content::reading::{
+    read_current, read_dynamic, read_identity, read_more, read_polling, read_tag, read_variables,
+};
+use crate::content::writing::{push_current, push_dynamic, push_tag, push_variables};
 use crate::{IdentityContent, OutputContent, SensorContent, ShortList, UnitValue, VariableReading};
-use hart_values::{Bits32, ByteList, PackedText};
+use hart_values::{Bits32, ByteList, PackedText, Payload};
+
+mod reading;
+mod writing;
 
 /// What a reply says after its status bytes, by its command (HCF_SPEC-127).
 ///
@@ -56,4 +67,74 @@ pub enum ReplyContent {
     More(ByteList<25>),
     /// Nothing: the request was refused.
     Refused,
+}
+
+impl ReplyContent {
+    /// The content of a reply with code 0, by its command's row of the table.
+    pub(crate) fn read(command: u8, bytes: &[u8]) -> Option<Self>
+        ensures { result ≡ content_reading command bytes.now }
+    {
+        match command {
+            0 | 11 | 21 => read_identity(bytes),
+            1 => Some(ReplyContent::Primary(UnitValue::from_bytes(*bytes.first_chunk()?))),
+            2 => read_current(bytes),
+            3 => read_dynamic(bytes),
+            6 | 7 => read_polling(bytes),
+            8 => Some(ReplyContent::Classes(*bytes.first_chunk()?)),
+            9 => read_variables(bytes),
+            12 | 17 => Some(ReplyContent::Message(PackedText::from_bytes(*bytes.first_chunk()?))),
+            13 | 18 => read_tag(bytes),
+            14 => Some(ReplyContent::Sensor(SensorContent::from_bytes(*bytes.first_chunk()?))),
+            15 => Some(ReplyContent::Output(OutputContent::from_bytes(*bytes.first_chunk()?))),
+            16 | 19 => Some(ReplyContent::Assembly(*bytes.first_chunk()?)),
+            20 | 22 => Some(ReplyContent::LongTag(*bytes.first_chunk()?)),
+            38 => Some(ReplyContent::Counter(*bytes.first_chunk()?)),
+            48 => read_more(bytes),
+            _ => None,
+        }
+    }
+
+    /// Adds the data of the content at the end of a payload.
+    pub(crate) fn push_to(&self, payload: &mut Payload)
+        requires { length payload.old ≤ 2 }
+        ensures { payload.new ≡ payload.old ++ content_bytes self.now }
+    {
+        match self {
+            ReplyContent::Identity(identity) => identity.push_to(payload),
+            ReplyContent::Primary(value) => payload.extend_from_slice(&value.to_bytes()),
+            ReplyContent::Current {
+                loop_current,
+                percent_of_range,
+            } => push_current(*loop_current, *percent_of_range, payload),
+            ReplyContent::Dynamic {
+                loop_current,
+                values,
+            } => push_dynamic(*loop_current, values.as_slice(), payload),
+            ReplyContent::Polling { address, mode } => payload.extend_from_slice(&[*address, *mode]),
+            ReplyContent::Classes(classes) => payload.extend_from_slice(classes),
+            ReplyContent::Variables {
+                extended_device_status,
+                variables,
+                time_stamp,
+            } => push_variables(
+                *extended_device_status,
+                variables.as_slice(),
+                time_stamp,
+                payload,
+            ),
+            ReplyContent::Message(message) => payload.extend_from_slice(message.as_bytes()),
+            ReplyContent::Tag {
+                tag,
+                descriptor,
+                date,
+            } => push_tag(tag, descriptor, date, payload),
+            ReplyContent::Sensor(sensor) => sensor.push_to(payload),
+            ReplyContent::Output(output) => output.push_to(payload),
+            ReplyContent::Assembly(assembly) => payload.extend_from_slice(assembly),
+            ReplyContent::LongTag(long_tag) => payload.extend_from_slice(long_tag),
+            ReplyContent::Counter(counter) => payload.extend_from_slice(counter),
+            ReplyContent::More(status) => payload.extend_from_slice(status.as_slice()),
+            ReplyContent::Refused => {}
+        }
+    }
 }

@@ -2,13 +2,8 @@ ghost use Rattle.std.specs.Prelude.{◌≡◌, IfSome};
 ghost use Rattle.hart_commands.specs.ReplyData.{IsReply, reply_reading, reply_payload};
 
 use crate::ReplyContent;
-use crate::reply::reading::read_content;
-use crate::reply::writing::push_content;
 use crate::request::is_known;
 use hart_values::{DeviceStatus, Payload, ResponseCode};
-
-mod reading;
-mod writing;
 
 /// What a device replies to a command (HCF_SPEC-127).
 #[derive(Debug, Drop, PartialEq, Eq)]
@@ -47,7 +42,7 @@ impl Reply {
         payload.clear();
         payload.push(self.code.value());
         payload.push(self.status.0);
-        push_content(&self.content, payload);
+        self.content.push_to(payload);
     }
 }
 
@@ -59,7 +54,7 @@ fn reply_in(command: u8, payload: &[u8]) -> Option<Reply>
     let (second, bytes) = rest.split_first()?;
     let code = ResponseCode::new(*first).ok()?;
     let content = if code.value() == 0 {
-        read_content(command, bytes)?
+        ReplyContent::read(command, bytes)?
     } else if is_known(command) {
         ReplyContent::Refused
     } else {

@@ -1,44 +1,16 @@
-//! The rows of the table of replies.
+//! The contents that are not read in one line of the table.
 ghost use Rattle.std.specs.Prelude.{◌≡◌, ◌<◌, ◌≤◌, length, map};
-ghost use Rattle.hart_commands.specs.ReplyData.{content_reading};
 ghost use Rattle.hart_commands.specs.ReplyReading.{saying, current_of, polling_of, tag_of, identity_reading, dynamic_reading};
 ghost use Rattle.hart_commands.specs.ReplyReading.{variables_reading, more_reading};
 ghost use Rattle.hart_commands.specs.Values.{unit_value_of, variable_of};
 
 use crate::identity::FIRST_BYTE;
 use crate::tag_bytes::tag_parts;
-use crate::{
-    IdentityContent, OutputContent, ReplyContent, SensorContent, ShortList, UnitValue,
-    VariableReading,
-};
+use crate::{IdentityContent, ReplyContent, ShortList, UnitValue, VariableReading};
 use hart_values::{Bits32, ByteList, PackedText};
 
-/// The content of a reply with code 0, by its command's row of the table.
-pub fn read_content(command: u8, bytes: &[u8]) -> Option<ReplyContent>
-    ensures { result ≡ content_reading command bytes.now }
-{
-    match command {
-        0 | 11 | 21 => read_identity(bytes),
-        1 => Some(ReplyContent::Primary(UnitValue::from_bytes(*bytes.first_chunk()?))),
-        2 => read_current(bytes),
-        3 => read_dynamic(bytes),
-        6 | 7 => read_polling(bytes),
-        8 => Some(ReplyContent::Classes(*bytes.first_chunk()?)),
-        9 => read_variables(bytes),
-        12 | 17 => Some(ReplyContent::Message(PackedText::from_bytes(*bytes.first_chunk()?))),
-        13 | 18 => read_tag(bytes),
-        14 => Some(ReplyContent::Sensor(SensorContent::from_bytes(*bytes.first_chunk()?))),
-        15 => Some(ReplyContent::Output(OutputContent::from_bytes(*bytes.first_chunk()?))),
-        16 | 19 => Some(ReplyContent::Assembly(*bytes.first_chunk()?)),
-        20 | 22 => Some(ReplyContent::LongTag(*bytes.first_chunk()?)),
-        38 => Some(ReplyContent::Counter(*bytes.first_chunk()?)),
-        48 => read_more(bytes),
-        _ => None,
-    }
-}
-
 /// Commands 0, 11 and 21: an identity, which begins with 254.
-fn read_identity(bytes: &[u8]) -> Option<ReplyContent>
+pub fn read_identity(bytes: &[u8]) -> Option<ReplyContent>
     ensures { result ≡ identity_reading bytes.now }
 {
     let identity = bytes.first_chunk::<22>()?;
@@ -49,7 +21,7 @@ fn read_identity(bytes: &[u8]) -> Option<ReplyContent>
 }
 
 /// Command 2: the loop current and the percent of range.
-fn read_current(bytes: &[u8]) -> Option<ReplyContent>
+pub fn read_current(bytes: &[u8]) -> Option<ReplyContent>
     ensures { result ≡ saying 8 current_of bytes.now }
 {
     let [a, b, c, d, e, f, g, h] = *bytes.first_chunk::<8>()?;
@@ -60,7 +32,7 @@ fn read_current(bytes: &[u8]) -> Option<ReplyContent>
 }
 
 /// Command 3: the loop current, and one to four variables.
-fn read_dynamic(bytes: &[u8]) -> Option<ReplyContent>
+pub fn read_dynamic(bytes: &[u8]) -> Option<ReplyContent>
     ensures { result ≡ dynamic_reading bytes.now }
 {
     if bytes.len() < 9 {
@@ -87,7 +59,7 @@ fn values_in(groups: &[[u8; 5]]) -> ShortList<UnitValue, 4>
 }
 
 /// Commands 6 and 7: a polling address and a loop current mode, as they come.
-fn read_polling(bytes: &[u8]) -> Option<ReplyContent>
+pub fn read_polling(bytes: &[u8]) -> Option<ReplyContent>
     ensures { result ≡ saying 2 polling_of bytes.now }
 {
     let [address, mode] = *bytes.first_chunk::<2>()?;
@@ -95,7 +67,7 @@ fn read_polling(bytes: &[u8]) -> Option<ReplyContent>
 }
 
 /// Command 9: the extended device status, one to eight variables and their time stamp, which ends the data.
-fn read_variables(bytes: &[u8]) -> Option<ReplyContent>
+pub fn read_variables(bytes: &[u8]) -> Option<ReplyContent>
     ensures { result ≡ variables_reading bytes.now }
 {
     let (extended_device_status, rest) = bytes.split_first()?;
@@ -123,7 +95,7 @@ fn variables_in(groups: &[[u8; 8]]) -> ShortList<VariableReading, 8>
 }
 
 /// Commands 13 and 18: a tag, a descriptor and a date, as it comes.
-fn read_tag(bytes: &[u8]) -> Option<ReplyContent>
+pub fn read_tag(bytes: &[u8]) -> Option<ReplyContent>
     ensures { result ≡ saying 21 tag_of bytes.now }
 {
     let (tag, descriptor, date) = tag_parts(bytes)?;
@@ -135,7 +107,7 @@ fn read_tag(bytes: &[u8]) -> Option<ReplyContent>
 }
 
 /// Command 48: the additional status bytes, one to 25.
-fn read_more(bytes: &[u8]) -> Option<ReplyContent>
+pub fn read_more(bytes: &[u8]) -> Option<ReplyContent>
     ensures { result ≡ more_reading bytes.now }
 {
     if bytes.is_empty() {

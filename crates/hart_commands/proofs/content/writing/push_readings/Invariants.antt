@@ -1,7 +1,7 @@
 use Rattle.std.proofs.Common.{◌≡◌, ◌+◌, ◌*◌, ◌++◌, length, take}
 use Rattle.std.specs.List.{flat_map}
 use Rattle.hart_commands.specs.Values.{variable_bytes}
-use Rattle.hart_commands.proofs.reply.writing.push_readings.Given as goal
+use Rattle.hart_commands.proofs.content.writing.push_readings.Given as goal
 
 abbrev pub invariant-loop-variable : goal.invariant-loop-variable
 invariant-loop-variable l = record {

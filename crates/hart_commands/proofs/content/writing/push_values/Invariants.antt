@@ -1,7 +1,7 @@
 use Rattle.std.proofs.Common.{◌≡◌, ◌+◌, ◌*◌, ◌++◌, length, take}
 use Rattle.std.specs.List.{flat_map}
 use Rattle.hart_commands.specs.Values.{unit_value_bytes}
-use Rattle.hart_commands.proofs.reply.writing.push_values.Given as goal
+use Rattle.hart_commands.proofs.content.writing.push_values.Given as goal
 
 abbrev pub invariant-loop-value : goal.invariant-loop-value
 invariant-loop-value l = record {
