@@ -1,17 +1,20 @@
--- The table of the commands (HCF_SPEC-127).
-use Rattle.std.specs.Prelude.{ℕ, ◌==◌, if◌then◌else◌, Bool, List, [], ◌∷◌, Ok, Option, Some, None, is_some}
+-- The table of the commands, the number of each request, and the bytes of each content (HCF_SPEC-127).
+use Rattle.std.specs.Prelude.{ℕ, ◌==◌, if◌then◌else◌, Bool, List, [], ◌∷◌, ◌++◌, Ok, Option, Some, None, is_some}
+use Rattle.std.specs.List.{flat_map}
 use Rattle.hart_commands.specs.declared.request.Request.{Request}
-use Rattle.hart_commands.specs.declared.request.Request.TheVariants.{Identify, ReadPrimary, ReadCurrent, ReadDynamic}
-use Rattle.hart_commands.specs.declared.request.Request.TheVariants.{ReadPolling, ReadClasses, IdentifyByTag, ReadMessage}
-use Rattle.hart_commands.specs.declared.request.Request.TheVariants.{ReadTag, ReadSensor, ReadOutput, ReadAssembly, WriteMessage}
+use Rattle.hart_commands.specs.declared.request.Request.TheVariants.{Identify, ReadPrimary, ReadCurrent, ReadDynamic, SetPolling}
+use Rattle.hart_commands.specs.declared.request.Request.TheVariants.{ReadPolling, ReadClasses, ReadVariables, IdentifyByTag, ReadMessage}
+use Rattle.hart_commands.specs.declared.request.Request.TheVariants.{ReadTag, ReadSensor, ReadOutput, ReadAssembly, WriteMessage, WriteTag}
 use Rattle.hart_commands.specs.declared.request.Request.TheVariants.{WriteAssembly, ReadLongTag, IdentifyByLongTag, WriteLongTag}
-use Rattle.hart_commands.specs.declared.request.Request.TheVariants.{ReadMore}
+use Rattle.hart_commands.specs.declared.request.Request.TheVariants.{ResetChanged, ReadMore}
 use Rattle.hart_commands.specs.declared.content.ReplyContent.{ReplyContent}
-use Rattle.hart_commands.specs.declared.content.ReplyContent.TheVariants.{Primary, Classes, Message, Sensor, Output, Assembly, LongTag}
-use Rattle.hart_commands.specs.declared.content.ReplyContent.TheVariants.{Counter}
-use Rattle.hart_commands.specs.Values.{unit_value_of}
-use Rattle.hart_commands.specs.SensorBytes.{sensor_of}
-use Rattle.hart_commands.specs.OutputBytes.{output_of}
+use Rattle.hart_commands.specs.declared.content.ReplyContent.TheVariants.{Identity, Primary, Current, Dynamic, Polling, Classes, Variables}
+use Rattle.hart_commands.specs.declared.content.ReplyContent.TheVariants.{Message, Tag, Sensor, Output, Assembly, LongTag, Counter, More}
+use Rattle.hart_commands.specs.declared.content.ReplyContent.TheVariants.{Refused}
+use Rattle.hart_commands.specs.Values.{unit_value_of, unit_value_bytes, variable_bytes}
+use Rattle.hart_commands.specs.SensorBytes.{sensor_of, sensor_bytes}
+use Rattle.hart_commands.specs.OutputBytes.{output_of, output_bytes}
+use Rattle.hart_commands.specs.IdentityBytes.{identity_bytes}
 use Rattle.hart_commands.specs.RequestReading.{Reading, needing, polling_reading, codes_reading, tag_reading, reset_reading}
 use Rattle.hart_commands.specs.ReplyReading.{saying, current_of, polling_of, tag_of, identity_reading, dynamic_reading, variables_reading}
 use Rattle.hart_commands.specs.ReplyReading.{more_reading}
@@ -87,3 +90,48 @@ command_row = row_in commands
 -- A command is known if the table has a row for it.
 abbrev pub is_known : ℕ → Bool
 is_known command = is_some (command_row command)
+
+-- The command that asks a request.
+abbrev pub command_of : Request → ℕ
+command_of Identify = 0
+command_of ReadPrimary = 1
+command_of ReadCurrent = 2
+command_of ReadDynamic = 3
+command_of (SetPolling address mode) = 6
+command_of ReadPolling = 7
+command_of ReadClasses = 8
+command_of (ReadVariables codes) = 9
+command_of (IdentifyByTag tag) = 11
+command_of ReadMessage = 12
+command_of ReadTag = 13
+command_of ReadSensor = 14
+command_of ReadOutput = 15
+command_of ReadAssembly = 16
+command_of (WriteMessage message) = 17
+command_of (WriteTag tag descriptor date) = 18
+command_of (WriteAssembly assembly) = 19
+command_of ReadLongTag = 20
+command_of (IdentifyByLongTag long_tag) = 21
+command_of (WriteLongTag long_tag) = 22
+command_of (ResetChanged counter) = 38
+command_of ReadMore = 48
+
+-- The data of a content are its parts, one after another.
+abbrev pub content_bytes : ReplyContent → List ℕ
+content_bytes (Identity identity) = identity_bytes identity
+content_bytes (Primary value) = unit_value_bytes value
+content_bytes (Current loop_current percent_of_range) = loop_current.0 ++ percent_of_range.0
+content_bytes (Dynamic loop_current values) = loop_current.0 ++ flat_map unit_value_bytes values
+content_bytes (Polling address mode) = address ∷ mode ∷ []
+content_bytes (Classes classes) = classes
+content_bytes (Variables extended_device_status variables time_stamp) =
+    extended_device_status ∷ flat_map variable_bytes variables ++ time_stamp
+content_bytes (Message message) = message
+content_bytes (Tag tag descriptor date) = tag ++ descriptor ++ date
+content_bytes (Sensor sensor) = sensor_bytes sensor
+content_bytes (Output output) = output_bytes output
+content_bytes (Assembly assembly) = assembly
+content_bytes (LongTag long_tag) = long_tag
+content_bytes (Counter counter) = counter
+content_bytes (More status) = status
+content_bytes Refused = []

@@ -5,13 +5,13 @@ use Rattle.hart_values.specs.declared.loop_mode.LoopMode.{LoopMode}
 use Rattle.hart_values.specs.declared.loop_mode.LoopMode.TheVariants.{Disabled, Enabled}
 use Rattle.hart_values.specs.hart_date.Calendar.{IsDateBytes}
 use Rattle.hart_commands.specs.declared.request.Request.{Request}
-use Rattle.hart_commands.specs.declared.request.Request.TheVariants.{Identify, ReadPrimary, ReadCurrent, ReadDynamic, SetPolling}
-use Rattle.hart_commands.specs.declared.request.Request.TheVariants.{ReadPolling, ReadClasses, ReadVariables, IdentifyByTag, ReadMessage}
-use Rattle.hart_commands.specs.declared.request.Request.TheVariants.{ReadTag, ReadSensor, ReadOutput, ReadAssembly, WriteMessage, WriteTag}
-use Rattle.hart_commands.specs.declared.request.Request.TheVariants.{WriteAssembly, ReadLongTag, IdentifyByLongTag, WriteLongTag}
-use Rattle.hart_commands.specs.declared.request.Request.TheVariants.{ResetChanged, ReadMore}
+use Rattle.hart_commands.specs.declared.request.Request.TheVariants.{SetPolling}
+use Rattle.hart_commands.specs.declared.request.Request.TheVariants.{ReadVariables, IdentifyByTag}
+use Rattle.hart_commands.specs.declared.request.Request.TheVariants.{WriteMessage, WriteTag}
+use Rattle.hart_commands.specs.declared.request.Request.TheVariants.{WriteAssembly, IdentifyByLongTag, WriteLongTag}
+use Rattle.hart_commands.specs.declared.request.Request.TheVariants.{ResetChanged}
 use Rattle.hart_commands.specs.Commands.{CommandRow, asked, command_row}
-pub use Rattle.hart_commands.specs.Commands.{is_known}
+pub use Rattle.hart_commands.specs.Commands.{is_known, command_of}
 pub use Rattle.hart_commands.specs.RequestReading.{Reading}
 
 -- Data are read as the row says; if there is no row they are refused with code 64.
@@ -27,31 +27,6 @@ request_reading command = read_by (command_row command)
 abbrev pub mode_byte : LoopMode → ℕ
 mode_byte Disabled = 0
 mode_byte Enabled = 1
-
--- The command that asks a request.
-abbrev pub command_of : Request → ℕ
-command_of Identify = 0
-command_of ReadPrimary = 1
-command_of ReadCurrent = 2
-command_of ReadDynamic = 3
-command_of (SetPolling address mode) = 6
-command_of ReadPolling = 7
-command_of ReadClasses = 8
-command_of (ReadVariables codes) = 9
-command_of (IdentifyByTag tag) = 11
-command_of ReadMessage = 12
-command_of ReadTag = 13
-command_of ReadSensor = 14
-command_of ReadOutput = 15
-command_of ReadAssembly = 16
-command_of (WriteMessage message) = 17
-command_of (WriteTag tag descriptor date) = 18
-command_of (WriteAssembly assembly) = 19
-command_of ReadLongTag = 20
-command_of (IdentifyByLongTag long_tag) = 21
-command_of (WriteLongTag long_tag) = 22
-command_of (ResetChanged counter) = 38
-command_of ReadMore = 48
 
 -- The data of a request are the bytes that its command needs, with none after them: always two for Command 6, and
 -- none for a request without parts.

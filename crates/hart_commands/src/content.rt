@@ -110,7 +110,9 @@ impl ReplyContent {
                 loop_current,
                 values,
             } => push_dynamic(*loop_current, values.as_slice(), payload),
-            ReplyContent::Polling { address, mode } => payload.extend_from_slice(&[*address, *mode]),
+            ReplyContent::Polling { address, mode } => payload.extend_from_slice(&[
+                *address, *mode,
+            ]),
             ReplyContent::Classes(classes) => payload.extend_from_slice(classes),
             ReplyContent::Variables {
                 extended_device_status,

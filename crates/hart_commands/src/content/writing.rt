@@ -43,7 +43,12 @@ pub fn push_variables(
 }
 
 /// Adds a tag, a descriptor and a date at the end of a payload.
-pub fn push_tag(tag: &PackedText<6>, descriptor: &PackedText<12>, date: &[u8; 3], payload: &mut Payload)
+pub fn push_tag(
+    tag: &PackedText<6>,
+    descriptor: &PackedText<12>,
+    date: &[u8; 3],
+    payload: &mut Payload,
+)
     requires { length payload.old ≤ 2 }
     ensures { payload.new ≡ payload.old ++ tag.now ++ descriptor.now ++ date.now }
 {
