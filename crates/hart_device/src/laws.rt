@@ -4,20 +4,23 @@ ghost use Rattle.std.specs.Prelude.{List, [], ◌∷◌, ◌++◌, Contains, sli
 ghost use Rattle.std.specs.Int.{bit_at};
 ghost use Rattle.hart_values.specs.EachMaster.{of_master, with_master};
 ghost use Rattle.hart_values.specs.declared.master_id.MasterId.{MasterId};
-ghost use Rattle.hart_frame.specs.heard.Character.{Character};
-ghost use Rattle.hart_frame.specs.wire.FrameParts.{FrameParts, reply_parts};
+ghost use Rattle.hart_values.specs.declared.address.Address.TheVariants.{Unique};
+ghost use Rattle.hart_frame.specs.heard.Character.{Character, faultless};
+ghost use Rattle.hart_frame.specs.wire.Body.{IsBody};
+ghost use Rattle.hart_frame.specs.wire.FrameParts.{FrameParts, reply_parts, request_parts};
 ghost use Rattle.hart_commands.specs.Registers.{Contents, Overwrite, bytes_in, last_named, overwrite_of, overwritten, registers_of};
 ghost use Rattle.hart_commands.specs.declared.register.Register.{Register};
 ghost use Rattle.hart_commands.specs.declared.request.Request.{Request};
 ghost use Rattle.hart_commands.specs.declared.request.Request.TheVariants.{ResetChanged};
 ghost use Rattle.hart_device.specs.answer.Answer.{after_refusal, answer_of, code_of, effect_of, is_answered, reading_of, state_after};
 ghost use Rattle.hart_device.specs.answer.Delivery.{Brings, Brought};
-ghost use Rattle.hart_device.specs.answer.Garbled.{HasGarbled};
+ghost use Rattle.hart_device.specs.answer.Garbled.{HasGarbled, garbled_request};
 ghost use Rattle.hart_device.specs.declared.fault.DeviceFault.{DeviceFault};
 ghost use Rattle.hart_device.specs.declared.answer.garbled.GarbledRequest.{GarbledRequest};
 ghost use Rattle.hart_device.specs.declared.identity_parts.IdentityParts.{IdentityParts};
 ghost use Rattle.hart_device.specs.declared.process.Process.{Process};
 ghost use Rattle.hart_device.specs.Device.{DeviceState, Nothing, Executes, Resets, restarted};
+ghost use Rattle.hart_device.specs.Identity.{own_numbers};
 ghost use Rattle.hart_device.specs.image.Image.{IsImageOf, IsImageFault};
 
 use hart_commands::all_registers_are_listed_once;
@@ -155,3 +158,11 @@ pub fn images_have_one_state()
     all_registers_are_listed_once();
     packed_text_and_bytes_determine_each_other();
 }
+
+/// A whole request of a master to the device's own unique address has the form of a garbled one, with its master and its command and
+/// without a fault.
+pub fn whole_requests_have_the_form_of_garbled_ones()
+    ensures { (identity : IdentityParts) (master : MasterId) (command : ℕ) (payload body : List ℕ)
+        → IsBody (request_parts master (Unique (own_numbers identity)) command payload) body
+        → garbled_request identity (faultless body) ≡ Some (record { master = master; command = command; faults = 0 }) }
+{}

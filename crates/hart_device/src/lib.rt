@@ -47,7 +47,7 @@ pub use laws::{
     deliveries_bring_one, frames_leave_identity_and_protection, garbled_requests_are_decided,
     images_have_no_fault, images_have_one_state, overwrites_absorb,
     refused_commands_change_nothing, registers_of_lists, resets_name_this_counter,
-    writes_execute_their_overwrite,
+    whole_requests_have_the_form_of_garbled_ones, writes_execute_their_overwrite,
 };
 pub use process::{OutputValues, Process, ProcessVariable};
 pub use registers::RegisterStore;

@@ -2,5 +2,6 @@
 pub mod Effect
 pub mod ColdStart
 pub mod Garbled
+pub mod Form
 pub mod Delivery
 pub mod Faults
