@@ -2,4 +2,5 @@
 pub mod script
 pub mod line
 pub mod world
+pub mod Identity
 pub mod Laws

@@ -1,8 +1,14 @@
 //! Laws over the definitions alone, for the crates above.
-ghost use Rattle.std.specs.Prelude.{◌≡◌, ◌<◌, ◌^◌, List, ℕ};
+ghost use Rattle.std.specs.Prelude.{◌≡◌, ◌<◌, ◌^◌, List, ℕ, Some};
 ghost use Rattle.hart_values.specs.declared.address.Address.{Address};
+ghost use Rattle.hart_values.specs.declared.address.Address.TheVariants.{Unique};
 ghost use Rattle.hart_values.specs.declared.master_id.MasterId.{MasterId};
+ghost use Rattle.hart_commands.specs.declared.content.ReplyContent.TheVariants.{Identity};
+ghost use Rattle.hart_commands.specs.declared.reply.Reply.{Reply};
+ghost use Rattle.hart_device.specs.Identity.{AreIdentityParts, identity_content, own_numbers};
 ghost use Rattle.hart_device.specs.answer.Answer.{after_refusal};
+ghost use Rattle.hart_device.specs.declared.identity_parts.IdentityParts.{IdentityParts};
+ghost use Rattle.hart_master.specs.Unique.{unique_in};
 ghost use Rattle.hart_line.specs.script.Rows.{HasFirstBadLine, IsScript};
 ghost use Rattle.hart_line.specs.script.Words.{IsAddressWord, IsCommandWord, IsDataWord, IsWho};
 ghost use Rattle.hart_line.specs.world.Faults.{AreAllDetected, IsFault};
@@ -43,6 +49,13 @@ pub fn scripts_have_one_last_world()
     ensures one_fault { (start : Start) (events : List LineEvent) (number other : ℕ) (leg another : Leg)
         → IsFault start events (Undetected number leg) → IsFault start events (Undetected other another)
         → (number ≡ other) × (leg ≡ another) }
+{}
+
+/// The unique address that a master takes from a reply with code 0 and the identity of a device is the one at which this device is asked.
+pub fn identities_give_their_address()
+    ensures { (parts : IdentityParts) (counter extended_device_status : ℕ) (reply : Reply) → AreIdentityParts parts
+        → reply.code ≡ 0 → reply.content ≡ Identity (identity_content parts counter extended_device_status)
+        → unique_in reply ≡ Some (Unique (own_numbers parts)) }
 {}
 
 /// A turn in which the device refuses a command leaves the device as it was but for the cold start bit of the turn's master, which the

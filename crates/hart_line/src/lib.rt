@@ -39,8 +39,8 @@ pub use fault::{Leg, LineFault};
 pub use fault_text::FaultText;
 pub use filling::Filling;
 pub use laws::{
-    refused_turns_change_nothing, scripts_have_one_last_world, scripts_keep_their_promises,
-    texts_have_one_script, words_have_one_value,
+    identities_give_their_address, refused_turns_change_nothing, scripts_have_one_last_world,
+    scripts_keep_their_promises, texts_have_one_script, words_have_one_value,
 };
 pub use line::report::{Outcome, Outcomes, Party, Report, Spoken, SpokenList};
 pub use line::run::run;

@@ -1,0 +1,28 @@
+-- The address in the identity of a device.
+use Rattle.std.proofs.Common.{◌≡◌, ℕ, false, Some, arith}
+use Rattle.std.proofs.lemmas.Bool.Decides.{nat_tests}
+use Rattle.hart_values.specs.address.AddressBytes.{broadcast, is_broadcast}
+use Rattle.hart_values.specs.address.DeviceNumbers.{DeviceNumbers}
+use Rattle.hart_values.specs.declared.address.Address.TheVariants.{Unique}
+use Rattle.hart_commands.specs.declared.content.ReplyContent.TheVariants.{Identity}
+use Rattle.hart_commands.specs.declared.reply.Reply.{Reply}
+use Rattle.hart_device.specs.Identity.{AreIdentityParts, identity_content, own_numbers}
+use Rattle.hart_device.specs.declared.identity_parts.IdentityParts.{IdentityParts}
+use Rattle.hart_master.specs.Unique.{address_of, unique_in}
+
+-- an identity has the address of its device
+address_is : (parts : IdentityParts) (counter extended_device_status : ℕ)
+    → address_of (identity_content parts counter extended_device_status) ≡ Unique (own_numbers parts)
+address_is parts counter extended_device_status = grind arith
+
+-- the broadcast address alone is one
+not_broadcast : (numbers : DeviceNumbers) → (Unique numbers ≡ broadcast → ⊥) → is_broadcast (Unique numbers) ≡ false
+not_broadcast numbers other = grind (arith, nat_tests)
+
+pub identity_gives_address : (parts : IdentityParts) (counter extended_device_status : ℕ) (reply : Reply) → AreIdentityParts parts
+    → reply.code ≡ 0 → reply.content ≡ Identity (identity_content parts counter extended_device_status)
+    → unique_in reply ≡ Some (Unique (own_numbers parts))
+identity_gives_address parts counter extended_device_status reply are zero content =
+    let address = address_is parts counter extended_device_status in
+    let other = not_broadcast (own_numbers parts) are.own_address in
+    grind (arith, nat_tests)
