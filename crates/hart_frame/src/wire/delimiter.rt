@@ -20,6 +20,9 @@ const ACK: u8 = 0x06;
 /// The delimiter of a request at a unique address, without expansion bytes.
 pub const UNIQUE_REQUEST: u8 = 0x82;
 
+// The prover refuses another one.
+const _: () = prove!(UNIQUE_REQUEST == 0x82);
+
 /// The place of the command after that delimiter: an address of five bytes stands between.
 pub const UNIQUE_COMMAND_PLACE: usize = 6;
 
