@@ -1,14 +1,11 @@
--- The laws of bodies, of frames, of first starts, of damage and of the scanner, for the proofs of this crate and of those above.
-use Rattle.std.proofs.Common.{arith}
-use Rattle.std.proofs.Common.{◌≡◌, ◌≤◌, ◌⊎◌, ℕ, List, [], ◌∷◌, ◌++◌, length, refl, sym, ◌+◌, ◌<◌, IsTrue}
+-- The laws of bodies, of frames, of first starts and of damage, for the proofs of this crate and of those above.
+use Rattle.std.proofs.Common.{arith, ◌≡◌, ◌≤◌, ◌⊎◌, ℕ, List, [], ◌∷◌, ◌++◌, length, refl, sym}
 use Rattle.std.proofs.lemmas.List.{append-nil}
 use Rattle.hart_values.proofs.lemmas.Laws.{address_bytes_are_unambiguous-one_list, address_bytes_are_unambiguous-one_reading}
 use Rattle.hart_frame.specs.heard.Character.{Character, faultless}
 use Rattle.hart_frame.specs.heard.Damage.{IsCheckDamage, IsMarkedDamage}
 use Rattle.hart_frame.specs.heard.Frames.{AreFrames, IsFirst}
 use Rattle.hart_frame.specs.heard.Start.{HasNoStart, IsFirstStart}
-use Rattle.hart_frame.specs.scan.Scanner.{Gives, Scan}
-use Rattle.hart_frame.specs.scan.Streamed.{IsHistory, IsWholeHistory}
 use Rattle.hart_frame.specs.wire.Body.{BeginsWithBody, IsBody}
 use Rattle.hart_frame.specs.wire.FrameParts.{FrameParts}
 use Rattle.hart_frame.specs.wire.Message.{IsMessage}
@@ -18,8 +15,6 @@ use Rattle.hart_frame.proofs.lemmas.heard.FramesFound.{AreFrames-found}
 use Rattle.hart_frame.proofs.lemmas.heard.Message.{AreFrames-message, AreFrames-nothing}
 use Rattle.hart_frame.proofs.lemmas.heard.Start.{IsFirstStart-one, first_start_decided}
 use Rattle.hart_frame.proofs.lemmas.heard.UnambiguousFrames.{AreFrames-one, IsFirst-one}
-use Rattle.hart_frame.proofs.lemmas.scan.Stream.{history_all, history_first, history_length}
-use Rattle.hart_frame.proofs.lemmas.scan.Undecided.{gives_onward}
 use Rattle.hart_frame.proofs.lemmas.wire.UnambiguousBodies.{BeginsWithBody-one, IsBody-one, same_bodies}
 
 pub bodies_are_unambiguous-one_frame : (f g : FrameParts) (bytes : List ℕ) → IsBody f bytes → IsBody g bytes → f ≡ g
@@ -77,17 +72,3 @@ damaged_messages_have_no_other_frame-marked =
 pub damaged_messages_have_no_other_frame-check : (frame : FrameParts) (preambles : ℕ) (chars : List Character)
     → IsCheckDamage frame preambles chars → AreFrames chars 0 []
 damaged_messages_have_no_other_frame-check = AreFrames-check
-
-pub frames_are_streamed-so_far : (past more : List Character) (scan : Scan) (given frames : List Found) → IsHistory past scan given
-    → (IsTrue scan.finished → more ≡ []) → AreFrames (past ++ more) 0 frames → (later : List Found) × (frames ≡ given ++ later)
-frames_are_streamed-so_far = history_first frames_are_unambiguous-one_list
-
-pub frames_are_streamed-all : (past : List Character) (given : List Found) → IsWholeHistory past given → AreFrames past 0 given
-frames_are_streamed-all = history_all
-
-pub frames_are_streamed-pushed : (past : List Character) (scan : Scan) (given : List Found) → IsHistory past scan given
-    → scan.first + length scan.held ≡ length past
-frames_are_streamed-pushed = history_length
-
-pub held_frames_are_given-onward : (old new : Scan) (found : Found) → Gives old new found → length new.held < length old.held
-held_frames_are_given-onward = gives_onward
