@@ -4,11 +4,8 @@ use Rattle.std.proofs.lemmas.List.{length-map}
 use Rattle.hart_frame.specs.heard.Character.{faultless}
 use Rattle.hart_frame.specs.scan.Buffer.{scan_of}
 use Rattle.hart_frame.proofs.lemmas.scan.Buffer.{drained_is}
-use Rattle.hart_frame.proofs.lemmas.scan.Chunk.{hearing_on, hearing_start, hears_all, hears_until, rest_heard, room_left}
+use Rattle.hart_frame.proofs.lemmas.scan.Chunk.{hearing_on, hears_all, hears_until, rest_heard, room_left}
 use Rattle.hart_frame.proofs.scan.buffer.Buffer.push_bytes.Goals as goal
-
-pub loop-taken-init : goal.loop-taken-init
-loop-taken-init c = hearing_start c.args.self.now (faultless c.args.chunk.now) c.requires.sound c.requires.drained
 
 pub push_part-taken-requires-clause-room : goal.push_part-taken-requires-clause-room
 push_part-taken-requires-clause-room c = grind (arith, room_left, length-map)

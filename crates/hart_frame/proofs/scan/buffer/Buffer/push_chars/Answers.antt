@@ -1,11 +1,8 @@
 use Rattle.std.proofs.Common.{sym, refl, ◌∙◌, arith}
 use Rattle.std.proofs.lemmas.Bool.{false≢true}
 use Rattle.hart_frame.proofs.lemmas.scan.Buffer.{drained_is}
-use Rattle.hart_frame.proofs.lemmas.scan.Chunk.{hearing_on, hearing_start, hears_all, hears_until, room_left}
+use Rattle.hart_frame.proofs.lemmas.scan.Chunk.{hearing_on, hears_all, hears_until, room_left}
 use Rattle.hart_frame.proofs.scan.buffer.Buffer.push_chars.Goals as goal
-
-pub loop-taken-init : goal.loop-taken-init
-loop-taken-init c = hearing_start c.args.self.now c.args.chunk.now c.requires.sound c.requires.drained
 
 pub push_stretch-taken-requires-clause-room : goal.push_stretch-taken-requires-clause-room
 push_stretch-taken-requires-clause-room c =

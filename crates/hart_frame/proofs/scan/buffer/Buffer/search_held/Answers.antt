@@ -18,9 +18,6 @@ none_is : (layout : Option Layout) → is_some layout ≡ false → layout ≡ N
 none_is None is = refl
 none_is (Some layout) is = absurd cc
 
-pub loop-found-init : goal.loop-found-init
-loop-found-init c = grind (arith, in_held)
-
 pub loop-found-preserved : goal.loop-found-preserved
 loop-found-preserved c = grind (arith, looked_on, none_is, not, in_held)
 

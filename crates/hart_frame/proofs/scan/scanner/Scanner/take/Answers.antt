@@ -1,4 +1,3 @@
-use Rattle.std.proofs.Common.{arith}
 use Rattle.std.proofs.Common.{◌≡◌, ℕ, refl, sym, ap, subst, ◌∙◌}
 use Rattle.hart_frame.specs.scan.Scanner.{Scan, Gives}
 use Rattle.hart_frame.specs.scan.Buffer.{scan_of}
@@ -18,6 +17,3 @@ returns c =
     let Of : Found → Type 0 = λ found. Gives (scan_of c.self.inside.buffer) (scan_of c.next.new.self) found in
     let Old : Scan → Type 0 = λ old. Gives old (scan_of c.next.new.self) (found_of view) in
     ((refl, (λ _. tt), subst Old c.self.view_is (subst Of same gives)), record { after = tt })
-
-pub returns-in_err-span : goal.returns-in_err-span
-returns-in_err-span c = grind arith
