@@ -120,8 +120,7 @@ delimiter_at left body chars is at =
     let sent : List ℕ = replicate left 255 in
     let long : length sent ≡ left = length-replicate left 255 in
     let place : left ≡ length sent + 0 = omega (arith, long) in
-    let here : get_or (sent ++ body) left 0 ≡ get_or body 0 0 =
-    ap (λ (n : ℕ). get_or (sent ++ body) n 0) place ∙ get_or-append-add sent body 0 0 in
+    let here : get_or (sent ++ body) left 0 ≡ get_or body 0 0 = grind (arith, get_or-append-add) in
     is.delimiter (sym here ∙ clear_at (sent ++ body) chars left 255 is.heard
     (omega (arith, long, length-append sent body, is.some)) at)
 
@@ -179,8 +178,7 @@ begins_body left body chars found from is stands =
     let rest : List Character = faultless stands.body ++ stands.rest in
     let prefix_len : length (stands.prefix ++ pair) ≡ left =
     omega (arith, length-append stands.prefix pair, start_is left body chars found from is stands) in
-    let heard : AreHeardOrMarked body (drop left chars) =
-    subst (λ n. AreHeardOrMarked body (drop n chars)) (length-replicate left 255) (heard-drop (replicate left 255) body chars is.heard) in
+    let heard : AreHeardOrMarked body (drop left chars) = grind (arith, length-replicate, heard-drop) in
     let after : drop left chars ≡ rest =
     ap (drop left) (parts chars found from stands ∙ sym (append_assoc stands.prefix pair rest))
     ∙ drop_at (stands.prefix ++ pair) rest left prefix_len in

@@ -108,17 +108,7 @@ two_left : OneBody → (row : List ℕ) → length row ≡ 7 → (damage : IsChe
 two_left one_body row seven damage =
     let prefix : List ℕ = replicate damage.left 255 in
     let same : row ≡ prefix ++ damage.bytes = faultless-one row (prefix ++ damage.bytes) damage.heard in
-    let prefix_len : length prefix ≡ damage.left = length-replicate damage.left 255 in
-    let body = one_body identity_request damage.body request_body damage.is_body request_is in
-    omega (
-      arith,
-      seven,
-      prefix_len,
-      ap length same,
-      length-append prefix damage.bytes,
-      damage.replaces.same_length,
-      ap length body,
-    )
+    grind (arith, length-replicate, request_is, length-append)
 
 pub request_is_not_check : OneBody → IsCheckDamage identity_request 5 other_request → ⊥
 request_is_not_check one_body damage =

@@ -1,5 +1,5 @@
 -- Every list of characters has its frames.
-use Rattle.std.proofs.Common.{◌≡◌, ℕ, zero, suc, ◌+◌, ◌<◌, ◌≤◌, ◌⊎◌, inl, inr, List, [], ◌∷◌, length, take, drop, refl, sym, ap}
+use Rattle.std.proofs.Common.{◌≡◌, ℕ, zero, suc, ◌+◌, ◌<◌, ◌≤◌, ◌⊎◌, inl, inr, List, [], ◌∷◌, length, take, drop, refl, ap}
 use Rattle.std.proofs.Common.{◌∙◌, arith, subst}
 use Rattle.std.proofs.lemmas.List.{take-append-drop, take-map, take_rest, length-take-le}
 use Rattle.hart_frame.specs.wire.FrameParts.{FrameParts}
@@ -106,8 +106,7 @@ here_heard chars x y rest place within is first second ahead =
     let after = take_rest (x ∷ y ∷ rest) 2 in
     record {
       found = record { start = place + 2; stop = place + 2 + ahead.len; frame = ahead.frame };
-      stands = StandsIn-heard chars (x ∷ y ∷ rest) place x y ahead.frame ahead.len within is (omega arith) refl refl first second
-          (subst Heard (sym after) ahead.begins);
+      stands = grind (arith, StandsIn-heard);
       start = refl;
     }
 

@@ -69,19 +69,7 @@ stands_in f preambles more bytes two message =
     message.parts ∙ ap (λ (n : ℕ). replicate n 255 ++ message.body) two
     ∙ ap (λ (xs : List ℕ). xs ++ message.body) (sym (replicate-append-replicate more 2 255))
     ∙ append_assoc prefix (255 ∷ 255 ∷ []) message.body in
-    let prefix_len : length (faultless prefix) ≡ more = length-map prefix character_of ∙ length-replicate more 255 in
-    let len : length bytes ≡ more + 2 + length message.body =
-    ap length whole ∙ length-append prefix marked ∙ (let long = length-replicate {A = ℕ} more 255 in omega (arith, long)) in
-    record {
-      prefix = faultless prefix;
-      body = message.body;
-      rest = [];
-      split = ap faultless whole ∙ map-append character_of prefix marked ∙ sym (append-nil (faultless prefix ++ faultless marked));
-      is_body = message.is_body;
-      after = omega arith;
-      start = omega (arith, two, prefix_len);
-      stop = omega (arith, len, prefix_len);
-    }
+    grind (arith, length-map, length-replicate, length-append, map-append, append-nil)
 
 pub AreFrames-message : (f : FrameParts) (preambles : ℕ) (bytes : List ℕ) → 2 ≤ preambles → IsMessage f preambles bytes
     → AreFrames (faultless bytes) 0 (found_in f preambles bytes ∷ [])

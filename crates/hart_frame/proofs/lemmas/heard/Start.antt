@@ -23,8 +23,7 @@ starts_at chars place d is =
     let others : List Character = preamble ∷ preamble ∷ is.first ∷ is.rest in
     let whole : chars ≡ is.prefix ++ others = is.split ∙ append_assoc is.prefix (preamble ∷ preamble ∷ []) (is.first ∷ is.rest) in
     let all = ap length whole ∙ length-append is.prefix others in
-    let reads : (n : ℕ) → get_or chars (length is.prefix + n) d ≡ get_or others n d =
-    λ n. ap (λ (xs : List Character). get_or xs (length is.prefix + n) d) whole ∙ get_or-append-add is.prefix others n d in
+    let reads : (n : ℕ) → get_or chars (length is.prefix + n) d ≡ get_or others n d = grind (arith, get_or-append-add) in
     let at : ℕ → Character = λ n. get_or chars n d in
     let first : at place ≡ is.first = ap at is.place_is ∙ reads 2 in
     record {
@@ -40,10 +39,8 @@ is_start_from chars place d at =
     let k : ℕ = place - 2 in
     let before = length-take-le k chars (omega (arith, at.after_two, at.within)) in
     let Suffix : List Character → Type 0 = λ xs. chars ≡ take k chars ++ xs in
-    let second : get_or chars (suc k) d ≡ preamble =
-    ap (λ n. get_or chars n d) (let e : suc k ≡ place - 1 = omega (arith, at.after_two) in e) ∙ at.two in
-    let third : get_or chars (suc (suc k)) d ≡ get_or chars place d =
-    ap (λ n. get_or chars n d) (let e : suc (suc k) ≡ place = omega (arith, at.after_two) in e) in
+    let second : get_or chars (suc k) d ≡ preamble = grind arith in
+    let third : get_or chars (suc (suc k)) d ≡ get_or chars place d = grind arith in
     let last : List Character = drop (suc (suc (suc k))) chars in
     let dropped : drop k chars ≡ preamble ∷ preamble ∷ get_or chars place d ∷ last =
     grind (arith, drop-cons, preamble) in

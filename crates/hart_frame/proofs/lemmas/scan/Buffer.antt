@@ -37,9 +37,7 @@ held_clear b clear =
 
 -- what a waiting buffer holds is undecided
 pub undecided_waiting : (b : Buffer) → IsWaiting b → IsUndecided (scan_of b).held
-undecided_waiting b waiting =
-    let Undecided : List Character → Type 0 = λ cs. IsUndecided cs in
-    subst Undecided (sym (held_clear b waiting.clear)) (undecided_open (held_bytes b) waiting.may)
+undecided_waiting b waiting = search (arith, held_clear, undecided_open)
 
 -- so nothing is given
 pub waits : (b : Buffer) (new : Scan) → IsWaiting b → new ≡ record (scan_of b) { drained = true } → Waits (scan_of b) new

@@ -1,7 +1,6 @@
 -- What is known of bytes by how they begin.
 use Rattle.std.proofs.Common.{◌≡◌, ◌≢◌, ℕ, zero, suc, ◌+◌, ◌<◌, ◌≤◌, ◌⊎◌, inl, inr, List, [], ◌∷◌, ◌++◌, length, take, drop, get_or, refl}
-use Rattle.std.proofs.Common.{sym}
-use Rattle.std.proofs.Common.{ap, ◌∙◌, arith, subst, append_assoc, length-append}
+use Rattle.std.proofs.Common.{sym, ap, ◌∙◌, arith, subst, append_assoc, length-append}
 use Rattle.std.proofs.lemmas.List.{append-nil, length-map, map-append, take-append-le, take-map, take_at, get_or_at, get_or-take}
 use Rattle.std.proofs.lemmas.List.{get_or_append_left, get_or-map, length-take, length-take-le, take-append-drop, take_all}
 use Rattle.std.proofs.lemmas.List.Elements.{All-from_get_or}
@@ -33,8 +32,7 @@ bytes_of_append xs tail = grind (arith, map-append, bytes_of-faultless)
 nothing_never_body : (xs : List ℕ) (tail : List Character) → NeverBecomeBody xs → (f : FrameParts) (body : List ℕ)
     (rest : List Character) → IsBody f body → faultless xs ++ tail ≡ faultless body ++ rest → ⊥
 nothing_never_body xs tail is f body rest is_body same =
-    let heard : BeginsWithHeard (faultless xs ++ tail) f (length body) =
-    record { body = body; rest = rest; split = same; is_body = is_body; whole = refl } in
+    let heard : BeginsWithHeard (faultless xs ++ tail) f (length body) = grind arith in
     let begins = BeginsWithBody-heard (faultless xs ++ tail) f (length body) heard in
     let Begins : List ℕ → Type 0 = λ ys. BeginsWithBody ys f (length body) in
     not_refused (xs ++ bytes_of tail) f (length body) is.fault (subst Begins (bytes_of_append xs tail) begins)
@@ -66,8 +64,7 @@ never_after x y xs never more f body rest is same =
 pub never_more : (xs ys : List ℕ) → NeverBegin xs → NeverBegin (xs ++ ys)
 never_more xs ys never more =
     let make = λ (byte : ℕ). let c : Character = record { byte = byte; faults = 0 } in c in
-    let parts : faultless xs ++ (faultless ys ++ more) ≡ faultless (xs ++ ys) ++ more =
-    sym (append_assoc (faultless xs) (faultless ys) more) ∙ ap (λ (cs : List Character). cs ++ more) (sym (map-append make xs ys)) in
+    let parts : faultless xs ++ (faultless ys ++ more) ≡ faultless (xs ++ ys) ++ more = grind (arith, append_assoc, map-append) in
     let None : List Character → Type 0 = λ cs. BeginWithNone cs in
     subst None parts (never (faultless ys ++ more))
 
@@ -98,9 +95,7 @@ nothing_long xs tail ends body rest longer same =
     let body_long : length (faultless body) ≡ length body = length-map body make in
     let lengths = ap length same in
     elim ends [
-      | inl nothing ↦
-          let short = ap length nothing in
-          omega (arith, lengths, length-append (faultless xs) tail, length-append (faultless body) rest, long, body_long, longer, short)
+      | inl nothing ↦ grind (arith, length-append)
       | inr (c, cs, is, faulty) ↦
           grind (
             arith,

@@ -213,10 +213,7 @@ part_heard old new chunk part n count is within some hears =
 -- of bytes as of their characters
 pub bytes_heard : (old new : Scan) (chunk : List ℕ) (n count : ℕ) → n ≤ length chunk → 0 < n
     → Hears old new (faultless (take n chunk)) count → HearsPart old new (faultless chunk) count
-bytes_heard old new chunk n count within some hears =
-    let make = λ (byte : ℕ). let c : Character = record { byte = byte; faults = 0 } in c in
-    part_heard old new (faultless chunk) (faultless (take n chunk)) n count (sym (take-map make n chunk))
-    (omega (arith, within, length-map chunk make)) some hears
+bytes_heard old new chunk n count within some hears = search (arith, part_heard, take-map, length-map)
 
 -- and the rest of it is the rest of its characters
 pub rest_heard : (old new : Scan) (chunk : List ℕ) (n count : ℕ) → HearsPart old new (faultless (slice_range chunk n (length chunk))) count

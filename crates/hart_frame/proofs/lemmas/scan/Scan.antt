@@ -19,16 +19,7 @@ skip_one chars from nothing found stands =
     let within = StandsIn-within found chars from stands in
     let later = start-later found chars from from stands within.after
     (λ here start. nothing found.frame here.body here.rest here.is_body (StandsIn-at chars from from found here start)) in
-    record {
-      prefix = stands.prefix;
-      body = stands.body;
-      rest = stands.rest;
-      split = stands.split;
-      is_body = stands.is_body;
-      after = omega (arith, later, stands.start);
-      start = stands.start;
-      stop = stands.stop;
-    }
+    grind arith
 
 -- and the frames from there on are those from here on
 pub AreFrames-earlier : (chars : List Character) (from to : ℕ) (frames : List Found) → from ≤ to

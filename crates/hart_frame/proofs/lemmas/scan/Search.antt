@@ -1,7 +1,6 @@
 -- What is known of bytes while they are searched, and of a search that is joined of two.
 use Rattle.std.proofs.Common.{Some, None, ◌≡◌, ◌≢◌, ℕ, zero, suc, ◌+◌, ◌-◌, ◌<◌, ◌≤◌, ◌⊎◌, inl, inr, List, [], ◌∷◌, ◌++◌, length, take}
-use Rattle.std.proofs.Common.{drop, get_or, refl, sym}
-use Rattle.std.proofs.Common.{ap, ◌∙◌, max, arith, subst, append_assoc, length-append, length-drop}
+use Rattle.std.proofs.Common.{drop, get_or, refl, sym, ap, ◌∙◌, max, arith, subst, append_assoc, length-append, length-drop}
 use Rattle.std.specs.List.{All}
 use Rattle.std.proofs.lemmas.List.{drop-append-le, drop-take, drop_all, drop_more, get_or-drop, get_or-take, length-take-le, take_rest}
 use Rattle.std.proofs.Math.Seq.{take-add, take-append-add, take-length}
@@ -171,8 +170,7 @@ searching_run xs from seen place decided zero searching order within passed = re
 searching_run xs from seen place decided (suc count) searching order within passed =
     let there : place + 1 + count ≡ place + suc count = omega arith in
     let Passed : ℕ → Type 0 = λ n. HasPassed xs from seen n decided in
-    let later : (here : ℕ) → place + 1 ≤ here → here < place + 1 + count → (get_or xs here 0 ≢ 255) ⊎ HasThree xs here =
-    λ here since below. passed here (omega (arith, since)) (omega (arith, below)) in
+    let later : (here : ℕ) → place + 1 ≤ here → here < place + 1 + count → (get_or xs here 0 ≢ 255) ⊎ HasThree xs here = grind arith in
     elim (passed place (omega arith) (omega arith)) [
       | inl other ↦
           let others : (here : ℕ) → place ≤ here → here < place + 1 → get_or xs here 0 ≢ 255 = grind arith in
@@ -195,9 +193,7 @@ pub searching_next : (xs : List ℕ) (from seen place decided start : ℕ) → I
     → IsNextCandidate xs place start → HasPassed xs from seen start decided
 searching_next xs from seen place decided start searching order next =
     let there : place + (start - place) ≡ start = omega (arith, next.after) in
-    let Passed : ℕ → Type 0 = λ n. HasPassed xs from seen n decided in
-    subst Passed there (searching_run xs from seen place decided (start - place) searching order (omega (arith, there, next.within))
-    (λ here since below. next.passed here since (omega (arith, below, there))))
+    grind (arith, searching_run)
 
 -- what ends too early ends too early if it ends earlier
 truncated_take : (xs : List ℕ) (n : ℕ) → n ≤ length xs → IsTruncated xs → IsTruncated (take n xs)
@@ -292,10 +288,7 @@ searched_stands xs from seen place decided more layout searching order whole may
                 still_open xs from seen place decided fewer searching not (omega (arith, early, fits)) (omega (arith, order, late))
                 (λ reached. grind arith)
           ];
-      stands =
-          let Of : List ℕ → Type 0 = λ ys. IsWhole layout ys in
-          subst Of (sym (drop_take xs place more (omega (arith, above))))
-          (whole_take layout (drop place xs) (more - place) whole (omega (arith, above)) (omega (arith, fits, room)));
+      stands = grind (arith, drop_take, whole_take);
     }
 
 -- what is read in the rest of a list is read in the list

@@ -1,6 +1,5 @@
 -- The frames given since a scanner was new are the first of what was pushed, and all of them after the finish.
-use Rattle.std.proofs.Common.{◌≡◌, ◌+◌, false, IsTrue, List, [], ◌∷◌, ◌++◌, length, refl, subst, append_assoc, arith}
-use Rattle.std.proofs.Common.{length-append}
+use Rattle.std.proofs.Common.{◌≡◌, ◌+◌, false, IsTrue, List, [], ◌∷◌, ◌++◌, length, refl, append_assoc, arith, length-append}
 use Rattle.std.proofs.lemmas.List.{append-nil}
 use Rattle.hart_frame.specs.heard.Character.{Character, faultless}
 use Rattle.hart_frame.specs.heard.Frames.{AreFrames}
@@ -73,7 +72,4 @@ history_all past given whole =
     let hears = is.hears [] (λ _. refl) in
     let none : AreFrames (past ++ []) last.first [] =
     AreFrames.none last.first (λ found stands. whole.ended.none _ (stands_held last (past ++ []) found hears stands)) in
-    let frames = is.frames [] [] (λ _. refl) none in
-    let Of : List Character → Type 0 = λ cs. AreFrames cs 0 (given ++ []) in
-    let Whole : List Found → Type 0 = λ fs. AreFrames past 0 fs in
-    subst Whole (append-nil given) (subst Of (append-nil past) frames)
+    grind (arith, append-nil)

@@ -191,6 +191,4 @@ pub gives_onward : (old new : Scan) (found : Found) → Gives old new found → 
 gives_onward old new found gives =
     let later = AreFrames-found (sample old) new.first in
     let frames = gives.moves.frames [] (sample old) later.0 (hears_sample old) later.1 in
-    let stands = (head_first (sample old) old.first (found ∷ later.0) frames found later.0 refl).stands in
-    let within = StandsIn-within found (sample old) old.first stands in
-    omega (arith, within.after, within.some, gives.stop, moves_length old new (found ∷ []) gives.moves)
+    grind (arith, head_first, StandsIn-within, moves_length)

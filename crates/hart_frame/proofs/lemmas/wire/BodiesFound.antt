@@ -1,6 +1,6 @@
 -- Whether bytes begin with a body is decided.
 use Rattle.std.proofs.Common.{◌≡◌, ℕ, zero, suc, fold, bit_xor, ◌+◌, ◌-◌, ◌*◌, ◌/◌, ◌%◌, ◌<◌, ◌≤◌, ◌⊎◌, inl, inr, Bool}
-use Rattle.std.proofs.Common.{List, [], ◌∷◌, length, take, get_or, refl, sym, ap, ◌∙◌, arith, subst}
+use Rattle.std.proofs.Common.{List, [], ◌∷◌, length, take, get_or, refl, ap, ◌∙◌, arith, subst}
 use Rattle.std.specs.List.{All, slice_range}
 use Rattle.hart_values.specs.address.AddressBytes.{IsAddressBytes, first_byte}
 use Rattle.hart_values.specs.declared.master_id.MasterId.{MasterId}
@@ -35,10 +35,7 @@ first_byte_read : (byte : ℕ) → byte < 256 → FirstByte byte
 first_byte_read byte below =
     let top : (byte < 128) ⊎ (128 ≤ byte) = grind arith in
     let next : (byte % 128 < 64) ⊎ (64 ≤ byte % 128) = grind arith in
-    elim top [
-      | inl low ↦ grind arith
-      | inr high ↦ grind arith
-    ]
+    grind arith
 
 -- one byte, or five, hold an address
 pub record HeldAddress (bytes : List ℕ) : Type 0 where
@@ -166,11 +163,7 @@ even_body bytes len is whole fit check =
     let long = length-take-le len bytes (omega (arith, is, whole.1)) in
     let fits : Fit bytes (body_length bytes) = grind (arith, All-get_or, get_or-take) in
     let held = held_frame bytes fits whole in
-    let IsPart : ℕ → Type 0 = λ n. IsCheckedPart held.frame (take (n - 1) bytes) in (
-      held.frame,
-      BeginsWithBody-prefix bytes held.frame len (omega (arith, is)) (omega (arith, is, whole.1)) fit (subst IsPart (sym is) held.part)
-          check,
-    )
+    grind (arith, BeginsWithBody-prefix)
 
 -- if the bytes fit up to the check byte, it decides
 checked : (bytes : List ℕ) → HasCheckByte bytes → Fit bytes (body_length bytes) → BodyAhead bytes ⊎ HasNoBody bytes

@@ -7,8 +7,7 @@ use Rattle.std.proofs.lemmas.List.{drop-drop, drop_more, length-take-le}
 use Rattle.hart_values.specs.address.AddressBytes.{IsAddressBytes}
 use Rattle.hart_frame.specs.declared.wire.layout.Layout.{Layout}
 use Rattle.hart_frame.specs.wire.FrameParts.{FrameParts, IsLongEnough}
-use Rattle.hart_frame.specs.wire.Delimiter.{delimiter_of, kind_code}
-use Rattle.hart_frame.specs.wire.Layout.{Describes, delimiter_in, body_length}
+use Rattle.hart_frame.specs.wire.Layout.{Describes, body_length}
 use Rattle.hart_frame.specs.wire.Refusal.{HasCheckByte, IsDelimiter}
 use Rattle.hart_frame.specs.wire.Body.{IsCheckedPart}
 use Rattle.hart_frame.proofs.lemmas.wire.UnambiguousBodies.{length-address}
@@ -74,21 +73,4 @@ IsCheckedPart-in bytes layout frame describes whole stands =
     ap length stands.payload ∙ length-slice_range bytes (j + 2) (j + 2 + n) (omega arith) (omega arith) ∙ omega arith in
     let address_len = length-address _ _ _ _ stands.address in
     let range_len = length-slice_range bytes 1 i (omega (arith, describes.address)) (omega (arith, describes.address, describes.command)) in
-    let kind : kind_code frame.kind ≡ delimiter_in bytes % 8 = ap kind_code stands.kind ∙ describes.kind in
-    let whole_delimiter = delimiter-parts (delimiter_in bytes) whole.0.0.0.1 in
-    let delimiter : get_or bytes 0 0 ≡ delimiter_of frame =
-    omega (arith, whole_delimiter, kind, expansion_len, address_len, range_len, describes.address, describes.command) in
-    let count : get_or bytes (j + 1) 0 ≡ length frame.payload =
-    ap (λ (place : ℕ). get_or bytes (place + 1) 0) describes.command ∙ sym describes.count ∙ sym payload_len in
-    let prefix : body_length bytes - 1 ≡ j + 2 + n = omega (arith, describes.command, describes.count) in
-    let parts =
-    cut bytes i j (j + 2 + n) (omega (arith, describes.address)) (omega (arith, describes.address, describes.command)) (omega arith)
-    (omega arith) in
-    record {
-      address = slice_range bytes 1 i;
-      address_bytes = stands.address;
-      parts = ap (λ (k : ℕ). take k bytes) prefix ∙ parts
-          ∙ joined (slice_range bytes 1 i) delimiter (sym stands.expansion) (sym stands.command) count (sym stands.payload);
-      expansion_fits = omega (arith, expansion_len, describes.address, describes.command);
-      payload_fits = stands.payload_fits;
-    }
+    grind (arith, delimiter-parts, cut, joined)

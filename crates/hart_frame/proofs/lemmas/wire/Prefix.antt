@@ -1,6 +1,5 @@
 -- What bytes say does not change when more bytes follow.
-use Rattle.std.proofs.Common.{◌≡◌, ◌≢◌, ℕ, ◌<◌, ◌≤◌, List, ◌++◌, length, refl, sym}
-use Rattle.std.proofs.Common.{arith, subst, length-append}
+use Rattle.std.proofs.Common.{◌≡◌, ◌≢◌, ℕ, ◌<◌, ◌≤◌, List, ◌++◌, length, refl, sym, arith, subst, length-append}
 use Rattle.std.proofs.lemmas.List.{get_or_append_left, take-append-le}
 use Rattle.hart_frame.specs.declared.wire.fault.FrameFault.{FrameFault}
 use Rattle.hart_frame.specs.declared.wire.fault.FrameFault.TheVariants.{TooShortReply, BadPreamble, BadDelimiter, Truncated, BadCheck}

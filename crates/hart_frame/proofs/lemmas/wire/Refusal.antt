@@ -55,14 +55,7 @@ says bytes f len begins =
     ap (λ (xs : List ℕ). get_or xs (byte_count_place bytes) 0) regrouped
     ∙ get_or_at prefix (length f.payload) _ 0 (byte_count_place bytes) prefix_len in
     let taken_len : length (take len bytes) ≡ len = length-take-le len bytes begins.within in
-    let body_len = ap length begins.body.parts ∙ length-append begins.body.checked (begins.body.check ∷ []) in
-    record {
-      delimiter = delimiter;
-      place = place;
-      count = count;
-      whole = omega (arith, taken_len, body_len, length-checked f begins.body.checked part, place, count);
-      within = begins.within;
-    }
+    grind (arith, length-append, length-checked)
 
 -- a reply has its two status bytes
 not_short : (kind : FrameKind) (payload : List ℕ) → IsLongEnough kind payload → length payload < 2 → kind_code kind ≡ 6 → ⊥
@@ -87,7 +80,5 @@ pub only : ((f g : FrameParts) (bytes : List ℕ) (m n : ℕ) → BeginsWithBody
     → (f : FrameParts) (len : ℕ) → BeginsWithBody bytes f len → result ≡ Ok (f, len)
 only law bytes (Ok found) accepts refused f len begins =
     let same = law found.0 f bytes found.1 len accepts begins in
-    let of : FrameParts → ℕ → Result (FrameParts × ℕ) FrameFault = λ g n. Ok (g, n) in
-    let all : of found.0 found.1 ≡ of f len = cc in
-    all
+    grind arith
 only law bytes (Err fault) accepts refused f len begins = absurd (not_refused bytes f len fault begins refused)

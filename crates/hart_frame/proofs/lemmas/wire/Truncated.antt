@@ -1,6 +1,6 @@
 -- Bytes that end too early are those that can become a body.
 use Rattle.std.proofs.Common.{◌≡◌, ℕ, fold, bit_xor, ◌+◌, ◌-◌, ◌%◌, ◌<◌, ◌≤◌, ◌⊎◌, inl, inr, List, [], ◌∷◌, ◌++◌, length, take, get_or}
-use Rattle.std.proofs.Common.{replicate, refl, sym, ap, ◌∙◌, arith, append_assoc, length-append, subst}
+use Rattle.std.proofs.Common.{replicate, refl, sym, ◌∙◌, arith, append_assoc, length-append, subst}
 use Rattle.std.specs.List.{All}
 use Rattle.std.proofs.lemmas.List.{take_at, take_all, take-append-le, get_or_at, get_or_past, length-replicate}
 use Rattle.std.proofs.lemmas.List.Elements.{All-append, All-replicate, All-push, All-get_or}
@@ -45,8 +45,7 @@ CanBecomeBody-last bytes fit good last =
     let all_fit : AreBytes whole = All-push (λ byte. byte < 256) bytes check fit is.byte in
     let fits : Fit whole (body_length whole) = λ k below. fits_at whole all_fit k in
     let held = held_frame whole fits (HasGoodByteCount-more bytes (check ∷ []) good, omega (arith, len)) in
-    let prefix : take (body_length whole - 1) whole ≡ bytes =
-    take_at bytes (check ∷ []) (body_length whole - 1) (omega (arith, len, long)) in
+    let prefix : take (body_length whole - 1) whole ≡ bytes = grind (arith, take_at) in
     let Checked : List ℕ → Type 0 = λ xs. IsCheckedPart held.frame xs in
     let body = IsBody-push held.frame bytes check (subst Checked prefix held.part) fit is in
     let Is : List ℕ → Type 0 = λ xs. IsBody held.frame xs in
@@ -66,8 +65,7 @@ CanBecomeBody-counted bytes fit good short =
     let some : 0 < length bytes = good.0.0.0 in
     let place = count_place_more bytes zeros some in
     let count = count_more bytes zeros good.0.1 in
-    let long : length (bytes ++ zeros) ≡ length bytes + missing =
-    length-append bytes zeros ∙ ap (λ (n : ℕ). length bytes + n) (length-replicate missing 0) in
+    let long : length (bytes ++ zeros) ≡ length bytes + missing = grind (arith, length-append, length-replicate) in
     let fits = All-append (λ byte. byte < 256) bytes zeros fit (All-replicate (λ byte. byte < 256) missing 0 (omega arith)) in
     CanBecomeBody-prefix bytes zeros (
     CanBecomeBody-last (bytes ++ zeros) fits (HasGoodByteCount-more bytes zeros good) (omega (arith, place, count, long, short))
@@ -81,17 +79,14 @@ CanBecomeBody-begun bytes fit has short =
     let zeros : List ℕ = replicate missing 0 in
     let prefix : List ℕ = bytes ++ zeros in
     let whole : List ℕ = prefix ++ 2 ∷ [] in
-    let prefix_long : length prefix ≡ byte_count_place bytes =
-    length-append bytes zeros ∙ (let zeros_long = length-replicate {A = ℕ} missing 0 in omega (arith, zeros_long, short)) in
+    let prefix_long : length prefix ≡ byte_count_place bytes = grind (arith, length-append, length-replicate) in
     let some : 0 < length prefix = omega (arith, prefix_long, has.0, short) in
     let long = length-append prefix (2 ∷ []) in
     let delimiter = delimiter_more prefix (2 ∷ []) some ∙ delimiter_more bytes zeros has.0 in
-    let place : byte_count_place whole ≡ byte_count_place bytes =
-    count_place_more prefix (2 ∷ []) some ∙ count_place_more bytes zeros has.0 in
+    let place : byte_count_place whole ≡ byte_count_place bytes = grind (arith, count_place_more) in
     let count : byte_count_in whole ≡ 2 = get_or_at prefix 2 [] 0 (byte_count_place whole) (prefix_long ∙ sym place) in
     let is : IsDelimiter (delimiter_in whole) = subst IsDelimiter (sym delimiter) has.1 in
-    let good : HasGoodByteCount whole =
-    (((omega (arith, long), is), omega (arith, long, place, prefix_long)), inr (omega (arith, count))) in
+    let good : HasGoodByteCount whole = grind arith in
     let prefix_fits = All-append (λ byte. byte < 256) bytes zeros fit (All-replicate (λ byte. byte < 256) missing 0 (omega arith)) in
     let fits : AreBytes whole = All-push (λ byte. byte < 256) prefix 2 prefix_fits (omega arith) in
     CanBecomeBody-prefix bytes zeros (
