@@ -6,8 +6,7 @@ use Rattle.hart_frame.proofs.lemmas.scan.Candidate.{after_never, after_whole, se
 use Rattle.hart_frame.proofs.scan.candidate.candidate_in.Goals as goal
 
 pub returns-then-bytes-clause-candidate : goal.returns-then-bytes-clause-candidate
-returns-then-bytes-clause-candidate c =
-    second_never c.args.bytes.now (omega (arith, c.requires.some, c.if-bytes-eq1.false)) c.requires.preamble c.if-bytes.true
+returns-then-bytes-clause-candidate c = grind (arith, second_never)
 
 pub returns-in-Never-clause-candidate : goal.returns-in-Never-clause-candidate
 returns-in-Never-clause-candidate c =

@@ -1,5 +1,4 @@
-use Rattle.std.proofs.Common.{arith}
-use Rattle.std.proofs.Common.{sym, ◌∙◌}
+use Rattle.std.proofs.Common.{arith, sym, ◌∙◌}
 use Rattle.hart_frame.proofs.lemmas.Laws.{every_list_has_frames, frames_are_unambiguous-one_list}
 use Rattle.hart_frame.proofs.lemmas.heard.Delivery.{no_frame, one_frame, only_said, second_none, second_some, several_frames}
 use Rattle.hart_frame.proofs.scan.first.lone_frame.Goals as goal

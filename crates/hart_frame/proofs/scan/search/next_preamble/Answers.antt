@@ -1,4 +1,4 @@
-use Rattle.std.proofs.Common.{◌≡◌, ◌≢◌, ◌≤◌, ◌<◌, ◌+◌, ◌-◌, ◌==◌, true, ℕ, List, length, drop, take, slice_index, arith, length-drop, ◌∙◌}
+use Rattle.std.proofs.Common.{◌≡◌, ◌≢◌, ◌≤◌, ◌<◌, ◌+◌, ◌-◌, ◌==◌, true, ℕ, List, length, drop, take, slice_index, arith, length-drop}
 use Rattle.std.proofs.lemmas.Bool.Decides.{nat_tests}
 use Rattle.std.proofs.lemmas.List.{length-take-le}
 use Rattle.memchr.specs.Find.{Nowhere, Passes, is_byte}
@@ -12,9 +12,7 @@ is_other byte other same = other (grind (arith, nat_tests, same))
 -- where no byte of the rest passes it, none of the list does
 others : (bytes : List ℕ) (from count : ℕ) → Nowhere (Passes (is_byte 255) (take (length bytes - from) (drop from bytes))) 0 count
     → count ≤ length bytes - from → (place : ℕ) → from ≤ place → place < from + count → slice_index bytes place ≢ 255
-others bytes from count nowhere within place after before same =
-    is_other _ (nowhere (place - from) (omega arith) (omega (arith, after, before)))
-    (read_rest bytes from place after (omega (arith, before, within)) ∙ same)
+others bytes from count nowhere within place after before same = grind (arith, is_other, read_rest)
 
 -- the rest is as long as the list is after the place
 long : (bytes : List ℕ) (from : ℕ) → length (take (length bytes - from) (drop from bytes)) ≡ length bytes - from

@@ -11,9 +11,7 @@ use Rattle.hart_frame.proofs.scan.search.search.Goals as goal
 -- how the bytes from the place of the search on begin
 begins : (xs : List ℕ) (place : ℕ) (candidate : Candidate) → IsCandidate (take (length xs - place) (drop place xs)) candidate
     → IsCandidate (drop place xs) candidate
-begins xs place candidate is =
-    let Is : List ℕ → Type 0 = λ ys. IsCandidate ys candidate in
-    subst Is (take_rest xs place) is
+begins xs place candidate is = grind (arith, take_rest)
 
 greater : (a b m k : ℕ) → m ≡ max a b → a ≤ k → (m ≤ k) ⊎ (m ≤ b)
 greater a b m k is below = grind (arith, is, below)

@@ -1,4 +1,4 @@
-use Rattle.std.proofs.Common.{◌≡◌, ◌++◌, ◌∷◌, ◌-◌, ◌<◌, [], List, ℕ, drop, take, length, arith, append_assoc, length-append, sym, ap, subst}
+use Rattle.std.proofs.Common.{◌≡◌, ◌++◌, ◌-◌, ◌<◌, List, ℕ, drop, take, length, arith, append_assoc, length-append, sym, subst}
 use Rattle.std.proofs.Common.{◌∙◌}
 use Rattle.std.proofs.lemmas.List.{drop_at, take_all}
 use Rattle.std.specs.List.{All}
@@ -10,9 +10,7 @@ use Rattle.hart_frame.proofs.wire.message.push_body.Goals as goal
 -- what `&s[n..]` is after a prefix of n elements
 range_from_seam : (s prefix back : List ℕ) (n : ℕ) → s ≡ prefix ++ back → n ≡ length prefix
     → take (length s - n) (drop n s) ≡ back
-range_from_seam s prefix back n whole at =
-    let rest : drop n s ≡ back = ap (drop n) whole ∙ drop_at prefix back n (sym at) in
-    rw rest (take_all (length s - n) back (rw whole (let parts = length-append prefix back in omega arith)))
+range_from_seam s prefix back n whole at = grind (arith, drop_at, take_all, length-append)
 
 pub returns : goal.returns
 returns g c =
@@ -26,8 +24,5 @@ returns g c =
     let of_checked : IsCheckByte checked check = subst family slice c.check_byte-check.ensures in
     let fits : All (λ byte. byte < 256) checked =
     All-same (λ byte. byte < 256) checked _ (sym slice)
-    (All-take (λ byte. byte < 256) _ _ (All-drop (λ byte. byte < 256) _ _ c.as_slice.ensures.bytes)) in (
-      checked ++ check ∷ [],
-      IsBody-push c.args.frame.now checked check c.push_checked_part.ensures.parts.1 fits of_checked,
-      c.push.ensures ∙ rw joined (rw append_assoc),
-    )
+    (All-take (λ byte. byte < 256) _ _ (All-drop (λ byte. byte < 256) _ _ c.as_slice.ensures.bytes)) in
+    grind (arith, IsBody-push, append_assoc)

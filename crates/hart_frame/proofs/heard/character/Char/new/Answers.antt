@@ -47,8 +47,7 @@ none_other faults are =
     ])
 
 pub returns-then-faults-ne0-clause-accepted : goal.returns-then-faults-ne0-clause-accepted
-returns-then-faults-ne0-clause-accepted c =
-    (λ is. absurd (false≢true is), λ are. absurd (c.if-faults-ne0.true (none_other c.args.faults are)))
+returns-then-faults-ne0-clause-accepted c = grind (arith, false≢true, none_other)
 
 pub invariant_of-result : goal.invariant_of-result
 invariant_of-result c = AreFaultBits-from c.args.faults (omega (arith, c.ranges.faults)) c.if-faults-ne0.false

@@ -1,12 +1,11 @@
-use Rattle.std.proofs.Common.{◌<◌, ◌∙◌, ℕ, Option, drop, length, ap, arith, rules, subst, sym}
+use Rattle.std.proofs.Common.{◌<◌, ℕ, Option, drop, length, arith, rules, subst, sym}
 use Rattle.std.specs.Option.{MatchOption}
-use Rattle.hart_frame.specs.scan.Buffer.{held_bytes, scan_of}
+use Rattle.hart_frame.specs.scan.Buffer.{held_bytes}
 use Rattle.hart_frame.specs.scan.Candidate.{IsWhole}
 use Rattle.hart_frame.specs.scan.Decision.{HoldsWhole, IsHeldOpen}
-use Rattle.hart_frame.specs.scan.Scanner.{GivesNothing}
 use Rattle.hart_frame.specs.declared.wire.layout.Layout.{Layout}
 use Rattle.hart_frame.specs.declared.scan.buffer.Buffer.{Buffer}
-use Rattle.hart_frame.specs.declared.scan.buffer.State.TheVariants.{Drained, Stands}
+use Rattle.hart_frame.specs.declared.scan.buffer.State.TheVariants.{Stands}
 use Rattle.hart_frame.proofs.lemmas.scan.Decision.{given_nothing, given_open, given_stands, waits_open}
 use Rattle.hart_frame.proofs.scan.buffer.Buffer.decide.Goals as goal
 
@@ -25,10 +24,7 @@ returns-in-Some-clause-seen c =
     subst Of (sym c.pass.ensures.passed) (given_stands b found layout c.requires.busy is (subst Stands c.in-Some.is is.stands))
 
 pub returns-then-is_empty-2-clause-seen : goal.returns-then-is_empty-2-clause-seen
-returns-then-is_empty-2-clause-seen c =
-    given_nothing c.args.self.now c.pass.new.self c.search_held-found.result
-    (scan_of c.end-then-is_empty-2.new.self) c.search_held-found.ensures
-    c.pass.ensures.passed c.end-then-is_empty-2.ensures.given
+returns-then-is_empty-2-clause-seen c = search (arith, given_nothing)
 
 pub returns-else-is_empty-2-clause-seen : goal.returns-else-is_empty-2-clause-seen
 returns-else-is_empty-2-clause-seen c =
@@ -36,8 +32,4 @@ returns-else-is_empty-2-clause-seen c =
     let found = c.search_held-found.result in
     let is = c.search_held-found.ensures in
     let some : 0 < length c.held-2.result.now = search rules in
-    let held = c.held-2.ensures.held ∙ ap (λ (x : Buffer). held_bytes x) c.pass.ensures.passed in
-    let Open : Option Layout → Type 0 = λ l. Found b found.place l in
-    let waiting = waits_open b found.place (subst Open c.in_default.is is.stands) is.within (omega (arith, some, ap length held)) in
-    let Of : Buffer → Type 0 = λ x. GivesNothing (scan_of b) (scan_of (record x { state = Drained })) in
-    subst Of (sym c.pass.ensures.passed) (given_open b found is waiting)
+    grind (arith, waits_open, given_open)

@@ -1,4 +1,4 @@
-use Rattle.std.proofs.Common.{sym, subst}
+use Rattle.std.proofs.Common.{arith}
 use Rattle.hart_frame.specs.scan.Decision.{GivesSpan}
 use Rattle.hart_frame.specs.declared.scan.buffer.Buffer.{Buffer}
 use Rattle.hart_frame.specs.declared.scan.buffer.Span.{Span}
@@ -13,5 +13,4 @@ returns-clause-given c =
     let New : Buffer → Type 0 = λ x. GivesSpan b x c.release.result in
     let At : Span → Type 0 = λ span. GivesSpan b (released b layout) span in
     let gives = gives_span b layout c.peek.ensures.sound holds.undrained holds.begins in
-    gives_then c.args.self.now b c.release.new.self c.release.result holds.moves holds.finished holds.busy
-    (subst New (sym c.release.ensures.given) (subst At (sym c.release.ensures.span) gives))
+    grind (arith, gives_then)

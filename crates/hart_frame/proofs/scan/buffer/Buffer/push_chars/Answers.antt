@@ -1,13 +1,11 @@
-use Rattle.std.proofs.Common.{sym, refl, ◌∙◌, arith}
+use Rattle.std.proofs.Common.{sym, ◌∙◌, arith}
 use Rattle.std.proofs.lemmas.Bool.{false≢true}
 use Rattle.hart_frame.proofs.lemmas.scan.Buffer.{drained_is}
 use Rattle.hart_frame.proofs.lemmas.scan.Chunk.{hearing_on, hears_all, hears_until, room_left}
 use Rattle.hart_frame.proofs.scan.buffer.Buffer.push_chars.Goals as goal
 
 pub push_stretch-taken-requires-clause-room : goal.push_stretch-taken-requires-clause-room
-push_stretch-taken-requires-clause-room c =
-    room_left c.args.self.now c.loop-taken.self c.args.chunk.now c.args.chunk.now c.loop-taken.taken refl c.loop-taken.invariant
-    c.requires.room
+push_stretch-taken-requires-clause-room c = grind (arith, room_left)
 
 pub returns-then-not-is_drained-clause-hears : goal.returns-then-not-is_drained-clause-hears
 returns-then-not-is_drained-clause-hears c =
@@ -23,6 +21,4 @@ loop-taken-preserved c =
     (c.is_drained.ensures.0 c.if-not-is_drained.false) c.push_stretch-taken.ensures.hears
 
 pub returns-clause-hears : goal.returns-clause-hears
-returns-clause-hears c =
-    hears_all c.args.self.now c.loop-taken.self c.args.chunk.now c.loop-taken.taken c.loop-taken.invariant
-    (omega (arith, c.loop-taken-test.false))
+returns-clause-hears c = grind (arith, hears_all)

@@ -1,4 +1,4 @@
-use Rattle.std.proofs.Common.{◌≡◌, ◌∙◌, ℕ, List, Option, None, Some, false, not, length, arith, ap, refl, subst, sym}
+use Rattle.std.proofs.Common.{◌≡◌, ◌∙◌, ℕ, List, Option, None, Some, false, not, length, arith, ap, refl, sym}
 use Rattle.std.specs.Option.{is_some}
 use Rattle.std.proofs.lemmas.Bool.{false≢true}
 use Rattle.hart_frame.specs.scan.Search.{IsSearched}
@@ -10,9 +10,7 @@ use Rattle.hart_frame.proofs.scan.buffer.Buffer.search_held.Goals as goal
 -- what is found in the bytes that are read is found in what is held
 in_held : (held same : List ℕ) (from : ℕ) (found : Sighting) → same ≡ held → IsSearched same from from found
     → IsSearched held from from found
-in_held held same from found is searched =
-    let Of : List ℕ → Type 0 = λ xs. IsSearched xs from from found in
-    subst Of is searched
+in_held held same from found is searched = grind arith
 
 none_is : (layout : Option Layout) → is_some layout ≡ false → layout ≡ None
 none_is None is = refl

@@ -1,5 +1,4 @@
-use Rattle.std.proofs.Common.{arith}
-use Rattle.std.proofs.Common.{ap, length}
+use Rattle.std.proofs.Common.{arith, ap, length}
 use Rattle.hart_frame.proofs.lemmas.scan.Buffer.{waits_drained}
 use Rattle.hart_frame.proofs.lemmas.scan.Part.{IsKept, hears_kept, sound_kept}
 use Rattle.hart_frame.proofs.scan.buffer.Buffer.settle.Goals as goal

@@ -1,26 +1,21 @@
-use Rattle.std.proofs.Common.{◌≡◌, ◌++◌, ℕ, List, [], take, subst}
+use Rattle.std.proofs.Common.{arith, ◌≡◌, ◌++◌, ℕ, List, take, subst}
 use Rattle.std.proofs.lemmas.List.{take-map}
 use Rattle.hart_frame.specs.heard.Character.{Character, faultless}
 use Rattle.hart_frame.specs.heard.Frames.{IsUndecided}
 use Rattle.hart_frame.specs.scan.Buffer.{scan_of}
 use Rattle.hart_frame.specs.scan.Chunk.{Hears}
-use Rattle.hart_frame.specs.scan.Scanner.{MovesPast, Scan, hearing}
 use Rattle.hart_frame.proofs.lemmas.scan.Chunk.{heard_length}
 use Rattle.hart_frame.proofs.scan.scanner.Scanner.push_bytes.Goals as goal
 
 hears : (c : goal.After-push_bytes) → Hears c.args.self.now (scan_of c.push_bytes.new.self) (faultless c.args.chunk.now) c.push_bytes.result
-hears c =
-    let Of : Scan → Type 0 = λ s. Hears s (scan_of c.push_bytes.new.self) (faultless c.args.chunk.now) c.push_bytes.result in
-    subst Of c.self.view_is c.push_bytes.ensures.hears
+hears c = grind arith
 
 -- the first of a chunk's characters are those of its first bytes
 first_of : (chunk : List ℕ) (count : ℕ) → take count (faultless chunk) ≡ faultless (take count chunk)
 first_of chunk count = take-map (λ (byte : ℕ). let c : Character = record { byte = byte; faults = 0 } in c) count chunk
 
 pub returns-clause-moves : goal.returns-clause-moves
-returns-clause-moves c =
-    let Of : List Character → Type 0 = λ cs. MovesPast (hearing c.args.self.now cs) (scan_of c.push_bytes.new.self) [] in
-    subst Of (first_of c.args.chunk.now c.push_bytes.result) (hears c).moves
+returns-clause-moves c = grind (arith, first_of)
 
 pub returns-clause-before : goal.returns-clause-before
 returns-clause-before c = λ count below.

@@ -1,4 +1,4 @@
-use Rattle.std.proofs.Common.{◌≡◌, ◌+◌, ◌-◌, ◌≤◌, ℕ, take, ◌∙◌, subst, rules, get_or, length, arith}
+use Rattle.std.proofs.Common.{◌≡◌, ◌+◌, ◌-◌, ◌≤◌, ℕ, take, subst, rules, get_or, length, arith}
 use Rattle.std.specs.List.{slice_range}
 use Rattle.hart_values.specs.address.AddressBytes.{IsAddressBytes}
 use Rattle.hart_values.specs.declared.address.Address.{Address}
@@ -24,8 +24,7 @@ returns c =
     let place = c.from-command_place.result + 2 in
     let payload = slice_range bytes place (place + c.from.result) in
     let within : place + c.from.result ≤ length bytes = omega (arith, whole, body.described, count, at) in
-    let payload_len : length payload ≡ layout.byte_count =
-    length-slice_range bytes place (place + c.from.result) (omega arith) within ∙ omega (arith, count) in
+    let payload_len : length payload ≡ layout.byte_count = grind (arith, length-slice_range) in
     let frame : FrameParts = record {
       kind = layout.kind;
       master = c.unwrap-master.result.0;
