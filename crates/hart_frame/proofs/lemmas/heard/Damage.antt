@@ -119,7 +119,6 @@ delimiter_at : (left : ℕ) (body : List ℕ) (chars : List Character) → IsHea
 delimiter_at left body chars is at =
     let sent : List ℕ = replicate left 255 in
     let long : length sent ≡ left = length-replicate left 255 in
-    let place : left ≡ length sent + 0 = omega (arith, long) in
     let here : get_or (sent ++ body) left 0 ≡ get_or body 0 0 = grind (arith, get_or-append-add) in
     is.delimiter (sym here ∙ clear_at (sent ++ body) chars left 255 is.heard
     (omega (arith, long, length-append sent body, is.some)) at)
@@ -199,29 +198,18 @@ marked_heard : (frame : FrameParts) (preambles : ℕ) (chars : List Character) (
     → IsHeard damage.left damage.body chars
 marked_heard frame preambles chars damage = grind (arith, says_of, delimiter_of-other)
 
--- found frames are the same if their parts are
-same_found : (found : Found) (frame : FrameParts) (start stop : ℕ) → found.start ≡ start → found.stop ≡ stop → found.frame ≡ frame
-    → found ≡ record { start = start; stop = stop; frame = frame }
-same_found found frame start stop starts stops frames = grind arith
-
 -- a frame that stands there is the message's own
 marked_own : BodyLaws → (frame : FrameParts) (preambles : ℕ) (chars : List Character) (damage : IsMarkedDamage frame preambles chars)
     → (found : Found) (from : ℕ) → StandsIn found chars from → found ≡ own frame damage.left chars
 marked_own laws frame preambles chars damage found from stands =
-    let left = damage.left in
-    let body = damage.body in
     let is = marked_heard frame preambles chars damage in
-    let begins = begins_body left body chars found from is stands in
+    let begins = begins_body damage.left damage.body chars found from is stands in
+    let start = start_is damage.left damage.body chars found from is stands in
     let Body : List ℕ → Type 0 = λ xs. IsBody frame xs in
     let ended = laws.no_proper_prefix found.frame frame stands.body begins.rest stands.is_body (subst Body begins.parts damage.is_body) in
-    let same : body ≡ stands.body =
-    begins.parts ∙ ap (λ (xs : List ℕ). stands.body ++ xs) ended ∙ append-nil stands.body in
+    let same : damage.body ≡ stands.body = grind (arith, append-nil) in
     let frames = laws.one_frame found.frame frame stands.body stands.is_body (subst Body same damage.is_body) in
-    let start = start_is left body chars found from is stands in
-    let long = length-heard (replicate left 255 ++ body) chars damage.heard in
-    same_found found frame left (length chars) (stands.start ∙ start)
-    (omega (arith, stands.stop, start, long, length-append (replicate left 255) body, length-replicate {A = ℕ} left 255, ap length same))
-    frames
+    grind (arith, length-heard, length-append, length-replicate)
 
 -- if each frame that stands is one that ends the list, the list has none or that one alone
 none_or_own : (chars : List Character) (from : ℕ) (one : Found) → ((found : Found) → StandsIn found chars from → found ≡ one)

@@ -85,15 +85,6 @@ pub record Here (chars : List Character) (place : ℕ) : Type 0 where
 abbrev pub NothingHere : List Character → ℕ → Type 0
 NothingHere chars place = (found : Found) → StandsIn found chars place → found.start ≡ place + 2 → ⊥
 
--- two equal prefixes of two have equal parts
-pub record SamePair (x y : Character) (rest : List Character) (a b : Character) (more : List Character) : Type 0 where
-  pub first : x ≡ a
-  pub second : y ≡ b
-
-same_pair : (x y : Character) (rest : List Character) (a b : Character) (more : List Character) → x ∷ y ∷ rest ≡ a ∷ b ∷ more
-    → SamePair x y rest a b more
-same_pair x y rest a b more same = record { first = cc; second = cc }
-
 -- whether a character is a faultless preamble byte
 preamble_decided : (x : Character) → (x ≡ preamble) ⊎ (x ≡ preamble → ⊥)
 preamble_decided x = grind arith
@@ -102,7 +93,6 @@ preamble_decided x = grind arith
 here_heard : (chars : List Character) (x y : Character) (rest : List Character) (place : ℕ) → place ≤ length chars
     → x ∷ y ∷ rest ≡ drop place chars → x ≡ preamble → y ≡ preamble → HeardAhead rest → Here chars place
 here_heard chars x y rest place within is first second ahead =
-    let Heard : List Character → Type 0 = λ cs. BeginsWithHeard cs ahead.frame ahead.len in
     let after = take_rest (x ∷ y ∷ rest) 2 in
     record {
       found = record { start = place + 2; stop = place + 2 + ahead.len; frame = ahead.frame };
@@ -124,18 +114,17 @@ here_decided chars [] place within is =
     inr (λ found stands start. let at = is ∙ StandsIn-at chars place place found stands start in absurd cc)
 here_decided chars (x ∷ []) place within is =
     inr (λ found stands start. let at = is ∙ StandsIn-at chars place place found stands start in absurd cc)
-here_decided chars (x ∷ y ∷ rest) place within is = elim (preamble_decided x) [
-  | inr other ↦ inr (λ found stands start.
-      other (same_pair x y rest preamble preamble _ (is ∙ StandsIn-at chars place place found stands start)).first)
-  | inl first ↦ elim (preamble_decided y) [
-    | inr other ↦ inr (λ found stands start.
-        other (same_pair x y rest preamble preamble _ (is ∙ StandsIn-at chars place place found stands start)).second)
-    | inl second ↦ elim (heard_decided rest) [
-      | inl ahead ↦ inl (here_heard chars x y rest place within is first second ahead)
-      | inr none ↦ inr (nothing_here chars x y rest place is none)
+here_decided chars (x ∷ y ∷ rest) place within is =
+    elim (preamble_decided x) [
+      | inr other ↦ inr (λ found stands start. let at = is ∙ StandsIn-at chars place place found stands start in other (cc))
+      | inl first ↦ elim (preamble_decided y) [
+        | inr other ↦ inr (λ found stands start. let at = is ∙ StandsIn-at chars place place found stands start in other (cc))
+        | inl second ↦ elim (heard_decided rest) [
+          | inl ahead ↦ inl (here_heard chars x y rest place within is first second ahead)
+          | inr none ↦ inr (nothing_here chars x y rest place is none)
+        ]
+      ]
     ]
-  ]
-]
 
 -- a list has a first frame from a place on
 pub record HasFirst (chars : List Character) (from : ℕ) : Type 0 where

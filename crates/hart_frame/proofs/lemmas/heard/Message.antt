@@ -1,12 +1,12 @@
 -- A message that is heard without faults has its frame alone.
-use Rattle.std.proofs.Common.{◌≡◌, ℕ, ◌+◌, ◌-◌, ◌<◌, ◌≤◌, ◌⊎◌, inl, inr, List, [], ◌∷◌, ◌++◌, length, get_or, replicate, sym, ap, ◌∙◌}
+use Rattle.std.proofs.Common.{◌≡◌, ℕ, ◌+◌, ◌-◌, ◌<◌, ◌≤◌, ◌⊎◌, List, [], ◌∷◌, ◌++◌, length, get_or, replicate, sym, ap, ◌∙◌}
 use Rattle.std.proofs.Common.{arith, append_assoc, length-append}
 use Rattle.std.proofs.Math.ListN.{get_or-append}
 use Rattle.std.proofs.lemmas.List.{append-nil, map-append, length-map, length-replicate, replicate-append-replicate, get_or-replicate}
 use Rattle.std.proofs.lemmas.List.{get_or-append-add}
 use Rattle.hart_frame.specs.wire.FrameParts.{FrameParts}
 use Rattle.hart_frame.specs.wire.Delimiter.{delimiter_of}
-use Rattle.hart_frame.specs.heard.Character.{Character, faultless}
+use Rattle.hart_frame.specs.heard.Character.{faultless}
 use Rattle.hart_frame.specs.heard.Body.{bytes_of}
 use Rattle.hart_frame.specs.wire.Message.{IsMessage}
 use Rattle.hart_frame.specs.heard.Place.{StandsIn}
@@ -42,18 +42,8 @@ starts-after : (bytes body : List ℕ) (preambles : ℕ) (found : Found) (from :
     → StandsIn found (faultless bytes) from → preambles ≤ found.start
 starts-after bytes body preambles found from parts stands =
     let cases : (preambles ≤ found.start) ⊎ (found.start < preambles) = grind arith in
-    elim cases [
-      | inl after ↦ after
-      | inr among ↦
-          let prefix : List ℕ = replicate preambles 255 in
-          let long : length prefix ≡ preambles = length-replicate preambles 255 in
-          let here : get_or bytes found.start 0 ≡ 255 =
-          ap (λ (xs : List ℕ). get_or xs found.start 0) parts
-          ∙ get_or-append prefix body 0 found.start (omega (arith, among, long))
-          ∙ get_or-replicate preambles found.start 255 0 among in
-          let low = delimiter_of-lt found.frame stands.is_body.checked_part.expansion_fits in
-          absurd (omega (arith, here, low, starts bytes found from stands))
-    ]
+    let low = delimiter_of-lt found.frame stands.is_body.checked_part.expansion_fits in
+    grind (arith, length-replicate, get_or-append, get_or-replicate, starts bytes found from stands)
 
 -- the frame of a message, and where it stands in what is heard
 abbrev found_in : FrameParts → ℕ → List ℕ → Found
@@ -62,7 +52,6 @@ found_in f preambles bytes = record { start = preambles; stop = length bytes; fr
 stands_in : (f : FrameParts) (preambles more : ℕ) (bytes : List ℕ) → preambles ≡ more + 2 → IsMessage f preambles bytes
     → StandsIn (found_in f preambles bytes) (faultless bytes) 0
 stands_in f preambles more bytes two message =
-    let character_of : ℕ → Character = λ byte. record { byte = byte; faults = 0 } in
     let prefix : List ℕ = replicate more 255 in
     let marked : List ℕ = 255 ∷ 255 ∷ message.body in
     let whole : bytes ≡ prefix ++ marked =
@@ -74,11 +63,10 @@ stands_in f preambles more bytes two message =
 pub AreFrames-message : (f : FrameParts) (preambles : ℕ) (bytes : List ℕ) → 2 ≤ preambles → IsMessage f preambles bytes
     → AreFrames (faultless bytes) 0 (found_in f preambles bytes ∷ [])
 AreFrames-message f preambles bytes two message =
-    let len : length (faultless bytes) ≡ length bytes = length-map bytes (λ (byte : ℕ). record { byte = byte; faults = 0 }) in
     AreFrames.first 0 (found_in f preambles bytes) [] (record {
       stands = stands_in f preambles (preambles - 2) bytes (omega (arith, two)) message;
       least = λ other stands. starts-after bytes message.body preambles other 0 message.parts stands;
-    }) (AreFrames.none (length bytes) (HasNoFrame-end (faultless bytes) (length bytes) (omega (arith, len))))
+    }) (AreFrames.none (length bytes) (HasNoFrame-end (faultless bytes) (length bytes) (grind (arith, length-map))))
 
 pub AreFrames-nothing : AreFrames [] 0 []
 AreFrames-nothing = AreFrames.none 0 (HasNoFrame-end [] 0 (omega arith))

@@ -1,6 +1,5 @@
 -- An open place can begin a frame.
-use Rattle.std.proofs.Common.{◌≡◌, ℕ, suc, ◌+◌, ◌<◌, List, ◌∷◌, ◌++◌, length, take, drop, get_or, refl, sym, ap, ◌∙◌, arith, subst}
-use Rattle.std.proofs.Common.{append_assoc}
+use Rattle.std.proofs.Common.{◌≡◌, ℕ, suc, ◌+◌, ◌<◌, List, ◌∷◌, ◌++◌, length, take, drop, refl, sym, ap, ◌∙◌, arith, subst, append_assoc}
 use Rattle.std.specs.List.{All}
 use Rattle.std.proofs.lemmas.List.{drop_at, length-map, get_or-map, map-append, take-append-drop}
 use Rattle.std.proofs.lemmas.List.Elements.{All-drop, All-from_get_or}
@@ -15,18 +14,13 @@ use Rattle.hart_frame.proofs.lemmas.heard.Place.{preamble}
 open_fits : (place : ℕ) (chars : List Character) → All (λ character. character.byte < 256) chars → (opened : IsOpen place chars)
     → All (λ byte. byte < 256) opened.bytes
 open_fits place chars all opened =
-    let make = λ (byte : ℕ). let c : Character = record { byte = byte; faults = 0 } in c in
     let after = faultless (255 ∷ 255 ∷ opened.bytes) in
-    let n = length opened.prefix in
     let Fit : List Character → Type 0 = λ cs. All (λ character. character.byte < 256) cs in
-    let rest = subst Fit (ap (drop n) opened.split ∙ drop_at opened.prefix after n refl)
-    (All-drop (λ character. character.byte < 256) n chars all) in
-    let long = length-map opened.bytes make in
+    let rest = subst Fit (ap (drop (length opened.prefix)) opened.split ∙ drop_at opened.prefix after (length opened.prefix) refl)
+    (All-drop (λ character. character.byte < 256) (length opened.prefix) chars all) in
     All-from_get_or (λ byte. byte < 256) opened.bytes 0 (λ k below.
-    let at : get_or (faultless opened.bytes) k preamble ≡ make (get_or opened.bytes k 0) =
-    get_or-map make opened.bytes k 0 preamble below in
-    let Small : Character → Type 0 = λ c. c.byte < 256 in
-    subst Small at (rest (suc (suc k)) preamble (omega (arith, below, long))))
+    let there = rest (suc (suc k)) preamble (grind (arith, length-map)) in
+    grind (arith, get_or-map))
 
 -- a frame that stands at a place of a list with more characters
 pub record CanBegin (place : ℕ) (chars : List Character) : Type 0 where
@@ -43,7 +37,6 @@ open_begins becomes place chars all opened =
     let bytes = opened.bytes ++ can.rest in
     let body = take can.count bytes in
     let rest = faultless (drop can.count bytes) in
-    let two : List Character = preamble ∷ preamble ∷ faultless opened.bytes in
     let parts : faultless opened.bytes ++ faultless can.rest ≡ faultless body ++ rest =
     sym (map-append make opened.bytes can.rest) ∙ ap faultless (sym (take-append-drop can.count bytes))
     ∙ map-append make body (drop can.count bytes) in

@@ -13,11 +13,6 @@ use Rattle.hart_frame.specs.declared.heard.found.Found.{Found}
 abbrev pub preamble : Character
 preamble = record { byte = 255; faults = 0 }
 
--- equal parts join to equal lists
-joined : (x y : Character) (rest more : List Character) → x ≡ preamble → y ≡ preamble → rest ≡ more
-    → x ∷ y ∷ rest ≡ preamble ∷ preamble ∷ more
-joined x y rest more first second back = cc
-
 -- a body that is heard after two preamble bytes stands there
 pub StandsIn-heard : (chars tail : List Character) (place : ℕ) (first second : Character) (f : FrameParts) (len : ℕ)
     → place ≤ length chars → tail ≡ drop place chars → 2 ≤ length tail → first ≡ get_or tail 0 first → second ≡ get_or tail 1 second
@@ -29,7 +24,6 @@ StandsIn-heard chars (x ∷ y ∷ rest) place first second f len within is long 
     grind (
       arith,
       take_rest (x ∷ y ∷ rest) 2,
-      joined,
       length-take-le place chars within,
       take-append-drop place chars,
       append_assoc (take place chars) (faultless (255 ∷ 255 ∷ heard.body)) heard.rest,

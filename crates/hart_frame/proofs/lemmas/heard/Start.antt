@@ -24,23 +24,15 @@ starts_at chars place d is =
     let whole : chars ≡ is.prefix ++ others = is.split ∙ append_assoc is.prefix (preamble ∷ preamble ∷ []) (is.first ∷ is.rest) in
     let all = ap length whole ∙ length-append is.prefix others in
     let reads : (n : ℕ) → get_or chars (length is.prefix + n) d ≡ get_or others n d = grind (arith, get_or-append-add) in
-    let at : ℕ → Character = λ n. get_or chars n d in
-    let first : at place ≡ is.first = ap at is.place_is ∙ reads 2 in
-    record {
-      after_two = omega (arith, is.place_is);
-      within = omega (arith, is.place_is, all);
-      one = ap at (let e : place - 2 ≡ length is.prefix + 0 = omega (arith, is.place_is) in e) ∙ reads 0;
-      two = ap at (let e : place - 1 ≡ length is.prefix + 1 = omega (arith, is.place_is) in e) ∙ reads 1;
-      other = λ same. is.other (sym first ∙ same);
-    }
+    let one = reads 0 in
+    let two = reads 1 in
+    let three = reads 2 in
+    grind (arith, preamble)
 
 pub is_start_from : (chars : List Character) (place : ℕ) (d : Character) → StartsAt chars place d → IsStart place chars
 is_start_from chars place d at =
     let k : ℕ = place - 2 in
     let before = length-take-le k chars (omega (arith, at.after_two, at.within)) in
-    let Suffix : List Character → Type 0 = λ xs. chars ≡ take k chars ++ xs in
-    let second : get_or chars (suc k) d ≡ preamble = grind arith in
-    let third : get_or chars (suc (suc k)) d ≡ get_or chars place d = grind arith in
     let last : List Character = drop (suc (suc (suc k))) chars in
     let dropped : drop k chars ≡ preamble ∷ preamble ∷ get_or chars place d ∷ last =
     grind (arith, drop-cons, preamble) in

@@ -1,5 +1,5 @@
 -- A list of characters has one first frame at most from a place on, and one list of frames.
-use Rattle.std.proofs.Common.{◌≡◌, ℕ, ◌-◌, List, ◌∷◌, length, take, drop, refl, sym, ◌∙◌, arith, subst}
+use Rattle.std.proofs.Common.{◌≡◌, ℕ, ◌-◌, List, length, take, drop, refl, sym, ◌∙◌, arith, subst}
 use Rattle.hart_frame.specs.wire.FrameParts.{FrameParts}
 use Rattle.hart_frame.specs.wire.Body.{BeginsWithBody}
 use Rattle.hart_frame.specs.heard.Character.{Character}
@@ -14,10 +14,6 @@ use Rattle.hart_frame.proofs.lemmas.heard.Place.{StandsIn-hears}
 abbrev pub OnePrefix : Type 0
 OnePrefix = (f g : FrameParts) (bytes : List ℕ) (m n : ℕ) → BeginsWithBody bytes f m → BeginsWithBody bytes g n → (f ≡ g) × (m ≡ n)
 
--- what is found is the same if its parts are
-same_found : (f g : Found) → f.start ≡ g.start → f.stop ≡ g.stop → f.frame ≡ g.frame → f ≡ g
-same_found f g starts stops frames = grind arith
-
 -- one frame stands at one place
 StandsIn-one : OnePrefix → (f g : Found) (chars : List Character) (m n : ℕ) → StandsIn f chars m → StandsIn g chars n
     → f.start ≡ g.start → f ≡ g
@@ -29,15 +25,11 @@ StandsIn-one law f g chars m n p q starts =
     let after : List Character = take (length tail - 2) (drop 2 tail) in
     let same = law f.frame g.frame (bytes_of after) (length p.body) (length q.body)
     (BeginsWithBody-heard after f.frame (length p.body) heard) (BeginsWithBody-heard after g.frame (length q.body) also) in
-    same_found f g starts (omega (arith, same.1, starts, p.start, q.start, p.stop, q.stop)) same.0
+    grind arith
 
 pub IsFirst-one : OnePrefix → (f g : Found) (chars : List Character) (from : ℕ) → IsFirst f chars from → IsFirst g chars from → f ≡ g
 IsFirst-one law f g chars from p q =
     StandsIn-one law f g chars from from p.stands q.stands (omega (arith, p.least g q.stands, q.least f p.stands))
-
--- equal parts join to equal lists
-joined : (f g : Found) (xs ys : List Found) → f ≡ g → xs ≡ ys → f ∷ xs ≡ g ∷ ys
-joined f g xs ys heads tails = cc
 
 pub AreFrames-one : OnePrefix → (chars : List Character) (from : ℕ) (xs ys : List Found) → AreFrames chars from xs → AreFrames chars from ys
     → xs ≡ ys
@@ -47,4 +39,4 @@ AreFrames-one law chars from xs ys (first m f later is rest) (none n empty) = ab
 AreFrames-one law chars from xs ys (first m f later is rest) (first n g more also others) =
     let same = IsFirst-one law f g chars from is also in
     let Others : Found → Type 0 = λ found. AreFrames chars found.stop more in
-    joined f g later more same (AreFrames-one law chars f.stop later more rest (subst Others (sym same) others))
+    let all = AreFrames-one law chars f.stop later more rest (subst Others (sym same) others) in cc

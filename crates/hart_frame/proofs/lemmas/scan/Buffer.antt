@@ -1,10 +1,9 @@
 -- A buffer stays sound, and what it stands for then.
 use Rattle.std.proofs.Common.{◌≡◌, ℕ, ◌+◌, ◌-◌, ◌≤◌, true, IsTrue, List, [], ◌++◌, length}
-use Rattle.std.proofs.Common.{take, drop, Option, None, refl, sym, ap, ◌∙◌, arith, subst}
-use Rattle.std.specs.Option.{option_to_list}
+use Rattle.std.proofs.Common.{take, drop, None, refl, sym, ap, ◌∙◌, arith, subst}
 use Rattle.std.proofs.Math.Seq.{drop-append-add, drop-append_seam}
 use Rattle.std.proofs.lemmas.List.{append-nil, drop-append-le, drop-drop, drop-take}
-use Rattle.hart_frame.specs.heard.Character.{Character, faultless}
+use Rattle.hart_frame.specs.heard.Character.{faultless}
 use Rattle.hart_frame.specs.heard.Frames.{IsUndecided}
 use Rattle.hart_frame.specs.scan.Buffer.{IsSound, IsWaiting, held_bytes, is_drained, scan_of}
 use Rattle.hart_frame.specs.scan.Decision.{NoneBeginHeld}
@@ -27,13 +26,9 @@ pub moves_passed : (b : Buffer) (count : ℕ) → count ≤ length (held_bytes b
     → MovesPast (scan_of b) (scan_of (passed b count)) []
 moves_passed b count within none = grind (arith, moves_places, held_passed)
 
-pub none_long : (o : Option Character) → o ≡ None → option_to_list o ≡ []
-none_long o is = ap (λ (p : Option Character). option_to_list p) is
-
 -- what is held without faults
 pub held_clear : (b : Buffer) → b.damaged ≡ None → (scan_of b).held ≡ faultless (held_bytes b)
-held_clear b clear =
-    ap (λ (cs : List Character). faultless (held_bytes b) ++ cs) (none_long b.damaged clear) ∙ append-nil (faultless (held_bytes b))
+held_clear b clear = grind (arith, append-nil)
 
 -- what a waiting buffer holds is undecided
 pub undecided_waiting : (b : Buffer) → IsWaiting b → IsUndecided (scan_of b).held

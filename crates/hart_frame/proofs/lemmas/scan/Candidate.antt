@@ -38,32 +38,21 @@ nothing_never_body xs tail is f body rest is_body same =
     not_refused (xs ++ bytes_of tail) f (length body) is.fault (subst Begins (bytes_of_append xs tail) begins)
     (refused_more xs (bytes_of tail) is.fault is.decided is.refused)
 
-first_byte_same : (x y : ℕ) (xs ys : List Character) → record { byte = x; faults = 0 } ∷ xs ≡ record { byte = y; faults = 0 } ∷ ys → x ≡ y
-first_byte_same x y xs ys same = grind arith
-
-tails_same : (x y : Character) (xs ys : List Character) → x ∷ xs ≡ y ∷ ys → xs ≡ ys
-tails_same x y xs ys same = cc
-
-heads_same : (x y : Character) (xs ys : List Character) → x ∷ xs ≡ y ∷ ys → x ≡ y
-heads_same x y xs ys same = cc
-
 -- bytes that begin with another byte than a preamble byte never begin a frame
 pub never_first : (x : ℕ) (xs : List ℕ) → x ≢ 255 → NeverBegin (x ∷ xs)
-never_first x xs other more f body rest is same = other (first_byte_same x 255 _ _ same)
+never_first x xs other more f body rest is same = grind arith
 
 -- nor do those whose second byte is another
 pub never_second : (x y : ℕ) (xs : List ℕ) → y ≢ 255 → NeverBegin (x ∷ y ∷ xs)
-never_second x y xs other more f body rest is same = other (first_byte_same y 255 _ _ (tails_same _ _ _ _ same))
+never_second x y xs other more f body rest is same = grind arith
 
 -- nor do those that never become a body after two
 pub never_after : (x y : ℕ) (xs : List ℕ) → NeverBecomeBody xs → NeverBegin (x ∷ y ∷ xs)
-never_after x y xs never more f body rest is same =
-    nothing_never_body xs more never f body rest is (tails_same _ _ _ _ (tails_same _ _ _ _ same))
+never_after x y xs never more f body rest is same = nothing_never_body xs more never f body rest is (cc)
 
 -- nor do those bytes and others after them
 pub never_more : (xs ys : List ℕ) → NeverBegin xs → NeverBegin (xs ++ ys)
 never_more xs ys never more =
-    let make = λ (byte : ℕ). let c : Character = record { byte = byte; faults = 0 } in c in
     let parts : faultless xs ++ (faultless ys ++ more) ≡ faultless (xs ++ ys) ++ more = grind (arith, append_assoc, map-append) in
     let None : List Character → Type 0 = λ cs. BeginWithNone cs in
     subst None parts (never (faultless ys ++ more))
@@ -115,7 +104,7 @@ nothing_open_body xs tail truncated ends f body rest is same =
     ]
 
 no_tail : (tail more : List Character) → NothingFollows tail → tail ≡ preamble ∷ more → ⊥
-no_tail tail more ends same = grind (arith, heads_same, preamble)
+no_tail tail more ends same = grind (arith, preamble)
 
 -- characters with these after them begin with no frame
 abbrev Before : List Character → List ℕ → Type 0
@@ -123,14 +112,13 @@ Before tail xs = BeginWithNone (faultless xs ++ tail)
 
 -- what may begin a frame begins none if the end is reached
 pub nothing_open : (xs : List ℕ) (tail : List Character) → MayBegin xs → NothingFollows tail → BeginWithNone (faultless xs ++ tail)
-nothing_open xs tail may ends = elim may [
-  | inl none ↦ subst (Before tail) (sym none) (λ f body rest is same. no_tail tail (preamble ∷ (faultless body ++ rest)) ends same)
-  | inr (inl one) ↦
-      subst (Before tail) (sym one) (λ f body rest is same. no_tail tail (faultless body ++ rest) ends (tails_same _ _ _ _ same))
-  | inr (inr (after, two, truncated)) ↦
-      subst (Before tail) (sym two) (λ f body rest is same.
-      nothing_open_body after tail truncated ends f body rest is (tails_same _ _ _ _ (tails_same _ _ _ _ same)))
-]
+nothing_open xs tail may ends =
+    elim may [
+      | inl none ↦ subst (Before tail) (sym none) (λ f body rest is same. no_tail tail (preamble ∷ (faultless body ++ rest)) ends same)
+      | inr (inl one) ↦ subst (Before tail) (sym one) (λ f body rest is same. no_tail tail (faultless body ++ rest) ends (cc))
+      | inr (inr (after, two, truncated)) ↦
+          subst (Before tail) (sym two) (λ f body rest is same. nothing_open_body after tail truncated ends f body rest is (cc))
+    ]
 
 pub undecided_nothing : IsUndecided []
 undecided_nothing = inl (λ found stands. let within = StandsIn-within found [] 0 stands in omega (arith, within))
@@ -192,8 +180,7 @@ cut_off layout xs len has is same =
 pub odd_body : (layout : Layout) (xs : List ℕ) (len check : ℕ) → IsCut layout xs len → IsCheckByte (take len xs) check → check ≢ 0
     → NeverBecomeBody (take len xs)
 odd_body layout xs len check cut is odd =
-    let long : length (take len xs) ≤ body_length (take len xs) = omega (arith, cut.whole, length-take len xs) in
-    let all : take (body_length (take len xs)) (take len xs) ≡ take len xs = take_all (body_length (take len xs)) (take len xs) long in
+    let all : take (body_length (take len xs)) (take len xs) ≡ take len xs = grind (arith, take_all, length-take) in
     record {
       fault = BadCheck;
       refused = (cut.checked, λ even. odd (check-even (take len xs) check is (subst HasEvenParity all even)));
@@ -204,15 +191,9 @@ odd_body layout xs len check cut is odd =
 pub whole_body : (layout : Layout) (xs : List ℕ) (len check : ℕ) → IsCut layout xs len → ((i : ℕ) → get_or xs i 0 < 256)
     → IsCheckByte (take len xs) check → check ≡ 0 → IsWholeBody layout (take len xs)
 whole_body layout xs len check cut fits is even =
-    let Of : ℕ → Type 0 = λ n. IsCheckByte (take len xs) n in
-    record {
-      described = cut.described;
-      checked = cut.checked;
-      exact = cut.exact;
-      even = even-check (take len xs) (subst Of even is);
-      fits = All-from_get_or (λ byte. byte < 256) (take len xs) 0
-          (λ i below. omega (arith, fits i, get_or-take len xs i 0 (omega (arith, below, length-take len xs))));
-    }
+    let fit : (i : ℕ) → i < length (take len xs) → get_or (take len xs) i 0 < 256 = grind (arith, get_or-take, length-take) in
+    let all = All-from_get_or (λ byte. byte < 256) (take len xs) 0 fit in
+    grind (arith, even-check)
 
 -- how two preamble bytes and others after them begin
 pub after_never : (count : ℕ) (xs : List ℕ) → IsBodyCandidate xs (Never count) → IsCandidate (255 ∷ 255 ∷ xs) (Never (2 + count))
@@ -222,15 +203,8 @@ after_never count xs (within, never, fewer) =
 
 pub after_whole : (layout : Layout) (xs : List ℕ) → IsBodyCandidate xs (Whole layout) → IsCandidate (255 ∷ 255 ∷ xs) (Whole layout)
 after_whole layout xs (within, whole, fewer) =
-    let n = layout_length layout in (
-      record {
-        body = take n xs;
-        rest = drop n xs;
-        parts = ap (λ (ys : List ℕ). 255 ∷ 255 ∷ ys) (sym (take-append-drop n xs));
-        whole = whole;
-      },
-      may_begin_before n xs fewer,
-    )
+    let n = layout_length layout in
+    (record { body = take n xs; rest = drop n xs; parts = grind (arith, take-append-drop); whole = whole }, may_begin_before n xs fewer)
 
 -- bytes of which the first two are preamble bytes
 pub two_first : (xs : List ℕ) → 2 ≤ length xs → get_or xs 0 0 ≡ 255 → get_or xs 1 0 ≡ 255 → xs ≡ 255 ∷ 255 ∷ drop 2 xs

@@ -162,22 +162,14 @@ hearing_on old now new chunk n r hears sound drained part =
       heard_then (scan_of old) (scan_of now) (scan_of new) chunk n r hears.within hears.so part,
     )
 
-busy_holds : (scan : Scan) (count all : ℕ) → (scan.drained ≡ true → ⊥) → StopsAt scan count all → (m n : ℕ) → StopsAt scan m n
-busy_holds scan count all busy stops m n = grind arith
-
 -- or a frame stands
 pub hears_until : (old now new : Buffer) (chunk : List Character) (n r : ℕ) → IsHearing old now chunk n → (is_drained new.state ≡ true → ⊥)
     → HearsPart (scan_of now) (scan_of new) (slice_range chunk n (length chunk)) r → Hears (scan_of old) (scan_of new) chunk (n + r)
 hears_until old now new chunk n r hears busy part =
     let so = heard_then (scan_of old) (scan_of now) (scan_of new) chunk n r hears.within hears.so part in
-    record {
-      within = rest_within (scan_of now) (scan_of new) chunk n r hears.within part;
-      some = λ _. omega (arith, part.some);
-      moves = so.moves;
-      before = so.before;
-      stops = busy_holds (scan_of new) r r busy part.stops (n + r) (length chunk);
-      finished = part.finished ∙ (waits_drained now hears.sound hears.drained).going ∙ sym so.going;
-    }
+    let within = rest_within (scan_of now) (scan_of new) chunk n r hears.within part in
+    let stops : StopsAt (scan_of new) (n + r) (length chunk) = grind arith in
+    grind (arith, waits_drained)
 
 -- all of a chunk is heard
 pub hears_all : (old now : Buffer) (chunk : List Character) (n : ℕ) → IsHearing old now chunk n → length chunk ≤ n

@@ -33,17 +33,9 @@ ends_by : (o : Option Character) (finished : Bool) (more : List Character) → I
 ends_by (Some c) finished more faulty ended whole = inr (c, more, refl, faulty)
 ends_by None finished more faulty ended whole = grind arith
 
-false_of : (b : Bool) → (b ≡ true → ⊥) → b ≡ false
-false_of true not = absurd (not refl)
-false_of false not = refl
-
-none_of : (o : Option Character) → (o ≢ None → ⊥) → o ≡ None
-none_of None not = refl
-none_of (Some c) not = absurd (not (λ is. absurd cc))
-
 -- an end that is not reached
 pub not_ended : (b : Buffer) → (IsEnded b → ⊥) → (b.finished ≡ false) × (b.damaged ≡ None)
-not_ended b going = (false_of b.finished (λ is. going (inl is)), none_of b.damaged (λ some. going (inr some)))
+not_ended b going = grind arith
 
 -- no frame begins further on
 none_further : (b : Buffer) (from to : ℕ) → NoneBeginHeld b from → NoneBegin (held_bytes b) from to → NoneBeginHeld b to
@@ -161,18 +153,12 @@ gives_span b layout sound busy whole =
 -- a frame that is given after some characters were let go
 pub gives_then : (old mid new : Buffer) (span : Span) → MovesPast (scan_of old) (scan_of mid) [] → mid.finished ≡ old.finished
     → is_drained old.state ≡ false → GivesSpan mid new span → GivesSpan old new span
-gives_then old mid new span moves finished busy gives = record {
-  within = gives.within;
-  body = gives.body;
-  given = λ frame is.
-      let later = gives.given frame is in
-      record {
-        moves = moves_then (scan_of old) (scan_of mid) (scan_of new) _ moves later.moves;
-        stop = later.stop;
-        finished = later.finished ∙ finished;
-        undrained = (busy, later.undrained.1);
-      };
-}
+gives_then old mid new span moves finished busy gives =
+    record {
+      within = gives.within;
+      body = gives.body;
+      given = λ frame is. let later = gives.given frame is in grind (arith, moves_then);
+    }
 
 -- nothing is given after some characters were let go
 pub gives_nothing_then : (old mid new : Scan) → MovesPast old mid [] → mid.finished ≡ old.finished → GivesNothing mid new
@@ -213,9 +199,7 @@ pub moves_damaged : (o : Option Character) (old new : Scan) → IfSome o (λ c. 
     → new.held ≡ [] → new.first ≡ old.first + 1 → new.finished ≡ old.finished → MovesPast old new []
 moves_damaged None old new faulty some held empty firsts finished = absurd cc
 moves_damaged (Some c) old new faulty some held empty firsts finished =
-    let None : List Character → Type 0 = λ cs. BeginWithNone cs in
-    moves_drop old new c (held ∙ ap (λ (cs : List Character). c ∷ cs) (sym empty)) firsts finished
-    (λ more _. subst None (ap (λ (cs : List Character). cs ++ more) (sym held)) (nothing_damaged c more faulty))
+    moves_drop old new c (grind arith) firsts finished (λ more ended. grind (arith, nothing_damaged))
 
 -- nothing is given if nothing is held from a place on, before which no frame begins
 pub given_nothing : (b mid : Buffer) (found : Sighting) (new : Scan) → IsHeldSearched b found → mid ≡ passed b found.place

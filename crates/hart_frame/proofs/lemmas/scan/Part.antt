@@ -60,8 +60,7 @@ holds_kept old new part found kept (Some layout) whole = grind arith
 -- so it is what its state means
 meant_kept : (old new : Buffer) (part : List ℕ) (found : Sighting) → IsKept old new part found → (layout : Option Layout)
     → Holds old new part found layout → IsMeant new (state_of layout)
-meant_kept old new part found kept None (few, may, all) =
-    record { clear = kept.clear; going = kept.finished ∙ kept.waiting.going; few = few; may = may }
+meant_kept old new part found kept None (few, may, all) = grind arith
 meant_kept old new part found kept (Some layout) whole = whole
 
 pub sound_kept : (old new : Buffer) (part : List ℕ) (found : Sighting) → IsStored new → IsKept old new part found → IsSound new
@@ -73,13 +72,7 @@ stops_kept : (old new : Buffer) (part : List ℕ) (found : Sighting) → IsKept 
     → new.state ≡ state_of layout → found.decided ≡ length (held_bytes old) + count → Holds old new part found layout
     → StopsAt (scan_of new) count (length part)
 stops_kept old new part found kept None count is counts (few, may, all) =
-    let Undecided : List Character → Type 0 = λ cs. IsUndecided cs in
-    inl (
-      ap is_drained is,
-      subst Undecided (sym (held_clear new kept.clear)) (undecided_open (held_bytes new) may),
-      omega
-          (arith, counts, all),
-    )
+    inl (ap is_drained is, search (arith, held_clear, undecided_open), omega (arith, counts, all))
 stops_kept old new part found kept (Some layout) count is counts whole = inr (ap is_drained is, holds_frame new layout whole)
 
 -- so much of the part was heard

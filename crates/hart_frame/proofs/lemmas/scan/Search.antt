@@ -3,10 +3,10 @@ use Rattle.std.proofs.Common.{Some, None, ◌≡◌, ◌≢◌, ℕ, zero, suc, 
 use Rattle.std.proofs.Common.{drop, get_or, refl, sym, ap, ◌∙◌, max, arith, subst, append_assoc, length-append, length-drop}
 use Rattle.std.specs.List.{All}
 use Rattle.std.proofs.lemmas.List.{drop-append-le, drop-take, drop_all, drop_more, get_or-drop, get_or-take, length-take-le, take_rest}
-use Rattle.std.proofs.Math.Seq.{take-add, take-append-add, take-length}
+use Rattle.std.proofs.Math.Seq.{take-add, take-append-add}
 use Rattle.hart_frame.specs.wire.Layout.{layout_length}
 use Rattle.hart_frame.specs.wire.Refusal.{IsTruncated}
-use Rattle.hart_frame.specs.scan.Candidate.{IsCandidate, IsWhole, MayBegin, MayBeginBefore, NeverBegin}
+use Rattle.hart_frame.specs.scan.Candidate.{IsCandidate, IsWhole, MayBegin, MayBeginBefore, NeverBecomeBody, NeverBegin}
 use Rattle.hart_frame.specs.scan.Search.{HasThree, IsNextCandidate, IsOpenBefore, IsOpenFrom, IsSearched, NoneBegin}
 use Rattle.hart_frame.specs.declared.wire.fault.FrameFault.TheVariants.{BadDelimiter}
 use Rattle.hart_frame.specs.declared.wire.layout.Layout.{Layout}
@@ -80,20 +80,15 @@ still_open xs from seen place decided fewer searching late within start may =
 -- a search goes on after other bytes than preamble bytes
 pub searching_others : (xs : List ℕ) (from seen place decided next : ℕ) → IsSearching xs from seen place decided → place ≤ next
     → next ≤ length xs → ((here : ℕ) → place ≤ here → here < next → get_or xs here 0 ≢ 255) → IsSearching xs from seen next decided
-searching_others xs from seen place decided next searching after within others = record {
-  after = omega (arith, searching.after, after);
-  place_within = within;
-  late = searching.late;
-  within = searching.within;
-  few = omega (arith, searching.few, after);
-  none = λ n here later all since below there.
-      let cases : (here < place) ⊎ (place ≤ here) = grind arith in
-      elim cases [
-        | inl early ↦ searching.none n here later all since early there
-        | inr late ↦ never_other xs here n there all (others here late below)
-      ];
-  before = searching.before;
-}
+searching_others xs from seen place decided next searching after within others =
+    let none : (n here : ℕ) → decided ≤ n → n ≤ length xs → from ≤ here → here < next → here < n → NeverBegin (drop here (take n xs)) =
+    λ n here later all since below there.
+    let cases : (here < place) ⊎ (place ≤ here) = grind arith in
+    elim cases [
+      | inl early ↦ searching.none n here later all since early there
+      | inr late ↦ never_other xs here n there all (others here late below)
+    ] in
+    grind arith
 
 -- so many bytes show that no frame begins at the place, and the search goes on after it
 pub searching_never : (xs : List ℕ) (from seen place decided count more : ℕ) → IsSearching xs from seen place decided → from ≤ seen
@@ -136,19 +131,10 @@ three_never xs here (within, first, second, third) =
     let b = drop_more xs (here + 1) 0 (omega (arith, within)) in
     let d = drop_more xs (here + 2) 0 (omega (arith, within)) in
     let rest = drop (here + 3) xs in
-    let parts : drop here xs ≡ 255 ∷ 255 ∷ 255 ∷ rest =
-    grind arith in
+    let parts : drop here xs ≡ 255 ∷ 255 ∷ 255 ∷ rest = grind arith in
     let Is : List ℕ → Type 0 = λ ys. IsCandidate ys (Never 3) in
-    let empty : (fewer : ℕ) → fewer < 1 → IsTruncated (take fewer (255 ∷ rest)) = grind arith in
-    subst Is (sym parts) (
-      omega arith,
-      never_after 255 255 (255 ∷ []) (record {
-        fault = BadDelimiter;
-        refused = (omega arith, λ delimiter. omega (arith, delimiter.0));
-        decided = λ same. absurd cc;
-      }),
-      may_begin_before 1 (255 ∷ rest) empty,
-    )
+    let never : NeverBecomeBody (255 ∷ []) = record { fault = BadDelimiter; refused = grind arith; decided = λ same. absurd cc } in
+    subst Is (sym parts) (omega arith, never_after 255 255 (255 ∷ []) never, may_begin_before 1 (255 ∷ rest) (grind arith))
 
 -- a search has come to a place, and only so many bytes more are needed for it
 pub record HasPassed (xs : List ℕ) (from seen place decided : ℕ) : Type 0 where
@@ -234,7 +220,6 @@ pub searched_open : (xs : List ℕ) (from seen place decided : ℕ) → IsSearch
     → length xs < place + 269 → MayBegin (drop place xs)
     → IsSearched xs from seen (record { place = place; decided = length xs; layout = None })
 searched_open xs from seen place decided searching order few may =
-    let whole : take (length xs) xs ≡ xs = take-length xs in
     record {
       after = searching.after;
       order = searching.place_within;

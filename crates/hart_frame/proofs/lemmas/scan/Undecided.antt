@@ -23,14 +23,11 @@ hears_sample : (scan : Scan) → CanHear scan [] (sample scan)
 hears_sample scan =
     record { prefix = replicate scan.first other; split = refl; place = length-replicate scan.first other; ended = λ _. refl }
 
-same_head : (f g : Found) (xs ys : List Found) → f ∷ xs ≡ g ∷ ys → f ≡ g
-same_head f g xs ys same = cc
-
 -- of the frames of a list the first is its first
 pub head_first : (chars : List Character) (from : ℕ) (frames : List Found) → AreFrames chars from frames
     → (g : Found) (later : List Found) → frames ≡ g ∷ later → IsFirst g chars from
 head_first chars from frames (none n empty) g later same = absurd cc
-head_first chars from frames (first n f more is rest) g later same = grind (arith, same_head)
+head_first chars from frames (first n f more is rest) g later same = grind arith
 
 -- what stands in a list stands after others
 pub stands_after : (prefix cs rest : List Character) (found : Found) (n : ℕ) → length prefix ≡ n → StandsIn found cs 0

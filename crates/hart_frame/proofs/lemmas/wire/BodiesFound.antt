@@ -101,15 +101,12 @@ fit_more bytes n fits small k below = grind arith
 
 fit_decided : (bytes : List ℕ) (n : ℕ) → Fit bytes n ⊎ Unfit bytes n
 fit_decided bytes zero = inl (λ k below. absurd (omega (arith, below)))
-fit_decided bytes (suc n) = elim (fit_decided bytes n) [
-  | inr unfit ↦ inr (record { place = unfit.place; below = omega (arith, unfit.below); large = unfit.large })
-  | inl fits ↦
-      let cases : (get_or bytes n 0 < 256) ⊎ (256 ≤ get_or bytes n 0) = grind arith in
-      elim cases [
-        | inl small ↦ inl (fit_more bytes n fits small)
-        | inr large ↦ inr (record { place = n; below = omega arith; large = large })
-      ]
-]
+fit_decided bytes (suc n) =
+    let cases : (get_or bytes n 0 < 256) ⊎ (256 ≤ get_or bytes n 0) = grind arith in
+    elim (fit_decided bytes n) [
+      | inr unfit ↦ grind arith
+      | inl fits ↦ elim cases [ inl small ↦ inl (fit_more bytes n fits small) | inr large ↦ grind arith ]
+    ]
 
 fit_range : (bytes : List ℕ) (n i : ℕ) → Fit bytes n → 1 ≤ i → i ≤ n → i ≤ length bytes → All (λ byte. byte < 256) (slice_range bytes 1 i)
 fit_range bytes n i fits some low within =
@@ -127,7 +124,6 @@ held_frame bytes fits whole =
     let i = address_end bytes in
     let j = command_place bytes in
     let n = byte_count_in bytes in
-    let small : delimiter_in bytes < 256 = fits 0 (omega arith) in
     let range_fit = fit_range bytes (body_length bytes) i fits (omega arith) (omega arith) (omega (arith, whole.1)) in
     let held = held_address (slice_range bytes 1 i) (delimiter_in bytes / 128) range_fit (omega arith)
     (length-slice_range bytes 1 i (omega arith) (omega (arith, whole.0.0.1)) ∙ omega arith) in
@@ -168,20 +164,17 @@ even_body bytes len is whole fit check =
 -- if the bytes fit up to the check byte, it decides
 checked : (bytes : List ℕ) → HasCheckByte bytes → Fit bytes (body_length bytes) → BodyAhead bytes ⊎ HasNoBody bytes
 checked bytes whole fits =
-    let len = body_length bytes in
-    let prefix = take len bytes in
-    let prefix_len = length-take-le len bytes whole.1 in
-    let at : (k : ℕ) → get_or prefix k 0 < 256 = grind (arith, get_or-take, get_or_past) in
-    let check = fold bit_xor 0 prefix in
-    let is = IsCheckByte-fold prefix check at refl in
+    let prefix = take (body_length bytes) bytes in
+    let at : (k : ℕ) → get_or prefix k 0 < 256 = grind (arith, get_or-take, get_or_past, length-take-le) in
+    let is = IsCheckByte-fold prefix (fold bit_xor 0 prefix) at refl in
     let fit : All (λ byte. byte < 256) prefix = All-from_get_or (λ byte. byte < 256) prefix 0 (λ k below. at k) in
-    let cases : (check ≡ 0) ⊎ (0 < check) = grind arith in
+    let cases : (fold bit_xor 0 prefix ≡ 0) ⊎ (0 < fold bit_xor 0 prefix) = grind arith in
     let Is : ℕ → Type 0 = λ c. IsCheckByte prefix c in
     elim cases [
       | inl even ↦
-          let body = even_body bytes len refl whole fit (subst Is even is) in
-          inl (record { frame = body.0; len = len; begins = body.1 })
-      | inr odd ↦ inr (refused_for bytes BadCheck (whole, λ parity. omega (arith, check-even prefix check is parity, odd)))
+          let body = even_body bytes (body_length bytes) refl whole fit (subst Is even is) in
+          inl (record { frame = body.0; len = body_length bytes; begins = body.1 })
+      | inr odd ↦ inr (refused_for bytes BadCheck (whole, λ parity. omega (arith, check-even prefix _ is parity, odd)))
     ]
 
 -- otherwise one of them does not fit

@@ -10,7 +10,6 @@ use Rattle.hart_frame.specs.wire.FrameParts.{FrameParts, IsLongEnough}
 use Rattle.hart_frame.specs.wire.Layout.{Describes, body_length}
 use Rattle.hart_frame.specs.wire.Refusal.{HasCheckByte, IsDelimiter}
 use Rattle.hart_frame.specs.wire.Body.{IsCheckedPart}
-use Rattle.hart_frame.proofs.lemmas.wire.UnambiguousBodies.{length-address}
 
 -- a range and the next range are one range
 slice_range-join : (xs : List ℕ) (a b c : ℕ) → a ≤ b → b ≤ c → slice_range xs a b ++ slice_range xs b c ≡ slice_range xs a c
@@ -71,6 +70,5 @@ IsCheckedPart-in bytes layout frame describes whole stands =
     ap length stands.expansion ∙ length-slice_range bytes i j (omega (arith, describes.address, describes.command)) (omega arith) in
     let payload_len : length frame.payload ≡ n =
     ap length stands.payload ∙ length-slice_range bytes (j + 2) (j + 2 + n) (omega arith) (omega arith) ∙ omega arith in
-    let address_len = length-address _ _ _ _ stands.address in
     let range_len = length-slice_range bytes 1 i (omega (arith, describes.address)) (omega (arith, describes.address, describes.command)) in
     grind (arith, delimiter-parts, cut, joined)

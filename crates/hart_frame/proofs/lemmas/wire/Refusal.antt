@@ -1,15 +1,13 @@
 -- What begins with a body is not refused.
-use Rattle.std.proofs.Common.{◌≡◌, ℕ, ◌+◌, ◌*◌, ◌%◌, ◌<◌, ◌≤◌, ◌⊎◌, inl, inr, List, [], ◌∷◌, ◌++◌, length, take, drop, get_or, sym, ap}
+use Rattle.std.proofs.Common.{◌≡◌, ℕ, ◌+◌, ◌*◌, ◌<◌, ◌≤◌, List, [], ◌∷◌, ◌++◌, length, take, drop, get_or, sym, ap}
 use Rattle.std.proofs.Common.{◌∙◌, arith, append_assoc, length-append, subst, Result, Ok, Err}
 use Rattle.std.specs.Result.{IfOk, IfErr}
 use Rattle.std.proofs.lemmas.List.{length-take-le, take-append-drop, get_or_at}
-use Rattle.hart_frame.specs.declared.wire.kind.FrameKind.{FrameKind}
-use Rattle.hart_frame.specs.declared.wire.kind.FrameKind.TheVariants.{Stx, Ack}
 use Rattle.hart_frame.specs.declared.wire.fault.FrameFault.{FrameFault}
 use Rattle.hart_frame.specs.declared.wire.fault.FrameFault.TheVariants.{TooShortReply, BadPreamble, BadDelimiter, Truncated, BadCheck}
 use Rattle.hart_frame.specs.declared.wire.fault.FrameFault.TheVariants.{ShortReply}
-use Rattle.hart_frame.specs.wire.FrameParts.{FrameParts, IsLongEnough}
-use Rattle.hart_frame.specs.wire.Delimiter.{delimiter_of, kind_code, address_type}
+use Rattle.hart_frame.specs.wire.FrameParts.{FrameParts}
+use Rattle.hart_frame.specs.wire.Delimiter.{delimiter_of, address_type}
 use Rattle.hart_frame.specs.wire.Layout.{delimiter_in, byte_count_place, byte_count_in, body_length}
 use Rattle.hart_frame.specs.wire.Refusal.{IsRefusedWith, IsDelimiter}
 use Rattle.hart_frame.specs.wire.Body.{IsCheckedPart, BeginsWithBody}
@@ -28,13 +26,9 @@ length-checked : (f : FrameParts) (checked : List ℕ) (part : IsCheckedPart f c
     → length checked ≡ 4 + 4 * address_type f.address + length f.expansion + length f.payload
 length-checked f checked part = grind (arith, length-address, length-append)
 
-kind_code-either : (byte : ℕ) (kind : FrameKind) → byte % 8 ≡ kind_code kind → (byte % 8 ≡ 2) ⊎ (byte % 8 ≡ 6)
-kind_code-either byte Stx low = inl low
-kind_code-either byte Ack low = inr low
-
 -- the delimiter of a frame with at most 3 expansion bytes is one of this profile
 pub IsDelimiter-of : (f : FrameParts) → length f.expansion ≤ 3 → IsDelimiter (delimiter_of f)
-IsDelimiter-of f few = grind (arith, kind_code-is, address_type-lt, kind_code-either)
+IsDelimiter-of f few = grind (arith, kind_code-is, address_type-lt)
 
 pub says : (bytes : List ℕ) (f : FrameParts) (len : ℕ) → BeginsWithBody bytes f len → Says bytes f len
 says bytes f len begins =
@@ -44,8 +38,6 @@ says bytes f len begins =
     let delimiter : delimiter_in bytes ≡ delimiter_of f = ap (λ (xs : List ℕ). get_or xs 0 0) whole in
     let few : address_type f.address < 2 = address_type-lt f.address in
     let kind = kind_code-is f.kind in
-    let place : byte_count_place bytes ≡ 3 + 4 * address_type f.address + length f.expansion =
-    omega (arith, delimiter, few, kind, part.expansion_fits) in
     let prefix : List ℕ = delimiter_of f ∷ part.address ++ f.expansion ++ f.command ∷ [] in
     let regrouped : bytes ≡ prefix ++ length f.payload ∷ (f.payload ++ begins.body.check ∷ rest) = whole ∙ simp append_assoc in
     let address = length-address _ _ _ _ part.address_bytes in
@@ -57,11 +49,6 @@ says bytes f len begins =
     let taken_len : length (take len bytes) ≡ len = length-take-le len bytes begins.within in
     grind (arith, length-append, length-checked)
 
--- a reply has its two status bytes
-not_short : (kind : FrameKind) (payload : List ℕ) → IsLongEnough kind payload → length payload < 2 → kind_code kind ≡ 6 → ⊥
-not_short Stx payload long short ack = omega arith
-not_short Ack payload long short ack = omega arith
-
 -- a list that begins with a body is refused with no fault
 pub not_refused : (bytes : List ℕ) (f : FrameParts) (len : ℕ) (fault : FrameFault)
     → BeginsWithBody bytes f len → IsRefusedWith bytes fault → ⊥
@@ -71,8 +58,7 @@ not_refused bytes f len BadDelimiter begins refused =
     refused.1 (subst IsDelimiter (sym (says bytes f len begins).delimiter) (IsDelimiter-of f begins.body.checked_part.expansion_fits))
 not_refused bytes f len Truncated begins refused = grind (arith, says bytes f len begins)
 not_refused bytes f len BadCheck begins refused = grind (arith, says bytes f len begins)
-not_refused bytes f len ShortReply begins refused =
-    grind (arith, says bytes f len begins, kind_code-is, address_type-lt f.address, not_short)
+not_refused bytes f len ShortReply begins refused = grind (arith, says bytes f len begins, kind_code-is, address_type-lt f.address)
 
 pub only : ((f g : FrameParts) (bytes : List ℕ) (m n : ℕ) → BeginsWithBody bytes f m → BeginsWithBody bytes g n → (f ≡ g) × (m ≡ n))
     → (bytes : List ℕ) (result : Result (FrameParts × ℕ) FrameFault)

@@ -9,9 +9,9 @@ use Rattle.hart_frame.specs.declared.wire.kind.FrameKind.TheVariants.{Stx, Ack}
 use Rattle.hart_frame.specs.wire.FrameParts.{FrameParts, IsLongEnough}
 use Rattle.hart_frame.specs.wire.Delimiter.{kind_code}
 use Rattle.hart_frame.specs.wire.Body.{IsBody, IsCheckedPart, BeginsWithBody, HasNoBody, CanBecomeBody}
-use Rattle.hart_frame.specs.wire.Layout.{delimiter_in, byte_count_place, byte_count_in, body_length}
+use Rattle.hart_frame.specs.wire.Layout.{byte_count_place, byte_count_in, body_length}
 use Rattle.hart_frame.specs.wire.Parity.{IsCheckByte}
-use Rattle.hart_frame.specs.wire.Refusal.{IsDelimiter, HasDelimiter, HasGoodByteCount, IsTruncated}
+use Rattle.hart_frame.specs.wire.Refusal.{HasDelimiter, HasGoodByteCount, IsTruncated}
 use Rattle.hart_frame.proofs.lemmas.wire.Parity.{IsCheckByte-fold}
 use Rattle.hart_frame.proofs.lemmas.wire.Body.{IsBody-push}
 use Rattle.hart_frame.proofs.lemmas.wire.UnambiguousBodies.{address_type-lt, kind_code-is}
@@ -85,7 +85,6 @@ CanBecomeBody-begun bytes fit has short =
     let delimiter = delimiter_more prefix (2 ∷ []) some ∙ delimiter_more bytes zeros has.0 in
     let place : byte_count_place whole ≡ byte_count_place bytes = grind (arith, count_place_more) in
     let count : byte_count_in whole ≡ 2 = get_or_at prefix 2 [] 0 (byte_count_place whole) (prefix_long ∙ sym place) in
-    let is : IsDelimiter (delimiter_in whole) = subst IsDelimiter (sym delimiter) has.1 in
     let good : HasGoodByteCount whole = grind arith in
     let prefix_fits = All-append (λ byte. byte < 256) bytes zeros fit (All-replicate (λ byte. byte < 256) missing 0 (omega arith)) in
     let fits : AreBytes whole = All-push (λ byte. byte < 256) prefix 2 prefix_fits (omega arith) in

@@ -36,12 +36,6 @@ same_parts prefix other back rest lengths whole =
       drop_at other rest (length prefix) (sym lengths),
     )
 
-same_heads : (x y : ℕ) (xs ys : List ℕ) → x ∷ xs ≡ y ∷ ys → x ≡ y
-same_heads x y xs ys e = cc
-
-same_tails : (x y : ℕ) (xs ys : List ℕ) → x ∷ xs ≡ y ∷ ys → xs ≡ ys
-same_tails x y xs ys e = cc
-
 kind_code-one : (k l : FrameKind) → kind_code k ≡ kind_code l → k ≡ l
 kind_code-one Stx Stx e = refl
 kind_code-one Stx Ack e = absurd (omega arith)
@@ -73,11 +67,6 @@ same_delimiter : (f g : FrameParts) → length f.expansion ≤ 3 → length g.ex
     → delimiter_of f ≡ delimiter_of g → SameDelimiter f g
 same_delimiter f g few fewer same = grind (arith, kind_code-is, address_type-lt, kind_code-one)
 
--- frames with the same parts are the same
-same_frames : (f g : FrameParts) → f.kind ≡ g.kind → f.master ≡ g.master → f.burst ≡ g.burst → f.address ≡ g.address
-    → f.expansion ≡ g.expansion → f.command ≡ g.command → f.payload ≡ g.payload → f ≡ g
-same_frames f g kinds masters bursts addresses expansions commands payloads = grind arith
-
 -- a body and what follows it, part by part
 pub spread : (f : FrameParts) (body rest : List ℕ) (is : IsBody f body)
     → body ++ rest
@@ -93,18 +82,7 @@ pub record SameBodies (f g : FrameParts) (body other rest more : List ℕ) : Typ
 pub same_bodies : OneReading → (f g : FrameParts) (body other rest more : List ℕ)
     → IsBody f body → IsBody g other → body ++ rest ≡ other ++ more → SameBodies f g body other rest more
 same_bodies law f g body other rest more p q whole =
-    grind (
-      arith,
-      spread f body rest p,
-      spread g other more q,
-      same_delimiter,
-      same_heads,
-      same_parts,
-      length-address,
-      same_tails,
-      same_frames,
-      append_cancel_right,
-    )
+    grind (arith, spread f body rest p, spread g other more q, same_delimiter, same_parts, length-address, append_cancel_right)
 
 -- an address has one list of bytes, for each master bit and burst bit
 abbrev pub OneList : Type 0

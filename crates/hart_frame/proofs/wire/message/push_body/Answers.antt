@@ -1,5 +1,4 @@
-use Rattle.std.proofs.Common.{◌≡◌, ◌++◌, ◌-◌, ◌<◌, List, ℕ, drop, take, length, arith, append_assoc, length-append, sym, subst}
-use Rattle.std.proofs.Common.{◌∙◌}
+use Rattle.std.proofs.Common.{◌≡◌, ◌++◌, ◌-◌, ◌<◌, List, ℕ, drop, take, length, arith, append_assoc, length-append, sym, ◌∙◌}
 use Rattle.std.proofs.lemmas.List.{drop_at, take_all}
 use Rattle.std.specs.List.{All}
 use Rattle.std.proofs.lemmas.List.Elements.{All-same, All-take, All-drop}
@@ -21,7 +20,6 @@ returns g c =
     range_from_seam c.as_slice.result.now c.args.output.now checked c.len-start.result (c.as_slice.ensures.value
     ∙ joined) c.len-start.ensures.value in
     let family : List ℕ → Type 0 = λ xs. IsCheckByte xs check in
-    let of_checked : IsCheckByte checked check = subst family slice c.check_byte-check.ensures in
     let fits : All (λ byte. byte < 256) checked =
     All-same (λ byte. byte < 256) checked _ (sym slice)
     (All-take (λ byte. byte < 256) _ _ (All-drop (λ byte. byte < 256) _ _ c.as_slice.ensures.bytes)) in

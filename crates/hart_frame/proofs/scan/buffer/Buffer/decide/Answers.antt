@@ -28,8 +28,5 @@ returns-then-is_empty-2-clause-seen c = search (arith, given_nothing)
 
 pub returns-else-is_empty-2-clause-seen : goal.returns-else-is_empty-2-clause-seen
 returns-else-is_empty-2-clause-seen c =
-    let b = c.args.self.now in
-    let found = c.search_held-found.result in
-    let is = c.search_held-found.ensures in
     let some : 0 < length c.held-2.result.now = search rules in
     grind (arith, waits_open, given_open)

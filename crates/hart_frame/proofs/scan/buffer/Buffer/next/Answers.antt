@@ -1,8 +1,5 @@
 use Rattle.std.proofs.Common.{arith}
-use Rattle.hart_frame.specs.scan.Decision.{GivesSpan}
-use Rattle.hart_frame.specs.declared.scan.buffer.Buffer.{Buffer}
-use Rattle.hart_frame.specs.declared.scan.buffer.Span.{Span}
-use Rattle.hart_frame.proofs.lemmas.scan.Decision.{gives_span, gives_then, released}
+use Rattle.hart_frame.proofs.lemmas.scan.Decision.{gives_span, gives_then}
 use Rattle.hart_frame.proofs.scan.buffer.Buffer.next.Goals as goal
 
 pub returns-clause-given : goal.returns-clause-given
@@ -10,7 +7,5 @@ returns-clause-given c =
     let b = c.peek.new.self in
     let layout = c.in_ok-layout.layout in
     let holds = c.in_ok-layout.ensures.seen in
-    let New : Buffer → Type 0 = λ x. GivesSpan b x c.release.result in
-    let At : Span → Type 0 = λ span. GivesSpan b (released b layout) span in
     let gives = gives_span b layout c.peek.ensures.sound holds.undrained holds.begins in
     grind (arith, gives_then)

@@ -1,14 +1,12 @@
-use Rattle.std.proofs.Common.{◌≡◌, ◌+◌, ◌-◌, ◌≤◌, ℕ, take, subst, rules, get_or, length, arith}
+use Rattle.std.proofs.Common.{◌≡◌, ◌+◌, ◌-◌, ℕ, take, subst, rules, get_or, length, arith}
 use Rattle.std.specs.List.{slice_range}
-use Rattle.hart_values.specs.address.AddressBytes.{IsAddressBytes}
-use Rattle.hart_values.specs.declared.address.Address.{Address}
 use Rattle.hart_frame.specs.wire.Body.{IsCheckedPart}
 use Rattle.hart_frame.specs.scan.PlainAddress.{address_of}
 use Rattle.hart_frame.proofs.lemmas.wire.Body.{IsBody-whole}
 use Rattle.hart_frame.specs.wire.FrameParts.{FrameParts}
 use Rattle.hart_frame.specs.wire.Layout.{body_length}
 use Rattle.hart_frame.proofs.lemmas.wire.BodiesFound.{long_enough}
-use Rattle.hart_frame.proofs.lemmas.wire.Layout.{IsCheckedPart-in, StandsByLayout, length-slice_range}
+use Rattle.hart_frame.proofs.lemmas.wire.Layout.{IsCheckedPart-in, StandsByLayout}
 use Rattle.hart_frame.proofs.scan.view.FrameView.view_in.Goals as goal
 
 pub returns : goal.returns
@@ -19,12 +17,9 @@ returns c =
     let whole = body.checked in
     let end : c.from-address_end.result ≡ layout.address_end = search rules in
     let at : c.from-command_place.result ≡ layout.command_place = search rules in
-    let read = rw end at (rw c.unwrap-master.ensures at c.read.ensures.found) in
     let count : c.from.result ≡ layout.byte_count = search rules in
     let place = c.from-command_place.result + 2 in
     let payload = slice_range bytes place (place + c.from.result) in
-    let within : place + c.from.result ≤ length bytes = omega (arith, whole, body.described, count, at) in
-    let payload_len : length payload ≡ layout.byte_count = grind (arith, length-slice_range) in
     let frame : FrameParts = record {
       kind = layout.kind;
       master = c.unwrap-master.result.0;
@@ -34,8 +29,6 @@ returns c =
       command = get_or bytes c.from-command_place.result 0;
       payload = payload;
     } in
-    let Of : Address → Type 0 = λ a.
-    IsAddressBytes c.unwrap-master.result.0 c.unwrap-master.result.1 a (slice_range bytes 1 layout.address_end) in
     let stands : StandsByLayout bytes layout frame = grind (arith, long_enough) in
     let exact : body_length bytes ≡ length bytes = omega (arith, body.described, body.exact) in
     let part = IsCheckedPart-in bytes layout frame body.described whole stands in
