@@ -16,36 +16,7 @@ use crate::{Register, Request};
 pub fn requests_are_well_made(request: &Request)
     ensures { IsRequest request.now }
 {
-    match request {
-        Request::SetPolling { address, .. } => {
-            address.number();
-        }
-        Request::ReadVariables(codes) => {
-            codes.as_slice();
-        }
-        Request::IdentifyByTag(tag) => {
-            tag.as_bytes();
-        }
-        Request::WriteMessage(message) => {
-            message.as_bytes();
-        }
-        Request::WriteTag {
-            tag,
-            descriptor,
-            date,
-        } => {
-            tag.as_bytes();
-            descriptor.as_bytes();
-            date.as_bytes();
-        }
-        Request::WriteAssembly(assembly) => {
-            let _bytes: &[u8] = assembly;
-        }
-        Request::IdentifyByLongTag(long_tag) | Request::WriteLongTag(long_tag) => {
-            let _bytes: &[u8] = long_tag;
-        }
-        _ => {}
-    }
+    request.command();
 }
 
 /// The data that a request is written as are read as that request, whatever may follow them.

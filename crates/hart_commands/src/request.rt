@@ -1,8 +1,7 @@
-ghost use Rattle.std.specs.Prelude.{◌≡◌, [], ◌∷◌, IfOk};
+ghost use Rattle.std.specs.Prelude.{◌≡◌, ◌≤◌, ◌+◌, [], ◌∷◌, ◌++◌, length, IfOk};
 ghost use Rattle.hart_commands.specs.RequestData.{IsRequest, is_known, request_reading, command_of, request_data, mode_byte};
 
 use crate::CodeList;
-use crate::laws::requests_are_well_made;
 use crate::request::reading::{needed, read_codes, read_reset, read_set_polling, read_tag};
 use hart_values::{HartDate, LoopMode, PackedText, Payload, PollingAddress, ResponseCode};
 
@@ -110,73 +109,19 @@ impl Request {
         ensures command { result ≡ command_of self.now }
         ensures well_made { IsRequest self.now }
     {
-        // No-op: its contract is used below.
-        requests_are_well_made(self);
-        match self {
-            Request::Identify => 0,
-            Request::ReadPrimary => 1,
-            Request::ReadCurrent => 2,
-            Request::ReadDynamic => 3,
-            Request::SetPolling { .. } => 6,
-            Request::ReadPolling => 7,
-            Request::ReadClasses => 8,
-            Request::ReadVariables(_) => 9,
-            Request::IdentifyByTag(_) => 11,
-            Request::ReadMessage => 12,
-            Request::ReadTag => 13,
-            Request::ReadSensor => 14,
-            Request::ReadOutput => 15,
-            Request::ReadAssembly => 16,
-            Request::WriteMessage(_) => 17,
-            Request::WriteTag { .. } => 18,
-            Request::WriteAssembly(_) => 19,
-            Request::ReadLongTag => 20,
-            Request::IdentifyByLongTag(_) => 21,
-            Request::WriteLongTag(_) => 22,
-            Request::ResetChanged(_) => 38,
-            Request::ReadMore => 48,
-        }
+        let (command, _, _, _) = self.parts(&mut [0; 2]);
+        command
     }
 
     /// The same request.
+    #[tactic(auto, using(crate::proofs::lemmas::Request::written_is_own))]
     pub fn copy(&self) -> Self
         ensures same { result ≡ self.now }
         ensures well_made { IsRequest self.now }
     {
-        // No-op: its contract is used below.
-        requests_are_well_made(self);
-        match self {
-            Request::Identify => Request::Identify,
-            Request::ReadPrimary => Request::ReadPrimary,
-            Request::ReadCurrent => Request::ReadCurrent,
-            Request::ReadDynamic => Request::ReadDynamic,
-            &Request::SetPolling { address, mode } => Request::SetPolling { address, mode },
-            Request::ReadPolling => Request::ReadPolling,
-            Request::ReadClasses => Request::ReadClasses,
-            Request::ReadVariables(codes) => Request::ReadVariables(codes.copy()),
-            Request::IdentifyByTag(tag) => Request::IdentifyByTag(*tag),
-            Request::ReadMessage => Request::ReadMessage,
-            Request::ReadTag => Request::ReadTag,
-            Request::ReadSensor => Request::ReadSensor,
-            Request::ReadOutput => Request::ReadOutput,
-            Request::ReadAssembly => Request::ReadAssembly,
-            Request::WriteMessage(message) => Request::WriteMessage(*message),
-            &Request::WriteTag {
-                tag,
-                descriptor,
-                date,
-            } => Request::WriteTag {
-                tag,
-                descriptor,
-                date,
-            },
-            Request::WriteAssembly(assembly) => Request::WriteAssembly(*assembly),
-            Request::ReadLongTag => Request::ReadLongTag,
-            Request::IdentifyByLongTag(long_tag) => Request::IdentifyByLongTag(*long_tag),
-            Request::WriteLongTag(long_tag) => Request::WriteLongTag(*long_tag),
-            Request::ResetChanged(counter) => Request::ResetChanged(*counter),
-            Request::ReadMore => Request::ReadMore,
-        }
+        let mut data = Payload::new();
+        self.write(&mut data);
+        Request::read(self.command(), data.as_slice()).unwrap()
     }
 
     /// Replaces `data` by the bytes that ask it: those that the command needs, and none after them. Command 6 is always
@@ -185,32 +130,54 @@ impl Request {
         ensures written { «data».new ≡ request_data self.now }
         ensures well_made { IsRequest self.now }
     {
+        let mut counter = [0; 2];
+        let (_, first, second, third) = self.parts(&mut counter);
         data.clear();
+        data.extend_from_slice(first);
+        data.extend_from_slice(second);
+        data.extend_from_slice(third);
+    }
+
+    /// The number of its command, and the parts of its data, one after another. The bytes of a counter are put in `counter`.
+    fn parts<'a>(&'a self, counter: &'a mut [u8; 2]) -> (u8, &'a [u8], &'a [u8], &'a [u8])
+        ensures command { result.0 ≡ command_of self.now }
+        ensures written { result.1.now ++ result.2.now ++ result.3.now ≡ request_data self.now }
+        ensures few { length result.1.now + length result.2.now + length result.3.now ≤ 32 }
+        ensures well_made { IsRequest self.now }
+    {
         match self {
+            Request::Identify => (0, &[], &[], &[]),
+            Request::ReadPrimary => (1, &[], &[], &[]),
+            Request::ReadCurrent => (2, &[], &[], &[]),
+            Request::ReadDynamic => (3, &[], &[], &[]),
             Request::SetPolling { address, mode } => {
-                data.extend_from_slice(address.as_bytes());
-                data.extend_from_slice(mode_bytes(*mode));
+                (6, address.as_bytes(), mode_bytes(*mode), &[])
             }
-            Request::ReadVariables(codes) => data.extend_from_slice(codes.as_slice()),
-            Request::IdentifyByTag(tag) => data.extend_from_slice(tag.as_bytes()),
-            Request::WriteMessage(message) => data.extend_from_slice(message.as_bytes()),
+            Request::ReadPolling => (7, &[], &[], &[]),
+            Request::ReadClasses => (8, &[], &[], &[]),
+            Request::ReadVariables(codes) => (9, codes.as_slice(), &[], &[]),
+            Request::IdentifyByTag(tag) => (11, tag.as_bytes(), &[], &[]),
+            Request::ReadMessage => (12, &[], &[], &[]),
+            Request::ReadTag => (13, &[], &[], &[]),
+            Request::ReadSensor => (14, &[], &[], &[]),
+            Request::ReadOutput => (15, &[], &[], &[]),
+            Request::ReadAssembly => (16, &[], &[], &[]),
+            Request::WriteMessage(message) => (17, message.as_bytes(), &[], &[]),
             Request::WriteTag {
                 tag,
                 descriptor,
                 date,
-            } => {
-                data.extend_from_slice(tag.as_bytes());
-                data.extend_from_slice(descriptor.as_bytes());
-                data.extend_from_slice(date.as_bytes());
+            } => (18, tag.as_bytes(), descriptor.as_bytes(), date.as_bytes()),
+            Request::WriteAssembly(assembly) => (19, assembly, &[], &[]),
+            Request::ReadLongTag => (20, &[], &[], &[]),
+            Request::IdentifyByLongTag(long_tag) => (21, long_tag, &[], &[]),
+            Request::WriteLongTag(long_tag) => (22, long_tag, &[], &[]),
+            Request::ResetChanged(None) => (38, &[], &[], &[]),
+            Request::ResetChanged(Some(given)) => {
+                *counter = given.to_be_bytes();
+                (38, counter, &[], &[])
             }
-            Request::WriteAssembly(assembly) => data.extend_from_slice(assembly),
-            Request::IdentifyByLongTag(long_tag) | Request::WriteLongTag(long_tag) => {
-                data.extend_from_slice(long_tag);
-            }
-            Request::ResetChanged(Some(counter)) => {
-                data.extend_from_slice(&counter.to_be_bytes());
-            }
-            _ => {}
+            Request::ReadMore => (48, &[], &[], &[]),
         }
     }
 }
