@@ -1,5 +1,6 @@
 //! Laws over the definitions alone, for the crates above.
-ghost use Rattle.std.specs.Prelude.{◌≡◌, ◌≢◌, AllPairs, Contains, ◌↔◌, ◌++◌, List, ℕ, false, Ok, Err, Some, IsTrue, IsSome, length, take};
+ghost use Rattle.std.specs.Prelude.{◌≡◌, ◌≢◌, ◌<◌, AllPairs, Contains, ◌↔◌, ◌++◌, List, ℕ, false, true, Ok, Err, Some, IsTrue, IsSome};
+ghost use Rattle.std.specs.Prelude.{length, take};
 ghost use Rattle.hart_commands.specs.RequestData.{IsRequest, MayFollow, command_of, is_known};
 ghost use Rattle.hart_commands.specs.RequestData.{request_reading, request_data};
 ghost use Rattle.hart_commands.specs.RequestCode.{is_write};
@@ -9,6 +10,7 @@ ghost use Rattle.hart_commands.specs.ReplyData.{reply_reading, reply_payload};
 ghost use Rattle.hart_commands.specs.declared.register.Register.{Register};
 ghost use Rattle.hart_commands.specs.declared.request.Request.{Request};
 ghost use Rattle.hart_commands.specs.declared.reply.Reply.{Reply};
+ghost use Rattle.hart_commands.specs.declared.content.ReplyContent.TheVariants.{Refused};
 
 use crate::{Register, Request};
 
@@ -66,11 +68,16 @@ pub fn overwrites_are_valid()
 {}
 
 /// The payload that a reply is written as is read as that reply, for every well-made reply; and every reply that is read is
-/// well made, and is written as the front of the payload that it was read from: its bytes are handed on as they came.
+/// well made, and is written as the front of the payload that it was read from: its bytes are handed on as they came. It is to a
+/// command that is known, its response code is below 128, and with another code than 0 it says nothing.
 pub fn written_payloads_are_read_again()
     ensures again { (reply : Reply) → IsReply reply → reply_reading reply.command (reply_payload reply) ≡ Some reply }
     ensures well_made { (command : ℕ) (payload : List ℕ) (reply : Reply)
         → reply_reading command payload ≡ Some reply → IsReply reply × (reply.command ≡ command) }
     ensures kept { (command : ℕ) (payload : List ℕ) (reply : Reply) → reply_reading command payload ≡ Some reply
         → reply_payload reply ≡ take (length (reply_payload reply)) payload }
+    ensures known { (command : ℕ) (payload : List ℕ) (reply : Reply) → reply_reading command payload ≡ Some reply
+        → (is_known command ≡ true) × (reply.code < 128) }
+    ensures refused { (command : ℕ) (payload : List ℕ) (reply : Reply) → reply_reading command payload ≡ Some reply
+        → reply.code ≢ 0 → reply.content ≡ Refused }
 {}

@@ -1,13 +1,14 @@
 -- What is read of a payload is written as the front of it, and read again.
 use Rattle.std.proofs.Common.{◌≡◌, ℕ, zero, suc, ◌+◌, ◌-◌, ◌*◌, ◌/◌, ◌<◌, ◌≤◌, ◌⊎◌, inl, inr, List, [], ◌∷◌, ◌++◌, take, drop, length}
 use Rattle.std.proofs.Common.{map, min, Option, Some, None, IfSome, refl, ap, sym, ◌∙◌, subst, arith, Bool, true, false, ltb, eqb}
-use Rattle.std.proofs.Common.{◌&&◌, length-append, length-take, length-drop, length-take-le, slice_index}
+use Rattle.std.proofs.Common.{◌≢◌, ◌&&◌, is_some, length-append, length-take, length-drop, length-take-le, slice_index}
 use Rattle.std.specs.Prelude.{if◌then◌else◌}
 use Rattle.std.specs.List.{flat_map, AllByRecursion}
 use Rattle.std.specs.Option.{option_map}
 use Rattle.std.specs.Simd.{first_chunks}
 use Rattle.std.proofs.Math.Seq.{take-add}
 use Rattle.std.proofs.lemmas.Bool.{cases_lt}
+use Rattle.std.proofs.lemmas.Bool.Decides.{nat_tests}
 use Rattle.std.proofs.lemmas.List.{take_at, drop_at, take_all, take-append-drop}
 use Rattle.hart_commands.specs.declared.content.ReplyContent.{ReplyContent}
 use Rattle.hart_commands.specs.declared.content.ReplyContent.TheVariants.{Identity, Dynamic, Variables, More, Refused}
@@ -213,3 +214,21 @@ reading-made command payload = go (reply_reading command payload) refl
     go : (reply : Option Reply) → reply_reading command payload ≡ reply → IfSome reply IsReply
     go None e = tt
     go (Some reply) e = (read-made command payload reply e).0
+
+-- a reply to a command that has this row, or none, is to one that is known, has a code below 128, and with another code than 0 says nothing
+said_by : (row : Option CommandRow) (command code status : ℕ) (bytes : List ℕ) (reply : Reply)
+    → (let saying : ReplyContent → Reply =
+    λ content. record { command = command; code = code; status = record { 0 = status }; content = content } in
+    if ltb 127 code then None
+    else if eqb code 0 then option_map saying (content_by row bytes)
+    else if is_some row then Some (saying Refused)
+    else None) ≡ Some reply
+    → (is_some row ≡ true) × (reply.code < 128) × (reply.code ≢ 0 → reply.content ≡ Refused)
+said_by None command code status bytes reply e = grind (arith, nat_tests)
+said_by (Some row) command code status bytes reply e = grind (arith, nat_tests)
+
+pub read-said : (command : ℕ) (payload : List ℕ) (reply : Reply) → reply_reading command payload ≡ Some reply
+    → (is_known command ≡ true) × (reply.code < 128) × (reply.code ≢ 0 → reply.content ≡ Refused)
+read-said command [] reply e = cc
+read-said command (code ∷ []) reply e = cc
+read-said command (code ∷ status ∷ bytes) reply e = said_by (command_row command) command code status bytes reply e
