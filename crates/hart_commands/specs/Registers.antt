@@ -1,5 +1,6 @@
 -- The registers of a device, and what a write does to them (HCF_SPEC-127).
-use Rattle.std.specs.Prelude.{ℕ, ◌≡◌, ◌<◌, List, [], ◌∷◌, length, Option, None, Some, slice_index, unwrap_or, if◌then◌else◌}
+use Rattle.std.specs.Prelude.{ℕ, ◌≡◌, ◌<◌, List, [], ◌∷◌, length, Option, None, Some, IfSome, slice_index, unwrap_or}
+use Rattle.std.specs.Prelude.{if◌then◌else◌}
 use Rattle.std.specs.Option.{option_or}
 use Rattle.hart_values.specs.hart_date.Calendar.{IsDateBytes}
 use Rattle.hart_commands.specs.declared.register.Register.{Register}
@@ -103,6 +104,10 @@ named_in (WriteTag tag descriptor date) Date = Some date
 named_in (WriteAssembly assembly) Assembly = Some assembly
 named_in (WriteLongTag long_tag) LongTag = Some long_tag
 named_in _ _ = None
+
+-- An overwrite names valid bytes if each register that it names gets bytes that are valid in it.
+abbrev pub NamesValid : Overwrite → Type 0
+NamesValid overwrite = (register : Register) → IfSome (named_in overwrite register) (IsValidIn register)
 
 -- A configuration write has an overwrite; every other request has none.
 abbrev pub overwrite_of : Request → Option Overwrite

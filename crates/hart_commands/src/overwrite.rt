@@ -1,5 +1,5 @@
 ghost use Rattle.std.specs.Prelude.{◌≡◌, IfSome, option_map, length};
-ghost use Rattle.hart_commands.specs.Registers.{IsValidIn, named_in, overwrite_of, size_of};
+ghost use Rattle.hart_commands.specs.Registers.{IsValidIn, NamesValid, named_in, overwrite_of, size_of};
 ghost use Rattle.hart_commands.specs.RequestCode.{is_write};
 
 use crate::request::mode_bytes;
@@ -47,7 +47,8 @@ impl<'a> Overwrite<'a> {
 
 /// The overwrite of a configuration write, or `None` for every other request.
 pub fn writes_of(request: &Request) -> Option<Overwrite<'_>>
-    ensures { result ≡ overwrite_of request.now }
+    ensures overwrite { result ≡ overwrite_of request.now }
+    ensures valid { IfSome result NamesValid }
 {
     if is_write(request.command()) {
         Some(Overwrite { write: request })

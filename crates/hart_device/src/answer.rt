@@ -10,9 +10,7 @@ ghost use Rattle.hart_device.specs.declared.answer.garbled.GarbledRequest.{Garbl
 
 use crate::answer::garbled::garbled_in;
 use crate::{Device, Process, RegisterStore};
-use hart_commands::{
-    Register, Reply, ReplyContent, Request, request_code, requests_are_well_made, writes_of,
-};
+use hart_commands::{Register, Reply, ReplyContent, Request, request_code, writes_of};
 use hart_frame::{Char, Frame, FrameKind, LoneFrame, Payload, lone_frame};
 use hart_values::{Address, EachMaster, MasterId, ResponseCode};
 
@@ -193,8 +191,6 @@ impl<S: RegisterStore> Device<S> {
         ensures { self.new ≡ after master (asked_effect (Ok request.now)) self.old }
     {
         if let Some(overwrite) = writes_of(request) {
-            // No-op: its contract says that the bytes which are written are valid.
-            requests_are_well_made(request);
             self.registers.overwrite(&overwrite);
             self.counter = self.counter.wrapping_add(1);
             self.changed = EachMaster {

@@ -9,4 +9,4 @@ returns-in-Some g c =
     let old = g.S.RegisterStore.contents c.self.inside.registers in
     let contents : g.S.RegisterStore.contents c.overwrite.new.self ≡ overwritten c.in-Some.overwrite old =
     contents_determined _ _ c.overwrite.ensures in
-    rw (write_executes c.args.request.now c.in-Some.overwrite (sym c.in-Some.ensures), contents, ← c.self.view_is)
+    rw (write_executes c.args.request.now c.in-Some.overwrite (sym c.in-Some.ensures.overwrite), contents, ← c.self.view_is)
