@@ -6,7 +6,6 @@ ghost use Rattle.hart_commands.specs.Registers.{AreValid};
 ghost use Rattle.hart_device.specs.Device.{for_both, new_device, restarted};
 ghost use Rattle.hart_device.specs.registers.Values.{values_of};
 
-use crate::registers::values::values_are_valid;
 use crate::{Identity, RegisterStore, RegisterValues};
 use hart_values::{EachMaster, MasterId};
 use std::marker::Model;
@@ -74,8 +73,6 @@ impl<S: RegisterStore> Device<S> {
           cold_start = for_both false;
         } }
     {
-        // No-op: its contract says that the registers hold valid bytes.
-        values_are_valid(values);
         Device {
             identity,
             registers: S::with(values),

@@ -12,7 +12,6 @@ ghost use Rattle.hart_device.specs.declared.identity_parts.IdentityParts.{Identi
 use crate::image::flags::Flags;
 use crate::registers::image_registers::ImageRegisters;
 use crate::registers::ranges::ARRAY_LEN;
-use crate::registers::values::values_are_valid;
 use crate::{Device, DeviceFault, Identity, RegisterStore, RegisterValues};
 use hart_commands::Register;
 use hart_values::{ByteList, EachMaster, MasterId};
@@ -150,8 +149,6 @@ fn read_parts(registers: &ImageRegisters, ending: &[u8]) -> Option<ImageParts>
     ensures refused { IfNone result (HoldsInvalid «registers».now.bytes ⊎ (7 < slice_index ending.now 2)) }
 {
     let values = registers.values()?;
-    // No-op: its contract says that the values are valid.
-    values_are_valid(&values);
     let flags = Flags::from_byte(ending[2])?;
     Some(ImageParts {
         values,

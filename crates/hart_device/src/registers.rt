@@ -1,6 +1,6 @@
 //! What holds the registers of a device.
 ghost use Rattle.std.specs.Prelude.{◌≡◌, length, unwrap_or};
-ghost use Rattle.hart_commands.specs.Registers.{Contents, bytes_in, named_in, size_of};
+ghost use Rattle.hart_commands.specs.Registers.{AreValid, Contents, bytes_in, named_in, size_of};
 ghost use Rattle.hart_commands.specs.declared.register.Register.{Register};
 ghost use Rattle.hart_device.specs.registers.Values.{values_of};
 
@@ -20,7 +20,8 @@ pub trait RegisterStore {
 
     /// A store in which each register holds its value.
     fn with(values: &RegisterValues) -> Self
-        ensures { (register : Register) → bytes_in (contents result) register ≡ bytes_in (values_of values.now) register };
+        ensures held { (register : Register) → bytes_in (contents result) register ≡ bytes_in (values_of values.now) register }
+        ensures valid { AreValid (contents result) };
 
     /// The bytes of a register.
     fn get(&self, register: Register) -> &[u8]

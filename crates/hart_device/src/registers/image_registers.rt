@@ -1,5 +1,5 @@
 ghost use Rattle.std.specs.Prelude.{◌≡◌, ◌≢◌, ◌↔◌, IsSome, IfSome, IfNone, [], ◌∷◌, length};
-ghost use Rattle.hart_commands.specs.Registers.{IsValidIn, size_of};
+ghost use Rattle.hart_commands.specs.Registers.{AreValid, IsValidIn, size_of};
 ghost use Rattle.hart_commands.specs.RequestData.{mode_byte};
 ghost use Rattle.hart_commands.specs.declared.register.Register.{Register};
 ghost use Rattle.hart_commands.specs.declared.register.Register.TheVariants.{Polling, Mode, Tag, LongTag};
@@ -8,6 +8,7 @@ ghost use Rattle.hart_device.specs.registers.Ranges.{HoldsInvalid, contents_in, 
 ghost use Rattle.hart_device.specs.registers.Values.{values_of};
 
 use crate::registers::bytes_of;
+use crate::registers::field_registers::FieldRegisters;
 use crate::registers::ranges::{ARRAY_LEN, range_of};
 use crate::{RegisterStore, RegisterValues};
 use hart_commands::{Overwrite, Register};
@@ -23,11 +24,12 @@ impl RegisterStore for ImageRegisters {
     ghost contents = { λ store. contents_in store.bytes };
 
     fn with(values: &RegisterValues) -> Self {
+        let fields = FieldRegisters::with(values);
         let mut store = ImageRegisters {
             bytes: [0; ARRAY_LEN],
         };
         for register in Register::ALL {
-            store.write(register, values.get(register));
+            store.write(register, fields.get(register));
         }
         store
     }
@@ -51,6 +53,7 @@ impl ImageRegisters {
     /// bytes are valid.
     pub(crate) fn values(&self) -> Option<RegisterValues>
         ensures kept { IfSome result (λ values. values_of values ≡ contents_in self.now.bytes) }
+        ensures valid { IfSome result (λ values. AreValid (values_of values)) }
         ensures refused { IfNone result (HoldsInvalid self.now.bytes) }
     {
         let polling = polling_in(self.get(Register::Polling))?;

@@ -5,5 +5,5 @@ use Rattle.hart_device.proofs.device.Device.restored.Goals as goal
 
 pub returns : goal.returns
 returns g c =
-    let contents : g.S.RegisterStore.contents c.with.result ≡ values_of c.args.values.now = same_contents _ _ c.with.ensures in
+    let contents : g.S.RegisterStore.contents c.with.result ≡ values_of c.args.values.now = same_contents _ _ c.with.ensures.held in
     rw contents
