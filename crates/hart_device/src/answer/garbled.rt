@@ -114,11 +114,11 @@ fn communication_faults(chars: &[Char]) -> CommFaults
 fn fault_if(chars: &[Char], fault: u8) -> u8
     ensures { (bit : ℕ) → fault ≡ 2 ^ bit → result ≡ bit_if (has_fault bit chars.now) fault }
 {
-    bit_if(have_fault(chars, fault), fault)
+    bit_if(has_fault(chars, fault), fault)
 }
 
 /// Whether one of the characters has one of these fault bits.
-fn have_fault(chars: &[Char], faults: u8) -> bool
+fn has_fault(chars: &[Char], faults: u8) -> bool
     ensures { result ≡ list_any (λ character. not (bit_and character.faults faults == 0)) chars.now }
 {
     chars

@@ -55,12 +55,12 @@ pub none_of : (frames : List Found) → NoFrame ≡ lone_of frames → frames �
 none_of frames is = grind arith
 
 -- so the reply to the garbled request of a delivery without a frame is the answer to what that brings
-abbrev pub IsReply : IdentityParts → List Character → Option FrameParts → Type 0
-IsReply identity chars answer = MatchOption answer ((request : GarbledRequest) → HasGarbled identity chars request → ⊥)
+abbrev pub IsGarbledReply : IdentityParts → List Character → Option FrameParts → Type 0
+IsGarbledReply identity chars answer = MatchOption answer ((request : GarbledRequest) → HasGarbled identity chars request → ⊥)
     (λ reply. (request : GarbledRequest) × HasGarbled identity chars request × (reply ≡ garbled_reply identity request))
 
 reply_by : (state : DeviceState) (process : Process) (chars : List Character) (brought : Brought) (answer : Option FrameParts)
-    → BringsBy state.identity chars [] brought → IsReply state.identity chars answer → answer ≡ answer_to state process brought
+    → BringsBy state.identity chars [] brought → IsGarbledReply state.identity chars answer → answer ≡ answer_to state process brought
 reply_by state process chars (OneFrame frame) answer never is = absurd never
 reply_by state process chars (Garbled request) None has none = absurd (none request has)
 reply_by state process chars (Garbled request) (Some reply) has is =
@@ -70,7 +70,7 @@ reply_by state process chars NoMessage (Some reply) nothing is = absurd (nothing
 
 pub answer_without_frame : (state : DeviceState) (process : Process) (chars : List Character) (brought : Brought)
     (answer : Option FrameParts) → (brings : Brings state.identity chars brought) → NoFrame ≡ lone_of brings.frames
-    → IsReply state.identity chars answer → answer ≡ answer_to state process brought
+    → IsGarbledReply state.identity chars answer → answer ≡ answer_to state process brought
 answer_without_frame state process chars brought answer brings none is =
     let By : List Found → Type 0 = λ frames. BringsBy state.identity chars frames brought in
     reply_by state process chars brought answer (subst By (none_of brings.frames none) brings.by_frames) is

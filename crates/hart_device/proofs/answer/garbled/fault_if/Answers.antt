@@ -6,4 +6,4 @@ use Rattle.hart_device.proofs.answer.garbled.fault_if.Goals as goal
 pub returns : goal.returns
 returns c = λ bit is.
     c.bit_if.ensures
-    ∙ ap (λ (holds : Bool). bit_if holds c.args.fault) (c.have_fault.ensures ∙ fault_found c.args.chars.now c.args.fault bit is)
+    ∙ ap (λ (holds : Bool). bit_if holds c.args.fault) (c.has_fault.ensures ∙ fault_found c.args.chars.now c.args.fault bit is)
