@@ -1,10 +1,12 @@
 //! Laws over the definitions alone, for the crates above.
-ghost use Rattle.std.specs.Prelude.{◌≡◌, ◌≢◌, ◌⊎◌, ℕ, false, true, Ok, Option, None, Some, IfSome, IsSomeAnd, unwrap_or};
+ghost use Rattle.std.specs.Prelude.{◌≡◌, ◌≢◌, ◌<◌, ◌⊎◌, ◌↔◌, ℕ, Bool, false, true, IsTrue, All, Ok, Option, None, Some, IfSome, IsSomeAnd};
+ghost use Rattle.std.specs.Prelude.{unwrap_or};
 ghost use Rattle.std.specs.Prelude.{List, [], ◌∷◌, ◌++◌, Contains, slice_get, if◌then◌else◌};
 ghost use Rattle.std.specs.Int.{bit_at};
 ghost use Rattle.hart_values.specs.EachMaster.{of_master, with_master};
-ghost use Rattle.hart_values.specs.declared.master_id.MasterId.{MasterId};
+ghost use Rattle.hart_values.specs.address.AddressBytes.{IsAddressBytes};
 ghost use Rattle.hart_values.specs.declared.address.Address.TheVariants.{Unique};
+ghost use Rattle.hart_values.specs.declared.master_id.MasterId.{MasterId};
 ghost use Rattle.hart_frame.specs.heard.Character.{Character, faultless};
 ghost use Rattle.hart_frame.specs.wire.Body.{IsBody};
 ghost use Rattle.hart_frame.specs.wire.FrameParts.{FrameParts, reply_parts, request_parts};
@@ -14,7 +16,7 @@ ghost use Rattle.hart_commands.specs.declared.request.Request.{Request};
 ghost use Rattle.hart_commands.specs.declared.request.Request.TheVariants.{ResetChanged};
 ghost use Rattle.hart_device.specs.answer.Answer.{after_refusal, answer_of, code_of, effect_of, is_answered, reading_of, state_after};
 ghost use Rattle.hart_device.specs.answer.Delivery.{Brings, Brought};
-ghost use Rattle.hart_device.specs.answer.Garbled.{HasGarbled, garbled_request};
+ghost use Rattle.hart_device.specs.answer.Garbled.{HasGarbled, garbled_request, is_own_address};
 ghost use Rattle.hart_device.specs.declared.fault.DeviceFault.{DeviceFault};
 ghost use Rattle.hart_device.specs.declared.answer.garbled.GarbledRequest.{GarbledRequest};
 ghost use Rattle.hart_device.specs.declared.identity_parts.IdentityParts.{IdentityParts};
@@ -67,12 +69,16 @@ pub fn cold_starts_are_shown_once()
         → (state_after state frame).cold_start ≡ state.cold_start }
 {}
 
-/// A list of characters has one garbled request for a device at most, and it has one or none.
+/// A list of characters has one garbled request for a device at most, and it has one or none. The bytes of the address with which
+/// one begins are those of the device's own, for either master and with any burst bit.
 pub fn garbled_requests_are_decided()
     ensures one { (identity : IdentityParts) (chars : List Character) (request other : GarbledRequest)
         → HasGarbled identity chars request → HasGarbled identity chars other → request ≡ other }
     ensures decided { (identity : IdentityParts) (chars : List Character) → ((request : GarbledRequest) × HasGarbled identity chars request)
         ⊎ ((request : GarbledRequest) → HasGarbled identity chars request → ⊥) }
+    ensures own_address { (identity : IdentityParts) (bytes : List ℕ) → All (λ byte. byte < 256) bytes
+        → IsTrue (is_own_address identity bytes)
+        ↔ ((master : MasterId) × (burst : Bool) × IsAddressBytes master burst (Unique (own_numbers identity)) bytes) }
 {}
 
 /// Every delivery brings a device one thing: a frame, a garbled request, or no message.

@@ -1,9 +1,18 @@
--- That a list of characters has one garbled request, or none.
-use Rattle.std.proofs.Common.{◌≡◌, ℕ, ◌⊎◌, inl, inr, List, drop, Option, None, Some, refl, sym, ◌∙◌}
+-- That a list of characters has one garbled request, or none, and that its address is the device's own.
+use Rattle.std.proofs.Common.{◌≡◌, ℕ, ◌<◌, ◌/◌, ◌%◌, ◌⊎◌, ◌↔◌, inl, inr, List, [], ◌∷◌, ◌++◌, All, drop, slice_index, Option, None, Some}
+use Rattle.std.proofs.Common.{Bool, true, false, IsTrue, refl, sym, ap, ◌∙◌, arith}
+use Rattle.std.proofs.lemmas.Bool.{cases_lt}
+use Rattle.std.proofs.lemmas.Slice.Eq.{bytes_eq-Decides}
+use Rattle.hart_values.specs.address.AddressBytes.{IsAddressBytes, IsUniqueBytes, first_byte}
+use Rattle.hart_values.specs.address.DeviceNumbers.{DeviceNumbers}
+use Rattle.hart_values.specs.declared.address.Address.TheVariants.{Unique}
+use Rattle.hart_values.specs.declared.master_id.MasterId.{MasterId}
+use Rattle.hart_values.specs.declared.master_id.MasterId.TheVariants.{Primary, Secondary}
 use Rattle.hart_frame.specs.heard.Character.{Character}
 use Rattle.hart_frame.specs.heard.Start.{IsFirstStart}
 use Rattle.hart_frame.proofs.lemmas.Laws.{first_starts_are_decided-decided, first_starts_are_decided-one}
-use Rattle.hart_device.specs.answer.Garbled.{HasGarbled, garbled_request}
+use Rattle.hart_device.specs.Identity.{own_numbers, three_bytes, two_bytes}
+use Rattle.hart_device.specs.answer.Garbled.{HasGarbled, garbled_request, is_own_address}
 use Rattle.hart_device.specs.declared.answer.garbled.GarbledRequest.{GarbledRequest}
 use Rattle.hart_device.specs.declared.identity_parts.IdentityParts.{IdentityParts}
 
@@ -33,3 +42,72 @@ garbled_decided identity chars = elim (first_starts_are_decided-decided chars) [
   | inr none ↦ inr (λ request has. none has.start has.first_start.start)
   | inl first ↦ decided_at identity chars first.0 first.1 _ refl
 ]
+
+-- the bytes of numbers, below the two bits on top of the first, are those of a unique address
+first_of : (first : ℕ) → first < 256 → (master : MasterId) × (burst : Bool) × (first ≡ first_byte master burst (first % 64))
+first_of first small = elim (cases_lt first 128) [
+  | inl low ↦ elim (cases_lt first 64) [
+    | inl clear ↦ (Secondary, false, omega arith)
+    | inr set ↦ (Secondary, true, omega arith)
+  ]
+  | inr high ↦ elim (cases_lt first 192) [
+    | inl clear ↦ (Primary, false, omega arith)
+    | inr set ↦ (Primary, true, omega arith)
+  ]
+]
+
+unique_of : (first : ℕ) (others : List ℕ) (numbers : DeviceNumbers) → All (λ byte. byte < 256) (first ∷ others)
+    → first % 64 ∷ others ≡ two_bytes numbers.expanded_type ++ three_bytes numbers.device_id
+    → (master : MasterId) × (burst : Bool) × IsUniqueBytes master burst numbers (first ∷ others)
+unique_of first others numbers small is =
+    let top = first_of first (small 0 0 (omega arith)) in
+    let high : first % 64 ≡ numbers.expanded_type / 256 = ap (λ xs. slice_index xs 0) is in
+    let rest = ap (drop 1) is in
+    let below = rw rest at small in (
+      top.0,
+      top.1,
+      record {
+        type_high = first % 64;
+        type_low = numbers.expanded_type % 256;
+        id_high = numbers.device_id / 65536;
+        id_middle = numbers.device_id / 256 % 256;
+        id_low = numbers.device_id % 256;
+        five = rw (← top.2, rest) refl;
+        ranges = (omega arith, omega arith, below 2 0 (omega arith), omega arith, omega arith);
+        expanded_type = omega (arith, high);
+        device_id = omega arith;
+      },
+    )
+
+six_bits : (master : MasterId) (burst : Bool) (n : ℕ) → n < 64 → first_byte master burst n % 64 ≡ n
+six_bits Primary true n small = omega arith
+six_bits Primary false n small = omega arith
+six_bits Secondary true n small = omega arith
+six_bits Secondary false n small = omega arith
+
+bytes_of : (master : MasterId) (burst : Bool) (first : ℕ) (others : List ℕ) (numbers : DeviceNumbers)
+    → IsUniqueBytes master burst numbers (first ∷ others)
+    → first % 64 ∷ others ≡ two_bytes numbers.expanded_type ++ three_bytes numbers.device_id
+bytes_of master burst first others numbers is =
+    let type = is.expanded_type in
+    let id = is.device_id in
+    let ranges = is.ranges in
+    let head : first ≡ first_byte master burst is.type_high = ap (λ xs. slice_index xs 0) is.five in
+    let rest : others ≡ is.type_low ∷ is.id_high ∷ is.id_middle ∷ is.id_low ∷ [] = ap (drop 1) is.five in
+    let six = six_bits master burst is.type_high ranges.0 in
+    let a : numbers.expanded_type / 256 ≡ is.type_high = omega (arith, type, ranges.1) in
+    let b : numbers.expanded_type % 256 ≡ is.type_low = omega (arith, type, ranges.1) in
+    let c : numbers.device_id / 65536 ≡ is.id_high = omega (arith, id, ranges.3, ranges.4) in
+    let d : numbers.device_id / 256 % 256 ≡ is.id_middle = omega (arith, id, ranges.2, ranges.3, ranges.4) in
+    let e : numbers.device_id % 256 ≡ is.id_low = omega (arith, id, ranges.4) in
+    rw (a, b, c, d, e, rest, head, six) refl
+
+-- so bytes name the device itself if they are those of its own address, for either master and with any burst bit
+pub own_address : (identity : IdentityParts) (bytes : List ℕ) → All (λ byte. byte < 256) bytes
+    → IsTrue (is_own_address identity bytes)
+    ↔ ((master : MasterId) × (burst : Bool) × IsAddressBytes master burst (Unique (own_numbers identity)) bytes)
+own_address identity [] small = (λ is. cc, λ has. let five = has.2.five in cc)
+own_address identity (first ∷ others) small = (
+  λ is. unique_of first others (own_numbers identity) small ((bytes_eq-Decides _ _).0 is),
+  λ has. (bytes_eq-Decides _ _).1 (bytes_of has.0 has.1 first others (own_numbers identity) has.2),
+)
