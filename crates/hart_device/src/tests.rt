@@ -1,6 +1,7 @@
 use super::*;
+use hart_commands::Request;
 use hart_frame::{Char, Frame, Payload};
-use hart_values::{Address, MasterId};
+use hart_values::{Address, MasterId, ResponseCode};
 use std::test::Fail;
 
 mod addresses;
@@ -39,7 +40,6 @@ const PROTECTED: &[Row] = &[
     (17, &[], &[0x05, 0x00]),
     (18, BAD_DATE, &[0x07, 0x00]),
     (19, &[0x01, 0x23, 0x45], &[0x07, 0x00]),
-    (4, &[], &[0x40, 0x00]),
     (22, &[0xFF; 32], &[0x07, 0x00]),
     (22, &[0xFF; 31], &[0x05, 0x00]),
     (38, &[], &[0x00, 0x00, 0x00, 0x00]),
@@ -88,6 +88,22 @@ fn requests_are_answered(rt: HostRuntime) -> Result<(), Fail> {
         let replied = replies(&mut device, row)?;
         let stays = device.counter() == 0 && device.is_protected();
         assert!(rt; replied && stays, "of row {number} under protection");
+    }
+    Ok(())
+}
+
+/// Whether a command is unknown: whether no request has it.
+fn is_unknown(command: u8) -> bool {
+    Request::read(command, &[]).err() == Some(ResponseCode::COMMAND_NOT_IMPLEMENTED)
+}
+
+#[test]
+fn unknown_commands_are_refused(rt: HostRuntime) -> Result<(), Fail> {
+    for command in 0..=255u8 {
+        let mut device = bench_device();
+        device.protect(command % 2 == 0);
+        let refused = replies(&mut device, &(command, &[], &[0x40, 0x00]))?;
+        assert!(rt; refused == is_unknown(command), "of {command}");
     }
     Ok(())
 }

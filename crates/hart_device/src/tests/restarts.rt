@@ -28,7 +28,6 @@ const SILENT: &[(Asked, u8, &[u8])] = &[
 const FIRST_REPLIES: &[Row] = &[
     (false, Asked::Own, 7, &[], [0x00, 0x20]),
     (false, Asked::Polling(0), 0, &[], [0x00, 0x20]),
-    (false, Asked::Own, 4, &[], [0x40, 0x20]),
     (false, Asked::Own, 6, &[0x40, 0x01], [0x02, 0x20]),
     (false, Asked::Own, 19, &[0x01, 0x23], [0x05, 0x20]),
     (false, Asked::Own, 19, &[0x01, 0x23, 0x45], [0x00, 0x60]),
@@ -94,12 +93,27 @@ fn is_shown_once(device: &mut Device<FieldRegisters>, row: &Row) -> Result<bool,
     )
 }
 
+/// Whether a device shows a cold start so after a restart, and is protected then as it was.
+fn is_shown_after_restart(rt: &impl Abort, row: &Row) -> Result<bool, Fail> {
+    let mut device = restarted_device(rt, row.0)?;
+    Ok(is_shown_once(&mut device, row)? && device.is_protected() == row.0)
+}
+
 #[test]
 fn a_cold_start_is_shown_once_to_each_master(rt: HostRuntime) -> Result<(), Fail> {
     for (number, row) in FIRST_REPLIES.iter().enumerate() {
-        let mut device = restarted_device(&rt, row.0)?;
-        let shown = is_shown_once(&mut device, row)?;
-        assert!(rt; shown && device.is_protected() == row.0, "of row {number}");
+        assert!(rt; is_shown_after_restart(&rt, row)?, "of row {number}");
+    }
+    Ok(())
+}
+
+#[test]
+fn a_cold_start_is_shown_with_code_64(rt: HostRuntime) -> Result<(), Fail> {
+    for command in 0..=255u8 {
+        if is_unknown(command) {
+            let row: Row = (false, Asked::Own, command, &[], [0x40, 0x20]);
+            assert!(rt; is_shown_after_restart(&rt, &row)?, "of {command}");
+        }
     }
     Ok(())
 }
