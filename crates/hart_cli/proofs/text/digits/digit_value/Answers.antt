@@ -1,0 +1,19 @@
+use Rattle.std.proofs.Common.{◌≡◌, ℕ, Bool, true, false, if◌then◌else◌, [], ◌∷◌, refl}
+use Rattle.hex.specs.Hex.{is_hex_digit}
+use Rattle.hart_line.specs.script.Items.{hex_value, NoItemBegins, Plain}
+use Rattle.hart_cli.specs.text.Digits.{value_of_digit}
+use Rattle.hart_cli.proofs.text.digits.digit_value.Goals as goal
+
+-- what a test refuses has the other value
+by_test : (test : Bool) (x y : ℕ) → (test ≡ true → ⊥) → y ≡ (if test then x else y)
+by_test true x y none = absurd (none refl)
+by_test false x y none = refl
+
+-- a byte that is no item after a 0 is no digit
+no_digit : (byte : ℕ) → NoItemBegins (48 ∷ byte ∷ []) → 255 ≡ value_of_digit byte
+no_digit byte none =
+    by_test (is_hex_digit byte) (hex_value byte) 255
+    (λ is. none (Plain 48 byte) [] (record { valid = (refl, is); spelled = refl; ends = tt }))
+
+pub returns-in-None : goal.returns-in-None
+returns-in-None c = no_digit c.args.byte c.in-None.ensures
