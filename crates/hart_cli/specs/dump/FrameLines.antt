@@ -7,9 +7,10 @@ use Rattle.hart_frame.specs.declared.heard.found.Found.{Found}
 use Rattle.hart_cli.specs.declared.dump.frame_lines.FrameLines.{FrameLines}
 use Rattle.hart_cli.specs.declared.stream.Failed.{Failed}
 use Rattle.hart_cli.specs.dump.Text.{dump_text}
-use Rattle.hart_cli.specs.dump.Dump.{StopsWriting, WroteInTime, ended_text, most_ahead}
-use Rattle.hart_cli.specs.input.Input.{Reads, ReadsPortion, ReadsWell, ending_of, input_limit, most_at_once}
-use Rattle.hart_cli.specs.text.Items.{MayBegin, NoPieceBegins, ReadsUpTo}
+use Rattle.hart_cli.specs.dump.Dump.{AreScanned, StopsSoon, StopsWriting, WroteInTime, ended_text}
+use Rattle.hart_cli.specs.input.Input.{Ending, ReadsPortion, ReadsTo, ending_of, most_at_once}
+use Rattle.hart_cli.specs.text.InputChars.{HasChars}
+use Rattle.hart_cli.specs.text.Items.{MayBegin, ReadsUpTo}
 use Rattle.hart_cli.specs.declared.fault.CliFault.{CliFault}
 use Rattle.hart_cli.specs.declared.dump.NextStep.{NextStep}
 use Rattle.hart_cli.specs.declared.dump.NextStep.TheVariants.{ReadOn, Stop}
@@ -72,37 +73,22 @@ IsNextStep (Some ends.TooLong) rest place ReadOn = ⊥
 IsNextStep (Some ends.TooLong) rest place (Stop fault) =
     (MayBegin rest × (fault ≡ Some faults.TooLong)) ⊎ ((MayBegin rest → ⊥) × (fault ≡ Some (faults.BadHex place)))
 
--- An input gave this text so far, or before it came to its end.
-abbrev pub ReadsSoFar : Stream → Stream → List ℕ → Option InputEnd → Type 0
-ReadsSoFar old new text None = ReadsWell old new text × (length text ≤ input_limit)
-ReadsSoFar old new text (Some end) = Reads old new text end
-
--- An input was read and scanned up to a place, at which a rest begins that is no piece yet. Of the lines of its frames so far a text
--- was written, in which are those that were due before the last read, and the others are kept.
-pub record ScannedUpTo (reader reader_after writer writer_after : Stream) (frames : FrameLines) (end : Option InputEnd) (rest : List ℕ)
-    (place : ℕ) : Type 0 where
+-- An input was read and scanned to its end or up to its first fault. A text was written of all lines of the frames that its characters
+-- decide so far, in which are those that were due before the last read.
+pub record ScansAll (reader reader_after writer writer_after : Stream) (frames : FrameLines) (fault : Option CliFault) : Type 0 where
   pub input : List ℕ
+  pub ending : Ending
   pub chars : List Character
   pub text : List ℕ
-  pub read : ReadsSoFar reader reader_after input end
-  pub reads : ReadsUpTo (ended_text input (ending_of end)) chars rest
-  pub placed : place + length rest ≡ length (ended_text input (ending_of end))
-  pub no_piece : NoPieceBegins rest
-  pub few : length rest ≤ most_ahead
-  pub still_open : end ≡ Some ends.ReadFailed → MayBegin rest
-  pub scans : KeepsLines (hearing new_scan chars) frames.scanner [] (text ++ frames.lines)
+  pub reads : ReadsTo reader reader_after input ending
+  pub has_chars : HasChars input ending chars fault
+  pub scanned : AreScanned input ending chars
+  pub soon : StopsSoon input fault
+  pub scans : KeepsLines (hearing new_scan chars) frames.scanner [] text
   pub waiting : IsWaiting frames.scanner
+  pub none_kept : frames.lines ≡ []
   pub wrote : WritesAll writer writer_after text
   pub in_time : WroteInTime input writer writer_after
-
--- An input was scanned up to its end or its first fault, and all lines so far were written.
-pub record ScansAll (reader reader_after writer writer_after : Stream) (frames : FrameLines) (fault : Option CliFault) : Type 0 where
-  pub end : Option InputEnd
-  pub rest : List ℕ
-  pub place : ℕ
-  pub scanned : ScannedUpTo reader reader_after writer writer_after frames end rest place
-  pub step : IsNextStep end rest place (Stop fault)
-  pub none_kept : frames.lines ≡ []
 
 -- An input was scanned up to its first fault or its end, or until a write failed.
 abbrev pub ScansInput : Stream → Stream → Stream → Stream → FrameLines → Result (Option CliFault) Failed → Type 0

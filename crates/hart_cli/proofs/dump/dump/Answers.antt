@@ -12,7 +12,7 @@ pub returns-in-Some : goal.returns-in-Some
 returns-in-Some g c =
     let all = rw c.in-Some.is at c.in_ok-fault.ensures in
     let dump = has_dump _ all c.finish.ensures (rw c.as_slice.ensures.value at c.in_ok-write_all.ensures) in
-    ends_with _ _ _ _ _ _ _ c.in-Some.fault dump.1.is_dump.has_chars dump
+    ends_with _ _ _ _ _ _ _ c.in-Some.fault all.has_chars dump
 
 pub returns-in-None : goal.returns-in-None
 returns-in-None g c =

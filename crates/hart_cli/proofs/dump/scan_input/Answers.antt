@@ -1,11 +1,11 @@
 use Rattle.std.proofs.lemmas.Grind.{common_steps}
 use Rattle.std.proofs.Common.{◌≡◌, ◌+◌, ◌-◌, ◌++◌, List, ℕ, [], length, refl, ap, ◌∙◌, arith}
 use Rattle.hart_frame.specs.scan.Scanner.{new_scan}
-use Rattle.hart_cli.specs.dump.FrameLines.{ScannedUpTo}
 use Rattle.hart_cli.proofs.lemmas.text.InputChars.{may_begin-nil}
 use Rattle.hart_cli.proofs.lemmas.text.Items.{ReadsUpTo-few}
 use Rattle.hart_cli.proofs.lemmas.dump.FrameLines.{keeps_within}
-use Rattle.hart_cli.proofs.lemmas.dump.ScanInput.{goes_on, input_stops, nothing_scanned, scanned_step, stopped_writing, written}
+use Rattle.hart_cli.proofs.lemmas.dump.ScanInput.{ScannedUpTo, goes_on, input_stops, nothing_scanned, scanned_step, scans_all}
+use Rattle.hart_cli.proofs.lemmas.dump.ScanInput.{stopped_writing, written}
 use Rattle.hart_cli.proofs.dump.scan_input.Given.{Over}
 use Rattle.hart_cli.proofs.dump.scan_input.Goals.{After-scan_text-rest}
 use Rattle.hart_cli.proofs.dump.scan_input.Goals as goal
@@ -46,15 +46,10 @@ returns-in_err-write_all g c =
 
 pub returns-in-Stop : goal.returns-in-Stop
 returns-in-Stop g c =
-    rw c.clear.ensures (record {
-      end = _;
-      rest = _;
-      place = _;
-      scanned = written _ (scanned g (goal.at.returns-in-Stop g c).After-scan_text-rest)
-          (rw c.as_slice-in-loop-frames.ensures.value at c.in_ok-write_all.ensures);
-      step = rw c.len-in-loop-frames.ensures.value at c.in-Stop.ensures.step;
-      none_kept = refl;
-    })
+    rw c.clear.ensures (scans_all _ _ _ _
+    (written _ (scanned g (goal.at.returns-in-Stop g c).After-scan_text-rest)
+    (rw c.as_slice-in-loop-frames.ensures.value at c.in_ok-write_all.ensures))
+    refl (rw c.len-in-loop-frames.ensures.value at c.in-Stop.ensures.step))
 
 pub loop-frames-preserved : goal.loop-frames-preserved
 loop-frames-preserved g c =

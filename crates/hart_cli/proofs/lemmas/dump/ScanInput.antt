@@ -1,31 +1,55 @@
 -- An input that is read and scanned, step by step.
 use Rattle.std.proofs.lemmas.Grind.{common_steps}
-use Rattle.std.proofs.Common.{◌≡◌, ◌≤◌, ◌+◌, ◌-◌, ℕ, List, [], ◌++◌, length, Option, None, Some, Result, refl}
-use Rattle.std.proofs.Common.{sym, ap, ◌∙◌, subst, arith, append_assoc, length-append}
+use Rattle.std.proofs.Common.{◌≡◌, ◌≤◌, ◌+◌, ◌-◌, ℕ, List, [], ◌∷◌, ◌++◌, length, Option, None, Some, Result, refl}
+use Rattle.std.proofs.Common.{sym, ap, ◌∙◌, subst, arith, append_assoc, inl, inr, length-append}
 use Rattle.std.specs.Io.KnownBytes.{Appends}
 use Rattle.std.specs.Result.{IsErrAnd}
 use Rattle.std.proofs.KnownBytes.{Appends-nil, Consumes-nil}
 use Rattle.std.proofs.lemmas.List.{append-nil}
 use Rattle.hart_frame.specs.heard.Character.{Character}
 use Rattle.hart_frame.specs.scan.Scanner.{hearing, new_scan}
-use Rattle.hart_cli.specs.declared.dump.NextStep.TheVariants.{ReadOn}
+use Rattle.hart_cli.specs.declared.dump.NextStep.TheVariants.{ReadOn, Stop}
 use Rattle.hart_cli.specs.declared.fault.CliFault.{CliFault}
 use Rattle.hart_cli.specs.declared.dump.frame_lines.FrameLines.{FrameLines}
 use Rattle.hart_cli.specs.declared.input.InputEnd.{InputEnd}
-use Rattle.hart_cli.specs.declared.input.InputEnd.TheVariants.{ReadFailed}
+use Rattle.hart_cli.specs.declared.input.InputEnd.TheVariants.{Ended, ReadFailed, TooLong}
 use Rattle.hart_cli.specs.declared.stream.Failed as stream
-use Rattle.hart_cli.specs.dump.Dump.{AreFrameLines, StopsWriting, WroteInTime, ended_text, most_ahead}
-use Rattle.hart_cli.specs.dump.FrameLines.{IsNextStep, IsWaiting, KeepsLines, ReadsAhead, ReadsSoFar, ScannedUpTo, ScansInput, ScansText}
+use Rattle.hart_cli.specs.dump.Dump.{AreFrameLines, AreScanned, StopsSoon, StopsWriting, WroteInTime, ended_text, most_ahead}
+use Rattle.hart_cli.specs.dump.FrameLines.{IsNextStep, IsWaiting, KeepsLines, ReadsAhead, ScansAll, ScansInput, ScansText}
 use Rattle.hart_cli.specs.dump.Text.{dump_text}
-use Rattle.hart_cli.specs.input.Input.{Ending, ReadsPortion, ReadsTo, ReadsWell, ending_of, input_limit}
+use Rattle.hart_cli.specs.input.Input.{CameTo, Ending, Left, Reads, ReadsPortion, ReadsTo, ReadsWell, ending_of, input_limit}
+use Rattle.hart_cli.specs.text.InputChars.{HasChars}
 use Rattle.hart_cli.specs.text.Items.{MayBegin, NoPieceBegins, ReadsUpTo}
 use Rattle.hart_cli.specs.stream.Stream.{FailsToWrite, Stream, WritesAll}
 use Rattle.hart_cli.proofs.lemmas.dump.FrameLines.{keeps_after, keeps_nothing, keeps_on, stopped_lines}
 use Rattle.hart_cli.proofs.lemmas.dump.Moves.{are_decided, moves_nothing, new_waits}
 use Rattle.hart_cli.proofs.lemmas.dump.Writes.{FailsToWrite-on, WritesAll-on, in_time_on}
-use Rattle.hart_cli.proofs.lemmas.text.InputChars.{may_begin-nil}
+use Rattle.hart_cli.proofs.lemmas.text.InputChars.{decided_rest, may_begin-nil}
 use Rattle.hart_cli.proofs.lemmas.Input.{portion_last, portion_more}
 use Rattle.hart_cli.proofs.lemmas.text.Items.{NoPieceBegins-nil, ReadsUpTo-few, ReadsUpTo-more, ReadsUpTo-on, stays}
+
+-- an input gave this text so far, or before it came to its end
+abbrev pub ReadsSoFar : Stream → Stream → List ℕ → Option InputEnd → Type 0
+ReadsSoFar old new text None = ReadsWell old new text × (length text ≤ input_limit)
+ReadsSoFar old new text (Some end) = Reads old new text end
+
+-- an input was read and scanned up to a place, at which a rest begins that is no piece yet; of the lines of its frames so far a text
+-- was written, in which are those that were due before the last read, and the others are kept
+pub record ScannedUpTo (reader reader_after writer writer_after : Stream) (frames : FrameLines) (end : Option InputEnd) (rest : List ℕ)
+    (place : ℕ) : Type 0 where
+  pub input : List ℕ
+  pub chars : List Character
+  pub text : List ℕ
+  pub read : ReadsSoFar reader reader_after input end
+  pub reads : ReadsUpTo (ended_text input (ending_of end)) chars rest
+  pub placed : place + length rest ≡ length (ended_text input (ending_of end))
+  pub no_piece : NoPieceBegins rest
+  pub few : length rest ≤ most_ahead
+  pub still_open : end ≡ Some ReadFailed → MayBegin rest
+  pub scans : KeepsLines (hearing new_scan chars) frames.scanner [] (text ++ frames.lines)
+  pub waiting : IsWaiting frames.scanner
+  pub wrote : WritesAll writer writer_after text
+  pub in_time : WroteInTime input writer writer_after
 
 -- the end of a text is that of its last part
 ended_on : (xs bytes : List ℕ) (ending : Ending) → ended_text (xs ++ bytes) ending ≡ xs ++ ended_text bytes ending
@@ -159,20 +183,74 @@ written {w = w} {w1 = w1} {frames = frames} w2 scanned on =
       in_time = in_time_on scanned.input w w1 w2 frames.lines scanned.in_time on.0;
     }
 
--- a write failed in lines of the characters that were scanned
-pub stops_in : {r r2 w w1 : Stream} {frames : FrameLines} {end : Option InputEnd} {rest : List ℕ} {place : ℕ} (w2 : Stream)
-    (scanned : ScannedUpTo r r2 w w1 frames end rest place) (lines last : List ℕ) → AreFrameLines scanned.chars lines
+-- a write failed in the last of the lines of the characters that were scanned
+pub stops_in : {r r2 w w1 : Stream} (w2 : Stream) (input : List ℕ) (ending : Ending) (chars : List Character) (lines last : List ℕ)
+    → ReadsTo r r2 input ending → AreScanned input ending chars → AreFrameLines chars lines → WroteInTime input w w1
     → FailsToWrite w w2 lines → FailsToWrite w1 w2 last → StopsWriting r r2 w w2
-stops_in {r = r} {r2 = r2} {w = w} {w1 = w1} {end = end} {rest = rest} w2 scanned lines last are fails last_fails =
-    grind (arith, in_time_on, reads_to)
+stops_in {w = w} {w1 = w1} w2 input ending chars lines last reads scanned are in_time fails last_fails =
+    grind (arith, in_time_on)
+
+-- the characters of what was read so far can be those scanned
+are_scanned : {r r2 w w1 : Stream} {frames : FrameLines} {end : Option InputEnd} {rest : List ℕ} {place : ℕ}
+    (scanned : ScannedUpTo r r2 w w1 frames end rest place) → AreScanned scanned.input (ending_of end) scanned.chars
+are_scanned {rest = rest} scanned = record { rest = rest; reads = scanned.reads; few = scanned.few }
 
 -- a write failed in the lines that were kept
 pub stopped_writing : {r r2 w w1 : Stream} {frames : FrameLines} {end : Option InputEnd} {rest : List ℕ} {place : ℕ} (w2 : Stream)
     → ScannedUpTo r r2 w w1 frames end rest place → FailsToWrite w1 w2 frames.lines → StopsWriting r r2 w w2
-stopped_writing {w = w} {w1 = w1} {frames = frames} w2 scanned fails =
+stopped_writing {r = r} {r2 = r2} {w = w} {w1 = w1} {frames = frames} {end = end} w2 scanned fails =
     let all = stopped_lines scanned.chars frames.scanner (scanned.text ++ frames.lines) w w2 scanned.scans
     (FailsToWrite-on w w1 w2 scanned.text frames.lines scanned.wrote fails) in
-    stops_in w2 scanned all.0 frames.lines all.1 all.2 fails
+    stops_in w2 scanned.input (ending_of end) scanned.chars all.0 frames.lines (reads_to r r2 scanned.input end scanned.read)
+    (are_scanned scanned) all.1 scanned.in_time all.2 fails
+
+-- an input that is read no further was scanned with its fault, or none
+scanned_to : {r r2 w w1 : Stream} {frames : FrameLines} {end : Option InputEnd} {rest : List ℕ} {place : ℕ} {fault : Option CliFault}
+    (ending : Ending) (scanned : ScannedUpTo r r2 w w1 frames end rest place) → frames.lines ≡ []
+    → ReadsTo r r2 scanned.input ending → ReadsUpTo (ended_text scanned.input ending) scanned.chars rest
+    → HasChars scanned.input ending scanned.chars fault → StopsSoon scanned.input fault → ScansAll r r2 w w1 frames fault
+scanned_to {frames = frames} {rest = rest} ending scanned none reads chars_read has_chars soon = record {
+  input = scanned.input;
+  ending = ending;
+  chars = scanned.chars;
+  text = scanned.text;
+  reads = reads;
+  has_chars = has_chars;
+  scanned = record { rest = rest; reads = chars_read; few = scanned.few };
+  soon = soon;
+  scans = scans_text frames scanned none;
+  waiting = scanned.waiting;
+  none_kept = none;
+  wrote = scanned.wrote;
+  in_time = scanned.in_time;
+}
+
+-- its fault is what the last step says
+pub scans_all : {r r2 w w1 : Stream} {frames : FrameLines} (end : Option InputEnd) (rest : List ℕ) (place : ℕ) (fault : Option CliFault)
+    → ScannedUpTo r r2 w w1 frames end rest place → frames.lines ≡ [] → IsNextStep end rest place (Stop fault)
+    → ScansAll r r2 w w1 frames fault
+scans_all None rest place fault scanned none step =
+    rw step.1 (scanned_to Left scanned none (inl scanned.read) scanned.reads
+    (HasChars.decided_bad_hex scanned.chars place (decided_rest scanned.input scanned.chars rest place scanned.reads scanned.placed step.0))
+    (omega (arith, scanned.placed, scanned.few)))
+scans_all (Some Ended) rest place None scanned none step =
+    scanned_to (CameTo Ended) scanned none scanned.read scanned.reads (HasChars.all scanned.chars (rw step at scanned.reads)) tt
+scans_all (Some Ended) rest place (Some fault) scanned none step =
+    rw step.1 (scanned_to (CameTo Ended) scanned none scanned.read scanned.reads
+    (HasChars.bad_hex scanned.chars place
+    (record { rest = rest; reads = scanned.reads; begins = scanned.placed; more = step.0; no_piece = scanned.no_piece }))
+    (omega (arith, scanned.placed, scanned.few, length-append scanned.input (32 ∷ []))))
+scans_all (Some ReadFailed) rest place fault scanned none step =
+    rw step (scanned_to (CameTo ReadFailed) scanned none scanned.read scanned.reads
+    (HasChars.failure scanned.chars
+    (record { rest = rest; reads = scanned.reads; no_piece = scanned.no_piece; open_end = scanned.still_open refl })) tt)
+scans_all (Some TooLong) rest place fault scanned none (inl (may, is)) =
+    rw is (scanned_to (CameTo TooLong) scanned none scanned.read scanned.reads
+    (HasChars.limit scanned.chars (record { rest = rest; reads = scanned.reads; no_piece = scanned.no_piece; open_end = may })) tt)
+scans_all (Some TooLong) rest place fault scanned none (inr (never, is)) =
+    rw is (scanned_to Left scanned none (inr scanned.read) scanned.reads
+    (HasChars.decided_bad_hex scanned.chars place (decided_rest scanned.input scanned.chars rest place scanned.reads scanned.placed never))
+    (omega (arith, scanned.placed, scanned.few)))
 
 -- more is read only before the end, where a piece may begin
 pub goes_on : (end : Option InputEnd) (rest : List ℕ) (place : ℕ) → IsNextStep end rest place ReadOn
