@@ -4,7 +4,8 @@
 Prints for each input characters a second, the ratio of its time to that of `xxd -r -p` over the same text, and the ratio of its
 time a character to that of the clean frames; then the same for texts of one kind that are spelled otherwise, the time of an empty
 input, and the greatest memory of the process for a short input and a long one. Each time is the best of several runs of the whole
-program, from its start to its end, with its output thrown away.
+program, from its start to its end, with its output thrown away. Beside it stand the instructions for each byte of the text, by
+valgrind where it is there, and how they grow from the first 64 KiB to the whole.
 
 Usage: bench/dump.py [PROGRAM [RUNS]]; PROGRAM is ./hart, RUNS 31. It needs `xxd`.
 """
@@ -15,6 +16,8 @@ import subprocess
 import sys
 import tempfile
 import time
+
+from instructions import counted
 
 INPUT_LIMIT = 1_048_576
 DIGITS_A_LINE = 60
@@ -108,10 +111,11 @@ def main():
             other = best_time(["xxd", "-r", "-p"], text, runs)
             clean = clean or seconds
             print(f"{spelling} {name}: {length / seconds / 1e6:.1f} million characters a second, "
-                  f"{seconds / other:.2f} of xxd's time, {seconds / clean:.2f} of the clean input's time")
+                  f"{seconds / other:.2f} of xxd's time, {seconds / clean:.2f} of the clean input's time; "
+                  f"{counted([program, 'dump'], text)}")
     for name, (text, count) in other_texts().items():
         seconds = best_time([program, "dump"], text, runs)
-        print(f"{name}: {count / seconds / 1e6:.1f} million characters a second")
+        print(f"{name}: {count / seconds / 1e6:.1f} million characters a second; {counted([program, 'dump'], text)}")
     print(f"an empty input: {best_time([program, 'dump'], b'', runs) * 1e3:.2f} ms")
     message = spaced(inputs(SPACED)["clean frames"])
     print(f"greatest memory: {greatest_memory(program, message[:1023])} KiB for 1 KiB, "

@@ -3,7 +3,8 @@
 
 Prints, for each script, its events a second, the ratio of its time to that of `hart dump` over as much text of clean frames,
 and the ratio of its time to that of a script of half the size. Each time is the best of several runs of the whole program,
-from its start to its end, with its output thrown away.
+from its start to its end, with its output thrown away. Beside it stand the instructions for each byte of the script, by valgrind
+where it is there, and how they grow from the first 64 KiB to the whole.
 
 Usage: bench/sim.py [PROGRAM [RUNS]]; PROGRAM is ./hart, RUNS 15.
 """
@@ -12,6 +13,7 @@ import random
 import sys
 
 from dump import DIGITS_A_LINE, INPUT_LIMIT, dense, best_time, inputs
+from instructions import counted
 
 SUBMISSION = b"submit P 37420A1B2C 19 012345\n"
 CLEAN_TURN = b"turn P ok ok\n"
@@ -50,7 +52,8 @@ def main():
         half = best_time([program, "sim"], halves[name], runs)
         events = script.count(b"\n")
         print(f"{name}: {events / seconds / 1e6:.2f} million events a second, "
-              f"{seconds / dumped:.2f} of the time of hart dump, {seconds / half:.2f} of the time of half of it")
+              f"{seconds / dumped:.2f} of the time of hart dump, {seconds / half:.2f} of the time of half of it; "
+              f"{counted([program, 'sim'], script)}")
 
 
 if __name__ == "__main__":

@@ -1,0 +1,41 @@
+"""Counts the instructions that a run takes, by `valgrind --tool=callgrind` where it is there: the same from run to run."""
+
+import pathlib
+import re
+import shutil
+import subprocess
+import tempfile
+
+# The size of the part to which a whole text is compared.
+PART = 65_536
+
+
+def instructions(command, text):
+    """The instructions of one run over a text, or None without valgrind."""
+    if shutil.which("valgrind") is None:
+        return None
+    with tempfile.TemporaryDirectory() as folder, tempfile.TemporaryFile() as file:
+        file.write(text)
+        file.seek(0)
+        counting = ["valgrind", "--tool=callgrind", f"--callgrind-out-file={pathlib.Path(folder) / 'counts'}"]
+        run = subprocess.run(counting + command, stdin=file, stdout=subprocess.DEVNULL, stderr=subprocess.PIPE, text=True, check=True)
+    return int(re.search(r"Collected\s*:\s*(\d+)", run.stderr)[1])
+
+
+def first_part(text):
+    """The pieces that a text begins with, up to that size: lines, or items if it is one line."""
+    stop = text.rfind(b"\n", 0, PART)
+    if stop < 0:
+        stop = text.rfind(b" ", 0, PART)
+    return text[:stop + 1]
+
+
+def counted(command, text):
+    """In words, the instructions of a run for each byte of a text, the start not counted, and how they grow from its first part."""
+    start = instructions(command, b"")
+    if start is None:
+        return "no valgrind"
+    part = first_part(text)
+    whole_each = (instructions(command, text) - start) / len(text)
+    part_each = (instructions(command, part) - start) / len(part)
+    return f"{whole_each:.1f} instructions a byte, {whole_each / part_each:.2f} times those of the first {PART // 1024} KiB"
