@@ -2,11 +2,13 @@
 ghost use Rattle.std.specs.Prelude.{IfOk, IfErr};
 ghost use Rattle.hart_line.specs.script.Rows.{IsScript, IsScriptFault};
 
+use crate::script::digits::Digits;
 use crate::script::lines::{count_lines, without_return};
 use crate::script::rows::read_line;
 use crate::{Filling, LineEvent, LineFault};
 use std::alloc::Global;
 
+pub mod digits;
 pub mod items;
 pub mod lines;
 pub mod rows;
@@ -24,10 +26,11 @@ pub fn read_script(alloc: Global, text: &[u8]) -> Result<Vec<LineEvent>, LineFau
 {
     // A line says one event at most.
     let mut events = Filling::with_room(alloc, count_lines(text))?;
+    let digits = Digits::new();
     let mut number = 0;
     for part in text.split(|byte| *byte == b'\n') {
         number += 1;
-        let Some(event) = read_line(alloc, number, without_return(part))? else {
+        let Some(event) = read_line(alloc, &digits, number, without_return(part))? else {
             continue;
         };
         events.push(event);

@@ -1,8 +1,9 @@
 //! Hex items, each of which gives a received character.
-ghost use Rattle.std.specs.Prelude.{◌≡◌, ◌↔◌, [], ◌∷◌, IsTrue, MatchOption, slice_index};
+ghost use Rattle.std.specs.Prelude.{◌≡◌, ◌↔◌, [], ◌∷◌, IfSome, IsTrue, MatchOption, slice_index};
 ghost use Rattle.hart_line.specs.script.Items.{AreDigits, BeginsAsItem, byte_of, items_word_of, NoItemBegins};
 ghost use Rattle.hart_line.specs.script.Rows.{ReadsWords};
 
+use crate::script::digits::Digits;
 use crate::script::rows::RowFault;
 use crate::{CharList, Filling};
 use hart_frame::Char;
@@ -43,6 +44,32 @@ pub fn leading_item(text: &[u8]) -> Option<LeadingItem>
     Some(LeadingItem { char, len: 5 })
 }
 
+/// The item that begins a text, as [`leading_item`] gives it: without fault bits by what is kept of the digits.
+#[inline(always)]
+fn next_item(digits: &Digits, text: &[u8]) -> Option<LeadingItem>
+    ensures { MatchOption result (NoItemBegins text.now) (λ lead. BeginsAsItem text.now lead.char lead.len) }
+{
+    match plain_item(digits, text) {
+        Some(lead) => Some(lead),
+        None => leading_item(text),
+    }
+}
+
+/// The item without fault bits that begins a text, if one does and its digits are known.
+#[inline(always)]
+fn plain_item(digits: &Digits, text: &[u8]) -> Option<LeadingItem>
+    ensures { IfSome result (λ lead. BeginsAsItem text.now lead.char lead.len) }
+{
+    let [high, low, ..] = text else {
+        return None;
+    };
+    if gives_faults(text) {
+        return None;
+    }
+    let char = Char::new(digits.byte_of(*high, *low)?, 0)?;
+    Some(LeadingItem { char, len: 2 })
+}
+
 /// Whether a `!` stands after two bytes.
 fn gives_faults(text: &[u8]) -> bool
     ensures { IsTrue result ↔ (slice_index text.now 2 ≡ 33) }
@@ -56,7 +83,7 @@ fn gives_faults(text: &[u8]) -> bool
 ///
 /// [`RowFault::Bad`] if the word is empty or not items end to end; [`RowFault::Memory`] if room for half as many characters as it
 /// has bytes was refused.
-pub(crate) fn read_items(alloc: Global, word: &[u8]) -> Result<CharList, RowFault>
+pub(crate) fn read_items(alloc: Global, digits: &Digits, word: &[u8]) -> Result<CharList, RowFault>
     ensures { ReadsWords (word.now ∷ []) (items_word_of word.now) result }
 {
     if word.is_empty() {
@@ -65,7 +92,7 @@ pub(crate) fn read_items(alloc: Global, word: &[u8]) -> Result<CharList, RowFaul
     // An item has two bytes at least.
     let mut chars = Filling::with_room(alloc, word.len() / 2)?;
     let mut rest = word;
-    while let Some(lead) = leading_item(rest) {
+    while let Some(lead) = next_item(digits, rest) {
         chars.push(lead.char);
         rest = &rest[lead.len..];
     }

@@ -4,6 +4,7 @@ ghost use Rattle.hart_line.specs.script.Lines.{words_of};
 ghost use Rattle.hart_line.specs.script.Rows.{ReadsWords, SaysLine, event_of, fault_at_line, leg_of, noise_of, payload_of, protection_of};
 ghost use Rattle.hart_line.specs.script.Rows.{request_of, restart_of, submission_of, turn_of};
 
+use crate::script::digits::Digits;
 use crate::script::items::read_items;
 use crate::script::lines::{has_no_word, next_word, only_word};
 use crate::script::words::{read_address, read_command, read_data, read_who};
@@ -49,7 +50,12 @@ impl From<NoRoom> for RowFault {
 ///
 /// [`LineFault::BadLine`] with the number if it says no event and is no such line; [`LineFault::Memory`] if the room for half as
 /// many characters as one of its words has bytes was refused.
-pub fn read_line(alloc: Global, number: usize, line: &[u8]) -> Result<Option<LineEvent>, LineFault>
+pub fn read_line(
+    alloc: Global,
+    digits: &Digits,
+    number: usize,
+    line: &[u8],
+) -> Result<Option<LineEvent>, LineFault>
     ensures { SaysLine number (words_of line.now) result }
 {
     let Some((first, rest)) = next_word(line) else {
@@ -58,21 +64,26 @@ pub fn read_line(alloc: Global, number: usize, line: &[u8]) -> Result<Option<Lin
     if let [b'#', ..] = first {
         return Ok(None);
     }
-    match read_event(alloc, first, rest) {
+    match read_event(alloc, digits, first, rest) {
         Ok(event) => Ok(Some(event)),
         Err(fault) => Err(fault.at(number)),
     }
 }
 
 /// The event that a first word and the words after it say.
-fn read_event(alloc: Global, first: &[u8], rest: &[u8]) -> Result<LineEvent, RowFault>
+fn read_event(
+    alloc: Global,
+    digits: &Digits,
+    first: &[u8],
+    rest: &[u8],
+) -> Result<LineEvent, RowFault>
     ensures { ReadsWords (first.now ∷ words_of rest.now) (event_of (first.now ∷ words_of rest.now)) result }
 {
     match first {
         b"submit" => read_submit(rest),
-        b"turn" => read_turn(alloc, rest),
+        b"turn" => read_turn(alloc, digits, rest),
         b"protect" => read_protect(rest),
-        b"noise" => read_noise(alloc, rest),
+        b"noise" => read_noise(alloc, digits, rest),
         b"restart" => read_restart(rest),
         _ => Err(RowFault::Bad),
     }
@@ -113,7 +124,7 @@ fn read_payload(rest: &[u8]) -> Option<Payload>
 }
 
 /// The turn that the words after `turn` say.
-fn read_turn(alloc: Global, rest: &[u8]) -> Result<LineEvent, RowFault>
+fn read_turn(alloc: Global, digits: &Digits, rest: &[u8]) -> Result<LineEvent, RowFault>
     ensures { ReadsWords (codes "turn" ∷ words_of rest.now) (turn_of (words_of rest.now)) result }
 {
     let Some((who, up, down)) = three_words(rest) else {
@@ -121,8 +132,8 @@ fn read_turn(alloc: Global, rest: &[u8]) -> Result<LineEvent, RowFault>
     };
     Ok(LineEvent::Turn {
         who: read_who(who).ok_or(RowFault::Bad)?,
-        up: read_leg(alloc, up)?,
-        down: read_leg(alloc, down)?,
+        up: read_leg(alloc, digits, up)?,
+        down: read_leg(alloc, digits, down)?,
     })
 }
 
@@ -137,13 +148,13 @@ fn three_words(line: &[u8]) -> Option<(&[u8], &[u8], &[u8])>
 }
 
 /// What the word of a leg says that is heard.
-fn read_leg(alloc: Global, word: &[u8]) -> Result<Heard, RowFault>
+fn read_leg(alloc: Global, digits: &Digits, word: &[u8]) -> Result<Heard, RowFault>
     ensures { ReadsWords (word.now ∷ []) (leg_of word.now) result }
 {
     match word {
         b"ok" => Ok(Heard::Clean),
         b"lost" => Ok(Heard::Lost),
-        _ => Ok(Heard::Chars(read_items(alloc, word)?)),
+        _ => Ok(Heard::Chars(read_items(alloc, digits, word)?)),
     }
 }
 
@@ -159,11 +170,11 @@ fn read_protect(rest: &[u8]) -> Result<LineEvent, RowFault>
 }
 
 /// The noise that the words after `noise` say.
-fn read_noise(alloc: Global, rest: &[u8]) -> Result<LineEvent, RowFault>
+fn read_noise(alloc: Global, digits: &Digits, rest: &[u8]) -> Result<LineEvent, RowFault>
     ensures { ReadsWords (codes "noise" ∷ words_of rest.now) (noise_of (words_of rest.now)) result }
 {
     let items = only_word(rest).ok_or(RowFault::Bad)?;
-    Ok(LineEvent::Noise(read_items(alloc, items)?))
+    Ok(LineEvent::Noise(read_items(alloc, digits, items)?))
 }
 
 /// The restart that `restart` says if no word is after it.

@@ -1,6 +1,6 @@
 -- Texts that are items end to end.
-use Rattle.std.proofs.Common.{◌≡◌, ◌≢◌, ℕ, ◌+◌, ◌-◌, ◌<◌, ◌≤◌, Bool, true, false, List, [], ◌∷◌, ◌++◌, length, take, drop, Option, None}
-use Rattle.std.proofs.Common.{Some, refl, sym, ap, ◌∙◌, arith}
+use Rattle.std.proofs.Common.{◌≡◌, ◌≢◌, ℕ, ◌+◌, ◌-◌, ◌<◌, ◌≤◌, Bool, true, false, List, [], ◌∷◌, ◌++◌, get_or, length, take, drop}
+use Rattle.std.proofs.Common.{None, Option, Some, refl, sym, ap, ◌∙◌, arith}
 use Rattle.std.specs.Int.{bit_at}
 use Rattle.std.specs.Option.{option_map}
 use Rattle.std.specs.Prelude.{◌==◌, ◌&&◌}
@@ -10,7 +10,8 @@ use Rattle.std.proofs.lemmas.List.{append-nil, append_assoc, length-append, take
 use Rattle.std.proofs.lemmas.Nat.Bits.{bit_at-lt}
 use Rattle.std.proofs.Math.Seq.{drop-append_seam}
 use Rattle.hart_frame.specs.heard.Character.{AreFaultBits, Character, IsFaultBit}
-use Rattle.hart_line.specs.script.Items.{are_some_fault_bits, BeginsAsItem, BeginsWithItem, EndsBefore, Faulty, is_valid_item, IsValidItem}
+use Rattle.hart_line.specs.script.Items.{AreDigits, are_some_fault_bits, BeginsAsItem, BeginsWithItem, byte_of, EndsBefore, Faulty}
+use Rattle.hart_line.specs.script.Items.{is_valid_item, IsValidItem}
 use Rattle.hart_line.specs.script.Items.{Item, item_before, item_meaning, item_spelling, items_of, items_word_of, NoItemBegins, Plain}
 
 -- a bit that is set is none of those that are not
@@ -131,3 +132,17 @@ all_items text chars rest ended reads = grind (arith, append-nil)
 -- a word with a byte has the characters of its items
 pub word_items : (word : List ℕ) → (length word ≡ 0 → ⊥) → items_word_of word ≡ items_of word
 word_items word some = grind arith
+
+-- an item without fault bits begins a text
+pub begins_as_plain : (text : List ℕ) (char : Character) (byte : ℕ) → 2 ≤ length text → AreDigits (get_or text 0 0) (get_or text 1 0)
+    → byte ≡ byte_of (get_or text 0 0) (get_or text 1 0) → (get_or text 2 0 ≡ 33 → ⊥) → char ≡ record { byte = byte; faults = 0 }
+    → BeginsAsItem text char 2
+begins_as_plain [] char byte some d b n e = absurd (omega arith)
+begins_as_plain (x ∷ []) char byte some d b n e = absurd (omega arith)
+begins_as_plain (x ∷ y ∷ tail) char byte some d b n e = record {
+  item = Plain x y;
+  tail = tail;
+  begins = record { valid = d; spelled = refl; ends = grind arith };
+  long = refl;
+  means = cc;
+}

@@ -1,22 +1,9 @@
 use Rattle.std.proofs.Common.{◌≡◌, ◌≢◌, ◌≤◌, ℕ, List, length, [], ◌∷◌, get_or, refl, sym, ◌∙◌, subst, arith}
 use Rattle.std.proofs.lemmas.Bool.{iff_false}
 use Rattle.hart_frame.specs.heard.Character.{AreFaultBits, Character}
-use Rattle.hart_line.specs.script.Items.{AreDigits, BeginsAsItem, byte_of, Faulty, NoItemBegins, Plain}
+use Rattle.hart_line.specs.script.Items.{AreDigits, BeginsAsItem, byte_of, Faulty, NoItemBegins}
+use Rattle.hart_line.proofs.lemmas.script.Items.{begins_as_plain}
 use Rattle.hart_line.proofs.script.items.leading_item.Goals as goal
-
--- an item without fault bits begins a text
-begins_as_plain : (text : List ℕ) (char : Character) (byte : ℕ) → 2 ≤ length text → AreDigits (get_or text 0 0) (get_or text 1 0)
-    → byte ≡ byte_of (get_or text 0 0) (get_or text 1 0) → (get_or text 2 0 ≡ 33 → ⊥) → char ≡ record { byte = byte; faults = 0 }
-    → BeginsAsItem text char 2
-begins_as_plain [] char byte some d b n e = absurd (omega arith)
-begins_as_plain (x ∷ []) char byte some d b n e = absurd (omega arith)
-begins_as_plain (x ∷ y ∷ tail) char byte some d b n e = record {
-  item = Plain x y;
-  tail = tail;
-  begins = record { valid = d; spelled = refl; ends = grind arith };
-  long = refl;
-  means = cc;
-}
 
 -- an item with fault bits begins a text
 begins_as_faulty : (text : List ℕ) (char : Character) (byte faults : ℕ) → 5 ≤ length text → AreDigits (get_or text 0 0) (get_or text 1 0)
