@@ -1,11 +1,11 @@
-ghost use Rattle.std.specs.Prelude.{◌≡◌, ◌+◌, ◌-◌, ◌^◌, ◌<◌, ◌≤◌, [], ◌∷◌, ◌++◌, IfErr, IfOk, IsOk, OnOk, length, slice_set};
+ghost use Rattle.std.specs.Prelude.{◌≡◌, ◌+◌, ◌-◌, ◌^◌, ◌<◌, ◌≤◌, [], ◌∷◌, ◌++◌, IfErr, IfOk, IsOk, OnErr, OnOk, length, slice_set};
 ghost use Rattle.hart_line.specs.Filling.{AreSmall};
 
-use crate::memory::{NoRoom, reserved};
+use crate::memory::{NoRoom, make_room, reserved};
 use std::alloc::Global;
 use std::marker::Model;
 
-/// A list that is filled in room that was reserved for it, so that no item is refused.
+/// A list that is filled in room that was made for it before, so that no item is refused.
 #[derive(Debug, Drop)]
 pub struct Filling<T> {
     items: Vec<T>,
@@ -79,6 +79,30 @@ impl<T> Filling<T> {
         if let Some(old) = self.items.get_mut(place) {
             *old = item;
         }
+    }
+
+    /// Makes room for so many more items, if there is less.
+    ///
+    /// # Errors
+    ///
+    /// [`NoRoom`], if the allocator refused it. Nothing has changed then.
+    pub fn make_room(&mut self, more: usize) -> Result<(), NoRoom>
+        ensures items { self.new.items ≡ self.old.items }
+        ensures room { OnOk result (length self.new.items + more ≤ self.new.room) }
+        ensures refused { OnErr result (self.new ≡ self.old) }
+    {
+        make_room(&mut self.items, more)?;
+        self.room = self.items.capacity();
+        Ok(())
+    }
+
+    /// Removes every item.
+    pub fn clear(&mut self)
+    where
+        T: Drop,
+        ensures { self.new ≡ record self.old { items = [] } }
+    {
+        self.items.clear();
     }
 
     /// The list, which is filled no more.

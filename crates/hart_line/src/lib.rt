@@ -42,7 +42,9 @@ pub use laws::{
     identities_give_their_address, refused_turns_change_nothing, scripts_have_one_last_world,
     scripts_keep_their_promises, texts_have_one_script, words_have_one_value,
 };
-pub use line::report::{Outcome, Outcomes, Party, Report, Spoken, SpokenList};
+pub use line::log::Log;
+pub use line::logged::run_logged;
+pub use line::report::{Ending, Outcome, Outcomes, Party, Report, Spoken, SpokenList};
 pub use line::run::run;
 pub use memory::{NoRoom, reserved};
 pub use plain_list::{CharList, PlainList};

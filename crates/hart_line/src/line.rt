@@ -1,5 +1,5 @@
 //! The HART line: a device and its two masters, and what an event does to them.
-ghost use Rattle.std.specs.Prelude.{◌≡◌, [], ◌∷◌, IfErr, OnOk};
+ghost use Rattle.std.specs.Prelude.{◌≡◌, [], ◌∷◌, ◌++◌, List, IfErr, OnOk};
 ghost use Rattle.std.specs.Option.{option_copied};
 ghost use Rattle.hart_values.specs.EachMaster.{of_master};
 ghost use Rattle.hart_commands.specs.RequestData.{IsRequest};
@@ -11,9 +11,12 @@ ghost use Rattle.hart_line.specs.world.Spoken.{frame_if, party_of};
 ghost use Rattle.hart_line.specs.world.Step.{submission_fault, submitted};
 ghost use Rattle.hart_line.specs.world.World.{Start, World, MarksWithin};
 ghost use Rattle.hart_line.specs.declared.event.LineEvent.TheVariants.{Noise, Submit, Turn};
+ghost use Rattle.hart_line.specs.declared.line.report.Spoken.{Spoken};
 
 use crate::line::leg::{answer_among, answer_in, arrived_in};
+use crate::line::log::{Log, note_all};
 use crate::line::masters::{Masters, Submitter};
+use crate::line::report::Ending;
 use crate::line::room::ScriptRoom;
 use crate::line::undetected::Undetected;
 use crate::{Filling, Heard, Leg, LineEvent, Outcome, Outcomes, Party, Report, Spoken, SpokenList};
@@ -25,6 +28,8 @@ use hart_values::{Address, MasterId, Payload};
 use std::marker::Model;
 
 pub mod leg;
+pub mod log;
+pub mod logged;
 pub mod masters;
 pub mod report;
 pub mod room;
@@ -87,6 +92,31 @@ impl<S: RegisterStore> Line<S> {
             spoken: room.spoken,
             request: no_frame(),
             reply: no_frame(),
+        }
+    }
+
+    /// Has noted what the line keeps of what was spoken, and keeps it no longer.
+    pub fn tell<L: Log>(&mut self, log: &mut L)
+        ensures line { self.new ≡ record self.old { spoken = [] } }
+        ensures noted { (noted : List Spoken) → L.has_noted log.old noted → L.has_noted log.new (noted ++ self.old.spoken) }
+    {
+        note_all(log, self.spoken.as_slice());
+        self.spoken.clear();
+    }
+
+    /// What the script has led to, but for what was spoken.
+    pub fn into_ending(self) -> Ending<S>
+        ensures device { result.device ≡ self.device }
+        ensures outcomes { result.outcomes ≡ self.outcomes }
+    {
+        let Line {
+            device,
+            outcomes,
+            ..
+        } = self;
+        Ending {
+            device,
+            outcomes: Outcomes::new(outcomes.finish()),
         }
     }
 

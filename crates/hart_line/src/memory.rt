@@ -1,5 +1,5 @@
 //! The one place where memory is asked for.
-ghost use Rattle.std.specs.Prelude.{◌≡◌, ◌<◌, ◌^◌, [], IfErr, IfOk, IsOk, OnOk, vec_capacity};
+ghost use Rattle.std.specs.Prelude.{◌≡◌, ◌+◌, ◌<◌, ◌≤◌, ◌^◌, [], IfErr, IfOk, IsOk, OnOk, length, vec_capacity};
 ghost use Rattle.hart_line.specs.Filling.{AreSmall};
 
 use std::alloc::Global;
@@ -16,6 +16,13 @@ impl NoRoom {
         ensures { result ≡ self.items }
     {
         self.items
+    }
+
+    /// The same refusal, of room for so many items in all, of which these were some.
+    pub fn among(self, items: usize) -> NoRoom
+        ensures { result.items ≡ items }
+    {
+        NoRoom { items }
     }
 }
 
@@ -34,4 +41,18 @@ pub fn reserved<T>(alloc: Global, room: usize) -> Result<Vec<T>, NoRoom>
     ensures nothing { room ≡ 0 → IsOk result }
 {
     Vec::with_capacity(alloc, room).map_err(|_refused| NoRoom { items: room })
+}
+
+/// Makes room for so many more items of a list, and for more than that if it is missing, so that a list that grows seldom moves.
+///
+/// # Errors
+///
+/// [`NoRoom`] with that number, if the allocator refused it. The list is as it was.
+pub fn make_room<T>(list: &mut Vec<T>, more: usize) -> Result<(), NoRoom>
+    ensures items { list.new.items ≡ list.old.items }
+    ensures room { OnOk result (length list.new.items + more ≤ vec_capacity list.new) }
+    ensures kept { vec_capacity list.old ≤ vec_capacity list.new }
+{
+    list.reserve(more)
+        .map_err(|_refused| NoRoom { items: more })
 }

@@ -24,8 +24,7 @@ pub fn read_script(alloc: Global, text: &[u8]) -> Result<Vec<LineEvent>, LineFau
     ensures events { IfOk result (λ events. IsScript text.now events.items) }
     ensures fault { IfErr result (IsScriptFault text.now) }
 {
-    // A line says one event at most.
-    let mut events = Filling::with_room(alloc, count_lines(text))?;
+    let mut events = Filling::with_room(alloc, 0).unwrap();
     let digits = Digits::new();
     let mut number = 0;
     for part in text.split(|byte| *byte == b'\n') {
@@ -33,6 +32,10 @@ pub fn read_script(alloc: Global, text: &[u8]) -> Result<Vec<LineEvent>, LineFau
         let Some(event) = read_line(alloc, &digits, number, without_return(part))? else {
             continue;
         };
+        // A line says one event at most.
+        if let Err(none) = events.make_room(1) {
+            return Err(none.among(count_lines(text)).into());
+        }
         events.push(event);
     }
     Ok(events.finish())

@@ -5,3 +5,4 @@ pub mod Turn
 pub mod Event
 pub mod Reached
 pub mod Room
+pub mod Told

@@ -17,6 +17,15 @@ pub record HasRoomFor (events : List LineEvent) (line : LineState) : Type 0 wher
   pub outcomes : length line.outcomes + count_by is_submission events ≤ line.outcomes_room
   pub spoken : length line.spoken + most_spoken events ≤ line.spoken_room
 
--- An event takes no more room than is meant for it: what there was for the events after it is there still.
-abbrev pub LeavesRoom : LineEvent → LineState → LineState → Type 0
-LeavesRoom event old new = (more : List LineEvent) → HasRoomFor (event ∷ more) old → HasRoomFor more new
+-- A line that keeps nothing of what was spoken has room for the outcomes of these events, and for what is spoken in one of them.
+pub record HasRoomForEach (events : List LineEvent) (line : LineState) : Type 0 where
+  pub outcomes : length line.outcomes + count_by is_submission events ≤ line.outcomes_room
+  pub nothing_spoken : line.spoken ≡ []
+  pub spoken : 2 ≤ line.spoken_room
+
+-- An event takes no more room than is meant for it: for an outcome if it is a submission, and for the most frames that are spoken in it.
+pub record LeavesRoom (event : LineEvent) (old new : LineState) : Type 0 where
+  pub outcomes : length new.outcomes ≤ length old.outcomes + count_by is_submission (event ∷ [])
+  pub spoken : length new.spoken ≤ length old.spoken + most_spoken (event ∷ [])
+  pub outcomes_room : new.outcomes_room ≡ old.outcomes_room
+  pub spoken_room : new.spoken_room ≡ old.spoken_room

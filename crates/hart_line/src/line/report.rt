@@ -79,3 +79,12 @@ pub struct Report<S: RegisterStore> {
     /// What was spoken.
     pub spoken: SpokenList,
 }
+
+/// What a script leads to, but for what was spoken.
+#[derive(Debug, Drop)]
+pub struct Ending<S: RegisterStore> {
+    /// The device, as it is then.
+    pub device: Device<S>,
+    /// What became of each submission.
+    pub outcomes: Outcomes,
+}

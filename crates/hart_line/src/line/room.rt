@@ -5,12 +5,15 @@ ghost use Rattle.hart_line.specs.world.Needs.{IsNeededBy, is_noise, is_submissio
 use crate::{Filling, LineEvent, NoRoom, Outcome, Spoken};
 use std::alloc::Global;
 
+/// The most frames that are spoken in one event, which a turn has.
+const MOST_SPOKEN_IN_ONE: usize = 2;
+
 /// Room for what a script leads to.
 #[derive(Drop)]
 pub struct ScriptRoom {
     /// For an outcome of each submission.
     pub outcomes: Filling<Outcome>,
-    /// For two spoken frames of each turn, and one of each noise.
+    /// For two spoken frames of each turn, and one of each noise, or for those of one event.
     pub spoken: Filling<Spoken>,
 }
 
@@ -29,6 +32,23 @@ impl ScriptRoom {
             outcomes: Filling::with_room(alloc, submissions(events))?,
             spoken: Filling::with_room(alloc, most_spoken(events))?,
         })
+    }
+
+    /// Room for the outcomes of these events, and for what is spoken in one of them.
+    ///
+    /// # Errors
+    ///
+    /// [`NoRoom`] as [`ScriptRoom::reserve`] gives it.
+    pub fn reserve_for_each(alloc: Global, events: &[LineEvent]) -> Result<Self, NoRoom>
+        ensures outcomes { IfOk result (λ room. room.outcomes ≡ record { items = []; room = count_by is_submission events.now }) }
+        ensures spoken { IfOk result (λ room. room.spoken ≡ record { items = []; room = 2 }) }
+        ensures refused { IfErr result (λ none. IsNeededBy events.now none.items) }
+    {
+        let outcomes = Filling::with_room(alloc, submissions(events))?;
+        match Filling::with_room(alloc, MOST_SPOKEN_IN_ONE) {
+            Ok(spoken) => Ok(ScriptRoom { outcomes, spoken }),
+            Err(none) => Err(none.among(most_spoken(events))),
+        }
     }
 }
 

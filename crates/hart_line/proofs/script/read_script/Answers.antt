@@ -15,7 +15,7 @@ returns-in_err-event-clause-fault c =
     (YieldsList-from_slice_split _ (λ (byte : ℕ). byte == 10) c.args.text.now c.split-part-items.ensures.rest
     c.split-part-items.ensures.done c.split-part-items.ensures.closure (λ x b q k. search (rules, tests))))
     c.loop-part.yielded _ c.loop-part.yielded_by _ _ c.in-Some.part c.in-Some.is c.next.ensures.steps in
-    let stop = err_from_is_err_and c.from_residual-in_err-event.result c.from_residual-in_err-event.ensures.1 in
+    let stop = err_from_is_err_and c.from_residual.result c.from_residual.ensures.1 in
     rw (stop.1, stop.2) (line_fault c.args.text.now (length c.loop-part.yielded) _ _ _ _
     (stands_at c.args.text.now _ c.in-Some.part.now _ t.0 t.1 c.without_return.ensures)
     (ap (λ (k : ℕ). k + 1) c.loop-part.invariant.counted) c.loop-part.invariant.said c.in_err-event.ensures)
@@ -29,20 +29,10 @@ loop-part-preserved-in_default c =
     let m = length_push c.loop-part.yielded c.in-Some.part in
     record {
       counted = omega (arith, c.loop-part.invariant.counted, m);
-      few = omega (arith, m, c.loop-part.invariant.few);
-      room = c.loop-part.invariant.room;
       said = AreEvents-more c.args.text.now (length c.loop-part.yielded) _ (c.loop-part.number + 1) _ _ _ None
           (stands_at c.args.text.now _ c.in-Some.part.now _ t.0 t.1 c.without_return.ensures) m c.loop-part.invariant.said
           (rw c.in_default.is at c.in_ok-event.ensures) (sym (append-nil c.loop-part.events.items));
     }
-
-pub push-requires : goal.push-requires
-push-requires c =
-    let t = YieldsList-turn (YieldsList-at c.into_iter-part-iterator.ensures.into_iter_gives
-    (YieldsList-from_slice_split _ (λ (byte : ℕ). byte == 10) c.args.text.now c.split-part-items.ensures.rest
-    c.split-part-items.ensures.done c.split-part-items.ensures.closure (λ x b q k. search (rules, tests))))
-    c.loop-part.yielded _ c.loop-part.yielded_by _ _ c.in-Some.part c.in-Some.is c.next.ensures.steps in
-    rw c.loop-part.invariant.room (omega (arith, t.0, c.loop-part.invariant.few))
 
 pub loop-part-preserved : goal.loop-part-preserved
 loop-part-preserved c =
@@ -53,11 +43,10 @@ loop-part-preserved c =
     let m = length_push c.loop-part.yielded c.in-Some.part in
     record {
       counted = omega (arith, c.loop-part.invariant.counted, m);
-      few = rw c.push.ensures (omega (arith, m, length_push c.loop-part.events.items c.in-Some-2.event, c.loop-part.invariant.few));
-      room = rw c.push.ensures c.loop-part.invariant.room;
       said = AreEvents-more c.args.text.now (length c.loop-part.yielded) _ (c.loop-part.number + 1) _ _ _ (Some c.in-Some-2.event)
           (stands_at c.args.text.now _ c.in-Some.part.now _ t.0 t.1 c.without_return.ensures) m c.loop-part.invariant.said
-          (rw c.in-Some-2.is at c.in_ok-event.ensures) (ap (λ (list : Filled LineEvent). list.items) c.push.ensures);
+          (rw c.in-Some-2.is at c.in_ok-event.ensures) (rw (← c.make_room.ensures.items)
+          (ap (λ (list : Filled LineEvent). list.items) c.push.ensures));
     }
 
 pub returns-clause-events : goal.returns-clause-events

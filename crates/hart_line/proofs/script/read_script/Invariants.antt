@@ -1,12 +1,9 @@
-use Rattle.std.proofs.Common.{◌≡◌, ◌≤◌, length, take}
+use Rattle.std.proofs.Common.{◌≡◌, length, take}
 use Rattle.hart_line.specs.script.Rows.{AreEvents, lines_in_words}
-use Rattle.hart_line.proofs.lemmas.script.Script.{parts_of}
 use Rattle.hart_line.proofs.script.read_script.Given as goal
 
 abbrev pub invariant-loop-part : goal.invariant-loop-part
 invariant-loop-part l = record {
   counted : l.number ≡ length l.yielded;
-  few : length l.events.items ≤ length l.yielded;
-  room : l.events.room ≡ length (parts_of l.text);
   said : AreEvents (take (length l.yielded) (lines_in_words l.text)) l.events.items;
 }

@@ -1,0 +1,55 @@
+use Rattle.std.proofs.Common.{◌<◌, ◌∙◌, [], arith, refl}
+use Rattle.hart_line.specs.world.Promises.{start_from}
+use Rattle.hart_line.proofs.lemmas.line.Reached.{reached_first}
+use Rattle.hart_line.proofs.lemmas.line.Room.{room_for_each, room_for_next}
+use Rattle.hart_line.proofs.lemmas.line.Told.{told_fault, told_first, told_last, told_more, told_whole, with_spoken}
+use Rattle.hart_line.proofs.lemmas.Laws.{scripts_keep_their_promises-first_world}
+use Rattle.hart_line.proofs.line.logged.run_logged.Goals as goal
+
+pub loop-index-init : goal.loop-index-init
+loop-index-init g c =
+    let small : c.args.device.counter < 65536 = rw c.counter-counter.ensures at c.counter-counter.type_inv in
+    let start = start_from c.args.device c.args.process.now c.args.primary c.args.secondary in
+    rw (c.new-line.ensures, c.in_ok-room.ensures.outcomes, c.in_ok-room.ensures.spoken) (record {
+      told = told_first start _ _ refl (reached_first c.args.device c.args.process.now c.args.primary c.args.secondary _ _
+          (scripts_keep_their_promises-first_world start small) c.requires.primary c.requires.secondary) c.requires.fresh;
+      room = record { outcomes = omega arith; nothing_spoken = refl; spoken = omega arith };
+    })
+
+pub step-requires : goal.step-requires
+step-requires g c = record {
+  room = rw c.index-events-index.is
+      (room_for_next c.args.events.now c.loop-index.index _ _ c.loop-index-test.true c.loop-index.invariant.room);
+}
+
+pub returns-in-Err-clause-fault : goal.returns-in-Err-clause-fault
+returns-in-Err-clause-fault g c =
+    let start = start_from c.args.device c.args.process.now c.args.primary c.args.secondary in
+    let told = c.loop-index.invariant.told in
+    rw (c.from.ensures, c.at.ensures) (told_fault start c.args.events.now c.loop-index.index _ told.world c.in-Err.damage.leg
+    c.loop-index-test.true told.is_last
+    (rw c.index-events-index.is at (c.in-Err.ensures.stopped start (with_spoken [] told.world) refl told.stands)))
+
+pub loop-index-preserved : goal.loop-index-preserved
+loop-index-preserved g c =
+    let start = start_from c.args.device c.args.process.now c.args.primary c.args.secondary in
+    let told = c.loop-index.invariant.told in
+    let events = c.args.events.now in record {
+      told = rw c.tell.ensures.line (told_more start events c.loop-index.index _ _ _ _ _ c.loop-index-test.true told
+          (rw c.index-events-index.is at (c.in_default.ensures.stepped start (with_spoken [] told.world) refl told.marks told.stands))
+          c.tell.ensures.noted);
+      room = rw c.tell.ensures.line (room_for_each events c.loop-index.index _ _ _ c.loop-index-test.true c.loop-index.invariant.room
+          (rw c.index-events-index.is at c.in_default.ensures.room));
+    }
+
+pub returns : goal.returns
+returns g c =
+    let start = start_from c.args.device c.args.process.now c.args.primary c.args.secondary in
+    let told = told_whole start c.args.events.now _ _ _ (omega (arith, c.loop-index-test.false)) c.loop-index.invariant.told in
+    record {
+      world = (told.world, told.is_last);
+      device = told_last _ told (c.into_ending.ensures.device ∙ told.stands.device_is);
+      outcomes = told_last _ told (c.into_ending.ensures.outcomes ∙ told.stands.outcomes_are);
+      noted = told_last _ told (told.spoken, told.are_spoken, told.noted);
+      fault = tt;
+    }
