@@ -2,8 +2,9 @@
 # Runs each call of the built program again and again, and refuses one allocation each time: the first, the second, and so
 # on. A run ends with `out of memory` and a prefix of whole lines written: with status 2 if the growth was for the words, of which
 # clap has most, and with 1 if it was one of the call. Of its own a call has as many as its reservations, of which a script has one
-# more for each word of characters, and `hart dump` and `hart encode` have none. Only before clap has the words a run may do
-# without a growth. That it succeeds with ample memory is the last run, in which none is left to refuse.
+# more for each word of characters, and those by which its events and its text grow; `hart dump` and `hart encode` have none. Only
+# before clap has the words a run may do without a growth. That it succeeds with ample memory is the last run, in which none is
+# left to refuse.
 #
 # Usage: tools/refused-growths.sh [PROGRAM]; PROGRAM is the ./hart of the repository if absent. It needs cc.
 set -eu
@@ -69,8 +70,9 @@ refuse_each() {
         "$without that it did without"
 }
 
-# Refuses each growth of a script of so many submissions, each with a turn in which no characters are given. They are five: of
-# the input, of its events, two of `run` for outcomes and messages, and of the text.
+# Refuses each growth of a script of so many submissions, each with a turn in which no characters are given. There is one of the
+# input, two of `run_logged` for outcomes and messages, and as many as its events and its text need to grow to their size, each of
+# which at least doubles what there is room for: the second word is how many they are in all.
 refuse_script() {
     lines=0
     while [ "$lines" -lt "$1" ]; do
@@ -78,7 +80,7 @@ refuse_script() {
         lines=$((lines + 1))
     done >"$work/input"
     "$program" sim <"$work/input" >"$work/wanted"
-    refuse_each 5 sim
+    refuse_each "$2" sim
 }
 
 cp crates/hart_cli/stdin "$work/input"
@@ -122,13 +124,14 @@ D 5 86B7420A1B2C130500400123457F
 counter 2
 image 0200018208208208208208208208208208208208208208208208208208208208208208208208208208208208200000000123452020202020202020202020202020202020202020202020202020202020202020000203
 TEXT
-# And of two words of characters.
-refuse_each 7 sim
-refuse_each 8 sim --image "$image"
+# One of the input, two of `run_logged`, two of words of characters, and those of its six events and of its text.
+refuse_each 12 sim
+refuse_each 13 sim --image "$image"
 
-for submissions in 1 65 300 3000; do
-    refuse_script "$submissions"
-done
+refuse_script 1 8
+refuse_script 65 19
+refuse_script 300 23
+refuse_script 3000 30
 
 : >"$work/input"
 echo 'FF FF FF FF FF 82 B7 42 0A 1B 2C 13 03 01 23 45 3D' >"$work/wanted"

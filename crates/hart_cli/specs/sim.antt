@@ -1,3 +1,4 @@
 -- `hart sim`.
 pub mod Text
+pub mod Kept
 pub mod Sim

@@ -10,14 +10,15 @@ use crate::fault::CliFault;
 use crate::image_word::device_of;
 use crate::input::read_whole;
 use crate::output::write_all;
-use crate::sim::text::sim_text;
+use crate::sim::text::SimText;
 use crate::stream::{Sink, Source};
 use hart_device::{Device, ImageRegisters, bench};
-use hart_line::{read_script, run};
+use hart_line::{read_script, run_logged};
 use hart_master::Master;
 use hart_values::MasterId;
 use std::alloc::Global;
 
+mod kept;
 mod text;
 
 /// How often a master sends a request again at most.
@@ -98,14 +99,16 @@ fn simulation(
     let events = read_script(alloc, input)?;
     let primary = Master::new(MasterId::Primary, RETRIES, PRIMARY_REPLY_LIMIT).unwrap();
     let secondary = Master::new(MasterId::Secondary, RETRIES, SECONDARY_REPLY_LIMIT).unwrap();
-    let report = run(
+    let mut text = SimText::new(alloc);
+    let ending = run_logged(
         alloc,
         device,
         primary,
         secondary,
         events.as_slice(),
         &bench::process(),
+        &mut text,
     )?;
-    let text = sim_text(alloc, &report)?;
-    Ok(text)
+    text.push_outcomes(ending.outcomes.as_slice());
+    Ok(text.finish(&ending.device)?)
 }

@@ -4,7 +4,7 @@ ghost use Rattle.hart_line.specs.Filling.{AreSmall};
 
 use std::alloc::Global;
 
-/// There is no room for so many items. [`reserved`] alone says so, if the allocator refused it.
+/// There is no room for so many items. [`reserved`] and [`make_room`] alone say so, if the allocator refused it.
 #[derive(Clone, Copy, Debug, PartialEq, Eq)]
 pub struct NoRoom {
     items: usize,

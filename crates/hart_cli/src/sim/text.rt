@@ -1,16 +1,18 @@
 //! The text that `hart sim` writes.
-ghost use Rattle.std.specs.Prelude.{◌≡◌, ◌≤◌, ◌<◌, ◌+◌, ◌∷◌, [], ◌++◌, IfErr, IfOk, decimal, length, min};
+ghost use Rattle.std.specs.Prelude.{◌≡◌, ◌≤◌, ◌<◌, ◌+◌, ◌∷◌, [], ◌++◌, ℕ, List, IfErr, IfOk, decimal, length};
 ghost use Rattle.std.specs.List.{enumerate_from, flat_map, join_with_byte};
 ghost use Rattle.hart_line.specs.declared.line.report.Outcome.TheVariants.{Answered};
 ghost use Rattle.hart_cli.specs.sim.Text.{counter_line, master_fault_number, image_line, outcome_line, outcome_words, party_word};
+ghost use Rattle.hart_cli.specs.sim.Kept.{Keeps};
 ghost use Rattle.hart_cli.specs.sim.Sim.{IsNeededByWriting};
-ghost use Rattle.hart_cli.specs.sim.Text.{sim_text, spoken_line};
+ghost use Rattle.hart_cli.specs.sim.Text.{spoken_line};
 
+use crate::sim::kept::KeptText;
 use crate::text::hex_text::push_hex;
 use crate::text::words::{TextLine, push_hex_word, push_word};
 use hart_commands::Reply;
 use hart_device::{Device, RegisterStore};
-use hart_line::{Filling, NoRoom, Outcome, Party, Report, Spoken};
+use hart_line::{Log, NoRoom, Outcome, Party, Spoken};
 use hart_master::MasterFault;
 use hart_values::Payload;
 use itoa::Buffer;
@@ -19,83 +21,62 @@ use std::alloc::Global;
 /// A payload of a reply begins with its two status bytes.
 const STATUS_LEN: usize = 2;
 
-/// The text of a report: a line for each spoken frame, one for each submission, numbered from 1, and those of the
-/// counter and the image of the device.
-///
-/// # Errors
-///
-/// [`NoRoom`] for its length, or for the greatest number of bytes if it is longer than that.
-pub fn sim_text<S: RegisterStore>(alloc: Global, report: &Report<S>) -> Result<Vec<u8>, NoRoom>
-    ensures text { IfOk result (λ text. text.items ≡ sim_text report.now.spoken report.now.outcomes report.now.device) }
-    ensures refused { IfErr result (λ none.
-        IsNeededByWriting (sim_text report.now.spoken report.now.outcomes report.now.device) none.items) }
-{
-    let spoken = report.spoken.as_slice();
-    let outcomes = report.outcomes.as_slice();
-    let last_lines = device_lines(&report.device);
-    let len = spoken_len(spoken)
-        .saturating_add(outcomes_len(outcomes))
-        .saturating_add(last_lines.len());
-    let mut text = Filling::with_room(alloc, len)?;
-    push_spoken(&mut text, spoken);
-    push_outcomes(&mut text, outcomes);
-    text.extend(last_lines.as_slice());
-    Ok(text.finish())
+/// The text of a script that is carried out, while it is: the lines of spoken frames, then those of submissions.
+#[derive(Drop)]
+pub struct SimText {
+    kept: KeptText,
+    line: TextLine,
 }
 
-/// The length of the lines of spoken frames, or the greatest number if they are longer than that.
-fn spoken_len(spoken: &[Spoken]) -> usize
-    ensures { result ≡ min (length (flat_map spoken_line spoken.now)) usize.MAX }
-{
-    let mut len = 0usize;
-    for frame in spoken {
-        len = len.saturating_add(spoken_line_len(frame));
+impl SimText {
+    /// The text before anything was spoken.
+    pub fn new(alloc: Global) -> Self
+        ensures { Keeps result.kept [] }
+    {
+        SimText {
+            kept: KeptText::new(alloc),
+            line: TextLine::new(),
+        }
     }
-    len
-}
 
-/// The length of the line of a spoken frame.
-fn spoken_line_len(frame: &Spoken) -> usize
-    ensures { result ≡ length (spoken_line frame.now) }
-{
-    let words = party_word(frame.party).len() + Buffer::new().format(frame.preambles).len();
-    words + 2 * frame.bytes.len() + 3
-}
-
-/// The length of the lines of submissions, or the greatest number if they are longer than that.
-fn outcomes_len(outcomes: &[Outcome]) -> usize
-    ensures { result ≡ min (length (flat_map outcome_line (enumerate_from 1 outcomes.now))) usize.MAX }
-{
-    let mut len = 0usize;
-    let mut line = TextLine::new();
-    for (index, outcome) in outcomes.iter().enumerate() {
-        make_outcome_line(&mut line, index + 1, outcome);
-        len = len.saturating_add(line.len());
+    /// Adds a line for each submission.
+    pub fn push_outcomes(&mut self, outcomes: &[Outcome])
+        ensures { (text : List ℕ) → Keeps self.old.kept text
+            → Keeps self.new.kept (text ++ flat_map outcome_line (enumerate_from 1 outcomes.now)) }
+    {
+        for (index, outcome) in outcomes.iter().enumerate() {
+            make_outcome_line(&mut self.line, index + 1, outcome);
+            self.kept.push(self.line.as_slice());
+        }
     }
-    len
-}
 
-/// Adds a line for each spoken frame, for which there is room.
-fn push_spoken(text: &mut Filling<u8>, spoken: &[Spoken])
-    requires { length text.old.items + length (flat_map spoken_line spoken.now) ≤ text.old.room }
-    ensures { text.new ≡ record text.old { items = text.old.items ++ flat_map spoken_line spoken.now } }
-{
-    let mut line = TextLine::new();
-    for frame in spoken {
-        make_spoken_line(&mut line, frame);
-        text.extend(line.as_slice());
+    /// The whole text, which ends with the lines of the counter and the image of the device.
+    ///
+    /// # Errors
+    ///
+    /// [`NoRoom`] for its length, or for the greatest number of bytes if it is longer than that.
+    pub fn finish<S: RegisterStore>(self, device: &Device<S>) -> Result<Vec<u8>, NoRoom>
+        ensures text { (text : List ℕ) → Keeps self.kept text
+            → IfOk result (λ list. list.items ≡ text ++ counter_line device.now ++ image_line device.now) }
+        ensures refused { (text : List ℕ) → Keeps self.kept text
+            → IfErr result (λ none. IsNeededByWriting (text ++ counter_line device.now ++ image_line device.now) none.items) }
+    {
+        let SimText { mut kept, line: _ } = self;
+        kept.push(device_lines(device).as_slice());
+        kept.finish()
     }
 }
 
-/// Adds a line for each submission, for which there is room.
-fn push_outcomes(text: &mut Filling<u8>, outcomes: &[Outcome])
-    requires { length text.old.items + length (flat_map outcome_line (enumerate_from 1 outcomes.now)) ≤ text.old.room }
-    ensures { text.new ≡ record text.old { items = text.old.items ++ flat_map outcome_line (enumerate_from 1 outcomes.now) } }
-{
-    let mut line = TextLine::new();
-    for (index, outcome) in outcomes.iter().enumerate() {
-        make_outcome_line(&mut line, index + 1, outcome);
-        text.extend(line.as_slice());
+impl Log for SimText {
+    ghost use Rattle.std.specs.List.{flat_map};
+    ghost use Rattle.hart_cli.specs.sim.Kept.{Keeps};
+    ghost use Rattle.hart_cli.specs.sim.Text.{spoken_line};
+
+    ghost has_noted = { λ text noted. Keeps text.kept (flat_map spoken_line noted) };
+
+    fn note(&mut self, spoken: &Spoken) {
+        make_spoken_line(&mut self.line, spoken);
+        self.kept.push(self.line.as_slice());
     }
 }
 

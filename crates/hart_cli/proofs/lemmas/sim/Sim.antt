@@ -1,9 +1,8 @@
 -- The text of `hart sim`: how it grows, and that an input has one at most.
 use Rattle.std.proofs.lemmas.Grind.{common_steps}
-use Rattle.std.proofs.Common.{◌≡◌, ℕ, ◌+◌, ◌<◌, List, [], ◌∷◌, ◌++◌, length, take, drop, get_or, min, refl, sym, ap, ◌∙◌}
-use Rattle.std.proofs.Common.{arith, ◌≤◌, add-zero, length-append, length-take}
-use Rattle.std.proofs.lemmas.Grind.{flat_map-append}
-use Rattle.std.proofs.lemmas.List.{flat_map_more, take-append-drop, take_more}
+use Rattle.std.proofs.Common.{◌≡◌, ℕ, ◌+◌, ◌<◌, List, [], ◌∷◌, ◌++◌, length, take, get_or, refl, sym, ap, ◌∙◌}
+use Rattle.std.proofs.Common.{add-zero, arith, length-take}
+use Rattle.std.proofs.lemmas.List.{flat_map_more, take_more}
 use Rattle.std.specs.List.{enumerate_from, flat_map}
 use Rattle.hart_device.specs.Bench.{bench_process}
 use Rattle.hart_device.specs.Device.{DeviceState}
@@ -23,7 +22,7 @@ use Rattle.hart_line.specs.declared.fault.LineFault.TheVariants as line_faults
 use Rattle.hart_line.specs.declared.line.report.Outcome.{Outcome}
 use Rattle.hart_line.specs.declared.line.report.Spoken.{Spoken}
 use Rattle.hart_cli.specs.sim.Sim.{HasLineFault, IsSimulation, IsWorldText, start_with}
-use Rattle.hart_cli.specs.sim.Text.{outcome_line, sim_text}
+use Rattle.hart_cli.specs.sim.Text.{counter_line, image_line, outcome_line, sim_text, spoken_line}
 
 -- the things of a list that goes on are numbered on
 numbered_on : {X : Type 0} (n : ℕ) (xs more : List X)
@@ -39,37 +38,30 @@ pub outcomes_more : (text before line : List ℕ) (outcomes : List Outcome) (i :
 outcomes_more text before line outcomes i d below text_is line_is =
     grind (arith, common_steps, flat_map_more, length-take, numbered_on, take_more)
 
--- the lines of the first submissions are no longer than those of all
-pub outcomes_fit : (outcomes : List Outcome) (i : ℕ) → length (flat_map outcome_line (enumerate_from 1 (take i outcomes)))
-    ≤ length (flat_map outcome_line (enumerate_from 1 outcomes))
-outcomes_fit outcomes i =
-    let all = numbered_on 1 (take i outcomes) (drop i outcomes) in
-    grind (arith, all, take-append-drop i outcomes, flat_map-append, length-append)
-
--- the length of the lines up to one more submission, if it is not above the greatest number
-pub outcomes_longer : (len most : ℕ) (line : List ℕ) (outcomes : List Outcome) (i : ℕ) (d : Outcome) → i < length outcomes
-    → len ≡ min (length (flat_map outcome_line (enumerate_from 1 (take i outcomes)))) most
-    → line ≡ outcome_line (i + 1, get_or outcomes i d)
-    → min (len + length line) most ≡ min (length (flat_map outcome_line (enumerate_from 1 (take (i + 1) outcomes)))) most
-outcomes_longer len most line outcomes i d below len_is line_is =
-    let before = flat_map outcome_line (enumerate_from 1 (take i outcomes)) in
-    omega (arith, length-append before line, ap length (outcomes_more before [] line outcomes i d below refl line_is))
-
 -- a script starts with the device
 pub same_start : (device : DeviceState) (process : Process) (primary secondary : MasterState) → process ≡ bench_process
     → primary.retries ≡ 3 → secondary.retries ≡ 3 → start_from device process primary secondary ≡ start_with device
 same_start device process primary secondary is_process is_primary is_secondary = rw (is_process, is_primary, is_secondary) refl
 
 -- the text of a script that was carried out
-pub IsSimulation-run : (first : DeviceState) (input text : List ℕ) (start : Start) (read events : List LineEvent) (device : DeviceState)
-    (outcomes : List Outcome) (spoken : List Spoken) → start ≡ start_with first → IsScript input read → events ≡ read
-    → (world : World) × IsLast start events world
-    → ((world : World) → IsLast start events world → device ≡ state_of start.device world)
-    → ((world : World) → IsLast start events world → outcomes ≡ world.outcomes)
-    → ((world : World) → IsLast start events world → AreSpoken world.spoken spoken)
-    → text ≡ sim_text spoken outcomes device → IsSimulation first input text
-IsSimulation-run first input text start read events device outcomes spoken same script same_events last devices results said text_is =
-    grind (arith, common_steps)
+pub IsSimulation-run : (first : DeviceState) (input : List ℕ) (start : Start) (events : List LineEvent) (device : DeviceState)
+    (outcomes : List Outcome) (world : World) (spoken : List Spoken) → start ≡ start_with first → IsScript input events
+    → IsLast start events world → device ≡ state_of start.device world → outcomes ≡ world.outcomes → AreSpoken world.spoken spoken
+    → IsSimulation first input ((flat_map spoken_line spoken ++ flat_map outcome_line (enumerate_from 1 outcomes))
+    ++ counter_line device ++ image_line device)
+IsSimulation-run first input start events device outcomes world spoken same script last device_is outcomes_are said =
+    record {
+      events = events;
+      script = script;
+      world = world;
+      last = rw same at last;
+      world_text = record {
+        spoken = spoken;
+        are_spoken = said;
+        gives = ap (λ (results : List Outcome). sim_text spoken results device) outcomes_are
+            ∙ ap (λ (state : DeviceState). sim_text spoken world.outcomes state) (rw same at device_is);
+      };
+    }
 
 same_spoken : (x y : Spoken) → x.party ≡ y.party → x.preambles ≡ y.preambles → x.bytes ≡ y.bytes → x ≡ y
 same_spoken x y party preambles bytes = grind (arith, common_steps)
