@@ -10,7 +10,7 @@ ghost use Rattle.hart_cli.specs.text.Items.{NoPieceBegins};
 use crate::dump::text::push_frame_line;
 use crate::text::chunk::{Chunk, read_chunk};
 use crate::text::digits::Digits;
-use crate::text::items::leading_piece;
+use crate::text::items::next_piece;
 use hart_frame::{Char, Scanner};
 use hart_values::ByteList;
 
@@ -61,7 +61,7 @@ impl FrameLines {
             let len = read_chunk(digits, rest, &mut chunk);
             self.scan_chunk(chunk.as_slice());
             rest = &rest[len..];
-            let Some(lead) = leading_piece(rest) else {
+            let Some(lead) = next_piece(digits, rest) else {
                 return rest;
             };
             self.scan_char(lead.char);

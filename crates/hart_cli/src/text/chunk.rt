@@ -5,7 +5,7 @@ ghost use Rattle.hart_cli.specs.text.Items.{ReadsUpTo};
 ghost use Rattle.hart_cli.specs.text.Chunk.{AreSeparators, ReadsItems, ReadsMore};
 
 use crate::text::digits::Digits;
-use crate::text::items::{is_separator, leading_piece};
+use crate::text::items::{is_separator, next_piece};
 use hart_values::ByteList;
 
 /// The most faultless characters that are scanned at once.
@@ -47,7 +47,7 @@ fn read_some(digits: &Digits, text: &[u8], chunk: &mut Chunk) -> Option<usize>
         chunk.extend_from_slice(&bytes);
         return Some(2 * ITEMS_AT_ONCE);
     }
-    let lead = leading_piece(text)?;
+    let lead = next_piece(digits, text)?;
     match lead.char {
         None => {}
         Some(char) if char.is_faultless() => chunk.push(char.byte()),

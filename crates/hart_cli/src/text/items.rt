@@ -1,5 +1,6 @@
 //! The text of an input: hex items, and separators if there are any.
-ghost use Rattle.std.specs.Prelude.{◌≡◌, ◌↔◌, ◌<◌, ◌≤◌, ◌+◌, ◌*◌, ◌/◌, [], ℕ, List, drop, length, Option, IfErr, IfOk, IsTrue, MatchOption};
+ghost use Rattle.std.specs.Prelude.{◌≡◌, ◌↔◌, ◌<◌, ◌≤◌, ◌+◌, ◌*◌, ◌/◌, [], ℕ, List, drop, length, Option, Some};
+ghost use Rattle.std.specs.Prelude.{IfErr, IfOk, IfSome, IsTrue, MatchOption};
 ghost use Rattle.hart_frame.specs.heard.Character.{Character};
 ghost use Rattle.hart_cli.specs.input.Input.{Ending};
 ghost use Rattle.hart_cli.specs.text.InputChars.{HasChars, IsWholeTextFault};
@@ -7,6 +8,7 @@ ghost use Rattle.hart_cli.specs.text.Items.{BeginsAs, IsSeparator, MayBegin, NoP
 ghost use Rattle.hart_cli.specs.declared.fault.CliFault.{CliFault};
 
 use crate::fault::CliFault;
+use crate::text::digits::Digits;
 use hart_frame::Char;
 use hart_line::{Filling, leading_item};
 use std::alloc::Global;
@@ -32,7 +34,7 @@ pub fn read_chars(alloc: Global, mut text: Filling<u8>) -> Result<Vec<Char>, Cli
     let mut chars = Filling::with_room(alloc, text.len() / 2)?;
     // The end of an input makes its last item whole, as a space does.
     text.push(b' ');
-    let place = read_pieces(text.as_slice(), &mut chars);
+    let place = read_pieces(&Digits::new(), text.as_slice(), &mut chars);
     if place < text.len() {
         return Err(CliFault::BadHex { place });
     }
@@ -41,7 +43,7 @@ pub fn read_chars(alloc: Global, mut text: Filling<u8>) -> Result<Vec<Char>, Cli
 
 /// Reads a text up to the place where no piece begins, and gives that place. The last byte is no item's, so that there is room
 /// for half as many characters as there are bytes before it.
-fn read_pieces(text: &[u8], chars: &mut Filling<Char>) -> usize
+fn read_pieces(digits: &Digits, text: &[u8], chars: &mut Filling<Char>) -> usize
     requires empty { chars.old.items ≡ [] }
     requires room { length text.now ≤ 2 * chars.old.room + 2 }
     ensures within { result ≤ length text.now }
@@ -49,7 +51,7 @@ fn read_pieces(text: &[u8], chars: &mut Filling<Char>) -> usize
     ensures stops { NoPieceBegins (drop result text.now) }
 {
     let mut place = 0;
-    while let Some(lead) = leading_piece(&text[place..]) {
+    while let Some(lead) = next_piece(digits, &text[place..]) {
         if let Some(char) = lead.char {
             chars.push(char);
         }
@@ -67,8 +69,35 @@ pub struct LeadingPiece {
     pub len: usize,
 }
 
+/// The piece that begins a text, as [`leading_piece`] gives it, by a table of digits if it is an item without fault bits.
+pub fn next_piece(digits: &Digits, text: &[u8]) -> Option<LeadingPiece>
+    ensures { MatchOption result (NoPieceBegins text.now) (λ lead. BeginsAs text.now lead.char lead.len) }
+{
+    if let Some(char) = plain_char(digits, text) {
+        return Some(LeadingPiece {
+            char: Some(char),
+            len: 2,
+        });
+    }
+    leading_piece(text)
+}
+
+/// The character of the item that begins a text, if no fault bits follow it and a byte does.
+fn plain_char(digits: &Digits, text: &[u8]) -> Option<Char>
+    ensures { IfSome result (λ char. BeginsAs text.now (Some char) 2) }
+{
+    let [high, low, next, ..] = text else {
+        return None;
+    };
+    if *next == b'!' {
+        return None;
+    }
+    let byte = digits.byte_of(*high, *low)?;
+    Char::new(byte, 0)
+}
+
 /// The piece that begins a text, or `None` if none does.
-pub fn leading_piece(text: &[u8]) -> Option<LeadingPiece>
+fn leading_piece(text: &[u8]) -> Option<LeadingPiece>
     ensures { MatchOption result (NoPieceBegins text.now) (λ lead. BeginsAs text.now lead.char lead.len) }
 {
     let first = text.first()?;

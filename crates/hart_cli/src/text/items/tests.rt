@@ -73,7 +73,7 @@ const BROKEN_OFF: &[Case] = &[
 fn read(alloc: Global, text: &str) -> Result<(Vec<Pair>, usize, bool), Fail> {
     let bytes = text.as_bytes();
     let mut chars = Filling::with_room(alloc, bytes.len()).map_err(|_| "no room")?;
-    let place = read_pieces(bytes, &mut chars);
+    let place = read_pieces(&Digits::new(), bytes, &mut chars);
     let is_open = may_begin(&bytes[place..]);
     let mut pairs = Vec::new(alloc);
     for char in chars.finish().as_slice() {
