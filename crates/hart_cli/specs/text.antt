@@ -6,3 +6,4 @@ pub mod MessageLine
 pub mod Words
 pub mod Chunk
 pub mod Digits
+pub mod Pairs

@@ -5,4 +5,5 @@ pub mod digits;
 pub mod hex_text;
 pub mod items;
 pub mod message_line;
+pub mod pairs;
 pub mod words;

@@ -11,6 +11,7 @@ use crate::dump::text::push_frame_line;
 use crate::text::chunk::{Chunk, read_chunk};
 use crate::text::digits::Digits;
 use crate::text::items::next_piece;
+use crate::text::pairs::Pairs;
 use hart_frame::{Char, Scanner};
 use hart_values::ByteList;
 
@@ -28,6 +29,8 @@ pub struct FrameLines {
     pub scanner: Scanner,
     /// The lines that are not yet written.
     pub lines: TextLines,
+    /// The digits of what they say in hex.
+    pub pairs: Pairs,
 }
 
 impl FrameLines {
@@ -39,6 +42,7 @@ impl FrameLines {
         FrameLines {
             scanner: Scanner::new(),
             lines: TextLines::new(),
+            pairs: Pairs::new(),
         }
     }
 
@@ -115,7 +119,7 @@ impl FrameLines {
         ensures { GivesAll self.old.scanner self.new.scanner self.old.lines self.new.lines }
     {
         while let Some(found) = self.scanner.take() {
-            push_frame_line(&mut self.lines, &found);
+            push_frame_line(&mut self.lines, &self.pairs, &found);
         }
     }
 }

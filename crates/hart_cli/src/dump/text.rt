@@ -4,13 +4,18 @@ ghost use Rattle.hart_frame.specs.scan.View.{found_of};
 ghost use Rattle.hart_cli.specs.dump.Text.{address_word, burst_word, device_digits, dump_line, kind_word, line_room, master_word};
 
 use crate::text::hex_text::push_hex;
+use crate::text::pairs::Pairs;
 use crate::text::words::{push_hex_word, push_word};
 use hart_frame::{FoundView, FrameKind};
 use hart_values::{Address, ByteList, MasterId, UniqueAddress};
 use itoa::Buffer;
 
 /// Adds the line of a frame: its two places, then its parts, one space between two of them, and a line feed.
-pub fn push_frame_line<const N: usize>(lines: &mut ByteList<N>, found: &FoundView<'_>)
+pub fn push_frame_line<const N: usize>(
+    lines: &mut ByteList<N>,
+    pairs: &Pairs,
+    found: &FoundView<'_>,
+)
     requires { length lines.old + line_room (found_of found.now) ≤ N }
     ensures line { lines.new ≡ lines.old ++ dump_line (found_of found.now) }
     ensures few { length lines.new ≤ length lines.old + line_room (found_of found.now) }
@@ -18,11 +23,11 @@ pub fn push_frame_line<const N: usize>(lines: &mut ByteList<N>, found: &FoundVie
     let frame = &found.frame;
     push_places(lines, found.start, found.stop);
     push_head(lines, frame.kind(), frame.master(), frame.burst());
-    push_address(lines, frame.address());
-    push_hex_word(lines, frame.expansion());
+    push_address(lines, pairs, frame.address());
+    push_hex_word(lines, pairs, frame.expansion());
     lines.push(b' ');
     push_word(lines, Buffer::new().format(frame.command()));
-    push_hex_word(lines, frame.payload());
+    push_hex_word(lines, pairs, frame.payload());
     lines.push(b'\n');
 }
 
@@ -84,7 +89,7 @@ fn burst_word(burst: bool) -> &'static str
 }
 
 /// Adds the word of an address and the space after it.
-fn push_address<const N: usize>(line: &mut ByteList<N>, address: Address)
+fn push_address<const N: usize>(line: &mut ByteList<N>, pairs: &Pairs, address: Address)
     requires { length line.old + 11 ≤ N }
     ensures word { line.new ≡ line.old ++ address_word address ++ 32 ∷ [] }
     ensures len { length line.new ≤ length line.old + 11 }
@@ -98,20 +103,24 @@ fn push_address<const N: usize>(line: &mut ByteList<N>, address: Address)
             if address.is_broadcast() {
                 push_word(line, "all");
             } else {
-                push_device(line, device);
+                push_device(line, pairs, device);
             }
         }
     }
 }
 
 /// Adds the ten digits of a device and the space after them.
-fn push_device<const N: usize>(line: &mut ByteList<N>, device: UniqueAddress)
+fn push_device<const N: usize>(line: &mut ByteList<N>, pairs: &Pairs, device: UniqueAddress)
     requires { length line.old + 11 ≤ N }
     ensures word { line.new ≡ line.old ++ device_digits device ++ 32 ∷ [] }
     ensures len { length line.new ≤ length line.old + 11 }
 {
     let [type_high, type_low] = device.expanded_type().to_be_bytes();
     let [_, id_high, id_middle, id_low] = device.device_id().to_be_bytes();
-    push_hex(line, &[type_high, type_low, id_high, id_middle, id_low]);
+    push_hex(
+        line,
+        pairs,
+        &[type_high, type_low, id_high, id_middle, id_low],
+    );
     line.push(b' ');
 }

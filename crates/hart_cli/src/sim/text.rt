@@ -9,6 +9,7 @@ ghost use Rattle.hart_cli.specs.sim.Text.{spoken_line};
 
 use crate::sim::kept::KeptText;
 use crate::text::hex_text::push_hex;
+use crate::text::pairs::Pairs;
 use crate::text::words::{TextLine, push_hex_word, push_word};
 use hart_commands::Reply;
 use hart_device::{Device, RegisterStore};
@@ -25,6 +26,7 @@ const STATUS_LEN: usize = 2;
 #[derive(Drop)]
 pub struct SimText {
     kept: KeptText,
+    pairs: Pairs,
     line: TextLine,
 }
 
@@ -35,6 +37,7 @@ impl SimText {
     {
         SimText {
             kept: KeptText::new(alloc),
+            pairs: Pairs::new(),
             line: TextLine::new(),
         }
     }
@@ -45,7 +48,7 @@ impl SimText {
             → Keeps self.new.kept (text ++ flat_map outcome_line (enumerate_from 1 outcomes.now)) }
     {
         for (index, outcome) in outcomes.iter().enumerate() {
-            make_outcome_line(&mut self.line, index + 1, outcome);
+            make_outcome_line(&mut self.line, &self.pairs, index + 1, outcome);
             self.kept.push(self.line.as_slice());
         }
     }
@@ -61,8 +64,12 @@ impl SimText {
         ensures refused { (text : List ℕ) → Keeps self.kept text
             → IfErr result (λ none. IsNeededByWriting (text ++ counter_line device.now ++ image_line device.now) none.items) }
     {
-        let SimText { mut kept, line: _ } = self;
-        kept.push(device_lines(device).as_slice());
+        let SimText {
+            mut kept,
+            pairs,
+            line: _,
+        } = self;
+        kept.push(device_lines(&pairs, device).as_slice());
         kept.finish()
     }
 }
@@ -75,19 +82,19 @@ impl Log for SimText {
     ghost has_noted = { λ text noted. Keeps text.kept (flat_map spoken_line noted) };
 
     fn note(&mut self, spoken: &Spoken) {
-        make_spoken_line(&mut self.line, spoken);
+        make_spoken_line(&mut self.line, &self.pairs, spoken);
         self.kept.push(self.line.as_slice());
     }
 }
 
 /// Makes a line, whatever it holds, that of a spoken frame.
-fn make_spoken_line(line: &mut TextLine, frame: &Spoken)
+fn make_spoken_line(line: &mut TextLine, pairs: &Pairs, frame: &Spoken)
     ensures { line.new ≡ spoken_line frame.now }
 {
     line.clear();
     push_word(line, party_word(frame.party));
     push_word(line, Buffer::new().format(frame.preambles));
-    push_hex(line, frame.bytes.as_slice());
+    push_hex(line, pairs, frame.bytes.as_slice());
     line.push(b'\n');
 }
 
@@ -104,23 +111,23 @@ fn party_word(party: Party) -> &'static str
 }
 
 /// Makes a line that of the submission with this number.
-fn make_outcome_line(line: &mut TextLine, number: usize, outcome: &Outcome)
+fn make_outcome_line(line: &mut TextLine, pairs: &Pairs, number: usize, outcome: &Outcome)
     ensures { line.new ≡ outcome_line (number, outcome.now) }
 {
     line.clear();
     push_word(line, Buffer::new().format(number));
-    push_outcome(line, outcome);
+    push_outcome(line, pairs, outcome);
     line.push(b'\n');
 }
 
 /// Adds the words of what became of a submission, to a line that has at most its number, of 20 digits, and a space.
-fn push_outcome(line: &mut TextLine, outcome: &Outcome)
+fn push_outcome(line: &mut TextLine, pairs: &Pairs, outcome: &Outcome)
     requires { length line.old ≤ 21 }
     ensures words { line.new ≡ line.old ++ join_with_byte 32 (outcome_words outcome.now) }
     ensures room { length line.new < 583 }
 {
     match outcome {
-        Outcome::Answered { reply, sendings } => push_answered(line, reply, *sendings),
+        Outcome::Answered { reply, sendings } => push_answered(line, pairs, reply, *sendings),
         Outcome::NoReply { sendings } => push_count(line, "noreply", *sendings),
         Outcome::Unfinished { sendings } => push_count(line, "unfinished", *sendings),
         Outcome::Refused(fault) => push_count(line, "refused", master_fault_number(*fault)),
@@ -128,20 +135,20 @@ fn push_outcome(line: &mut TextLine, outcome: &Outcome)
 }
 
 /// Adds the words of a submission that was answered, to such a line.
-fn push_answered(line: &mut TextLine, reply: &Reply, sendings: u8)
+fn push_answered(line: &mut TextLine, pairs: &Pairs, reply: &Reply, sendings: u8)
     requires { length line.old ≤ 21 }
     ensures words { line.new ≡ line.old ++ join_with_byte 32 (outcome_words (Answered reply.now sendings)) }
     ensures room { length line.new < 583 }
 {
     push_word(line, "answered");
     push_word(line, Buffer::new().format(sendings));
-    push_hex(line, &[reply.code.value()]);
+    push_hex(line, pairs, &[reply.code.value()]);
     line.push(b' ');
-    push_hex(line, &[reply.status.0]);
+    push_hex(line, pairs, &[reply.status.0]);
     line.push(b' ');
     let mut payload = Payload::new();
     reply.write(&mut payload);
-    push_hex_word(line, &payload.as_slice()[STATUS_LEN..]);
+    push_hex_word(line, pairs, &payload.as_slice()[STATUS_LEN..]);
 }
 
 /// Adds a word and a number.
@@ -166,7 +173,7 @@ fn master_fault_number(fault: MasterFault) -> u8
 }
 
 /// The lines of the counter and of the image.
-fn device_lines<S: RegisterStore>(device: &Device<S>) -> TextLine
+fn device_lines<S: RegisterStore>(pairs: &Pairs, device: &Device<S>) -> TextLine
     ensures { result ≡ counter_line device.now ++ image_line device.now }
 {
     let mut lines = TextLine::new();
@@ -174,7 +181,7 @@ fn device_lines<S: RegisterStore>(device: &Device<S>) -> TextLine
     lines.extend_from_slice(Buffer::new().format(device.counter()).as_bytes());
     lines.push(b'\n');
     push_word(&mut lines, "image");
-    push_hex(&mut lines, device.image().as_slice());
+    push_hex(&mut lines, pairs, device.image().as_slice());
     lines.push(b'\n');
     lines
 }

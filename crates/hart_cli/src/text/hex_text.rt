@@ -4,25 +4,20 @@ ghost use Rattle.std.specs.Prelude.{◌≡◌, ◌+◌, ◌*◌, ◌≤◌, ◌�
 ghost use Rattle.hex.specs.Hex.{encode_upper};
 ghost use Rattle.hart_cli.specs.text.HexText.{hex_line};
 
+use crate::text::pairs::Pairs;
 use hart_values::ByteList;
 
 /// The line of a message, which has at most 287 bytes: two digits for each, and a space or the line feed after them.
 pub type HexLine = ByteList<861>;
 
-/// The most bytes whose digits are made at once.
-const CHUNK_LEN: usize = 32;
-
 /// Adds the bytes in upper case hex, two digits for each.
-pub fn push_hex<const N: usize>(line: &mut ByteList<N>, bytes: &[u8])
+pub fn push_hex<const N: usize>(line: &mut ByteList<N>, pairs: &Pairs, bytes: &[u8])
     requires { length line.old + 2 * length bytes.now ≤ N }
     ensures hex { line.new ≡ line.old ++ encode_upper bytes.now }
     ensures len { length line.new ≡ length line.old + 2 * length bytes.now }
 {
-    let mut digits = [0; 2 * CHUNK_LEN];
-    for chunk in bytes.chunks(CHUNK_LEN) {
-        let len = 2 * chunk.len();
-        write_digits(chunk, &mut digits[..len]);
-        line.extend_from_slice(&digits[..len]);
+    for byte in bytes {
+        line.extend_from_slice(&pairs.of(*byte));
     }
 }
 
@@ -36,7 +31,7 @@ fn write_digits(bytes: &[u8], digits: &mut [u8])
 }
 
 /// The two digits of a byte in upper case hex.
-fn digits_of(byte: u8) -> [u8; 2]
+pub fn digits_of(byte: u8) -> [u8; 2]
     ensures { result ≡ encode_upper (byte ∷ []) }
 {
     let mut digits = [0; 2];

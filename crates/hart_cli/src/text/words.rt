@@ -3,6 +3,7 @@ ghost use Rattle.std.specs.Prelude.{◌≡◌, ◌∷◌, [], ◌++◌, ◌+◌,
 ghost use Rattle.hart_cli.specs.text.Words.{bytes_word};
 
 use crate::text::hex_text::push_hex;
+use crate::text::pairs::Pairs;
 use hart_values::ByteList;
 
 /// The most bytes of a line, which the longest line of a frame has: two places of 20 digits, the three words of kind, master and
@@ -24,7 +25,7 @@ pub fn push_word<const N: usize>(line: &mut ByteList<N>, word: &str)
 }
 
 /// Adds the word of some bytes.
-pub fn push_hex_word<const N: usize>(line: &mut ByteList<N>, bytes: &[u8])
+pub fn push_hex_word<const N: usize>(line: &mut ByteList<N>, pairs: &Pairs, bytes: &[u8])
     requires { length line.old + 2 * length bytes.now < N }
     ensures word { line.new ≡ line.old ++ bytes_word bytes.now }
     ensures len { length line.new ≤ length line.old + max 1 (2 * length bytes.now) }
@@ -32,6 +33,6 @@ pub fn push_hex_word<const N: usize>(line: &mut ByteList<N>, bytes: &[u8])
     if bytes.is_empty() {
         line.push(b'-');
     } else {
-        push_hex(line, bytes);
+        push_hex(line, pairs, bytes);
     }
 }

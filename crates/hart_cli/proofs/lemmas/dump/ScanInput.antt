@@ -164,7 +164,7 @@ scanned_step {r = r} {r1 = r1} {r2 = r2} {w = w} {w1 = w1} old new {place = plac
 -- the lines that were kept are written
 pub written : {r r2 w w1 : Stream} {frames : FrameLines} {end : Option InputEnd} {rest : List ℕ} {place : ℕ} (w2 : Stream)
     → ScannedUpTo r r2 w w1 frames end rest place → WritesAll w1 w2 frames.lines
-    → ScannedUpTo r r2 w w2 (record { scanner = frames.scanner; lines = [] }) end rest place
+    → ScannedUpTo r r2 w w2 (record frames { lines = [] }) end rest place
 written {w = w} {w1 = w1} {frames = frames} w2 scanned on =
     let Of : List ℕ → Type 0 = λ text. KeepsLines (hearing new_scan scanned.chars) frames.scanner [] text in
     record {

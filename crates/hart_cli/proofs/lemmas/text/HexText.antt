@@ -1,12 +1,11 @@
 -- Upper case hex, and one more byte in a line of it.
 use Rattle.std.proofs.lemmas.Grind.{common_steps}
-use Rattle.std.proofs.Common.{◌≡◌, ℕ, ◌<◌, ◌≤◌, ◌+◌, ◌*◌, List, [], ◌∷◌, ◌++◌, length, take, map, get_or, refl, sym}
-use Rattle.std.proofs.Common.{ap}
+use Rattle.std.proofs.Common.{◌≡◌, ℕ, ◌<◌, ◌≤◌, ◌+◌, List, [], ◌∷◌, ◌++◌, length, take, map, get_or, refl, sym}
 use Rattle.std.proofs.Common.{append_assoc, arith, length-append}
 use Rattle.std.proofs.Math.ListN.{get_or-map}
 use Rattle.std.specs.Char.{to_ascii_uppercase}
 use Rattle.std.specs.List.{join_with_byte}
-use Rattle.std.proofs.lemmas.List.{append-nil, map_more, take_at}
+use Rattle.std.proofs.lemmas.List.{append-nil, map_more}
 use Rattle.hart_cli.specs.text.HexText.{hex_items}
 use Rattle.hex.proofs.HexLemmas.{length-encode_with}
 use Rattle.hex.specs.Hex.{encode_lower, encode_upper, encode_with, lower_digits, upper_digits}
@@ -48,21 +47,9 @@ pub encode_upper-none : (line : List ℕ) → line ≡ line ++ encode_upper []
 unfolding encode_with
 encode_upper-none line = sym (append-nil line)
 
--- the digits of a chunk, and then those of the rest
-pub encode_upper-chunk : (whole line line' digits back rest chunk rest' : List ℕ) → line ++ encode_upper rest ≡ whole
-    → rest ≡ chunk ++ rest' → digits ≡ encode_upper chunk → line' ≡ line ++ take (2 * length chunk) (digits ++ back)
-    → line' ++ encode_upper rest' ≡ whole
-encode_upper-chunk whole line line' digits back rest chunk rest' so_far parts is_digits is_line =
-    grind (arith, common_steps, append_assoc, encode_upper-append, length-encode_with, take_at)
-
--- the lengths of two lines with their digits still to come
-pub encode_upper-lengths : (line other bytes others : List ℕ) → line ++ encode_upper bytes ≡ other ++ encode_upper others
-    → length line + 2 * length bytes ≡ length other + 2 * length others
-encode_upper-lengths line other bytes others same = omega (
-  arith,
-  ap length same,
-  length-append line (encode_upper bytes),
-  length-append other (encode_upper others),
-  length-encode_with upper_digits bytes,
-  length-encode_with upper_digits others,
-)
+-- the digits of one byte more
+pub encode_upper-more : (start line line' bytes digits : List ℕ) (i d : ℕ) → i < length bytes
+    → line ≡ start ++ encode_upper (take i bytes) → digits ≡ encode_upper (get_or bytes i d ∷ []) → line' ≡ line ++ digits
+    → (line' ≡ start ++ encode_upper (take (i + 1) bytes)) × (length line' ≡ length line + 2)
+encode_upper-more start line line' bytes digits i d within so_far is_digits is_line =
+    grind (arith, common_steps, append_assoc, encode_upper-append, length-append, length-encode_with)

@@ -1,0 +1,7 @@
+-- For private calls alone: what a table of pairs of digits says (own profile).
+use Rattle.std.specs.Prelude.{◌≡◌, ◌<◌, ℕ, List, [], ◌∷◌, get_or}
+use Rattle.hex.specs.Hex.{encode_upper}
+
+-- A table has the two digits in upper case hex of so many bytes from 0 on.
+abbrev pub ArePairs : ℕ → List (List ℕ) → Type 0
+ArePairs count pairs = (byte : ℕ) → byte < count → get_or pairs byte [] ≡ encode_upper (byte ∷ [])
