@@ -17,8 +17,8 @@
 //! of it takes memory.
 //!
 //! The other crates of `hart` call neither [`is_write`] nor [`CodeList::new`]: these are for whoever makes requests with this
-//! library, and so are the laws that a written reply is read again, that written data are read again whatever follows them, that
-//! only unknown commands are refused with code 64, and that overwrites are valid.
+//! library, and so are the laws that requests are well made, that a written reply is read again, that written data are read again
+//! whatever follows them, that only unknown commands are refused with code 64, and that overwrites are valid.
 #![tactic(auto)]
 
 mod code_list;
