@@ -2,8 +2,9 @@
 ghost use Rattle.std.specs.Prelude.{◌≡◌, [], List, IfErr, IfOk};
 ghost use Rattle.hart_values.specs.declared.master_id.MasterId.TheVariants.{Primary, Secondary};
 ghost use Rattle.hart_master.specs.declared.hand.Hand.TheVariants.{Empty};
-ghost use Rattle.hart_line.specs.world.Faults.{IsFault};
-ghost use Rattle.hart_line.specs.world.Promises.{start_from};
+ghost use Rattle.hart_line.specs.world.Faults.{IsFault, IsNotDetectable};
+ghost use Rattle.hart_line.specs.world.Kept.{KeepsPromises};
+ghost use Rattle.hart_line.specs.world.Promises.{AreWellMade, start_from};
 ghost use Rattle.hart_line.specs.world.Spoken.{AreSpoken};
 ghost use Rattle.hart_line.specs.world.Step.{IsLast};
 ghost use Rattle.hart_line.specs.world.World.{World, state_of};
@@ -46,11 +47,18 @@ pub fn run_logged<S: RegisterStore + Drop, L: Log>(
     ensures noted { let start = start_from device process.now primary secondary in IfOk result (λ _.
         (world : World) → IsLast start events.now world
         → (spoken : List Spoken) × AreSpoken world.spoken spoken × L.has_noted log.new spoken) }
+    ensures identity { IfOk result (λ ending. ending.device.identity ≡ device.identity) }
+    // All that run promises of a script, of its turns and of its last world holds of this one, and each request of it is well made.
+    ensures well_made { IfOk result (λ _. AreWellMade events.now) }
+    ensures promises { IfOk result (λ _. KeepsPromises (start_from device process.now primary secondary) events.now) }
     // A fault names the first leg whose damage is undetected, or the outcomes or spoken frames that there is no room for.
     ensures fault { IfErr result (IsFault (start_from device process.now primary secondary) events.now) }
+    // No leg that is clean, lost, or marked or check damage of the message that was sent in it stops a script.
+    ensures detectable_damage_is_detected { IfErr result (IsNotDetectable (start_from device process.now primary secondary) events.now) }
 {
-    // By the contract of this the counter has two bytes.
+    // By the contracts of these the counter has two bytes, and an answer has preamble bytes.
     let _counter = device.counter();
+    let _preambles = device.response_preambles();
     let room = ScriptRoom::reserve_for_each(alloc, events)?;
     let mut line = Line::new(room, device, primary, secondary);
     for (index, event) in events.iter().enumerate() {

@@ -1,9 +1,12 @@
-use Rattle.std.proofs.Common.{◌<◌, ◌∙◌, [], arith, refl}
-use Rattle.hart_line.specs.world.Promises.{start_from}
+use Rattle.std.proofs.Common.{◌<◌, ◌≤◌, ◌∙◌, [], ap, arith, refl, rules, subst}
+use Rattle.std.proofs.lemmas.List.{take_all}
+use Rattle.hart_device.specs.Device.{DeviceState}
+use Rattle.hart_line.specs.world.Promises.{AreWellMade, start_from}
 use Rattle.hart_line.proofs.lemmas.line.Reached.{reached_first}
 use Rattle.hart_line.proofs.lemmas.line.Room.{room_for_each, room_for_next}
 use Rattle.hart_line.proofs.lemmas.line.Told.{told_fault, told_first, told_last, told_more, told_whole, with_spoken}
-use Rattle.hart_line.proofs.lemmas.Laws.{scripts_keep_their_promises-first_world}
+use Rattle.hart_line.proofs.lemmas.Laws.{scripts_keep_their_promises-first_world, scripts_keep_their_promises-kept}
+use Rattle.hart_line.proofs.lemmas.world.Submitted.{made_more}
 use Rattle.hart_line.proofs.line.logged.run_logged.Goals as goal
 
 pub loop-index-init : goal.loop-index-init
@@ -13,6 +16,7 @@ loop-index-init g c =
     rw (c.new-line.ensures, c.in_ok-room.ensures.outcomes, c.in_ok-room.ensures.spoken) (record {
       told = told_first start _ _ refl (reached_first c.args.device c.args.process.now c.args.primary c.args.secondary _ _
           (scripts_keep_their_promises-first_world start small) c.requires.primary c.requires.secondary) c.requires.fresh;
+      well_made = search rules;
       room = record { outcomes = omega arith; nothing_spoken = refl; spoken = omega arith };
     })
 
@@ -30,6 +34,13 @@ returns-in-Err-clause-fault g c =
     c.loop-index-test.true told.is_last
     (rw c.index-events-index.is at (c.in-Err.ensures.stopped start (with_spoken [] told.world) refl told.stands)))
 
+pub returns-in-Err-clause-detectable_damage_is_detected : goal.returns-in-Err-clause-detectable_damage_is_detected
+returns-in-Err-clause-detectable_damage_is_detected g c =
+    let preambles = c.response_preambles-preambles.ensures in
+    let enough : 5 ≤ c.args.device.identity.response_preambles = rw preambles.same at preambles.in_range.0 in
+    (scripts_keep_their_promises-kept (start_from c.args.device c.args.process.now c.args.primary c.args.secondary)
+    c.args.events.now).detectable_damage_is_detected _ enough (returns-in-Err-clause-fault g c)
+
 pub loop-index-preserved : goal.loop-index-preserved
 loop-index-preserved g c =
     let start = start_from c.args.device c.args.process.now c.args.primary c.args.secondary in
@@ -38,6 +49,8 @@ loop-index-preserved g c =
       told = rw c.tell.ensures.line (told_more start events c.loop-index.index _ _ _ _ _ c.loop-index-test.true told
           (rw c.index-events-index.is at (c.in_default.ensures.stepped start (with_spoken [] told.world) refl told.marks told.stands))
           c.tell.ensures.noted);
+      well_made = made_more c.args.events.now c.loop-index.index _ c.loop-index-test.true c.loop-index.invariant.well_made
+          (rw c.index-events-index.is at c.in_default.ensures.well_made);
       room = rw c.tell.ensures.line (room_for_each events c.loop-index.index _ _ _ c.loop-index-test.true c.loop-index.invariant.room
           (rw c.index-events-index.is at c.in_default.ensures.room));
     }
@@ -51,5 +64,10 @@ returns g c =
       device = told_last _ told (c.into_ending.ensures.device ∙ told.stands.device_is);
       outcomes = told_last _ told (c.into_ending.ensures.outcomes ∙ told.stands.outcomes_are);
       noted = told_last _ told (told.spoken, told.are_spoken, told.noted);
+      identity = ap (λ (d : DeviceState). d.identity) (c.into_ending.ensures.device ∙ told.stands.device_is);
+      well_made = subst AreWellMade (take_all c.loop-index.index c.args.events.now (omega (arith, c.loop-index-test.false)))
+          c.loop-index.invariant.well_made;
+      promises = scripts_keep_their_promises-kept start c.args.events.now;
       fault = tt;
+      detectable_damage_is_detected = tt;
     }
