@@ -29,7 +29,8 @@ counted bit (byte ∷ bytes) = omega (
   arith,
   sum_by-cons (λ (c : Character). if bit_at c.byte bit == 1 then 1 else 0) (record { byte = byte; faults = 0 }) (faultless bytes),
   sum_by-cons (λ (x : ℕ). if bit_at x bit == 1 then 1 else 0) byte bytes,
-  counted bit bytes)
+  counted bit bytes,
+)
 
 -- an even number of them has each bit
 none_odd : (bit : ℕ) (bytes : List ℕ) → bit < 8 → HasEvenParity bytes → is_odd (faultless bytes) bit ≡ false
@@ -37,11 +38,21 @@ none_odd bit bytes small parity = let same = counted bit bytes in let even = par
 
 -- a whole body has no communication faults
 no_communication_faults : (bytes : List ℕ) → HasEvenParity bytes → communication_faults (faultless bytes) ≡ 0
-no_communication_faults bytes parity = grind (arith,
-  no_fault 6 bytes refl, no_fault 5 bytes refl, no_fault 4 bytes refl, no_fault 1 bytes refl,
-  none_odd 0 bytes (search arith) parity, none_odd 1 bytes (search arith) parity, none_odd 2 bytes (search arith) parity,
-  none_odd 3 bytes (search arith) parity, none_odd 4 bytes (search arith) parity, none_odd 5 bytes (search arith) parity,
-  none_odd 6 bytes (search arith) parity, none_odd 7 bytes (search arith) parity)
+no_communication_faults bytes parity = grind (
+  arith,
+  no_fault 6 bytes refl,
+  no_fault 5 bytes refl,
+  no_fault 4 bytes refl,
+  no_fault 1 bytes refl,
+  none_odd 0 bytes (search arith) parity,
+  none_odd 1 bytes (search arith) parity,
+  none_odd 2 bytes (search arith) parity,
+  none_odd 3 bytes (search arith) parity,
+  none_odd 4 bytes (search arith) parity,
+  none_odd 5 bytes (search arith) parity,
+  none_odd 6 bytes (search arith) parity,
+  none_odd 7 bytes (search arith) parity,
+)
 
 -- the bytes of its own address name a device
 own_named : (identity : IdentityParts) (master : MasterId) (type_high type_low id_high id_middle id_low : ℕ)
@@ -64,7 +75,7 @@ formed : (identity : IdentityParts) (master : MasterId) (command : ℕ) (payload
     → 256 * type_high + type_low ≡ (own_numbers identity).expanded_type
     → 65536 * id_high + 256 * id_middle + id_low ≡ (own_numbers identity).device_id
     → (body : List ℕ) → body ≡ 130 ∷ first_byte master false type_high ∷ type_low ∷ id_high ∷ id_middle ∷ id_low
-        ∷ command ∷ length payload ∷ payload ++ check ∷ []
+    ∷ command ∷ length payload ∷ payload ++ check ∷ []
     → HasEvenParity body
     → garbled_request identity (faultless body) ≡ Some (record { master = master; command = command; faults = 0 })
 formed identity master command payload check type_high type_low id_high id_middle id_low ranges expanded_type device_id body is parity =
