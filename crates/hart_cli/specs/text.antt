@@ -5,5 +5,4 @@ pub mod HexText
 pub mod MessageLine
 pub mod Words
 pub mod Chunk
-pub mod Digits
 pub mod Pairs

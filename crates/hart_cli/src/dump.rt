@@ -13,8 +13,8 @@ use crate::fault::CliFault;
 use crate::input::{INPUT_LIMIT, InputEnd, PORTION_LEN, read_portion};
 use crate::output::write_all;
 use crate::stream::{Failed, Sink, Source};
-use crate::text::digits::Digits;
 use crate::text::items::may_begin;
+use hart_line::Digits;
 use hart_values::ByteList;
 use std::alloc::Global;
 

@@ -1,7 +1,6 @@
 //! Texts: hex items, and lines of words and bytes.
 
 pub mod chunk;
-pub mod digits;
 pub mod hex_text;
 pub mod items;
 pub mod message_line;

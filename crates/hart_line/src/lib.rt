@@ -48,6 +48,7 @@ pub use line::report::{Ending, Outcome, Outcomes, Party, Report, Spoken, SpokenL
 pub use line::run::run;
 pub use memory::{NoRoom, reserved};
 pub use plain_list::{CharList, PlainList};
+pub use script::digits::Digits;
 pub use script::items::{LeadingItem, leading_item};
 pub use script::read_script;
 pub use script::words::{read_address, read_command, read_data, read_who};

@@ -9,10 +9,10 @@ ghost use Rattle.hart_cli.specs.text.Items.{NoPieceBegins};
 
 use crate::dump::text::push_frame_line;
 use crate::text::chunk::{Chunk, read_chunk};
-use crate::text::digits::Digits;
 use crate::text::items::next_piece;
 use crate::text::pairs::Pairs;
 use hart_frame::{Char, Scanner};
+use hart_line::Digits;
 use hart_values::ByteList;
 
 /// The most bytes of lines that are kept: a line has at most twelve for each character that its frame takes up, of which the scanner

@@ -4,8 +4,8 @@ ghost use Rattle.hart_frame.specs.heard.Character.{faultless};
 ghost use Rattle.hart_cli.specs.text.Items.{ReadsUpTo};
 ghost use Rattle.hart_cli.specs.text.Chunk.{AreSeparators, ReadsItems, ReadsMore};
 
-use crate::text::digits::Digits;
 use crate::text::items::{is_separator, next_piece};
+use hart_line::Digits;
 use hart_values::ByteList;
 
 /// The most faultless characters that are scanned at once.

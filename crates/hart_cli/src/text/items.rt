@@ -8,9 +8,8 @@ ghost use Rattle.hart_cli.specs.text.Items.{BeginsAs, IsSeparator, MayBegin, NoP
 ghost use Rattle.hart_cli.specs.declared.fault.CliFault.{CliFault};
 
 use crate::fault::CliFault;
-use crate::text::digits::Digits;
 use hart_frame::Char;
-use hart_line::{Filling, leading_item};
+use hart_line::{Digits, Filling, leading_item};
 use std::alloc::Global;
 
 /// An input that was read so far has no two lists of characters before its fault, and no two faults.

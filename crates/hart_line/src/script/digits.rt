@@ -1,13 +1,12 @@
 //! What hex digits mean, as the library says, kept in a table.
-ghost use Rattle.std.specs.Prelude.{◌≡◌, ◌<◌, IfSome, IsTrue};
-ghost use Rattle.hex.specs.Hex.{is_hex_digit};
-ghost use Rattle.hart_line.specs.script.Digits.{AreDigitsOf};
-ghost use Rattle.hart_line.specs.script.Items.{hex_value};
+ghost use Rattle.std.specs.Prelude.{◌≡◌, MatchOption};
+ghost use Rattle.hart_line.specs.script.Digits.{AreDigitsOf, value_of_digit};
+ghost use Rattle.hart_line.specs.script.Items.{AreDigits};
 
 use crate::leading_item;
 use std::marker::Model;
 
-/// In the place of a value: that of a byte that is no digit.
+/// In the place of a value: the byte is no digit.
 const NO_DIGIT: u8 = 255;
 
 /// The value of each digit, for which the library is asked once.
@@ -24,15 +23,15 @@ impl Model for Digits {
 
     ghost view = { λ digits. digits.values };
 
-    ghost invariant = { λ digits. AreDigitValues digits.values };
+    ghost invariant = { λ digits. AreDigitValues 256 digits.values };
 }
 
 impl Digits {
     /// Asks for the value of each byte.
     pub fn new() -> Digits {
         let mut values = [NO_DIGIT; 256];
-        for byte in 0..=255u8 {
-            values[usize::from(byte)] = digit_value(byte);
+        for place in 0..256 {
+            values[place] = digit_value(place as u8);
         }
         Digits { values }
     }
@@ -40,7 +39,7 @@ impl Digits {
     /// The byte that two digits write, or `None` if one of them is no digit.
     #[inline(always)]
     pub fn byte_of(&self, high: u8, low: u8) -> Option<u8>
-        ensures { IfSome result (λ byte. AreDigitsOf byte high low) }
+        ensures { MatchOption result (AreDigits high low → ⊥) (λ byte. AreDigitsOf byte high low) }
     {
         let high = self.values[usize::from(high)];
         let low = self.values[usize::from(low)];
@@ -51,9 +50,9 @@ impl Digits {
     }
 }
 
-/// The value of a digit, or a number greater than 15 if the byte is none.
+/// The value of a digit, or 255 if the byte is none.
 fn digit_value(byte: u8) -> u8
-    ensures { result < 16 → IsTrue (is_hex_digit byte) × (hex_value byte ≡ result) }
+    ensures { result ≡ value_of_digit byte }
 {
     match leading_item(&[b'0', byte]) {
         Some(lead) => lead.char.byte(),

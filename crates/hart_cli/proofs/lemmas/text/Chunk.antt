@@ -6,7 +6,7 @@ use Rattle.std.specs.Option.{option_to_list}
 use Rattle.hart_frame.specs.heard.Character.{Character, faultless}
 use Rattle.hart_line.specs.script.Items.{Plain}
 use Rattle.hart_cli.specs.text.Chunk.{ReadsItems, ReadsMore}
-use Rattle.hart_cli.specs.text.Digits.{AreDigitsOf}
+use Rattle.hart_line.specs.script.Digits.{AreDigitsOf}
 use Rattle.hart_cli.specs.text.Items.{BeginsAs, IsSeparator, Item, ReadsUpTo, Separator, nothing, piece}
 use Rattle.hart_cli.proofs.lemmas.text.Items.{piece_read}
 use Rattle.hex.specs.Hex.{is_hex_digit}

@@ -1,8 +1,8 @@
 use Rattle.std.proofs.Common.{◌≡◌, ℕ, Bool, true, false, if◌then◌else◌, [], ◌∷◌, refl}
 use Rattle.hex.specs.Hex.{is_hex_digit}
 use Rattle.hart_line.specs.script.Items.{hex_value, NoItemBegins, Plain}
-use Rattle.hart_cli.specs.text.Digits.{value_of_digit}
-use Rattle.hart_cli.proofs.text.digits.digit_value.Goals as goal
+use Rattle.hart_line.specs.script.Digits.{value_of_digit}
+use Rattle.hart_line.proofs.script.digits.digit_value.Goals as goal
 
 -- what a test refuses has the other value
 by_test : (test : Bool) (x y : ℕ) → (test ≡ true → ⊥) → y ≡ (if test then x else y)

@@ -1,6 +1,0 @@
-use Rattle.std.proofs.Common.{◌≡◌, length}
-use Rattle.hart_cli.specs.text.Digits.{AreDigitValues}
-use Rattle.hart_cli.proofs.text.digits.Digits.new.Given as goal
-
-abbrev pub invariant-loop-place : goal.invariant-loop-place
-invariant-loop-place l = record { values : AreDigitValues l.place l.values; long : length l.values ≡ 256 }
