@@ -70,7 +70,8 @@ master_named Primary six_bits small = grind (arith, nat_tests)
 master_named Secondary six_bits small = grind (arith, nat_tests)
 
 -- the form of a request, byte by byte
-formed : (identity : IdentityParts) (master : MasterId) (command : ℕ) (payload : List ℕ) (check type_high type_low id_high id_middle id_low : ℕ)
+formed : (identity : IdentityParts) (master : MasterId) (command : ℕ) (payload : List ℕ)
+    (check type_high type_low id_high id_middle id_low : ℕ)
     → (type_high < 64) × (type_low < 256) × (id_high < 256) × (id_middle < 256) × (id_low < 256)
     → 256 * type_high + type_low ≡ (own_numbers identity).expanded_type
     → 65536 * id_high + 256 * id_middle + id_low ≡ (own_numbers identity).device_id
@@ -85,7 +86,12 @@ formed identity master command payload check type_high type_low id_high id_middl
     length-map (payload ++ check ∷ []) _ ∙ length-append payload (check ∷ []) in
     let whole : take (9 + length payload) (faultless body) ≡ faultless body =
     take_all (9 + length payload) (faultless body)
-    (omega (arith, length-map {B = Character} body (λ x. record { byte = x; faults = 0 }), ap length is, length-append payload (check ∷ []))) in
+    (omega (
+      arith,
+      length-map {B = Character} body (λ x. record { byte = x; faults = 0 }),
+      ap length is,
+      length-append payload (check ∷ []),
+    )) in
     let quiet = no_communication_faults body parity in
     grind (arith, nat_tests)
 
@@ -95,5 +101,6 @@ pub has_form : (identity : IdentityParts) (master : MasterId) (command : ℕ) (p
 has_form identity master command payload body is =
     let bytes = is.checked_part.address_bytes in
     formed identity master command payload is.check bytes.type_high bytes.type_low bytes.id_high bytes.id_middle bytes.id_low
-    bytes.ranges bytes.expanded_type bytes.device_id body (let five = bytes.five in let parts = is.checked_part.parts in let whole = is.parts in cc)
+    bytes.ranges bytes.expanded_type bytes.device_id body
+    (let five = bytes.five in let parts = is.checked_part.parts in let whole = is.parts in cc)
     is.parity
