@@ -85,11 +85,12 @@ impl<T> Filling<T> {
     ///
     /// # Errors
     ///
-    /// [`NoRoom`], if the allocator refused it. Nothing has changed then.
+    /// [`NoRoom`] with that number, if the allocator refused it. Nothing has changed then.
     pub fn make_room(&mut self, more: usize) -> Result<(), NoRoom>
         ensures items { self.new.items ≡ self.old.items }
         ensures room { OnOk result (length self.new.items + more ≤ self.new.room) }
         ensures refused { OnErr result (self.new ≡ self.old) }
+        ensures number { IfErr result (λ none. none.items ≡ more) }
     {
         make_room(&mut self.items, more)?;
         self.room = self.items.capacity();

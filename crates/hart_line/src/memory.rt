@@ -52,6 +52,7 @@ pub fn make_room<T>(list: &mut Vec<T>, more: usize) -> Result<(), NoRoom>
     ensures items { list.new.items ≡ list.old.items }
     ensures room { OnOk result (length list.new.items + more ≤ vec_capacity list.new) }
     ensures kept { vec_capacity list.old ≤ vec_capacity list.new }
+    ensures refused { IfErr result (λ none. none.items ≡ more) }
 {
     list.reserve(more)
         .map_err(|_refused| NoRoom { items: more })
