@@ -7,3 +7,8 @@ pub mod Parts
 pub mod Reply
 pub mod RequestMade
 pub mod Laws
+pub mod Fields
+pub mod Parted
+pub mod RequestFields
+pub mod ReplyFields
+pub mod Named

@@ -11,3 +11,5 @@ pub mod RequestData
 pub mod RequestCode
 pub mod Registers
 pub mod ReplyData
+pub mod Fields
+pub mod Parts

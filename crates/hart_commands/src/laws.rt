@@ -1,8 +1,11 @@
 //! Laws over the definitions alone, for the crates above.
 ghost use Rattle.std.specs.Prelude.{◌≡◌, ◌≢◌, ◌<◌, AllPairs, Contains, ◌↔◌, ◌++◌, List, ℕ, false, true, Ok, Err, Some, IsTrue, IsSome};
-ghost use Rattle.std.specs.Prelude.{length, take};
+ghost use Rattle.std.specs.Prelude.{is_some, length, take};
 ghost use Rattle.hart_commands.specs.RequestData.{IsRequest, MayFollow, command_of, is_known};
 ghost use Rattle.hart_commands.specs.RequestData.{request_reading, request_data};
+ghost use Rattle.hart_commands.specs.Commands.{content_bytes};
+ghost use Rattle.hart_commands.specs.Fields.{bytes_of, command_name, field_bytes, fields_of, reply_rows, request_rows};
+ghost use Rattle.hart_commands.specs.Parts.{content_parts, request_parts};
 ghost use Rattle.hart_commands.specs.RequestCode.{is_write};
 ghost use Rattle.hart_commands.specs.Registers.{AreValid, Contents, named_in, overwrite_of, overwritten, registers};
 ghost use Rattle.hart_commands.specs.ReplyData.{IsReply};
@@ -80,4 +83,29 @@ pub fn written_payloads_are_read_again()
         → (is_known command ≡ true) × (reply.code < 128) }
     ensures refused { (command : ℕ) (payload : List ℕ) (reply : Reply) → reply_reading command payload ≡ Some reply
         → reply.code ≢ 0 → reply.content ≡ Refused }
+{}
+
+/// A command has a name exactly if it is known, and no two commands have the same name.
+pub fn known_commands_have_names()
+    ensures known { (command : ℕ) → is_some (command_name command) ≡ is_known command }
+    ensures different { (command other : ℕ) → IsSome (command_name command) → command_name command ≡ command_name other
+        → command ≡ other }
+{}
+
+/// Each field of a well-made request's data is one part of the request, and each field of a well-made reply's is one part of its
+/// content: they are as many, in the same order, and have the same bytes.
+pub fn fields_are_the_parts()
+    ensures request { (request : Request) → IsRequest request
+        → field_bytes (fields_of (request_rows (command_of request)) (request_data request)) ≡ request_parts request }
+    ensures reply { (reply : Reply) → IsReply reply
+        → field_bytes (fields_of (reply_rows reply.command) (content_bytes reply.content)) ≡ content_parts reply.content }
+{}
+
+/// Nothing is left out by the names: the bytes of the fields of a well-made request's data are those data, and so are those of
+/// a well-made reply's.
+pub fn fields_are_all_of_the_data()
+    ensures request { (request : Request) → IsRequest request
+        → bytes_of (fields_of (request_rows (command_of request)) (request_data request)) ≡ request_data request }
+    ensures reply { (reply : Reply) → IsReply reply
+        → bytes_of (fields_of (reply_rows reply.command) (content_bytes reply.content)) ≡ content_bytes reply.content }
 {}

@@ -23,6 +23,7 @@
 
 mod code_list;
 mod content;
+mod fields;
 mod identity;
 mod laws;
 mod output;
@@ -37,9 +38,11 @@ mod value;
 
 pub use code_list::CodeList;
 pub use content::ReplyContent;
+pub use fields::{FieldKind, FieldRow, FieldSize, command_name, reply_rows, request_rows};
 pub use identity::IdentityContent;
 pub use laws::{
-    all_registers_are_listed_once, overwrites_are_valid, requests_are_well_made,
+    all_registers_are_listed_once, fields_are_all_of_the_data, fields_are_the_parts,
+    known_commands_have_names, overwrites_are_valid, requests_are_well_made,
     requests_have_their_command, unknown_commands_are_refused, writes_have_overwrites,
     written_data_are_read_again, written_data_are_their_request, written_payloads_are_read_again,
 };

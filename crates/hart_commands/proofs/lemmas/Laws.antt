@@ -1,11 +1,18 @@
--- The laws of requests, of registers and of overwrites, for the proofs of the crates above.
-use Rattle.std.proofs.Common.{◌≡◌, ◌≢◌, ℕ, AllPairs, Contains, IsSome, IsTrue, List, Ok, refl, lit<, rules}
+-- The laws of requests, of fields, of registers and of overwrites, for the proofs of the crates above.
+use Rattle.std.proofs.Common.{◌≡◌, ◌≢◌, ℕ, AllPairs, Contains, IsSome, IsTrue, List, Ok, refl, ap, ◌∙◌, lit<, rules}
+use Rattle.std.specs.List.{concat}
+use Rattle.hart_commands.specs.Fields.{bytes_of, fields_of, reply_rows, request_rows}
+use Rattle.hart_commands.specs.ReplyData.{IsReply, content_bytes}
 use Rattle.hart_commands.specs.RequestCode.{is_write}
 use Rattle.hart_commands.specs.RequestData.{IsRequest, command_of, request_data, request_reading}
 use Rattle.hart_commands.specs.Registers.{AreValid, Contents, overwrite_of, overwritten, registers}
 use Rattle.hart_commands.specs.declared.register.Register.{Register}
 use Rattle.hart_commands.specs.declared.register.Register.TheVariants.{Polling, Mode, Message, Tag, Descriptor, Date, Assembly, LongTag}
+use Rattle.hart_commands.specs.declared.reply.Reply.{Reply}
 use Rattle.hart_commands.specs.declared.request.Request.{Request}
+use Rattle.hart_commands.proofs.lemmas.Parted.{bytes-each, content-parts, request-parts}
+use Rattle.hart_commands.proofs.lemmas.ReplyFields.{parts_of_reply}
+use Rattle.hart_commands.proofs.lemmas.RequestFields.{parts_of_request}
 use Rattle.hart_commands.proofs.lemmas.Request.{written_is_own}
 use Rattle.hart_commands.proofs.lemmas.RequestMade.{read-asked}
 
@@ -21,6 +28,18 @@ all_registers_are_listed_once-every LongTag = (7, lit< tt, refl)
 
 pub all_registers_are_listed_once-once : AllPairs (λ (register other : Register). register ≢ other) registers
 all_registers_are_listed_once-once = search rules
+
+pub fields_are_all_of_the_data-request : (request : Request) → IsRequest request
+    → bytes_of (fields_of (request_rows (command_of request)) (request_data request)) ≡ request_data request
+fields_are_all_of_the_data-request request is =
+    bytes-each (fields_of (request_rows (command_of request)) (request_data request))
+    ∙ ap concat (parts_of_request request is) ∙ request-parts request
+
+pub fields_are_all_of_the_data-reply : (reply : Reply) → IsReply reply
+    → bytes_of (fields_of (reply_rows reply.command) (content_bytes reply.content)) ≡ content_bytes reply.content
+fields_are_all_of_the_data-reply reply is =
+    bytes-each (fields_of (reply_rows reply.command) (content_bytes reply.content))
+    ∙ ap concat (parts_of_reply reply is) ∙ content-parts reply.content
 
 pub overwrites_are_valid : (write : Request) (old : Contents) → IsRequest write → AreValid old → AreValid (overwritten write old)
 overwrites_are_valid write old made valid = search rules

@@ -32,7 +32,7 @@ IsKept read bytes content =
 abbrev pub Keeps : (List ℕ → Option ReplyContent) → Type 0
 Keeps read = (bytes : List ℕ) → IfSome (read bytes) (IsKept read bytes)
 
-by_test : {A : Type 0} (b : Bool) (x y : Option A) (P : A → Type 0) → (b ≡ true → IfSome x P) → (b ≡ false → IfSome y P)
+pub by_test : {A : Type 0} (b : Bool) (x y : Option A) (P : A → Type 0) → (b ≡ true → IfSome x P) → (b ≡ false → IfSome y P)
     → IfSome (if b then x else y) P
 by_test true x y P then_x else_y = then_x refl
 by_test false x y P then_x else_y = else_y refl
@@ -69,13 +69,14 @@ spelt : (size : ℕ) (content : List ℕ → ReplyContent) → ((xs : List ℕ) 
 spelt size content each =
     said size (λ xs. Some (content xs)) (by_spelling size (λ xs. content_bytes (content xs) ≡ xs) each)
 
-identity : Keeps identity_reading
-identity = said 22 read (by_spelling 22 (λ xs. IfSome (read xs) (λ content. content_bytes content ≡ xs)) each)
-  where
-    read : List ℕ → Option ReplyContent
-    read xs = if eqb (slice_index xs 0) 254 then Some (Identity (identity_of xs)) else None
+-- what 22 bytes say, if they begin with 254
+abbrev pub identity_in : List ℕ → Option ReplyContent
+identity_in xs = if eqb (slice_index xs 0) 254 then Some (Identity (identity_of xs)) else None
 
-    each : (xs : List ℕ) → IfSome (read (spell 22 xs)) (λ content. content_bytes content ≡ spell 22 xs)
+identity : Keeps identity_reading
+identity = said 22 identity_in (by_spelling 22 (λ xs. IfSome (identity_in xs) (λ content. content_bytes content ≡ xs)) each)
+  where
+    each : (xs : List ℕ) → IfSome (identity_in (spell 22 xs)) (λ content. content_bytes content ≡ spell 22 xs)
     each xs =
         by_test (eqb (slice_index xs 0) 254) (Some (Identity (identity_of (spell 22 xs)))) None _
         (λ t. rw (is_one (slice_index xs 0) 254 t) refl) (λ f. tt)
@@ -111,7 +112,7 @@ dynamic bytes = go (cases_lt (length bytes) 9)
         rw (above (length bytes) 9 more)
         (kept (drop 4 bytes) (min (length (drop 4 bytes) / 5) 4) refl (omega arith) (omega arith) (omega arith) (omega arith))
 
-three_tests : (a b c : Bool) → (a && b && c) ≡ true → (a ≡ true) × (b ≡ true) × (c ≡ true)
+pub three_tests : (a b c : Bool) → (a && b && c) ≡ true → (a ≡ true) × (b ≡ true) × (c ≡ true)
 three_tests true true true e = (refl, refl, refl)
 three_tests true true false e = absurd (cc)
 three_tests true false c e = absurd (cc)

@@ -1,0 +1,81 @@
+-- Every command that is known has a name of its own.
+use Rattle.std.proofs.Common.{◌≡◌, rules, ℕ, List, [], ◌∷◌, map, Option, Some, None, IfSome, IsSome, refl, ap}
+use Rattle.std.proofs.Common.{◌∙◌, sym, subst, arith, Bool, true, false, eqb, is_some}
+use Rattle.std.specs.Prelude.{if◌then◌else◌, bytes_eq}
+use Rattle.std.specs.List.{AllByRecursion, find}
+use Rattle.std.specs.Option.{option_map}
+use Rattle.std.proofs.lemmas.Bool.Decides.{nat_tests}
+use Rattle.hart_commands.specs.Commands.{CommandRow, commands, is_known, row_in}
+use Rattle.hart_commands.specs.Fields.{CommandRows, command_name, rows, rows_of}
+use Rattle.hart_commands.proofs.lemmas.Test.{is_one}
+
+-- the tests of two rows with one number
+eqb_sym : (m n : ℕ) → eqb m n ≡ eqb n m
+eqb_sym m n = grind (arith, nat_tests)
+
+-- tables with the same numbers have a row for the same commands
+same : (named : List CommandRows) (others : List CommandRow) (command : ℕ) → map (λ row. row.number) named ≡ map (λ row. row.number) others
+    → is_some (option_map (λ row. row.name) (find (λ row. eqb row.number command) named)) ≡ is_some (row_in others command)
+same [] [] command e = refl
+same [] (other ∷ others) command e = cc
+same (row ∷ named) [] command e = cc
+same (row ∷ named) (other ∷ others) command e =
+    let number : row.number ≡ other.number = cc in
+    let rest : map (λ row. row.number) named ≡ map (λ row. row.number) others = cc in
+    let one : eqb row.number command ≡ eqb command other.number = rw number (eqb_sym other.number command) in
+    go (eqb row.number command) (eqb command other.number) one (same named others command rest)
+  where
+    go : (b d : Bool) → b ≡ d
+        → is_some (option_map (λ row. row.name) (find (λ row. eqb row.number command) named)) ≡ is_some (row_in others command)
+        → is_some (option_map (λ row. row.name) (if b then Some row else find (λ row. eqb row.number command) named))
+        ≡ is_some (if d then Some other else row_in others command)
+    go true true e rest = refl
+    go true false e rest = cc
+    go false true e rest = cc
+    go false false e rest = rest
+
+pub known : (command : ℕ) → is_some (command_name command) ≡ is_known command
+unfolding rows
+known command = same rows commands command refl
+
+-- the number of the first row with a name
+abbrev pub number_of : List ℕ → Option ℕ
+number_of name = option_map (λ row. row.number) (find (λ row. bytes_eq row.name name) rows)
+
+abbrev pub IsNamed : CommandRows → Type 0
+IsNamed row = number_of row.name ≡ Some row.number
+
+named : AllByRecursion IsNamed rows
+unfolding rows
+named = search rules
+
+-- what holds of every row holds of the row that is found
+pub found : (P : CommandRows → Type 0) (rows : List CommandRows) (command : ℕ) → AllByRecursion P rows
+    → IfSome (find (λ row. eqb row.number command) rows) (λ row. (row.number ≡ command) × P row)
+found P [] command all = tt
+found P (row ∷ others) command all = go (eqb row.number command) refl (found P others command all.1)
+  where
+    go : (b : Bool) → eqb row.number command ≡ b
+        → IfSome (find (λ row. eqb row.number command) others) (λ row. (row.number ≡ command) × P row)
+        → IfSome (if b then Some row else find (λ row. eqb row.number command) others) (λ row. (row.number ≡ command) × P row)
+    go true t rest = (is_one row.number command t, all.0)
+    go false t rest = rest
+
+-- a name is that of the command only whose number it has
+number-name : (command : ℕ) (name : List ℕ) (row : Option CommandRows) → IfSome row (λ row. (row.number ≡ command) × IsNamed row)
+    → option_map (λ row. row.name) row ≡ Some name → number_of name ≡ Some command
+number-name command name None is e = cc
+number-name command name (Some row) is e =
+    let same : row.name ≡ name = cc in subst (λ (n : List ℕ). number_of n ≡ Some command) same (is.1 ∙ ap (λ n. Some n) is.0)
+
+pub different : (command other : ℕ) → IsSome (command_name command) → command_name command ≡ command_name other → command ≡ other
+different command other some e = go (command_name command) refl some
+  where
+    go : (name : Option (List ℕ)) → command_name command ≡ name → IsSome name → command ≡ other
+    go None is some = cc
+    go (Some name) is some =
+        let first : number_of name ≡ Some command =
+        number-name command name (rows_of command) (found IsNamed rows command named) is in
+        let second : number_of name ≡ Some other =
+        number-name other name (rows_of other) (found IsNamed rows other named) (sym e ∙ is) in
+        cc

@@ -1,0 +1,203 @@
+-- The fields of the data of a well-made reply are the parts of its content.
+use Rattle.std.proofs.Common.{◌≡◌, ℕ, zero, suc, ◌+◌, ◌-◌, ◌*◌, ◌/◌, ◌<◌, ◌≤◌, ◌⊎◌, inl, inr, List, [], ◌∷◌, ◌++◌, take, drop, length}
+use Rattle.std.proofs.Common.{map, min, Option, Some, None, IfSome, refl, ap, ◌∙◌, subst, arith, rules, true, eqb, ltb, length-append}
+use Rattle.std.proofs.Common.{length-drop, length-take-le, slice_index}
+use Rattle.std.specs.Prelude.{codes, if◌then◌else◌}
+use Rattle.std.specs.List.{flat_map, AllByRecursion}
+use Rattle.std.specs.Option.{option_map, option_map_or}
+use Rattle.std.specs.Simd.{first_chunks}
+use Rattle.std.proofs.lemmas.Bool.{cases_lt}
+use Rattle.std.proofs.lemmas.Bool.Decides.{nat_tests}
+use Rattle.std.proofs.lemmas.List.{take_at, drop_at, take_all}
+use Rattle.hart_commands.specs.declared.content.ReplyContent.{ReplyContent}
+use Rattle.hart_commands.specs.declared.content.ReplyContent.TheVariants.{Identity, Dynamic, Variables, Refused}
+use Rattle.hart_commands.specs.declared.fields.FieldKind.TheVariants.{Bytes}
+use Rattle.hart_commands.specs.declared.reply.Reply.{Reply}
+use Rattle.hart_commands.specs.FirstBytes.{having}
+use Rattle.hart_commands.specs.Fields.{CommandRows, Row, field_bytes, fields_of, reply_rows, rows, rows_of}
+use Rattle.hart_commands.specs.Fields as fields
+use Rattle.hart_commands.specs.Parts.{content_parts, one}
+use Rattle.hart_commands.specs.IdentityBytes.{identity_of}
+use Rattle.hart_commands.specs.Values.{float_at, unit_value_of, variable_of, variable_bytes}
+use Rattle.hart_commands.specs.ReplyReading.{identity_reading, dynamic_reading, variables_reading, more_reading}
+use Rattle.hart_commands.specs.Commands.{Replied, Saying, SaidBy, CommandRow, replied, commands, command_row, is_known}
+use Rattle.hart_commands.specs.ReplyData.{IsReply, content_by, content_bytes, content_reading, reply_reading}
+use Rattle.hart_commands.proofs.lemmas.Test.{below, above, is_one}
+use Rattle.hart_commands.proofs.lemmas.Parts.{spell, by_spelling, variable-bytes}
+use Rattle.hart_commands.proofs.lemmas.Chunk.{chunks-bytes, chunks-take}
+use Rattle.hart_commands.proofs.lemmas.Reply.{by_test, identity_in, three_tests}
+use Rattle.hart_commands.proofs.lemmas.Named as names
+use Rattle.hart_commands.proofs.lemmas.Rows.{found}
+use Rattle.hart_commands.proofs.lemmas.RequestFields.{all_left}
+
+-- the fields that a command has of a content are its parts
+abbrev pub IsParted : ℕ → ReplyContent → Type 0
+IsParted command content = field_bytes (fields_of (reply_rows command) (content_bytes content)) ≡ content_parts content
+
+abbrev pub Parts : ℕ → (List ℕ → Option ReplyContent) → Type 0
+Parts command read = (bytes : List ℕ) → IfSome (read bytes) (IsParted command)
+
+-- so many bytes that say a content have its parts, if that is seen of them byte by byte
+said : (command size : ℕ) (read : List ℕ → Option ReplyContent) → ((xs : List ℕ) → IfSome (read (spell size xs)) (IsParted command))
+    → Parts command (having size None read)
+said command size read each bytes = go (cases_lt (length bytes) size)
+  where
+    go : (length bytes < size) ⊎ (size ≤ length bytes) → IfSome (having size None read bytes) (IsParted command)
+    go (inl less) = rw (below (length bytes) size less) tt
+    go (inr more) =
+        rw (above (length bytes) size more)
+        (by_spelling size (λ xs. IfSome (read xs) (IsParted command)) each (take size bytes) (length-take-le size bytes more))
+
+identity : (command : ℕ) → reply_rows command ≡ fields.identity → Parts command identity_reading
+identity command same = said command 22 identity_in each
+  where
+    each : (xs : List ℕ) → IfSome (identity_in (spell 22 xs)) (IsParted command)
+    each xs =
+        by_test (eqb (slice_index xs 0) 254) (Some (Identity (identity_of (spell 22 xs)))) None (IsParted command)
+        (λ t. rw same refl) (λ f. tt)
+
+-- a loop current and one to four variables, seen byte by byte
+in_groups : (groups : ℕ) → 0 < groups → groups ≤ 4 → (start rest : List ℕ) → length start ≡ 4 → length rest ≡ groups * 5
+    → IsParted 3 (Dynamic (record { 0 = start }) (map unit_value_of (first_chunks 5 groups rest)))
+unfolding rows
+in_groups groups some few start rest four long = by_spelling 4 (P rest) (λ s. go groups some few s rest long) start four
+  where
+    P : List ℕ → List ℕ → Type 0
+    P rest start = IsParted 3 (Dynamic (record { 0 = start }) (map unit_value_of (first_chunks 5 groups rest)))
+
+    go : (n : ℕ) → 0 < n → n ≤ 4 → (s rest : List ℕ) → length rest ≡ n * 5
+        → IsParted 3 (Dynamic (record { 0 = spell 4 s }) (map unit_value_of (first_chunks 5 n rest)))
+    go zero some few s = absurd (omega arith)
+    go (suc zero) some few s = by_spelling 5 _ (λ xs. refl)
+    go (suc (suc zero)) some few s = by_spelling 10 _ (λ xs. refl)
+    go (suc (suc (suc zero))) some few s = by_spelling 15 _ (λ xs. refl)
+    go (suc (suc (suc (suc zero)))) some few s = by_spelling 20 _ (λ xs. refl)
+    go (suc (suc (suc (suc (suc n))))) some few s = absurd (omega arith)
+
+dynamic : Parts 3 dynamic_reading
+dynamic bytes =
+    by_test (ltb (length bytes) 9) None _ (IsParted 3) (λ t. tt) (λ f.
+    let enough : 9 ≤ length bytes = grind (arith, nat_tests) in
+    let gone : length (drop 4 bytes) ≡ length bytes - 4 = length-drop 4 bytes in
+    parted (drop 4 bytes) (min (length (drop 4 bytes) / 5) 4) (omega arith) (omega arith) (omega arith) (omega arith))
+  where
+    parted : (rest : List ℕ) (groups : ℕ) → 4 ≤ length bytes → 0 < groups → groups ≤ 4 → groups * 5 ≤ length rest
+        → IsParted 3 (Dynamic (float_at bytes 0) (map unit_value_of (first_chunks 5 groups rest)))
+    parted rest groups four some few long =
+        rw (chunks-take 5 groups rest long) at
+        (in_groups groups some few (take 4 bytes) (take (groups * 5) rest)
+        (length-take-le 4 bytes four) (length-take-le (groups * 5) rest long))
+
+-- an extended device status, variables, and a time stamp at the end
+cut : (status : ℕ) (variables time_stamp : List ℕ) → 0 < length variables → length time_stamp ≡ 4
+    → field_bytes (fields_of (reply_rows 9) (status ∷ variables ++ time_stamp)) ≡ one status ∷ variables ∷ time_stamp ∷ []
+unfolding rows
+cut status variables time_stamp some four =
+    let all : List ℕ = variables ++ time_stamp in
+    let long : length all ≡ length variables + 4 = omega (arith, length-append variables time_stamp) in
+    let left : length all - 4 ≡ length variables = omega arith in
+    rw (
+      above (length (status ∷ all)) 1 (omega arith),
+      below 4 (length all) (omega arith),
+      left,
+      take_at variables time_stamp (length variables) refl,
+      drop_at variables time_stamp (length variables) refl,
+      above (length time_stamp) 4 (omega arith),
+      left,
+      drop_at variables time_stamp (length variables) refl,
+      take_all 4 time_stamp (omega arith),
+    ) refl
+
+variables : Parts 9 variables_reading
+variables [] = tt
+variables (status ∷ bytes) =
+    let groups : ℕ = (length (status ∷ bytes) - 5) / 8 in
+    let read : List ℕ = flat_map variable_bytes (map variable_of (first_chunks 8 groups bytes)) in
+    by_test _
+    (Some (Variables status (map variable_of (first_chunks 8 groups bytes)) (drop (1 + 8 * groups) (status ∷ bytes))))
+    None (IsParted 9)
+    (λ t.
+    let tests = three_tests (ltb 0 groups) (ltb groups 9) _ t in
+    let whole : length (status ∷ bytes) ≡ 5 + 8 * groups = is_one (length (status ∷ bytes)) (5 + 8 * groups) tests.2 in
+    let some : 0 < groups = (let u : ltb 0 groups ≡ true = tests.0 in grind (arith, nat_tests)) in
+    let long : groups * 8 ≤ length bytes = omega arith in
+    let values : read ≡ take (groups * 8) bytes =
+    chunks-bytes 8 groups variable_of variable_bytes variable-bytes bytes long in
+    let size : length read ≡ groups * 8 = ap length values ∙ length-take-le (groups * 8) bytes long in
+    cut status read (drop (1 + 8 * groups) (status ∷ bytes)) (omega arith) (omega (arith, length-drop (1 + 8 * groups) (status ∷ bytes))))
+    (λ f. tt)
+
+more : Parts 48 more_reading
+unfolding rows
+more [] = tt
+more (byte ∷ bytes) = all_left (codes "additional status") Bytes (byte ∷ take 24 bytes) (omega arith)
+
+-- what is to be seen of a row, so that its fields are the parts of what it reads
+abbrev pub Parted : ℕ → Replied → Type 0
+Parted command (Saying size content) = (xs : List ℕ) → IsParted command (content (spell size xs))
+Parted command (SaidBy reading) = Parts command reading
+
+parted : AllByRecursion (λ row. Parted row.number row.reply) commands
+unfolding rows
+parted = search (identity, dynamic, variables, more)
+
+parts : (command : ℕ) (reply : Replied) → Parted command reply → Parts command (replied reply)
+parts command (Saying size content) each = said command size (λ xs. Some (content xs)) each
+parts command (SaidBy reading) all = all
+
+content-parted : (command : ℕ) → Parts command (content_reading command)
+content-parted command bytes = go (command_row command) (found (λ row. Parted row.number row.reply) commands command parted)
+  where
+    go : (row : Option CommandRow) → IfSome row (λ row. (row.number ≡ command) × Parted row.number row.reply)
+        → IfSome (content_by row bytes) (IsParted command)
+    go None all = tt
+    go (Some row) all =
+        let P : ℕ → Type 0 = λ n. Parts n (replied row.reply) in
+        subst P all.0 (parts row.number row.reply all.1) bytes
+
+-- no data have no fields
+abbrev pub IsEmpty : List Row → Type 0
+IsEmpty rows = fields_of rows [] ≡ []
+
+nothing : AllByRecursion (λ command. IsEmpty command.reply) rows
+unfolding rows
+nothing = search rules
+
+none-parted : (command : ℕ) → IsParted command Refused
+none-parted command = ap field_bytes (go (rows_of command) (names.found (λ command. IsEmpty command.reply) rows command nothing))
+  where
+    go : (row : Option CommandRows) → IfSome row (λ row. (row.number ≡ command) × IsEmpty row.reply)
+        → IsEmpty (option_map_or (λ row. row.reply) row [])
+    go None all = refl
+    go (Some row) all = all.1
+
+-- the same of a reply that was read
+reading-parted : (command : ℕ) (payload : List ℕ) → IfSome (reply_reading command payload) (λ reply. IsParted command reply.content)
+reading-parted command [] = tt
+reading-parted command (code ∷ []) = tt
+reading-parted command (code ∷ status ∷ bytes) =
+    by_test (ltb 127 code) None (if eqb code 0 then said_in else refused) P (λ t. tt) (λ small.
+    by_test (eqb code 0) said_in refused P (λ none. success (content_reading command bytes) (content-parted command bytes)) (λ some.
+    by_test (is_known command) (Some (saying Refused)) None P (λ known. none-parted command) (λ f. tt)))
+  where
+    P : Reply → Type 0
+    P reply = IsParted command reply.content
+
+    saying : ReplyContent → Reply
+    saying content = record { command = command; code = code; status = record { 0 = status }; content = content }
+
+    said_in : Option Reply
+    said_in = option_map saying (content_reading command bytes)
+
+    refused : Option Reply
+    refused = if is_known command then Some (saying Refused) else None
+
+    success : (content : Option ReplyContent) → IfSome content (IsParted command) → IfSome (option_map saying content) P
+    success None all = tt
+    success (Some content) all = all
+
+pub parts_of_reply : (reply : Reply) → IsReply reply
+    → field_bytes (fields_of (reply_rows reply.command) (content_bytes reply.content)) ≡ content_parts reply.content
+parts_of_reply reply is =
+    let P : Option Reply → Type 0 = λ o. IfSome o (λ read. IsParted reply.command read.content) in
+    subst P is.1 (reading-parted reply.command is.0)
