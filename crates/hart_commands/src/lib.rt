@@ -16,9 +16,13 @@
 //! [`writes_of`] says which registers a write gives which bytes. Who answers, and with what, is not of this crate. No call
 //! of it takes memory.
 //!
+//! Each command has a name, [`command_name`], and so has each field of its data, in [`request_rows`] and [`reply_rows`]: by
+//! these rows data fall into the parts that they have.
+//!
 //! The other crates of `hart` call neither [`is_write`] nor [`CodeList::new`]: these are for whoever makes requests with this
 //! library, and so are the laws that requests are well made, that a written reply is read again, that written data are read again
-//! whatever follows them, that only unknown commands are refused with code 64, and that overwrites are valid.
+//! whatever follows them, that only unknown commands are refused with code 64, that each known command has a name of its own, that
+//! each field is a part of the data, and that overwrites are valid.
 #![tactic(auto)]
 
 mod code_list;
