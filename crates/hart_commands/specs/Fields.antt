@@ -20,14 +20,15 @@ pub record Row : Type 0 where
 abbrev pub field : List ℕ → FieldSize → FieldKind → Row
 field name size kind = record { name = name; size = size; kind = kind }
 
--- The rows of a command: its number, its name, the fields of its request data, and those of its reply data with code 0.
+-- A row of the table of names: the number of a command, its name, the fields of its request data, and those of its reply data with
+-- code 0.
 pub record CommandRows : Type 0 where
   pub number : ℕ
   pub name : List ℕ
   pub request : List Row
   pub reply : List Row
 
--- The rows of a command, written in one line.
+-- A row of the table, written in one line.
 abbrev pub command : ℕ → List ℕ → List Row → List Row → CommandRows
 command number name request reply = record { number = number; name = name; request = request; reply = reply }
 
@@ -191,7 +192,7 @@ rows =
     ∷ command 48 (codes "read additional device status") [] status
     ∷ []
 
--- The rows of a command, if it has some.
+-- The row of a command in the table, if it has one.
 abbrev pub rows_of : ℕ → Option CommandRows
 rows_of number = find (λ command. command.number == number) rows
 
@@ -199,11 +200,11 @@ rows_of number = find (λ command. command.number == number) rows
 abbrev pub command_name : ℕ → Option (List ℕ)
 command_name number = option_map (λ command. command.name) (rows_of number)
 
--- The fields of the data of its requests, none if it has no rows.
+-- The fields of the data that its requests need, none if it has no row.
 abbrev pub request_rows : ℕ → List Row
 request_rows number = option_map_or (λ command. command.request) (rows_of number) []
 
--- The fields of the data of its replies with code 0, none if it has no rows.
+-- The fields of the data of its replies with code 0, none if it has no row.
 abbrev pub reply_rows : ℕ → List Row
 reply_rows number = option_map_or (λ command. command.reply) (rows_of number) []
 
@@ -223,7 +224,7 @@ pub record Field : Type 0 where
   pub bytes : List ℕ
 
 -- The field of the first row is the beginning of the bytes, and the fields of the other rows are those of the bytes after it; a row
--- for which there are not enough bytes has no field, and no row after it.
+-- for which there are not enough bytes has no field, and neither has any row after it.
 abbrev pub fields_of : List Row → List ℕ → List Field
 fields_of [] bytes = []
 fields_of (row ∷ others) bytes =
@@ -242,6 +243,6 @@ bytes_of fields = flat_map (λ field. field.bytes) fields
 abbrev pub seen : FieldRow → Row
 seen row = field row.name.now row.size row.kind
 
--- What they see of the row of a command.
+-- What contracts see of a row of a command.
 abbrev pub seen_command : CommandFields → CommandRows
 seen_command fields = command fields.number fields.name.now (map seen fields.request.now) (map seen fields.reply.now)

@@ -67,7 +67,8 @@ pub fn command_name(command: u8) -> Option<&'static str>
     Some(fields_for(command)?.name)
 }
 
-/// The fields of the data of a request of this command, in their order; none if the command is not known.
+/// The fields of the data of a request of this command, in their order; none if the command is not known. Data after those that the
+/// command takes are no field: they have to be cut off before.
 pub fn request_rows(command: u8) -> &'static [FieldRow]
     ensures { map seen result.now ≡ request_rows command }
 {
@@ -77,7 +78,8 @@ pub fn request_rows(command: u8) -> &'static [FieldRow]
     }
 }
 
-/// The fields of the data of a reply to this command with response code 0, in their order; none if the command is not known.
+/// The fields of the data of a reply to this command with response code 0, in their order; none if the command is not known. Data after
+/// those that the reply says are no field.
 pub fn reply_rows(command: u8) -> &'static [FieldRow]
     ensures { map seen result.now ≡ reply_rows command }
 {
