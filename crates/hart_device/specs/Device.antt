@@ -1,12 +1,13 @@
 -- What a contract sees of a device, and how a command, a reply and a restart change it (HCF_SPEC-099, HCF_SPEC-127; that Command 38 is no
 -- write, that a write counts also if the value was there already, and that each master has a cold start bit, is of the own profile).
-use Rattle.std.specs.Prelude.{ℕ, ◌+◌, ◌%◌, ◌^◌, Bool, true, false}
+use Rattle.std.specs.Prelude.{ℕ, ◌<◌, ◌+◌, ◌%◌, ◌^◌, Bool, true, false}
 use Rattle.hart_values.specs.declared.master_id.MasterId.{MasterId}
 use Rattle.hart_values.specs.EachMaster.{with_master}
 use Rattle.hart_values.specs.declared.each_master.EachMaster.{EachMaster}
-use Rattle.hart_commands.specs.Registers.{Contents, Overwrite, overwritten}
+use Rattle.hart_commands.specs.Registers.{AreValid, Contents, Overwrite, overwritten}
 use Rattle.hart_device.specs.declared.identity_parts.IdentityParts.{IdentityParts}
 use Rattle.hart_device.specs.declared.registers.values.RegisterValues.{RegisterValues}
+use Rattle.hart_device.specs.Identity.{AreIdentityParts}
 use Rattle.hart_device.specs.registers.Values.{values_of}
 
 -- A device is who it is, what its registers hold, its configuration change counter, for each master its configuration-changed
@@ -19,6 +20,12 @@ pub record DeviceState : Type 0 where
   pub changed : EachMaster Bool
   pub protected : Bool
   pub cold_start : EachMaster Bool
+
+-- Every device is well made: its parts are an identity, its registers hold bytes that are valid in them, and its counter has two bytes.
+pub record IsDevice (state : DeviceState) : Type 0 where
+  pub identity : AreIdentityParts state.identity
+  pub contents : AreValid state.contents
+  pub counter : state.counter < 2 ^ 16
 
 -- A bit that is set for both masters, or for neither.
 abbrev pub for_both : Bool → EachMaster Bool

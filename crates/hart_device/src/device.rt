@@ -3,7 +3,7 @@ ghost use Rattle.std.specs.Prelude.{◌≡◌, false};
 ghost use Rattle.hart_values.specs.EachMaster.{of_master};
 ghost use Rattle.hart_frame.specs.wire.Message.{IsPreambleCount};
 ghost use Rattle.hart_commands.specs.Registers.{AreValid};
-ghost use Rattle.hart_device.specs.Device.{for_both, new_device, restarted};
+ghost use Rattle.hart_device.specs.Device.{IsDevice, for_both, new_device, restarted};
 ghost use Rattle.hart_device.specs.registers.Values.{values_of};
 
 use crate::{Identity, RegisterStore, RegisterValues};
@@ -26,6 +26,7 @@ pub struct Device<S: RegisterStore> {
 }
 
 impl<S: RegisterStore> Model for Device<S> {
+    ghost use Rattle.std.specs.Prelude.{◌<◌, ◌^◌};
     ghost use Rattle.hart_commands.specs.Registers.{AreValid};
     ghost use Rattle.hart_device.specs.Device.{DeviceState};
 
@@ -40,7 +41,7 @@ impl<S: RegisterStore> Model for Device<S> {
       cold_start = device.cold_start;
     } };
 
-    ghost invariant = { λ device. AreValid (S.contents device.registers) };
+    ghost invariant = { λ device. AreValid (S.contents device.registers) × (device.counter < 2 ^ 16) };
 }
 
 impl<S: RegisterStore> Device<S> {
@@ -137,6 +138,7 @@ impl<S: RegisterStore> Device<S> {
     pub fn response_preambles(&self) -> u8
         ensures same { result ≡ self.now.identity.response_preambles }
         ensures in_range { IsPreambleCount result }
+        ensures device { IsDevice self.now }
     {
         self.identity.response_preambles()
     }

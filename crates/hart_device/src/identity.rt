@@ -65,6 +65,7 @@ impl Identity {
     pub fn response_preambles(&self) -> u8
         ensures same { result ≡ self.now.response_preambles }
         ensures in_range { IsPreambleCount result }
+        ensures identity { AreIdentityParts self.now }
     {
         self.parts.response_preambles
     }
