@@ -3,6 +3,7 @@ ghost use Rattle.std.specs.Prelude.{◌≡◌, [], ◌∷◌, ◌++◌, List, If
 ghost use Rattle.std.specs.Option.{option_copied};
 ghost use Rattle.hart_values.specs.EachMaster.{of_master};
 ghost use Rattle.hart_commands.specs.RequestData.{IsRequest};
+ghost use Rattle.hart_device.specs.Device.{IsDevice};
 ghost use Rattle.hart_line.specs.line.Room.{HasRoomFor, LeavesRoom};
 ghost use Rattle.hart_line.specs.line.Line.{Stands, Stepped};
 ghost use Rattle.hart_line.specs.world.Faults.{HasUndetected};
@@ -46,13 +47,15 @@ pub struct Line<S: RegisterStore> {
     masters: Masters,
     outcomes: Filling<Outcome>,
     spoken: Filling<Spoken>,
+    /// The number of preamble bytes of the device's replies.
+    response_preambles: u8,
     /// The frames of an event are written here: each is some 300 bytes.
     request: Frame,
     reply: Frame,
 }
 
 impl<S: RegisterStore> Model for Line<S> {
-    ghost use Rattle.hart_commands.specs.RequestData.{IsRequest};
+    ghost use Rattle.hart_frame.specs.wire.Message.{IsPreambleCount};
     ghost use Rattle.hart_line.specs.line.Line.{LineState};
 
     ghost Value = { LineState };
@@ -64,13 +67,16 @@ impl<S: RegisterStore> Model for Line<S> {
       spoken = line.spoken.items;
       outcomes_room = line.outcomes.room;
       spoken_room = line.spoken.room;
+      response_preambles = line.response_preambles;
     } };
+
+    ghost invariant = { λ line. IsPreambleCount line.response_preambles };
 }
 
 impl<S: RegisterStore> Line<S> {
     /// The HART line of this device and these masters, on which nothing has happened yet, with this room for what will.
     pub fn new(room: ScriptRoom, device: Device<S>, primary: Master, secondary: Master) -> Self
-        ensures { result ≡ record {
+        ensures line { result ≡ record {
           device = device;
           masters = record {
             primary = record { master = primary; place = 0 };
@@ -80,8 +86,11 @@ impl<S: RegisterStore> Line<S> {
           spoken = room.spoken.items;
           outcomes_room = room.outcomes.room;
           spoken_room = room.spoken.room;
+          response_preambles = device.identity.response_preambles;
         } }
+        ensures device { IsDevice device }
     {
+        let response_preambles = device.response_preambles();
         Line {
             device,
             masters: Masters {
@@ -90,6 +99,7 @@ impl<S: RegisterStore> Line<S> {
             },
             outcomes: room.outcomes,
             spoken: room.spoken,
+            response_preambles,
             request: no_frame(),
             reply: no_frame(),
         }
@@ -131,6 +141,7 @@ impl<S: RegisterStore> Line<S> {
             masters: _,
             outcomes,
             spoken,
+            response_preambles: _,
             request: _,
             reply: _,
         } = self;
@@ -203,7 +214,7 @@ impl<S: RegisterStore> Line<S> {
         self.spoken.speak(party_of(who), MASTER_PREAMBLES, sent);
         let is_answered = answer_in(&mut self.device, up, sent, process, &mut self.reply)?;
         let sent_back = frame_if(is_answered, &self.reply);
-        let preambles = self.device.response_preambles();
+        let preambles = self.response_preambles;
         self.spoken.speak(Party::Device, preambles, sent_back);
         let returned = arrived_in(Leg::Down, down, sent_back)?;
         match sent {
@@ -225,7 +236,7 @@ impl<S: RegisterStore> Line<S> {
         let reply = &mut self.reply;
         let is_answered = answer_among(&mut self.device, Leg::Noise, chars, None, process, reply)?;
         let answer = frame_if(is_answered, &self.reply);
-        let preambles = self.device.response_preambles();
+        let preambles = self.response_preambles;
         self.spoken.speak(Party::Device, preambles, answer);
         self.masters.hear_noise(chars);
         self.masters.overhear(answer);

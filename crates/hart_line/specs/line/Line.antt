@@ -10,8 +10,8 @@ use Rattle.hart_line.specs.declared.line.masters.Masters.{Masters}
 use Rattle.hart_line.specs.declared.line.report.Outcome.{Outcome}
 use Rattle.hart_line.specs.declared.line.report.Spoken.{Spoken}
 
--- A line is a device, its two masters, what became of each submission so far, what was spoken, and for how many outcomes and
--- spoken frames there is room in all.
+-- A line is a device, its two masters, what became of each submission so far, what was spoken, for how many outcomes and spoken
+-- frames there is room in all, and how many preamble bytes the device puts before a reply.
 pub record LineState : Type 0 where
   pub device : DeviceState
   pub masters : Masters
@@ -19,13 +19,15 @@ pub record LineState : Type 0 where
   pub spoken : List Spoken
   pub outcomes_room : ℕ
   pub spoken_room : ℕ
+  pub response_preambles : ℕ
 
--- A line stands for a world: its parts are those of the world.
+-- A line stands for a world: its parts are those of the world, and its device's replies have as many preamble bytes as the identity says.
 pub record Stands (start : Start) (world : World) (line : LineState) : Type 0 where
   pub device_is : line.device ≡ state_of start.device world
   pub masters_are : AreHeld start.retries world.hands line.masters
   pub outcomes_are : line.outcomes ≡ world.outcomes
   pub spoken_are : AreSpoken world.spoken line.spoken
+  pub preambles_are : line.response_preambles ≡ start.device.identity.response_preambles
 
 -- An event leads from a world to a next one, and the line stands for that.
 pub record Stepped (start : Start) (world : World) (event : LineEvent) (line : LineState) : Type 0 where

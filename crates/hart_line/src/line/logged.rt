@@ -56,9 +56,6 @@ pub fn run_logged<S: RegisterStore + Drop, L: Log>(
     // No leg that is clean, lost, or marked or check damage of the message that was sent in it stops a script.
     ensures detectable_damage_is_detected { IfErr result (IsNotDetectable (start_from device process.now primary secondary) events.now) }
 {
-    // By the contracts of these the counter has two bytes, and an answer has preamble bytes.
-    let _counter = device.counter();
-    let _preambles = device.response_preambles();
     let room = ScriptRoom::reserve_for_each(alloc, events)?;
     let mut line = Line::new(room, device, primary, secondary);
     for (index, event) in events.iter().enumerate() {

@@ -3,6 +3,7 @@ ghost use Rattle.std.specs.Prelude.{◌≡◌, ◌≤◌, ◌+◌, ◌%◌, ◌^
 ghost use Rattle.std.specs.Prelude.{Err, IsOk};
 ghost use Rattle.hart_values.specs.EachMaster.{of_master};
 ghost use Rattle.hart_commands.specs.Registers.{registers_of};
+ghost use Rattle.hart_device.specs.Device.{IsDevice};
 ghost use Rattle.hart_device.specs.answer.Answer.{after_refusal};
 ghost use Rattle.hart_commands.specs.RequestCode.{is_write};
 ghost use Rattle.hart_commands.specs.RequestData.{command_of};
@@ -123,8 +124,6 @@ pub fn run<S: RegisterStore + Drop>(
     // No leg that is clean, lost, or marked or check damage of the message that was sent in it stops a script.
     ensures detectable_damage_is_detected { IfErr result (IsNotDetectable (start_from device process.now primary secondary) events.now) }
 {
-    // By the contract of this an answer has preamble bytes.
-    let _preambles = device.response_preambles();
     let room = ScriptRoom::reserve(alloc, events)?;
     Ok(carry_out(room, device, primary, secondary, events, process)?)
 }
@@ -154,7 +153,8 @@ fn carry_out<S: RegisterStore + Drop>(
         (world : World) → IsLast start events.now world → report.outcomes ≡ world.outcomes) }
     ensures spoken { let start = start_from device process.now primary secondary in IfOk result (λ report.
         (world : World) → IsLast start events.now world → AreSpoken world.spoken report.spoken) }
-    // Each request of the script is well made: it is a value of Request.
+    // Device and requests are well made, since they are values of their types.
+    ensures well_made_device { IsDevice device }
     ensures well_made { IfOk result (λ _. AreWellMade events.now) }
     // A report is given exactly of a script that has a last world, and a fault exactly if the damage of a leg is undetected.
     ensures reported { let start = start_from device process.now primary secondary in
@@ -164,8 +164,6 @@ fn carry_out<S: RegisterStore + Drop>(
     ensures fault { let start = start_from device process.now primary secondary in
         IfErr result (λ stop. IsFault start events.now (Undetected stop.event stop.leg)) }
 {
-    // By the contract of this the counter has two bytes.
-    let _counter = device.counter();
     let mut line = Line::new(room, device, primary, secondary);
     for (index, event) in events.iter().enumerate() {
         if let Err(damage) = line.step(event, process) {

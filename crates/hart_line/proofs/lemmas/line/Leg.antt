@@ -7,7 +7,7 @@ use Rattle.hart_frame.specs.wire.Message.{IsMessage}
 use Rattle.hart_frame.proofs.lemmas.Laws.{messages_have_their_frame_alone-message, messages_have_their_frame_alone-nothing}
 use Rattle.std.specs.Option.{MatchOption}
 use Rattle.hart_values.specs.declared.master_id.MasterId.{MasterId}
-use Rattle.hart_device.specs.answer.Delivery.{Brought, BringsBy, Garbled, NoMessage, OneFrame, answer_to, state_after_delivery}
+use Rattle.hart_device.specs.answer.Delivery.{Brought, BringsBy, Garbled, NoMessage, OneFrame, answer_to}
 use Rattle.hart_device.specs.Device.{DeviceState}
 use Rattle.hart_device.specs.answer.Garbled.{HasGarbled, garbled_reply}
 use Rattle.hart_device.specs.declared.answer.garbled.GarbledRequest.{GarbledRequest}
@@ -24,7 +24,6 @@ use Rattle.hart_line.specs.declared.event.Heard.TheVariants.{Clean}
 use Rattle.hart_line.specs.declared.line.report.Party.{Party}
 use Rattle.hart_line.specs.declared.line.report.Party.TheVariants as parties
 use Rattle.hart_line.specs.declared.line.report.Spoken.{Spoken}
-use Rattle.hart_line.proofs.lemmas.world.Arrival.{delivery_identity}
 
 -- WHAT CHARACTERS BRING
 -- A frame that arrives is brought.
@@ -123,9 +122,8 @@ says_request Silent Sent who hand frame old new sends speaks =
     (rw said at speaks, rw said at (speaks_sent (party_of who) master_preambles frame old new (omega arith) speaks))
 
 -- The device speaks its answer to what it was brought.
-pub said_back : (start : Start) (world : World) (brought : Brought) (answer : Option FrameParts) (after : DeviceState)
+pub said_back : (start : Start) (world : World) (brought : Brought) (answer : Option FrameParts) (preambles : ℕ)
     → answer ≡ answer_to (state_of start.device world) start.process brought
-    → after ≡ state_after_delivery (state_of start.device world) brought
-    → spoken_by parties.Device after.identity.response_preambles answer ≡ sent_back start world brought
-said_back start world brought answer after answer_is after_is =
-    rw (after_is, delivery_identity (state_of start.device world) brought, answer_is) refl
+    → preambles ≡ start.device.identity.response_preambles
+    → spoken_by parties.Device preambles answer ≡ sent_back start world brought
+said_back start world brought answer preambles answer_is preambles_are = rw (preambles_are, answer_is) refl

@@ -64,6 +64,7 @@ pub reached_first : (device : DeviceState) (process : Process) (primary secondar
       spoken = [];
       outcomes_room = outcomes_room;
       spoken_room = spoken_room;
+      response_preambles = device.identity.response_preambles;
     })
 reached_first device process primary secondary outcomes_room spoken_room first one other = record {
   world = first_world (start_from device process primary secondary);
@@ -76,6 +77,7 @@ reached_first device process primary secondary outcomes_room spoken_room first o
     };
     outcomes_are = refl;
     spoken_are = tt;
+    preambles_are = refl;
   };
   marks = first_marks (start_from device process primary secondary);
 }

@@ -97,6 +97,7 @@ told_first start line HasNoted nothing r fresh = record {
     masters_are = r.stands.masters_are;
     outcomes_are = r.stands.outcomes_are;
     spoken_are = rw nothing tt;
+    preambles_are = r.stands.preambles_are;
   };
   marks = r.marks;
   spoken = [];
@@ -122,6 +123,7 @@ told_more start events n unused line stepped Old New here t s noted =
         masters_are = s.stands.masters_are;
         outcomes_are = s.stands.outcomes_are;
         spoken_are = tt;
+        preambles_are = s.stands.preambles_are;
       };
       marks = step_marks start t.world (get_or events n unused) next step t.marks;
       spoken = t.spoken ++ stepped.spoken;

@@ -1,6 +1,6 @@
 -- A turn of the line is a turn of the world.
 use Rattle.std.proofs.Common.{◌≡◌, ◌&&◌, Bool, false, if◌then◌else◌, ◌∙◌, refl, Option, None, Some, List, ◌++◌}
-use Rattle.std.proofs.Common.{◌⊎◌, append_assoc, arith}
+use Rattle.std.proofs.Common.{ℕ, ◌⊎◌, append_assoc, arith}
 use Rattle.std.specs.Option.{option_to_list}
 use Rattle.hart_values.specs.declared.master_id.MasterId.{MasterId}
 use Rattle.hart_frame.specs.wire.FrameParts.{FrameParts}
@@ -33,18 +33,18 @@ pub record IsAnswered (start : Start) (world : World) (heard : Heard) (said : Op
   pub spoken_are : AreSpoken (world.spoken ++ (option_to_list said ++ option_to_list (sent_back start world brought))) spoken
 
 pub answered : (start : Start) (world : World) (heard : Heard) (said : Option SpokenFrame) (answer : Option FrameParts)
-    (after : DeviceState) (old mid new : List Spoken) → AreSpoken world.spoken old → Speaks said old mid
+    (after : DeviceState) (preambles : ℕ) (old mid new : List Spoken) → AreSpoken world.spoken old → Speaks said old mid
     → AnswersTo (Reaches start.device.identity heard said) (state_of start.device world) start.process answer after
-    → IsPreambleCount after.identity.response_preambles
-    → Speaks (spoken_by parties.Device after.identity.response_preambles answer) mid new
+    → preambles ≡ start.device.identity.response_preambles → IsPreambleCount preambles
+    → Speaks (spoken_by parties.Device preambles answer) mid new
     → IsAnswered start world heard said answer after new
-answered start world heard said answer after old mid new are says a count replies =
-    let back = said_back start world a.brought answer after a.answer_is a.after_is in
+answered start world heard said answer after preambles old mid new are says a preambles_are count replies =
+    let back = said_back start world a.brought answer preambles a.answer_is preambles_are in
     record {
       brought = a.brought;
       arrives = a.is_brought;
       after_is = a.after_is;
-      was_sent = rw back at (speaks_sent parties.Device after.identity.response_preambles answer mid new (omega (arith, count.0)) replies);
+      was_sent = rw back at (speaks_sent parties.Device preambles answer mid new (omega (arith, count.0)) replies);
       spoken_are = rw (← append_assoc world.spoken (option_to_list said) (option_to_list (sent_back start world a.brought)))
           (AreSpoken-more (world.spoken ++ option_to_list said) (sent_back start world a.brought) mid new
           (AreSpoken-more world.spoken said old mid are says) (rw back at replies));
@@ -53,13 +53,15 @@ answered start world heard said answer after old mid new are says a count replie
 -- If nothing was said, as in noise, the line stands for the world in which the device has replied to what it was brought.
 pub replied_stands : (start : Start) (world : World) (heard : Heard) (answer : Option FrameParts) (line : LineState)
     → (a : IsAnswered start world heard None answer line.device line.spoken) → AreHeld start.retries world.hands line.masters
-    → line.outcomes ≡ world.outcomes → Stands start (replied start world a.brought) line
-replied_stands start world heard answer line a held same = record {
+    → line.outcomes ≡ world.outcomes → line.response_preambles ≡ start.device.identity.response_preambles
+    → Stands start (replied start world a.brought) line
+replied_stands start world heard answer line a held same preambles_are = record {
   device_is = a.after_is
       ∙ left_alone (state_of start.device world) a.brought (none_reaches start.device.identity heard a.brought a.arrives);
   masters_are = held;
   outcomes_are = same;
   spoken_are = a.spoken_are;
+  preambles_are = preambles_are;
 }
 
 -- What an answer leaves is what its command leaves, but for the cold start bit of its master; silence leaves all.
@@ -92,8 +94,9 @@ pub turn_stands : (start : Start) (world : World) (who : MasterId) (up down : He
     (answer returned : Option FrameParts) (line : LineState) → MarksWithin world → of_master who world.hands ≡ hand
     → (a : IsAnswered start world up (sent_by who hand) answer line.device line.spoken)
     → ((said : Option SpokenFrame) → IsSent answer said → Arrives down said returned)
-    → Ends start world who hand returned line → Stepped start world (Turn who up down) line
-turn_stands start world who up down None answer returned line within in_hand a returns ends = record {
+    → Ends start world who hand returned line → line.response_preambles ≡ start.device.identity.response_preambles
+    → Stepped start world (Turn who up down) line
+turn_stands start world who up down None answer returned line within in_hand a returns ends preambles_are = record {
   next = replied start world a.brought;
   step = record {
     brought = a.brought;
@@ -104,9 +107,9 @@ turn_stands start world who up down None answer returned line within in_hand a r
     accepts = rw in_hand refl;
     next_is = rw in_hand refl;
   };
-  stands = replied_stands start world up answer line a ends.0 ends.1;
+  stands = replied_stands start world up answer line a ends.0 ends.1 preambles_are;
 }
-turn_stands start world who up down (Some held) answer returned line within in_hand a returns ends =
+turn_stands start world who up down (Some held) answer returned line within in_hand a returns ends preambles_are =
     let next = turned start world who (Some held) a.brought ends.accepted in record {
       next = next;
       step = record {
@@ -126,5 +129,6 @@ turn_stands start world who up down (Some held) answer returned line within in_h
         masters_are = ends.left;
         outcomes_are = ends.outcomes_are;
         spoken_are = a.spoken_are;
+        preambles_are = preambles_are;
       };
     }

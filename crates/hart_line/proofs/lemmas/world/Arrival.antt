@@ -1,11 +1,10 @@
 -- What arrives, what is accepted, and what is spoken.
-use Rattle.std.proofs.Common.{◌≡◌, Bool, if◌then◌else◌, Option, None, Some, List, [], ◌∷◌, ◌++◌, ◌⊎◌}
+use Rattle.std.proofs.Common.{◌≡◌, Option, None, Some, List, [], ◌∷◌, ◌++◌, ◌⊎◌}
 use Rattle.std.proofs.Common.{append-nil, arith}
 use Rattle.std.specs.Option.{option_to_list}
 use Rattle.hart_frame.specs.wire.FrameParts.{FrameParts}
 use Rattle.hart_device.specs.answer.Delivery.{Brought, Garbled, NoMessage, OneFrame, state_after_delivery}
-use Rattle.hart_device.specs.Device.{DeviceState, Effect, Nothing, after, after_reply}
-use Rattle.hart_values.specs.declared.master_id.MasterId.{MasterId}
+use Rattle.hart_device.specs.Device.{DeviceState, Nothing}
 use Rattle.hart_device.specs.declared.identity_parts.IdentityParts.{IdentityParts}
 use Rattle.hart_line.specs.world.Damage.{Arrives, Reaches}
 use Rattle.hart_line.specs.world.Step.{effect_on}
@@ -39,17 +38,6 @@ no_effect state brought none = grind arith
 
 pub left_alone : (state : DeviceState) (brought : Brought) → frame_in brought ≡ None → state_after_delivery state brought ≡ state
 left_alone state brought none = grind arith
-
--- Who the device is stays.
-after_identity : (master : MasterId) (effect : Effect) (state : DeviceState) → (after master effect state).identity ≡ state.identity
-after_identity master effect state = grind arith
-
-frame_identity : (answered : Bool) (master : MasterId) (effect : Effect) (state : DeviceState)
-    → (if answered then after_reply master (after master effect state) else state).identity ≡ state.identity
-frame_identity answered master effect state = grind (arith, after_identity)
-
-pub delivery_identity : (state : DeviceState) (brought : Brought) → (state_after_delivery state brought).identity ≡ state.identity
-delivery_identity state brought = grind (arith, frame_identity)
 
 -- Messages are spoken one after another.
 AreSpoken-push : (frames : List SpokenFrame) (said : SpokenFrame) (list : List Spoken) (spoken : Spoken)

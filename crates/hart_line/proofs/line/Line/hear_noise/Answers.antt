@@ -8,16 +8,15 @@ pub returns-clause-stepped : goal.returns-clause-stepped
 returns-clause-stepped g c = λ start world process stands.
     let s = rw (← c.self.view_is) at stands in
     let among = rw (s.device_is, ← process) at c.in_ok-is_answered.ensures.answers in
-    let preambles = c.response_preambles-preambles.ensures in
-    let a = answered start world (Chars c.args.chars.now) None _ _ _ _ _ s.spoken_are refl (record {
+    let a = answered start world (Chars c.args.chars.now) None _ _ _ _ _ _ s.spoken_are refl (record {
       brought = among.brought;
       is_brought = record { chars = _; are_heard = refl; among = among.is_brought };
       answer_is = among.answer_is;
       after_is = among.after_is;
-    }) (rw preambles.same at preambles.in_range) (rw (preambles.same, c.frame_if-answer.ensures) at c.speak.ensures.speaks) in
+    }) s.preambles_are c.self.invariant (rw c.frame_if-answer.ensures at c.speak.ensures.speaks) in
     let held = c.overhear.ensures start.retries world.hands (c.hear_noise.ensures start.retries world.hands s.masters_are) in
     record {
       next = replied start world a.brought;
       step = record { brought = a.brought; arrives = a.arrives; next_is = refl };
-      stands = replied_stands start world (Chars c.args.chars.now) _ _ a held s.outcomes_are;
+      stands = replied_stands start world (Chars c.args.chars.now) _ _ a held s.outcomes_are s.preambles_are;
     }

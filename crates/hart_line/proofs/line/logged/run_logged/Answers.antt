@@ -1,4 +1,4 @@
-use Rattle.std.proofs.Common.{◌<◌, ◌≤◌, ◌∙◌, [], ap, arith, refl, rules, subst}
+use Rattle.std.proofs.Common.{◌∙◌, [], ap, arith, refl, rules, subst}
 use Rattle.std.proofs.lemmas.List.{take_all}
 use Rattle.hart_device.specs.Device.{DeviceState}
 use Rattle.hart_line.specs.world.Promises.{AreWellMade, start_from}
@@ -11,11 +11,10 @@ use Rattle.hart_line.proofs.line.logged.run_logged.Goals as goal
 
 pub loop-index-init : goal.loop-index-init
 loop-index-init g c =
-    let small : c.args.device.counter < 65536 = rw c.counter-counter.ensures at c.counter-counter.type_inv in
     let start = start_from c.args.device c.args.process.now c.args.primary c.args.secondary in
-    rw (c.new-line.ensures, c.in_ok-room.ensures.outcomes, c.in_ok-room.ensures.spoken) (record {
+    rw (c.new-line.ensures.line, c.in_ok-room.ensures.outcomes, c.in_ok-room.ensures.spoken) (record {
       told = told_first start _ _ refl (reached_first c.args.device c.args.process.now c.args.primary c.args.secondary _ _
-          (scripts_keep_their_promises-first_world start small) c.requires.primary c.requires.secondary) c.requires.fresh;
+          (scripts_keep_their_promises-first_world start c.new-line.ensures.device.counter) c.requires.primary c.requires.secondary) c.requires.fresh;
       well_made = search rules;
       room = record { outcomes = omega arith; nothing_spoken = refl; spoken = omega arith };
     })
@@ -36,8 +35,7 @@ returns-in-Err-clause-fault g c =
 
 pub returns-in-Err-clause-detectable_damage_is_detected : goal.returns-in-Err-clause-detectable_damage_is_detected
 returns-in-Err-clause-detectable_damage_is_detected g c =
-    let preambles = c.response_preambles-preambles.ensures in
-    let enough : 5 ≤ c.args.device.identity.response_preambles = rw preambles.same at preambles.in_range.0 in
+    let enough = c.new-line.ensures.device.identity.in_range.response_preambles.0 in
     (scripts_keep_their_promises-kept (start_from c.args.device c.args.process.now c.args.primary c.args.secondary)
     c.args.events.now).detectable_damage_is_detected _ enough (returns-in-Err-clause-fault g c)
 

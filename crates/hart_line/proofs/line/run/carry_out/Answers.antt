@@ -1,4 +1,4 @@
-use Rattle.std.proofs.Common.{◌<◌, arith, rules, refl, subst}
+use Rattle.std.proofs.Common.{arith, rules, refl, subst}
 use Rattle.std.proofs.lemmas.List.{take_all}
 use Rattle.hart_line.specs.world.Promises.{AreWellMade, start_from}
 use Rattle.hart_line.proofs.lemmas.line.Reached.{fault_at, of_last, reached_first, reached_more, reached_report, reached_whole}
@@ -10,13 +10,12 @@ use Rattle.hart_line.proofs.line.run.carry_out.Goals as goal
 
 pub loop-index-init : goal.loop-index-init
 loop-index-init g c =
-    let small : c.args.device.counter < 65536 = rw c.counter-counter.ensures at c.counter-counter.type_inv in
     let start = start_from c.args.device c.args.process.now c.args.primary c.args.secondary in record {
-      reached = rw (c.new-line.ensures, c.requires.room.no_outcomes, c.requires.room.nothing_spoken)
+      reached = rw (c.new-line.ensures.line, c.requires.room.no_outcomes, c.requires.room.nothing_spoken)
           (reached_first c.args.device c.args.process.now c.args.primary c.args.secondary _ _
-          (scripts_keep_their_promises-first_world start small) c.requires.primary c.requires.secondary);
+          (scripts_keep_their_promises-first_world start c.new-line.ensures.device.counter) c.requires.primary c.requires.secondary);
       well_made = search rules;
-      room = rw (c.new-line.ensures, c.requires.room.no_outcomes, c.requires.room.nothing_spoken)
+      room = rw (c.new-line.ensures.line, c.requires.room.no_outcomes, c.requires.room.nothing_spoken)
           (record { outcomes = omega (arith, c.requires.room.outcomes); spoken = omega (arith, c.requires.room.spoken) });
     }
 
@@ -64,6 +63,7 @@ returns g c =
       device = of_last _ reached reached.stands.device_is;
       outcomes = of_last _ reached reached.stands.outcomes_are;
       spoken = of_last _ reached reached.stands.spoken_are;
+      well_made_device = c.new-line.ensures.device;
       well_made = subst AreWellMade (take_all c.loop-index.index events (omega (arith, c.loop-index-test.false)))
           c.loop-index.invariant.well_made;
       reported = λ world last. refl;

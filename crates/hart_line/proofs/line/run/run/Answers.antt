@@ -1,4 +1,4 @@
-use Rattle.std.proofs.Common.{◌≡◌, ℕ, ◌≤◌, Some, ap, ◌∙◌}
+use Rattle.std.proofs.Common.{◌≡◌, ℕ, Some, ap, ◌∙◌}
 use Rattle.std.specs.List.{slice_get}
 use Rattle.std.proofs.lemmas.Result.{err_from_is_err_and}
 use Rattle.hart_device.specs.Device.{DeviceState}
@@ -51,8 +51,7 @@ returns g c =
 
 pub returns-in_err-carry_out-clause-detectable_damage_is_detected : goal.returns-in_err-carry_out-clause-detectable_damage_is_detected
 returns-in_err-carry_out-clause-detectable_damage_is_detected g c =
-    let preambles = c.response_preambles-preambles.ensures in
-    let enough : 5 ≤ c.args.device.identity.response_preambles = rw preambles.same at preambles.in_range.0 in
+    let enough = c.in_err-carry_out.ensures.well_made_device.identity.in_range.response_preambles.0 in
     let given = err_from_is_err_and c.from_residual-in_err-carry_out.result c.from_residual-in_err-carry_out.ensures.1 in
     rw (given.1, given.2) ((scripts_keep_their_promises-kept
     (start_from c.args.device c.args.process.now c.args.primary c.args.secondary) c.args.events.now).detectable_damage_is_detected
