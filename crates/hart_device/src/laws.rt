@@ -1,6 +1,6 @@
 //! Laws over the definitions alone, for the crates above.
 ghost use Rattle.std.specs.Prelude.{◌≡◌, ◌≢◌, ◌<◌, ◌⊎◌, ◌↔◌, ℕ, Bool, false, true, IsTrue, All, Ok, Option, None, Some, IfSome, IsSomeAnd};
-ghost use Rattle.std.specs.Prelude.{unwrap_or};
+ghost use Rattle.std.specs.Prelude.{length, unwrap_or};
 ghost use Rattle.std.specs.Prelude.{List, [], ◌∷◌, ◌++◌, Contains, slice_get, if◌then◌else◌};
 ghost use Rattle.std.specs.Int.{bit_at};
 ghost use Rattle.hart_values.specs.EachMaster.{of_master, with_master};
@@ -10,11 +10,15 @@ ghost use Rattle.hart_values.specs.declared.master_id.MasterId.{MasterId};
 ghost use Rattle.hart_frame.specs.heard.Character.{Character, faultless};
 ghost use Rattle.hart_frame.specs.wire.Body.{IsBody};
 ghost use Rattle.hart_frame.specs.wire.FrameParts.{FrameParts, reply_parts, request_parts};
-ghost use Rattle.hart_commands.specs.Registers.{Contents, Overwrite, bytes_in, last_named, overwrite_of, overwritten, registers_of};
+ghost use Rattle.hart_commands.specs.Registers.{AreValid, Contents, Overwrite, bytes_in, last_named, overwrite_of, overwritten};
+ghost use Rattle.hart_commands.specs.Registers.{registers_of};
+ghost use Rattle.hart_commands.specs.ReplyData.{IsReply, reply_reading};
+ghost use Rattle.hart_commands.specs.RequestData.{IsRequest, is_known};
 ghost use Rattle.hart_commands.specs.declared.register.Register.{Register};
 ghost use Rattle.hart_commands.specs.declared.request.Request.{Request};
 ghost use Rattle.hart_commands.specs.declared.request.Request.TheVariants.{ResetChanged};
-ghost use Rattle.hart_device.specs.answer.Answer.{after_refusal, answer_of, code_of, effect_of, is_answered, reading_of, state_after};
+ghost use Rattle.hart_device.specs.answer.Answer.{after_refusal, answer_of, code_of, effect_of, is_answered, reading_of, reply_of};
+ghost use Rattle.hart_device.specs.answer.Answer.{state_after};
 ghost use Rattle.hart_device.specs.answer.Delivery.{Brings, Brought};
 ghost use Rattle.hart_device.specs.answer.Garbled.{HasGarbled, garbled_request, is_own_address};
 ghost use Rattle.hart_device.specs.declared.fault.DeviceFault.{DeviceFault};
@@ -23,10 +27,12 @@ ghost use Rattle.hart_device.specs.declared.identity_parts.IdentityParts.{Identi
 ghost use Rattle.hart_device.specs.declared.process.Process.{Process};
 ghost use Rattle.hart_device.specs.Device.{DeviceState, Nothing, Executes, Resets, restarted};
 ghost use Rattle.hart_device.specs.Identity.{own_numbers};
+ghost use Rattle.hart_device.specs.Process.{IsFloat, IsProcess};
 ghost use Rattle.hart_device.specs.image.Image.{IsImageOf, IsImageFault};
 
-use hart_commands::all_registers_are_listed_once;
-use hart_values::packed_text_and_bytes_determine_each_other;
+use crate::Process;
+use hart_commands::{SensorContent, all_registers_are_listed_once};
+use hart_values::{Bits32, packed_text_and_bytes_determine_each_other};
 
 /// A command that is refused, or not answered, has no effect. It changes nothing of the device but the cold start bit of its master,
 /// which the reply shows and clears; without a reply nothing changes at all.
@@ -49,6 +55,51 @@ pub fn answers_give_their_code()
         × (slice_get reply.payload 0 ≡ Some (code_of state frame)) }
     ensures silent { (state : DeviceState) (process : Process) (frame : FrameParts)
         → answer_of state process frame ≡ None → is_answered state frame ≡ false }
+{}
+
+/// A process is well made, whoever made it: the types of its parts say so.
+pub fn processes_are_well_made(process: &Process)
+    ensures { IsProcess process.now }
+{
+    // No-ops, but for what their contracts say of each part.
+    floats_have_four_bytes(&process.loop_current);
+    floats_have_four_bytes(&process.percent_of_range);
+    floats_have_four_bytes(&process.first.value);
+    for variable in process.others.as_slice() {
+        floats_have_four_bytes(&variable.value);
+    }
+    serial_numbers_have_three_bytes(&process.sensor);
+    floats_have_four_bytes(&process.sensor.upper_limit);
+    floats_have_four_bytes(&process.sensor.lower_limit);
+    floats_have_four_bytes(&process.sensor.minimum_span);
+    floats_have_four_bytes(&process.output.upper_range_value);
+    floats_have_four_bytes(&process.output.lower_range_value);
+    floats_have_four_bytes(&process.output.damping);
+}
+
+/// A float is four bytes: its type says so.
+fn floats_have_four_bytes(float: &Bits32)
+    ensures { IsFloat float.now }
+{
+    float.0.as_slice();
+}
+
+/// The serial number of a sensor has three bytes: its type says so.
+fn serial_numbers_have_three_bytes(sensor: &SensorContent)
+    ensures { length sensor.now.serial_number ≡ 3 }
+{
+    sensor.serial_number.as_slice();
+}
+
+/// What a device with valid contents and a well-made process replies to a command that is known is a well-made reply, and a master
+/// reads the answer as that reply.
+pub fn answers_are_replies()
+    ensures well_made { (state : DeviceState) (process : Process) (frame : FrameParts)
+        → AreValid state.contents → IsProcess process → is_known frame.command ≡ true → IsReply (reply_of state process frame) }
+    ensures read { (state : DeviceState) (process : Process) (frame answer : FrameParts)
+        → AreValid state.contents → IsProcess process → is_known frame.command ≡ true
+        → answer_of state process frame ≡ Some answer
+        → reply_reading frame.command answer.payload ≡ Some (reply_of state process frame) }
 {}
 
 /// A restart sets both masters' cold start bits. A reply with a response code shows its master's, and clears it; the other master's
@@ -95,7 +146,7 @@ pub fn frames_leave_identity_and_protection()
     ensures protected { (state : DeviceState) (frame : FrameParts) → (state_after state frame).protected ≡ state.protected }
 {}
 
-/// A configuration write that is answered with code 0 executes its own overwrite, and nothing else executes one.
+/// A configuration write that is answered with code 0 executes its own overwrite, which is well made, and nothing else executes one.
 pub fn writes_execute_their_overwrite()
     ensures executes { (state : DeviceState) (frame : FrameParts) (request : Request) (overwrite : Overwrite)
         → is_answered state frame ≡ true → code_of state frame ≡ 0
@@ -105,6 +156,8 @@ pub fn writes_execute_their_overwrite()
         → effect_of state frame ≡ Executes overwrite
         → (is_answered state frame ≡ true) × (code_of state frame ≡ 0)
         × (request : Request) × (reading_of frame ≡ Ok request) × (overwrite_of request ≡ Some overwrite) }
+    ensures well_made { (state : DeviceState) (frame : FrameParts) (overwrite : Overwrite)
+        → effect_of state frame ≡ Executes overwrite → IsRequest overwrite }
 {}
 
 /// Command 38 that is answered with code 0 resets, and nothing else does; the counter that it names, if any, is the device's.

@@ -1,14 +1,17 @@
 -- The laws of devices, for the proofs of this crate and of those above.
-use Rattle.std.proofs.Common.{◌≡◌, ◌≢◌, ◌≤◌, ◌⊎◌, ◌∙◌, ap, refl, rules, false, true, ℕ, Contains, List, [], ◌∷◌, ◌++◌, length, sym}
+use Rattle.std.proofs.Common.{◌≡◌, ◌≢◌, ◌≤◌, ◌⊎◌, ◌∙◌, ap, refl, rules, subst, false, true, ℕ, Contains, List, [], ◌∷◌, ◌++◌, length, sym}
 use Rattle.std.proofs.Common.{IfSome, Ok, Option, Some, slice_get}
 use Rattle.std.specs.List.{flat_map}
 use Rattle.hart_frame.specs.heard.Character.{Character}
 use Rattle.hart_frame.specs.wire.FrameParts.{FrameParts, reply_parts}
-use Rattle.hart_commands.specs.Registers.{Contents, Overwrite, overwrite_of, overwritten, registers, registers_of}
+use Rattle.hart_commands.specs.Registers.{AreValid, Contents, Overwrite, overwrite_of, overwritten, registers, registers_of}
+use Rattle.hart_commands.specs.ReplyData.{IsReply, reply_payload, reply_reading}
+use Rattle.hart_commands.specs.RequestData.{IsRequest, is_known}
 use Rattle.hart_commands.specs.declared.register.Register.{Register}
 use Rattle.hart_commands.specs.declared.request.Request.{Request}
 use Rattle.hart_commands.specs.declared.request.Request.TheVariants.{ResetChanged}
 use Rattle.hart_device.specs.Device.{DeviceState, Executes, Nothing, Resets}
+use Rattle.hart_device.specs.Process.{IsProcess}
 use Rattle.hart_device.specs.answer.Answer.{answer_of, asked_effect, code_of, effect_of, is_answered, reading_of, reply_of}
 use Rattle.hart_device.specs.answer.Delivery.{Brings, Brought}
 use Rattle.hart_device.specs.image.Image.{IsImageFault, IsImageOf}
@@ -17,7 +20,8 @@ use Rattle.hart_device.specs.declared.fault.DeviceFault.{DeviceFault}
 use Rattle.hart_device.specs.declared.identity_parts.IdentityParts.{IdentityParts}
 use Rattle.hart_device.specs.declared.process.Process.{Process}
 use Rattle.hart_device.proofs.lemmas.answer.Delivery.{Brings-found, Brings-one}
-use Rattle.hart_device.proofs.lemmas.answer.Effect.{answered_if, effect_executes_only, judged_has_code, refused, resets_only}
+use Rattle.hart_device.proofs.lemmas.answer.Effect.{answered_if, effect_executes_only, executed_made, judged_has_code, refused, resets_only}
+use Rattle.hart_device.proofs.lemmas.answer.Reply.{payload_if, reply_read}
 use Rattle.hart_device.proofs.lemmas.image.Image.{no_fault}
 use Rattle.hart_device.proofs.lemmas.registers.Range.{filled}
 use Rattle.hart_device.proofs.lemmas.registers.Registers.{registers_of-again, registers_of-append, registers_of-cons}
@@ -29,6 +33,19 @@ deliveries_bring_one-brings = Brings-found
 pub deliveries_bring_one-one : (identity : IdentityParts) (delivery : List Character) (brought other : Brought)
     → Brings identity delivery brought → Brings identity delivery other → brought ≡ other
 deliveries_bring_one-one = Brings-one
+
+pub answers_are_replies-well_made : (state : DeviceState) (process : Process) (frame : FrameParts) → AreValid state.contents
+    → IsProcess process → is_known frame.command ≡ true → IsReply (reply_of state process frame)
+answers_are_replies-well_made state process frame valid is known =
+    (reply_payload (reply_of state process frame), reply_read state process frame valid is known)
+
+pub answers_are_replies-read : (state : DeviceState) (process : Process) (frame answer : FrameParts) → AreValid state.contents
+    → IsProcess process → is_known frame.command ≡ true → answer_of state process frame ≡ Some answer
+    → reply_reading frame.command answer.payload ≡ Some (reply_of state process frame)
+answers_are_replies-read state process frame answer valid is known answered =
+    subst (λ payload. reply_reading frame.command payload ≡ Some (reply_of state process frame))
+    (payload_if (is_answered state frame) frame answer (reply_payload (reply_of state process frame)) answered)
+    (reply_read state process frame valid is known)
 
 pub images_have_no_fault : (state : DeviceState) (image : List ℕ) (fault : DeviceFault) → IsImageOf state image
     → IsImageFault image fault → ⊥
@@ -77,6 +94,10 @@ pub writes_execute_their_overwrite-only : (state : DeviceState) (frame : FramePa
     × (request : Request) × (reading_of frame ≡ Ok request) × (overwrite_of request ≡ Some overwrite)
 writes_execute_their_overwrite-only state frame =
     effect_executes_only (is_answered state frame) (code_of state frame) (reading_of frame)
+
+pub writes_execute_their_overwrite-well_made : (state : DeviceState) (frame : FrameParts) (overwrite : Overwrite)
+    → effect_of state frame ≡ Executes overwrite → IsRequest overwrite
+writes_execute_their_overwrite-well_made = executed_made
 
 pub resets_name_this_counter-only : (state : DeviceState) (frame : FrameParts) → effect_of state frame ≡ Resets
     → (is_answered state frame ≡ true) × (code_of state frame ≡ 0)

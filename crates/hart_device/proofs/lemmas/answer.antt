@@ -5,3 +5,5 @@ pub mod Garbled
 pub mod Form
 pub mod Delivery
 pub mod Faults
+pub mod Content
+pub mod Reply

@@ -1,10 +1,11 @@
 -- What a command does to a device.
-use Rattle.std.proofs.Common.{◌≡◌, ◌≢◌, ℕ, ap, refl, arith, slice_get}
+use Rattle.std.proofs.Common.{◌≡◌, ◌≢◌, ℕ, ap, refl, subst, arith, slice_get}
 use Rattle.std.proofs.Common.{Bool, true, false, ◌==◌, ◌&&◌, if◌then◌else◌}
 use Rattle.std.proofs.Common.{Option, None, Some, IfSome, Ok, Err}
 use Rattle.std.proofs.lemmas.Bool.Decides.{nat_tests}
 use Rattle.hart_commands.specs.RequestCode.{counter_code, data_code}
-use Rattle.hart_commands.specs.RequestData.{Reading}
+use Rattle.hart_commands.specs.RequestData.{IsRequest, Reading}
+use Rattle.hart_commands.proofs.lemmas.Laws.{requests_have_their_command}
 use Rattle.hart_values.specs.declared.master_id.MasterId.{MasterId}
 use Rattle.hart_frame.specs.wire.FrameParts.{FrameParts, reply_parts}
 use Rattle.hart_commands.specs.ReplyData.{reply_payload}
@@ -50,13 +51,24 @@ effect_executes_only answered code reading overwrite is =
     let write = executes_only reading overwrite parts.2 in
     (parts.0, parts.1, write.0, write.1, write.2)
 
+-- An overwrite that is executed is a well-made request.
+own_overwrite : (request : Request) (overwrite : Overwrite) → overwrite_of request ≡ Some overwrite → request ≡ overwrite
+own_overwrite request overwrite is = grind arith
+
+pub executed_made : (state : DeviceState) (frame : FrameParts) (overwrite : Overwrite) → effect_of state frame ≡ Executes overwrite
+    → IsRequest overwrite
+executed_made state frame overwrite is =
+    let write = effect_executes_only (is_answered state frame) (code_of state frame) (reading_of frame) overwrite is in
+    subst IsRequest (own_overwrite write.2 overwrite write.4)
+    (requests_have_their_command frame.command frame.payload write.2 write.3).1
+
 asked_resets : (reading : Reading) → asked_effect reading ≡ Resets → (counter : Option ℕ) × (reading ≡ Ok (ResetChanged counter))
 asked_resets (Err code) is = cc
 asked_resets (Ok (ResetChanged counter)) is = (counter, refl)
 asked_resets (Ok request) is = absurd (grind arith)
 
 -- Code 0 is what the data and the counter say.
-code_good : (state : DeviceState) (frame : FrameParts) → code_of state frame ≡ 0 → data_code (reading_of frame) state.counter ≡ 0
+pub code_good : (state : DeviceState) (frame : FrameParts) → code_of state frame ≡ 0 → data_code (reading_of frame) state.counter ≡ 0
 code_good state frame is = grind (arith, nat_tests)
 
 -- A frame that is judged has its code.

@@ -1,0 +1,211 @@
+-- What a device replies with code 0 to a well-made request is read again from its bytes.
+use Rattle.std.proofs.Common.{◌≡◌, ℕ, zero, suc, ◌+◌, ◌-◌, ◌*◌, ◌/◌, ◌<◌, ◌≤◌, List, [], ◌∷◌, ◌++◌, length, map, min}
+use Rattle.std.proofs.Common.{Option, Some, None, All, get_or, slice_get, unwrap_or, refl, ap, subst, ◌∙◌, arith, true, false, ltb, eqb}
+use Rattle.std.proofs.Common.{append_assoc, append-nil, length-append}
+use Rattle.std.specs.List.{flat_map}
+use Rattle.std.specs.Simd.{first_chunks}
+use Rattle.std.proofs.lemmas.Bool.Decides.{nat_tests}
+use Rattle.std.proofs.lemmas.List.{length-map, take_at, drop_at, take_all}
+use Rattle.std.proofs.lemmas.List.Elements.{All-cons, All-map}
+use Rattle.std.proofs.lemmas.Option.{get_or_from_slice_get, slice_get_within}
+use Rattle.hart_values.specs.declared.bits32.Bits32.{Bits32}
+use Rattle.hart_commands.specs.Commands.{content_bytes}
+use Rattle.hart_commands.specs.Registers.{AreValid}
+use Rattle.hart_commands.specs.Values.{unit_value_of, unit_value_bytes, variable_of, variable_bytes}
+use Rattle.hart_commands.specs.ReplyData.{content_reading}
+use Rattle.hart_commands.specs.ReplyReading.{dynamic_reading, saying, tag_of, variables_reading}
+use Rattle.hart_commands.specs.RequestData.{IsRequest, command_of}
+use Rattle.hart_commands.specs.TagBytes.{date_in, descriptor_in, tag_in}
+use Rattle.hart_commands.specs.declared.content.ReplyContent.{ReplyContent}
+use Rattle.hart_commands.specs.declared.content.ReplyContent.TheVariants as replied
+use Rattle.hart_commands.specs.declared.register.Register.TheVariants as registers
+use Rattle.hart_commands.specs.declared.request.Request.{Request}
+use Rattle.hart_commands.specs.declared.request.Request.TheVariants as requested
+use Rattle.hart_commands.specs.declared.value.UnitValue.{UnitValue}
+use Rattle.hart_commands.specs.declared.value.VariableReading.{VariableReading}
+use Rattle.hart_device.specs.answer.Content.{reply_content, unit_value}
+use Rattle.hart_device.specs.answer.Variables.{dynamic_at, missing_variable, variable_of_code, variable_reading}
+use Rattle.hart_device.specs.declared.process.Process.{Process}
+use Rattle.hart_device.specs.declared.process.ProcessVariable.{ProcessVariable}
+use Rattle.hart_device.specs.Device.{DeviceState}
+use Rattle.hart_device.specs.Process.{IsFloat, IsProcess, dynamic_variables}
+
+-- LISTS
+pub above : (n limit : ℕ) → limit ≤ n → ltb n limit ≡ false
+above n limit more = grind (arith, nat_tests)
+
+below : (n limit : ℕ) → n < limit → ltb n limit ≡ true
+below n limit less = grind (arith, nat_tests)
+
+same : (n : ℕ) → eqb n n ≡ true
+same n = grind (arith, nat_tests)
+
+three : (xs : List ℕ) → length xs ≡ 3 → (a : ℕ) × (b : ℕ) × (c : ℕ) × (xs ≡ a ∷ b ∷ c ∷ [])
+three [] long = absurd (omega arith)
+three (a ∷ []) long = absurd (omega arith)
+three (a ∷ b ∷ []) long = absurd (omega arith)
+three (a ∷ b ∷ c ∷ []) long = (a, b, c, refl)
+three (a ∷ b ∷ c ∷ d ∷ xs) long = absurd (omega arith)
+
+four : (xs : List ℕ) → length xs ≡ 4 → (a : ℕ) × (b : ℕ) × (c : ℕ) × (d : ℕ) × (xs ≡ a ∷ b ∷ c ∷ d ∷ [])
+four [] long = absurd (omega arith)
+four (a ∷ xs) long = let rest = three xs (omega arith) in (a, rest.0, rest.1, rest.2, ap (λ ys. a ∷ ys) rest.3)
+
+-- Things of n bytes each, end to end, are read one by one.
+end_to_end : {X : Type 0} (n : ℕ) (bytes_of : X → List ℕ) (of : List ℕ → X) (Sized : X → Type 0)
+    → ((x : X) → Sized x → length (bytes_of x) ≡ n) → ((x : X) → Sized x → of (bytes_of x) ≡ x)
+    → (xs : List X) (rest : List ℕ) → All Sized xs
+    → (length (flat_map bytes_of xs) ≡ length xs * n) × (map of (first_chunks n (length xs) (flat_map bytes_of xs ++ rest)) ≡ xs)
+end_to_end n bytes_of of Sized size back [] rest all = (omega arith, refl)
+end_to_end n bytes_of of Sized size back (x ∷ xs) rest all =
+    let here : Sized x = all zero x (omega arith) in
+    let others = end_to_end n bytes_of of Sized size back xs rest (λ k d within. all (suc k) d (omega arith)) in
+    let bytes = flat_map bytes_of xs in
+    let more : suc (length xs) * n ≡ n + length xs * n = grind arith in
+    let whole = append_assoc (bytes_of x) bytes rest in (
+      omega (arith, length-append (bytes_of x) bytes, size x here, others.0),
+      rw (
+        whole,
+        take_at (bytes_of x) (bytes ++ rest) n (size x here),
+        drop_at (bytes_of x) (bytes ++ rest) n (size x here),
+        others.1,
+        back x here,
+      ) refl,
+    )
+
+-- CONTENTS
+-- A content of a command is read again from its bytes.
+abbrev pub IsReadAgain : ℕ → ReplyContent → Type 0
+IsReadAgain command content = content_reading command (content_bytes content) ≡ Some content
+
+-- So many bytes say what they say.
+said : (size : ℕ) (content : List ℕ → ReplyContent) (bytes : List ℕ) → length bytes ≡ size
+    → saying size content bytes ≡ Some (content bytes)
+said size content bytes long = rw (above (length bytes) size (omega arith), take_all size bytes (omega arith)) refl
+
+tag_said : (tag descriptor date : List ℕ) → length tag ≡ 6 → length descriptor ≡ 12 → length date ≡ 3
+    → saying 21 tag_of (tag ++ descriptor ++ date) ≡ Some (replied.Tag tag descriptor date)
+tag_said tag descriptor date of_tag of_descriptor of_date =
+    let bytes = tag ++ descriptor ++ date in
+    let front : length (tag ++ descriptor) ≡ 18 = omega (arith, length-append tag descriptor) in
+    let long : length bytes ≡ 21 = omega (arith, length-append (tag ++ descriptor) date) in
+    let whole : bytes ≡ tag ++ (descriptor ++ date) = append_assoc tag descriptor date in
+    let tag_is : tag_in bytes ≡ tag = rw whole (take_at tag (descriptor ++ date) 6 of_tag) in
+    let descriptor_is : descriptor_in bytes ≡ descriptor =
+    rw (whole, drop_at tag (descriptor ++ date) 6 of_tag) (take_at descriptor date 12 of_descriptor) in
+    let date_is : date_in bytes ≡ date = rw (drop_at (tag ++ descriptor) date 18 front) (take_all 3 date (omega arith)) in
+    said 21 tag_of bytes long ∙ rw (tag_is, descriptor_is, date_is) refl
+
+dynamic_said : (current : Bits32) (values : List UnitValue) → IsFloat current → 0 < length values → length values ≤ 4
+    → All (λ v. IsFloat v.value) values
+    → dynamic_reading (current.0 ++ flat_map unit_value_bytes values) ≡ Some (replied.Dynamic current values)
+dynamic_said current values float some few all =
+    let groups = flat_map unit_value_bytes values in
+    let each = end_to_end 5 unit_value_bytes unit_value_of (λ v. IsFloat v.value) (λ v is. omega arith)
+    (λ v is. let x = four v.value.0 is in rw x.4 refl) values [] all in
+    let read : map unit_value_of (first_chunks 5 (length values) groups) ≡ values = rw (append-nil groups) at each.1 in
+    let count : min (length groups / 5) 4 ≡ length values = omega (arith, each.0) in
+    rw (
+      above (length (current.0 ++ groups)) 9 (omega (arith, length-append current.0 groups, each.0)),
+      take_at current.0 groups 4 float,
+      drop_at current.0 groups 4 float,
+      count,
+      read,
+    ) refl
+
+variables_said : (status : ℕ) (variables : List VariableReading) (time : List ℕ) → 0 < length variables → length variables ≤ 8
+    → All (λ v. IsFloat v.value) variables → length time ≡ 4
+    → variables_reading (status ∷ (flat_map variable_bytes variables ++ time)) ≡ Some (replied.Variables status variables time)
+variables_said status variables time some few all float =
+    let groups = flat_map variable_bytes variables in
+    let each = end_to_end 8 variable_bytes variable_of (λ v. IsFloat v.value)
+    (λ v is. omega (arith, length-append v.value.0 (v.status ∷ []))) (λ v is. let x = four v.value.0 is in rw x.4 refl)
+    variables time all in
+    let whole : length (status ∷ (groups ++ time)) ≡ 5 + 8 * length variables = omega (arith, length-append groups time, each.0) in
+    let count : (length (status ∷ (groups ++ time)) - 5) / 8 ≡ length variables = omega arith in
+    rw (
+      count,
+      below 0 (length variables) some,
+      below (length variables) 9 (omega arith),
+      whole,
+      same (5 + 8 * length variables),
+      drop_at (status ∷ groups) time (1 + 8 * length variables) (omega (arith, each.0)),
+      each.1,
+    ) refl
+
+-- The dynamic variables and the variable of each code have values of four bytes.
+dynamic_floats : (process : Process) → IsProcess process → All (λ variable. IsFloat variable.value) (dynamic_variables process)
+dynamic_floats process is = All-cons (λ (v : ProcessVariable). IsFloat v.value) process.first process.others is.first is.others
+
+dynamic_is_float : (process : Process) → IsProcess process → (place : Option ℕ)
+    → IsFloat (unwrap_or (dynamic_at process place) missing_variable).value
+dynamic_is_float process is None = refl
+dynamic_is_float process is (Some place) = go (slice_get (dynamic_variables process) place) refl
+  where
+    go : (variable : Option ProcessVariable) → slice_get (dynamic_variables process) place ≡ variable
+        → IsFloat (unwrap_or variable missing_variable).value
+    go None found = refl
+    go (Some variable) found = subst (λ (v : ProcessVariable). IsFloat v.value)
+        (get_or_from_slice_get (dynamic_variables process) place variable variable found)
+        (dynamic_floats process is place variable (slice_get_within (dynamic_variables process) place variable found))
+
+variable_is_float : (process : Process) → IsProcess process → (code : ℕ) → IsFloat (variable_of_code process code).value
+variable_is_float process is code = grind (arith, dynamic_is_float)
+
+-- What a device replies with code 0 to a well-made request is read again.
+pub content_again : (state : DeviceState) (process : Process) → AreValid state.contents → IsProcess process → (request : Request)
+    → IsRequest request → IsReadAgain (command_of request) (reply_content state process request)
+content_again state process valid is requested.Identify made = refl
+content_again state process valid is requested.ReadPrimary made = let x = four process.first.value.0 is.first in rw x.4 refl
+content_again state process valid is requested.ReadCurrent made =
+    let x = four process.loop_current.0 is.loop_current in
+    let y = four process.percent_of_range.0 is.percent_of_range in
+    rw (x.4, y.4) refl
+content_again state process valid is requested.ReadDynamic made =
+    dynamic_said process.loop_current (map unit_value (dynamic_variables process)) is.loop_current
+    (omega (arith, length-map (dynamic_variables process) unit_value))
+    (omega (arith, length-map (dynamic_variables process) unit_value, is.few))
+    (All-map (λ (v : UnitValue). IsFloat v.value) unit_value (dynamic_variables process) (dynamic_floats process is))
+content_again state process valid is (requested.SetPolling address mode) made = refl
+content_again state process valid is requested.ReadPolling made = refl
+content_again state process valid is requested.ReadClasses made = refl
+content_again state process valid is (requested.ReadVariables codes) made =
+    variables_said _ (map (variable_reading process) codes) process.time_stamp
+    (omega (arith, length-map codes (variable_reading process), made.0))
+    (omega (arith, length-map codes (variable_reading process), made.1))
+    (All-map (λ v. IsFloat v.value) (variable_reading process) codes (λ k d within. variable_is_float process is (get_or codes k d)))
+    is.time_stamp
+content_again state process valid is (requested.IdentifyByTag tag) made = refl
+content_again state process valid is requested.ReadMessage made = said 24 replied.Message state.contents.message (valid registers.Message).0
+content_again state process valid is requested.ReadTag made =
+    tag_said _ _ _ (valid registers.Tag).0 (valid registers.Descriptor).0 (valid registers.Date).0
+content_again state process valid is requested.ReadSensor made =
+    let n = three process.sensor.serial_number is.serial_number in
+    let u = four process.sensor.upper_limit.0 is.upper_limit in
+    let l = four process.sensor.lower_limit.0 is.lower_limit in
+    let m = four process.sensor.minimum_span.0 is.minimum_span in
+    rw (n.3, u.4, l.4, m.4) refl
+content_again state process valid is requested.ReadOutput made =
+    let u = four process.output.upper_range_value.0 is.upper_range_value in
+    let l = four process.output.lower_range_value.0 is.lower_range_value in
+    let d = four process.output.damping.0 is.damping in
+    rw (u.4, l.4, d.4) refl
+content_again state process valid is requested.ReadAssembly made =
+    said 3 replied.Assembly state.contents.assembly (valid registers.Assembly).0
+content_again state process valid is (requested.WriteMessage message) made =
+    said 24 replied.Message state.contents.message (valid registers.Message).0
+content_again state process valid is (requested.WriteTag tag descriptor date) made =
+    tag_said _ _ _ (valid registers.Tag).0 (valid registers.Descriptor).0 (valid registers.Date).0
+content_again state process valid is (requested.WriteAssembly assembly) made =
+    said 3 replied.Assembly state.contents.assembly (valid registers.Assembly).0
+content_again state process valid is requested.ReadLongTag made =
+    said 32 replied.LongTag state.contents.long_tag (valid registers.LongTag).0
+content_again state process valid is (requested.IdentifyByLongTag long_tag) made = refl
+content_again state process valid is (requested.WriteLongTag long_tag) made =
+    said 32 replied.LongTag state.contents.long_tag (valid registers.LongTag).0
+content_again state process valid is (requested.ResetChanged counter) made = refl
+content_again state process valid is requested.ReadMore made = more process.additional_status is.additional_status
+  where
+    more : (status : List ℕ) → length status ≡ 25 → IsReadAgain 48 (replied.More status)
+    more [] long = absurd (omega arith)
+    more (byte ∷ bytes) long = ap (λ xs. Some (replied.More xs)) (take_all 25 (byte ∷ bytes) (omega arith))

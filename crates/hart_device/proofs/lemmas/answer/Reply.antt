@@ -1,0 +1,151 @@
+-- What a device replies to a command that is known is read again from its payload.
+use Rattle.std.proofs.Common.{◌≡◌, ℕ, ◌<◌, List, [], ◌∷◌, take, length}
+use Rattle.std.proofs.Common.{◌==◌, Some, None, Ok, Err, refl, subst, arith, Bool, true, false, ltb, eqb}
+use Rattle.std.specs.Prelude.{if◌then◌else◌}
+use Rattle.std.specs.List.{AllByRecursion}
+use Rattle.std.proofs.lemmas.Bool.Decides.{nat_tests}
+use Rattle.hart_values.specs.hart_date.Calendar.{is_date}
+use Rattle.hart_values.specs.declared.loop_mode.LoopMode.TheVariants.{Disabled, Enabled}
+use Rattle.hart_values.specs.declared.master_id.MasterId.{MasterId}
+use Rattle.hart_frame.specs.wire.FrameParts.{FrameParts, reply_parts}
+use Rattle.hart_commands.specs.Commands.{CommandRow, asked, commands, is_known, row_in}
+use Rattle.hart_commands.specs.Registers.{AreValid, Overwrite}
+use Rattle.hart_commands.specs.ReplyData.{reply_payload, reply_reading}
+use Rattle.hart_commands.specs.RequestCode.{data_code, request_code}
+use Rattle.hart_commands.specs.RequestData.{IsRequest, Reading, command_of, read_by}
+use Rattle.hart_commands.specs.RequestReading.{codes_reading, mode_left_out, needing, polling_reading, polling_with, reset_reading}
+use Rattle.hart_commands.specs.RequestReading.{tag_reading}
+use Rattle.hart_commands.specs.TagBytes.{date_in, descriptor_in, tag_in}
+use Rattle.hart_commands.specs.declared.request.Request.{Request}
+use Rattle.hart_commands.specs.declared.request.Request.TheVariants as requested
+use Rattle.hart_commands.proofs.lemmas.Laws.{overwrites_are_valid, requests_have_their_command}
+use Rattle.hart_device.specs.answer.Answer.{after_command, code_of, effect_of, judged_of, reading_of, reply_of, reply_with}
+use Rattle.hart_device.specs.answer.Content.{reply_content}
+use Rattle.hart_device.specs.declared.process.Process.{Process}
+use Rattle.hart_device.specs.Device.{DeviceState, Effect, Executes, Nothing, Resets, after}
+use Rattle.hart_device.specs.Process.{IsProcess}
+use Rattle.hart_device.proofs.lemmas.answer.Effect.{code_good, executed_made}
+use Rattle.hart_device.proofs.lemmas.answer.Content.{IsReadAgain, content_again, above}
+
+-- CODES
+-- Data are read as a request, or refused with a code from 1 to 127.
+abbrev pub IsRefusal : Reading → Type 0
+IsRefusal (Ok request) = Unit {0}
+IsRefusal (Err code) = (0 < code) × (code < 128)
+
+by_test : (b : Bool) (x y : Reading) → IsRefusal x → IsRefusal y → IsRefusal (if b then x else y)
+by_test true x y one other = one
+by_test false x y one other = other
+
+needing_refuses : (size : ℕ) (request : List ℕ → Request) (bytes : List ℕ) → IsRefusal (needing size request bytes)
+needing_refuses size request bytes = by_test _ (Err 5) (Ok (request (take size bytes))) (omega arith, omega arith) tt
+
+mode_refuses : (address mode : ℕ) → IsRefusal (polling_with address mode)
+mode_refuses address mode =
+    let on : Reading = if mode == 1 then Ok (requested.SetPolling address Enabled) else Err 12 in
+    let off : Reading = if mode == 0 then Ok (requested.SetPolling address Disabled) else on in
+    by_test (ltb 63 address) (Err 2) off (omega arith, omega arith)
+    (by_test (mode == 0) (Ok (requested.SetPolling address Disabled)) on tt
+    (by_test (mode == 1) (Ok (requested.SetPolling address Enabled)) (Err 12) tt (omega arith, omega arith)))
+
+polling_refuses : (bytes : List ℕ) → IsRefusal (polling_reading bytes)
+polling_refuses [] = (omega arith, omega arith)
+polling_refuses (address ∷ []) = mode_refuses address (mode_left_out address)
+polling_refuses (address ∷ mode ∷ rest) = mode_refuses address mode
+
+codes_refuse : (bytes : List ℕ) → IsRefusal (codes_reading bytes)
+codes_refuse [] = (omega arith, omega arith)
+codes_refuse (code ∷ codes) = tt
+
+tag_refuses : (bytes : List ℕ) → IsRefusal (tag_reading bytes)
+tag_refuses bytes =
+    let good : Reading = Ok (requested.WriteTag (tag_in bytes) (descriptor_in bytes) (date_in bytes)) in
+    by_test (ltb (length bytes) 21) (Err 5) (if is_date (date_in bytes) then good else Err 9) (omega arith, omega arith)
+    (by_test (is_date (date_in bytes)) good (Err 9) tt (omega arith, omega arith))
+
+reset_refuses : (bytes : List ℕ) → IsRefusal (reset_reading bytes)
+reset_refuses [] = tt
+reset_refuses (high ∷ []) = (omega arith, omega arith)
+reset_refuses (high ∷ low ∷ rest) = tt
+
+abbrev pub Refuses : CommandRow → Type 0
+Refuses row = (bytes : List ℕ) → IsRefusal (asked row.request bytes)
+
+rows_refuse : AllByRecursion Refuses commands
+rows_refuse = search (needing_refuses, polling_refuses, codes_refuse, tag_refuses, reset_refuses)
+
+table_refuses : (rows : List CommandRow) → AllByRecursion Refuses rows → (command : ℕ) (bytes : List ℕ)
+    → IsRefusal (read_by (row_in rows command) bytes)
+table_refuses [] all command bytes = (omega arith, omega arith)
+table_refuses (row ∷ rows) all command bytes = go (eqb command row.number) (table_refuses rows all.1 command bytes)
+  where
+    go : (b : Bool) → IsRefusal (read_by (row_in rows command) bytes)
+        → IsRefusal (read_by (if b then Some row else row_in rows command) bytes)
+    go true others = all.0 bytes
+    go false others = others
+
+data_small : (reading : Reading) (counter : ℕ) → IsRefusal reading → data_code reading counter < 128
+data_small reading counter refusal = grind arith
+
+code_small : (command : ℕ) (reading : Reading) (protected : Bool) (counter : ℕ) → IsRefusal reading
+    → request_code command reading protected counter < 128
+code_small command reading protected counter refusal = grind (arith, data_small)
+
+-- REPLIES
+-- A frame comes to a well-made request of its command, or to a code from 1 to 127 that refuses it.
+abbrev pub IsJudged : ℕ → Reading → Type 0
+IsJudged command (Ok request) = (command_of request ≡ command) × IsRequest request
+IsJudged command (Err code) = (0 < code) × (code < 128)
+
+judged_by : (command code : ℕ) (reading : Reading) → code < 128 → (code ≡ 0 → IsJudged command reading)
+    → IsJudged command (if code == 0 then reading else Err code)
+judged_by command code reading small good = go (eqb code 0) refl
+  where
+    go : (b : Bool) → eqb code 0 ≡ b → IsJudged command (if b then reading else Err code)
+    go true none = good (grind (arith, nat_tests))
+    go false some = (grind (arith, nat_tests), small)
+
+judged_made : (state : DeviceState) (frame : FrameParts) → IsJudged frame.command (judged_of state frame)
+judged_made state frame =
+    let refuses = table_refuses commands rows_refuse frame.command frame.payload in
+    judged_by frame.command (code_of state frame) (reading_of frame)
+    (code_small frame.command (reading_of frame) state.protected state.counter refuses)
+    (λ none. go (reading_of frame) refl refuses (code_good state frame none))
+  where
+    go : (reading : Reading) → reading_of frame ≡ reading → IsRefusal reading → data_code reading state.counter ≡ 0
+        → IsJudged frame.command reading
+    go (Ok request) is refuses none = requests_have_their_command frame.command frame.payload request is
+    go (Err code) is refuses none = absurd (omega (arith, refuses.0, none))
+
+reply_again : (state : DeviceState) (process : Process) (frame : FrameParts) (judged : Reading) → AreValid state.contents
+    → IsProcess process → is_known frame.command ≡ true → IsJudged frame.command judged
+    → reply_reading frame.command (reply_payload (reply_with state process frame judged)) ≡ Some (reply_with state process frame judged)
+reply_again state process frame (Ok request) valid is known made =
+    let again = content_again state process valid is request made.1 in
+    rw (subst (λ n. IsReadAgain n (reply_content state process request)) made.0 again) refl
+reply_again state process frame (Err code) valid is known made =
+    let positive : eqb code 0 ≡ false = (let some = made.0 in grind (arith, nat_tests)) in
+    rw (above 127 code (omega (arith, made.1)), positive, known) refl
+
+-- A command leaves valid contents valid.
+after_valid : (master : MasterId) (effect : Effect) (state : DeviceState)
+    → ((overwrite : Overwrite) → effect ≡ Executes overwrite → IsRequest overwrite)
+    → AreValid state.contents → AreValid (after master effect state).contents
+after_valid master Nothing state made valid = valid
+after_valid master (Executes overwrite) state made valid = overwrites_are_valid overwrite state.contents (made overwrite refl) valid
+after_valid master Resets state made valid = valid
+
+command_valid : (state : DeviceState) (frame : FrameParts) → AreValid state.contents → AreValid (after_command state frame).contents
+command_valid state frame = after_valid frame.master (effect_of state frame) state (executed_made state frame)
+
+-- What a device replies to a command that is known is read as that reply.
+pub reply_read : (state : DeviceState) (process : Process) (frame : FrameParts) → AreValid state.contents → IsProcess process
+    → is_known frame.command ≡ true
+    → reply_reading frame.command (reply_payload (reply_of state process frame)) ≡ Some (reply_of state process frame)
+reply_read state process frame valid is known =
+    reply_again (after_command state frame) process frame (judged_of state frame) (command_valid state frame valid) is known
+    (judged_made state frame)
+
+pub payload_if : (holds : Bool) (frame answer : FrameParts) (payload : List ℕ)
+    → (if holds then Some (reply_parts frame payload) else None) ≡ Some answer → payload ≡ answer.payload
+payload_if holds frame answer payload is = grind arith
