@@ -14,9 +14,9 @@
 //! ```
 //!
 //! The program `hart` has the device of [`bench`]; [`Identity::new`] and [`RegisterStore`] are for devices of one's own. The laws
-//! [`overwrites_absorb`], [`frames_leave_identity_and_protection`], [`cold_starts_are_shown_once`],
-//! [`processes_are_well_made`] and [`garbled_requests_are_decided`] no crate of `hart` cites: they are for whoever proves more of a
-//! device. No call of this crate takes memory.
+//! [`overwrites_absorb`], [`frames_leave_identity_and_protection`], [`cold_starts_are_shown_once`] and
+//! [`garbled_requests_are_decided`] no crate of `hart` cites: they are for whoever proves more of a device. No call of this crate
+//! takes memory.
 //!
 //! At the root stand what a device is and what it is made with. The rooms:
 //!

@@ -6,19 +6,22 @@ ghost use Rattle.hart_values.specs.declared.master_id.MasterId.{MasterId};
 ghost use Rattle.hart_commands.specs.declared.content.ReplyContent.TheVariants.{Identity};
 ghost use Rattle.hart_commands.specs.declared.reply.Reply.{Reply};
 ghost use Rattle.hart_device.specs.Identity.{AreIdentityParts, identity_content, own_numbers};
-ghost use Rattle.hart_device.specs.answer.Answer.{after_refusal};
+ghost use Rattle.hart_device.specs.answer.Answer.{after_refusal, reply_of};
 ghost use Rattle.hart_device.specs.declared.identity_parts.IdentityParts.{IdentityParts};
+ghost use Rattle.hart_master.specs.Master.{MasterState};
 ghost use Rattle.hart_master.specs.Unique.{unique_in};
 ghost use Rattle.hart_line.specs.script.Rows.{HasFirstBadLine, IsScript};
 ghost use Rattle.hart_line.specs.script.Words.{IsAddressWord, IsCommandWord, IsDataWord, IsWho};
 ghost use Rattle.hart_line.specs.world.Faults.{AreAllDetected, IsFault};
 ghost use Rattle.hart_line.specs.world.Kept.{KeepsPromises};
-ghost use Rattle.hart_line.specs.world.Promises.{IsRefusedByDevice};
-ghost use Rattle.hart_line.specs.world.Step.{IsLast};
+ghost use Rattle.hart_line.specs.world.Promises.{AnswersLastSending, IsRefusedByDevice, start_from};
+ghost use Rattle.hart_line.specs.world.Step.{IsLast, spoken_request};
 ghost use Rattle.hart_line.specs.world.World.{Start, World, first_world, state_of};
 ghost use Rattle.hart_line.specs.declared.event.LineEvent.{LineEvent};
 ghost use Rattle.hart_line.specs.declared.fault.Leg.{Leg};
 ghost use Rattle.hart_line.specs.declared.fault.LineFault.TheVariants.{Undetected};
+
+use hart_device::{Device, Process, RegisterStore, processes_are_well_made};
 
 /// A word is that of one master, of one address, of one command and of one list of data at most.
 pub fn words_have_one_value()
@@ -65,6 +68,19 @@ pub fn refused_turns_change_nothing()
         (refused : IsRefusedByDevice start events before next)
         → state_of start.device next ≡ after_refusal (state_of start.device before) refused.frame }
 {}
+
+/// In every script of every device, whatever process it is handed, an accepted reply is the one that the device made: a master reads
+/// the code, the status and the data that the device replied.
+pub fn accepted_replies_are_the_devices_own<S: RegisterStore>(device: &Device<S>, process: &Process)
+    ensures { (primary secondary : MasterState) (events : List LineEvent) (number : ℕ) (reply : Reply) (sendings : ℕ)
+        (answers : AnswersLastSending (start_from device.now process.now primary secondary) events number reply sendings)
+        → reply ≡ reply_of (state_of device.now answers.last_turn.before) process.now
+        (spoken_request answers.last_turn.who answers.last_turn.held).frame }
+{
+    // No-ops: their contracts say that device and process are well made.
+    device.response_preambles();
+    processes_are_well_made(process);
+}
 
 /// All that [`run`](crate::run) promises of a script: of its first world, which the device stands for, and of its turns, its last
 /// world and its fault. If a promise asks for well-made requests, each value of [`Request`](hart_commands::Request) is one.

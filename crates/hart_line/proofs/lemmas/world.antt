@@ -6,6 +6,7 @@ pub mod Steps
 pub mod Leads
 pub mod Marks
 pub mod Submitted
+pub mod Valid
 pub mod Answered
 pub mod Last
 pub mod Count

@@ -10,9 +10,10 @@ use Rattle.hart_commands.specs.RequestData.{IsRequest}
 use Rattle.hart_commands.specs.declared.reply.Reply.{Reply}
 use Rattle.hart_commands.specs.declared.request.Request.{Request}
 use Rattle.hart_commands.specs.declared.request.Request.TheVariants.{ResetChanged}
-use Rattle.hart_device.specs.answer.Answer.{answer_of, code_of, effect_of, is_answered, reading_of}
+use Rattle.hart_device.specs.answer.Answer.{answer_of, code_of, effect_of, is_answered, reading_of, reply_of}
 use Rattle.hart_device.specs.answer.Delivery.{Brought, Garbled, NoMessage, OneFrame}
-use Rattle.hart_device.specs.Device.{DeviceState, Resets}
+use Rattle.hart_device.specs.Device.{DeviceState, IsDevice, Resets}
+use Rattle.hart_device.specs.Process.{IsProcess}
 use Rattle.hart_device.specs.declared.process.Process.{Process}
 use Rattle.hart_master.specs.Acceptance.{IsReplyTo}
 use Rattle.hart_master.specs.Master.{MasterState}
@@ -83,11 +84,19 @@ pub record AnswersLastSendingFrom (start : Start) (from : World) (events : List 
   pub reached : slice_get next.outcomes number ≡ Some (Answered reply sendings)
   pub left : of_master who next.hands ≡ None
 
+-- A start is well made if its device and its process are, as every value of their types is.
+pub record IsWellMadeStart (start : Start) : Type 0 where
+  pub device : IsDevice start.device
+  pub process : IsProcess start.process
+
 -- An accepted reply is the device's answer in the turn of its request's last sending; the request in hand in that turn, with its
--- address, is the one that was submitted under this number to that turn's master.
+-- address, is the one that was submitted under this number to that turn's master; and the reply says what the device replied, with its
+-- code, its status and its data.
 pub record AnswersLastSending (start : Start) (events : List LineEvent) (number : ℕ) (reply : Reply) (sendings : ℕ) : Type 0 where
   pub last_turn : AnswersLastSendingFrom start (first_world start) events number reply sendings
   pub submitted_as : slice_get (submissions_of events) number ≡ Some (submission_in last_turn.who last_turn.held)
+  pub reply_is : IsWellMadeStart start
+      → reply ≡ reply_of (state_of start.device last_turn.before) start.process (spoken_request last_turn.who last_turn.held).frame
 
 -- The requests that are submitted, in order, refused ones too.
 abbrev pub requests_of : List LineEvent → List Request

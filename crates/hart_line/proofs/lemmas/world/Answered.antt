@@ -27,6 +27,7 @@ use Rattle.hart_line.proofs.lemmas.world.Arrival.{arrives_cases, frame_in}
 use Rattle.hart_line.proofs.lemmas.world.Basics.{of_master-same, slice_get-cases, some_one}
 use Rattle.hart_line.proofs.lemmas.world.Steps.{IsSending, by_cases, to_last}
 use Rattle.hart_line.proofs.lemmas.world.Submitted.{held_in}
+use Rattle.hart_line.proofs.lemmas.world.Valid.{device_replied}
 
 -- What is found after a store.
 slice_set-cases : {A : Type 0} (xs : List A) (k : ℕ) (y : A) (n : ℕ) (x : A) → slice_get (slice_set xs k y) n ≡ Some x
@@ -136,6 +137,7 @@ as_submitted start events number reply sendings a = record {
   last_turn = a;
   submitted_as = ap (slice_get (submissions_of events)) (sym a.of_submission)
       ∙ (held_in start events a.turn a.who a.held a.in_hand).submitted_as;
+  reply_is = device_replied start events number reply sendings a;
 }
 
 pub answered_last : (start : Start) (events : List LineEvent) (last : World) → IsLast start events last

@@ -30,7 +30,7 @@ pub same_state : (a b : DeviceState) → a.identity ≡ b.identity → a.content
     → a.cold_start ≡ b.cold_start → a ≡ b
 same_state a b identity contents counter primary secondary protected cold_start = grind arith
 
-contents-more : (executions : List Execution) (execution : Execution) (initial : Contents)
+pub contents-more : (executions : List Execution) (execution : Execution) (initial : Contents)
     → overwritten execution.overwrite (registers_of (overwrites_of executions) initial)
     ≡ registers_of (overwrites_of (executions ++ execution ∷ [])) initial
 contents-more executions execution initial =
