@@ -5,6 +5,7 @@ mod texts;
 mod undetected;
 
 use super::*;
+use hart_commands::Request;
 use hart_values::{Address, MasterId};
 use std::alloc::{AllocError, Global};
 use std::test::Fail;
@@ -93,7 +94,6 @@ const SCRIPTS: &[(&str, Result<&str, usize>)] = &[
     ("submit P 37420A1B2C 6 4001", Err(1)),
     ("submit P 37420A1B2C 19 0123", Err(1)),
     ("submit P 37420A1B2C 22 0123", Err(1)),
-    ("submit P 37420A1B2C 37", Err(1)),
     ("submit P 37420A1B2C 256", Err(1)),
     ("submit P 37420A1B2C 19 012345 00", Err(1)),
     ("submit P @64 0", Err(1)),
@@ -142,11 +142,28 @@ fn is_read_as(alloc: Global, text: &[u8], want: Result<&str, usize>) -> Result<b
     })
 }
 
+/// Whether a submission of this command without data is read if that is a request, and is a bad line otherwise.
+fn is_read_if_asked(alloc: Global, command: u8) -> Result<bool, Fail> {
+    let text = format!(in alloc; "submit P 37420A1B2C {command}")?;
+    let want = if Request::read(command, &[]).is_ok() {
+        Ok("S")
+    } else {
+        Err(1)
+    };
+    is_read_as(alloc, text.as_bytes(), want)
+}
+
 #[test]
 fn scripts_are_read_up_to_a_bad_line(rt: HostRuntime) -> Result<(), Fail> {
     for (text, want) in SCRIPTS {
         let is_read = is_read_as(rt.alloc(), text.as_bytes(), *want)?;
         assert!(rt; is_read, "at {text}");
+    }
+    for command in 0..=u8::MAX {
+        assert!(rt;
+            is_read_if_asked(rt.alloc(), command)?,
+            "at Command {command}"
+        );
     }
     Ok(())
 }
