@@ -27,7 +27,7 @@ pub use heard::character::{Char, are_faultless};
 pub use heard::damage::{damage_by_example, damaged_messages_have_no_other_frame};
 pub use heard::delivery::LoneFrame;
 pub use heard::found::Found;
-pub use heard::start::{first_start, first_starts_are_decided};
+pub use heard::start::{first_start, first_starts_are_decided, is_start};
 pub use laws::{
     bodies_are_unambiguous, every_list_has_frames, frames_are_unambiguous,
     messages_have_their_frame_alone, open_places_can_begin_a_frame,

@@ -19,8 +19,19 @@ pub fn first_start(chars: &[Char]) -> Option<usize>
     None
 }
 
-/// Whether a body may start at this place, before which two characters stand.
-fn is_start(chars: &[Char], place: usize) -> bool
+/// Whether a body may start at this place, whatever is heard of it: two faultless preamble bytes `FF` stand right before it, and at it
+/// a character other than a faultless `FF`.
+pub fn is_start(chars: &[Char], place: usize) -> bool
+    ensures { IsTrue result ↔ IsStart place chars.now }
+{
+    if place < 2 || chars.len() <= place {
+        return false;
+    }
+    is_start_within(chars, place)
+}
+
+/// The same of a place at which a character stands, and two before it.
+fn is_start_within(chars: &[Char], place: usize) -> bool
     requires after_two { 2 ≤ place }
     requires within { place < length chars.now }
     ensures { IsTrue result ↔ IsStart place chars.now }

@@ -6,7 +6,7 @@ use Rattle.std.proofs.lemmas.Bool.Decides.{nat_tests}
 use Rattle.hart_frame.specs.heard.Character.{Character}
 use Rattle.hart_frame.proofs.lemmas.heard.Place.{preamble}
 use Rattle.hart_frame.proofs.lemmas.heard.Start.{is_start_from, starts_at}
-use Rattle.hart_frame.proofs.heard.start.is_start.Goals as goal
+use Rattle.hart_frame.proofs.heard.start.is_start_within.Goals as goal
 
 -- the test that characters are not the same
 abbrev differ : Character → Character → Bool
