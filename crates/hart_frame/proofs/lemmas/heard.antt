@@ -9,3 +9,4 @@ pub mod Delivery
 pub mod Damage
 pub mod Example
 pub mod Start
+pub mod Front

@@ -1,5 +1,5 @@
 -- Received characters (HCF_SPEC-081).
-use Rattle.std.specs.Prelude.{◌≡◌, ℕ, ◌<◌, ◌⊎◌, List, map}
+use Rattle.std.specs.Prelude.{◌≡◌, ◌==◌, ℕ, ◌<◌, ◌⊎◌, List, map, take_while}
 use Rattle.std.specs.Int.{bit_at}
 
 -- A received character is a byte and the fault bits that the receiver noticed at it.
@@ -19,3 +19,7 @@ pub record AreFaultBits (faults : ℕ) : Type 0 where
 -- Bytes that were received without faults are these characters.
 abbrev pub faultless : List ℕ → List Character
 faultless bytes = map (λ byte. record { byte = byte; faults = 0 }) bytes
+
+-- The bytes of a list of characters up to the first one with fault bits.
+abbrev pub faultless_bytes : List Character → List ℕ
+faultless_bytes chars = map (λ character. character.byte) (take_while (λ character. character.faults == 0) chars)

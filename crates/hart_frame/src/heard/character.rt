@@ -1,5 +1,7 @@
-ghost use Rattle.std.specs.Prelude.{◌≡◌, ◌↔◌, All, IsSome, IfSome, IsTrue};
+ghost use Rattle.std.specs.Prelude.{◌≡◌, ◌↔◌, All, IsSome, IfSome, IsTrue, take};
+ghost use Rattle.hart_frame.specs.heard.Character.{faultless_bytes};
 
+use hart_values::ByteList;
 use std::marker::Model;
 
 /// The bits that are no fault bits.
@@ -68,4 +70,18 @@ pub fn are_faultless(chars: &[Char]) -> bool
     ensures { IsTrue result ↔ All (λ character. character.faults ≡ 0) chars.now }
 {
     chars.iter().all(|character| character.is_faultless())
+}
+
+/// The bytes of the first characters, up to one with faults, or as many as fit.
+pub(crate) fn faultless_front<const N: usize>(chars: &[Char]) -> ByteList<N>
+    ensures { result ≡ take N (faultless_bytes chars.now) }
+{
+    let mut bytes = ByteList::new();
+    for character in &chars[..chars.len().min(N)] {
+        if !character.is_faultless() {
+            return bytes;
+        }
+        bytes.push(character.byte());
+    }
+    bytes
 }

@@ -1,12 +1,13 @@
 //! Chunks of characters, which a scanner hears at once.
-ghost use Rattle.std.specs.Prelude.{◌≡◌, ◌≢◌, ◌<◌, ◌≤◌, ◌+◌, ◌^◌, ◌++◌, ◌∷◌, [], List, length, take};
-ghost use Rattle.hart_frame.specs.heard.Character.{Character, faultless};
+ghost use Rattle.std.specs.Prelude.{◌≡◌, ◌<◌, ◌≤◌, ◌+◌, ◌^◌, ◌++◌, length};
+ghost use Rattle.hart_frame.specs.heard.Character.{faultless};
 ghost use Rattle.hart_frame.specs.scan.Buffer.{IsSound, held_bytes, scan_of, state_of};
 ghost use Rattle.hart_frame.specs.scan.Chunk.{Hears, HearsPart};
 ghost use Rattle.hart_frame.specs.scan.Search.{IsSearched};
 ghost use Rattle.hart_frame.specs.declared.scan.buffer.State.TheVariants.{Drained};
 
 use crate::Char;
+use crate::heard::character::faultless_front;
 use crate::scan::buffer::{Buffer, MOST_HELD, ROOM, State};
 use crate::scan::search::{Sighting, search};
 use crate::wire::layout::Layout;
@@ -109,7 +110,7 @@ impl Buffer {
         ensures sound { IsSound self.new }
         ensures hears { HearsPart (scan_of self.old) (scan_of self.new) chunk.now result }
     {
-        let stretch = faultless_stretch(chunk);
+        let stretch: ByteList<STRETCH> = faultless_front(chunk);
         if !stretch.is_empty() {
             return self.push_bytes(stretch.as_slice());
         }
@@ -127,20 +128,4 @@ fn state_of(layout: Option<Layout>) -> State
         Some(layout) => State::Stands(layout),
         None => State::Drained,
     }
-}
-
-/// The bytes of the first characters, up to one with faults, or of as many as fit.
-fn faultless_stretch(chunk: &[Char]) -> ByteList<STRETCH>
-    ensures within { length result ≤ length chunk.now }
-    ensures first { faultless result ≡ take (length result) chunk.now }
-    ensures faulty { (first : Character) (rest : List Character) → chunk.now ≡ first ∷ rest → result ≡ [] → first.faults ≢ 0 }
-{
-    let mut stretch = ByteList::new();
-    for character in &chunk[..chunk.len().min(STRETCH)] {
-        if !character.is_faultless() {
-            return stretch;
-        }
-        stretch.push(character.byte());
-    }
-    stretch
 }

@@ -1,6 +1,7 @@
-use Rattle.std.proofs.Common.{◌<◌, ◌∙◌, ap, length, rules}
+use Rattle.std.proofs.Common.{◌≡◌, ℕ, ◌<◌, List, length, take, sym, ap, ◌∙◌, rules, arith}
 use Rattle.hart_frame.specs.heard.Character.{faultless}
 use Rattle.hart_frame.specs.scan.Buffer.{scan_of}
+use Rattle.hart_frame.proofs.lemmas.heard.Front.{front_heard, length-front}
 use Rattle.hart_frame.proofs.lemmas.scan.Buffer.{undecided_waiting, waits_drained}
 use Rattle.hart_frame.proofs.lemmas.scan.Chunk.{first_one, hears_first, part_heard, peeked}
 use Rattle.hart_frame.proofs.scan.buffer.Buffer.push_stretch.Goals as goal
@@ -19,8 +20,22 @@ returns-clause-hears c =
 
 pub returns-then-not-is_empty-clause-hears : goal.returns-then-not-is_empty-clause-hears
 returns-then-not-is_empty-clause-hears c =
-    let stretch = c.faultless_stretch-stretch in
-    let some : 0 < length stretch.result = search rules in
-    part_heard (scan_of c.args.self.now) (scan_of c.push_bytes.new.self) c.args.chunk.now (faultless c.as_slice.result.now)
-    (length stretch.result) c.push_bytes.result (ap faultless c.as_slice.ensures.value ∙ stretch.ensures.first) stretch.ensures.within some
-    c.push_bytes.ensures.hears
+    let chunk = c.args.chunk.now in
+    let stretch = c.faultless_front-stretch.result in
+    let front = c.faultless_front-stretch.ensures in
+    let first : faultless stretch ≡ take (length stretch) chunk =
+    ap faultless front ∙ front_heard chunk 256 ∙ ap (λ (xs : List ℕ). take (length xs) chunk) (sym front) in
+    let within = length-front chunk 256 stretch front in
+    let some : 0 < length stretch = search rules in
+    part_heard (scan_of c.args.self.now) (scan_of c.push_bytes.new.self) chunk (faultless c.as_slice.result.now)
+    (length stretch) c.push_bytes.result (ap faultless c.as_slice.ensures.value ∙ first) within some c.push_bytes.ensures.hears
+
+pub push_bytes-requires-clause-room : goal.push_bytes-requires-clause-room
+push_bytes-requires-clause-room c =
+    let stretch = c.faultless_front-stretch in
+    omega (
+      arith,
+      c.requires.room,
+      ap length c.as_slice.ensures.value,
+      length-front c.args.chunk.now 256 stretch.result stretch.ensures,
+    )

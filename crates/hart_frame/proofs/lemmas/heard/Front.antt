@@ -1,0 +1,153 @@
+-- The bytes up to the first character with fault bits.
+use Rattle.std.proofs.Common.{◌≡◌, ◌≢◌, ℕ, suc, ◌+◌, ◌<◌, ◌≤◌, ◌⊎◌, inl, inr, List, [], ◌∷◌, ◌++◌, length, take, drop, get_or, min}
+use Rattle.std.proofs.Common.{None, Some, refl, sym, ap, ◌∙◌, arith, append_assoc, length-append, subst, ◌==◌}
+use Rattle.std.specs.List.{All, slice_get}
+use Rattle.std.proofs.lemmas.List.{append-nil, drop_more, drop_all, get_or-take, length-map, length-take, map-append, take_at, take_all}
+use Rattle.std.proofs.lemmas.List.{take_min}
+use Rattle.std.proofs.lemmas.List.{take-append-le, take-map}
+use Rattle.std.proofs.lemmas.List.Elements.{All-append, All-from_get_or, All-tail}
+use Rattle.std.proofs.lemmas.List.Sums.{take_while-cons}
+use Rattle.std.proofs.lemmas.Option.{none-some, slice_get-get_or}
+use Rattle.std.proofs.lemmas.Bool.Decides.{nat_tests}
+use Rattle.hart_frame.specs.heard.Character.{Character, faultless, faultless_bytes}
+use Rattle.hart_frame.proofs.lemmas.heard.Place.{preamble}
+
+-- a faultless character gives its byte, and one with fault bits ends the bytes
+pub faultless_bytes-more : (first : Character) (others : List Character) → first.faults ≡ 0
+    → faultless_bytes (first ∷ others) ≡ first.byte ∷ faultless_bytes others
+faultless_bytes-more first others good = grind (arith, nat_tests, take_while-cons (λ (c : Character). c.faults == 0) first others)
+
+pub faultless_bytes-end : (first : Character) (others : List Character) → first.faults ≢ 0 → faultless_bytes (first ∷ others) ≡ []
+faultless_bytes-end first others bad = grind (arith, nat_tests, take_while-cons (λ (c : Character). c.faults == 0) first others)
+
+-- they are no more than the characters
+pub length-faultless_bytes : (chars : List Character) → length (faultless_bytes chars) ≤ length chars
+length-faultless_bytes chars = grind (arith, length-map, length-take)
+
+-- the bytes of a body that is heard come first
+pub faultless_bytes-append : (body : List ℕ) (rest : List Character)
+    → faultless_bytes (faultless body ++ rest) ≡ body ++ faultless_bytes rest
+faultless_bytes-append [] rest = refl
+faultless_bytes-append (byte ∷ bytes) rest =
+    faultless_bytes-more (record { byte = byte; faults = 0 }) (faultless bytes ++ rest) refl
+    ∙ ap (λ (xs : List ℕ). byte ∷ xs) (faultless_bytes-append bytes rest)
+
+-- a character of the first so many of a list
+pub record Within (heard : List Character) (count most : ℕ) (c : Character) : Type 0 where
+  pub within : count < length heard
+  pub few : count < most
+  pub is : c ≡ get_or heard count c
+
+pub within : (heard : List Character) (count most : ℕ) (c : Character) → count < length (take most heard)
+    → c ≡ get_or (take most heard) count c → Within heard count most c
+within heard count most c below is = grind (arith, length-take, get_or-take)
+
+-- the bytes of so many first characters, which are faultless
+pub record Front (heard : List Character) (count : ℕ) (bytes : List ℕ) : Type 0 where
+  pub whole : faultless_bytes heard ≡ bytes ++ faultless_bytes (drop count heard)
+  pub long : length bytes ≡ count
+
+pub Front-more : (heard : List Character) (count : ℕ) (bytes : List ℕ) (c : Character) → count < length heard
+    → c ≡ get_or heard count c → c.faults ≡ 0 → Front heard count bytes → Front heard (count + 1) (bytes ++ c.byte ∷ [])
+Front-more heard count bytes c within is good front =
+    grind (arith, drop_more heard count c within, faultless_bytes-more, append_assoc, length-append)
+
+pub Front-end : (heard : List Character) (count most : ℕ) (bytes : List ℕ) (c : Character) → count < length heard → count < most
+    → c ≡ get_or heard count c → c.faults ≢ 0 → Front heard count bytes → bytes ≡ take most (faultless_bytes heard)
+Front-end heard count most bytes c within few is bad front =
+    let at = ap faultless_bytes (drop_more heard count c within) in
+    let none : faultless_bytes (drop count heard) ≡ [] = grind (arith, faultless_bytes-end) in
+    let all : faultless_bytes heard ≡ bytes = front.whole ∙ ap (λ (xs : List ℕ). bytes ++ xs) none ∙ append-nil bytes in
+    sym (ap (take most) all ∙ take_all most bytes (omega (arith, front.long, few)))
+
+pub Front-all : (heard : List Character) (count most : ℕ) (bytes : List ℕ) → count ≡ min (length heard) most → Front heard count bytes
+    → bytes ≡ take most (faultless_bytes heard)
+Front-all heard count most bytes all front = grind (arith, drop_all, append-nil, take_all, take_at)
+
+-- what is heard is its faultless bytes, and then what follows
+pub heard_parts : (heard : List Character)
+    → heard ≡ faultless (faultless_bytes heard) ++ drop (length (faultless_bytes heard)) heard
+heard_parts [] = refl
+heard_parts (c ∷ cs) =
+    let cases : (c.faults ≡ 0) ⊎ (c.faults ≢ 0) = grind arith in
+    elim cases [
+      | inl good ↦ grind (arith, faultless_bytes-more c cs good, heard_parts cs)
+      | inr bad ↦ grind (arith, faultless_bytes-end c cs bad)
+    ]
+
+-- a character that follows has fault bits
+pub after_faultless : (heard : List Character) (c : Character) → slice_get heard (length (faultless_bytes heard)) ≡ Some c
+    → c.faults ≢ 0
+after_faultless [] c is = absurd cc
+after_faultless (x ∷ xs) c is =
+    let cases : (x.faults ≡ 0) ⊎ (x.faults ≢ 0) = grind arith in
+    elim cases [
+      | inl good ↦
+          let long : length (faultless_bytes (x ∷ xs)) ≡ suc (length (faultless_bytes xs)) = ap length (faultless_bytes-more x xs good) in
+          after_faultless xs c (sym (ap (slice_get (x ∷ xs)) long) ∙ is)
+      | inr bad ↦
+          let long : length (faultless_bytes (x ∷ xs)) ≡ 0 = ap length (faultless_bytes-end x xs bad) in
+          let same : Some x ≡ Some c = sym (ap (slice_get (x ∷ xs)) long) ∙ is in
+          grind arith
+    ]
+
+-- if no character follows the faultless bytes, they are all
+pub nothing_follows : (heard : List Character) → slice_get heard (length (faultless_bytes heard)) ≡ None
+    → heard ≡ faultless (faultless_bytes heard)
+nothing_follows heard none =
+    let bytes = faultless_bytes heard in
+    let n = length bytes in
+    let cases : (n < length heard) ⊎ (length heard ≤ n) = grind arith in
+    elim cases [
+      | inl within ↦ absurd (none-some (get_or heard n preamble) (sym none ∙ slice_get-get_or heard n preamble within))
+      | inr end ↦
+          heard_parts heard ∙ ap (λ (cs : List Character). faultless bytes ++ cs) (drop_all n heard end) ∙ append-nil (faultless bytes)
+    ]
+
+-- the characters of the first faultless bytes
+pub take_heard : (heard : List Character) (n : ℕ) → n ≤ length (faultless_bytes heard)
+    → take n heard ≡ faultless (take n (faultless_bytes heard))
+take_heard heard n within =
+    let make = λ (byte : ℕ). let c : Character = record { byte = byte; faults = 0 } in c in
+    let bytes = faultless_bytes heard in
+    ap (take n) (heard_parts heard)
+    ∙ take-append-le n (faultless bytes) (drop (length bytes) heard) (omega (arith, within, length-map bytes make)) ∙ take-map make n bytes
+
+fit_one : (byte k d : ℕ) → byte < 256 → k < length (byte ∷ []) → get_or (byte ∷ []) k d < 256
+fit_one byte k d small below = grind arith
+
+-- the bytes of characters whose bytes fit
+pub faultless_fit : (heard : List Character) → All (λ c. c.byte < 256) heard → All (λ byte. byte < 256) (faultless_bytes heard)
+faultless_fit [] fit = All-from_get_or (λ byte. byte < 256) (faultless_bytes []) 0 (λ i below. absurd (omega (arith, below)))
+faultless_fit (c ∷ cs) fit =
+    let rest = faultless_fit cs (All-tail (λ (x : Character). x.byte < 256) c cs fit) in
+    let Fit : List ℕ → Type 0 = λ xs. All (λ byte. byte < 256) xs in
+    let cases : (c.faults ≡ 0) ⊎ (c.faults ≢ 0) = grind arith in
+    elim cases [
+      | inl good ↦
+          let first : All (λ byte. byte < 256) (c.byte ∷ []) = λ k d below. fit_one c.byte k d (fit 0 c (omega arith)) below in
+          subst Fit (sym (faultless_bytes-more c cs good)) (All-append (λ byte. byte < 256) (c.byte ∷ []) (faultless_bytes cs) first rest)
+      | inr bad ↦ subst Fit (sym (faultless_bytes-end c cs bad)) (λ k d below. absurd (omega (arith, below)))
+    ]
+
+-- faultless characters after others, and before a tail
+pub regrouped : (xs ys : List ℕ) (tail : List Character) → faultless (xs ++ ys) ++ tail ≡ faultless xs ++ (faultless ys ++ tail)
+regrouped xs ys tail =
+    let make = λ (byte : ℕ). let c : Character = record { byte = byte; faults = 0 } in c in
+    ap (λ (cs : List Character). cs ++ tail) (map-append make xs ys) ∙ append_assoc (faultless xs) (faultless ys) tail
+
+-- nor are the first of them
+pub length-front : (heard : List Character) (most : ℕ) (bytes : List ℕ) → bytes ≡ take most (faultless_bytes heard)
+    → length bytes ≤ length heard
+length-front heard most bytes is =
+    omega (arith, ap length is, length-take most (faultless_bytes heard), length-faultless_bytes heard)
+
+-- the characters of so many first bytes
+pub front_heard : (heard : List Character) (most : ℕ)
+    → faultless (take most (faultless_bytes heard)) ≡ take (length (take most (faultless_bytes heard))) heard
+front_heard heard most =
+    let bytes = faultless_bytes heard in
+    let n = length (take most bytes) in
+    let long = length-take most bytes in
+    let same : take most bytes ≡ take n bytes = sym (take_min most bytes) ∙ ap (λ (k : ℕ). take k bytes) (sym long) in
+    ap faultless same ∙ sym (take_heard heard n (omega (arith, long)))
