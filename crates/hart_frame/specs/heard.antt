@@ -4,6 +4,7 @@ pub mod Body
 pub mod Place
 pub mod Frames
 pub mod Start
+pub mod Miss
 pub mod Delivery
 pub mod Damage
 pub mod DamageExamples

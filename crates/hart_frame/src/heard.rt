@@ -1,7 +1,8 @@
-//! What was heard: characters, where frames stand in them, and which damage is always detected.
+//! What was heard: characters, where frames stand in them and why one does not, and which damage is always detected.
 
 pub mod character;
 pub mod damage;
 pub mod delivery;
 pub mod found;
+pub mod miss;
 pub mod start;

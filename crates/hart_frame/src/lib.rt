@@ -2,8 +2,8 @@
 //!
 //! A [`Frame`] is what one message says. [`encode`] writes it as a message, and [`decode`] reads the frame
 //! that bytes begin with, or says what is wrong with them. [`first_frame`] finds the frames of what was heard, which is
-//! a list of characters ([`Char`]): bytes, each with the faults that the receiver noticed at it. A [`Scanner`] finds them while
-//! they are heard.
+//! a list of characters ([`Char`]): bytes, each with the faults that the receiver noticed at it. [`why_none`] says why none stands at
+//! a place. A [`Scanner`] finds the frames while they are heard.
 //!
 //! ```rust
 //! let (frame, len) = decode(&[0x02, 0x80, 0x00, 0x00, 0x82])?;
@@ -13,7 +13,8 @@
 //! No call of this crate takes memory. Its rooms, each of which knows those before it and none after it:
 //!
 //! - `wire`: on the wire, a frame and the bytes of its body and its message.
-//! - `heard`: what was heard, as characters, where frames stand in them, and which damage is always detected.
+//! - `heard`: what was heard, as characters, where frames stand in them and why one does not, and which damage is
+//!   always detected.
 //! - `scan`: the scanner, how frames are found while they are heard.
 #![tactic(auto)]
 
@@ -27,6 +28,9 @@ pub use heard::character::{Char, are_faultless};
 pub use heard::damage::{damage_by_example, damaged_messages_have_no_other_frame};
 pub use heard::delivery::LoneFrame;
 pub use heard::found::Found;
+pub use heard::miss::{
+    Miss, every_start_has_a_frame_or_a_miss, misses_are_faults, misses_say_what_is_wrong, why_none,
+};
 pub use heard::start::{first_start, first_starts_are_decided, is_start};
 pub use laws::{
     bodies_are_unambiguous, every_list_has_frames, frames_are_unambiguous,

@@ -10,3 +10,7 @@ pub mod Damage
 pub mod Example
 pub mod Start
 pub mod Front
+pub mod Miss
+pub mod Missed
+pub mod Hint
+pub mod MissFault

@@ -150,3 +150,209 @@ fn a_lone_frame_is_given(rt: HostRuntime) -> Result<(), Fail> {
     }
     Ok(())
 }
+
+/// The first characters of the longest message, in which all others are 00, also the check byte.
+const LONGEST: &[u16] = &[
+    0xFF, 0xFF, 0xE2, 0x80, 0x00, 0x00, 0x00, 0x00, 0x9D, 0x00, 0x00, 0x00, 0xFF,
+];
+
+/// Characters, how many are heard, a place, and why no frame stands there.
+const MISSES: &[(&[u16], usize, usize, Option<Miss>)] = &[
+    (&[], 0, 0, None),
+    (ONE, 7, 0, None),
+    (ONE, 7, 1, None),
+    (ONE, 7, 2, None),
+    (ONE, 7, 3, None),
+    (ONE, 7, 7, None),
+    (ONE, 7, 8, None),
+    (ONE, 7, usize::MAX, None),
+    (ONE, 6, 2, Some(Miss::Missing { count: 1 })),
+    (ONE, 5, 2, Some(Miss::EndsBeforeByteCount)),
+    (ONE, 3, 2, Some(Miss::EndsBeforeByteCount)),
+    (ONE, 2, 2, None),
+    (
+        &[0xFF, 0xFF, 0x01, 0x80, 0x00, 0x00, 0x81],
+        7,
+        2,
+        Some(Miss::Burst),
+    ),
+    (&[0xFF, 0xFF, 0xE1], 3, 2, Some(Miss::Burst)),
+    (
+        &[0xFF, 0xFF, 0x0A, 0x80],
+        4,
+        2,
+        Some(Miss::BadDelimiter { byte: 0x0A }),
+    ),
+    (
+        &[0xFF, 0xFF, 0x09, 0x80],
+        4,
+        2,
+        Some(Miss::BadDelimiter { byte: 0x09 }),
+    ),
+    (
+        &[0xFF, 0xFF, 0x11, 0x80],
+        4,
+        2,
+        Some(Miss::BadDelimiter { byte: 0x11 }),
+    ),
+    (
+        &[0xFF, 0xFF, 0x00, 0x80],
+        4,
+        2,
+        Some(Miss::BadDelimiter { byte: 0x00 }),
+    ),
+    (
+        &[0xFF, 0xFF, 0x0A, 0x4080],
+        4,
+        2,
+        Some(Miss::BadDelimiter { byte: 0x0A }),
+    ),
+    (
+        &[0xFF, 0xFF, 0x62, 0x80, 1, 2, 3, 0x00],
+        8,
+        2,
+        Some(Miss::EndsBeforeByteCount),
+    ),
+    (
+        &[0xFF, 0xFF, 0x06, 0x80, 0x00, 0x01, 0x00, 0x87],
+        8,
+        2,
+        Some(Miss::ShortReply { byte_count: 1 }),
+    ),
+    (
+        &[0xFF, 0xFF, 0x26, 0x80, 0x55, 0x00, 0x00],
+        7,
+        2,
+        Some(Miss::ShortReply { byte_count: 0 }),
+    ),
+    (
+        &[0xFF, 0xFF, 0x06, 0x80, 0x00, 0x01, 0x4000],
+        7,
+        2,
+        Some(Miss::ShortReply { byte_count: 1 }),
+    ),
+    (
+        &[0xFF, 0xFF, 0x06, 0x80, 0x00, 0x02, 0x00],
+        7,
+        2,
+        Some(Miss::Missing { count: 2 }),
+    ),
+    (
+        &[0xFF, 0xFF, 0x02, 0x80, 0x00, 0x00, 0x83],
+        7,
+        2,
+        Some(Miss::BadCheck {
+            place: 6,
+            byte: 0x83,
+            fits: 0x82,
+        }),
+    ),
+    (
+        &[
+            0x00, 0xFF, 0xFF, 0x82, 0xB7, 0x42, 0x0A, 0x1B, 0x2C, 0x13, 0x03, 0x01, 0x23, 0x45,
+            0x3C, 0x3D,
+        ],
+        16,
+        3,
+        Some(Miss::BadCheck {
+            place: 14,
+            byte: 0x3C,
+            fits: 0x3D,
+        }),
+    ),
+    (
+        &[0xFF, 0x02, 0x80, 0x00, 0x00, 0x82],
+        6,
+        1,
+        Some(Miss::OnePreamble),
+    ),
+    (
+        &[0x55, 0xFF, 0x02, 0x80, 0x00, 0x00, 0x82],
+        7,
+        2,
+        Some(Miss::OnePreamble),
+    ),
+    (
+        &[0x40FF, 0xFF, 0x02, 0x80, 0x00, 0x00, 0x82],
+        7,
+        2,
+        Some(Miss::OnePreamble),
+    ),
+    (&[0xFF, 0x02, 0x80, 0x00, 0x00, 0x83], 6, 1, None),
+    (&[0x40FF, 0x02, 0x80, 0x00, 0x00, 0x82], 6, 1, None),
+    (&[0x02, 0x80, 0x00, 0x00, 0x82], 5, 0, None),
+    (
+        &[0xFF, 0xFF, 0xFF, 0x02, 0x80, 0x00, 0x00, 0x83],
+        8,
+        2,
+        None,
+    ),
+    (
+        &[0xFF, 0xFF, 0x40FF],
+        3,
+        2,
+        Some(Miss::Faulty {
+            place: 2,
+            faults: 0x40,
+        }),
+    ),
+    (
+        &[0xFF, 0xFF, 0x2002, 0x80, 0x00, 0x00, 0x82],
+        7,
+        2,
+        Some(Miss::Faulty {
+            place: 2,
+            faults: 0x20,
+        }),
+    ),
+    (
+        &[0xFF, 0xFF, 0x02, 0x80, 0x00, 0x1000, 0x82],
+        7,
+        2,
+        Some(Miss::Faulty {
+            place: 5,
+            faults: 0x10,
+        }),
+    ),
+    (
+        &[0xFF, 0xFF, 0x02, 0x80, 0x00, 0x00, 0x0282],
+        7,
+        2,
+        Some(Miss::Faulty {
+            place: 6,
+            faults: 0x02,
+        }),
+    ),
+    (
+        &[0xFF, 0xFF, 0x02, 0x80, 0x00, 0x00, 0x82, 0x4000],
+        8,
+        2,
+        None,
+    ),
+    (LONGEST, 12, 2, Some(Miss::EndsBeforeByteCount)),
+    (LONGEST, 13, 2, Some(Miss::Missing { count: 256 })),
+    (LONGEST, 268, 2, Some(Miss::Missing { count: 1 })),
+    (LONGEST, 269, 2, None),
+    (
+        &[
+            0xFF, 0xFF, 0xE2, 0x80, 0x00, 0x00, 0x00, 0x00, 0x00, 0x00, 0x00, 0x00, 0xFF,
+        ],
+        300,
+        2,
+        Some(Miss::BadCheck {
+            place: 268,
+            byte: 0x00,
+            fits: 0x9D,
+        }),
+    ),
+];
+
+#[test]
+fn no_frame_has_its_reason(rt: HostRuntime) -> Result<(), Fail> {
+    for (row, (bytes, count, start, want)) in MISSES.iter().enumerate() {
+        let chars = heard(bytes).ok_or("characters")?;
+        let chars = chars.get(..*count).ok_or("at most 300 characters")?;
+        assert!(rt; why_none(chars, *start) == *want, "of row {row}");
+    }
+    Ok(())
+}

@@ -17,6 +17,8 @@ const STX: u8 = 0x02;
 
 const ACK: u8 = 0x06;
 
+const BURST: u8 = 0x01;
+
 /// The delimiter of a request at a unique address, without expansion bytes.
 pub const UNIQUE_REQUEST: u8 = 0x82;
 
@@ -103,4 +105,11 @@ pub(crate) fn read_delimiter(byte: u8) -> Option<Delimiter>
         address_len: if byte < UNIQUE_ADDRESS { 1 } else { 5 },
         expansion_len: byte / EXPANSION_BYTE % 4,
     })
+}
+
+/// Whether it is the delimiter of a burst message, which is none of this profile.
+pub(crate) fn is_burst_delimiter(byte: u8) -> bool
+    ensures { IsTrue result ↔ ((byte / 8 % 4 ≡ 0) × (byte % 8 ≡ 1)) }
+{
+    byte / PHYSICAL_LAYER % 4 == 0 && byte % PHYSICAL_LAYER == BURST
 }

@@ -17,7 +17,7 @@ use Rattle.hart_frame.proofs.lemmas.heard.Body.{bytes_of-faultless}
 use Rattle.hart_frame.proofs.lemmas.heard.Place.{HasNoFrame-end}
 
 -- a delimiter is no preamble byte
-delimiter_of-lt : (f : FrameParts) → length f.expansion ≤ 3 → delimiter_of f < 255
+pub delimiter_of-lt : (f : FrameParts) → length f.expansion ≤ 3 → delimiter_of f < 255
 delimiter_of-lt f few = omega (arith, kind_code-is f.kind, address_type-lt f.address, few)
 
 -- the bytes of a list that a frame stands in

@@ -204,7 +204,7 @@ with_byte_count bytes has = elim has.0.1.1 [
 ]
 
 -- whether a byte is a delimiter
-delimiter_decided : (byte : ℕ) → IsDelimiter byte ⊎ (IsDelimiter byte → ⊥)
+pub delimiter_decided : (byte : ℕ) → IsDelimiter byte ⊎ (IsDelimiter byte → ⊥)
 delimiter_decided byte = grind arith
 
 -- whether bytes begin with a body

@@ -1,5 +1,5 @@
 -- The exclusive or of bytes has a bit if an odd number of them have it.
-use Rattle.std.proofs.Common.{◌≡◌, ℕ, ◌+◌, ◌%◌, ◌<◌, List, [], ◌∷◌, ◌++◌, sym, ◌∙◌, arith, cond, eqb, fold, bit_xor, get_or, suc}
+use Rattle.std.proofs.Common.{◌≡◌, ℕ, refl, ◌+◌, ◌%◌, ◌<◌, List, [], ◌∷◌, ◌++◌, sym, ◌∙◌, arith, cond, eqb, fold, bit_xor, get_or, suc}
 use Rattle.std.proofs.lemmas.List.Sums.{sum_by-append}
 use Rattle.std.specs.Int.{bit_at}
 use Rattle.std.proofs.lemmas.Nat.Bits.{bit_at_xor, bit_at-lt, bit_at-zero, same_from_bits_below}
@@ -67,3 +67,15 @@ check-one bytes check other small smaller even evenly = same_from_bits_below 8 c
       bit_at-lt check bit,
       bit_at-lt other bit,
     ))
+
+-- the last of bytes of even parity is the exclusive or of those before it
+pub even-is : (bytes : List ℕ) (check : ℕ) → ((i : ℕ) → get_or bytes i 0 < 256) → check < 256 → HasEvenParity (bytes ++ check ∷ [])
+    → check ≡ fold bit_xor 0 bytes
+even-is bytes check each small even =
+    let is = IsCheckByte-fold bytes (fold bit_xor 0 bytes) each refl in
+    check-one bytes check (fold bit_xor 0 bytes) small is.byte even (HasEvenParity-push bytes (fold bit_xor 0 bytes) is)
+
+-- and so is their check byte
+pub IsCheckByte-is : (bytes : List ℕ) (check : ℕ) → ((i : ℕ) → get_or bytes i 0 < 256) → IsCheckByte bytes check
+    → check ≡ fold bit_xor 0 bytes
+IsCheckByte-is bytes check each is = even-is bytes check each is.byte (HasEvenParity-push bytes check is)

@@ -23,17 +23,21 @@ use Rattle.hart_frame.proofs.lemmas.wire.Prefix.{HasGoodByteCount-more, count_mo
 abbrev AreBytes : List ℕ → Type 0
 AreBytes bytes = All (λ byte. byte < 256) bytes
 
-fits_at : (bytes : List ℕ) → AreBytes bytes → (i : ℕ) → get_or bytes i 0 < 256
+pub fits_at : (bytes : List ℕ) → AreBytes bytes → (i : ℕ) → get_or bytes i 0 < 256
 fits_at bytes fit i = grind (arith, All-get_or, get_or_past)
 
 -- what can become a body with some bytes after it can without them
 CanBecomeBody-prefix : (bytes more : List ℕ) → CanBecomeBody (bytes ++ more) → CanBecomeBody bytes
 CanBecomeBody-prefix bytes more can = grind (arith, append_assoc)
 
--- bytes that lack only their check byte get it
-CanBecomeBody-last : (bytes : List ℕ) → AreBytes bytes → HasGoodByteCount bytes → body_length bytes ≡ length bytes + 1
-    → CanBecomeBody bytes
-CanBecomeBody-last bytes fit good last =
+-- bytes that lack only their check byte are a body with it
+pub record Fitted (bytes : List ℕ) : Type 0 where
+  pub frame : FrameParts
+  pub is_body : IsBody frame (bytes ++ fold bit_xor 0 bytes ∷ [])
+
+pub fitted : (bytes : List ℕ) → All (λ byte. byte < 256) bytes → HasGoodByteCount bytes → body_length bytes ≡ length bytes + 1
+    → Fitted bytes
+fitted bytes fit good last =
     let check = fold bit_xor 0 bytes in
     let is : IsCheckByte bytes check = IsCheckByte-fold bytes check (fits_at bytes fit) refl in
     let whole : List ℕ = bytes ++ check ∷ [] in
@@ -47,13 +51,21 @@ CanBecomeBody-last bytes fit good last =
     let held = held_frame whole fits (HasGoodByteCount-more bytes (check ∷ []) good, omega (arith, len)) in
     let prefix : take (body_length whole - 1) whole ≡ bytes = grind (arith, take_at) in
     let Checked : List ℕ → Type 0 = λ xs. IsCheckedPart held.frame xs in
-    let body = IsBody-push held.frame bytes check (subst Checked prefix held.part) fit is in
-    let Is : List ℕ → Type 0 = λ xs. IsBody held.frame xs in
+    record { frame = held.frame; is_body = IsBody-push held.frame bytes check (subst Checked prefix held.part) fit is }
+
+-- so they can become a body
+CanBecomeBody-last : (bytes : List ℕ) → AreBytes bytes → HasGoodByteCount bytes → body_length bytes ≡ length bytes + 1
+    → CanBecomeBody bytes
+CanBecomeBody-last bytes fit good last =
+    let check = fold bit_xor 0 bytes in
+    let whole : List ℕ = bytes ++ check ∷ [] in
+    let body = fitted bytes fit good last in
+    let Is : List ℕ → Type 0 = λ xs. IsBody body.frame xs in
     record {
       rest = check ∷ [];
-      frame = held.frame;
+      frame = body.frame;
       count = length whole;
-      begins = record { within = omega arith; body = subst Is (sym (take_all (length whole) whole (omega arith))) body };
+      begins = record { within = omega arith; body = subst Is (sym (take_all (length whole) whole (omega arith))) body.is_body };
     }
 
 -- bytes that go on to their byte count get what is left

@@ -1,0 +1,5 @@
+use Rattle.hart_frame.proofs.lemmas.heard.MissFault.{miss_is_fault}
+use Rattle.hart_frame.proofs.heard.miss.misses_are_faults.Goals as goal
+
+pub returns : goal.returns
+returns c = miss_is_fault

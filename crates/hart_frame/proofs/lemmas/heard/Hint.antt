@@ -1,0 +1,308 @@
+-- What a miss names is what stands in the way of a frame.
+use Rattle.std.proofs.Common.{◌≡◌, ◌≢◌, ℕ, zero, suc, fold, bit_xor, ◌+◌, ◌-◌, ◌<◌, ◌≤◌, ◌⊎◌, inl, inr, List, [], ◌∷◌, ◌++◌, length, take}
+use Rattle.std.proofs.Common.{drop, get_or, set}
+use Rattle.std.proofs.Common.{true, Option, Some, refl, sym, ap, ◌∙◌, arith, append_assoc, length-append}
+use Rattle.std.specs.List.{All, insert, slice_get}
+use Rattle.std.specs.Option.{IsSome, is_some}
+use Rattle.std.proofs.lemmas.List.{append-nil, drop_at, drop_more, get_or-drop, get_or-set_same, get_or-take, length-drop}
+use Rattle.std.proofs.lemmas.List.{length-map, length-take-le, map-append, set_at, take-append-drop, take_more}
+use Rattle.std.proofs.lemmas.List.Elements.{All-append, All-drop, All-take}
+use Rattle.std.proofs.lemmas.Option.{get_or_from_slice_get, slice_get_within}
+use Rattle.std.proofs.lemmas.Bool.{false≢true}
+use Rattle.hart_frame.specs.wire.FrameParts.{FrameParts}
+use Rattle.hart_frame.specs.wire.Body.{IsBody}
+use Rattle.hart_frame.specs.wire.Layout.{body_length, byte_count_place}
+use Rattle.hart_frame.specs.wire.Refusal.{HasCheckByte, HasGoodByteCount}
+use Rattle.hart_frame.specs.heard.Character.{Character, faultless, faultless_bytes}
+use Rattle.hart_frame.specs.heard.Miss.{HasFrameAt, body_miss, check_byte_in, fitting_check_byte, miss_in}
+use Rattle.hart_frame.specs.heard.Miss.{follows_one_preamble, miss_of}
+use Rattle.hart_frame.specs.heard.Place.{StandsIn}
+use Rattle.hart_frame.specs.heard.Start.{IsStart}
+use Rattle.hart_frame.specs.declared.heard.found.Found.{Found}
+use Rattle.hart_frame.specs.declared.heard.miss.Miss.TheVariants.{BadCheck, Faulty, Missing, OnePreamble}
+use Rattle.hart_frame.proofs.lemmas.heard.Front.{after_faultless, faultless_fit, heard_parts, length-faultless_bytes, nothing_follows}
+use Rattle.hart_frame.proofs.lemmas.heard.Front.{regrouped, take_heard}
+use Rattle.hart_frame.proofs.lemmas.heard.Miss.{Told, begun, counted, empty, other, short, told_of, whole}
+use Rattle.hart_frame.proofs.lemmas.heard.Miss.{IsBadCheck, IsMissing, bad_check-says, faulty-says, missing-says, never_one_preamble}
+use Rattle.hart_frame.proofs.lemmas.heard.Miss.{other_check}
+use Rattle.hart_frame.proofs.lemmas.heard.Missed.{miss_of-some, miss_of-start, not_at_front, one_before_place}
+use Rattle.hart_frame.proofs.lemmas.heard.Place.{preamble}
+use Rattle.hart_frame.proofs.lemmas.wire.Prefix.{HasGoodByteCount-more, length_more}
+use Rattle.hart_frame.proofs.lemmas.wire.Truncated.{fitted}
+
+-- a frame stands where its body stands after two preamble bytes
+pub frame_at : (chars prefix rest : List Character) (body : List ℕ) (f : FrameParts) (place : ℕ) → IsBody f body
+    → chars ≡ prefix ++ faultless (255 ∷ 255 ∷ body) ++ rest → place ≡ length prefix + 2 → HasFrameAt chars place
+frame_at chars prefix rest body f place is split at =
+    let found : Found = record { start = place; stop = length prefix + 2 + length body; frame = f } in
+    let stands : StandsIn found chars 0 = record {
+      prefix = prefix;
+      body = body;
+      rest = rest;
+      split = split;
+      is_body = is;
+      after = omega arith;
+      start = at;
+      stop = refl;
+    } in
+    (found, stands, refl)
+
+-- two preamble bytes right before a start
+pub record Starts (chars : List Character) (start : ℕ) : Type 0 where
+  pub prefix : List Character
+  pub at : start ≡ length prefix + 2
+  pub split : chars ≡ prefix ++ (preamble ∷ preamble ∷ drop start chars)
+
+pub starts : (chars : List Character) (start : ℕ) → IsStart start chars → Starts chars start
+starts chars start is =
+    let front : List Character = is.prefix ++ (preamble ∷ preamble ∷ []) in
+    let long : length front ≡ start = length-append is.prefix (preamble ∷ preamble ∷ []) ∙ sym is.place_is in
+    let after : drop start chars ≡ is.first ∷ is.rest = ap (drop start) is.split ∙ drop_at front (is.first ∷ is.rest) start long in
+    record {
+      prefix = is.prefix;
+      at = is.place_is;
+      split = is.split ∙ append_assoc is.prefix (preamble ∷ preamble ∷ []) (is.first ∷ is.rest)
+          ∙ ap (λ (xs : List Character). is.prefix ++ (preamble ∷ preamble ∷ xs)) (sym after);
+    }
+
+-- what is said up to the check byte is said by the bytes before it
+good_prefix : (bytes : List ℕ) (n : ℕ) → HasCheckByte bytes → byte_count_place bytes < n → n ≤ length bytes
+    → HasGoodByteCount (take n bytes) × (body_length (take n bytes) ≡ body_length bytes)
+good_prefix bytes n has after within = grind (arith, get_or-take, length-take-le)
+
+-- bytes up to a check byte that fits are a body
+pub record WholeBody (bytes : List ℕ) : Type 0 where
+  pub frame : FrameParts
+  pub is_body : IsBody frame (take (body_length bytes - 1) bytes ++ fitting_check_byte bytes ∷ [])
+
+pub whole_body : (bytes : List ℕ) → All (λ byte. byte < 256) bytes → HasCheckByte bytes → WholeBody bytes
+whole_body bytes fit has =
+    let n = body_length bytes - 1 in
+    let checked : List ℕ = take n bytes in
+    let long = length-take-le n bytes (omega (arith, has.1)) in
+    let good = good_prefix bytes n has (omega arith) (omega (arith, has.1)) in
+    let body = fitted checked (All-take (λ byte. byte < 256) n bytes fit) good.0 (omega (arith, good.1, long)) in
+    record { frame = body.frame; is_body = body.is_body }
+
+-- a body that is heard, and what follows it
+pub record HeardBody (heard : List Character) : Type 0 where
+  pub frame : FrameParts
+  pub body : List ℕ
+  pub rest : List Character
+  pub is_body : IsBody frame body
+  pub parts : heard ≡ faultless body ++ rest
+
+heard_body : (heard : List Character) → All (λ c. c.byte < 256) heard → HasCheckByte (faultless_bytes heard)
+    → check_byte_in (faultless_bytes heard) ≡ fitting_check_byte (faultless_bytes heard) → HeardBody heard
+heard_body heard fit has same =
+    let bytes = faultless_bytes heard in
+    let n = body_length bytes - 1 in
+    let tail : List Character = drop (length bytes) heard in
+    let found = whole_body bytes (faultless_fit heard fit) has in
+    let body : List ℕ = take n bytes ++ fitting_check_byte bytes ∷ [] in
+    let begin : take (n + 1) bytes ≡ body =
+    take_more bytes n 0 (omega (arith, has.1)) ∙ ap (λ (b : ℕ). take n bytes ++ b ∷ []) same in
+    let all : bytes ≡ body ++ drop (n + 1) bytes =
+    sym (take-append-drop (n + 1) bytes) ∙ ap (λ (xs : List ℕ). xs ++ drop (n + 1) bytes) begin in
+    record {
+      frame = found.frame;
+      body = body;
+      rest = faultless (drop (n + 1) bytes) ++ tail;
+      is_body = found.is_body;
+      parts = heard_parts heard ∙ ap (λ (xs : List ℕ). faultless xs ++ tail) all ∙ regrouped body (drop (n + 1) bytes) tail;
+    }
+
+-- what is heard begins with a body, or misses something of it
+body_or_miss : (heard : List Character) (start : ℕ) (faulty : Option Character) (end : ℕ) → All (λ c. c.byte < 256) heard
+    → Told (faultless_bytes heard) faulty end start
+    → HeardBody heard ⊎ (is_some (miss_in (faultless_bytes heard) faulty end start) ≡ true)
+body_or_miss heard start faulty end fit (empty none is) = inr (ap is_some is)
+body_or_miss heard start faulty end fit (other any bad is) = inr (ap is_some is)
+body_or_miss heard start faulty end fit (begun has few is) = inr (ap is_some is)
+body_or_miss heard start faulty end fit (short has ack few is) = inr (ap is_some is)
+body_or_miss heard start faulty end fit (counted has few is) = inr (ap is_some is)
+body_or_miss heard start faulty end fit (whole has is) =
+    let bytes = faultless_bytes heard in
+    let cases : (check_byte_in bytes ≡ fitting_check_byte bytes) ⊎ (check_byte_in bytes ≢ fitting_check_byte bytes) = grind arith in
+    elim cases [
+      | inl same ↦ inl (heard_body heard fit has same)
+      | inr differ ↦ inr (ap is_some (is ∙ other_check bytes start differ))
+    ]
+
+heard_or_miss : (heard : List Character) (start : ℕ) → All (λ c. c.byte < 256) heard
+    → HeardBody heard ⊎ (is_some (body_miss start heard) ≡ true)
+heard_or_miss heard start fit = body_or_miss heard start _ _ fit (told_of heard start)
+
+-- a body that is heard after two preamble bytes is a frame there
+heard_frame : (chars prefix heard : List Character) (place : ℕ) → chars ≡ prefix ++ (preamble ∷ preamble ∷ heard)
+    → place ≡ length prefix + 2 → HeardBody heard → HasFrameAt chars place
+heard_frame chars prefix heard place split at found =
+    let two : List Character = preamble ∷ preamble ∷ faultless found.body in
+    frame_at chars prefix found.rest found.body found.frame place found.is_body (split
+    ∙ ap (λ (xs : List Character). prefix ++ (preamble ∷ preamble ∷ xs)) found.parts ∙ sym (append_assoc prefix two found.rest)) at
+
+pub frame_or_miss : (place : ℕ) (chars : List Character) → All (λ c. c.byte < 256) chars → IsStart place chars
+    → HasFrameAt chars place ⊎ IsSome (miss_of chars place)
+frame_or_miss place chars fit is =
+    let heard = drop place chars in
+    let at = starts chars place is in
+    elim (heard_or_miss heard place (All-drop (λ (c : Character). c.byte < 256) place chars fit)) [
+      | inl found ↦ inl (heard_frame chars at.prefix heard place at.split at.at found)
+      | inr some ↦ inr (ap is_some (sym (miss_of-start chars heard place refl is)) ∙ some)
+    ]
+
+with_preamble : (chars : List Character) (start : ℕ) → follows_one_preamble chars start ≡ true → HeardBody (drop start chars)
+    → HasFrameAt (insert chars start preamble) (start + 1)
+with_preamble chars zero one found = absurd (not_at_front chars one)
+with_preamble chars (suc k) one found =
+    let at = one_before_place chars k one in
+    let heard = drop (suc k) chars in
+    let next : suc k ≡ k + 1 = omega arith in
+    let last : take (suc k) chars ≡ take k chars ++ preamble ∷ [] =
+    ap (λ (n : ℕ). take n chars) next ∙ take_more chars k preamble at.0 ∙ ap (λ (c : Character). take k chars ++ c ∷ []) at.1 in
+    let split : insert chars (suc k) preamble ≡ take k chars ++ (preamble ∷ preamble ∷ heard) =
+    ap (λ (cs : List Character). cs ++ preamble ∷ heard) last ∙ append_assoc (take k chars) (preamble ∷ []) (preamble ∷ heard) in
+    let long = length-take-le k chars (omega (arith, at.0)) in
+    heard_frame (insert chars (suc k) preamble) (take k chars) heard (suc k + 1) split (omega (arith, long)) found
+
+-- with another preamble byte before the one a frame stands there
+pub one_preamble_fits : (start : ℕ) (chars : List Character) → All (λ c. c.byte < 256) chars → miss_of chars start ≡ Some OnePreamble
+    → HasFrameAt (insert chars start preamble) (start + 1)
+one_preamble_fits start chars fit is =
+    let heard = drop start chars in
+    elim (miss_of-some chars start OnePreamble is) [
+      | inl (here, miss) ↦
+          absurd (never_one_preamble (faultless_bytes heard) _ _ start (told_of heard start) miss)
+      | inr (same, one, no_miss) ↦
+          elim (heard_or_miss heard start (All-drop (λ (c : Character). c.byte < 256) start chars fit)) [
+            | inl found ↦ with_preamble chars start one found
+            | inr some ↦ absurd (false≢true (sym no_miss ∙ some))
+          ]
+    ]
+
+-- characters after two preamble bytes, one list of bytes
+after_front : (prefix : List Character) (checked : List ℕ) (last : ℕ) (others : List Character)
+    → (prefix ++ (preamble ∷ preamble ∷ faultless checked)) ++ record { byte = last; faults = 0 } ∷ others
+    ≡ prefix ++ faultless (255 ∷ 255 ∷ (checked ++ last ∷ [])) ++ others
+after_front prefix checked last others = grind (arith, append_assoc, map-append)
+
+before_end : (prefix : List Character) (bytes more : List ℕ) (last : ℕ)
+    → (prefix ++ (preamble ∷ preamble ∷ faultless bytes)) ++ faultless (more ++ last ∷ [])
+    ≡ prefix ++ faultless (255 ∷ 255 ∷ ((bytes ++ more) ++ last ∷ [])) ++ []
+before_end prefix bytes more last = grind (arith, append_assoc, append-nil, map-append)
+
+-- with the byte that would fit a frame stands there
+bad_check_at : (chars : List Character) (start byte fits place : ℕ) → All (λ c. c.byte < 256) chars → Starts chars start
+    → IsBadCheck (faultless_bytes (drop start chars)) start place byte fits
+    → HasFrameAt (set chars place (record { byte = fits; faults = 0 })) start
+bad_check_at chars start byte fits place fit at bad =
+    let make = λ (byte : ℕ). let c : Character = record { byte = byte; faults = 0 } in c in
+    let heard = drop start chars in
+    let bytes = faultless_bytes heard in
+    let n = body_length bytes - 1 in
+    let checked : List ℕ = take n bytes in
+    let c = get_or heard n preamble in
+    let others : List Character = drop (n + 1) heard in
+    let within : n < length bytes = omega (arith, bad.has.1) in
+    let all_within = length-faultless_bytes heard in
+    let parts : heard ≡ faultless checked ++ c ∷ others =
+    sym (take-append-drop n heard)
+    ∙ ap (λ (cs : List Character). cs ++ drop n heard) (take_heard heard n (omega (arith, within)))
+    ∙ ap (λ (cs : List Character). faultless checked ++ cs) (drop_more heard n preamble (omega (arith, within, all_within))) in
+    let front : List Character = at.prefix ++ (preamble ∷ preamble ∷ faultless checked) in
+    let split : chars ≡ front ++ c ∷ others =
+    at.split ∙ ap (λ (cs : List Character). at.prefix ++ (preamble ∷ preamble ∷ cs)) parts
+    ∙ sym (append_assoc at.prefix (preamble ∷ preamble ∷ faultless checked) (c ∷ others)) in
+    let long : length front ≡ place =
+    omega (
+      arith,
+      length-append at.prefix (preamble ∷ preamble ∷ faultless checked),
+      length-map checked make,
+      length-take-le n bytes (omega (arith, within)),
+      bad.place_is,
+      at.at,
+    ) in
+    let body = whole_body bytes (faultless_fit heard (All-drop (λ (x : Character). x.byte < 256) start chars fit)) bad.has in
+    let changed : set chars place (make fits) ≡ front ++ make fits ∷ others =
+    ap (λ (cs : List Character). set cs place (make fits)) split ∙ set_at front c others (make fits) place long in
+    let last = fitting_check_byte bytes in
+    let regroup : front ++ make last ∷ others ≡ at.prefix ++ faultless (255 ∷ 255 ∷ (checked ++ last ∷ [])) ++ others =
+    after_front at.prefix checked last others in
+    frame_at (set chars place (make fits)) at.prefix others (checked ++ last ∷ []) body.frame start body.is_body (changed
+    ∙ ap (λ (b : ℕ). front ++ make b ∷ others) bad.fits_is ∙ regroup) at.at
+
+pub bad_check_fits : (start place byte fits : ℕ) (chars : List Character) → All (λ c. c.byte < 256) chars
+    → miss_of chars start ≡ Some (BadCheck place byte fits) → HasFrameAt (set chars place (record { byte = fits; faults = 0 })) start
+bad_check_fits start place byte fits chars fit is =
+    let heard = drop start chars in
+    elim (miss_of-some chars start (BadCheck place byte fits) is) [
+      | inl (here, miss) ↦
+          bad_check_at chars start byte fits place fit (starts chars start here)
+          (bad_check-says (faultless_bytes heard) _ _ start place byte fits (told_of heard start) miss)
+      | inr (same, one, no_miss) ↦ absurd (grind arith)
+    ]
+
+-- the place of a fault is that of a character with fault bits
+faulty_at : (start place faults : ℕ) (chars : List Character) → miss_of chars start ≡ Some (Faulty place faults)
+    → (place < length chars) × ((get_or chars place preamble).faults ≢ 0)
+faulty_at start place faults chars is =
+    let heard = drop start chars in
+    elim (miss_of-some chars start (Faulty place faults) is) [
+      | inl (here, miss) ↦
+          let n = length (faultless_bytes heard) in
+          let says = faulty-says (faultless_bytes heard) _ _ start place faults (told_of heard start) miss in
+          let within = slice_get_within heard n says.0 says.1 in
+          let at : get_or chars place preamble ≡ says.0 =
+          ap (λ (i : ℕ). get_or chars i preamble) says.2 ∙ sym (get_or-drop start chars n preamble)
+          ∙ get_or_from_slice_get heard n says.0 preamble says.1 in (
+            omega (arith, within, length-drop start chars, says.2),
+            λ none. after_faultless heard says.0 says.1 (ap (λ (c : Character). c.faults) (sym at) ∙ none),
+          )
+      | inr (same, one, no_miss) ↦ absurd (grind arith)
+    ]
+
+pub fault_is_gone : (start place faults byte others : ℕ) (chars : List Character) → miss_of chars start ≡ Some (Faulty place faults)
+    → miss_of (set chars place (record { byte = byte; faults = 0 })) start ≢ Some (Faulty place others)
+fault_is_gone start place faults byte others chars is again =
+    let c : Character = record { byte = byte; faults = 0 } in
+    let at = faulty_at start place faults chars is in
+    let still = faulty_at start place others (set chars place c) again in
+    still.1 (ap (λ (x : Character). x.faults) (get_or-set_same chars place c preamble at.0))
+
+-- with the bytes that are missing a frame stands there
+missing_at : (chars : List Character) (start count : ℕ) (more : List ℕ) → All (λ c. c.byte < 256) chars → All (λ byte. byte < 256) more
+    → Starts chars start
+    → IsMissing (faultless_bytes (drop start chars)) (slice_get (drop start chars) (length (faultless_bytes (drop start chars)))) count
+    → count ≡ length more + 1 → (last : ℕ) × HasFrameAt (chars ++ faultless (more ++ last ∷ [])) start
+missing_at chars start count more fit more_fit at missing long =
+    let heard = drop start chars in
+    let bytes = faultless_bytes heard in
+    let checked : List ℕ = bytes ++ more in
+    let last = fold bit_xor 0 checked in
+    let fits = faultless_fit heard (All-drop (λ (x : Character). x.byte < 256) start chars fit) in
+    let good = HasGoodByteCount-more bytes more missing.has in
+    let same = length_more bytes more missing.has.0.1 in
+    let body = fitted checked (All-append (λ byte. byte < 256) bytes more fits more_fit) good
+    (omega (arith, same, length-append bytes more, missing.few, missing.count_is, long)) in
+    let all : heard ≡ faultless bytes = nothing_follows heard missing.at_end in
+    let split : chars ≡ at.prefix ++ (preamble ∷ preamble ∷ faultless bytes) =
+    at.split ∙ ap (λ (cs : List Character). at.prefix ++ (preamble ∷ preamble ∷ cs)) all in
+    let regroup : (at.prefix ++ (preamble ∷ preamble ∷ faultless bytes)) ++ faultless (more ++ last ∷ [])
+    ≡ at.prefix ++ faultless (255 ∷ 255 ∷ (checked ++ last ∷ [])) ++ [] =
+    before_end at.prefix bytes more last in (
+      last,
+      frame_at (chars ++ faultless (more ++ last ∷ [])) at.prefix [] (checked ++ last ∷ []) body.frame start body.is_body
+          (ap (λ (cs : List Character). cs ++ faultless (more ++ last ∷ [])) split ∙ regroup) at.at,
+    )
+
+pub missing_fits : (start count : ℕ) (chars : List Character) (bytes : List ℕ) → All (λ c. c.byte < 256) chars
+    → All (λ byte. byte < 256) bytes → miss_of chars start ≡ Some (Missing count) → count ≡ length bytes + 1
+    → (last : ℕ) × HasFrameAt (chars ++ faultless (bytes ++ last ∷ [])) start
+missing_fits start count chars bytes fit bytes_fit is long =
+    let heard = drop start chars in
+    elim (miss_of-some chars start (Missing count) is) [
+      | inl (here, miss) ↦
+          missing_at chars start count bytes fit bytes_fit (starts chars start here)
+          (missing-says (faultless_bytes heard) _ _ start count (told_of heard start) miss) long
+      | inr (same, one, no_miss) ↦ absurd (grind arith)
+    ]

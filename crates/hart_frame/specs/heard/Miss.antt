@@ -1,0 +1,105 @@
+-- Why no frame stands at a place of what was heard (HCF_SPEC-081; own profile).
+use Rattle.std.specs.Prelude.{◌≡◌, ◌+◌, ◌-◌, ◌/◌, ◌%◌, ◌==◌, ◌&&◌, ◌||◌, not, nat_le, nat_lt, if◌then◌else◌, ℕ, zero, suc, Bool, false}
+use Rattle.std.specs.Prelude.{List, Option, None, Some, drop, fold, is_none, length, slice_get, slice_index, take, bit_xor}
+use Rattle.std.specs.Option.{option_map_or}
+use Rattle.hart_frame.specs.heard.Character.{Character, faultless_bytes}
+use Rattle.hart_frame.specs.heard.Place.{StandsIn}
+use Rattle.hart_frame.specs.wire.Layout.{body_length, byte_count_in, byte_count_place, delimiter_in}
+use Rattle.hart_frame.specs.declared.heard.found.Found.{Found}
+use Rattle.hart_frame.specs.declared.wire.fault.FrameFault.{FrameFault}
+use Rattle.hart_frame.specs.declared.wire.fault.FrameFault.TheVariants.{Truncated}
+use Rattle.hart_frame.specs.declared.heard.miss.Miss.{Miss}
+use Rattle.hart_frame.specs.declared.heard.miss.Miss.TheVariants.{Faulty, Burst, BadDelimiter, EndsBeforeByteCount, ShortReply, Missing}
+use Rattle.hart_frame.specs.declared.heard.miss.Miss.TheVariants.{BadCheck, OnePreamble}
+
+-- The delimiter of a burst message has bits 4 and 3 zero, and 1 in bits 2 to 0.
+abbrev pub is_burst_delimiter : ℕ → Bool
+is_burst_delimiter byte = (byte / 8 % 4 == 0) && (byte % 8 == 1)
+
+-- A delimiter of this profile has bits 4 and 3 zero, and in bits 2 to 0 the kind of an STX or of an ACK.
+abbrev pub is_delimiter : ℕ → Bool
+is_delimiter byte = (byte / 8 % 4 == 0) && ((byte % 8 == 2) || (byte % 8 == 6))
+
+-- Why a first byte is no delimiter of this profile: it is that of a burst message, or another byte.
+abbrev pub delimiter_miss : ℕ → Miss
+delimiter_miss byte = if is_burst_delimiter byte then Burst else BadDelimiter byte
+
+-- The byte that would fit as the check byte is the exclusive or of the bytes before it.
+abbrev pub fitting_check_byte : List ℕ → ℕ
+fitting_check_byte bytes = fold bit_xor 0 (take (body_length bytes - 1) bytes)
+
+-- The byte that stands in the place of the check byte.
+abbrev pub check_byte_in : List ℕ → ℕ
+check_byte_in bytes = slice_index bytes (body_length bytes - 1)
+
+-- Why the check byte does not fit, if it does not: its place, itself, and the byte that would fit there.
+abbrev pub check_miss : List ℕ → ℕ → Option Miss
+check_miss bytes start =
+    if check_byte_in bytes == fitting_check_byte bytes then None
+    else Some (BadCheck (start + (body_length bytes - 1)) (check_byte_in bytes) (fitting_check_byte bytes))
+
+-- Where the faultless bytes stop too early, the reason is the character with fault bits at that place, if there is one; otherwise it
+-- is the one for the end of the list.
+abbrev pub faulty_or : Option Character → ℕ → Miss → Miss
+faulty_or None place at_end = at_end
+faulty_or (Some character) place at_end = Faulty place character.faults
+
+-- Why no body begins at a start, if none does, by the faultless bytes from it on, the character with fault bits after them, if there
+-- is one, and the place of that: the first of these that holds.
+abbrev pub miss_in : List ℕ → Option Character → ℕ → ℕ → Option Miss
+miss_in bytes faulty faulty_place start =
+    if length bytes == 0 then Some (faulty_or faulty faulty_place EndsBeforeByteCount)
+    else if not (is_delimiter (delimiter_in bytes)) then Some (delimiter_miss (delimiter_in bytes))
+    else if nat_le (length bytes) (byte_count_place bytes) then Some (faulty_or faulty faulty_place EndsBeforeByteCount)
+    else if (delimiter_in bytes % 8 == 6) && nat_lt (byte_count_in bytes) 2 then Some (ShortReply (byte_count_in bytes))
+    else if nat_lt (length bytes) (body_length bytes)
+    then Some (faulty_or faulty faulty_place (Missing (body_length bytes - length bytes)))
+    else check_miss bytes start
+
+-- The same by all that is heard from the start on.
+abbrev pub body_miss : ℕ → List Character → Option Miss
+body_miss start heard =
+    let bytes = faultless_bytes heard in miss_in bytes (slice_get heard (length bytes)) (start + length bytes) start
+
+-- A character is a faultless preamble byte FF.
+abbrev pub is_preamble : Character → Bool
+is_preamble character = (character.byte == 255) && (character.faults == 0)
+
+-- A faultless FF stands right before a place.
+abbrev pub follows_preamble : List Character → ℕ → Bool
+follows_preamble chars zero = false
+follows_preamble chars (suc before) = option_map_or is_preamble (slice_get chars before) false
+
+-- A body may start at a place if two faultless FF stand right before it, and at it a character other than a faultless FF.
+abbrev pub is_start : List Character → ℕ → Bool
+is_start chars place =
+    follows_preamble chars place && follows_preamble chars (place - 1)
+    && option_map_or (λ first. not (is_preamble first)) (slice_get chars place) false
+
+-- One faultless FF alone stands before a place.
+abbrev pub follows_one_preamble : List Character → ℕ → Bool
+follows_one_preamble chars place = follows_preamble chars place && not (follows_preamble chars (place - 1))
+
+-- The miss of a place is why no frame stands there. Where a body may start, it is why none begins there, if none does. Where a whole
+-- body stands after one faultless FF alone, it is that. Anywhere else there is no miss.
+abbrev pub miss_of : List Character → ℕ → Option Miss
+miss_of chars start =
+    if is_start chars start then body_miss start (drop start chars)
+    else if follows_one_preamble chars start && is_none (body_miss start (drop start chars)) then Some OnePreamble
+    else None
+
+-- A frame stands at a place of a list.
+abbrev pub HasFrameAt : List Character → ℕ → Type 0
+HasFrameAt chars place = (found : Found) × StandsIn found chars 0 × (found.start ≡ place)
+
+-- The fault of the faultless bytes that a miss comes from: a character with fault bits ends them too early, as the end of the list
+-- does. That only one FF stands before them is no fault of theirs.
+abbrev pub fault_of : Miss → Option FrameFault
+fault_of (Faulty place faults) = Some Truncated
+fault_of Burst = Some FrameFault.BadDelimiter
+fault_of (BadDelimiter byte) = Some FrameFault.BadDelimiter
+fault_of EndsBeforeByteCount = Some Truncated
+fault_of (ShortReply byte_count) = Some FrameFault.ShortReply
+fault_of (Missing count) = Some Truncated
+fault_of (BadCheck place byte fits) = Some FrameFault.BadCheck
+fault_of OnePreamble = None

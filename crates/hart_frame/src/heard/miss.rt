@@ -1,0 +1,195 @@
+//! Why no frame stands at a place at which a message seems to start.
+ghost use Rattle.std.specs.Prelude.{◌≡◌, ◌≢◌, ◌+◌, ◌^◌, ◌<◌, ◌≤◌, ◌⊎◌, ℕ, List, [], ◌∷◌, ◌++◌, None, Some, length, drop, insert, set};
+ghost use Rattle.std.specs.Prelude.{All, IsSome, slice_get};
+ghost use Rattle.hart_frame.specs.heard.Character.{Character, faultless, faultless_bytes};
+ghost use Rattle.hart_frame.specs.heard.Miss.{HasFrameAt, body_miss, check_miss, delimiter_miss, fault_of, faulty_or};
+ghost use Rattle.hart_frame.specs.heard.Miss.{follows_one_preamble, follows_preamble, miss_in, miss_of};
+ghost use Rattle.hart_frame.specs.heard.Start.{IsStart};
+ghost use Rattle.hart_frame.specs.wire.Layout.{body_length};
+ghost use Rattle.hart_frame.specs.wire.Refusal.{IsRefusedWith};
+ghost use Rattle.hart_frame.specs.declared.wire.fault.FrameFault.{FrameFault};
+ghost use Rattle.hart_frame.specs.declared.heard.miss.Miss.{Miss};
+ghost use Rattle.hart_frame.specs.declared.heard.miss.Miss.TheVariants.{BadCheck, Faulty, Missing, OnePreamble};
+
+use crate::heard::character::faultless_front;
+use crate::heard::start::is_start;
+use crate::wire::delimiter::{is_burst_delimiter, read_delimiter};
+use crate::wire::message::PREAMBLE;
+use crate::{Body, Char, check_byte};
+
+/// Why no frame stands at a place of what was heard. Places are counted from 0, at its front.
+#[derive(Clone, Copy, Debug, PartialEq, Eq)]
+pub enum Miss {
+    /// The character at this place has these fault bits.
+    Faulty { place: usize, faults: u8 },
+    /// The first byte is the delimiter of a burst message, which is not read.
+    Burst,
+    /// This first byte is another one that is no delimiter of this profile.
+    BadDelimiter { byte: u8 },
+    /// The characters end before the byte count.
+    EndsBeforeByteCount,
+    /// An ACK has this byte count, below 2.
+    ShortReply { byte_count: u8 },
+    /// The characters end before the check byte's end: so many are missing, of which the check byte is the last.
+    Missing { count: usize },
+    /// The check byte at this place is `byte`, and `fits` would fit.
+    BadCheck { place: usize, byte: u8, fits: u8 },
+    /// A whole body stands there, but after one preamble byte `FF` alone.
+    OnePreamble,
+}
+
+/// Why no frame stands at a place at which a message seems to start, or `None` if one does, or no message seems to.
+///
+/// Where a body may start (see [`is_start`](crate::is_start)), it is the first of these that holds, in the order in which a body is
+/// decoded: the delimiter of a burst message, or another byte that is no delimiter of this profile; an end before the byte count; an
+/// ACK with a byte count below 2; an end before the check byte; a check byte that does not fit. If a character with fault bits comes
+/// before that is decided, it is that character. Where a whole body stands after one faultless `FF` alone, it is that.
+///
+/// At most 267 characters are looked at from the place on, as many as the longest body has.
+pub fn why_none(chars: &[Char], start: usize) -> Option<Miss>
+    ensures { result ≡ miss_of chars.now start }
+{
+    let heard = chars.get(start..)?;
+    let miss = body_miss(heard, start);
+    if is_start(chars, start) {
+        return miss;
+    }
+    if miss.is_none() && follows_one_preamble(chars, start) {
+        return Some(Miss::OnePreamble);
+    }
+    None
+}
+
+/// Why the characters from a start on begin with no body, or `None` if they begin with one.
+fn body_miss(heard: &[Char], start: usize) -> Option<Miss>
+    requires within { start + length heard.now < 2 ^ 64 }
+    ensures { result ≡ body_miss start heard.now }
+{
+    let bytes: Body = faultless_front(heard);
+    miss_in(bytes.as_slice(), heard, start)
+}
+
+/// The same by the bytes of the first characters, and the character after them, if there is one.
+fn miss_in(bytes: &[u8], heard: &[Char], start: usize) -> Option<Miss>
+    requires front { length bytes.now ≤ length heard.now }
+    requires within { start + length heard.now < 2 ^ 64 }
+    ensures { result ≡ miss_in bytes.now (slice_get heard.now (length bytes.now)) (start + length bytes.now) start }
+{
+    let Some(first) = bytes.first() else {
+        return Some(faulty_or(heard, 0, start, Miss::EndsBeforeByteCount));
+    };
+    let Some(delimiter) = read_delimiter(*first) else {
+        return Some(delimiter_miss(*first));
+    };
+    let Some(byte_count) = bytes.get(delimiter.byte_count_place()) else {
+        return Some(faulty_or(heard, bytes.len(), start, Miss::EndsBeforeByteCount));
+    };
+    let Some(layout) = delimiter.layout(*byte_count) else {
+        return Some(Miss::ShortReply {
+            byte_count: *byte_count,
+        });
+    };
+    let len = layout.body_len();
+    if bytes.len() < len {
+        let count = len - bytes.len();
+        return Some(faulty_or(heard, bytes.len(), start, Miss::Missing { count }));
+    }
+    check_miss(&bytes[..len], start)
+}
+
+/// The character after so many, which has fault bits, or if there is none the reason at the end of the characters.
+fn faulty_or(heard: &[Char], count: usize, start: usize, at_end: Miss) -> Miss
+    requires within { start + length heard.now < 2 ^ 64 }
+    ensures { result ≡ faulty_or (slice_get heard.now count) (start + count) at_end }
+{
+    match heard.get(count) {
+        Some(character) => Miss::Faulty {
+            place: start + count,
+            faults: character.faults(),
+        },
+        None => at_end,
+    }
+}
+
+/// Why this first byte is no delimiter of this profile.
+fn delimiter_miss(byte: u8) -> Miss
+    ensures { result ≡ delimiter_miss byte }
+{
+    if is_burst_delimiter(byte) {
+        return Miss::Burst;
+    }
+    Miss::BadDelimiter { byte }
+}
+
+/// Why the check byte of bytes that are as long as a body does not fit, or `None` if it does.
+fn check_miss(body: &[u8], start: usize) -> Option<Miss>
+    requires some { 0 < length body.now }
+    requires whole { body_length body.now ≡ length body.now }
+    requires within { start + length body.now < 2 ^ 64 }
+    ensures { result ≡ check_miss body.now start }
+{
+    let last = body.len() - 1;
+    let (byte, fits) = (body[last], check_byte(&body[..last]));
+    if byte == fits {
+        return None;
+    }
+    Some(Miss::BadCheck {
+        place: start + last,
+        byte,
+        fits,
+    })
+}
+
+/// Whether one faultless preamble byte `FF` alone stands before this place.
+fn follows_one_preamble(chars: &[Char], place: usize) -> bool
+    requires within { place ≤ length chars.now }
+    ensures { result ≡ follows_one_preamble chars.now place }
+{
+    follows_preamble(chars, place) && !follows_preamble(chars, place - 1)
+}
+
+/// Whether a faultless preamble byte `FF` stands right before this place.
+fn follows_preamble(chars: &[Char], place: usize) -> bool
+    requires within { place ≤ length chars.now }
+    ensures { result ≡ follows_preamble chars.now place }
+{
+    if place == 0 {
+        return false;
+    }
+    let before = chars[place - 1];
+    before.byte() == PREAMBLE && before.is_faultless()
+}
+
+/// Where a body may start, either a frame stands or there is a miss, and not both.
+pub fn every_start_has_a_frame_or_a_miss()
+    ensures one { (place : ℕ) (chars : List Character) → All (λ character. character.byte < 256) chars → IsStart place chars
+        → HasFrameAt chars place ⊎ IsSome (miss_of chars place) }
+    ensures not_both { (place : ℕ) (chars : List Character) → HasFrameAt chars place → miss_of chars place ≡ None }
+{}
+
+/// What a miss names is what stands in the way of a frame.
+///
+/// With the byte that would fit in the place of the check byte, a frame stands there. With any faultless character in the place of the
+/// one that has fault bits, that place is not named any more. Whatever bytes come for all that are missing but the last, there is a
+/// last one with which a frame stands there. With another faultless `FF` before the one, a frame stands after the two.
+pub fn misses_say_what_is_wrong()
+    ensures bad_check { (start place byte fits : ℕ) (chars : List Character) → All (λ character. character.byte < 256) chars
+        → miss_of chars start ≡ Some (BadCheck place byte fits)
+        → HasFrameAt (set chars place (record { byte = fits; faults = 0 })) start }
+    ensures faulty { (start place faults byte others : ℕ) (chars : List Character) → miss_of chars start ≡ Some (Faulty place faults)
+        → miss_of (set chars place (record { byte = byte; faults = 0 })) start ≢ Some (Faulty place others) }
+    ensures missing { (start count : ℕ) (chars : List Character) (bytes : List ℕ) → All (λ character. character.byte < 256) chars
+        → All (λ byte. byte < 256) bytes → miss_of chars start ≡ Some (Missing count) → count ≡ length bytes + 1
+        → (last : ℕ) × HasFrameAt (chars ++ faultless (bytes ++ last ∷ [])) start }
+    ensures one_preamble { (start : ℕ) (chars : List Character) → All (λ character. character.byte < 256) chars
+        → miss_of chars start ≡ Some OnePreamble
+        → HasFrameAt (insert chars start (record { byte = 255; faults = 0 })) (start + 1) }
+{}
+
+/// A miss where a body may start comes from the fault with which the bytes there are refused, up to the first character with fault
+/// bits. So the order of the misses is that of the faults of [`decode`](crate::decode).
+pub fn misses_are_faults()
+    ensures { (start : ℕ) (chars : List Character) (miss : Miss) → All (λ character. character.byte < 256) chars
+        → IsStart start chars → miss_of chars start ≡ Some miss
+        → (fault : FrameFault) × (fault_of miss ≡ Some fault) × IsRefusedWith (faultless_bytes (drop start chars)) fault }
+{}
