@@ -76,12 +76,12 @@ is_start chars place =
     follows_preamble chars place && follows_preamble chars (place - 1)
     && option_map_or (λ first. not (is_preamble first)) (slice_get chars place) false
 
--- One faultless FF alone stands before a place.
+-- One faultless FF alone stands right before a place.
 abbrev pub follows_one_preamble : List Character → ℕ → Bool
 follows_one_preamble chars place = follows_preamble chars place && not (follows_preamble chars (place - 1))
 
 -- The miss of a place is why no frame stands there. Where a body may start, it is why none begins there, if none does. Where a whole
--- body stands after one faultless FF alone, it is that. Anywhere else there is no miss.
+-- body stands after one faultless FF alone, it is that there is only one. Anywhere else there is no miss.
 abbrev pub miss_of : List Character → ℕ → Option Miss
 miss_of chars start =
     if is_start chars start then body_miss start (drop start chars)

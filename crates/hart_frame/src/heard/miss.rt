@@ -43,18 +43,17 @@ pub enum Miss {
 /// Where a body may start (see [`is_start`](crate::is_start)), it is the first of these that holds, in the order in which a body is
 /// decoded: the delimiter of a burst message, or another byte that is no delimiter of this profile; an end before the byte count; an
 /// ACK with a byte count below 2; an end before the check byte; a check byte that does not fit. If a character with fault bits comes
-/// before that is decided, it is that character. Where a whole body stands after one faultless `FF` alone, it is that.
+/// before that is decided, it is that character. Where a whole body stands after one faultless `FF` alone, it is that there is only one.
 ///
 /// At most 267 characters are looked at from the place on, as many as the longest body has.
 pub fn why_none(chars: &[Char], start: usize) -> Option<Miss>
     ensures { result ≡ miss_of chars.now start }
 {
     let heard = chars.get(start..)?;
-    let miss = body_miss(heard, start);
     if is_start(chars, start) {
-        return miss;
+        return body_miss(heard, start);
     }
-    if miss.is_none() && follows_one_preamble(chars, start) {
+    if follows_one_preamble(chars, start) && body_miss(heard, start).is_none() {
         return Some(Miss::OnePreamble);
     }
     None

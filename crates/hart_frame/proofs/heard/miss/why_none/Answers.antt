@@ -4,8 +4,8 @@ use Rattle.std.specs.Option.{is_some}
 use Rattle.hart_frame.specs.heard.Miss.{body_miss, follows_one_preamble}
 use Rattle.hart_frame.specs.heard.Start.{IsStart}
 use Rattle.hart_frame.proofs.lemmas.heard.Missed.{miss_of-nothing, miss_of-one, miss_of-start}
-use Rattle.hart_frame.proofs.heard.miss.why_none.Goals.{else-is_none-via-then-is_none+else-follows_one_preamble}
-use Rattle.hart_frame.proofs.heard.miss.why_none.Goals.{else-is_none-via-else-is_none}
+use Rattle.hart_frame.proofs.heard.miss.why_none.Goals.{else-follows_one_preamble-via-then-follows_one_preamble+else-is_none}
+use Rattle.hart_frame.proofs.heard.miss.why_none.Goals.{else-follows_one_preamble-via-else-follows_one_preamble}
 use Rattle.hart_frame.proofs.heard.miss.why_none.Goals as goal
 
 pub returns-then-is_start : goal.returns-then-is_start
@@ -13,10 +13,10 @@ returns-then-is_start c =
     let chars = c.args.chars.now in
     let heard = c.in_ok-heard.ensures.lookup.0.2 ∙ take_rest chars c.args.start in
     let starts : IsStart c.args.start chars = search rules in
-    c.body_miss-miss.ensures ∙ miss_of-start chars c.in_ok-heard.heard.now c.args.start heard starts
+    c.body_miss.ensures ∙ miss_of-start chars c.in_ok-heard.heard.now c.args.start heard starts
 
-pub returns-then-follows_one_preamble : goal.returns-then-follows_one_preamble
-returns-then-follows_one_preamble c =
+pub returns-then-is_none : goal.returns-then-is_none
+returns-then-is_none c =
     let chars = c.args.chars.now in
     let heard = c.in_ok-heard.ensures.lookup.0.2 ∙ take_rest chars c.args.start in
     let not_start : IsStart c.args.start chars → ⊥ = search rules in
@@ -30,9 +30,10 @@ returns c =
     let heard = c.in_ok-heard.ensures.lookup.0.2 ∙ take_rest chars c.args.start in
     let not_start : IsStart c.args.start chars → ⊥ = search rules in
     miss_of-nothing chars c.in_ok-heard.heard.now c.args.start heard not_start (
-    elim c.else-is_none.branch [
-      | else-is_none-via-then-is_none+else-follows_one_preamble w ↦
-          inl (sym w.follows_one_preamble.ensures ∙ w.if-follows_one_preamble.false)
-      | else-is_none-via-else-is_none w ↦ inr (sym (ap is_some c.body_miss-miss.ensures) ∙ (c.is_none.ensures ∙ (grind arith)))
+    elim c.else-follows_one_preamble.branch [
+      | else-follows_one_preamble-via-then-follows_one_preamble+else-is_none w ↦
+          inr (sym (ap is_some w.body_miss-then-follows_one_preamble.ensures) ∙ (w.is_none.ensures ∙ (grind arith)))
+      | else-follows_one_preamble-via-else-follows_one_preamble w ↦
+          inl (sym c.follows_one_preamble.ensures ∙ w.if-follows_one_preamble.false)
     ]
     )
