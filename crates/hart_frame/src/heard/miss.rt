@@ -159,11 +159,14 @@ fn follows_preamble(chars: &[Char], place: usize) -> bool
     before.byte() == PREAMBLE && before.is_faultless()
 }
 
-/// Where a body may start, either a frame stands or there is a miss, and not both.
+/// Where a body may start, either a frame stands or there is a miss, and not both. Anywhere else there is no miss but that one preamble
+/// byte stands alone before a whole body.
 pub fn every_start_has_a_frame_or_a_miss()
     ensures one { (place : ℕ) (chars : List Character) → All (λ character. character.byte < 256) chars → IsStart place chars
         → HasFrameAt chars place ⊎ IsSome (miss_of chars place) }
     ensures not_both { (place : ℕ) (chars : List Character) → HasFrameAt chars place → miss_of chars place ≡ None }
+    ensures only_there { (place : ℕ) (chars : List Character) (miss : Miss) → miss_of chars place ≡ Some miss
+        → IsStart place chars ⊎ (miss ≡ OnePreamble) }
 {}
 
 /// What a miss names is what stands in the way of a frame.
