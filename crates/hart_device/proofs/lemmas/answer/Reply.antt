@@ -1,11 +1,9 @@
 -- What a device replies to a command that is known is read again from its payload.
-use Rattle.std.proofs.Common.{◌≡◌, ℕ, ◌<◌, List, [], ◌∷◌, take, length}
-use Rattle.std.proofs.Common.{◌==◌, Some, None, Ok, Err, refl, subst, arith, Bool, true, false, ltb, eqb}
+use Rattle.std.proofs.Common.{◌≡◌, ℕ, ◌<◌, List, [], ◌∷◌}
+use Rattle.std.proofs.Common.{◌==◌, Some, None, Ok, Err, refl, subst, arith, Bool, true, false, eqb}
 use Rattle.std.specs.Prelude.{if◌then◌else◌}
 use Rattle.std.specs.List.{AllByRecursion}
 use Rattle.std.proofs.lemmas.Bool.Decides.{nat_tests}
-use Rattle.hart_values.specs.hart_date.Calendar.{is_date}
-use Rattle.hart_values.specs.declared.loop_mode.LoopMode.TheVariants.{Disabled, Enabled}
 use Rattle.hart_values.specs.declared.master_id.MasterId.{MasterId}
 use Rattle.hart_frame.specs.wire.FrameParts.{FrameParts, reply_parts}
 use Rattle.hart_commands.specs.Commands.{CommandRow, asked, commands, is_known, row_in}
@@ -13,11 +11,9 @@ use Rattle.hart_commands.specs.Registers.{AreValid, Overwrite}
 use Rattle.hart_commands.specs.ReplyData.{reply_payload, reply_reading}
 use Rattle.hart_commands.specs.RequestCode.{data_code, request_code}
 use Rattle.hart_commands.specs.RequestData.{IsRequest, Reading, command_of, read_by}
-use Rattle.hart_commands.specs.RequestReading.{codes_reading, mode_left_out, needing, polling_reading, polling_with, reset_reading}
+use Rattle.hart_commands.specs.RequestReading.{codes_reading, needing, polling_reading, polling_with, reset_reading}
 use Rattle.hart_commands.specs.RequestReading.{tag_reading}
-use Rattle.hart_commands.specs.TagBytes.{date_in, descriptor_in, tag_in}
 use Rattle.hart_commands.specs.declared.request.Request.{Request}
-use Rattle.hart_commands.specs.declared.request.Request.TheVariants as requested
 use Rattle.hart_commands.proofs.lemmas.Laws.{overwrites_are_valid, requests_have_their_command}
 use Rattle.hart_device.specs.answer.Answer.{after_command, code_of, effect_of, judged_of, reading_of, reply_of, reply_with}
 use Rattle.hart_device.specs.answer.Content.{reply_content}
@@ -33,40 +29,23 @@ abbrev pub IsRefusal : Reading → Type 0
 IsRefusal (Ok request) = Unit {0}
 IsRefusal (Err code) = (0 < code) × (code < 128)
 
-by_test : (b : Bool) (x y : Reading) → IsRefusal x → IsRefusal y → IsRefusal (if b then x else y)
-by_test true x y one other = one
-by_test false x y one other = other
-
 needing_refuses : (size : ℕ) (request : List ℕ → Request) (bytes : List ℕ) → IsRefusal (needing size request bytes)
-needing_refuses size request bytes = by_test _ (Err 5) (Ok (request (take size bytes))) (omega arith, omega arith) tt
+needing_refuses size request bytes = grind arith
 
 mode_refuses : (address mode : ℕ) → IsRefusal (polling_with address mode)
-mode_refuses address mode =
-    let on : Reading = if mode == 1 then Ok (requested.SetPolling address Enabled) else Err 12 in
-    let off : Reading = if mode == 0 then Ok (requested.SetPolling address Disabled) else on in
-    by_test (ltb 63 address) (Err 2) off (omega arith, omega arith)
-    (by_test (mode == 0) (Ok (requested.SetPolling address Disabled)) on tt
-    (by_test (mode == 1) (Ok (requested.SetPolling address Enabled)) (Err 12) tt (omega arith, omega arith)))
+mode_refuses address mode = grind arith
 
 polling_refuses : (bytes : List ℕ) → IsRefusal (polling_reading bytes)
-polling_refuses [] = (omega arith, omega arith)
-polling_refuses (address ∷ []) = mode_refuses address (mode_left_out address)
-polling_refuses (address ∷ mode ∷ rest) = mode_refuses address mode
+polling_refuses bytes = grind (arith, mode_refuses)
 
 codes_refuse : (bytes : List ℕ) → IsRefusal (codes_reading bytes)
-codes_refuse [] = (omega arith, omega arith)
-codes_refuse (code ∷ codes) = tt
+codes_refuse bytes = grind arith
 
 tag_refuses : (bytes : List ℕ) → IsRefusal (tag_reading bytes)
-tag_refuses bytes =
-    let good : Reading = Ok (requested.WriteTag (tag_in bytes) (descriptor_in bytes) (date_in bytes)) in
-    by_test (ltb (length bytes) 21) (Err 5) (if is_date (date_in bytes) then good else Err 9) (omega arith, omega arith)
-    (by_test (is_date (date_in bytes)) good (Err 9) tt (omega arith, omega arith))
+tag_refuses bytes = grind arith
 
 reset_refuses : (bytes : List ℕ) → IsRefusal (reset_reading bytes)
-reset_refuses [] = tt
-reset_refuses (high ∷ []) = (omega arith, omega arith)
-reset_refuses (high ∷ low ∷ rest) = tt
+reset_refuses bytes = grind arith
 
 abbrev pub Refuses : CommandRow → Type 0
 Refuses row = (bytes : List ℕ) → IsRefusal (asked row.request bytes)
@@ -99,11 +78,7 @@ IsJudged command (Err code) = (0 < code) × (code < 128)
 
 judged_by : (command code : ℕ) (reading : Reading) → code < 128 → (code ≡ 0 → IsJudged command reading)
     → IsJudged command (if code == 0 then reading else Err code)
-judged_by command code reading small good = go (eqb code 0) refl
-  where
-    go : (b : Bool) → eqb code 0 ≡ b → IsJudged command (if b then reading else Err code)
-    go true none = good (grind (arith, nat_tests))
-    go false some = (grind (arith, nat_tests), small)
+judged_by command code reading small good = grind (arith, nat_tests)
 
 judged_made : (state : DeviceState) (frame : FrameParts) → IsJudged frame.command (judged_of state frame)
 judged_made state frame =
