@@ -2,6 +2,7 @@
 pub mod Items
 pub mod InputChars
 pub mod HexText
+pub mod DeviceDigits
 pub mod MessageLine
 pub mod Words
 pub mod Chunk

@@ -1,6 +1,7 @@
 //! Texts: hex items, and lines of words and bytes.
 
 pub mod chunk;
+pub mod device_digits;
 pub mod hex_text;
 pub mod items;
 pub mod message_line;

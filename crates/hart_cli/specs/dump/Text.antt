@@ -1,8 +1,6 @@
 -- The lines of `hart dump` (own profile).
-use Rattle.std.specs.Prelude.{ℕ, ◌+◌, ◌*◌, ◌/◌, ◌%◌, ◌==◌, ◌&&◌, Bool, true, false, if◌then◌else◌, List, [], ◌∷◌, codes, decimal, length}
+use Rattle.std.specs.Prelude.{ℕ, ◌+◌, ◌*◌, ◌==◌, ◌&&◌, Bool, true, false, if◌then◌else◌, List, [], ◌∷◌, codes, decimal, length}
 use Rattle.std.specs.List.{flat_map}
-use Rattle.hex.specs.Hex.{encode_upper}
-use Rattle.hart_values.specs.address.DeviceNumbers.{DeviceNumbers}
 use Rattle.hart_values.specs.declared.address.Address.{Address}
 use Rattle.hart_values.specs.declared.address.Address.TheVariants.{Polling, Unique}
 use Rattle.hart_values.specs.declared.master_id.MasterId.{MasterId}
@@ -10,6 +8,7 @@ use Rattle.hart_values.specs.declared.master_id.MasterId.TheVariants.{Primary, S
 use Rattle.hart_frame.specs.declared.wire.kind.FrameKind.{FrameKind}
 use Rattle.hart_frame.specs.declared.wire.kind.FrameKind.TheVariants.{Stx, Ack}
 use Rattle.hart_frame.specs.declared.heard.found.Found.{Found}
+use Rattle.hart_cli.specs.text.DeviceDigits.{device_digits}
 use Rattle.hart_cli.specs.text.Words.{bytes_word, line_of}
 
 -- The word of a kind of frame is `STX` for an STX and `ACK` for an ACK.
@@ -26,13 +25,6 @@ master_word Secondary = codes "S"
 abbrev pub burst_word : Bool → List ℕ
 burst_word false = codes "0"
 burst_word true = codes "1"
-
--- The ten digits of a device are four of its expanded type, whose upper two bits are zero, and six of its id.
-abbrev pub device_digits : DeviceNumbers → List ℕ
-device_digits numbers = encode_upper (
-    numbers.expanded_type / 256 ∷ numbers.expanded_type % 256
-    ∷ numbers.device_id / 65536 ∷ numbers.device_id / 256 % 256 ∷ numbers.device_id % 256 ∷ []
-    )
 
 -- The word of an address is `@` and a polling address in decimal, the ten digits of a device, or `all` for broadcast.
 abbrev pub address_word : Address → List ℕ

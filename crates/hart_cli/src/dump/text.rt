@@ -1,13 +1,13 @@
 //! The line that `hart dump` writes for a frame.
 ghost use Rattle.std.specs.Prelude.{◌≡◌, ◌∷◌, [], ◌++◌, ◌+◌, ◌≤◌, decimal, length};
 ghost use Rattle.hart_frame.specs.scan.View.{found_of};
-ghost use Rattle.hart_cli.specs.dump.Text.{address_word, burst_word, device_digits, dump_line, kind_word, line_room, master_word};
+ghost use Rattle.hart_cli.specs.dump.Text.{address_word, burst_word, dump_line, kind_word, line_room, master_word};
 
-use crate::text::hex_text::push_hex;
+use crate::text::device_digits::push_device_digits;
 use crate::text::pairs::Pairs;
 use crate::text::words::{push_hex_word, push_word};
 use hart_frame::{FoundView, FrameKind};
-use hart_values::{Address, ByteList, MasterId, UniqueAddress};
+use hart_values::{Address, ByteList, MasterId};
 use itoa::Buffer;
 
 /// Adds the line of a frame: its two places, then its parts, one space between two of them, and a line feed.
@@ -103,24 +103,9 @@ fn push_address<const N: usize>(line: &mut ByteList<N>, pairs: &Pairs, address: 
             if address.is_broadcast() {
                 push_word(line, "all");
             } else {
-                push_device(line, pairs, device);
+                push_device_digits(line, pairs, device);
+                line.push(b' ');
             }
         }
     }
-}
-
-/// Adds the ten digits of a device and the space after them.
-fn push_device<const N: usize>(line: &mut ByteList<N>, pairs: &Pairs, device: UniqueAddress)
-    requires { length line.old + 11 ≤ N }
-    ensures word { line.new ≡ line.old ++ device_digits device ++ 32 ∷ [] }
-    ensures len { length line.new ≤ length line.old + 11 }
-{
-    let [type_high, type_low] = device.expanded_type().to_be_bytes();
-    let [_, id_high, id_middle, id_low] = device.device_id().to_be_bytes();
-    push_hex(
-        line,
-        pairs,
-        &[type_high, type_low, id_high, id_middle, id_low],
-    );
-    line.push(b' ');
 }

@@ -1,8 +1,8 @@
 //! Bytes as hex text, in buffers of a fixed size.
 
-ghost use Rattle.std.specs.Prelude.{◌≡◌, ◌+◌, ◌*◌, ◌≤◌, ◌∷◌, [], ◌++◌, length};
+ghost use Rattle.std.specs.Prelude.{◌≡◌, ◌+◌, ◌-◌, ◌*◌, ◌≤◌, ◌∷◌, [], ◌++◌, length};
 ghost use Rattle.hex.specs.Hex.{encode_upper};
-ghost use Rattle.hart_cli.specs.text.HexText.{hex_line};
+ghost use Rattle.hart_cli.specs.text.HexText.{hex_items, hex_line};
 
 use crate::text::pairs::Pairs;
 use hart_values::ByteList;
@@ -17,6 +17,20 @@ pub fn push_hex<const N: usize>(line: &mut ByteList<N>, pairs: &Pairs, bytes: &[
     ensures len { length line.new ≡ length line.old + 2 * length bytes.now }
 {
     for byte in bytes {
+        line.extend_from_slice(&pairs.of(*byte));
+    }
+}
+
+/// Adds the bytes in upper case hex, two digits for each, with one space between two of them.
+pub fn push_hex_items<const N: usize>(line: &mut ByteList<N>, pairs: &Pairs, bytes: &[u8])
+    requires { length line.old + 3 * length bytes.now ≤ N }
+    ensures items { line.new ≡ line.old ++ hex_items bytes.now }
+    ensures few { length line.new ≤ length line.old + (3 * length bytes.now - 1) }
+{
+    for (index, byte) in bytes.iter().enumerate() {
+        if index > 0 {
+            line.push(b' ');
+        }
         line.extend_from_slice(&pairs.of(*byte));
     }
 }
@@ -45,12 +59,7 @@ pub fn hex_line(bytes: &[u8]) -> HexLine
     ensures { result ≡ hex_line bytes.now }
 {
     let mut line = HexLine::new();
-    for (index, byte) in bytes.iter().enumerate() {
-        if index > 0 {
-            line.push(b' ');
-        }
-        line.extend_from_slice(&digits_of(*byte));
-    }
+    push_hex_items(&mut line, &Pairs::new(), bytes);
     line.push(b'\n');
     line
 }

@@ -42,7 +42,7 @@ pub fn read_chars(alloc: Global, mut text: Filling<u8>) -> Result<Vec<Char>, Cli
 
 /// Reads a text up to the place where no piece begins, and gives that place. The last byte is no item's, so that there is room
 /// for half as many characters as there are bytes before it.
-fn read_pieces(digits: &Digits, text: &[u8], chars: &mut Filling<Char>) -> usize
+pub fn read_pieces(digits: &Digits, text: &[u8], chars: &mut Filling<Char>) -> usize
     requires empty { chars.old.items ≡ [] }
     requires room { length text.now ≤ 2 * chars.old.room + 2 }
     ensures within { result ≤ length text.now }

@@ -14,6 +14,15 @@ pub const TEXT_LINE_LEN: usize = 583;
 /// A line by itself.
 pub type TextLine = ByteList<TEXT_LINE_LEN>;
 
+/// Adds a text as it is.
+pub fn push_text<const N: usize>(line: &mut ByteList<N>, text: &str)
+    requires { length line.old + length text.now ≤ N }
+    ensures text { line.new ≡ line.old ++ text.now }
+    ensures len { length line.new ≡ length line.old + length text.now }
+{
+    line.extend_from_slice(text.as_bytes());
+}
+
 /// Adds a word and the space after it.
 pub fn push_word<const N: usize>(line: &mut ByteList<N>, word: &str)
     requires { length line.old + length word.now < N }

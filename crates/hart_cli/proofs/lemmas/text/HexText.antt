@@ -26,15 +26,21 @@ join_with_byte-push : (c : ℕ) (x : List ℕ) (xs : List (List ℕ)) (y : List 
 join_with_byte-push c x [] y = refl
 join_with_byte-push c x (z ∷ zs) y = grind (arith, append_assoc, join_with_byte-push c z zs y)
 
+-- no byte yet
+pub hex_items-none : (start bytes : List ℕ) → start ≡ start ++ hex_items (take 0 bytes)
+hex_items-none start bytes = sym (append-nil start)
+
 -- the first byte
-pub hex_items-first : (bytes line digits : List ℕ) (i d : ℕ) → i ≤ 0 → i < length bytes → line ≡ hex_items (take i bytes)
-    → digits ≡ encode_upper (get_or bytes i d ∷ []) → line ++ digits ≡ hex_items (take (i + 1) bytes)
-hex_items-first bytes line digits i d h k e n = grind (arith, common_steps)
+pub hex_items-first : (start bytes line digits : List ℕ) (i d : ℕ) → i ≤ 0 → i < length bytes
+    → line ≡ start ++ hex_items (take i bytes) → digits ≡ encode_upper (get_or bytes i d ∷ [])
+    → line ++ digits ≡ start ++ hex_items (take (i + 1) bytes)
+hex_items-first start bytes line digits i d h k e n = grind (arith, common_steps, append_assoc)
 
 -- a further byte, after a space
-pub hex_items-more : (bytes line digits : List ℕ) (i d : ℕ) → 0 < i → i < length bytes → line ≡ hex_items (take i bytes) ++ 32 ∷ []
-    → digits ≡ encode_upper (get_or bytes i d ∷ []) → line ++ digits ≡ hex_items (take (i + 1) bytes)
-hex_items-more bytes line digits i d h k e n = grind (arith, common_steps, append_assoc, join_with_byte-push, map_more)
+pub hex_items-more : (start bytes line digits : List ℕ) (i d : ℕ) → 0 < i → i < length bytes
+    → line ≡ (start ++ hex_items (take i bytes)) ++ 32 ∷ [] → digits ≡ encode_upper (get_or bytes i d ∷ [])
+    → line ++ digits ≡ start ++ hex_items (take (i + 1) bytes)
+hex_items-more start bytes line digits i d h k e n = grind (arith, common_steps, append_assoc, join_with_byte-push, map_more)
 
 -- the digits of bytes and of more bytes
 encode_upper-append : (bytes more : List ℕ) → encode_upper (bytes ++ more) ≡ encode_upper bytes ++ encode_upper more
