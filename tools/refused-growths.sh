@@ -95,6 +95,14 @@ echo 'FF FF 02 80 00 00 82 FF!40 FF FF 82 B7 42 0A 1B 2C 13 03 01 23 45 3D' >"$w
 printf '%s\n' '2 7 STX P 0 @0 - 0 -' '10 22 STX P 0 37420A1B2C - 19 012345' >"$work/wanted"
 refuse_each 0 dump
 
+cat >"$work/wanted" <<'TEXT'
+2-7: request of the primary master to the device at polling address 0, Command 0, read unique identifier
+10-22: request of the primary master to device 37420A1B2C, Command 19, write final assembly number
+    data: 01 23 45
+TEXT
+# Its own are of the input and of its characters.
+refuse_each 2 explain
+
 # So many messages that they are read in 52 portions, and their lines written in more.
 messages=40000
 awk -v messages="$messages" 'BEGIN { while (messages--) print "FF FF 02 80 00 00 82" }' >"$work/input"

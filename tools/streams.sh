@@ -101,10 +101,12 @@ fi
 echo "hart dump: ended with $status on an open pipe, and gave '$(cat "$work/errors")'"
 
 ends_with 1 'write fault' /dev/full dump <"$request"
+ends_with 1 'write fault' /dev/full explain <"$request"
 ends_with 1 'write fault' /dev/full answer <"$request"
 ends_with 1 'write fault' /dev/full sim </dev/null
 ends_with 1 'write fault' /dev/full encode P @0 0 </dev/null
 ends_with 1 'read fault' "$work/output" dump <"$work"
+ends_with 1 'read fault' "$work/output" explain <"$work"
 ends_with 1 'read fault' "$work/output" answer <"$work"
 ends_with 1 'read fault' "$work/output" sim <"$work"
 # An image that is none is refused before anything is read, and so before the fault of the input.
@@ -125,7 +127,7 @@ writes "$(printf 'counter 1\nimage %s' "$image")" sim --image "$image"
 writes "$(printf 'counter 1\nimage %s' "$image")" sim "--image=$image"
 writes "$(printf 'counter 1\nimage %s' "$image")" sim --image "$earlier"
 shows help --help
-for word in answer dump sim encode; do
+for word in answer dump explain sim encode; do
     shows "help-$word" "$word" --help
 done
 shows help-help help help
@@ -138,9 +140,10 @@ cp "$work/full" "$work/longer"
 printf ' ' >>"$work/longer"
 heard=$work/full
 writes '' dump
+writes '' explain
 writes '' answer
 writes "$(printf 'counter 1\nimage %s' "$image")" sim --image "$image"
-for word in dump answer sim; do
+for word in dump explain answer sim; do
     ends_with 1 'input too long' "$work/output" "$word" <"$work/longer"
 done
 

@@ -2,6 +2,7 @@
 pub mod Answer
 pub mod program
 pub mod dump
+pub mod explain
 pub mod Encode
 pub mod text
 pub mod Input

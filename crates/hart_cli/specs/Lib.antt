@@ -5,6 +5,7 @@ pub mod encode
 pub mod ImageWord
 pub mod Answer
 pub mod dump
+pub mod explain
 pub mod sim
 pub mod FaultText
 pub mod program

@@ -5,13 +5,15 @@
 //!
 //! - `text`: hex items, and lines of words and bytes.
 //! - `stream`: readers and writers; `input` and `output` read an input and write a text by them.
-//! - `dump`, `answer`, `sim`, `encode`: the calls, each with what it alone needs; `image_word` has the device of two of them.
+//! - `dump`, `explain`, `answer`, `sim`, `encode`: the calls, each with what it alone needs; `image_word` has the device of two of
+//!   them.
 //! - `program`: which call the words make, and with which number it ends.
 #![tactic(auto)]
 
 mod answer;
 mod dump;
 mod encode;
+mod explain;
 mod fault;
 mod image_word;
 mod input;

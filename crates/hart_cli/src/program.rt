@@ -11,6 +11,7 @@ mod help;
 use crate::answer::answer;
 use crate::dump::dump;
 use crate::encode::{EncodeWords, encode_text};
+use crate::explain::explain;
 use crate::fault::CliFault;
 use crate::output::write_all;
 use crate::sim::simulate;
@@ -31,7 +32,7 @@ pub const NO_CALL: u8 = 2;
 
 /// Makes the call that the words after the program's name ask for, and gives the program's status.
 ///
-/// `answer`, `dump` and `sim` read from `reader` and write to `writer`; `encode` reads its words alone. At status 0 nothing goes
+/// `answer`, `dump`, `explain` and `sim` read from `reader` and write to `writer`; `encode` reads its words alone. At status 0 nothing goes
 /// to `errors`; at status 1 the line of the call's fault does, or a beginning of it if `errors` failed. Status 2 says that clap
 /// found no matches for the words: reader and writer are not touched, and clap's own text, help among it, goes to `errors`. No
 /// clause says which. A failed write to `errors` ends the text there, and the status stays what it was.
@@ -54,6 +55,7 @@ pub fn program<R: Source, W: Sink, E: Sink>(
     match requested_call(alloc, words) {
         Ok(Call::Answer(image)) => finish(answer(alloc, image.word, reader, writer), errors),
         Ok(Call::Dump) => finish(dump(alloc, reader, writer), errors),
+        Ok(Call::Explain) => finish(explain(alloc, reader, writer), errors),
         Ok(Call::Sim(image)) => finish(simulate(alloc, image.word, reader, writer), errors),
         Ok(Call::Encode(words)) => {
             let EncodeWords {

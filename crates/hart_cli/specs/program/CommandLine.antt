@@ -8,7 +8,7 @@ use Rattle.clap.specs.Words.{App, Row, Rule, Text, fault_of, first_of, new_app, 
 use Rattle.clap.specs.declared.builder.value_parser.ValueParser.TheVariants.{Signed}
 use Rattle.hart_cli.specs.encode.MessageWords.{MessageWords}
 use Rattle.hart_cli.specs.declared.program.command_line.Call.{Call}
-use Rattle.hart_cli.specs.declared.program.command_line.Call.TheVariants.{Answer, Dump, Encode, Sim}
+use Rattle.hart_cli.specs.declared.program.command_line.Call.TheVariants.{Answer, Dump, Encode, Explain, Sim}
 
 -- The rule of a required word has its name, and the word has to be there.
 abbrev pub required_rule : Text → Rule
@@ -57,14 +57,15 @@ hart_alone =
     } in
     record plain { top = top }
 
--- Its subcommands that read an input are `answer`, `dump` and `sim`; `dump` takes no words.
+-- Its subcommands that read an input are `answer`, `dump`, `explain` and `sim`; `dump` and `explain` take no words.
 abbrev pub reading_app : App
 reading_app =
     let answer = with_subcommand hart_alone (image_app (codes "answer")).top in
     let dump = with_subcommand answer (new_app (codes "dump")).top in
-    with_subcommand dump (image_app (codes "sim")).top
+    let explain = with_subcommand dump (new_app (codes "explain")).top in
+    with_subcommand explain (image_app (codes "sim")).top
 
--- The command `hart` has four subcommands: these three, and `encode`.
+-- The command `hart` has five subcommands: these four, and `encode`.
 abbrev pub hart_app : App
 hart_app = with_subcommand reading_app encode_app.top
 
@@ -88,12 +89,13 @@ words_of rows = message_words
     (first_of (codes "WHO") rows) (first_of (codes "ADDRESS") rows) (first_of (codes "COMMAND") rows)
     (unwrap_or (first_of (codes "DATA") rows) [])
 
--- The call of a subcommand by its name: `answer` and `sim` with the word of the image, or none; `dump`; `encode` with its words, if
--- the matches give them. No other name has one.
+-- The call of a subcommand by its name: `answer` and `sim` with the word of the image, or none; `dump`; `explain`; `encode` with its
+-- words, if the matches give them. No other name has one.
 abbrev pub call_named : Text → List Row → Option Call
 call_named name rows =
     if bytes_eq name (codes "answer") then Some (Answer (first_of (codes "image") rows))
     else if bytes_eq name (codes "dump") then Some Dump
+    else if bytes_eq name (codes "explain") then Some Explain
     else if bytes_eq name (codes "sim") then Some (Sim (first_of (codes "image") rows))
     else if bytes_eq name (codes "encode") then option_map (λ words. Encode words) (words_of rows)
     else None

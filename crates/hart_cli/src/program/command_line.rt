@@ -8,7 +8,7 @@ ghost use Rattle.hart_cli.specs.program.CommandLine.{Calls, call_of, encode_app,
 ghost use Rattle.hart_cli.specs.program.CommandLine.{image_app, image_rule, preambles_of, preambles_rule, reading_app, required_rule};
 ghost use Rattle.hart_cli.specs.program.CommandLine.{words_of};
 ghost use Rattle.hart_cli.specs.declared.program.command_line.Call.{Call};
-ghost use Rattle.hart_cli.specs.declared.program.command_line.Call.TheVariants.{Answer, Dump, Encode, Sim};
+ghost use Rattle.hart_cli.specs.declared.program.command_line.Call.TheVariants.{Answer, Dump, Encode, Explain, Sim};
 
 use super::help;
 use super::help::Page;
@@ -21,12 +21,13 @@ use std::alloc::{AllocError, Global};
 /// The version that `hart --version` shows.
 const VERSION: &str = "0.1.0";
 
-/// The word `answer`, `dump` or `sim` alone is a call of it, without an image; `--image 01` after `answer` or `sim` gives it the
+/// The word `answer`, `dump`, `explain` or `sim` alone is a call of it, without an image; `--image 01` after `answer` or `sim` gives it the
 /// image `01`. `encode P @0 0` is a call with no data and 5 preamble bytes, and with 20 if `--preambles 20` follows.
 pub fn words_are_calls()
     ensures answer { Calls (Answer None) (codes "answer" ∷ []) }
     ensures answer_image { Calls (Answer (Some (codes "01"))) (codes "answer" ∷ codes "--image" ∷ codes "01" ∷ []) }
     ensures dump { Calls Dump (codes "dump" ∷ []) }
+    ensures explain { Calls Explain (codes "explain" ∷ []) }
     ensures sim { Calls (Sim None) (codes "sim" ∷ []) }
     ensures sim_image { Calls (Sim (Some (codes "01"))) (codes "sim" ∷ codes "--image" ∷ codes "01" ∷ []) }
     ensures encode { Calls
@@ -49,6 +50,8 @@ pub enum Call<'a> {
     Answer(ImageWord<'a>),
     /// `hart dump`.
     Dump,
+    /// `hart explain`.
+    Explain,
     /// `hart sim`.
     Sim(ImageWord<'a>),
     /// `hart encode`.
@@ -72,7 +75,7 @@ pub fn requested_call<'a>(alloc: Global, words: &'a [String]) -> Result<Call<'a>
     }
 }
 
-/// The call of the subcommand that the words named, or `None` if they named none of the four, or if `encode_words` gives `None`.
+/// The call of the subcommand that the words named, or `None` if they named none of the five, or if `encode_words` gives `None`.
 /// clap lets neither pass.
 fn call_of<'a>(matches: &ArgMatches<'a>) -> Option<Call<'a>>
     ensures { result ≡ call_of (subcommand_rows_of matches.now) }
@@ -81,6 +84,7 @@ fn call_of<'a>(matches: &ArgMatches<'a>) -> Option<Call<'a>>
     match name {
         "answer" => Some(Call::Answer(image_word(given))),
         "dump" => Some(Call::Dump),
+        "explain" => Some(Call::Explain),
         "sim" => Some(Call::Sim(image_word(given))),
         "encode" => Some(Call::Encode(encode_words(given)?)),
         _ => None,
@@ -145,6 +149,7 @@ fn reading_command<'a>(alloc: Global) -> Result<Command<'a>, AllocError>
 {
     let hart = with_image_command(alloc, hart_alone(alloc), "answer", help::ANSWER)?;
     let hart = hart.subcommand(plain_command(alloc, "dump", help::DUMP))?;
+    let hart = hart.subcommand(plain_command(alloc, "explain", help::EXPLAIN))?;
     with_image_command(alloc, hart, "sim", help::SIM)
 }
 

@@ -12,7 +12,7 @@ pub(super) struct Page<'a> {
 }
 
 pub(super) const HART_ABOUT: &str =
-    "Find, write and answer HART messages, and carry out scripts of them";
+    "Find, explain, write and answer HART messages, and carry out scripts of them";
 
 pub(super) const HART_HELP: &str = "\
 For the input and the output of a command, and an example: hart COMMAND --help
@@ -115,6 +115,38 @@ for bytes written as FF:82 or 0xFF;
   echo \"FF FF 02 80 00 00 82\" | hart dump
 writes
   2 7 STX P 0 @0 - 0 -",
+};
+
+pub(super) const EXPLAIN: Page = Page {
+    about: "Say in words what was heard, in hex, from standard input",
+    help: "\
+Say in words what was heard on a line, and why a message is missing.
+
+Input (stdin): the bytes that were heard, noise among them, as hart dump reads
+them (see hart dump --help). It is read whole before anything is written.
+
+Output (stdout): for each message that hart dump lists, a line with its two
+places, who speaks to whom, and the command; and under it, after four spaces, a
+line for each thing that the message says:
+  burst bit         if it is set
+  expansion bytes   if there are any, in hex
+  data              if there are any, in hex; those of a reply begin with its
+                    two status bytes
+For each place at which a message seems to start and none stands, a line with
+that place and why. A message seems to start after two preamble bytes FF that
+came whole; of a whole message after one FF alone it says so.
+All stand in the order of their places, which are counted from 0.
+
+If the input holds anything else, is longer than 1048576 bytes of text, or
+fails, what comes before is explained, and standard error says why: bad hex at
+N, a place in the text of the input, counted from 0; input too long; read
+fault.",
+    example: "\
+Example:
+  echo \"FF FF 02 80 00 00 82 FF FF 02 80 00 00 83\" | hart explain
+writes
+  2-7: request of the primary master to the device at polling address 0, Command 0, read unique identifier
+  9: no message: the check byte is 83 at 13, and 82 would fit",
 };
 
 pub(super) const SIM: Page = Page {

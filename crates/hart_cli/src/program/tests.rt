@@ -12,6 +12,7 @@ mod answer;
 mod device_text;
 mod dump;
 mod encode;
+mod explain;
 mod image;
 mod sim;
 mod sizes;
@@ -20,6 +21,7 @@ mod sizes;
 const CALLS: &[(&[&str], &str, &str)] = &[
     (&["answer"], IDENTIFY, answer::REPLY_TO_PRIMARY),
     (&["dump"], dump::TWO_MESSAGES, dump::TWO_LINES),
+    (&["explain"], IDENTIFY, explain::IDENTIFY),
     (&["sim"], "turn P ok ok", sim::AS_IT_WAS),
     (&["encode", "P", "@0", "0"], "", encode::IDENTIFY),
 ];
@@ -175,6 +177,8 @@ const WITHOUT_END: &[(&str, &str, &str)] = &[
     ("answer", "FF FF 02 80 00 00 82 ", ""),
     ("dump", "", ""),
     ("dump", "FF FF 02 80 00 00 82 ", dump::FIRST_LINE),
+    ("explain", "", ""),
+    ("explain", "FF FF 02 80 00 00 82 ", explain::IDENTIFY),
     ("sim", "", ""),
     ("sim", "turn P ok ok\n", ""),
 ];
@@ -235,6 +239,7 @@ const NO_CALLS: &[&[&str]] = &[
     &["help", "answer"],
     &["help", "dump"],
     &["help", "encode"],
+    &["help", "explain"],
     &["help", "sim"],
     &["answer", "--help"],
     &["answer", "extra"],
@@ -247,6 +252,9 @@ const NO_CALLS: &[&[&str]] = &[
     &["sim", "--image=01", "--image=01"],
     &["dump", "--help"],
     &["dump", "extra"],
+    &["explain", "--help"],
+    &["explain", "extra"],
+    &["explain", "--image", "01"],
     &["sim", "--help"],
     &["sim", "extra"],
     &["encode", "--help"],
@@ -289,6 +297,11 @@ const TEXTS: &[(&[&str], &str, &str)] = &[
         "  echo \"FF FF 02 80 00 00 82\" | hart dump\nwrites\n  2 7 STX P 0 @0 - 0 -\n",
     ),
     (
+        &["explain", "--help"],
+        "Say in words what was heard on a line, and why a message is missing.\n",
+        "9: no message: the check byte is 83 at 13, and 82 would fit\n",
+    ),
+    (
         &["sim", "--help"],
         "Carry out a script on a line with the simulated device and two masters.\n",
         "  1 answered 1 00 40 012345\n  counter 1\n",
@@ -315,6 +328,7 @@ fn texts_of_clap_go_to_errors(rt: HostRuntime) -> Result<(), Fail> {
 const REFUSALS: &[(&str, u8)] = &[
     ("answer", FAULT),
     ("dump", FAULT),
+    ("explain", FAULT),
     ("sim", FAULT),
     ("frob", NO_CALL),
 ];

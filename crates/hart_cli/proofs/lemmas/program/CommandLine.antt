@@ -13,7 +13,7 @@ use Rattle.hart_frame.specs.wire.Message.{IsPreambleCount}
 use Rattle.hart_cli.specs.program.CommandLine.{Calls, call_of, hart_app, message_words, preambles_of, words_of}
 use Rattle.hart_cli.specs.encode.MessageWords.{MessageWords}
 use Rattle.hart_cli.specs.declared.program.command_line.Call.{Call}
-use Rattle.hart_cli.specs.declared.program.command_line.Call.TheVariants.{Answer, Dump, Encode, Sim}
+use Rattle.hart_cli.specs.declared.program.command_line.Call.TheVariants.{Answer, Dump, Encode, Explain, Sim}
 
 -- the name in the matches is that of the subcommand entered
 subcommand_name-rows : (m : ArgMatches) → option_map (λ met. met.0) (subcommand_rows_of m) ≡ subcommand_name_of m
@@ -65,10 +65,11 @@ words_counted : (preambles : Option ℕ) (who address command : Option Text) (pa
 words_counted preambles who address command payload words h = grind (arith, common_steps)
 
 -- a call of `encode` has the words that the matches give
-words_called : (answer dump sim encode : Bool) (image : Option Text) (given : Option MessageWords) (words : MessageWords)
-    → (if answer then Some (Answer image) else if dump then Some Dump else if sim then Some (Sim image)
+words_called : (answer dump explain sim encode : Bool) (image : Option Text) (given : Option MessageWords) (words : MessageWords)
+    → (if answer then Some (Answer image) else if dump then Some Dump else if explain then Some Explain
+    else if sim then Some (Sim image)
     else if encode then option_map (λ w. Encode w) given else None) ≡ Some (Encode words) → given ≡ Some words
-words_called answer dump sim encode image given words h = grind (arith, common_steps)
+words_called answer dump explain sim encode image given words h = grind (arith, common_steps)
 
 pub call_counted : (call : Call) (texts : List Text) (words : MessageWords) → Calls call texts → call ≡ Encode words
     → IsPreambleCount words.preambles
@@ -78,7 +79,7 @@ call_counted call texts words calls is = of (subcommand_of hart_app texts) (call
     of None gives = cc gives
     of (Some found) gives =
         counted (first_of (codes "preambles") found.1) words.preambles
-        (words_counted _ _ _ _ _ words (words_called _ _ _ _ _ (words_of found.1) words gives))
+        (words_counted _ _ _ _ _ words (words_called _ _ _ _ _ _ (words_of found.1) words gives))
 
 -- the words make the call that their matches give
 pub calls_given : (words : List Text) (m : ArgMatches) (call : Call) → MeetsCall words m → Some call ≡ call_of (subcommand_rows_of m)

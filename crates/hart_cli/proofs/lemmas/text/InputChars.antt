@@ -10,15 +10,15 @@ use Rattle.hart_cli.specs.declared.fault.CliFault.{CliFault}
 use Rattle.hart_cli.proofs.lemmas.text.Items.{NoPieceBegins-nil, one_reading, ReadsUpTo-more}
 
 -- bad hex is at one place, after the same characters
-one_place : (text : List ℕ) (xs ys : List Character) (p q : ℕ) → HasBadHex text xs p → HasBadHex text ys q → (xs ≡ ys) × (p ≡ q)
+pub one_place : (text : List ℕ) (xs ys : List Character) (p q : ℕ) → HasBadHex text xs p → HasBadHex text ys q → (xs ≡ ys) × (p ≡ q)
 one_place text xs ys p q h k = grind (arith, common_steps, one_reading)
 
 -- what has bad hex does not read to its end
-not_both : (text : List ℕ) (xs ys : List Character) (p : ℕ) → ReadsUpTo text xs [] → HasBadHex text ys p → ⊥
+pub not_both : (text : List ℕ) (xs ys : List Character) (p : ℕ) → ReadsUpTo text xs [] → HasBadHex text ys p → ⊥
 not_both text xs ys p h k = grind (arith, common_steps, NoPieceBegins-nil, one_reading)
 
 -- what has bad hex whatever follows has it as it stands
-as_it_stands : (text : List ℕ) (chars : List Character) (place : ℕ) → IsDecidedBadHexAt text chars place → HasBadHex text chars place
+pub as_it_stands : (text : List ℕ) (chars : List Character) (place : ℕ) → IsDecidedBadHexAt text chars place → HasBadHex text chars place
 as_it_stands text chars place h = subst (λ (us : List ℕ). HasBadHex us chars place) (append-nil text) (h [])
 
 -- bad hex is decided at one place

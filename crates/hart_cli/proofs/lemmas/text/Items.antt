@@ -59,13 +59,13 @@ pub read_on : (text : List ℕ) (chars more : List Character) (place len : ℕ) 
 read_on text chars more place len r h = grind (arith, common_steps, ReadsUpTo-on, drop-drop, take_rest)
 
 -- a reading goes on after a shorter one
-record GoesOn (xs : List Character) (rest : List ℕ) (ys : List Character) (last : List ℕ) : Type 0 where
-  between : List Character
-  reads : ReadsUpTo rest between last
-  chars : ys ≡ xs ++ between
+pub record GoesOn (xs : List Character) (rest : List ℕ) (ys : List Character) (last : List ℕ) : Type 0 where
+  pub between : List Character
+  pub reads : ReadsUpTo rest between last
+  pub chars : ys ≡ xs ++ between
 
 -- a reading up to where no piece begins goes on after each other one
-goes_on : (text : List ℕ) (xs : List Character) (rest : List ℕ) (ys : List Character) (last : List ℕ) → ReadsUpTo text xs rest
+pub goes_on : (text : List ℕ) (xs : List Character) (rest : List ℕ) (ys : List Character) (last : List ℕ) → ReadsUpTo text xs rest
     → ReadsUpTo text ys last → NoPieceBegins last → GoesOn xs rest ys last
 goes_on _ _ _ ys last (nothing rest) k n = record { between = ys; reads = k; chars = refl }
 goes_on _ _ _ _ _ (piece text p s cs rest h r) (nothing last) n = absurd (n p s h)
@@ -90,7 +90,7 @@ pub one_reading : (text : List ℕ) (xs : List Character) (rest : List ℕ) (ys 
 one_reading text xs rest ys last h k n m = grind (arith, append-nil, goes_on, stays)
 
 -- a piece has a length
-spelling-length : (p : Piece) → 0 < length (spelling p)
+pub spelling-length : (p : Piece) → 0 < length (spelling p)
 spelling-length p = grind (arith, common_steps)
 
 -- no piece begins at the end

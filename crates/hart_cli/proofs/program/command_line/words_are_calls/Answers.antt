@@ -14,6 +14,10 @@ pub returns-clause-dump : goal.returns-clause-dump
 unfolding clap_on_literals
 returns-clause-dump c = record { no_fault = refl; gives = refl }
 
+pub returns-clause-explain : goal.returns-clause-explain
+unfolding clap_on_literals
+returns-clause-explain c = record { no_fault = refl; gives = refl }
+
 pub returns-clause-sim : goal.returns-clause-sim
 unfolding clap_on_literals
 returns-clause-sim c = record { no_fault = refl; gives = refl }

@@ -1,0 +1,7 @@
+-- `hart explain`.
+pub mod Heard
+pub mod Told
+pub mod Message
+pub mod Misses
+pub mod Placed
+pub mod Explain

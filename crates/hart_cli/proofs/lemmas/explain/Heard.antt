@@ -1,0 +1,69 @@
+-- What was heard of an input: its fault, and that it is heard in one way.
+use Rattle.std.proofs.Common.{◌≡◌, ℕ, ◌+◌, List, [], ◌∷◌, ◌++◌, length, inl, inr, Option, None, Some, ap, ◌∙◌, arith, length-append}
+use Rattle.hart_frame.specs.heard.Character.{Character}
+use Rattle.hart_cli.specs.declared.fault.CliFault.{CliFault}
+use Rattle.hart_cli.specs.declared.input.InputEnd.{InputEnd}
+use Rattle.hart_cli.specs.declared.input.InputEnd.TheVariants.{Ended, ReadFailed, TooLong}
+use Rattle.hart_cli.specs.dump.Dump.{ended_text}
+use Rattle.hart_cli.specs.explain.Heard.{IsFaultAt, IsHeard}
+use Rattle.hart_cli.specs.input.Input.{CameTo, Left}
+use Rattle.hart_cli.specs.text.InputChars.{all, bad_hex, decided_bad_hex, failure, HasChars, limit}
+use Rattle.hart_cli.specs.text.Items.{BeginsWith, closed, IsDecidedBadHexAt, NoPieceBegins, nothing, Piece, piece, ReadsSoFarAs, ReadsUpTo}
+use Rattle.hart_cli.specs.text.Items.{spelling}
+use Rattle.hart_cli.proofs.lemmas.text.InputChars.{as_it_stands, decided_rest, not_both, one_input, one_place}
+use Rattle.hart_cli.proofs.lemmas.text.Items.{goes_on, one_reading, ReadsUpTo-few, ReadsUpTo-more, spelling-length}
+
+-- the characters up to a rest at which no piece begins are heard, with the fault at that place
+pub is_heard : (input : List ℕ) (end : InputEnd) (chars : List Character) (rest : List ℕ) (place : ℕ) (fault : Option CliFault)
+    → ReadsUpTo (ended_text input (CameTo end)) chars rest → place + length rest ≡ length (ended_text input (CameTo end))
+    → NoPieceBegins rest → IsFaultAt end rest place fault → IsHeard input end chars fault
+is_heard input Ended chars rest place None reads placed stop is = inl (HasChars.all chars (rw is at reads))
+is_heard input Ended chars rest place (Some fault) reads placed stop is =
+    rw is.1 (inl (HasChars.bad_hex chars place
+    (record { rest = rest; reads = reads; begins = placed; more = is.0; no_piece = stop })))
+is_heard input ReadFailed chars rest place fault reads placed stop (inl (may, is)) =
+    rw is (inl (HasChars.failure chars (record { rest = rest; reads = reads; no_piece = stop; open_end = may })))
+is_heard input ReadFailed chars rest place fault reads placed stop (inr (never, is)) =
+    rw is (inr (HasChars.decided_bad_hex chars place (decided_rest input chars rest place reads placed never)))
+is_heard input TooLong chars rest place fault reads placed stop (inl (may, is)) =
+    rw is (inl (HasChars.limit chars (record { rest = rest; reads = reads; no_piece = stop; open_end = may })))
+is_heard input TooLong chars rest place fault reads placed stop (inr (never, is)) =
+    rw is (inr (HasChars.decided_bad_hex chars place (decided_rest input chars rest place reads placed never)))
+
+-- a reading that leaves as much as there was has read nothing
+reads_nothing : (text : List ℕ) (chars : List Character) (rest : List ℕ) → ReadsUpTo text chars rest → length rest ≡ length text
+    → NoPieceBegins rest → (p : Piece) (tail : List ℕ) → BeginsWith text p tail → ⊥
+reads_nothing _ _ _ (nothing rest) long stop p tail begins = stop p tail begins
+reads_nothing _ _ _ (piece text first after chars rest h r) long stop p tail begins =
+    let parts : length text ≡ length (spelling first) + length after =
+    ap (λ (xs : List ℕ). length xs) h.spelled ∙ length-append (spelling first) after in
+    omega (arith, long, parts, spelling-length first, ReadsUpTo-few after chars rest r)
+
+-- what may go on has no bad hex that is decided
+not_decided : (text : List ℕ) (xs ys : List Character) (place : ℕ) → ReadsSoFarAs text xs → IsDecidedBadHexAt text ys place → ⊥
+not_decided text xs ys place h k =
+    let more = h.open_end.more in
+    let now = as_it_stands text ys place k in
+    let later = k more in
+    let same = one_reading text xs h.rest ys now.rest h.reads now.reads h.no_piece now.no_piece in
+    let on = goes_on (text ++ more) xs (h.rest ++ more) ys later.rest (ReadsUpTo-more text xs h.rest more h.reads) later.reads
+    later.no_piece in
+    let long : length later.rest ≡ length (h.rest ++ more) =
+    omega (arith, later.begins, now.begins, ap (λ (xs : List ℕ). length xs) same.1, length-append text more, length-append h.rest more) in
+    reads_nothing (h.rest ++ more) on.between later.rest on.reads long later.no_piece h.open_end.piece h.open_end.tail h.open_end.begins
+
+-- an input that came to an end is not heard otherwise than if it had been left
+one_heard : (text : List ℕ) (end : InputEnd) (xs ys : List Character) (f g : Option CliFault)
+    → HasChars text (CameTo end) xs f → HasChars text Left ys g → (xs ≡ ys) × (f ≡ g)
+one_heard text _ _ _ _ _ (all xs h) (decided_bad_hex ys q k) = absurd (not_both (closed text) xs ys q h (k (32 ∷ [])))
+one_heard text _ _ _ _ _ (bad_hex xs p h) (decided_bad_hex ys q k) = grind (arith, one_place (closed text) xs ys p q h (k (32 ∷ [])))
+one_heard text _ _ _ _ _ (failure xs h) (decided_bad_hex ys q k) = absurd (not_decided text xs ys q h k)
+one_heard text _ _ _ _ _ (limit xs h) (decided_bad_hex ys q k) = absurd (not_decided text xs ys q h k)
+
+-- an input is heard in one way
+pub IsHeard-one : (text : List ℕ) (end : InputEnd) (xs ys : List Character) (f g : Option CliFault)
+    → IsHeard text end xs f → IsHeard text end ys g → (xs ≡ ys) × (f ≡ g)
+IsHeard-one text end xs ys f g (inl h) (inl k) = one_input text (CameTo end) xs ys f g h k
+IsHeard-one text end xs ys f g (inr h) (inr k) = one_input text Left xs ys f g h k
+IsHeard-one text end xs ys f g (inl h) (inr k) = one_heard text end xs ys f g h k
+IsHeard-one text end xs ys f g (inr h) (inl k) = grind (arith, one_heard text end ys xs g f k h)

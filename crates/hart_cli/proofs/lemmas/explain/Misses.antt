@@ -1,0 +1,76 @@
+-- What is said of the places between two messages.
+use Rattle.std.proofs.Common.{◌≡◌, ◌≤◌, ◌+◌, ◌-◌, ℕ, Option, drop, zero, suc, List, [], ◌∷◌, ◌++◌, map, refl, sym, ap, ◌∙◌, append_assoc}
+use Rattle.std.proofs.Common.{arith}
+use Rattle.std.proofs.lemmas.Grind.{common_steps, flat_map-append}
+use Rattle.std.proofs.lemmas.List.{append-nil}
+use Rattle.std.proofs.lemmas.List.Folds.{flat_map-map}
+use Rattle.std.proofs.lemmas.List.FromFn.{map-range_with_len_more}
+use Rattle.std.specs.List.{flat_map, range_with_len}
+use Rattle.hart_frame.specs.heard.Character.{Character}
+use Rattle.hart_frame.specs.declared.heard.miss.Miss.{Miss}
+use Rattle.hart_frame.specs.declared.heard.miss.Miss.TheVariants.{BadCheck, Faulty}
+use Rattle.hart_frame.specs.heard.Miss.{miss_of}
+use Rattle.hart_cli.specs.explain.Misses.{ArePlacesBelow, gap_text, miss_line, place_text}
+
+-- the text of one number more
+said_more : (said : ℕ → List ℕ) (a n j : ℕ) → a + n ≡ j
+    → flat_map said (range_with_len a (n + 1)) ≡ flat_map said (range_with_len a n) ++ said j
+said_more said a n j e =
+    let itself : ℕ → ℕ = λ k. k in
+    sym (flat_map-map said itself (range_with_len a (n + 1)))
+    ∙ ap (λ (xs : List ℕ). flat_map said xs) (map-range_with_len_more itself a n j e)
+    ∙ flat_map-append said (map itself (range_with_len a n)) (j ∷ [])
+    ∙ ap (λ (xs : List ℕ). flat_map said (map itself (range_with_len a n)) ++ xs) (append-nil (said j))
+    ∙ ap (λ (xs : List ℕ). xs ++ said j) (flat_map-map said itself (range_with_len a n))
+
+-- the text of numbers begins with that of the first of them
+record Begins (said : ℕ → List ℕ) (a n m : ℕ) : Type 0 where
+  rest : List ℕ
+  parts : flat_map said (range_with_len a (n + m)) ≡ flat_map said (range_with_len a n) ++ rest
+
+begins : (said : ℕ → List ℕ) (a n m : ℕ) → Begins said a n m
+begins said a n zero = record { rest = []; parts = grind (arith, common_steps, append-nil) }
+begins said a n (suc m) =
+    let less = begins said a n m in
+    let more = said_more said a (n + m) (a + (n + m)) refl in
+    let number : n + suc m ≡ (n + m) + 1 = omega arith in
+    record {
+      rest = less.rest ++ said (a + (n + m));
+      parts = ap (λ (k : ℕ). flat_map said (range_with_len a k)) number ∙ more
+          ∙ ap (λ (xs : List ℕ). xs ++ said (a + (n + m))) less.parts
+          ∙ append_assoc (flat_map said (range_with_len a n)) less.rest (said (a + (n + m)));
+    }
+
+-- one place more of a gap
+pub gap_more : (chars : List Character) (from place : ℕ) → from ≤ place
+    → gap_text chars from (place + 1) ≡ gap_text chars from place ++ place_text chars from place
+gap_more chars from place after =
+    let number : (place + 1) - from ≡ (place - from) + 1 = omega arith in
+    ap (λ (k : ℕ). flat_map (λ p. place_text chars from p) (range_with_len from k)) number
+    ∙ said_more (λ p. place_text chars from p) from (place - from) place (omega arith)
+
+-- the text of a gap begins with that of the places up to one of them
+pub record GapBegins (chars : List Character) (from place stop : ℕ) : Type 0 where
+  pub rest : List ℕ
+  pub parts : gap_text chars from stop ≡ gap_text chars from place ++ rest
+
+pub gap_begins : (chars : List Character) (from place stop : ℕ) → from ≤ place → place ≤ stop → GapBegins chars from place stop
+gap_begins chars from place stop after within =
+    let all = begins (λ p. place_text chars from p) from (place - from) (stop - place) in
+    let number : (place - from) + (stop - place) ≡ stop - from = omega arith in
+    record {
+      rest = all.rest;
+      parts = ap (λ (k : ℕ). flat_map (λ p. place_text chars from p) (range_with_len from k)) (sym number) ∙ all.parts;
+    }
+
+-- the text of a place is the line of its miss
+pub place_text-miss : (chars : List Character) (from place : ℕ) (miss : Option Miss) → miss ≡ miss_of (drop from chars) (place - from)
+    → place_text chars from place ≡ miss_line from place miss
+unfolding place_text
+place_text-miss chars from place miss is = ap (λ (found : Option Miss). miss_line from place found) (sym is)
+
+-- places below one number are below a greater one
+pub below_more : (count more : ℕ) (miss : Miss) → ArePlacesBelow count miss → count ≤ more → ArePlacesBelow more miss
+below_more count more (Faulty place faults) below few = omega arith
+below_more count more (BadCheck place byte fits) below few = omega arith
+below_more count more _ below few = tt

@@ -1,0 +1,56 @@
+-- A text that is told piece by piece.
+use Rattle.std.proofs.Common.{◌≡◌, ℕ, List, [], ◌++◌, Result, Ok, Err, refl, sym, ap, ◌∙◌, append_assoc, arith, subst}
+use Rattle.std.proofs.lemmas.Grind.{common_steps}
+use Rattle.std.proofs.KnownBytes.{Appends-nil}
+use Rattle.std.proofs.lemmas.List.{append-nil}
+use Rattle.std.specs.Result.{IsErrAnd}
+use Rattle.hart_cli.specs.declared.stream.Failed.{Failed}
+use Rattle.hart_cli.specs.explain.Told.{AddsText, Tells}
+use Rattle.hart_cli.specs.stream.Stream.{FailsToWrite, Stream, Writes, WritesAll}
+use Rattle.hart_cli.proofs.lemmas.dump.Writes.{FailsToWrite-longer, FailsToWrite-on, WritesAll-on}
+
+-- a text is kept
+pub adds_kept : (s : Stream) (before text : List ℕ) → AddsText s s before (before ++ text) text
+adds_kept s before text = record { written = []; wrote = (Appends-nil _, refl); whole = refl }
+
+-- nothing is added
+pub adds_nothing : (s : Stream) (kept : List ℕ) → AddsText s s kept kept []
+adds_nothing s kept = record { written = []; wrote = (Appends-nil _, refl); whole = sym (append-nil kept) }
+
+-- what is kept is written
+pub adds_written : (old new : Stream) (kept : List ℕ) → WritesAll old new kept → AddsText old new kept [] []
+adds_written old new kept wrote = record { written = kept; wrote = wrote; whole = refl }
+
+-- a text is added after another
+pub adds_then : (a b c : Stream) (p q r x y : List ℕ) → AddsText a b p q x → AddsText b c q r y → AddsText a c p r (x ++ y)
+adds_then a b c p q r x y h k = record {
+  written = h.written ++ k.written;
+  wrote = WritesAll-on a b c h.written k.written h.wrote k.wrote;
+  whole = append_assoc h.written k.written r ∙ ap (λ (xs : List ℕ). h.written ++ xs) k.whole
+      ∙ sym (append_assoc h.written q y) ∙ ap (λ (xs : List ℕ). xs ++ y) h.whole ∙ append_assoc p x y;
+}
+
+-- a write failed in the second of two texts
+pub fails_then : (a b c : Stream) (p q x y : List ℕ) → AddsText a b p q x → FailsToWrite b c (q ++ y) → FailsToWrite a c (p ++ (x ++ y))
+fails_then a b c p q x y h fails =
+    let same : h.written ++ (q ++ y) ≡ p ++ (x ++ y) =
+    sym (append_assoc h.written q y) ∙ ap (λ (xs : List ℕ). xs ++ y) h.whole ∙ append_assoc p x y in
+    subst (λ (xs : List ℕ). FailsToWrite a c xs) same (FailsToWrite-on a b c h.written (q ++ y) h.wrote fails)
+
+-- a write failed in the first of two texts
+pub fails_first : (a b : Stream) (p x y : List ℕ) → FailsToWrite a b (p ++ x) → FailsToWrite a b (p ++ (x ++ y))
+fails_first a b p x y fails =
+    subst (λ (xs : List ℕ). FailsToWrite a b xs) (append_assoc p x y) (FailsToWrite-longer a b (p ++ x) y fails)
+
+-- a call that answers that a write failed
+pub tells_failure : {T : Type 0} (old new : Stream) (before after text : List ℕ) (P : Failed → Type 0) (result : Result T Failed)
+    → IsErrAnd result P → FailsToWrite old new (before ++ text) → Tells old new before after text result
+tells_failure old new before after text P result failed fails = grind (arith, common_steps)
+
+-- what is kept is written at last
+pub writes_kept : {T : Type 0} (a b c : Stream) (kept text : List ℕ) (result : Result T Failed) → AddsText a b [] kept text
+    → Writes b c kept result → Writes a c text result
+writes_kept a b c kept text (Ok done) h wrote =
+    subst (λ (xs : List ℕ). WritesAll a c xs) h.whole (WritesAll-on a b c h.written kept h.wrote wrote)
+writes_kept a b c kept text (Err fault) h fails =
+    subst (λ (xs : List ℕ). FailsToWrite a c xs) h.whole (FailsToWrite-on a b c h.written kept h.wrote fails)

@@ -1,0 +1,38 @@
+-- What `hart explain` says of a message (own profile).
+use Rattle.std.specs.Prelude.{◌++◌, [], ◌∷◌, ℕ, Bool, false, true, List, Option, None, Some, codes, decimal}
+use Rattle.hart_frame.specs.declared.heard.found.Found.{Found}
+use Rattle.hart_commands.specs.Fields.{command_name}
+use Rattle.hart_cli.specs.text.HexText.{hex_items}
+use Rattle.hart_cli.specs.explain.Words.{said_line, who_words}
+
+-- A name follows a comma and a space; without a name nothing does.
+abbrev pub name_words : Option (List ℕ) → List ℕ
+name_words None = []
+name_words (Some name) = codes ", " ++ name
+
+-- The words of a command are its number in decimal and, if it is known, its name.
+abbrev pub command_words : ℕ → List ℕ
+command_words command = codes "Command " ++ decimal command ++ name_words (command_name command)
+
+-- The line of a message has the places of its delimiter and after its check byte in decimal, who speaks to whom, the command,
+-- and a line feed.
+abbrev pub message_line : Found → List ℕ
+message_line found =
+    decimal found.start ++ codes "-" ++ decimal found.stop ++ codes ": "
+    ++ who_words found.frame.kind found.frame.master found.frame.address ++ codes ", " ++ command_words found.frame.command ++ 10 ∷ []
+
+-- A burst bit that is set has a line.
+abbrev pub burst_line : Bool → List ℕ
+burst_line false = []
+burst_line true = said_line (codes "burst bit") (codes "set")
+
+-- Bytes have a line under their name, if there are any.
+abbrev pub bytes_line : List ℕ → List ℕ → List ℕ
+bytes_line name [] = []
+bytes_line name (byte ∷ bytes) = said_line name (hex_items (byte ∷ bytes))
+
+-- The paragraph of a message is its line, and then those of what it says: the burst bit, the expansion bytes and the payload.
+unfoldable pub paragraph : Found → List ℕ
+paragraph found =
+    message_line found ++ burst_line found.frame.burst ++ bytes_line (codes "expansion bytes") found.frame.expansion
+    ++ bytes_line (codes "data") found.frame.payload

@@ -1,0 +1,53 @@
+-- What `hart explain` says of places at which no message stands, though one seems to start there (own profile).
+use Rattle.std.specs.Prelude.{◌==◌, ◌<◌, ⊤, if◌then◌else◌, ◌+◌, ◌-◌, ◌++◌, [], ◌∷◌, ℕ, List, Option, None, Some, codes, decimal, drop}
+use Rattle.std.specs.List.{flat_map, range_with_len}
+use Rattle.hex.specs.Hex.{encode_upper}
+use Rattle.hart_frame.specs.heard.Character.{Character}
+use Rattle.hart_frame.specs.heard.Miss.{miss_of}
+use Rattle.hart_frame.specs.declared.heard.miss.Miss.{Miss}
+use Rattle.hart_frame.specs.declared.heard.miss.Miss.TheVariants.{Faulty, Burst, BadDelimiter, EndsBeforeByteCount, ShortReply, Missing}
+use Rattle.hart_frame.specs.declared.heard.miss.Miss.TheVariants.{BadCheck, OnePreamble}
+
+-- The two digits of a byte.
+abbrev pub byte_digits : ℕ → List ℕ
+byte_digits byte = encode_upper (byte ∷ [])
+
+-- One character is ` character`, and any other number of them ` characters`.
+abbrev pub characters_word : ℕ → List ℕ
+characters_word count = if count == 1 then codes " character" else codes " characters"
+
+-- The words of a miss. Its places are counted in the list that begins at a place of the whole list, and are told as places of the whole
+-- list. Bytes and fault bits are in hex, places and counts in decimal.
+abbrev pub miss_words : ℕ → Miss → List ℕ
+miss_words from (Faulty place faults) =
+    codes "the character at " ++ decimal (from + place) ++ codes " has the fault bits " ++ byte_digits faults
+miss_words from Burst = codes "it is a burst message, which is not read"
+miss_words from (BadDelimiter byte) = byte_digits byte ++ codes " is no delimiter of this profile"
+miss_words from EndsBeforeByteCount = codes "it ends before its byte count"
+miss_words from (ShortReply byte_count) = codes "it is a reply, and its byte count " ++ decimal byte_count ++ codes " is below 2"
+miss_words from (Missing count) = codes "it ends " ++ decimal count ++ characters_word count ++ codes " before its check byte"
+miss_words from (BadCheck place byte fits) =
+    codes "the check byte is " ++ byte_digits byte ++ codes " at " ++ decimal (from + place) ++ codes ", and "
+    ++ byte_digits fits ++ codes " would fit"
+miss_words from OnePreamble = codes "only one FF stands before it"
+
+-- The line of a miss has the place where a message seems to start, in decimal, the words of the miss, and a line feed; without a miss
+-- there is no line.
+abbrev pub miss_line : ℕ → ℕ → Option Miss → List ℕ
+miss_line from place None = []
+miss_line from place (Some miss) = decimal place ++ codes ": no message: " ++ miss_words from miss ++ 10 ∷ []
+
+-- What is said of a place that no message holds is the line of its miss in the list of the characters from the end of the last message
+-- before it on.
+unfoldable pub place_text : List Character → ℕ → ℕ → List ℕ
+place_text chars from place = miss_line from place (miss_of (drop from chars) (place - from))
+
+-- What is said of the places from the end of a message on and before the start of the next is what is said of each, in their order.
+abbrev pub gap_text : List Character → ℕ → ℕ → List ℕ
+gap_text chars from stop = flat_map (λ place. place_text chars from place) (range_with_len from (stop - from))
+
+-- For private calls alone: the places that a miss names are below this number.
+abbrev pub ArePlacesBelow : ℕ → Miss → Type 0
+ArePlacesBelow count (Faulty place faults) = place < count
+ArePlacesBelow count (BadCheck place byte fits) = place < count
+ArePlacesBelow count _ = ⊤

@@ -1,0 +1,31 @@
+-- The words of `hart explain` for who speaks to whom, and its lines (own profile).
+use Rattle.std.specs.Prelude.{◌==◌, ◌&&◌, if◌then◌else◌, ◌++◌, [], ◌∷◌, ℕ, List, codes, decimal}
+use Rattle.hart_values.specs.declared.address.Address.{Address}
+use Rattle.hart_values.specs.declared.address.Address.TheVariants.{Polling, Unique}
+use Rattle.hart_values.specs.declared.master_id.MasterId.{MasterId}
+use Rattle.hart_values.specs.declared.master_id.MasterId.TheVariants.{Primary, Secondary}
+use Rattle.hart_frame.specs.declared.wire.kind.FrameKind.{FrameKind}
+use Rattle.hart_frame.specs.declared.wire.kind.FrameKind.TheVariants.{Stx, Ack}
+use Rattle.hart_cli.specs.text.DeviceDigits.{device_digits}
+
+-- A line of what a message says has four spaces, a name, a colon, a space, a value and a line feed.
+abbrev pub said_line : List ℕ → List ℕ → List ℕ
+said_line name value = codes "    " ++ name ++ codes ": " ++ value ++ 10 ∷ []
+
+-- The words of a master.
+abbrev pub master_words : MasterId → List ℕ
+master_words Primary = codes "the primary master"
+master_words Secondary = codes "the secondary master"
+
+-- The words of an address are the device at a polling address in decimal, a device by its ten digits, or, at broadcast, those that are
+-- given for it.
+abbrev pub device_words : List ℕ → Address → List ℕ
+device_words broadcast (Polling number) = codes "the device at polling address " ++ decimal number
+device_words broadcast (Unique numbers) =
+    if numbers.expanded_type == 0 && numbers.device_id == 0 then broadcast else codes "device " ++ device_digits numbers
+
+-- An STX is a request of its master to the device of its address, or to all devices; an ACK is a reply of the device of its address,
+-- or of one of all devices, to its master.
+abbrev pub who_words : FrameKind → MasterId → Address → List ℕ
+who_words Stx master address = codes "request of " ++ master_words master ++ codes " to " ++ device_words (codes "all devices") address
+who_words Ack master address = codes "reply of " ++ device_words (codes "one of all devices") address ++ codes " to " ++ master_words master

@@ -1,0 +1,32 @@
+//! Text that is kept until it is written.
+ghost use Rattle.std.specs.Prelude.{◌+◌, ◌≤◌, [], OnOk, length};
+ghost use Rattle.hart_cli.specs.explain.Told.{Tells};
+
+use crate::output::write_all;
+use crate::stream::{Failed, Sink};
+use hart_values::ByteList;
+
+/// The most bytes of text that are kept.
+const KEPT_LEN: usize = 32_768;
+
+/// The most bytes of a paragraph, or of a line of a miss.
+const PIECE_LEN: usize = 1_200;
+
+/// Text that is not yet written.
+pub type Kept = ByteList<KEPT_LEN>;
+
+/// Writes what is kept, unless there is room for a paragraph or a line of a miss.
+///
+/// # Errors
+///
+/// `Failed` if a write fails.
+pub fn make_room<W: Sink>(writer: &mut W, kept: &mut Kept) -> Result<(), Failed>
+    ensures tells { Tells (W.stream writer.old) (W.stream writer.new) kept.old kept.new [] result }
+    ensures room { OnOk result (length kept.new + 1200 ≤ 32768) }
+{
+    if kept.len() > KEPT_LEN - PIECE_LEN {
+        write_all(writer, kept.as_slice())?;
+        kept.clear();
+    }
+    Ok(())
+}

@@ -1,0 +1,76 @@
+//! What is said of a message.
+ghost use Rattle.std.specs.Prelude.{◌≡◌, ◌++◌, ◌+◌, ◌*◌, ◌≤◌, length};
+ghost use Rattle.hart_cli.specs.explain.Message.{burst_line, bytes_line, command_words, message_line, paragraph};
+
+use crate::explain::kept::Kept;
+use crate::explain::words::{push_said, push_said_bytes, push_who};
+use crate::text::pairs::Pairs;
+use crate::text::words::push_text;
+use hart_commands::command_name;
+use hart_frame::Found;
+use itoa::Buffer;
+
+/// Adds the paragraph of a message.
+#[tactic(auto, unfolding(crate::specs::explain::Message::paragraph))]
+pub fn push_paragraph(text: &mut Kept, pairs: &Pairs, found: &Found)
+    requires { length text.old + 1200 ≤ 32768 }
+    ensures { text.new ≡ text.old ++ paragraph found.now }
+{
+    push_message_line(text, pairs, found);
+    push_burst_line(text, found.frame.burst());
+    push_bytes_line(text, pairs, "expansion bytes", found.frame.expansion());
+    push_bytes_line(text, pairs, "data", found.frame.payload());
+}
+
+/// Adds the line of a message.
+fn push_message_line(text: &mut Kept, pairs: &Pairs, found: &Found)
+    requires { length text.old + 220 ≤ 32768 }
+    ensures line { text.new ≡ text.old ++ message_line found.now }
+    ensures few { length text.new ≤ length text.old + 220 }
+{
+    let frame = &found.frame;
+    push_text(text, Buffer::new().format(found.start));
+    push_text(text, "-");
+    push_text(text, Buffer::new().format(found.stop));
+    push_text(text, ": ");
+    push_who(text, pairs, frame.kind(), frame.master(), frame.address());
+    push_text(text, ", ");
+    push_command(text, frame.command());
+    text.push(b'\n');
+}
+
+/// Adds the words of a command.
+fn push_command(text: &mut Kept, command: u8)
+    requires { length text.old + 80 ≤ 32768 }
+    ensures words { text.new ≡ text.old ++ command_words command }
+    ensures few { length text.new ≤ length text.old + 80 }
+{
+    push_text(text, "Command ");
+    push_text(text, Buffer::new().format(command));
+    if let Some(name) = command_name(command) {
+        push_text(text, ", ");
+        push_text(text, name);
+    }
+}
+
+/// Adds the line of a burst bit, if it is set.
+fn push_burst_line(text: &mut Kept, burst: bool)
+    requires { length text.old + 20 ≤ 32768 }
+    ensures line { text.new ≡ text.old ++ burst_line burst }
+    ensures few { length text.new ≤ length text.old + 20 }
+{
+    if burst {
+        push_said(text, "burst bit", "set");
+    }
+}
+
+/// Adds the line of bytes, if there are any.
+fn push_bytes_line(text: &mut Kept, pairs: &Pairs, name: &str, bytes: &[u8])
+    requires { length text.old + length name.now + 3 * length bytes.now + 7 ≤ 32768 }
+    ensures line { text.new ≡ text.old ++ bytes_line name.now bytes.now }
+    ensures few { length text.new ≤ length text.old + length name.now + 3 * length bytes.now + 7 }
+{
+    if !bytes.is_empty() {
+        push_said_bytes(text, pairs, name, bytes);
+    }
+}
