@@ -7,8 +7,8 @@ fault are heard together, some of them in one call, which is quicker. At first t
 messages. A difference is printed with the smallest words and input that were found to show one. The cases of a seed are always the
 same. The last line is `N passed, M failed`, and the status is 1 after any difference.
 
-Usage: tools/fuzz.py [PROGRAM] [--cases N] [--seed S] [--only dump|answer|sim|encode]; PROGRAM is ./hart, N 10000, and S another
-one in each run.
+Usage: tools/fuzz.py [PROGRAM] [--cases N] [--seed S] [--only dump|explain|answer|sim|encode]; PROGRAM is ./hart, N 10000, and S
+another one in each run.
 """
 
 import argparse
@@ -21,7 +21,7 @@ from typing import NamedTuple
 
 sys.dont_write_bytecode = True
 
-from fuzz import calls, scripts, texts, worked  # noqa: E402
+from fuzz import calls, explain, scripts, texts, worked  # noqa: E402
 from fuzz.shrink import Shrinker  # noqa: E402
 from fuzz.texts import Given  # noqa: E402
 
@@ -34,7 +34,7 @@ MOST_SHOWN = 2000
 
 
 class Call(NamedTuple):
-    """A call of the program: its name, how often it is tried among ten, the maker of what it is given, and the model of it."""
+    """A call of the program: its name, how often it is tried among twelve, the maker of what it is given, and the model of it."""
 
     name: str
     share: int
@@ -43,7 +43,8 @@ class Call(NamedTuple):
 
 
 CALLS = (
-    Call("dump", 4, calls.dump_given, texts.dump),
+    Call("dump", 3, calls.dump_given, texts.dump),
+    Call("explain", 3, calls.explain_given, explain.explain),
     Call("answer", 2, calls.answer_given, texts.answer),
     Call("sim", 3, calls.sim_given, scripts.sim),
     Call("encode", 1, calls.encode_given, texts.encode),
@@ -91,8 +92,9 @@ def agree(shown, wanted):
 
 def worked_cases():
     """Each worked call with what it is given and how it ends."""
-    for text, lines, fault in worked.DUMPED:
-        yield "dump", given_of([], text), texts.failed(fault, lines.encode()) if fault else texts.done(lines.encode())
+    for name, cases in (("dump", worked.DUMPED), ("explain", worked.EXPLAINED)):
+        for text, lines, fault in cases:
+            yield name, given_of([], text), texts.failed(fault, lines.encode()) if fault else texts.done(lines.encode())
     for text, reply in worked.ANSWERED:
         yield "answer", given_of([], text), texts.done(message_line(reply))
     for image, text, reply in worked.ANSWERED_FROM:

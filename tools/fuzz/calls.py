@@ -1,6 +1,6 @@
 """Makes what a call is given, its words and its text."""
 
-from . import events, images, inputs
+from . import events, images, inputs, misheard
 from .device import NEW_IMAGE, Device
 from .heard import weighted
 from .texts import INPUT_LIMIT, Given
@@ -12,6 +12,12 @@ OTHER_WORDS = ("-", "--", "-x", "-i", "--help", "-h", "--version", "--preambles=
 def dump_given(rng):
     """What `hart dump` is given."""
     return Given([], inputs.dump_input(rng))
+
+
+def explain_given(rng):
+    """What `hart explain` is given."""
+    text = inputs.input_text(rng, misheard.misheard(rng)) if rng.random() < 0.7 else inputs.dump_input(rng)
+    return Given([], None if rng.random() < 0.002 else text)
 
 
 def encode_given(rng):

@@ -112,15 +112,27 @@ def dumped(heard):
     return "".join(lines).encode()
 
 
-def dump(given):
-    """What `hart dump` does with an input: the first fault in the order of the input is given, after the lines before it."""
-    text = given.text
+def up_to_fault(text):
+    """The characters of an input before its first fault in the order of its bytes, and this fault, None without one."""
+    if text is None:
+        return [], READ_FAULT
     too_long = len(text) > INPUT_LIMIT
     try:
-        heard = read_items(text[:INPUT_LIMIT], cut_short=too_long)
+        return read_items(text[:INPUT_LIMIT], cut_short=too_long), TOO_LONG if too_long else None
     except BadHex as bad:
-        return failed(bad.fault(), dumped(bad.before))
-    return failed(TOO_LONG, dumped(heard)) if too_long else done(dumped(heard))
+        return bad.before, bad.fault()
+
+
+def told(given, text_of):
+    """What a call does that tells of its input: it writes the text of the characters before the first fault, and gives that fault."""
+    heard, fault = up_to_fault(given.text)
+    written = text_of(heard)
+    return done(written) if fault is None else failed(fault, written)
+
+
+def dump(given):
+    """What `hart dump` does with an input."""
+    return told(given, dumped)
 
 
 def message_text(frame, preambles):

@@ -3,6 +3,7 @@
 import re
 
 from .commands import PAGE
+from .explain import SECTION
 
 REGISTERS = "010001" + "820820" * 14 + "000000"
 LONG_TAG = "20" * 32
@@ -27,6 +28,8 @@ IDENTIFY_PUMP = "FF FF 82 80 00 00 00 00 0B 06 41 53 50 B7 1C 31 D7"
 TWO_MASTERS = SUBMIT_WRITE + "submit S 37420A1B2C 19 0A0B0C\nturn P ok lost\nturn S ok ok\n"
 TWO_WRITTEN = WRITTEN + "S 20 8237420A1B2C13030A0B0CD7\nD 5 8637420A1B2C130500400A0B0C95\n"
 
+IDENTIFIED = "request of the primary master to the device at polling address 0, Command 0, read unique identifier"
+
 # The input of `hart dump`, its lines, and its fault.
 DUMPED = (
     ("FF FF 02 80 00 00 82 FF FF 02 00 00 00 02", "2 7 STX P 0 @0 - 0 -\n9 14 STX S 0 @0 - 0 -\n", ""),
@@ -49,6 +52,26 @@ DUMPED = (
     ("FF!40!40", "", "bad hex at 5"),
     ("82 !40", "", "bad hex at 3"),
     ("F F", "", "bad hex at 0"),
+)
+
+# What `hart explain` hears and says, as docs/PROTOCOL.md shows it: what is heard may be wrapped, and a line that is said stands below
+# the first one.
+HEARD = re.compile(r"^heard    (.+(?:\n {9}.+)*)\nsaid     (.+(?:\n {9}.+)*)$", re.MULTILINE)
+
+# The input of `hart explain`, its text, and its fault.
+EXPLAINED = (
+    *((heard, said.replace("\n" + " " * 9, "\n") + "\n", "") for heard, said in HEARD.findall(SECTION)),
+    ("FF FF!40 02 80 00 00 82", "", ""),
+    ("FF FF 02 80 00 00 82 FF FF 06 80 0G", f"2-7: {IDENTIFIED}\n9: no message: it ends before its byte count\n", "bad hex at 33"),
+    ("FF FF", "", ""),
+    ("FF 02 80 00 00 82", "1: no message: only one FF stands before it\n", ""),
+    ("FF!40 FF 02 80 00 00 82", "2: no message: only one FF stands before it\n", ""),
+    ("FF FF FF!40 02 80 00 00 82", "2: no message: the character at 2 has the fault bits 40\n", ""),
+    ("FF FF 01 80!40 00 00 81", "2: no message: it is a burst message, which is not read\n", ""),
+    ("FF FF 26 80 55 00 00!20", "2: no message: the character at 6 has the fault bits 20\n", ""),
+    ("FF FF 26 80 55 00 00 00!20", "2: no message: it is a reply, and its byte count 0 is below 2\n", ""),
+    ("FF FF 02 80 00 00", "2: no message: it ends 1 character before its check byte\n", ""),
+    ("FF FF 02 80 00 00 82 8", f"2-7: {IDENTIFIED}\n", "bad hex at 21"),
 )
 
 # What the bench device as it is new hears and replies, as docs/COMMANDS.md shows it.

@@ -1,0 +1,130 @@
+"""Makes characters of which `hart explain` has more to say: messages that are no messages, and data that do not fit their command."""
+
+from . import heard
+from .commands import COMMANDS, IDENTITY_COMMANDS, IDENTITY_FIRST, REPLY_NEEDED
+from .frames import PREAMBLE, Char, faultless
+from .heard import weighted
+
+CODES = (1, 2, 3, 4, 5, 6, 7, 8, 9, 10, 11, 12, 13, 14, 16, 32, 33, 34, 35, 36, 64, 65, 127)
+FAULT_BYTES = (0x80, 0x81, 0x82, 0x84, 0x85, 0x88, 0x90, 0xA0, 0xC0, 0xE8, 0xFA, 0xFF)
+STATUS_BYTES = (0x00, 0x00, 0x40, 0x48, 0x60, 0x80, 0x10, 0x08, 0x04, 0x02, 0x01, 0xFF)
+MOST_REPLY_DATA = 253
+
+
+def reply_size(rng, command):
+    """How many bytes of data a reply with code 0 has."""
+    if command == 3:
+        return 4 + 5 * rng.randint(1, 4)
+    if command == 9:
+        return 5 + 8 * rng.randint(1, 8)
+    if command == 48:
+        return rng.randint(1, 25)
+    return REPLY_NEEDED.get(command, 0)
+
+
+def reply_data(rng, command):
+    """Data of a reply with code 0: as they are to be, as a rule, or too few, too many, or others."""
+    data = heard.random_bytes(rng, reply_size(rng, command))
+    if command in (13, 18):
+        data = data[:18] + rng.choice(heard.DATES)
+    if command in IDENTITY_COMMANDS and rng.random() < 0.9:
+        data = bytes([IDENTITY_FIRST]) + data[1:]
+    more = heard.random_bytes(rng, rng.choice((1, 1, 2, 4, 5, 8, 30)))
+    return weighted(rng, (12, data), (3, data + more), (2, data[:-1]), (1, data[:rng.randrange(len(data) + 1)]), (1, more))
+
+
+def reply_payload(rng, command):
+    """The payload of a reply: a response code, mostly 0, or communication faults, a second byte, and data, which may be none."""
+    kind = weighted(rng, (12, "success"), (4, "refused"), (3, "faults"))
+    second = rng.choice((*STATUS_BYTES, rng.randrange(256)))
+    if kind == "success":
+        return bytes([0, second]) + reply_data(rng, command)[:MOST_REPLY_DATA]
+    first = rng.choice((*CODES, rng.randrange(1, 128))) if kind == "refused" else rng.choice((*FAULT_BYTES, rng.randrange(128, 256)))
+    data = rng.choice((b"", b"", reply_data(rng, command)))
+    return bytes([first, rng.choice((0, second)) if kind == "faults" else second]) + data[:MOST_REPLY_DATA]
+
+
+def command_of(rng):
+    """A command, each of the profile as often as any other."""
+    return rng.choice((*COMMANDS, rng.randrange(256)))
+
+
+def body(rng):
+    """A body of a request or a reply, whose data are mostly near to those of its command."""
+    command, ack = command_of(rng), rng.random() < 0.6
+    expansion = rng.randbytes(weighted(rng, (12, 0), (1, 1), (1, 2), (1, 3)))
+    payload = reply_payload(rng, command) if ack else heard.random_data(rng, command)
+    return heard.body_of_fields(rng, ack, heard.random_address(rng), expansion, command, payload)
+
+
+def start(rng):
+    """Two or more preamble bytes."""
+    return (PREAMBLE,) * rng.choice((2, 2, 3, 5))
+
+
+def message(rng):
+    """A whole message."""
+    return start(rng) + faultless(body(rng))
+
+
+def cut_message(rng):
+    """A message of which the last characters are missing."""
+    whole = body(rng)
+    left = rng.choice((1, 2, len(whole) - 1, len(whole) - 1, len(whole) - 2, rng.randrange(len(whole))))
+    return start(rng) + faultless(whole[:left])
+
+
+def one_preamble(rng):
+    """A body after one preamble byte, before which another byte, a damaged character or nothing stands."""
+    before = rng.choice(((), faultless(heard.noise(rng)), (Char(0xFF, 0x40),), (Char(0xFE),)))
+    return before + (PREAMBLE,) + faultless(body(rng))
+
+
+def after_check_byte_of_preamble(rng):
+    """A body whose check byte is FF, and after it no or one preamble byte before another body."""
+    first = faultless(heard.with_check_byte_of_preamble(rng))
+    return start(rng) + first + (PREAMBLE,) * rng.randrange(2) + faultless(body(rng))
+
+
+def wrong_check_byte(rng):
+    """A message whose check byte is another."""
+    whole = body(rng)
+    return start(rng) + faultless(whole[:-1] + bytes([whole[-1] ^ rng.choice((1, 0x80, rng.randrange(1, 256)))]))
+
+
+def marked_body(rng):
+    """A message one character of which has fault bits, sometimes with a further mistake before or after it."""
+    characters = list(faultless(body(rng)))
+    place = rng.choice((0, 1, rng.randrange(len(characters)), rng.randrange(len(characters)), len(characters) - 1))
+    characters[place] = Char(rng.choice((characters[place].byte, 0xFF, rng.randrange(256))), heard.fault_bits(rng))
+    if rng.random() < 0.2:
+        characters = characters[:rng.randrange(len(characters) + 1)]
+    return start(rng) + tuple(characters)
+
+
+def other_delimiter(rng):
+    """A message that begins with a byte which is no delimiter of the profile, often that of a burst message."""
+    rest = body(rng)[1:]
+    delimiter = rng.choice((0x01, 0x81, 0x21, 0xE1, 0x00, 0x03, 0x05, 0x07, 0x09, 0x0A, 0x12, 0x1A, 0x8E, 0xFE, rng.randrange(255)))
+    return start(rng) + faultless(bytes([delimiter]) + rest)
+
+
+def short_reply(rng):
+    """An ACK whose byte count is below 2."""
+    expansion = rng.randbytes(weighted(rng, (3, 0), (1, 1), (1, 3)))
+    payload = rng.randbytes(rng.randrange(2))
+    whole = faultless(heard.body_of_fields(rng, True, heard.random_address(rng), expansion, command_of(rng), payload))
+    return start(rng) + (heard.marked(rng, whole) if rng.random() < 0.2 else whole)
+
+
+PIECES = ((16, message), (3, cut_message), (3, one_preamble), (2, after_check_byte_of_preamble), (2, wrong_check_byte), (3, marked_body),
+          (2, other_delimiter), (2, short_reply), (1, lambda rng: faultless(heard.noise(rng))), (1, lambda rng: (Char(0xFF, 0x40),)))
+
+
+def misheard(rng):
+    """Some pieces end to end."""
+    pieces = [weighted(rng, *PIECES)(rng) for _ in range(weighted(rng, (6, 1), (4, 2), (2, 4), (1, 8)))]
+    if rng.random() < 0.2:
+        pieces.append(cut_message(rng))
+    characters = tuple(char for piece in pieces for char in piece)
+    return heard.damaged(rng, characters) if rng.random() < 0.1 else characters

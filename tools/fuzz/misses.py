@@ -1,0 +1,83 @@
+"""Why no message stands at a place at which one seems to start, as `hart explain` says it."""
+
+from .frames import KIND_BITS, LEAST_ACK_PAYLOAD, PREAMBLE, is_delimiter, parity
+
+BURST_BITS = 1
+
+
+class Wrong(Exception):
+    """What is wrong first with the characters from a place on."""
+
+
+class Walk:
+    """A walk over the characters from a place on, up to the first thing that is wrong."""
+
+    def __init__(self, heard, place):
+        self.heard = heard
+        self.place = place
+        self.bytes = b""
+
+    def take(self, count, at_end):
+        """The bytes of so many characters more; of an end before that `at_end` says what is wrong, by the number of those missing."""
+        for taken in range(count):
+            if self.place == len(self.heard):
+                raise Wrong(at_end(count - taken))
+            char = self.heard[self.place]
+            if char.faults:
+                raise Wrong(f"the character at {self.place} has the fault bits {char.faults:02X}")
+            self.bytes += bytes([char.byte])
+            self.place += 1
+        return self.bytes[len(self.bytes) - count:]
+
+
+def early_end(_):
+    """What is wrong at an end before the byte count."""
+    return "it ends before its byte count"
+
+
+def later_end(missing):
+    """What is wrong at an end after the byte count, before the check byte."""
+    return f"it ends {missing} character{'s' * (missing > 1)} before its check byte"
+
+
+def judge_delimiter(byte):
+    """Goes on after a byte that is a delimiter of the profile."""
+    if byte & 0x18 == 0 and byte & 7 == BURST_BITS:
+        raise Wrong("it is a burst message, which is not read")
+    if not is_delimiter(byte):
+        raise Wrong(f"{byte:02X} is no delimiter of this profile")
+
+
+def walk_body(walk):
+    """Goes on to the end of a whole body."""
+    delimiter, = walk.take(1, early_end)
+    judge_delimiter(delimiter)
+    walk.take((5 if delimiter & 0x80 else 1) + (delimiter >> 5 & 3), early_end)
+    _, count = walk.take(2, early_end)
+    if delimiter & 7 == KIND_BITS["ACK"] and count < LEAST_ACK_PAYLOAD:
+        raise Wrong(f"it is a reply, and its byte count {count} is below 2")
+    walk.take(count + 1, later_end)
+    last, fits = walk.bytes[-1], parity(walk.bytes[:-1])
+    if last != fits:
+        raise Wrong(f"the check byte is {last:02X} at {walk.place - 1}, and {fits:02X} would fit")
+
+
+def wrong_from(heard, place):
+    """What is wrong first with the characters from a place on, None if a whole body stands there."""
+    try:
+        walk_body(Walk(heard, place))
+    except Wrong as wrong:
+        return str(wrong)
+    return None
+
+
+def missed(heard, begin, end):
+    """The lines of the misses from the stop of a message to a place; what stands before that stop is not looked at."""
+    for place in range(begin + 1, end):
+        if heard[place - 1] != PREAMBLE or heard[place] == PREAMBLE:
+            continue
+        reason = wrong_from(heard, place)
+        if place - 2 < begin or heard[place - 2] != PREAMBLE:
+            reason = "only one FF stands before it" if reason is None else None
+        if reason is not None:
+            yield f"{place}: no message: {reason}"
