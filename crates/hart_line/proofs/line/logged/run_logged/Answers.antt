@@ -12,9 +12,10 @@ use Rattle.hart_line.proofs.line.logged.run_logged.Goals as goal
 pub loop-index-init : goal.loop-index-init
 loop-index-init g c =
     let start = start_from c.args.device c.args.process.now c.args.primary c.args.secondary in
+    let first = scripts_keep_their_promises-first_world start c.new-line.ensures.device.counter in
     rw (c.new-line.ensures.line, c.in_ok-room.ensures.outcomes, c.in_ok-room.ensures.spoken) (record {
       told = told_first start _ _ refl (reached_first c.args.device c.args.process.now c.args.primary c.args.secondary _ _
-          (scripts_keep_their_promises-first_world start c.new-line.ensures.device.counter) c.requires.primary c.requires.secondary) c.requires.fresh;
+          first c.requires.primary c.requires.secondary) c.requires.fresh;
       well_made = search rules;
       room = record { outcomes = omega arith; nothing_spoken = refl; spoken = omega arith };
     })
