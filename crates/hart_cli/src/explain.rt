@@ -23,6 +23,7 @@ mod heard;
 mod kept;
 mod message;
 mod misses;
+mod status;
 mod words;
 
 /// Reads what was heard on a line as hex items, and writes in words what each message in it says, and why no message stands where

@@ -1,6 +1,7 @@
 -- `hart explain`.
 pub mod Heard
 pub mod Told
+pub mod Status
 pub mod Message
 pub mod Misses
 pub mod Placed

@@ -3,6 +3,9 @@ use Rattle.std.specs.Prelude.{◌++◌, [], ◌∷◌, ℕ, Bool, false, true, L
 use Rattle.hart_frame.specs.declared.heard.found.Found.{Found}
 use Rattle.hart_commands.specs.Fields.{command_name}
 use Rattle.hart_cli.specs.text.HexText.{hex_items}
+use Rattle.hart_frame.specs.declared.wire.kind.FrameKind.{FrameKind}
+use Rattle.hart_frame.specs.declared.wire.kind.FrameKind.TheVariants.{Stx, Ack}
+use Rattle.hart_cli.specs.explain.Status.{status_lines}
 use Rattle.hart_cli.specs.explain.Words.{said_line, who_words}
 
 -- A name follows a comma and a space; without a name nothing does.
@@ -31,8 +34,14 @@ abbrev pub bytes_line : List ℕ → List ℕ → List ℕ
 bytes_line name [] = []
 bytes_line name (byte ∷ bytes) = said_line name (hex_items (byte ∷ bytes))
 
--- The paragraph of a message is its line, and then those of what it says: the burst bit, the expansion bytes and the payload.
+-- The payload of an STX is its data; that of an ACK has its two status bytes, and then its data.
+abbrev pub payload_lines : FrameKind → List ℕ → List ℕ
+payload_lines Stx payload = bytes_line (codes "data") payload
+payload_lines Ack (first ∷ second ∷ bytes) = status_lines first second ++ bytes_line (codes "data") bytes
+payload_lines Ack _ = []
+
+-- The paragraph of a message is its line, and then those of what it says: the burst bit, the expansion bytes, and the payload.
 unfoldable pub paragraph : Found → List ℕ
 paragraph found =
     message_line found ++ burst_line found.frame.burst ++ bytes_line (codes "expansion bytes") found.frame.expansion
-    ++ bytes_line (codes "data") found.frame.payload
+    ++ payload_lines found.frame.kind found.frame.payload

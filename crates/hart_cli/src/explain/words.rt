@@ -91,7 +91,7 @@ pub fn push_said_bytes(text: &mut Kept, pairs: &Pairs, name: &str, bytes: &[u8])
 }
 
 /// Adds the beginning of a line of what a message says, with its name.
-fn push_name(text: &mut Kept, name: &str)
+pub fn push_name(text: &mut Kept, name: &str)
     requires { length text.old + length name.now + 6 ≤ 32768 }
     ensures name { text.new ≡ text.old ++ codes "    " ++ name.now ++ codes ": " }
     ensures len { length text.new ≡ length text.old + length name.now + 6 }

@@ -130,8 +130,10 @@ places, who speaks to whom, and the command; and under it, after four spaces, a
 line for each thing that the message says:
   burst bit         if it is set
   expansion bytes   if there are any, in hex
-  data              if there are any, in hex; those of a reply begin with its
-                    two status bytes
+  response code and device status, or communication faults
+                    of a reply: what its two status bytes say, by names, or
+                    none if no bit with a name is set
+  data              if there are any, in hex
 For each place at which a message seems to start and none stands, a line with
 that place and why. A message seems to start after two preamble bytes FF that
 came whole; of a whole message after one FF alone it says so.

@@ -1,0 +1,87 @@
+-- What `hart explain` says of the two status bytes of a reply (HCF_SPEC-099; own profile).
+use Rattle.std.specs.Prelude.{◌==◌, not, nat_le, nat_lt, bit_and, if◌then◌else◌, ◌++◌, [], ◌∷◌, ℕ, Bool, List, codes, decimal, length}
+use Rattle.std.specs.List.{flat_map, list_all}
+use Rattle.hart_cli.specs.declared.explain.status.NamedBit as code
+use Rattle.hart_cli.specs.explain.Words.{said_line}
+
+-- A bit of a status byte has a value and a name.
+pub record NamedBit : Type 0 where
+  pub value : ℕ
+  pub name : List ℕ
+
+-- A bit, written in one line.
+abbrev pub bit : ℕ → List ℕ → NamedBit
+bit value name = record { value = value; name = name }
+
+-- The communication faults that have names.
+abbrev pub comm_faults : List NamedBit
+comm_faults =
+    bit 0x40 (codes "vertical parity")
+    ∷ bit 0x20 (codes "overrun")
+    ∷ bit 0x10 (codes "framing")
+    ∷ bit 0x08 (codes "longitudinal parity")
+    ∷ bit 0x02 (codes "buffer overflow")
+    ∷ []
+
+-- The bits of the device status.
+abbrev pub device_states : List NamedBit
+device_states =
+    bit 0x80 (codes "device malfunction")
+    ∷ bit 0x40 (codes "configuration changed")
+    ∷ bit 0x20 (codes "cold start")
+    ∷ bit 0x10 (codes "more status available")
+    ∷ bit 0x08 (codes "loop current fixed")
+    ∷ bit 0x04 (codes "loop current saturated")
+    ∷ bit 0x02 (codes "non-primary variable out of limits")
+    ∷ bit 0x01 (codes "primary variable out of limits")
+    ∷ []
+
+-- A bit is set in a byte if the two have it in common.
+abbrev pub is_set : ℕ → NamedBit → Bool
+is_set byte bit = not (bit_and byte bit.value == 0)
+
+-- The names of the bits that are set in a byte, in the order of a table.
+abbrev pub set_names : ℕ → List NamedBit → List (List ℕ)
+set_names byte bits = flat_map (λ bit. if is_set byte bit then bit.name ∷ [] else []) bits
+
+-- A name that stands after another has a comma and a space before it.
+abbrev pub further : List ℕ → List ℕ
+further name = codes ", " ++ name
+
+-- The words of names are `none` if there are none, and otherwise the names, with a comma and a space between two of them.
+abbrev pub names_words : List (List ℕ) → List ℕ
+names_words [] = codes "none"
+names_words (name ∷ others) = name ++ flat_map further others
+
+-- A response code has a name, or `code` and its number if it has no name here: its meaning is then the command's, or none.
+abbrev pub code_words : ℕ → List ℕ
+code_words code =
+    if code == 0 then codes "success"
+    else if code == 2 then codes "invalid selection"
+    else if code == 5 then codes "too few data bytes"
+    else if code == 7 then codes "in write protect mode"
+    else if code == 64 then codes "command not implemented"
+    else codes "code " ++ decimal code
+
+-- If bit 7 of the first status byte is clear it is the response code, and the second is the device status. If it is set the first has
+-- communication faults, and of the second nothing is said.
+abbrev pub status_lines : ℕ → ℕ → List ℕ
+status_lines first second =
+    if nat_lt first 128
+    then said_line (codes "response code") (code_words first)
+    ++ said_line (codes "device status") (names_words (set_names second device_states))
+    else said_line (codes "communication faults") (names_words (set_names first comm_faults))
+
+-- For private calls alone:
+
+-- What the definitions see of a bit in the code.
+abbrev pub seen : code.NamedBit → NamedBit
+seen named = bit named.value named.name.now
+
+-- The names of bits have 40 characters at most.
+abbrev pub are_short : List code.NamedBit → Bool
+are_short bits = list_all (λ named. nat_le (length named.name.now) 40) bits
+
+-- The names of the bits that are set in a byte, each with a comma and a space before it.
+abbrev pub separated : ℕ → List code.NamedBit → List ℕ
+separated byte bits = flat_map (λ named. if is_set byte (seen named) then further named.name.now else []) bits
