@@ -3,6 +3,7 @@
 import pathlib
 
 from .commands import COMMANDS
+from .device import COMMUNICATION_FAULTS
 from .frames import BROADCAST, Polling, frames_of
 from .misses import missed
 from .texts import told
@@ -11,6 +12,12 @@ PAGE = pathlib.Path(__file__).parents[2] / "docs" / "PROTOCOL.md"
 SECTION = PAGE.read_text(encoding="utf-8").split("\n## Explanations")[1]
 
 MASTERS = {"P": "the primary master", "S": "the secondary master"}
+FAULT_NAMES = {0x40: "vertical parity", 0x20: "overrun", 0x10: "framing", 0x08: "longitudinal parity", 0x02: "buffer overflow"}
+STATUS_NAMES = {
+    0x80: "device malfunction", 0x40: "configuration changed", 0x20: "cold start", 0x10: "more status available",
+    0x08: "loop current fixed", 0x04: "loop current saturated", 0x02: "non-primary variable out of limits",
+    0x01: "primary variable out of limits"}
+CODE_NAMES = {0: "success", 2: "invalid selection", 5: "too few data bytes", 7: "in write protect mode", 64: "command not implemented"}
 
 
 def device_text(address, all_devices):
@@ -42,14 +49,32 @@ def hex_text(data):
     return data.hex(" ").upper()
 
 
+def names_text(names, byte):
+    """The names of the bits that are set in a byte, from the highest on."""
+    return ", ".join(name for bit, name in names.items() if byte & bit) or "none"
+
+
+def said_of_status(first, second):
+    """What the two status bytes of a reply say, by the names of the lines."""
+    if first & COMMUNICATION_FAULTS:
+        yield "communication faults", names_text(FAULT_NAMES, first)
+    else:
+        yield "response code", CODE_NAMES.get(first, f"code {first}")
+        yield "device status", names_text(STATUS_NAMES, second)
+
+
 def said(frame):
     """What a message says, by the names of the lines."""
+    data = frame.payload
     if frame.burst:
         yield "burst bit", "set"
     if frame.expansion:
         yield "expansion bytes", hex_text(frame.expansion)
-    if frame.payload:
-        yield "data", hex_text(frame.payload)
+    if frame.kind == "ACK":
+        yield from said_of_status(*data[:2])
+        data = data[2:]
+    if data:
+        yield "data", hex_text(data)
 
 
 def explained_lines(heard):
