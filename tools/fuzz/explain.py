@@ -17,7 +17,9 @@ STATUS_NAMES = {
     0x80: "device malfunction", 0x40: "configuration changed", 0x20: "cold start", 0x10: "more status available",
     0x08: "loop current fixed", 0x04: "loop current saturated", 0x02: "non-primary variable out of limits",
     0x01: "primary variable out of limits"}
-CODE_NAMES = {0: "success", 2: "invalid selection", 5: "too few data bytes", 7: "in write protect mode", 64: "command not implemented"}
+CODE_NAMES = {
+    0: "0, success", 2: "2, invalid selection", 5: "5, too few data bytes", 7: "7, in write protect mode",
+    64: "64, command not implemented"}
 
 
 def device_text(address, all_devices):
