@@ -53,14 +53,15 @@ abbrev pub names_words : List (List ℕ) → List ℕ
 names_words [] = codes "none"
 names_words (name ∷ others) = name ++ flat_map further others
 
--- A response code has a name, or `code` and its number if it has no name here: its meaning is then the command's, or none.
+-- A response code is said by its number and its name, or by `code` and its number if it has no name here: its meaning is then the
+-- command's, or none.
 abbrev pub code_words : ℕ → List ℕ
 code_words code =
-    if code == 0 then codes "success"
-    else if code == 2 then codes "invalid selection"
-    else if code == 5 then codes "too few data bytes"
-    else if code == 7 then codes "in write protect mode"
-    else if code == 64 then codes "command not implemented"
+    if code == 0 then codes "0, success"
+    else if code == 2 then codes "2, invalid selection"
+    else if code == 5 then codes "5, too few data bytes"
+    else if code == 7 then codes "7, in write protect mode"
+    else if code == 64 then codes "64, command not implemented"
     else codes "code " ++ decimal code
 
 -- If bit 7 of the first status byte is clear it is the response code, and the second is the device status. If it is set the first has

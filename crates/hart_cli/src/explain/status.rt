@@ -90,11 +90,11 @@ fn push_code(text: &mut Kept, code: u8)
     ensures few { length text.new ≤ length text.old + 30 }
 {
     match code {
-        0 => push_text(text, "success"),
-        2 => push_text(text, "invalid selection"),
-        5 => push_text(text, "too few data bytes"),
-        7 => push_text(text, "in write protect mode"),
-        64 => push_text(text, "command not implemented"),
+        0 => push_text(text, "0, success"),
+        2 => push_text(text, "2, invalid selection"),
+        5 => push_text(text, "5, too few data bytes"),
+        7 => push_text(text, "7, in write protect mode"),
+        64 => push_text(text, "64, command not implemented"),
         _ => {
             push_text(text, "code ");
             push_text(text, Buffer::new().format(code));

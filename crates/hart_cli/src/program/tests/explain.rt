@@ -24,7 +24,7 @@ Command 19, write final assembly number\n    data: 01 23 45\n",
     (
         "FF FF 86 F7 42 0A 1B 2C 21 02 00 00 2D",
         "2-13: reply of device 37420A1B2C to the primary master, \
-Command 33\n    burst bit: set\n    response code: success\n    device status: none\n",
+Command 33\n    burst bit: set\n    response code: 0, success\n    device status: none\n",
         "",
     ),
     (
@@ -36,13 +36,13 @@ Command 11, read unique identifier associated with tag\n    expansion bytes: AA 
     (
         "FF FF 86 80 00 00 00 00 0B 02 05 00 0A",
         "2-13: reply of one of all devices to the primary master, \
-Command 11, read unique identifier associated with tag\n    response code: too few data bytes\n    device status: none\n",
+Command 11, read unique identifier associated with tag\n    response code: 5, too few data bytes\n    device status: none\n",
         "",
     ),
     (
         "FF FF 86 B7 42 0A 1B 2C 13 05 00 60 01 23 45 5F",
         "2-16: reply of device 37420A1B2C to the primary master, Command 19, write final assembly number\n\
-\x20   response code: success\n    device status: configuration changed, cold start\n    data: 01 23 45\n",
+\x20   response code: 0, success\n    device status: configuration changed, cold start\n    data: 01 23 45\n",
         "",
     ),
     (
