@@ -4,7 +4,8 @@ use Rattle.std.proofs.lemmas.Grind.{common_steps}
 use Rattle.std.proofs.lemmas.Bool.Decides.{nat_tests}
 use Rattle.std.specs.List.{flat_map}
 use Rattle.hart_cli.specs.declared.explain.status.NamedBit as code
-use Rattle.hart_cli.specs.explain.Status.{code_words, comm_faults, device_states, further, names_words, seen, separated, set_names, status_lines}
+use Rattle.hart_cli.specs.explain.Status.{code_words, comm_faults, device_states, further, names_words, seen, separated, set_names}
+use Rattle.hart_cli.specs.explain.Status.{status_lines}
 use Rattle.hart_cli.specs.explain.Words.{said_line}
 
 -- the names of the bits that are set, each with a comma and a space before it
