@@ -9,7 +9,7 @@
 #   make held-view            tries that nothing is pushed to a scanner while a view of it is held, as make check does
 #   make fuzz N=..            holds ./hart against a plain model of it on N random inputs; make check does not
 #   make install PREFIX=DIR   puts hart into DIR/bin
-#   make bench                measures hart dump, hart answer and hart sim; it asserts no time
+#   make bench                measures hart dump, hart answer, hart explain and hart sim; it asserts no time
 
 PREFIX ?= /usr/local
 N ?= 10000
@@ -47,6 +47,7 @@ fuzz: hart
 bench: hart
 	python3 bench/dump.py
 	python3 bench/answer.py
+	python3 bench/explain.py
 	python3 bench/sim.py
 
 install: hart
