@@ -1,0 +1,37 @@
+#!/usr/bin/env python3
+"""Measures `hart explain` on inputs of the largest size. It asserts no time.
+
+Prints for each input characters a second, the ratio of its time to that of `hart dump` over the same text, and the size of what it
+writes beside what `hart dump` does. Each time is the best of several runs of the whole program, from its start to its end, with its
+output thrown away. Beside it stand the instructions for each byte of the text, by valgrind where it is there, and how they grow from
+the first 64 KiB to the whole.
+
+Usage: bench/explain.py [PROGRAM [RUNS]]; PROGRAM is ./hart, RUNS 15.
+"""
+
+import subprocess
+import sys
+
+from dump import SPACED, best_time, inputs, spaced
+from instructions import counted
+
+
+def written(command, text):
+    """How many bytes a run writes."""
+    return len(subprocess.run(command, input=text, capture_output=True, check=True).stdout)
+
+
+def main():
+    program = sys.argv[1] if len(sys.argv) > 1 else "./hart"
+    runs = int(sys.argv[2]) if len(sys.argv) > 2 else 15
+    explain, dump = [program, "explain"], [program, "dump"]
+    for name, characters in inputs(SPACED).items():
+        text = spaced(characters)
+        seconds = best_time(explain, text, runs)
+        dumped = best_time(dump, text, runs)
+        print(f"{name}: {SPACED / seconds / 1e6:.1f} million characters a second, {seconds / dumped:.2f} of the time of hart dump, "
+              f"writes {written(explain, text)} bytes, hart dump {written(dump, text)}; {counted(explain, text)}")
+
+
+if __name__ == "__main__":
+    main()
