@@ -2,11 +2,13 @@
 
 import pathlib
 
+from . import commands
 from .commands import COMMANDS
 from .device import COMMUNICATION_FAULTS
+from .fields import said_of_fields
 from .frames import BROADCAST, Polling, frames_of
 from .misses import missed
-from .texts import told
+from .texts import hex_text, told
 
 PAGE = pathlib.Path(__file__).parents[2] / "docs" / "PROTOCOL.md"
 SECTION = PAGE.read_text(encoding="utf-8").split("\n## Explanations")[1]
@@ -20,6 +22,10 @@ STATUS_NAMES = {
 CODE_NAMES = {
     0: "0, success", 2: "2, invalid selection", 5: "5, too few data bytes", 7: "7, in write protect mode",
     64: "64, command not implemented"}
+# Why the data of a request are refused, by the code.
+REFUSALS = {commands.INVALID_SELECTION: "invalid selection", commands.INVALID_DATE: "invalid date", commands.INVALID_MODE: "invalid mode"}
+# How many bytes Command 38 needs, which also does without any.
+COUNTER_BYTES = 2
 
 
 def device_text(address, all_devices):
@@ -46,11 +52,6 @@ def message_line(found):
     return f"{found.start}-{found.stop}: {who_text(found.frame)}, {command_text(found.frame.command)}"
 
 
-def hex_text(data):
-    """Bytes in hex with spaces between them."""
-    return data.hex(" ").upper()
-
-
 def names_text(names, byte):
     """The names of the bits that are set in a byte, from the highest on."""
     return ", ".join(name for bit, name in names.items() if byte & bit) or "none"
@@ -65,18 +66,65 @@ def said_of_status(first, second):
         yield "device status", names_text(STATUS_NAMES, second)
 
 
+def bytes_line(name, data):
+    """The line of this name with these bytes, none without any."""
+    if data:
+        yield name, hex_text(data)
+
+
+def said_of_too_few(command, data):
+    """What is said of request data that are fewer than the command needs."""
+    yield from bytes_line("data", data)
+    yield "too few data", f"{len(data)} of {commands.NEEDED[command] or COUNTER_BYTES}"
+
+
+def said_of_request(command, data):
+    """What is said of the data of a request to a command that is listed; write protection and counter are not known."""
+    code = commands.request_code(command, data)
+    if code == commands.TOO_FEW_BYTES:
+        yield from said_of_too_few(command, data)
+        return
+    taken = len(commands.written_data(command, data))
+    yield from said_of_fields("STX", command, data[:taken])
+    if code != commands.SUCCESS:
+        yield "refused", f"code {code}, {REFUSALS[code]}"
+    yield from bytes_line("ignored", data[taken:])
+
+
+def said_of_content(command, data):
+    """What is said of the data of a reply with code 0 to a command that is listed."""
+    taken = commands.reply_data(command, data)
+    if taken is None:
+        yield f"data that are no reply to Command {command}", hex_text(data) or "none"
+        return
+    yield from said_of_fields("ACK", command, taken)
+    yield from bytes_line("ignored", data[len(taken):])
+
+
+def said_of_reply(command, first, data):
+    """What is said of the data of a reply, by its command and its first status byte."""
+    if first == commands.SUCCESS and command in COMMANDS:
+        yield from said_of_content(command, data)
+    elif first & COMMUNICATION_FAULTS or command in COMMANDS:
+        yield from bytes_line("ignored", data)
+    else:
+        yield from bytes_line("data", data)
+
+
 def said(frame):
     """What a message says, by the names of the lines."""
-    data = frame.payload
+    command, data = frame.command, frame.payload
     if frame.burst:
         yield "burst bit", "set"
     if frame.expansion:
         yield "expansion bytes", hex_text(frame.expansion)
     if frame.kind == "ACK":
         yield from said_of_status(*data[:2])
-        data = data[2:]
-    if data:
-        yield "data", hex_text(data)
+        yield from said_of_reply(command, data[0], data[2:])
+    elif command in COMMANDS:
+        yield from said_of_request(command, data)
+    else:
+        yield from bytes_line("data", data)
 
 
 def explained_lines(heard):

@@ -97,6 +97,11 @@ def address_text(address):
     return "all" if address == BROADCAST else f"{address.type:04X}{address.id:06X}"
 
 
+def hex_text(data):
+    """Bytes in hex with spaces between them."""
+    return data.hex(" ").upper()
+
+
 def hex_or_dash(data):
     """Bytes in hex, or `-` for none."""
     return data.hex().upper() or "-"
@@ -136,10 +141,10 @@ def dump(given):
 
 
 def message_text(frame, preambles):
-    """A message as bytes in hex with spaces between them, or nothing for None."""
+    """The line of a message, or nothing for None."""
     if frame is None:
         return b""
-    return (b"\xFF" * preambles + body_of(frame)).hex(" ").upper().encode() + b"\n"
+    return hex_text(b"\xFF" * preambles + body_of(frame)).encode() + b"\n"
 
 
 def answer(given):

@@ -1,0 +1,95 @@
+"""The fields into which the data of a command fall, with their names, and how `hart explain` writes the value of each."""
+
+import re
+from typing import NamedTuple
+
+from .commands import PAGE, is_date
+from .device import unpacked
+from .texts import hex_text
+
+SECTION = PAGE.read_text(encoding="utf-8").split("\n## Names of fields\n")[1].split("\n## ")[0]
+# The cell of a row that says which data it is of, as `requests of 6; replies to 6 and 7`.
+WHOSE = re.compile(r"(requests of|replies to) ([^;]+)")
+KINDS_OF_MESSAGES = {"requests of": "STX", "replies to": "ACK"}
+VARIABLE_BYTES = 8
+
+
+class Field(NamedTuple):
+    """A field: its name, how many bytes it has, None if that is not fixed, and the kind of its value."""
+
+    name: str
+    size: int | None
+    kind: str
+
+
+def whose_data(cell):
+    """The kinds of messages and the commands whose data a cell names."""
+    for words, numbers in WHOSE.findall(cell):
+        for number in re.findall(r"\d+", numbers):
+            yield KINDS_OF_MESSAGES[words], int(number)
+
+
+def table():
+    """The fields of the table in docs/COMMANDS.md, by the kind of the message and the command; an empty cell means the one above it."""
+    fields, whose = {}, ""
+    for line in re.findall(r"^\| (.*) \|$", SECTION, re.MULTILINE)[1:]:
+        cell, name, size, kind = (part.strip() for part in line.split("|"))
+        whose = cell or whose
+        for data in whose_data(whose):
+            fields.setdefault(data, []).append(Field(name, int(size) if size.isdigit() else None, kind))
+    return fields
+
+
+FIELDS = table()
+
+
+def fallen(fields, data):
+    """The fields that these bytes reach, each with its own: the one without a fixed number has all that the others leave."""
+    left = len(data) - sum(field.size or 0 for field in fields)
+    place = 0
+    for field in fields:
+        stop = place + (left if field.size is None else field.size)
+        if place < len(data):
+            yield field, data[place:stop]
+        place = stop
+
+
+def number_text(data):
+    """A number, the most significant byte first."""
+    return str(int.from_bytes(data, "big"))
+
+
+def packed_text(data):
+    """All characters of a packed text, in quotes."""
+    return f'"{unpacked(data).decode()}"'
+
+
+def date_text(data):
+    """A date by its year, month and day."""
+    if data == bytes(3):
+        return "not set"
+    if not is_date(data):
+        return f"{hex_text(data)}, no date"
+    day, month, year = data
+    return f"{1900 + year}-{month:02}-{day:02}"
+
+
+def variable_text(data):
+    """A device variable by its parts."""
+    code, classification, unit = data[:3]
+    return f"code {code}, classification {classification}, unit {unit}, value {hex_text(data[3:7])}, status {hex_text(data[7:])}"
+
+
+def variables_text(data):
+    """Device variables, one after the other."""
+    return "; ".join(variable_text(data[place:place + VARIABLE_BYTES]) for place in range(0, len(data), VARIABLE_BYTES))
+
+
+VALUES = {"bytes": hex_text, "float": hex_text, "number": number_text, "packed text": packed_text, "date": date_text,
+          "variables": variables_text}
+
+
+def said_of_fields(kind, command, data):
+    """The names and the values of the fields of these data of a command, in a message of a kind."""
+    for field, part in fallen(FIELDS.get((kind, command), ()), data):
+        yield field.name, VALUES[field.kind](part)
