@@ -54,13 +54,22 @@ DUMPED = (
     ("F F", "", "bad hex at 0"),
 )
 
-# What `hart explain` hears and says, as docs/PROTOCOL.md shows it: what is heard may be wrapped, and a line that is said stands below
-# the first one.
-HEARD = re.compile(r"^heard    (.+(?:\n {9}.+)*)\nsaid     (.+(?:\n {9}.+)*)$", re.MULTILINE)
+# What is said, as a page shows it: each line below the first stands nine spaces in, and what a line goes on with eight more.
+SAID = r"said     (.+(?:\n {9}.+)*)\n"
+INDENT, GOES_ON = "\n" + 9 * " ", "\n" + 17 * " "
+
+
+def said_text(shown):
+    """The text of what a page shows as said."""
+    return shown.replace(GOES_ON, " ").replace(INDENT, "\n") + "\n"
+
+
+# What `hart explain` hears and says, as docs/PROTOCOL.md shows it; what is heard may be wrapped.
+HEARD = re.compile(r"^heard    (.+(?:\n {9}.+)*)\n" + SAID, re.MULTILINE)
 
 # The input of `hart explain`, its text, and its fault.
 EXPLAINED = (
-    *((heard, said.replace("\n" + " " * 9, "\n") + "\n", "") for heard, said in HEARD.findall(SECTION)),
+    *((heard, said_text(said), "") for heard, said in HEARD.findall(SECTION)),
     ("FF FF!40 02 80 00 00 82", "", ""),
     ("FF FF 02 80 00 00 82 FF FF 06 80 0G", f"2-7: {IDENTIFIED}\n9: no message: it ends before its byte count\n", "bad hex at 33"),
     ("FF FF", "", ""),
