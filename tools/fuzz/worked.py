@@ -54,7 +54,7 @@ DUMPED = (
     ("F F", "", "bad hex at 0"),
 )
 
-# What is said, as a page shows it: each line below the first stands nine spaces in, and what a line goes on with eight more.
+# What is said, as the pages show it: each line below the first stands nine spaces in, and what a line goes on with eight more.
 SAID = r"said     (.+(?:\n {9}.+)*)\n"
 INDENT, GOES_ON = "\n" + 9 * " ", "\n" + 17 * " "
 
@@ -67,9 +67,14 @@ def said_text(shown):
 # What `hart explain` hears and says, as docs/PROTOCOL.md shows it; what is heard may be wrapped.
 HEARD = re.compile(r"^heard    (.+(?:\n {9}.+)*)\n" + SAID, re.MULTILINE)
 
+# What the bench device as it is new hears and replies, as docs/COMMANDS.md shows it, and what is said of both, one after the other.
+SHOWN = re.compile(r"^```\nrequest  ([0-9A-F\s]+)^(?:reply    ([0-9A-F\s]+)|silence\n)(?:" + SAID + ")?^```$", re.MULTILINE)
+ON_PAGE = SHOWN.findall(PAGE.read_text(encoding="utf-8"))
+
 # The input of `hart explain`, its text, and its fault.
 EXPLAINED = (
     *((heard, said_text(said), "") for heard, said in HEARD.findall(SECTION)),
+    *((request + reply, said_text(said), "") for request, reply, said in ON_PAGE if said),
     ("FF FF!40 02 80 00 00 82", "", ""),
     ("FF FF 02 80 00 00 82 FF FF 06 80 0G", f"2-7: {IDENTIFIED}\n9: no message: it ends before its byte count\n", "bad hex at 33"),
     ("FF FF", "", ""),
@@ -83,13 +88,9 @@ EXPLAINED = (
     ("FF FF 02 80 00 00 82 8", f"2-7: {IDENTIFIED}\n", "bad hex at 21"),
 )
 
-# What the bench device as it is new hears and replies, as docs/COMMANDS.md shows it.
-SHOWN = re.compile(r"^```\nrequest  ([0-9A-F\s]+)^(?:reply    ([0-9A-F\s]+)|silence\n)^```$", re.MULTILINE)
-ON_PAGE = SHOWN.findall(PAGE.read_text(encoding="utf-8"))
-
 # The input of `hart answer`, and its reply.
 ANSWERED = (
-    *ON_PAGE,
+    *((request, reply) for request, reply, _ in ON_PAGE),
     ("FF FF FF FF FF 02 80 00 00 82", "FF" * 5 + "068000" + IDENTITY + "31"),
     ("FF FF 02 00 00 00 02", "FF" * 5 + "060000" + IDENTITY + "B1"),
     (INSIDE, "FF" * 5 + "068000" + IDENTITY + "31"),
