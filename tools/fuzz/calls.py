@@ -1,6 +1,6 @@
 """Makes what a call is given, its words and its text."""
 
-from . import events, images, inputs, misheard
+from . import events, heard, images, inputs, misheard
 from .device import NEW_IMAGE, Device
 from .heard import weighted
 from .texts import INPUT_LIMIT, Given
@@ -16,7 +16,8 @@ def dump_given(rng):
 
 def explain_given(rng):
     """What `hart explain` is given."""
-    text = inputs.input_text(rng, misheard.misheard(rng)) if rng.random() < 0.7 else inputs.dump_input(rng)
+    make = weighted(rng, (5, misheard.misheard), (3, misheard.spoken), (2, heard.random_heard))
+    text = inputs.input_text(rng, make(rng))
     return Given([], None if rng.random() < 0.002 else text)
 
 

@@ -53,6 +53,12 @@ def with_message_inside(rng, data):
     return data[:place] + SMALL_MESSAGE + data[place + len(SMALL_MESSAGE):]
 
 
+def random_date(rng):
+    """The bytes of a date, also of one that is in no calendar, or of none."""
+    day = bytes([rng.randint(1, 31), rng.randint(1, 12), rng.randrange(256)])
+    return weighted(rng, (2, rng.choice(DATES)), (2, day), (1, rng.randbytes(3)), (1, bytes(3)))
+
+
 def good_data(rng, command, counter=0, tag=BLANK_TAG, long_tag=BLANK_LONG_TAG):
     """Request data that the command takes, as a rule."""
     if command == 6:
@@ -66,8 +72,7 @@ def good_data(rng, command, counter=0, tag=BLANK_TAG, long_tag=BLANK_LONG_TAG):
         text = rng.choice((BLANK_TAG * 4, rng.randbytes(24), bytes([255] * 24)))
         return with_message_inside(rng, text) if rng.random() < 0.3 else text
     if command == 18:
-        date = rng.choice(DATES) if rng.random() < 0.8 else rng.randbytes(3)
-        return rng.choice((BLANK_TAG, OTHER_TAG)) + rng.choice((BLANK_TAG * 2, rng.randbytes(12))) + date
+        return rng.choice((BLANK_TAG, OTHER_TAG)) + rng.choice((BLANK_TAG * 2, rng.randbytes(12))) + random_date(rng)
     if command == 19:
         return rng.choice((bytes.fromhex("012345"), rng.randbytes(3), bytes.fromhex("FFFFFF")))
     if command == 21:

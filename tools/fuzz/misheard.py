@@ -1,59 +1,24 @@
-"""Makes characters of which `hart explain` has more to say: messages that are no messages, and data that do not fit their command."""
+"""Makes characters of which `hart explain` has more to say: messages that are no messages, and those whose data do not fit."""
 
 from . import heard
-from .commands import COMMANDS, IDENTITY_COMMANDS, IDENTITY_FIRST, REPLY_NEEDED
+from .commands import COMMANDS, UNKNOWN
 from .frames import PREAMBLE, Char, faultless
 from .heard import weighted
+from .payloads import reply_payload, request_data
 
-CODES = (1, 2, 3, 4, 5, 6, 7, 8, 9, 10, 11, 12, 13, 14, 16, 32, 33, 34, 35, 36, 64, 65, 127)
-FAULT_BYTES = (0x80, 0x81, 0x82, 0x84, 0x85, 0x88, 0x90, 0xA0, 0xC0, 0xE8, 0xFA, 0xFF)
-STATUS_BYTES = (0x00, 0x00, 0x40, 0x48, 0x60, 0x80, 0x10, 0x08, 0x04, 0x02, 0x01, 0xFF)
-MOST_REPLY_DATA = 253
-
-
-def reply_size(rng, command):
-    """How many bytes of data a reply with code 0 has."""
-    if command == 3:
-        return 4 + 5 * rng.randint(1, 4)
-    if command == 9:
-        return 5 + 8 * rng.randint(1, 8)
-    if command == 48:
-        return rng.randint(1, 25)
-    return REPLY_NEEDED.get(command, 0)
-
-
-def reply_data(rng, command):
-    """Data of a reply with code 0: as they are to be, as a rule, or too few, too many, or others."""
-    data = heard.random_bytes(rng, reply_size(rng, command))
-    if command in (13, 18):
-        data = data[:18] + rng.choice(heard.DATES)
-    if command in IDENTITY_COMMANDS and rng.random() < 0.9:
-        data = bytes([IDENTITY_FIRST]) + data[1:]
-    more = heard.random_bytes(rng, rng.choice((1, 1, 2, 4, 5, 8, 30)))
-    return weighted(rng, (12, data), (3, data + more), (2, data[:-1]), (1, data[:rng.randrange(len(data) + 1)]), (1, more))
-
-
-def reply_payload(rng, command):
-    """The payload of a reply: a response code, mostly 0, or communication faults, a second byte, and data, which may be none."""
-    kind = weighted(rng, (12, "success"), (4, "refused"), (3, "faults"))
-    second = rng.choice((*STATUS_BYTES, rng.randrange(256)))
-    if kind == "success":
-        return bytes([0, second]) + reply_data(rng, command)[:MOST_REPLY_DATA]
-    first = rng.choice((*CODES, rng.randrange(1, 128))) if kind == "refused" else rng.choice((*FAULT_BYTES, rng.randrange(128, 256)))
-    data = rng.choice((b"", b"", reply_data(rng, command)))
-    return bytes([first, rng.choice((0, second)) if kind == "faults" else second]) + data[:MOST_REPLY_DATA]
+BESIDE_LISTED = [number for number in UNKNOWN if {number - 1, number + 1} & set(COMMANDS)]
 
 
 def command_of(rng):
-    """A command, each of the profile as often as any other."""
-    return rng.choice((*COMMANDS, rng.randrange(256)))
+    """A command, each of the profile as often as any other, and sometimes one that is not listed."""
+    return rng.choice((*COMMANDS, rng.choice(UNKNOWN), rng.choice(BESIDE_LISTED)))
 
 
 def body(rng):
     """A body of a request or a reply, whose data are mostly near to those of its command."""
     command, ack = command_of(rng), rng.random() < 0.6
     expansion = rng.randbytes(weighted(rng, (12, 0), (1, 1), (1, 2), (1, 3)))
-    payload = reply_payload(rng, command) if ack else heard.random_data(rng, command)
+    payload = reply_payload(rng, command) if ack else request_data(rng, command)
     return heard.body_of_fields(rng, ack, heard.random_address(rng), expansion, command, payload)
 
 
@@ -128,3 +93,8 @@ def misheard(rng):
         pieces.append(cut_message(rng))
     characters = tuple(char for piece in pieces for char in piece)
     return heard.damaged(rng, characters) if rng.random() < 0.1 else characters
+
+
+def spoken(rng):
+    """Many whole messages, one after the other."""
+    return tuple(char for _ in range(rng.randint(4, 20)) for char in message(rng))
