@@ -87,7 +87,7 @@ def said_of_request(command, data):
     taken = len(commands.written_data(command, data))
     yield from said_of_fields("STX", command, data[:taken])
     if code != commands.SUCCESS:
-        yield "refused", f"code {code}, {REFUSALS[code]}"
+        yield "refused", f"{code}, {REFUSALS[code]}"
     yield from bytes_line("ignored", data[taken:])
 
 
