@@ -6,6 +6,8 @@ pub mod Chunk
 pub mod Parts
 pub mod Reply
 pub mod RequestMade
+pub mod NeededData
+pub mod RequestFront
 pub mod Laws
 pub mod Fields
 pub mod Parted

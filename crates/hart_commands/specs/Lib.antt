@@ -7,6 +7,7 @@ pub mod SensorBytes
 pub mod OutputBytes
 pub mod ReplyReading
 pub mod Commands
+pub mod NeededData
 pub mod RequestData
 pub mod RequestCode
 pub mod Registers

@@ -1,10 +1,11 @@
 //! Laws over the definitions alone, for the crates above.
-ghost use Rattle.std.specs.Prelude.{◌≡◌, ◌≢◌, ◌<◌, AllPairs, Contains, ◌↔◌, ◌++◌, List, ℕ, false, true, Ok, Err, Some, IsTrue, IsSome};
-ghost use Rattle.std.specs.Prelude.{is_some, length, take};
+ghost use Rattle.std.specs.Prelude.{◌≡◌, ◌≢◌, ◌<◌, ◌≤◌, All, AllPairs, Contains, ◌↔◌, ◌++◌, List, ℕ, false, true, Ok, Err, Some};
+ghost use Rattle.std.specs.Prelude.{IsTrue, IsSome, is_some, length, take};
 ghost use Rattle.hart_commands.specs.RequestData.{IsRequest, MayFollow, command_of, is_known};
 ghost use Rattle.hart_commands.specs.RequestData.{request_reading, request_data};
 ghost use Rattle.hart_commands.specs.Commands.{content_bytes};
 ghost use Rattle.hart_commands.specs.Fields.{bytes_of, command_name, field_bytes, fields_of, reply_rows, request_rows};
+ghost use Rattle.hart_commands.specs.NeededData.{AreTooFew, needed_data};
 ghost use Rattle.hart_commands.specs.Parts.{content_parts, request_parts};
 ghost use Rattle.hart_commands.specs.RequestCode.{is_write};
 ghost use Rattle.hart_commands.specs.Registers.{AreValid, Contents, named_in, overwrite_of, overwritten, registers};
@@ -40,6 +41,33 @@ pub fn written_data_are_their_request()
 pub fn requests_have_their_command()
     ensures { (command : ℕ) (bytes : List ℕ) (request : Request)
         → request_reading command bytes ≡ Ok request → (command_of request ≡ command) × IsRequest request }
+{}
+
+/// Data that are read as a request agree with those that it is written as, as far as both go. They begin with all of them unless they
+/// are fewer, and are fewer only for Command 6 without its mode; then they have the first of its fields.
+pub fn read_data_begin_as_written()
+    ensures agree { (command : ℕ) (bytes : List ℕ) (request : Request) → All (λ byte. byte < 256) bytes
+        → request_reading command bytes ≡ Ok request
+        → take (length (request_data request)) bytes ≡ take (length bytes) (request_data request) }
+    ensures whole { (command : ℕ) (bytes : List ℕ) (request : Request) → All (λ byte. byte < 256) bytes
+        → request_reading command bytes ≡ Ok request → length (request_data request) ≤ length bytes
+        → take (length (request_data request)) bytes ≡ request_data request }
+    ensures left_out { (command : ℕ) (bytes : List ℕ) (request : Request) → All (λ byte. byte < 256) bytes
+        → request_reading command bytes ≡ Ok request → length bytes < length (request_data request)
+        → (command ≡ 6) × (length bytes ≡ 1) }
+    ensures fields { (command : ℕ) (bytes : List ℕ) (request : Request) → All (λ byte. byte < 256) bytes
+        → request_reading command bytes ≡ Ok request → length bytes < length (request_data request)
+        → fields_of (request_rows command) (take (length (request_data request)) bytes)
+        ≡ take 1 (fields_of (request_rows command) (request_data request)) }
+{}
+
+/// Data are refused with code 5 exactly if they are too few for their command. So data of at least as many bytes as it needs are never
+/// refused with it, and data that are, stay so with further bytes while they are fewer than needed.
+pub fn too_few_data_are_fewer_than_needed()
+    ensures exactly { (command : ℕ) (bytes : List ℕ) → (request_reading command bytes ≡ Err 5) ↔ AreTooFew command bytes }
+    ensures enough { (command : ℕ) (bytes : List ℕ) → needed_data command ≤ length bytes → request_reading command bytes ≢ Err 5 }
+    ensures still { (command : ℕ) (bytes rest : List ℕ) → request_reading command bytes ≡ Err 5
+        → length (bytes ++ rest) < needed_data command → request_reading command (bytes ++ rest) ≡ Err 5 }
 {}
 
 /// A command is known exactly if none of its data are refused with code 64.

@@ -17,12 +17,14 @@
 //! of it takes memory.
 //!
 //! Each command has a name, [`command_name`], and so has each field of its data, in [`request_rows`] and [`reply_rows`]: by
-//! these rows data fall into the parts that they have.
+//! these rows data fall into the parts that they have. How many of the bytes that were heard a request or a reply takes say
+//! [`Request::data_len`] and [`Reply::data_len`], and how many a command needs says [`needed_data`].
 //!
 //! The other crates of `hart` call neither [`is_write`] nor [`CodeList::new`]: these are for whoever makes requests with this
 //! library, and so are the laws that requests are well made, that a written reply is read again, that written data are read again
-//! whatever follows them, that only unknown commands are refused with code 64, that each known command has a name of its own, that
-//! each field is a part of the data, and that overwrites are valid.
+//! whatever follows them, that data that are read begin as they are written, that data are too few only if they are fewer than
+//! needed, that only unknown commands are refused with code 64, that each known command has a name of its own, that each field is a
+//! part of the data, and that overwrites are valid.
 #![tactic(auto)]
 
 mod code_list;
@@ -46,16 +48,17 @@ pub use fields::{FieldKind, FieldRow, FieldSize, command_name, reply_rows, reque
 pub use identity::IdentityContent;
 pub use laws::{
     all_registers_are_listed_once, fields_are_all_of_the_data, fields_are_the_parts,
-    known_commands_have_names, overwrites_are_valid, requests_are_well_made,
-    requests_have_their_command, unknown_commands_are_refused, writes_have_overwrites,
-    written_data_are_read_again, written_data_are_their_request, written_payloads_are_read_again,
+    known_commands_have_names, overwrites_are_valid, read_data_begin_as_written,
+    requests_are_well_made, requests_have_their_command, too_few_data_are_fewer_than_needed,
+    unknown_commands_are_refused, writes_have_overwrites, written_data_are_read_again,
+    written_data_are_their_request, written_payloads_are_read_again,
 };
 pub use output::OutputContent;
 pub use overwrite::{Overwrite, is_write, writes_of};
 pub use register::Register;
 pub use reply::Reply;
 pub use request::code::request_code;
-pub use request::{Request, mode_bytes};
+pub use request::{Request, mode_bytes, needed_data};
 pub use sensor::SensorContent;
 pub use short_list::ShortList;
 pub use value::{UnitValue, VariableReading};

@@ -1,5 +1,5 @@
-ghost use Rattle.std.specs.Prelude.{◌≡◌, IfSome};
-ghost use Rattle.hart_commands.specs.ReplyData.{IsReply, reply_reading, reply_payload};
+ghost use Rattle.std.specs.Prelude.{◌≡◌, ◌≤◌, length, IfSome};
+ghost use Rattle.hart_commands.specs.ReplyData.{IsReply, content_bytes, reply_reading, reply_payload};
 
 use crate::ReplyContent;
 use crate::request::is_known;
@@ -43,6 +43,16 @@ impl Reply {
         payload.push(self.code.value());
         payload.push(self.status.0);
         self.content.push_to(payload);
+    }
+
+    /// How many data bytes [`Reply::write`] gives, after the two status bytes: those of the content.
+    pub fn data_len(&self) -> usize
+        ensures len { result ≡ length (content_bytes self.now.content) }
+        ensures few { result ≤ 255 }
+    {
+        let mut data = Payload::new();
+        self.content.push_to(&mut data);
+        data.len()
     }
 }
 

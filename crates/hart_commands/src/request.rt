@@ -1,4 +1,5 @@
 ghost use Rattle.std.specs.Prelude.{◌≡◌, ◌≤◌, ◌+◌, [], ◌∷◌, ◌++◌, length, IfOk};
+ghost use Rattle.hart_commands.specs.NeededData.{needed_data};
 ghost use Rattle.hart_commands.specs.RequestData.{IsRequest, is_known, request_reading, command_of, request_data, mode_byte};
 
 use crate::CodeList;
@@ -138,6 +139,17 @@ impl Request {
         data.extend_from_slice(third);
     }
 
+    /// How many bytes [`Request::write`] gives: so many that the command needs, and always two for Command 6.
+    pub fn data_len(&self) -> usize
+        ensures len { result ≡ length (request_data self.now) }
+        ensures few { result ≤ 32 }
+        ensures well_made { IsRequest self.now }
+    {
+        let mut counter = [0; 2];
+        let (_, first, second, third) = self.parts(&mut counter);
+        first.len() + second.len() + third.len()
+    }
+
     /// The number of its command, and the parts of its data, one after another. The bytes of a counter are put in `counter`.
     fn parts<'a>(&'a self, counter: &'a mut [u8; 2]) -> (u8, &'a [u8], &'a [u8], &'a [u8])
         ensures command { result.0 ≡ command_of self.now }
@@ -190,6 +202,23 @@ pub(crate) fn is_known(command: u8) -> bool
         Request::read(command, &[]),
         Err(ResponseCode::COMMAND_NOT_IMPLEMENTED)
     )
+}
+
+/// How many data bytes a request of this command needs: fewer are refused with code 5, too few data bytes, but that Command 38 may
+/// have none. It is 0 if the command needs none, or is not known (HCF_SPEC-127).
+pub fn needed_data(command: u8) -> usize
+    ensures { result ≡ needed_data command }
+{
+    match command {
+        6 | 9 => 1,
+        38 => 2,
+        19 => 3,
+        11 => 6,
+        18 => 21,
+        17 => 24,
+        21 | 22 => 32,
+        _ => 0,
+    }
 }
 
 /// The byte of a loop current mode: 0 disabled, 1 enabled.

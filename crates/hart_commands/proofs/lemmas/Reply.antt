@@ -38,7 +38,7 @@ by_test true x y P then_x else_y = then_x refl
 by_test false x y P then_x else_y = else_y refl
 
 -- the front of a list is as many of its items as it has
-front : (n : ℕ) (xs : List ℕ) → take n xs ≡ take (length (take n xs)) xs
+pub front : (n : ℕ) (xs : List ℕ) → take n xs ≡ take (length (take n xs)) xs
 front zero xs = refl
 front (suc n) [] = refl
 front (suc n) (x ∷ xs) = ap (λ ys. x ∷ ys) (front n xs)

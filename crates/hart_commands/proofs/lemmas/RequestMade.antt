@@ -26,7 +26,7 @@ IsGiven command (Err code) = code ≢ 64
 abbrev pub Gives : ℕ → (List ℕ → Reading) → Type 0
 Gives command asked = (bytes : List ℕ) → IsGiven command (asked bytes)
 
-by_test : (b : Bool) (x y : Reading) (P : Reading → Type 0) → (b ≡ true → P x) → (b ≡ false → P y) → P (if b then x else y)
+pub by_test : (b : Bool) (x y : Reading) (P : Reading → Type 0) → (b ≡ true → P x) → (b ≡ false → P y) → P (if b then x else y)
 by_test true x y P then_x else_y = then_x refl
 by_test false x y P then_x else_y = else_y refl
 

@@ -1,0 +1,170 @@
+-- Data that are read as a request begin with those that it is written as, but for the mode that Command 6 may leave out.
+use Rattle.std.proofs.Common.{◌≡◌, ℕ, ◌*◌, ◌+◌, ◌/◌, ◌%◌, ◌<◌, ◌≤◌, ◌⊎◌, inl, inr, All, List, [], ◌∷◌, ◌++◌, take, drop, length, Ok}
+use Rattle.std.proofs.Common.{Option, Some, None, Err, IfSome, refl, sym, ap, ◌∙◌, subst, arith, ltb, eqb}
+use Rattle.std.proofs.Common.{append_assoc, length-take}
+use Rattle.std.specs.List.{AllByRecursion}
+use Rattle.std.proofs.Math.Seq.{take-add}
+use Rattle.std.proofs.lemmas.Bool.{cases_lt}
+use Rattle.std.proofs.lemmas.List.{drop-drop, take_all}
+use Rattle.hart_values.specs.declared.loop_mode.LoopMode.TheVariants.{Disabled, Enabled}
+use Rattle.hart_commands.specs.declared.request.Request.{Request}
+use Rattle.hart_commands.specs.declared.request.Request.TheVariants.{SetPolling, WriteTag}
+use Rattle.hart_commands.specs.TagBytes.{tag_in, descriptor_in, date_in}
+use Rattle.hart_commands.specs.RequestReading.{Reading, needing, polling_with, mode_left_out, polling_reading, codes_reading, tag_reading}
+use Rattle.hart_commands.specs.RequestReading.{reset_reading}
+use Rattle.hart_commands.specs.Commands.{Asked, Always, Needing, AskedBy, CommandRow, asked, commands, command_row}
+use Rattle.hart_commands.specs.Fields.{fields_of, request_rows, rows}
+use Rattle.hart_commands.specs.RequestData.{read_by, request_data, request_reading}
+use Rattle.hart_commands.proofs.lemmas.Reply.{front}
+use Rattle.hart_commands.proofs.lemmas.RequestMade.{by_test}
+use Rattle.hart_commands.proofs.lemmas.Rows.{found}
+use Rattle.hart_commands.proofs.lemmas.Test.{below, above, is_one}
+
+-- an address without the mode with which it is written
+pub record IsAlone (command : ℕ) (bytes written : List ℕ) : Type 0 where
+  pub own : command ≡ 6
+  pub one : length bytes ≡ 1
+  pub two : length written ≡ 2
+  pub first : bytes ≡ take 1 written
+
+-- data begin with those that the request which is read of them is written as, or are an address alone
+abbrev pub IsBegun : ℕ → List ℕ → Reading → Type 0
+IsBegun command bytes (Ok request) =
+    (take (length (request_data request)) bytes ≡ request_data request) ⊎ IsAlone command bytes (request_data request)
+IsBegun command bytes (Err code) = Unit {0}
+
+abbrev pub Begins : ℕ → (List ℕ → Reading) → Type 0
+Begins command read = (bytes : List ℕ) → All (λ byte. byte < 256) bytes → IsBegun command bytes (read bytes)
+
+needed : (command size : ℕ) (request : List ℕ → Request) → ((xs : List ℕ) → request_data (request xs) ≡ xs)
+    → Begins command (needing size request)
+needed command size request each bytes fit = go (cases_lt (length bytes) size)
+  where
+    go : (length bytes < size) ⊎ (size ≤ length bytes) → IsBegun command bytes (needing size request bytes)
+    go (inl less) = rw (below (length bytes) size less) tt
+    go (inr more) = rw (above (length bytes) size more) (inl (rw (each (take size bytes)) (sym (front size bytes))))
+
+-- an address with a mode, which is 0 or 1
+with_mode : (address mode : ℕ) (bytes : List ℕ) → (mode ≡ 0 → IsBegun 6 bytes (Ok (SetPolling address Disabled)))
+    → (mode ≡ 1 → IsBegun 6 bytes (Ok (SetPolling address Enabled))) → IsBegun 6 bytes (polling_with address mode)
+with_mode address mode bytes disabled enabled =
+    by_test (ltb 63 address) (Err 2) _ (IsBegun 6 bytes) (λ t. tt) (λ f.
+    by_test (eqb mode 0) (Ok (SetPolling address Disabled)) _ (IsBegun 6 bytes) (λ t. disabled (is_one mode 0 t)) (λ g.
+    by_test (eqb mode 1) (Ok (SetPolling address Enabled)) (Err 12) (IsBegun 6 bytes) (λ t. enabled (is_one mode 1 t)) (λ h. tt)))
+
+polling : Begins 6 polling_reading
+polling [] fit = tt
+polling (address ∷ []) fit =
+    with_mode address (mode_left_out address) (address ∷ [])
+    (λ e. inr (record { own = refl; one = refl; two = refl; first = refl }))
+    (λ e. inr (record { own = refl; one = refl; two = refl; first = refl }))
+polling (address ∷ mode ∷ rest) fit =
+    with_mode address mode (address ∷ mode ∷ rest)
+    (λ e. inl (ap (λ m. address ∷ m ∷ []) e))
+    (λ e. inl (ap (λ m. address ∷ m ∷ []) e))
+
+codes : Begins 9 codes_reading
+codes [] fit = tt
+codes (code ∷ others) fit = inl (sym (front 8 (code ∷ others)))
+
+tag : Begins 18 tag_reading
+tag bytes fit =
+    by_test (ltb (length bytes) 21) (Err 5) _ (IsBegun 18 bytes) (λ t. tt) (λ f.
+    by_test _ (Ok (WriteTag (tag_in bytes) (descriptor_in bytes) (date_in bytes))) (Err 9) (IsBegun 18 bytes)
+    (λ t. inl (rw whole (sym (front 21 bytes)))) (λ g. tt))
+  where
+    whole : tag_in bytes ++ descriptor_in bytes ++ date_in bytes ≡ take 21 bytes
+    whole = rw (take-add 6 15 bytes, take-add 12 3 (drop 6 bytes), drop-drop 12 6 bytes, append_assoc) refl
+
+reset : Begins 38 reset_reading
+reset [] fit = inl refl
+reset (high ∷ []) fit = tt
+reset (high ∷ low ∷ rest) fit =
+    let small : low < 256 = fit 1 0 (omega arith) in
+    let first : (256 * high + low) / 256 ≡ high = omega arith in
+    let second : (256 * high + low) % 256 ≡ low = omega arith in
+    inl (rw (first, second) refl)
+
+-- what is to be seen of a row, so that its data begin with those of its requests
+abbrev pub Own : ℕ → Asked → Type 0
+Own command (Always request) = request_data request ≡ []
+Own command (Needing size request) = (xs : List ℕ) → request_data (request xs) ≡ xs
+Own command (AskedBy reading) = Begins command reading
+
+abbrev pub BeginsOwn : CommandRow → Type 0
+BeginsOwn row = Own row.number row.request
+
+own : AllByRecursion BeginsOwn commands
+own = search (polling, codes, tag, reset)
+
+begins : (command : ℕ) (request : Asked) → Own command request → Begins command (asked request)
+begins command (Always request) none bytes fit = inl (rw none refl)
+begins command (Needing size request) each bytes fit = needed command size request each bytes fit
+begins command (AskedBy reading) all bytes fit = all bytes fit
+
+begun : (command : ℕ) (bytes : List ℕ) (request : Request) → All (λ byte. byte < 256) bytes → request_reading command bytes ≡ Ok request
+    → (take (length (request_data request)) bytes ≡ request_data request) ⊎ IsAlone command bytes (request_data request)
+begun command bytes request fit e = go (command_row command) e (found BeginsOwn commands command own)
+  where
+    go : (row : Option CommandRow) → read_by row bytes ≡ Ok request → IfSome row (λ row. (row.number ≡ command) × BeginsOwn row)
+        → IsBegun command bytes (Ok request)
+    go None e is = cc
+    go (Some row) e is =
+        let P : Reading → Type 0 = IsBegun row.number bytes in
+        let Q : ℕ → Type 0 = λ n. IsBegun n bytes (Ok request) in
+        subst Q is.0 (subst P e (begins row.number row.request is.1 bytes fit))
+
+-- data agree with those that their request is written as, as far as both go
+pub agree : (command : ℕ) (bytes : List ℕ) (request : Request) → All (λ byte. byte < 256) bytes → request_reading command bytes ≡ Ok request
+    → take (length (request_data request)) bytes ≡ take (length bytes) (request_data request)
+agree command bytes request fit e = go (request_data request) (begun command bytes request fit e)
+  where
+    go : (written : List ℕ) → (take (length written) bytes ≡ written) ⊎ IsAlone command bytes written
+        → take (length written) bytes ≡ take (length bytes) written
+    go written (inl is) =
+        let few : length written ≤ length bytes = omega (arith, ap length is, length-take (length written) bytes) in
+        is ∙ sym (take_all (length bytes) written few)
+    go written (inr is) = rw (is.two, is.one, take_all 2 bytes (omega arith)) is.first
+
+-- data that are as many begin with all of them
+pub whole : (command : ℕ) (bytes : List ℕ) (request : Request) → All (λ byte. byte < 256) bytes → request_reading command bytes ≡ Ok request
+    → length (request_data request) ≤ length bytes → take (length (request_data request)) bytes ≡ request_data request
+whole command bytes request fit e = go (request_data request) (begun command bytes request fit e)
+  where
+    go : (written : List ℕ) → (take (length written) bytes ≡ written) ⊎ IsAlone command bytes written → length written ≤ length bytes
+        → take (length written) bytes ≡ written
+    go written (inl is) enough = is
+    go written (inr is) enough = absurd (omega (arith, is.one, is.two))
+
+-- fewer are an address alone
+alone : (command : ℕ) (bytes : List ℕ) (request : Request) → All (λ byte. byte < 256) bytes → request_reading command bytes ≡ Ok request
+    → length bytes < length (request_data request) → IsAlone command bytes (request_data request)
+alone command bytes request fit e = go (request_data request) (begun command bytes request fit e)
+  where
+    go : (written : List ℕ) → (take (length written) bytes ≡ written) ⊎ IsAlone command bytes written → length bytes < length written
+        → IsAlone command bytes written
+    go written (inl is) fewer = absurd (omega (arith, ap length is, length-take (length written) bytes))
+    go written (inr is) fewer = is
+
+pub left_out : (command : ℕ) (bytes : List ℕ) (request : Request) → All (λ byte. byte < 256) bytes
+    → request_reading command bytes ≡ Ok request → length bytes < length (request_data request) → (command ≡ 6) × (length bytes ≡ 1)
+left_out command bytes request fit e fewer = let is = alone command bytes request fit e fewer in (is.own, is.one)
+
+-- an address alone is the first field
+first_field : (written : List ℕ) → length written ≡ 2
+    → fields_of (request_rows 6) (take 1 written) ≡ take 1 (fields_of (request_rows 6) written)
+unfolding rows
+first_field [] two = absurd (omega arith)
+first_field (address ∷ []) two = absurd (omega arith)
+first_field (address ∷ mode ∷ []) two = refl
+first_field (address ∷ mode ∷ more ∷ rest) two = absurd (omega arith)
+
+pub fields : (command : ℕ) (bytes : List ℕ) (request : Request) → All (λ byte. byte < 256) bytes
+    → request_reading command bytes ≡ Ok request → length bytes < length (request_data request)
+    → fields_of (request_rows command) (take (length (request_data request)) bytes)
+    ≡ take 1 (fields_of (request_rows command) (request_data request))
+fields command bytes request fit e fewer = go (request_data request) (alone command bytes request fit e fewer)
+  where
+    go : (written : List ℕ) → IsAlone command bytes written
+        → fields_of (request_rows command) (take (length written) bytes) ≡ take 1 (fields_of (request_rows command) written)
+    go written is = rw (is.own, is.two, take_all 2 bytes (omega (arith, is.one)), is.first) (first_field written is.two)
