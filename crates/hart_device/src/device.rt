@@ -98,6 +98,21 @@ impl<S: RegisterStore> Device<S> {
         };
     }
 
+    /// The cold start bit of a master: whether the next reply with a response code to this master shows it a cold start.
+    pub fn cold_start(&self, master: MasterId) -> bool
+        ensures { result ≡ of_master master self.now.cold_start }
+    {
+        *self.cold_start.get(master)
+    }
+
+    /// Sets the cold start bit of each master. So they are put back in a device that goes on from its image, which has none of them. All
+    /// else stays as it is.
+    pub fn restore_cold_start(&mut self, cold_start: EachMaster<bool>)
+        ensures { self.new ≡ record self.old { cold_start = cold_start } }
+    {
+        self.cold_start = cold_start;
+    }
+
     /// Sets whether it is write protected: configuration writes are then refused.
     pub fn protect(&mut self, protected: bool)
         ensures { self.new ≡ record self.old { protected = protected } }

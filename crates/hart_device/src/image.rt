@@ -46,7 +46,7 @@ pub(crate) struct ImageParts {
 
 impl<S: RegisterStore> Device<S> {
     /// What the device holds, but for its identity and its cold start bits: its image, of version 2. [`Device::from_image`] reads it
-    /// again.
+    /// again, and [`Device::restore_cold_start`] puts the cold start bits back.
     pub fn image(&self) -> Image
         ensures written { result ≡ image_of self.now }
         ensures image { IsImageOf self.now result }
