@@ -6,6 +6,7 @@ ghost use Rattle.std.specs.Int.{bit_at};
 ghost use Rattle.hart_values.specs.EachMaster.{of_master, with_master};
 ghost use Rattle.hart_values.specs.address.AddressBytes.{IsAddressBytes};
 ghost use Rattle.hart_values.specs.declared.address.Address.TheVariants.{Unique};
+ghost use Rattle.hart_values.specs.declared.each_master.EachMaster.{EachMaster};
 ghost use Rattle.hart_values.specs.declared.master_id.MasterId.{MasterId};
 ghost use Rattle.hart_frame.specs.heard.Character.{Character, faultless};
 ghost use Rattle.hart_frame.specs.wire.Body.{IsBody};
@@ -25,10 +26,10 @@ ghost use Rattle.hart_device.specs.declared.fault.DeviceFault.{DeviceFault};
 ghost use Rattle.hart_device.specs.declared.answer.garbled.GarbledRequest.{GarbledRequest};
 ghost use Rattle.hart_device.specs.declared.identity_parts.IdentityParts.{IdentityParts};
 ghost use Rattle.hart_device.specs.declared.process.Process.{Process};
-ghost use Rattle.hart_device.specs.Device.{DeviceState, Nothing, Executes, Resets, restarted};
+ghost use Rattle.hart_device.specs.Device.{DeviceState, IsDevice, Nothing, Executes, Resets, restarted};
 ghost use Rattle.hart_device.specs.Identity.{own_numbers};
 ghost use Rattle.hart_device.specs.Process.{IsFloat, IsProcess};
-ghost use Rattle.hart_device.specs.image.Image.{IsImageOf, IsImageFault};
+ghost use Rattle.hart_device.specs.image.Image.{IsImageOf, IsImageFault, image_of};
 
 use crate::Process;
 use hart_commands::{SensorContent, all_registers_are_listed_once};
@@ -217,6 +218,21 @@ pub fn images_have_one_state()
     all_registers_are_listed_once();
     packed_text_and_bytes_determine_each_other();
 }
+
+/// A device is kept whole by who it is, an image of it and its cold start bits: what goes on from the image with this identity, and has
+/// these bits put back, stands in the state of the device. The image may be the one that the device writes, or any other of it in either
+/// version; it is an image of the device whichever cold start bits are set.
+pub fn devices_are_kept_whole()
+    ensures image { (state : DeviceState) → IsDevice state → IsImageOf state (image_of state) }
+    ensures any_cold_start { (state : DeviceState) (image : List ℕ) (cold_start : EachMaster Bool)
+        → IsImageOf state image → IsImageOf (record state { cold_start = cold_start }) image }
+    ensures whole { (state other : DeviceState) → IsDevice state
+        → IsImageOf other (image_of state) → other.identity ≡ state.identity
+        → record other { cold_start = state.cold_start } ≡ state }
+    ensures either_version { (state other : DeviceState) (image : List ℕ)
+        → IsImageOf state image → IsImageOf other image → other.identity ≡ state.identity
+        → record other { cold_start = state.cold_start } ≡ state }
+{}
 
 /// A whole request of a master to the device's own unique address has the form of a garbled one, with its master and its command and
 /// without a fault.

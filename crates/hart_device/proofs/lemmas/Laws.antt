@@ -1,7 +1,9 @@
 -- The laws of devices, for the proofs of this crate and of those above.
 use Rattle.std.proofs.Common.{◌≡◌, ◌≢◌, ◌≤◌, ◌⊎◌, ◌∙◌, ap, refl, rules, subst, false, true, ℕ, Contains, List, [], ◌∷◌, ◌++◌, length, sym}
-use Rattle.std.proofs.Common.{IfSome, Ok, Option, Some, slice_get}
+use Rattle.std.proofs.Common.{Bool, IfSome, Ok, Option, Some, slice_get}
 use Rattle.std.specs.List.{flat_map}
+use Rattle.hart_values.specs.declared.each_master.EachMaster.{EachMaster}
+use Rattle.hart_values.proofs.lemmas.Laws.{packed_text_and_bytes_determine_each_other-one_text}
 use Rattle.hart_frame.specs.heard.Character.{Character}
 use Rattle.hart_frame.specs.wire.FrameParts.{FrameParts, reply_parts}
 use Rattle.hart_commands.specs.Registers.{AreValid, Contents, Overwrite, overwrite_of, overwritten, registers, registers_of}
@@ -10,11 +12,12 @@ use Rattle.hart_commands.specs.RequestData.{IsRequest, is_known}
 use Rattle.hart_commands.specs.declared.register.Register.{Register}
 use Rattle.hart_commands.specs.declared.request.Request.{Request}
 use Rattle.hart_commands.specs.declared.request.Request.TheVariants.{ResetChanged}
-use Rattle.hart_device.specs.Device.{DeviceState, Executes, Nothing, Resets}
+use Rattle.hart_commands.proofs.lemmas.Laws.{all_registers_are_listed_once-every}
+use Rattle.hart_device.specs.Device.{DeviceState, Executes, IsDevice, Nothing, Resets}
 use Rattle.hart_device.specs.Process.{IsProcess}
 use Rattle.hart_device.specs.answer.Answer.{answer_of, asked_effect, code_of, effect_of, is_answered, reading_of, reply_of}
 use Rattle.hart_device.specs.answer.Delivery.{Brings, Brought}
-use Rattle.hart_device.specs.image.Image.{IsImageFault, IsImageOf}
+use Rattle.hart_device.specs.image.Image.{IsImageFault, IsImageOf, image_of}
 use Rattle.hart_device.specs.registers.Ranges.{array_length, end_of, standing_for, start_of}
 use Rattle.hart_device.specs.declared.fault.DeviceFault.{DeviceFault}
 use Rattle.hart_device.specs.declared.identity_parts.IdentityParts.{IdentityParts}
@@ -22,7 +25,7 @@ use Rattle.hart_device.specs.declared.process.Process.{Process}
 use Rattle.hart_device.proofs.lemmas.answer.Delivery.{Brings-found, Brings-one}
 use Rattle.hart_device.proofs.lemmas.answer.Effect.{answered_if, effect_executes_only, executed_made, judged_has_code, refused, resets_only}
 use Rattle.hart_device.proofs.lemmas.answer.Reply.{payload_if, reply_read}
-use Rattle.hart_device.proofs.lemmas.image.Image.{no_fault}
+use Rattle.hart_device.proofs.lemmas.image.Image.{any_cold_start, no_fault, one_state, written_is}
 use Rattle.hart_device.proofs.lemmas.registers.Range.{filled}
 use Rattle.hart_device.proofs.lemmas.registers.Registers.{registers_of-again, registers_of-append, registers_of-cons}
 
@@ -50,6 +53,24 @@ answers_are_replies-read state process frame answer valid is known answered =
 pub images_have_no_fault : (state : DeviceState) (image : List ℕ) (fault : DeviceFault) → IsImageOf state image
     → IsImageFault image fault → ⊥
 images_have_no_fault = no_fault
+
+pub devices_are_kept_whole-image : (state : DeviceState) → IsDevice state → IsImageOf state (image_of state)
+devices_are_kept_whole-image state is = written_is state is.contents is.counter
+
+pub devices_are_kept_whole-any_cold_start : (state : DeviceState) (image : List ℕ) (cold_start : EachMaster Bool)
+    → IsImageOf state image → IsImageOf (record state { cold_start = cold_start }) image
+devices_are_kept_whole-any_cold_start = any_cold_start
+
+pub devices_are_kept_whole-either_version : (state other : DeviceState) (image : List ℕ) → IsImageOf state image
+    → IsImageOf other image → other.identity ≡ state.identity → record other { cold_start = state.cold_start } ≡ state
+devices_are_kept_whole-either_version state other image is other_is same =
+    one_state _ state image all_registers_are_listed_once-every packed_text_and_bytes_determine_each_other-one_text
+    (any_cold_start other image state.cold_start other_is) is same refl
+
+pub devices_are_kept_whole-whole : (state other : DeviceState) → IsDevice state → IsImageOf other (image_of state)
+    → other.identity ≡ state.identity → record other { cold_start = state.cold_start } ≡ state
+devices_are_kept_whole-whole state other is =
+    devices_are_kept_whole-either_version state other (image_of state) (devices_are_kept_whole-image state is)
 
 pub registers_of_lists-first : (overwrite : Overwrite) (later : List Overwrite) (initial : Contents)
     → registers_of (overwrite ∷ later) initial ≡ registers_of later (overwritten overwrite initial)

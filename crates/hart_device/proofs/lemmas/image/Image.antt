@@ -16,7 +16,7 @@ use Rattle.hart_device.specs.declared.fault.DeviceFault.{DeviceFault}
 use Rattle.hart_device.specs.declared.fault.DeviceFault.TheVariants.{BadField, BadLength, BadVersion}
 use Rattle.hart_device.specs.Device.{DeviceState}
 use Rattle.hart_device.specs.Identity.{two_bytes}
-use Rattle.hart_device.specs.image.Image.{HasBadField, IsImageOf, IsImageFault, IsLongTagOf, flags_of, image_ending}
+use Rattle.hart_device.specs.image.Image.{HasBadField, IsImageOf, IsImageFault, IsLongTagOf, flags_of, image_ending, image_of}
 use Rattle.hart_device.specs.image.Image.{registers_of_version, registers_of_version_1}
 use Rattle.hart_device.specs.image.ImageParts.{state_with}
 use Rattle.hart_device.specs.registers.Ranges.{HoldsInvalid, contents_in, end_of, standing_for}
@@ -84,6 +84,31 @@ said state version rest listed known is =
 pub one_image : (state : DeviceState) (image other : List ℕ) (is : IsImageOf state image) (other_is : IsImageOf state other)
     → is.version ≡ other_is.version → image ≡ other
 one_image state image other is other_is same = cc
+
+-- What a device writes is an image of it.
+pub written_is : (state : DeviceState) → AreValid state.contents → state.counter < 2 ^ 16 → IsImageOf state (image_of state)
+written_is state valid counter = record {
+  contents = valid;
+  counter = counter;
+  version = 2;
+  listed = registers;
+  known = refl;
+  long_tag = λ not_listed. absurd (not_listed (7, omega arith, refl));
+  written = refl;
+}
+
+-- An image is one of a state whichever cold start bits are set.
+pub any_cold_start : (state : DeviceState) (image : List ℕ) (cold_start : EachMaster Bool) → IsImageOf state image
+    → IsImageOf (record state { cold_start = cold_start }) image
+any_cold_start state image cold_start is = record {
+  contents = is.contents;
+  counter = is.counter;
+  version = is.version;
+  listed = is.listed;
+  known = is.known;
+  long_tag = is.long_tag;
+  written = is.written;
+}
 
 -- The flags are below 8.
 pub flags_of-le : (changed : EachMaster Bool) (protected : Bool) → flags_of changed protected ≤ 7

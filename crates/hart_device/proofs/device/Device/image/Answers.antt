@@ -1,8 +1,9 @@
-use Rattle.std.proofs.Common.{◌≡◌, refl, arith}
+use Rattle.std.proofs.Common.{◌≡◌, ◌<◌, ◌^◌, arith}
 use Rattle.std.specs.List.{slice_index_or}
 use Rattle.std.proofs.lemmas.Grind.{common_steps}
 use Rattle.hart_commands.specs.Registers.{bytes_in, registers}
 use Rattle.hart_commands.specs.declared.register.Register.TheVariants.{Polling}
+use Rattle.hart_device.proofs.lemmas.image.Image.{written_is}
 use Rattle.hart_device.proofs.lemmas.registers.Range.{next_size, next_written}
 use Rattle.hart_device.proofs.device.Device.image.Goals as goal
 
@@ -10,15 +11,9 @@ pub returns-clause-written : goal.returns-clause-written
 returns-clause-written g c = grind (arith, common_steps)
 
 pub returns-clause-image : goal.returns-clause-image
-returns-clause-image g c = record {
-  contents = c.registers-registers.ensures.valid;
-  counter = grind (arith, c.counter-counter.ensures, c.counter-counter.type_inv);
-  version = 2;
-  listed = registers;
-  known = refl;
-  long_tag = λ not_listed. absurd (not_listed (7, omega arith, refl));
-  written = returns-clause-written g c;
-}
+returns-clause-image g c =
+    let counter : c.args.self.now.counter < 2 ^ 16 = grind (arith, c.counter-counter.ensures, c.counter-counter.type_inv) in
+    rw (returns-clause-written g c) (written_is c.args.self.now c.registers-registers.ensures.valid counter)
 
 pub loop-register-preserved : goal.loop-register-preserved
 loop-register-preserved g c =
