@@ -2,6 +2,7 @@ use super::*;
 use hart_commands::Request;
 use hart_frame::{Char, Frame, Payload};
 use hart_values::{Address, MasterId, ResponseCode};
+use images::image_fault;
 use std::test::Fail;
 
 mod addresses;
@@ -141,75 +142,102 @@ const PARTS: IdentityParts = IdentityParts {
     device_profile: 255,
 };
 
-/// Parts that are not like these in one way, and the fault.
-const REFUSED: &[(IdentityParts, DeviceFault)] = &[
+/// What is refused.
+enum Refused<'a> {
+    /// As the parts of an identity.
+    Parts(IdentityParts),
+    /// As an image.
+    Bytes(&'a [u8]),
+}
+
+/// What is refused, the fault, and its text.
+type RefusedRow<'a> = (Refused<'a>, DeviceFault, &'a str);
+
+/// Parts that are not like these in one way, and bytes that are no image in each way.
+const REFUSED: &[RefusedRow] = &[
     (
-        IdentityParts {
+        Refused::Parts(IdentityParts {
             device_id: 0,
             ..PARTS
-        },
+        }),
         DeviceFault::BroadcastAddress,
+        "broadcast address",
     ),
     (
-        IdentityParts {
+        Refused::Parts(IdentityParts {
             device_id: 0,
             signalling_code: 8,
             ..PARTS
-        },
+        }),
         DeviceFault::OutOfRange,
+        "out of range",
     ),
     (
-        IdentityParts {
+        Refused::Parts(IdentityParts {
             device_id: 0x0100_0000,
             ..PARTS
-        },
+        }),
         DeviceFault::OutOfRange,
+        "out of range",
     ),
     (
-        IdentityParts {
+        Refused::Parts(IdentityParts {
             hardware_revision: 32,
             ..PARTS
-        },
+        }),
         DeviceFault::OutOfRange,
+        "out of range",
     ),
     (
-        IdentityParts {
+        Refused::Parts(IdentityParts {
             request_preambles: 4,
             ..PARTS
-        },
+        }),
         DeviceFault::OutOfRange,
+        "out of range",
     ),
     (
-        IdentityParts {
+        Refused::Parts(IdentityParts {
             response_preambles: 21,
             ..PARTS
-        },
+        }),
         DeviceFault::OutOfRange,
+        "out of range",
+    ),
+    (
+        Refused::Bytes(&[0x03]),
+        DeviceFault::BadVersion,
+        "bad image: version",
+    ),
+    (
+        Refused::Bytes(&[]),
+        DeviceFault::BadLength,
+        "bad image: length",
+    ),
+    (
+        Refused::Bytes(&[0x02; 86]),
+        DeviceFault::BadField,
+        "bad image: field",
     ),
 ];
 
-#[test]
-fn identities_are_refused(rt: HostRuntime) {
-    assert!(rt; Identity::new(PARTS).is_ok());
-    for (row, (parts, fault)) in REFUSED.iter().enumerate() {
-        assert!(rt; Identity::new(*parts).err() == Some(*fault), "of row {row}");
+/// The fault for which it is refused.
+fn fault_of(refused: &Refused) -> Option<DeviceFault> {
+    match refused {
+        Refused::Parts(parts) => Identity::new(*parts).err(),
+        Refused::Bytes(bytes) => image_fault(bytes),
     }
 }
 
-/// Each fault, and its text.
-const FAULTS: &[(DeviceFault, &str)] = &[
-    (DeviceFault::BroadcastAddress, "broadcast address"),
-    (DeviceFault::OutOfRange, "out of range"),
-    (DeviceFault::BadVersion, "bad image: version"),
-    (DeviceFault::BadLength, "bad image: length"),
-    (DeviceFault::BadField, "bad image: field"),
-];
-
 #[test]
-fn faults_have_texts(rt: HostRuntime) -> Result<(), Fail> {
-    for (fault, text) in FAULTS {
+fn what_is_refused_has_a_fault_with_a_text(rt: HostRuntime) -> Result<(), Fail> {
+    assert!(rt; Identity::new(PARTS).is_ok());
+    for (row, (refused, fault, text)) in REFUSED.iter().enumerate() {
         let written = fault.to_string(rt.alloc())?;
-        assert_eq!(rt; written.as_str(), *text);
+        assert!(rt;
+            fault_of(refused) == Some(*fault) && written.as_str() == *text,
+            "of row {row}"
+        );
     }
     Ok(())
 }

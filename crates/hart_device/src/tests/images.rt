@@ -28,14 +28,21 @@ pub(super) const ENDING: usize = 83;
 /// An image with other bytes from a place on.
 pub(super) fn image_with<const N: usize>(image: [u8; N], place: usize, bytes: &[u8]) -> [u8; N] {
     let mut changed = image;
-    for (byte, other) in changed.iter_mut().skip(place).zip(bytes) {
-        *byte = *other;
-    }
+    write_from(&mut changed, place, bytes);
     changed
 }
 
+/// Writes bytes over others from a place on.
+fn write_from(image: &mut [u8], place: usize, bytes: &[u8]) {
+    for (offset, other) in bytes.iter().enumerate() {
+        if let Some(byte) = image.get_mut(place.wrapping_add(offset)) {
+            *byte = *other;
+        }
+    }
+}
+
 /// The fault for which bytes are refused as an image.
-fn image_fault(image: &[u8]) -> Option<DeviceFault> {
+pub(super) fn image_fault(image: &[u8]) -> Option<DeviceFault> {
     Device::<ImageRegisters>::from_image(bench::identity(), image).err()
 }
 
@@ -179,8 +186,10 @@ fn migrated(image: &[u8; 54], text: &[u8; 8]) -> [u8; 86] {
 /// A long tag of the bytes from 32 times a number on.
 fn long_tag_of(group: u8) -> [u8; 32] {
     let mut long_tag = [0; 32];
-    for (byte, place) in long_tag.iter_mut().zip(0..32u8) {
-        *byte = group.wrapping_mul(32).wrapping_add(place);
+    let mut next = group.wrapping_mul(32);
+    for byte in &mut long_tag {
+        *byte = next;
+        next = next.wrapping_add(1);
     }
     long_tag
 }

@@ -2,10 +2,12 @@
 use super::addresses::{Asked, request_to};
 use super::deliveries::garbled_write;
 use super::*;
+use hart_values::EachMaster;
 use std::process::Abort;
 
-/// Whether a device is protected, a request, and the status bytes of its first reply to it after a restart.
-type Row<'a> = (bool, Asked, u8, &'a [u8], [u8; 2]);
+/// Whether a device is protected, whom requests are for, their first and last command and their data, and the status bytes of its
+/// first reply to each after a restart.
+type Row<'a> = (bool, Asked, [u8; 2], &'a [u8], [u8; 2]);
 
 /// The tag of the bench device.
 const TAG: &[u8] = &[0x82, 0x08, 0x20, 0x82, 0x08, 0x20];
@@ -24,20 +26,38 @@ const SILENT: &[(Asked, u8, &[u8])] = &[
     (Asked::All, 21, &[0x20; 31]),
 ];
 
-/// Requests of which the first reply shows a cold start, whatever its response code.
+/// Requests of which the first reply shows a cold start, whatever its response code. Of the last five rows are the commands that are
+/// not known.
 const FIRST_REPLIES: &[Row] = &[
-    (false, Asked::Own, 7, &[], [0x00, 0x20]),
-    (false, Asked::Polling(0), 0, &[], [0x00, 0x20]),
-    (false, Asked::Own, 6, &[0x40, 0x01], [0x02, 0x20]),
-    (false, Asked::Own, 19, &[0x01, 0x23], [0x05, 0x20]),
-    (false, Asked::Own, 19, &[0x01, 0x23, 0x45], [0x00, 0x60]),
-    (true, Asked::Own, 19, &[0x01, 0x23, 0x45], [0x07, 0x20]),
-    (false, Asked::Own, 38, &[0x00, 0x01], [0x09, 0x20]),
-    (false, Asked::Own, 38, &[], [0x00, 0x20]),
-    (false, Asked::All, 11, TAG, [0x00, 0x20]),
-    (false, Asked::All, 21, &[0x20; 32], [0x00, 0x20]),
-    (false, Asked::Own, 22, &[0xFF; 32], [0x00, 0x60]),
-    (true, Asked::Own, 22, &[0xFF; 32], [0x07, 0x20]),
+    (false, Asked::Own, [7, 7], &[], [0x00, 0x20]),
+    (false, Asked::Polling(0), [0, 0], &[], [0x00, 0x20]),
+    (false, Asked::Own, [6, 6], &[0x40, 0x01], [0x02, 0x20]),
+    (false, Asked::Own, [19, 19], &[0x01, 0x23], [0x05, 0x20]),
+    (
+        false,
+        Asked::Own,
+        [19, 19],
+        &[0x01, 0x23, 0x45],
+        [0x00, 0x60],
+    ),
+    (
+        true,
+        Asked::Own,
+        [19, 19],
+        &[0x01, 0x23, 0x45],
+        [0x07, 0x20],
+    ),
+    (false, Asked::Own, [38, 38], &[0x00, 0x01], [0x09, 0x20]),
+    (false, Asked::Own, [38, 38], &[], [0x00, 0x20]),
+    (false, Asked::All, [11, 11], TAG, [0x00, 0x20]),
+    (false, Asked::All, [21, 21], &[0x20; 32], [0x00, 0x20]),
+    (false, Asked::Own, [22, 22], &[0xFF; 32], [0x00, 0x60]),
+    (true, Asked::Own, [22, 22], &[0xFF; 32], [0x07, 0x20]),
+    (false, Asked::Own, [4, 5], &[], [0x40, 0x20]),
+    (false, Asked::Own, [10, 10], &[], [0x40, 0x20]),
+    (false, Asked::Own, [23, 37], &[], [0x40, 0x20]),
+    (false, Asked::Own, [39, 47], &[], [0x40, 0x20]),
+    (false, Asked::Own, [49, 255], &[], [0x40, 0x20]),
 ];
 
 /// The status bytes of the device's reply to a master's request, if it replies.
@@ -52,7 +72,10 @@ fn status_bytes(
     let Some(reply) = device.receive(&request, &bench::process()) else {
         return Ok(None);
     };
-    Ok(reply.payload().first_chunk::<2>().copied())
+    let [code, status, ..] = reply.payload() else {
+        return Ok(None);
+    };
+    Ok(Some([*code, *status]))
 }
 
 /// A bench device that was restarted twice, and has since met silent requests and a garbled one.
@@ -80,11 +103,15 @@ fn replies_with_faults(device: &mut Device<FieldRegisters>) -> Result<bool, Fail
 }
 
 /// Whether a device shows a cold start in the first of two like replies to the primary master alone, and to the other master too.
-fn is_shown_once(device: &mut Device<FieldRegisters>, row: &Row) -> Result<bool, Fail> {
-    let (_, asked, command, data, shown) = row;
+fn is_shown_once(
+    device: &mut Device<FieldRegisters>,
+    row: &Row,
+    command: u8,
+) -> Result<bool, Fail> {
+    let (_, asked, _, data, shown) = row;
     let [code, status] = *shown;
-    let first = status_bytes(device, MasterId::Primary, *asked, *command, data)?;
-    let second = status_bytes(device, MasterId::Primary, *asked, *command, data)?;
+    let first = status_bytes(device, MasterId::Primary, *asked, command, data)?;
+    let second = status_bytes(device, MasterId::Primary, *asked, command, data)?;
     let other = status_bytes(device, MasterId::Secondary, Asked::Own, 7, &[])?;
     Ok(
         first == Some([code, status])
@@ -93,27 +120,34 @@ fn is_shown_once(device: &mut Device<FieldRegisters>, row: &Row) -> Result<bool,
     )
 }
 
-/// Whether a device shows a cold start so after a restart, and is protected then as it was.
+/// The device that goes on from what is kept of one as bytes: its image and its cold start bits.
+fn kept(device: &Device<FieldRegisters>) -> Result<Device<FieldRegisters>, Fail> {
+    let mut other = Device::from_image(bench::identity(), device.image().as_slice())?;
+    other.restore_cold_start(EachMaster {
+        primary: device.cold_start(MasterId::Primary),
+        secondary: device.cold_start(MasterId::Secondary),
+    });
+    Ok(other)
+}
+
+/// Whether a device shows a cold start so after a restart to each command of a row, and is protected then as it was; and one that
+/// goes on from it.
 fn is_shown_after_restart(rt: &impl Abort, row: &Row) -> Result<bool, Fail> {
-    let mut device = restarted_device(rt, row.0)?;
-    Ok(is_shown_once(&mut device, row)? && device.is_protected() == row.0)
+    let (protected, _, [first, last], ..) = *row;
+    let mut shown = true;
+    for command in first..=last {
+        let mut device = restarted_device(rt, protected)?;
+        let mut other = kept(&device)?;
+        shown &= is_shown_once(&mut device, row, command)? && device.is_protected() == protected;
+        shown &= is_shown_once(&mut other, row, command)? && other.is_protected() == protected;
+    }
+    Ok(shown)
 }
 
 #[test]
 fn a_cold_start_is_shown_once_to_each_master(rt: HostRuntime) -> Result<(), Fail> {
     for (number, row) in FIRST_REPLIES.iter().enumerate() {
         assert!(rt; is_shown_after_restart(&rt, row)?, "of row {number}");
-    }
-    Ok(())
-}
-
-#[test]
-fn a_cold_start_is_shown_with_code_64(rt: HostRuntime) -> Result<(), Fail> {
-    for command in 0..=255u8 {
-        if is_unknown(command) {
-            let row: Row = (false, Asked::Own, command, &[], [0x40, 0x20]);
-            assert!(rt; is_shown_after_restart(&rt, &row)?, "of {command}");
-        }
     }
     Ok(())
 }
