@@ -1,6 +1,5 @@
 use super::*;
 use hart_values::Payload;
-use std::test::Fail;
 
 mod fields;
 
@@ -16,30 +15,30 @@ const BAD_DATE: [u8; 21] = [
     0x08, 0x20, 0x1D, 0x02, 0x00,
 ];
 
-/// Each command, how many bytes its request needs, and how many the data of its reply.
+/// Each command that is known, how many bytes its request needs, and how many the payload of its reply.
 const COMMANDS: &[(u8, usize, usize)] = &[
-    (0, 0, 22),
-    (1, 0, 5),
-    (2, 0, 8),
-    (3, 0, 9),
-    (6, 1, 2),
-    (7, 0, 2),
-    (8, 0, 4),
-    (9, 1, 13),
-    (11, 6, 22),
-    (12, 0, 24),
-    (13, 0, 21),
-    (14, 0, 16),
-    (15, 0, 18),
-    (16, 0, 3),
-    (17, 24, 24),
-    (18, 21, 21),
-    (19, 3, 3),
-    (20, 0, 32),
-    (21, 32, 22),
-    (22, 32, 32),
-    (38, 0, 2),
-    (48, 0, 1),
+    (0, 0, 2 + 22),
+    (1, 0, 2 + 5),
+    (2, 0, 2 + 8),
+    (3, 0, 2 + 9),
+    (6, 1, 2 + 2),
+    (7, 0, 2 + 2),
+    (8, 0, 2 + 4),
+    (9, 1, 2 + 13),
+    (11, 6, 2 + 22),
+    (12, 0, 2 + 24),
+    (13, 0, 2 + 21),
+    (14, 0, 2 + 16),
+    (15, 0, 2 + 18),
+    (16, 0, 2 + 3),
+    (17, 24, 2 + 24),
+    (18, 21, 2 + 21),
+    (19, 3, 2 + 3),
+    (20, 0, 2 + 32),
+    (21, 32, 2 + 22),
+    (22, 32, 2 + 32),
+    (38, 2, 2 + 2),
+    (48, 0, 2 + 1),
 ];
 
 /// Two status bytes, and data that begin as those of every command may.
@@ -48,107 +47,120 @@ const PAYLOAD: [u8; 34] = [
     0, 0, 0, 0, 0,
 ];
 
-/// The code with which data are refused, if they are.
-fn refusal(command: u8, bytes: &[u8]) -> Option<u8> {
-    Request::read(command, bytes).err().map(|code| code.value())
+/// As many zeros as a request needs at most.
+const ZEROS: [u8; 32] = [0; 32];
+
+/// Whether data of a command are read as a request that is written as these data, or are refused with this code.
+fn request_is(command: u8, bytes: &[u8], want: Result<&[u8], u8>) -> bool {
+    match (Request::read(command, bytes), want) {
+        (Ok(request), Ok(want)) => {
+            let mut data = Payload::new();
+            request.write(&mut data);
+            request.command() == command
+                && data.as_slice() == want
+                && request.data_len() == want.len()
+                && request.copy() == request
+        }
+        (Err(code), Err(want)) => code.value() == want,
+        _ => false,
+    }
 }
 
-/// The code of one byte too few: 5, but where none are needed.
-fn too_few(asked: usize) -> Option<u8> {
-    if asked == 0 { None } else { Some(5) }
+/// Whether a payload holds a reply to a command that is written as so many of its bytes, or holds none.
+fn reply_is(command: u8, payload: &[u8], want: Option<usize>) -> bool {
+    match (Reply::read(command, payload), want) {
+        (Some(reply), Some(len)) => {
+            let mut written = Payload::new();
+            reply.write(&mut written);
+            reply.command == command
+                && Some(written.as_slice()) == payload.get(..len)
+                && 2 + reply.data_len() == len
+        }
+        (None, None) => true,
+        _ => false,
+    }
+}
+
+/// Whether a command needs so many bytes.
+fn needs(command: u8, needed: usize) -> bool {
+    let bytes = ZEROS.get(..needed).unwrap_or(&[]);
+    let written = if command == 6 { &[0, 1] } else { bytes };
+    let fewer = ZEROS.get(1..needed).unwrap_or(&[]);
+    needed_data(command) == needed
+        && bytes.len() == needed
+        && request_is(command, bytes, Ok(written))
+        && (needed == 0 || request_is(command, fewer, Err(5)))
+}
+
+/// Whether a command is replied to with a payload of so many bytes, and not with a byte fewer.
+fn is_replied_with(command: u8, len: usize) -> bool {
+    let payload = PAYLOAD.get(..len).unwrap_or(&[]);
+    let Some((_, shorter)) = payload.split_last() else {
+        return false;
+    };
+    reply_is(command, payload, Some(len)) && reply_is(command, shorter, None)
 }
 
 #[test]
-fn each_command_needs_its_bytes(rt: HostRuntime) -> Result<(), Fail> {
-    for (command, asked, said) in COMMANDS {
-        let bytes = ZEROS.get(..*asked).ok_or("at most 80 bytes")?;
-        let payload = PAYLOAD.get(..2 + *said).ok_or("at most 34 bytes")?;
-        let request = Request::read(*command, bytes)?;
+fn each_command_needs_its_bytes(rt: HostRuntime) {
+    for (command, needed, len) in COMMANDS {
         assert!(rt;
-            is_written_as(&request, *command, bytes) || *command == 6,
-            "of {command}"
-        );
-        assert!(rt;
-            refusal(*command, bytes.get(1..).unwrap_or(&[])) == too_few(*asked),
-            "of {command}"
-        );
-        let reply = Reply::read(*command, payload).ok_or("a reply")?;
-        let shorter = PAYLOAD.get(..1 + *said).ok_or("at most 34 bytes")?;
-        assert!(rt;
-            reply.command == *command && Reply::read(*command, shorter).is_none(),
+            needs(*command, *needed) && is_replied_with(*command, *len),
             "of {command}"
         );
     }
-    Ok(())
+}
+
+/// Whether a command is not known.
+fn is_unknown(command: u8) -> bool {
+    needed_data(command) == 0
+        && request_is(command, &[], Err(64))
+        && reply_is(command, &[0x40, 0x00], None)
 }
 
 #[test]
 fn every_other_command_is_unknown(rt: HostRuntime) {
     for command in 0..=255u8 {
-        if !COMMANDS.iter().any(|row| row.0 == command) {
-            assert!(rt; refusal(command, &[]) == Some(64), "of {command}");
-            assert!(rt;
-                Reply::read(command, &[0x40, 0x00]).is_none(),
-                "of {command}"
-            );
-        }
+        let known = matches!(command, 0..=3 | 6..=9 | 11..=22 | 38 | 48);
+        assert!(rt; is_unknown(command) != known, "of {command}");
     }
 }
 
-/// Commands with data, and the data that the requests are written as.
-const REQUESTS: &[(u8, &[u8], &[u8])] = &[
-    (0, &[], &[]),
-    (6, &[0x05], &[0x05, 0x00]),
-    (6, &[0x00], &[0x00, 0x01]),
-    (6, &[0x05, 0x01, 0x77], &[0x05, 0x01]),
-    (6, &[0x3F, 0x00], &[0x3F, 0x00]),
-    (9, &[1, 2, 3, 4, 5, 6, 7, 8, 9], &[1, 2, 3, 4, 5, 6, 7, 8]),
-    (9, &[0xF5], &[0xF5]),
-    (18, &TAG, &TAG),
-    (19, &[0x01, 0x23, 0x45, 0x67], &[0x01, 0x23, 0x45]),
-    (20, &[0x20; 33], &[]),
-    (21, &[0x20; 33], &[0x20; 32]),
-    (22, &[0xFF; 33], &[0xFF; 32]),
-    (38, &[], &[]),
-    (38, &[0x00, 0x01], &[0x00, 0x01]),
-    (38, &[0x00, 0x01, 0x99], &[0x00, 0x01]),
-    (48, &[0x01], &[]),
+/// Commands with data, and the data that the requests are written as, or the code that refuses them.
+const REQUESTS: &[(u8, &[u8], Result<&[u8], u8>)] = &[
+    (0, &[], Ok(&[])),
+    (6, &[0x05], Ok(&[0x05, 0x00])),
+    (6, &[0x00], Ok(&[0x00, 0x01])),
+    (6, &[0x05, 0x01, 0x77], Ok(&[0x05, 0x01])),
+    (6, &[0x3F, 0x00], Ok(&[0x3F, 0x00])),
+    (6, &[0x40, 0x01], Err(2)),
+    (6, &[0x40, 0x02], Err(2)),
+    (6, &[0x3F, 0x02], Err(12)),
+    (
+        9,
+        &[1, 2, 3, 4, 5, 6, 7, 8, 9],
+        Ok(&[1, 2, 3, 4, 5, 6, 7, 8]),
+    ),
+    (9, &[0xF5], Ok(&[0xF5])),
+    (18, &TAG, Ok(&TAG)),
+    (18, &BAD_DATE, Err(9)),
+    (19, &[0x01, 0x23, 0x45, 0x67], Ok(&[0x01, 0x23, 0x45])),
+    (20, &[0x20; 33], Ok(&[])),
+    (21, &[0x20; 33], Ok(&[0x20; 32])),
+    (22, &[0xFF; 33], Ok(&[0xFF; 32])),
+    (38, &[], Ok(&[])),
+    (38, &[0x00], Err(5)),
+    (38, &[0x00, 0x01], Ok(&[0x00, 0x01])),
+    (38, &[0x00, 0x01, 0x99], Ok(&[0x00, 0x01])),
+    (48, &[0x01], Ok(&[])),
 ];
 
-/// Whether a request of a command is written as these data.
-fn is_written_as(request: &Request, command: u8, want: &[u8]) -> bool {
-    let mut data = Payload::new();
-    request.write(&mut data);
-    request.command() == command && data.as_slice() == want
-}
-
 #[test]
-fn requests_are_read_and_written(rt: HostRuntime) -> Result<(), Fail> {
+fn requests_are_read_and_written(rt: HostRuntime) {
     for (row, (command, bytes, want)) in REQUESTS.iter().enumerate() {
-        let request = Request::read(*command, bytes)?;
-        assert!(rt; is_written_as(&request, *command, want), "of row {row}");
-    }
-    Ok(())
-}
-
-/// Commands with data, and the code that refuses them.
-const REFUSED: &[(u8, &[u8], u8)] = &[
-    (6, &[0x40, 0x01], 2),
-    (6, &[0x40, 0x02], 2),
-    (6, &[0x3F, 0x02], 12),
-    (18, &BAD_DATE, 9),
-    (38, &[0x00], 5),
-];
-
-#[test]
-fn bad_data_are_refused(rt: HostRuntime) {
-    for (row, (command, bytes, want)) in REFUSED.iter().enumerate() {
-        assert!(rt; refusal(*command, bytes) == Some(*want), "of row {row}");
+        assert!(rt; request_is(*command, bytes, *want), "of row {row}");
     }
 }
-
-/// The commands that are replied to with an identity.
-const IDENTIFYING: &[u8] = &[0, 11, 21];
 
 /// The identity of a device, in 22 bytes and three that follow.
 const IDENTITY: [u8; 27] = [
@@ -162,56 +174,49 @@ const NO_IDENTITY: [u8; 24] = [
     0x00, 0x00, 0x00, 0x00, 0x37, 0x00, 0x37, 0x01,
 ];
 
-/// Two status bytes and zeros.
-const ZEROS: [u8; 80] = [0; 80];
-
-/// A command, a payload's length and the length of the payload that its reply is written as.
-const LENGTHS: &[(u8, usize, usize)] = &[
-    (3, 2 + 13, 2 + 9),
-    (3, 2 + 14, 2 + 14),
-    (3, 2 + 19, 2 + 19),
-    (3, 2 + 24, 2 + 24),
-    (3, 2 + 29, 2 + 24),
-    (9, 2 + 21, 2 + 21),
-    (9, 2 + 69, 2 + 69),
-    (20, 2 + 33, 2 + 32),
-    (22, 2 + 33, 2 + 32),
-    (48, 2 + 25, 2 + 25),
-    (48, 2 + 26, 2 + 25),
+/// Commands and payloads, and how many of their bytes the reply is written as, if they hold one.
+const REPLIES: &[(u8, &[u8], Option<usize>)] = &[
+    (0, &IDENTITY, Some(2 + 22)),
+    (0, &NO_IDENTITY, None),
+    (3, &[0, 0, 1, 2, 3, 4, 5, 6, 7, 8], None),
+    (3, &[0; 2 + 13], Some(2 + 9)),
+    (3, &[0; 2 + 14], Some(2 + 14)),
+    (3, &[0; 2 + 19], Some(2 + 19)),
+    (3, &[0; 2 + 24], Some(2 + 24)),
+    (3, &[0; 2 + 29], Some(2 + 24)),
+    (9, &[0, 0, 1, 2, 3, 4, 5, 6, 7, 8, 9, 10, 11, 12], None),
+    (9, &[0; 2 + 21], Some(2 + 21)),
+    (9, &[0; 2 + 69], Some(2 + 69)),
+    (19, &[0x88, 0x00], None),
+    (19, &[0x00], None),
+    (19, &[0x07, 0x40], Some(2)),
+    (20, &[0; 2 + 33], Some(2 + 32)),
+    (21, &NO_IDENTITY, None),
+    (22, &[0; 2 + 33], Some(2 + 32)),
+    (48, &[0; 2 + 25], Some(2 + 25)),
+    (48, &[0; 2 + 26], Some(2 + 25)),
 ];
 
 #[test]
-fn replies_of_every_length_are_read(rt: HostRuntime) -> Result<(), Fail> {
-    for (command, len, want) in LENGTHS {
-        let bytes = ZEROS.get(..*len).ok_or("at most 80 bytes")?;
-        let reply = Reply::read(*command, bytes).ok_or("a reply")?;
-        let mut payload = Payload::new();
-        reply.write(&mut payload);
-        assert!(rt; payload.len() == *want, "of {command} with {len} bytes");
+fn replies_are_read_and_written(rt: HostRuntime) {
+    for (row, (command, payload, want)) in REPLIES.iter().enumerate() {
+        assert!(rt; reply_is(*command, payload, *want), "of row {row}");
     }
-    Ok(())
 }
 
-/// Commands and payloads that hold no reply.
-const NO_REPLIES: &[(u8, &[u8])] = &[
-    (0, &NO_IDENTITY),
-    (3, &[0, 0, 1, 2, 3, 4, 5, 6, 7, 8]),
-    (9, &[0, 0, 1, 2, 3, 4, 5, 6, 7, 8, 9, 10, 11, 12]),
-    (21, &NO_IDENTITY),
-    (19, &[0x88, 0x00]),
-    (19, &[0x00]),
-];
-
-#[test]
-fn other_payloads_are_no_replies(rt: HostRuntime) {
-    for (row, (command, payload)) in NO_REPLIES.iter().enumerate() {
-        assert!(rt; Reply::read(*command, payload).is_none(), "of row {row}");
+/// Whether a payload holds a reply to a command with this code, this status and this content.
+fn says(command: u8, payload: &[u8], code: u8, status: u8, content: &ReplyContent) -> bool {
+    match Reply::read(command, payload) {
+        Some(reply) => {
+            reply.code.value() == code && reply.status.0 == status && reply.content == *content
+        }
+        None => false,
     }
 }
 
 #[test]
-fn an_identity_has_its_parts(rt: HostRuntime) -> Result<(), Fail> {
-    let want = IdentityContent {
+fn replies_say_their_content(rt: HostRuntime) {
+    let identity = ReplyContent::Identity(IdentityContent {
         expanded_device_type: [0x37, 0x42],
         request_preambles: 5,
         protocol_revision: 7,
@@ -227,25 +232,12 @@ fn an_identity_has_its_parts(rt: HostRuntime) -> Result<(), Fail> {
         manufacturer: [0x00, 0x37],
         private_label_distributor: [0x00, 0x37],
         device_profile: 1,
-    };
-    let content = ReplyContent::Identity(want);
-    for command in IDENTIFYING {
-        let reply = Reply::read(*command, &IDENTITY).ok_or("an identity")?;
-        assert!(rt; reply.content == content, "of {command}");
-    }
-    let reply = Reply::read(0, &IDENTITY).ok_or("an identity")?;
-    let mut payload = Payload::new();
-    reply.write(&mut payload);
-    assert!(rt; payload.as_slice() == &IDENTITY[..24]);
-    Ok(())
-}
-
-#[test]
-fn a_refusal_gives_its_code(rt: HostRuntime) -> Result<(), Fail> {
-    let reply = Reply::read(19, &[0x07, 0x40]).ok_or("a refusal")?;
-    assert!(rt; reply.code.value() == 7 && reply.status.0 == 0x40);
-    assert!(rt; reply.content == ReplyContent::Refused);
-    Ok(())
+    });
+    let said = says(0, &IDENTITY, 0, 0, &identity)
+        && says(11, &IDENTITY, 0, 0, &identity)
+        && says(21, &IDENTITY, 0, 0, &identity);
+    assert!(rt; said);
+    assert!(rt; says(19, &[0x07, 0x40], 7, 0x40, &ReplyContent::Refused));
 }
 
 /// Each register, and what a write of TAG gives it.
@@ -265,43 +257,43 @@ const NAMED: &[(Register, Option<&[u8]>)] = &[
     (Register::LongTag, None),
 ];
 
+/// Whether a write of a command with these data gives a register these bytes, or leaves it.
+fn writes(command: u8, bytes: &[u8], register: Register, want: Option<&[u8]>) -> bool {
+    match Request::read(command, bytes) {
+        Ok(request) => match writes_of(&request) {
+            Some(overwrite) => overwrite.get(register) == want,
+            None => false,
+        },
+        Err(_) => false,
+    }
+}
+
 #[test]
-fn a_write_names_its_registers(rt: HostRuntime) -> Result<(), Fail> {
-    let request = Request::read(18, &TAG)?;
-    let overwrite = writes_of(&request).ok_or("a write")?;
+fn a_write_names_its_registers(rt: HostRuntime) {
     for (row, (register, want)) in NAMED.iter().enumerate() {
-        assert!(rt; overwrite.get(*register) == *want, "of row {row}");
+        assert!(rt; writes(18, &TAG, *register, *want), "of row {row}");
     }
-    Ok(())
 }
 
-/// Whether the request that has a long tag as its data writes just that.
-fn long_tag_is_written(long_tag: [u8; 32]) -> Result<bool, Fail> {
-    let request = Request::read(22, &long_tag)?;
-    let overwrite = writes_of(&request).ok_or("a write")?;
-    Ok(
-        request == Request::WriteLongTag(long_tag)
-            && overwrite.get(Register::LongTag) == Some(long_tag.as_slice())
-            && is_written_as(&request, 22, &long_tag),
-    )
-}
-
-/// Whether the reply that has a long tag as its data says just that.
-fn long_tag_is_said(long_tag: [u8; 32]) -> Result<bool, Fail> {
-    let mut payload = Payload::from_slice(&[0; 2]).ok_or("two bytes")?;
+/// Whether the request that has a long tag as its data writes just that, and the reply that has it says just that.
+fn is_long_tag(long_tag: [u8; 32]) -> bool {
+    let mut payload = Payload::new();
+    payload.extend_from_slice(&[0; 2]);
     payload.extend_from_slice(&long_tag);
-    let reply = Reply::read(20, payload.as_slice()).ok_or("a reply")?;
-    Ok(reply.content == ReplyContent::LongTag(long_tag))
+    request_is(22, &long_tag, Ok(&long_tag))
+        && writes(22, &long_tag, Register::LongTag, Some(&long_tag))
+        && says(
+            20,
+            payload.as_slice(),
+            0,
+            0,
+            &ReplyContent::LongTag(long_tag),
+        )
 }
 
 #[test]
-fn a_long_tag_has_any_bytes(rt: HostRuntime) -> Result<(), Fail> {
+fn a_long_tag_has_any_bytes(rt: HostRuntime) {
     for byte in 0..=255u8 {
-        let long_tag = [byte; 32];
-        assert!(rt;
-            long_tag_is_written(long_tag)? && long_tag_is_said(long_tag)?,
-            "of {byte}"
-        );
+        assert!(rt; is_long_tag([byte; 32]), "of {byte}");
     }
-    Ok(())
 }
