@@ -10,6 +10,7 @@ pub mod Damage
 pub mod Example
 pub mod Start
 pub mod Front
+pub mod Sum
 pub mod Miss
 pub mod Missed
 pub mod Hint

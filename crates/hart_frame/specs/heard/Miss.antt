@@ -1,5 +1,5 @@
 -- Why no frame stands at a place of what was heard (HCF_SPEC-081; own profile).
-use Rattle.std.specs.Prelude.{◌≡◌, ◌+◌, ◌-◌, ◌/◌, ◌%◌, ◌==◌, ◌&&◌, ◌||◌, not, nat_le, nat_lt, if◌then◌else◌, ℕ, zero, suc, Bool, false}
+use Rattle.std.specs.Prelude.{◌≡◌, ◌<◌, ◌+◌, ◌-◌, ◌/◌, ◌%◌, ◌==◌, ◌&&◌, ◌||◌, not, nat_le, nat_lt, if◌then◌else◌, ℕ, zero, suc, Bool, false}
 use Rattle.std.specs.Prelude.{List, Option, None, Some, drop, fold, is_none, length, slice_get, slice_index, take, bit_xor}
 use Rattle.std.specs.Option.{option_map_or}
 use Rattle.hart_frame.specs.heard.Character.{Character, faultless_bytes}
@@ -103,3 +103,11 @@ fault_of (ShortReply byte_count) = Some FrameFault.ShortReply
 fault_of (Missing count) = Some Truncated
 fault_of (BadCheck place byte fits) = Some FrameFault.BadCheck
 fault_of OnePreamble = None
+
+-- For private calls alone:
+
+-- Fewer than so many faultless characters come first, and a miss is why: the character with fault bits after them, or the reason at the
+-- end of the list.
+pub record EndsEarly (heard : List Character) (count start : ℕ) (at_end miss : Miss) : Type 0 where
+  pub few : length (faultless_bytes heard) < count
+  pub is : miss ≡ faulty_or (slice_get heard (length (faultless_bytes heard))) (start + length (faultless_bytes heard)) at_end

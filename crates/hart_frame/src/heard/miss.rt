@@ -1,21 +1,22 @@
 //! Why no frame stands at a place at which a message seems to start.
 ghost use Rattle.std.specs.Prelude.{◌≡◌, ◌≢◌, ◌+◌, ◌^◌, ◌<◌, ◌≤◌, ◌⊎◌, ℕ, List, [], ◌∷◌, ◌++◌, None, Some, length, drop, insert, set};
-ghost use Rattle.std.specs.Prelude.{All, IsSome, slice_get};
+ghost use Rattle.std.specs.Prelude.{All, IsSome, MatchOption, bit_xor, fold, slice_get};
+ghost use Rattle.hart_frame.specs.heard.Body.{bytes_of};
 ghost use Rattle.hart_frame.specs.heard.Character.{Character, faultless, faultless_bytes};
-ghost use Rattle.hart_frame.specs.heard.Miss.{HasFrameAt, body_miss, check_miss, delimiter_miss, fault_of, faulty_or};
-ghost use Rattle.hart_frame.specs.heard.Miss.{follows_one_preamble, follows_preamble, miss_in, miss_of};
+ghost use Rattle.hart_frame.specs.heard.Miss.{EndsEarly, HasFrameAt, body_miss, check_miss, delimiter_miss, fault_of, faulty_or};
+ghost use Rattle.hart_frame.specs.heard.Miss.{follows_one_preamble, follows_preamble, miss_of};
 ghost use Rattle.hart_frame.specs.heard.Start.{IsStart};
 ghost use Rattle.hart_frame.specs.wire.Layout.{body_length};
-ghost use Rattle.hart_frame.specs.wire.Refusal.{IsRefusedWith};
+ghost use Rattle.hart_frame.specs.wire.Refusal.{HasGoodByteCount, IsRefusedWith};
 ghost use Rattle.hart_frame.specs.declared.wire.fault.FrameFault.{FrameFault};
 ghost use Rattle.hart_frame.specs.declared.heard.miss.Miss.{Miss};
 ghost use Rattle.hart_frame.specs.declared.heard.miss.Miss.TheVariants.{BadCheck, Faulty, Missing, OnePreamble};
 
-use crate::heard::character::faultless_front;
+use crate::Char;
+use crate::heard::character::{faultless_len, sum_of};
 use crate::heard::start::is_start;
 use crate::wire::delimiter::{is_burst_delimiter, read_delimiter};
 use crate::wire::message::PREAMBLE;
-use crate::{Body, Char, check_byte};
 
 /// Why no frame stands at a place of what was heard. Places are counted from 0, at its front.
 #[derive(Clone, Copy, Debug, PartialEq, Eq)]
@@ -64,36 +65,52 @@ fn body_miss(heard: &[Char], start: usize) -> Option<Miss>
     requires within { start + length heard.now < 2 ^ 64 }
     ensures { result ≡ body_miss start heard.now }
 {
-    let bytes: Body = faultless_front(heard);
-    miss_in(bytes.as_slice(), heard, start)
+    if let Some(miss) = early_end(heard, 1, start, Miss::EndsBeforeByteCount) {
+        return Some(miss);
+    }
+    let first = heard[0].byte();
+    let Some(delimiter) = read_delimiter(first) else {
+        return Some(delimiter_miss(first));
+    };
+    let count_place = delimiter.byte_count_place();
+    if let Some(miss) = early_end(heard, count_place + 1, start, Miss::EndsBeforeByteCount) {
+        return Some(miss);
+    }
+    let byte_count = heard[count_place].byte();
+    let Some(layout) = delimiter.layout(byte_count) else {
+        return Some(Miss::ShortReply { byte_count });
+    };
+    counted_miss(heard, layout.body_len(), start)
 }
 
-/// The same by the bytes of the first characters, and the character after them, if there is one.
-fn miss_in(bytes: &[u8], heard: &[Char], start: usize) -> Option<Miss>
-    requires front { length bytes.now ≤ length heard.now }
+/// The same after a good byte count, by the length of the body that it gives.
+fn counted_miss(heard: &[Char], len: usize, start: usize) -> Option<Miss>
+    requires counted { HasGoodByteCount (faultless_bytes heard.now) }
+    requires len { len ≡ body_length (faultless_bytes heard.now) }
     requires within { start + length heard.now < 2 ^ 64 }
-    ensures { result ≡ miss_in bytes.now (slice_get heard.now (length bytes.now)) (start + length bytes.now) start }
+    ensures { result ≡ body_miss start heard.now }
 {
-    let Some(first) = bytes.first() else {
-        return Some(faulty_or(heard, 0, start, Miss::EndsBeforeByteCount));
-    };
-    let Some(delimiter) = read_delimiter(*first) else {
-        return Some(delimiter_miss(*first));
-    };
-    let Some(byte_count) = bytes.get(delimiter.byte_count_place()) else {
-        return Some(faulty_or(heard, bytes.len(), start, Miss::EndsBeforeByteCount));
-    };
-    let Some(layout) = delimiter.layout(*byte_count) else {
-        return Some(Miss::ShortReply {
-            byte_count: *byte_count,
-        });
-    };
-    let len = layout.body_len();
-    if bytes.len() < len {
-        let count = len - bytes.len();
-        return Some(faulty_or(heard, bytes.len(), start, Miss::Missing { count }));
+    if let Some(body) = heard.get(..len) {
+        let sum = sum_of(body);
+        if sum.faults == 0 {
+            return check_miss(body, sum.check, start);
+        }
     }
-    check_miss(&bytes[..len], start)
+    let count = len.saturating_sub(heard.len());
+    early_end(heard, len, start, Miss::Missing { count })
+}
+
+/// Why fewer than so many faultless characters come first: the character with fault bits that comes before, or the reason at the end of
+/// the characters. `None` if as many come.
+fn early_end(heard: &[Char], count: usize, start: usize, at_end: Miss) -> Option<Miss>
+    requires within { start + length heard.now < 2 ^ 64 }
+    ensures { MatchOption result (count ≤ length (faultless_bytes heard.now)) (EndsEarly heard.now count start at_end) }
+{
+    let end = faultless_len(&heard[..count.min(heard.len())]);
+    if end == count {
+        return None;
+    }
+    Some(faulty_or(heard, end, start, at_end))
 }
 
 /// The character after so many, which has fault bits, or if there is none the reason at the end of the characters.
@@ -120,22 +137,23 @@ fn delimiter_miss(byte: u8) -> Miss
     Miss::BadDelimiter { byte }
 }
 
-/// Why the check byte of bytes that are as long as a body does not fit, or `None` if it does.
-fn check_miss(body: &[u8], start: usize) -> Option<Miss>
+/// Why the check byte of characters that are as long as a body does not fit, or `None` if it does, by the exclusive or of their bytes.
+fn check_miss(body: &[Char], check: u8, start: usize) -> Option<Miss>
     requires some { 0 < length body.now }
-    requires whole { body_length body.now ≡ length body.now }
+    requires whole { body_length (bytes_of body.now) ≡ length body.now }
+    requires check { check ≡ fold bit_xor 0 (bytes_of body.now) }
     requires within { start + length body.now < 2 ^ 64 }
-    ensures { result ≡ check_miss body.now start }
+    ensures { result ≡ check_miss (bytes_of body.now) start }
 {
-    let last = body.len() - 1;
-    let (byte, fits) = (body[last], check_byte(&body[..last]));
-    if byte == fits {
+    if check == 0 {
         return None;
     }
+    let last = body.len() - 1;
+    let byte = body[last].byte();
     Some(Miss::BadCheck {
         place: start + last,
         byte,
-        fits,
+        fits: check ^ byte,
     })
 }
 

@@ -1,14 +1,15 @@
 -- The bytes up to the first character with fault bits.
-use Rattle.std.proofs.Common.{◌≡◌, ◌≢◌, ℕ, suc, ◌+◌, ◌<◌, ◌≤◌, ◌⊎◌, inl, inr, List, [], ◌∷◌, ◌++◌, length, take, drop, get_or, min}
+use Rattle.std.proofs.Common.{◌≡◌, ◌≢◌, ℕ, zero, suc, not, ◌+◌, ◌<◌, ◌≤◌, ◌⊎◌, inl, inr, List, [], ◌∷◌, ◌++◌, length, take, drop, get_or, min}
 use Rattle.std.proofs.Common.{None, Some, refl, sym, ap, ◌∙◌, arith, append_assoc, length-append, subst, ◌==◌}
-use Rattle.std.specs.List.{All, slice_get}
+use Rattle.std.specs.List.{All, position_or_len, slice_get}
 use Rattle.std.proofs.lemmas.List.{append-nil, drop_more, drop_all, get_or-take, length-map, length-take, map-append, take_at, take_all}
 use Rattle.std.proofs.lemmas.List.{take_min}
 use Rattle.std.proofs.lemmas.List.{take-append-le, take-map}
-use Rattle.std.proofs.lemmas.List.Elements.{All-append, All-from_get_or, All-tail}
+use Rattle.std.proofs.lemmas.List.Elements.{All-append, All-from_get_or, All-map, All-tail}
 use Rattle.std.proofs.lemmas.List.Sums.{take_while-cons}
 use Rattle.std.proofs.lemmas.Option.{none-some, slice_get-get_or}
 use Rattle.std.proofs.lemmas.Bool.Decides.{nat_tests}
+use Rattle.hart_frame.specs.heard.Body.{bytes_of}
 use Rattle.hart_frame.specs.heard.Character.{Character, faultless, faultless_bytes}
 use Rattle.hart_frame.proofs.lemmas.heard.Place.{preamble}
 
@@ -151,3 +152,52 @@ front_heard heard most =
     let long = length-take most bytes in
     let same : take most bytes ≡ take n bytes = sym (take_min most bytes) ∙ ap (λ (k : ℕ). take k bytes) (sym long) in
     ap faultless same ∙ sym (take_heard heard n (omega (arith, long)))
+
+-- the first character with fault bits stands after them
+pub faulty_place : (chars : List Character) → position_or_len (λ c. not (c.faults == 0)) chars ≡ length (faultless_bytes chars)
+faulty_place [] = refl
+faulty_place (c ∷ cs) = grind (arith, nat_tests, faultless_bytes-more, faultless_bytes-end, faulty_place cs)
+
+-- those of the first so many characters
+pub faultless_bytes-take : (n : ℕ) (heard : List Character) → faultless_bytes (take n heard) ≡ take n (faultless_bytes heard)
+faultless_bytes-take zero heard = refl
+faultless_bytes-take (suc n) [] = refl
+faultless_bytes-take (suc n) (c ∷ cs) =
+    let cases : (c.faults ≡ 0) ⊎ (c.faults ≢ 0) = grind arith in
+    elim cases [
+      | inl good ↦ faultless_bytes-more c (take n cs) good ∙ ap (λ (xs : List ℕ). c.byte ∷ xs) (faultless_bytes-take n cs)
+          ∙ sym (ap (take (suc n)) (faultless_bytes-more c cs good))
+      | inr bad ↦ faultless_bytes-end c (take n cs) bad ∙ sym (ap (take (suc n)) (faultless_bytes-end c cs bad))
+    ]
+
+-- they are all the bytes if no character has fault bits
+pub faultless_bytes-all : (heard : List Character) → All (λ c. c.faults ≡ 0) heard → faultless_bytes heard ≡ bytes_of heard
+faultless_bytes-all [] all = refl
+faultless_bytes-all (c ∷ cs) all =
+    faultless_bytes-more c cs (all 0 c (omega arith))
+    ∙ ap (λ (xs : List ℕ). c.byte ∷ xs) (faultless_bytes-all cs (All-tail (λ (x : Character). x.faults ≡ 0) c cs all))
+
+-- they come from faultless characters
+pub faultless_all : (bytes : List ℕ) → All (λ c. c.faults ≡ 0) (faultless bytes)
+faultless_all bytes =
+    let make = λ (byte : ℕ). let c : Character = record { byte = byte; faults = 0 } in c in
+    All-map (λ (c : Character). c.faults ≡ 0) make bytes (λ k d below. refl)
+
+byte_of : (i : ℕ) (c : Character) (cs : List Character) (d : Character)
+    → faultless_bytes (c ∷ cs) ≡ c.byte ∷ faultless_bytes cs
+    → ((k : ℕ) (d : Character) → k < length (faultless_bytes cs) → (get_or cs k d).byte ≡ get_or (faultless_bytes cs) k 0)
+    → i < length (faultless_bytes (c ∷ cs)) → (get_or (c ∷ cs) i d).byte ≡ get_or (faultless_bytes (c ∷ cs)) i 0
+byte_of zero c cs d is rest below = sym (ap (λ (xs : List ℕ). get_or xs 0 0) is)
+byte_of (suc i) c cs d is rest below =
+    rest i d (omega (arith, ap length is, below)) ∙ sym (ap (λ (xs : List ℕ). get_or xs (suc i) 0) is)
+
+-- each is the byte of the character at its place
+pub byte_at : (heard : List Character) (i : ℕ) (d : Character) → i < length (faultless_bytes heard)
+    → (get_or heard i d).byte ≡ get_or (faultless_bytes heard) i 0
+byte_at [] i d below = absurd (omega arith)
+byte_at (c ∷ cs) i d below =
+    let cases : (c.faults ≡ 0) ⊎ (c.faults ≢ 0) = grind arith in
+    elim cases [
+      | inl good ↦ byte_of i c cs d (faultless_bytes-more c cs good) (byte_at cs) below
+      | inr bad ↦ absurd (omega (arith, ap length (faultless_bytes-end c cs bad), below))
+    ]

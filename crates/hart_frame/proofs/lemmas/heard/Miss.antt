@@ -1,24 +1,24 @@
 -- Why no body begins at a start: by its bytes, and by the characters that are heard there.
-use Rattle.std.proofs.Common.{◌≡◌, ◌≢◌, ℕ, ◌+◌, ◌-◌, ◌%◌, ◌<◌, ◌≤◌, List, ◌++◌, length, take, drop, get_or, fold, bit_xor}
+use Rattle.std.proofs.Common.{◌≡◌, ◌≢◌, ℕ, ◌+◌, ◌-◌, ◌*◌, ◌/◌, ◌%◌, ◌<◌, ◌≤◌, List, ◌++◌, length, take, drop, get_or, min}
 use Rattle.std.proofs.Common.{◌⊎◌, inl, inr, subst, true, false, Option, None, Some, refl, sym, ap, ◌∙◌, arith, length-append}
-use Rattle.std.proofs.lemmas.List.{get_or_append_left, get_or_past, get_or-take, length-take, length-take-le}
-use Rattle.std.proofs.lemmas.List.{take_all, take-append-drop, take-append-le}
+use Rattle.std.proofs.lemmas.List.{get_or_append_left, length-map, length-take, length-take-le, take-append-drop, take-append-le}
+use Rattle.std.proofs.lemmas.Option.{slice_get-get_or}
 use Rattle.std.specs.List.{All, slice_get}
-use Rattle.std.proofs.lemmas.List.Elements.{All-get_or}
+use Rattle.std.specs.Option.{MatchOption}
 use Rattle.std.proofs.lemmas.Bool.Decides.{nat_tests}
 use Rattle.hart_frame.specs.heard.Character.{Character, faultless_bytes}
 use Rattle.hart_frame.specs.heard.Miss.{body_miss, check_byte_in, check_miss, fitting_check_byte, delimiter_miss, faulty_or, is_delimiter}
-use Rattle.hart_frame.specs.heard.Miss.{miss_in}
+use Rattle.hart_frame.specs.heard.Miss.{EndsEarly, miss_in}
+use Rattle.hart_frame.specs.heard.Body.{bytes_of}
 use Rattle.hart_frame.specs.wire.Layout.{body_length, byte_count_in, byte_count_place, delimiter_in}
-use Rattle.hart_frame.specs.wire.Parity.{IsCheckByte}
 use Rattle.hart_frame.specs.wire.Refusal.{HasByteCount, HasCheckByte, HasDelimiter, HasGoodByteCount, IsDelimiter}
 use Rattle.hart_frame.specs.declared.heard.miss.Miss.{Miss}
 use Rattle.hart_frame.specs.declared.heard.miss.Miss.TheVariants.{BadCheck, BadDelimiter, Burst, EndsBeforeByteCount, Faulty, Missing}
 use Rattle.hart_frame.specs.declared.heard.miss.Miss.TheVariants.{OnePreamble, ShortReply}
 use Rattle.hart_frame.proofs.lemmas.wire.BodiesFound.{delimiter_decided}
-use Rattle.hart_frame.proofs.lemmas.wire.Parity.{IsCheckByte-is}
-use Rattle.hart_frame.proofs.lemmas.wire.Prefix.{HasByteCount-more, HasCheckByte-more, HasCheckByte-prefix, count_more, delimiter_more}
-use Rattle.hart_frame.proofs.lemmas.wire.Prefix.{length_more}
+use Rattle.hart_frame.proofs.lemmas.heard.Front.{byte_at, faultless_all, faultless_bytes-all, faultless_bytes-take, length-faultless_bytes, take_heard}
+use Rattle.hart_frame.proofs.lemmas.heard.Place.{preamble}
+use Rattle.hart_frame.proofs.lemmas.wire.Prefix.{HasCheckByte-prefix, length_more}
 
 -- the test of a delimiter
 is_delimiter-yes : (byte : ℕ) → IsDelimiter byte → is_delimiter byte ≡ true
@@ -53,47 +53,13 @@ pub miss_in-whole : (bytes : List ℕ) (faulty : Option Character) (place start 
     → miss_in bytes faulty place start ≡ check_miss bytes start
 miss_in-whole bytes faulty place start has = grind (arith, nat_tests, is_delimiter-yes)
 
--- why the check byte of as many bytes as a body has does not fit
-taken_fits : (bytes : List ℕ) (n i : ℕ) → ((i : ℕ) → get_or bytes i 0 < 256) → get_or (take n bytes) i 0 < 256
-taken_fits bytes n i each =
-    let cases : (i < n) ⊎ (n ≤ i) = grind arith in
-    elim cases [
-      | inl below ↦ subst (λ (b : ℕ). b < 256) (sym (get_or-take n bytes i 0 below)) (each i)
-      | inr past ↦ subst (λ (b : ℕ). b < 256)
-          (sym (get_or_past (take n bytes) i 0 (omega (arith, past, length-take n bytes)))) (omega arith)
-    ]
-
-fits_alike : (body : List ℕ) (fits : ℕ) → ((i : ℕ) → get_or body i 0 < 256) → body_length body ≡ length body
-    → IsCheckByte (take (length body - 1) body) fits → fits ≡ fitting_check_byte body
-fits_alike body fits each whole is =
-    let fit : (i : ℕ) → get_or (take (length body - 1) body) i 0 < 256 = λ i. taken_fits body (length body - 1) i each in
-    IsCheckByte-is (take (length body - 1) body) fits fit is
-    ∙ ap (λ (n : ℕ). fold bit_xor 0 (take (n - 1) body)) (sym whole)
-
+-- why the check byte does not fit
 pub same_check : (body : List ℕ) (start : ℕ) → check_byte_in body ≡ fitting_check_byte body → check_miss body start ≡ None
 same_check body start same = grind (arith, nat_tests)
 
 pub other_check : (body : List ℕ) (start : ℕ) → check_byte_in body ≢ fitting_check_byte body
     → check_miss body start ≡ Some (BadCheck (start + (body_length body - 1)) (check_byte_in body) (fitting_check_byte body))
 other_check body start other = grind (arith, nat_tests)
-
-pub check_miss-none : (body : List ℕ) (byte fits start : ℕ) → ((i : ℕ) → get_or body i 0 < 256) → body_length body ≡ length body
-    → byte ≡ get_or body (length body - 1) 0 → IsCheckByte (take (length body - 1) body) fits → byte ≡ fits
-    → None ≡ check_miss body start
-check_miss-none body byte fits start each whole at is same =
-    let fit = fits_alike body fits each whole is in
-    let at_end : byte ≡ check_byte_in body = at ∙ ap (λ (n : ℕ). get_or body (n - 1) 0) (sym whole) in
-    let alike : check_byte_in body ≡ fitting_check_byte body = sym at_end ∙ same ∙ fit in
-    sym (same_check body start alike)
-
-pub check_miss-some : (body : List ℕ) (byte fits start : ℕ) → ((i : ℕ) → get_or body i 0 < 256) → body_length body ≡ length body
-    → byte ≡ get_or body (length body - 1) 0 → IsCheckByte (take (length body - 1) body) fits → byte ≢ fits
-    → Some (BadCheck (start + (length body - 1)) byte fits) ≡ check_miss body start
-check_miss-some body byte fits start each whole at is other =
-    let fit = fits_alike body fits each whole is in
-    let at_end : byte ≡ check_byte_in body = at ∙ ap (λ (n : ℕ). get_or body (n - 1) 0) (sym whole) in
-    let miss = other_check body start (λ same. other (at_end ∙ same ∙ sym fit)) in
-    cc
 
 -- it is the same whatever follows
 pub check_miss-more : (xs ys : List ℕ) (start : ℕ) → HasCheckByte xs → check_miss (xs ++ ys) start ≡ check_miss xs start
@@ -171,44 +137,125 @@ pub told_of : (heard : List Character) (start : ℕ)
 told_of heard start =
     let bytes = faultless_bytes heard in told bytes (slice_get heard (length bytes)) (start + length bytes) start
 
--- more bytes than the longest body has change nothing
-decided_more : (xs ys : List ℕ) (faulty later : Option Character) (place next start : ℕ) → ((i : ℕ) → get_or xs i 0 < 256)
-    → length xs ≡ 267 → Told xs faulty place start → miss_in xs faulty place start ≡ miss_in (xs ++ ys) later next start
-decided_more xs ys faulty later place next start each long (empty none is) = absurd (omega (arith, none, long))
-decided_more xs ys faulty later place next start each long (other any bad is) =
-    let same = delimiter_more xs ys any in
-    is ∙ ap (λ (byte : ℕ). let miss : Option Miss = Some (delimiter_miss byte) in miss) (sym same)
-    ∙ sym (miss_in-other (xs ++ ys) later next start (omega (arith, length-append xs ys, any)) (λ good. bad (subst IsDelimiter same good)))
-decided_more xs ys faulty later place next start each long (begun has few is) = absurd (omega (arith, each 0, few, long))
-decided_more xs ys faulty later place next start each long (short has ack few is) =
-    let same = count_more xs ys has.1 in
-    is ∙ ap (λ (count : ℕ). let miss : Option Miss = Some (ShortReply count) in miss) (sym same)
-    ∙ sym (miss_in-short (xs ++ ys) later next start (HasByteCount-more xs ys has)
-    (omega (arith, delimiter_more xs ys has.0.0, ack)) (omega (arith, same, few)))
-decided_more xs ys faulty later place next start each long (counted has few is) =
-    absurd (omega (arith, each 0, each (byte_count_place xs), few, long))
-decided_more xs ys faulty later place next start each long (whole has is) =
-    is ∙ sym (check_miss-more xs ys start has) ∙ sym (miss_in-whole (xs ++ ys) later next start (HasCheckByte-more xs ys has))
+-- so many first characters without fault bits are as many faultless bytes
+pub record IsWholeFront (heard body : List Character) (len : ℕ) : Type 0 where
+  pub bytes : bytes_of body ≡ take len (faultless_bytes heard)
+  pub within : len ≤ length (faultless_bytes heard)
 
--- so the first bytes of what is heard decide
-pub missed_front : (heard : List Character) (bytes : List ℕ) (most start : ℕ) → most ≡ 267 → bytes ≡ take most (faultless_bytes heard)
-    → All (λ byte. byte < 256) bytes
-    → miss_in bytes (slice_get heard (length bytes)) (start + length bytes) start ≡ body_miss start heard
-missed_front heard bytes most start is front fit =
-    let all = faultless_bytes heard in
-    let each : (i : ℕ) → get_or bytes i 0 < 256 = grind (arith, All-get_or, get_or_past) in
-    let faulty : List ℕ → Option Character = λ xs. slice_get heard (length xs) in
-    let cases : (length all ≤ most) ⊎ (most < length all) = grind arith in
+pub whole_front : (heard body : List Character) (len : ℕ) → len ≤ length heard → body ≡ take len heard → All (λ c. c.faults ≡ 0) body
+    → IsWholeFront heard body len
+whole_front heard body len within is all =
+    let byte = λ (c : Character). c.byte in
+    let bytes : bytes_of body ≡ take len (faultless_bytes heard) =
+    sym (faultless_bytes-all body all) ∙ ap faultless_bytes is ∙ faultless_bytes-take len heard in
+    let long : length (bytes_of body) ≡ len = length-map body byte ∙ ap length is ∙ length-take-le len heard within in
+    record { bytes = bytes; within = omega (arith, ap length bytes, long, length-take len (faultless_bytes heard)) }
+
+-- the length of a body is the same by its bytes alone
+pub front_length : (heard body : List Character) (len : ℕ) → IsWholeFront heard body len → HasGoodByteCount (faultless_bytes heard)
+    → len ≡ body_length (faultless_bytes heard) → body_length (bytes_of body) ≡ len
+front_length heard body len front has long =
+    let bytes = faultless_bytes heard in
+    let parts = take-append-drop len bytes in
+    let Has : List ℕ → Type 0 = λ xs. HasCheckByte xs in
+    let Within : List ℕ → Type 0 = λ xs. body_length xs ≤ length (take len bytes) in
+    let cut = HasCheckByte-prefix (take len bytes) (drop len bytes) (subst Has (sym parts) (has, omega (arith, front.within, long)))
+    (subst Within (sym parts) (omega (arith, long, length-take-le len bytes front.within))) in
+    ap body_length front.bytes ∙ sym cut.1 ∙ ap body_length parts ∙ sym long
+
+-- with a whole body its check byte decides
+pub counted_whole : (heard body : List Character) (len start : ℕ) → IsWholeFront heard body len
+    → HasGoodByteCount (faultless_bytes heard) → len ≡ body_length (faultless_bytes heard)
+    → check_miss (bytes_of body) start ≡ body_miss start heard
+counted_whole heard body len start front has long =
+    let bytes = faultless_bytes heard in
+    ap (λ (xs : List ℕ). check_miss xs start) front.bytes
+    ∙ missed_whole bytes len (slice_get heard (length bytes)) (start + length bytes) start (has, omega (arith, front.within, long))
+    (sym long)
+
+-- at the end of the characters as many are missing as of the bytes
+at_end_alike : (heard : List Character) (len place : ℕ)
+    → faulty_or (slice_get heard (length (faultless_bytes heard))) place (Missing (len - length heard))
+    ≡ faulty_or (slice_get heard (length (faultless_bytes heard))) place (Missing (len - length (faultless_bytes heard)))
+at_end_alike heard len place =
+    let n = length (faultless_bytes heard) in
+    let cases : (n < length heard) ⊎ (length heard ≤ n) = grind arith in
     elim cases [
-      | inl few ↦ ap (λ (xs : List ℕ). miss_in xs (slice_get heard (length xs)) (start + length xs) start) (front ∙ take_all most all few)
-      | inr many ↦
-          let long : length bytes ≡ 267 = ap length front ∙ length-take-le most all (omega (arith, many)) ∙ is in
-          let parts : bytes ++ drop most all ≡ all =
-          ap (λ (xs : List ℕ). xs ++ drop most all) front ∙ take-append-drop most all in
-          decided_more bytes (drop most all) (faulty bytes) (faulty all) (start + length bytes) (start + length all) start each long
-          (told bytes (faulty bytes) (start + length bytes) start)
-          ∙ ap (λ (xs : List ℕ). miss_in xs (faulty all) (start + length all) start) parts
+      | inl within ↦ rw (slice_get-get_or heard n preamble within) refl
+      | inr end ↦
+          let same : length heard ≡ n = omega (arith, length-faultless_bytes heard, end) in
+          ap (λ (k : ℕ). faulty_or (slice_get heard n) place (Missing (len - k))) same
     ]
+
+-- with fewer characters it is their end, or the one with fault bits
+pub counted_early : (heard : List Character) (len count start : ℕ) (result : Option Miss) → HasGoodByteCount (faultless_bytes heard)
+    → len ≡ body_length (faultless_bytes heard) → count ≡ len - length heard → length (faultless_bytes heard) < len
+    → MatchOption result (len ≤ length (faultless_bytes heard)) (EndsEarly heard len start (Missing count))
+    → result ≡ body_miss start heard
+counted_early heard len count start None has long count_is few early = absurd (omega (arith, few, early))
+counted_early heard len count start (Some miss) has long count_is few early =
+    let bytes = faultless_bytes heard in
+    let faulty = slice_get heard (length bytes) in
+    let place = start + length bytes in
+    let is : miss ≡ faulty_or faulty place (Missing (body_length bytes - length bytes)) =
+    early.is ∙ ap (λ (k : ℕ). faulty_or faulty place (Missing k)) count_is ∙ at_end_alike heard len place
+    ∙ ap (λ (k : ℕ). faulty_or faulty place (Missing (k - length bytes))) long in
+    ap (λ (m : Miss). let some : Option Miss = Some m in some) is
+    ∙ sym (miss_in-counted bytes faulty place start has (omega (arith, few, long)))
+
+-- characters of which one has fault bits hold fewer faultless bytes
+pub not_whole : (heard body : List Character) (len : ℕ) → body ≡ take len heard → (All (λ c. c.faults ≡ 0) body → ⊥)
+    → length (faultless_bytes heard) < len
+not_whole heard body len is not_all =
+    let cases : (length (faultless_bytes heard) < len) ⊎ (len ≤ length (faultless_bytes heard)) = grind arith in
+    elim cases [
+      | inl few ↦ few
+      | inr all ↦
+          let Faultless : List Character → Type 0 = λ cs. All (λ c. c.faults ≡ 0) cs in
+          absurd (not_all (subst Faultless (sym (is ∙ take_heard heard len all)) (faultless_all (take len (faultless_bytes heard)))))
+    ]
+
+-- the first bytes, up to the byte count
+pub record BeginsWithCount (heard : List Character) (first place count : ℕ) : Type 0 where
+  pub first_is : first ≡ delimiter_in (faultless_bytes heard)
+  pub place_is : place ≡ byte_count_place (faultless_bytes heard)
+  pub count_is : count ≡ byte_count_in (faultless_bytes heard)
+  pub within : byte_count_place (faultless_bytes heard) < length (faultless_bytes heard)
+
+pub begins_with_count : (heard : List Character) (first place count : ℕ) (one two : Character)
+    → 1 ≤ length (faultless_bytes heard) → one ≡ get_or heard 0 one → first ≡ one.byte
+    → place ≡ 2 + (1 + 4 * (first / 128)) + first / 32 % 4 → place + 1 ≤ length (faultless_bytes heard)
+    → two ≡ get_or heard place two → count ≡ two.byte → BeginsWithCount heard first place count
+begins_with_count heard first place count one two some one_is first_is place_is within two_is count_is =
+    let byte = λ (c : Character). c.byte in
+    let bytes = faultless_bytes heard in
+    let delimiter : first ≡ delimiter_in bytes = first_is ∙ ap byte one_is ∙ byte_at heard 0 one some in
+    let here : place ≡ byte_count_place bytes = omega (arith, place_is, delimiter) in
+    record {
+      first_is = delimiter;
+      place_is = here;
+      count_is = count_is ∙ ap byte two_is ∙ byte_at heard place two (omega (arith, within)) ∙ ap (λ (k : ℕ). get_or bytes k 0) here;
+      within = omega (arith, here, within);
+    }
+
+pub good_count : (heard : List Character) (first place count : ℕ) → BeginsWithCount heard first place count → IsDelimiter first
+    → ((first % 8 ≡ 2) ⊎ (2 ≤ count)) → HasGoodByteCount (faultless_bytes heard)
+good_count heard first place count begins is good = grind arith
+
+pub short_reply : (heard : List Character) (first place count start : ℕ) → BeginsWithCount heard first place count → IsDelimiter first
+    → (((first % 8 ≡ 2) ⊎ (2 ≤ count)) → ⊥) → Some (ShortReply count) ≡ body_miss start heard
+short_reply heard first place count start begins is bad =
+    let bytes = faultless_bytes heard in
+    let has : HasByteCount bytes = grind arith in
+    let ack : delimiter_in bytes % 8 ≡ 6 = grind arith in
+    let few : byte_count_in bytes < 2 = grind arith in
+    ap (λ (k : ℕ). let miss : Option Miss = Some (ShortReply k) in miss) begins.count_is
+    ∙ sym (miss_in-short bytes (slice_get heard (length bytes)) (start + length bytes) start has ack few)
+
+-- so many characters hold fewer faultless ones, as many as come first of all
+pub cut_front : (heard : List Character) (count end : ℕ) → end ≡ length (faultless_bytes (take count heard))
+    → end ≡ min count (length (faultless_bytes heard))
+cut_front heard count end is = is ∙ ap length (faultless_bytes-take count heard) ∙ length-take count (faultless_bytes heard)
 
 -- which case a miss comes from
 faulty_or-is : (faulty : Option Character) (place : ℕ) (at_end miss : Miss) → faulty_or faulty place at_end ≡ miss

@@ -74,8 +74,3 @@ pub even-is : (bytes : List ℕ) (check : ℕ) → ((i : ℕ) → get_or bytes i
 even-is bytes check each small even =
     let is = IsCheckByte-fold bytes (fold bit_xor 0 bytes) each refl in
     check-one bytes check (fold bit_xor 0 bytes) small is.byte even (HasEvenParity-push bytes (fold bit_xor 0 bytes) is)
-
--- and so is their check byte
-pub IsCheckByte-is : (bytes : List ℕ) (check : ℕ) → ((i : ℕ) → get_or bytes i 0 < 256) → IsCheckByte bytes check
-    → check ≡ fold bit_xor 0 bytes
-IsCheckByte-is bytes check each is = even-is bytes check each is.byte (HasEvenParity-push bytes check is)

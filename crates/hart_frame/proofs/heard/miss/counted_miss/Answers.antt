@@ -1,0 +1,43 @@
+use Rattle.std.proofs.Common.{◌≡◌, ◌<◌, ◌-◌, ℕ, ap, arith, length, rules, sym, take, ◌∙◌}
+use Rattle.std.proofs.lemmas.Bool.Decides.{nat_tests}
+use Rattle.hart_frame.specs.heard.Character.{faultless_bytes}
+use Rattle.hart_frame.proofs.lemmas.heard.Front.{length-faultless_bytes}
+use Rattle.hart_frame.proofs.lemmas.heard.Miss.{IsWholeFront, counted_early, counted_whole, front_length, not_whole, whole_front}
+use Rattle.hart_frame.proofs.heard.miss.counted_miss.Goals.{in-Some+else-sum-eq0, in_default}
+use Rattle.hart_frame.proofs.heard.miss.counted_miss.Goals as goal
+
+pub check_miss-requires-clause-whole : goal.check_miss-requires-clause-whole
+check_miss-requires-clause-whole c =
+    let heard = c.args.heard.now in
+    let body = c.in-Some.body.now in
+    let lookup = c.in-Some.ensures.lookup.0 in
+    let whole : c.args.len - 0 ≡ c.args.len = omega arith in
+    let front = whole_front heard body c.args.len lookup.1 (lookup.2 ∙ ap (λ (n : ℕ). take n heard) whole)
+    (c.sum_of-sum.ensures.faults.0 c.if-sum-eq0.true) in
+    front_length heard body c.args.len front c.requires.counted c.requires.len ∙ (omega (arith, lookup.3))
+
+pub returns-then-sum-eq0 : goal.returns-then-sum-eq0
+returns-then-sum-eq0 c =
+    let heard = c.args.heard.now in
+    let body = c.in-Some.body.now in
+    let lookup = c.in-Some.ensures.lookup.0 in
+    let whole : c.args.len - 0 ≡ c.args.len = omega arith in
+    let front = whole_front heard body c.args.len lookup.1 (lookup.2 ∙ ap (λ (n : ℕ). take n heard) whole)
+    (c.sum_of-sum.ensures.faults.0 c.if-sum-eq0.true) in
+    c.check_miss.ensures ∙ counted_whole heard body c.args.len c.args.start front c.requires.counted c.requires.len
+
+pub returns : goal.returns
+returns c =
+    let heard = c.args.heard.now in
+    let whole : c.args.len - 0 ≡ c.args.len = omega arith in
+    let few : length (faultless_bytes heard) < c.args.len =
+    elim c.match-get.branch [
+      | in-Some+else-sum-eq0 w ↦
+          not_whole heard w.in-Some.body.now c.args.len (w.in-Some.ensures.lookup.0.2 ∙ ap (λ (n : ℕ). take n heard) whole)
+          (λ all. w.if-sum-eq0.false (w.sum_of-sum.ensures.faults.1 all))
+      | in_default w ↦
+          let short : length heard < c.args.len = search rules in
+          omega (arith, length-faultless_bytes heard, short)
+    ] in
+    counted_early heard c.args.len c.saturating_sub-count.result c.args.start c.early_end.result c.requires.counted c.requires.len
+    c.saturating_sub-count.ensures few c.early_end.ensures

@@ -1,0 +1,24 @@
+use Rattle.std.proofs.Common.{◌≡◌, ◌+◌, ℕ, ap, arith, length, min, rules, sym, ◌∙◌}
+use Rattle.std.specs.List.{slice_get}
+use Rattle.hart_frame.specs.heard.Character.{faultless_bytes}
+use Rattle.hart_frame.specs.heard.Miss.{faulty_or}
+use Rattle.hart_frame.proofs.lemmas.heard.Front.{length-faultless_bytes}
+use Rattle.hart_frame.proofs.lemmas.heard.Miss.{cut_front}
+use Rattle.hart_frame.proofs.heard.miss.early_end.Goals as goal
+
+pub returns-then-end-count : goal.returns-then-end-count
+returns-then-end-count c =
+    let cut = cut_front c.args.heard.now c.min.result c.faultless_len-end.result c.faultless_len-end.ensures in
+    omega (arith, c.if-end-count.true, c.min.ensures, length-faultless_bytes c.args.heard.now)
+
+pub returns : goal.returns
+returns c =
+    let heard = c.args.heard.now in
+    let n = length (faultless_bytes heard) in
+    let cut = cut_front heard c.min.result c.faultless_len-end.result c.faultless_len-end.ensures in
+    let end : c.faultless_len-end.result ≡ n =
+    omega (arith, c.if-end-count.false, c.min.ensures, length-faultless_bytes heard) in
+    record {
+      few = omega (arith, c.if-end-count.false, c.min.ensures, length-faultless_bytes heard);
+      is = c.faulty_or.ensures ∙ ap (λ (k : ℕ). faulty_or (slice_get heard k) (c.args.start + k) c.args.at_end) end;
+    }
