@@ -1,9 +1,9 @@
 //! Laws over the definitions alone, for the crates above.
-ghost use Rattle.std.specs.Prelude.{◌≡◌, ◌<◌, ◌≤◌, ◌↔◌, List, ℕ, [], ◌∷◌, ◌++◌, length, All};
+ghost use Rattle.std.specs.Prelude.{◌≡◌, ◌<◌, ◌≤◌, ◌↔◌, List, ℕ, [], ◌∷◌, ◌++◌, length, drop, map, All};
 ghost use Rattle.hart_frame.specs.wire.FrameParts.{FrameParts};
 ghost use Rattle.hart_frame.specs.wire.Body.{IsBody, BeginsWithBody, CanBecomeBody, HasNoBody};
 ghost use Rattle.hart_frame.specs.heard.Character.{Character, faultless};
-ghost use Rattle.hart_frame.specs.heard.Frames.{AreFrames, IsFirst};
+ghost use Rattle.hart_frame.specs.heard.Frames.{AreFrames, IsFirst, moved};
 ghost use Rattle.hart_frame.specs.wire.Message.{IsMessage};
 ghost use Rattle.hart_frame.specs.heard.Place.{IsOpen, StandsIn};
 ghost use Rattle.hart_frame.specs.wire.Refusal.{IsTruncated};
@@ -51,4 +51,11 @@ pub fn messages_have_their_frame_alone()
     ensures message { (frame : FrameParts) (preambles : ℕ) (bytes : List ℕ) → 2 ≤ preambles → IsMessage frame preambles bytes
         → AreFrames (faultless bytes) 0 (record { start = preambles; stop = length bytes; frame = frame } ∷ []) }
     ensures nothing { AreFrames [] 0 [] }
+{}
+
+/// The rest of a list, from a place on, has exactly the frames of the list from that place on, which stand so many places later in the
+/// list than in the rest. So whoever keeps only the rest has all frames that are left.
+pub fn the_rest_has_the_later_frames()
+    ensures { (place : ℕ) (chars : List Character) (frames : List Found)
+        → AreFrames (drop place chars) 0 frames ↔ AreFrames chars place (map (moved place) frames) }
 {}

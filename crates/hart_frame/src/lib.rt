@@ -34,13 +34,14 @@ pub use heard::miss::{
 pub use heard::start::{first_start, first_starts_are_decided, is_start};
 pub use laws::{
     bodies_are_unambiguous, every_list_has_frames, frames_are_unambiguous,
-    messages_have_their_frame_alone, open_places_can_begin_a_frame,
+    messages_have_their_frame_alone, open_places_can_begin_a_frame, the_rest_has_the_later_frames,
     truncated_bytes_can_become_a_body,
 };
 pub use scan::first::{first_frame, lone_frame};
 pub use scan::scanner::Scanner;
 pub use scan::streamed::{
-    any_chunking_gives_the_same_frames, frames_are_streamed, held_frames_are_given,
+    any_chunking_gives_the_same_frames, frames_are_streamed, held_characters_have_the_later_frames,
+    held_frames_are_given,
 };
 pub use scan::view::{FoundView, FrameView};
 pub use wire::body::{Body, decode};

@@ -1,10 +1,10 @@
 -- The laws of bodies, of frames, of first starts and of damage, for the proofs of this crate and of those above.
-use Rattle.std.proofs.Common.{arith, ◌≡◌, ◌≤◌, ◌⊎◌, ℕ, List, [], ◌∷◌, ◌++◌, length, refl, sym}
+use Rattle.std.proofs.Common.{arith, ◌≡◌, ◌≤◌, ◌⊎◌, ◌↔◌, ℕ, List, [], ◌∷◌, ◌++◌, drop, length, map, refl, sym}
 use Rattle.std.proofs.lemmas.List.{append-nil}
 use Rattle.hart_values.proofs.lemmas.Laws.{address_bytes_are_unambiguous-one_list, address_bytes_are_unambiguous-one_reading}
 use Rattle.hart_frame.specs.heard.Character.{Character, faultless}
 use Rattle.hart_frame.specs.heard.Damage.{IsCheckDamage, IsMarkedDamage}
-use Rattle.hart_frame.specs.heard.Frames.{AreFrames, IsFirst}
+use Rattle.hart_frame.specs.heard.Frames.{AreFrames, IsFirst, moved}
 use Rattle.hart_frame.specs.heard.Start.{HasNoStart, IsFirstStart}
 use Rattle.hart_frame.specs.wire.Body.{BeginsWithBody, IsBody}
 use Rattle.hart_frame.specs.wire.FrameParts.{FrameParts}
@@ -13,6 +13,7 @@ use Rattle.hart_frame.specs.declared.heard.found.Found.{Found}
 use Rattle.hart_frame.proofs.lemmas.heard.Damage.{AreFrames-check, AreFrames-marked}
 use Rattle.hart_frame.proofs.lemmas.heard.FramesFound.{AreFrames-found}
 use Rattle.hart_frame.proofs.lemmas.heard.Message.{AreFrames-message, AreFrames-nothing}
+use Rattle.hart_frame.proofs.lemmas.heard.Rest.{rest_frames, rest_only}
 use Rattle.hart_frame.proofs.lemmas.heard.Start.{IsFirstStart-one, first_start_decided}
 use Rattle.hart_frame.proofs.lemmas.heard.UnambiguousFrames.{AreFrames-one, IsFirst-one}
 use Rattle.hart_frame.proofs.lemmas.wire.UnambiguousBodies.{BeginsWithBody-one, IsBody-one, same_bodies}
@@ -43,6 +44,11 @@ frames_are_unambiguous-one_list = AreFrames-one bodies_are_unambiguous-one_prefi
 
 pub every_list_has_frames : (chars : List Character) (from : ℕ) → (frames : List Found) × AreFrames chars from frames
 every_list_has_frames = AreFrames-found
+
+pub the_rest_has_the_later_frames : (place : ℕ) (chars : List Character) (frames : List Found)
+    → AreFrames (drop place chars) 0 frames ↔ AreFrames chars place (map (moved place) frames)
+the_rest_has_the_later_frames place chars frames =
+    (rest_frames frames_are_unambiguous-one_list place chars frames, rest_only frames_are_unambiguous-one_list place chars frames)
 
 pub messages_have_their_frame_alone-message : (frame : FrameParts) (preambles : ℕ) (bytes : List ℕ) → 2 ≤ preambles
     → IsMessage frame preambles bytes

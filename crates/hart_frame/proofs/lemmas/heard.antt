@@ -6,6 +6,7 @@ pub mod FramesFound
 pub mod Open
 pub mod Message
 pub mod Delivery
+pub mod Rest
 pub mod Damage
 pub mod Example
 pub mod Start

@@ -1,5 +1,5 @@
 -- The frames of what was heard (HCF_SPEC-081; own profile if candidates overlap).
-use Rattle.std.specs.Prelude.{◌≤◌, ◌<◌, ◌⊎◌, ℕ, List, [], ◌∷◌}
+use Rattle.std.specs.Prelude.{◌+◌, ◌≤◌, ◌<◌, ◌⊎◌, ℕ, List, [], ◌∷◌}
 use Rattle.hart_frame.specs.heard.Character.{Character}
 use Rattle.hart_frame.specs.heard.Place.{IsOpen, StandsIn}
 use Rattle.hart_frame.specs.declared.heard.found.Found.{Found}
@@ -24,3 +24,7 @@ pub data AreFrames (chars : List Character) : ℕ → List Found → Type 0 wher
 abbrev pub IsUndecided : List Character → Type 0
 IsUndecided chars = HasNoFrame chars 0
     ⊎ ((place : ℕ) × IsOpen place chars × ((found : Found) → StandsIn found chars 0 → place < found.start))
+
+-- A frame that is found, moved by so many places: the same frame, which starts and stops so many places later.
+abbrev pub moved : ℕ → Found → Found
+moved places found = record { start = places + found.start; stop = places + found.stop; frame = found.frame }

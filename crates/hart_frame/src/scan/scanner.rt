@@ -131,6 +131,15 @@ impl Scanner {
         self.buffer.finish();
     }
 
+    /// The place of the first character that is held, or of the next one if none is held. At most 269 are held, and no frame that is
+    /// still to come begins before that place.
+    pub fn first_held(&self) -> u64
+        ensures first { result ≡ self.now.first }
+        ensures few { length self.now.held ≤ 269 }
+    {
+        self.buffer.first
+    }
+
     /// The number of characters that were pushed since the scanner was new: those that were let go, and at most 269 that are held.
     pub fn pushed(&self) -> u64
         ensures pushed { result ≡ self.now.first + length self.now.held }

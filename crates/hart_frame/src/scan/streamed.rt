@@ -1,7 +1,7 @@
 //! What follows from the scanner's contracts for a caller that keeps what it pushed and what it was given.
-ghost use Rattle.std.specs.Prelude.{◌≡◌, ◌+◌, ◌<◌, ◌++◌, [], List, IsTrue, length};
+ghost use Rattle.std.specs.Prelude.{◌≡◌, ◌+◌, ◌<◌, ◌≤◌, ◌++◌, [], List, IsTrue, length, drop, map};
 ghost use Rattle.hart_frame.specs.heard.Character.{Character};
-ghost use Rattle.hart_frame.specs.heard.Frames.{AreFrames};
+ghost use Rattle.hart_frame.specs.heard.Frames.{AreFrames, moved};
 ghost use Rattle.hart_frame.specs.scan.Chunk.{BeginsWithFrame};
 ghost use Rattle.hart_frame.specs.scan.Scanner.{Gives, GivesNothing, Scan};
 ghost use Rattle.hart_frame.specs.scan.Streamed.{IsHistory, IsWholeHistory};
@@ -27,4 +27,17 @@ pub fn any_chunking_gives_the_same_frames()
 pub fn held_frames_are_given()
     ensures next { (old new : Scan) → BeginsWithFrame old → GivesNothing old new → ⊥ }
     ensures onward { (old new : Scan) (found : Found) → Gives old new found → length new.held < length old.held }
+{}
+
+/// What a scanner holds is what was pushed, from the first place that is held on. The frames of all that is pushed, whatever is still to
+/// come, are those that it gave, and then those of what it holds and of what is still to come, counted from the front of that and moved
+/// to their places. So whoever keeps only what is held, at most 269 characters, has all frames that are left.
+pub fn held_characters_have_the_later_frames()
+    ensures within { (past : List Character) (scan : Scan) (given : List Found) → IsHistory past scan given
+        → scan.first ≤ length past }
+    ensures held { (past : List Character) (scan : Scan) (given : List Found) → IsHistory past scan given
+        → drop scan.first past ≡ scan.held }
+    ensures later { (past more : List Character) (scan : Scan) (given later : List Found) → IsHistory past scan given
+        → (IsTrue scan.finished → more ≡ []) → AreFrames (drop scan.first past ++ more) 0 later
+        → AreFrames (past ++ more) 0 (given ++ map (moved scan.first) later) }
 {}

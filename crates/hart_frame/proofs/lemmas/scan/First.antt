@@ -16,8 +16,9 @@ use Rattle.hart_frame.specs.declared.heard.found.Found.{Found}
 use Rattle.hart_frame.proofs.lemmas.Laws.{frames_are_unambiguous-one_list}
 use Rattle.hart_frame.proofs.lemmas.heard.FramesFound.{AreFrames-found}
 use Rattle.hart_frame.proofs.lemmas.heard.Place.{StandsIn-within}
+use Rattle.hart_frame.proofs.lemmas.heard.Rest.{stands_after, stands_in}
 use Rattle.hart_frame.proofs.lemmas.scan.Stream.{history_all, history_first}
-use Rattle.hart_frame.proofs.lemmas.scan.Undecided.{head_first, holds_gives, no_frames, stands_after, stands_in, waits_only}
+use Rattle.hart_frame.proofs.lemmas.scan.Undecided.{head_first, holds_gives, no_frames, waits_only}
 
 -- the one frame that was given is the first of all that is heard
 given_first : (past more : List Character) (scan : Scan) (found : Found) → IsHistory past scan (found ∷ [])

@@ -1,13 +1,15 @@
 -- The frames given since a scanner was new are the first of what was pushed, and all of them after the finish.
-use Rattle.std.proofs.Common.{◌≡◌, ◌+◌, false, IsTrue, List, [], ◌∷◌, ◌++◌, length, refl, append_assoc, arith, length-append}
-use Rattle.std.proofs.lemmas.List.{append-nil}
+use Rattle.std.proofs.Common.{◌≡◌, ◌+◌, ◌≤◌, false, IsTrue, List, [], ◌∷◌, ◌++◌, length, map, drop, refl, sym, ap, ◌∙◌, append_assoc, arith}
+use Rattle.std.proofs.Common.{length-append, subst}
+use Rattle.std.proofs.lemmas.List.{append-nil, drop-append-le, drop_at}
 use Rattle.hart_frame.specs.heard.Character.{Character, faultless}
-use Rattle.hart_frame.specs.heard.Frames.{AreFrames}
+use Rattle.hart_frame.specs.heard.Frames.{AreFrames, moved}
 use Rattle.hart_frame.specs.scan.Scanner.{Scan, CanHear, MovesPast, finishing, hearing, new_scan}
 use Rattle.hart_frame.specs.scan.Streamed.{IsHistory, IsWholeHistory, begin, push, push_bytes, push_chars, take_view, wait, finish}
 use Rattle.hart_frame.specs.declared.heard.found.Found.{Found}
 use Rattle.hart_frame.proofs.lemmas.heard.Delivery.{OneList}
 use Rattle.hart_frame.proofs.lemmas.heard.FramesFound.{AreFrames-found}
+use Rattle.hart_frame.proofs.lemmas.heard.Rest.{rest_frames}
 use Rattle.hart_frame.proofs.lemmas.scan.Undecided.{stands_held}
 
 -- the frames given so far are right for the characters pushed so far if, whatever is still to come, the frames of all are those,
@@ -73,3 +75,22 @@ history_all past given whole =
     let none : AreFrames (past ++ []) last.first [] =
     AreFrames.none last.first (λ found stands. whole.ended.none _ (stands_held last (past ++ []) found hears stands)) in
     grind (arith, append-nil)
+
+-- what is held is what was pushed from its place on
+pub history_held : (past : List Character) (scan : Scan) (given : List Found) → IsHistory past scan given
+    → drop scan.first past ≡ scan.held
+history_held past scan given history =
+    let hears = (streamed past scan given history).hears [] (λ _. refl) in
+    ap (drop scan.first) (sym (append-nil past) ∙ hears.split) ∙ drop_at hears.prefix (scan.held ++ []) scan.first hears.place
+    ∙ append-nil scan.held
+
+-- so the frames to come are those of what is held, and of what is still to come
+pub history_rest : OneList → (past more : List Character) (scan : Scan) (given later : List Found) → IsHistory past scan given
+    → (IsTrue scan.finished → more ≡ []) → AreFrames (drop scan.first past ++ more) 0 later
+    → AreFrames (past ++ more) 0 (given ++ map (moved scan.first) later)
+history_rest one past more scan given later history ended are =
+    let long = history_length past scan given history in
+    let Of : List Character → Type 0 = λ cs. AreFrames cs 0 later in
+    let parts : drop scan.first (past ++ more) ≡ drop scan.first past ++ more = drop-append-le scan.first past more (omega (arith, long)) in
+    (streamed past scan given history).frames more (map (moved scan.first) later) ended
+    (rest_frames one scan.first (past ++ more) later (subst Of (sym parts) are))

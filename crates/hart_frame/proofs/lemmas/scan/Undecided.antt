@@ -3,6 +3,7 @@ use Rattle.std.proofs.Common.{◌≡◌, ℕ, ◌+◌, ◌-◌, ◌<◌, ◌≤�
 use Rattle.std.proofs.Common.{sym, ap, ◌∙◌, arith, append_assoc, length-append, length-drop}
 use Rattle.std.proofs.lemmas.List.{append-nil, drop_at, drop-append-le, get_or_at, get_or_append_left, get_or-replicate, length-replicate}
 use Rattle.hart_frame.specs.heard.Character.{Character, faultless}
+use Rattle.hart_frame.proofs.lemmas.heard.Rest.{stands_after, stands_in}
 use Rattle.hart_frame.specs.heard.Place.{StandsIn}
 use Rattle.hart_frame.specs.heard.Frames.{AreFrames, HasNoFrame, IsFirst, IsUndecided, none, first}
 use Rattle.hart_frame.specs.scan.Scanner.{Scan, CanHear, MovesPast, Gives, Waits, GivesNothing}
@@ -28,28 +29,6 @@ pub head_first : (chars : List Character) (from : ℕ) (frames : List Found) →
     → (g : Found) (later : List Found) → frames ≡ g ∷ later → IsFirst g chars from
 head_first chars from frames (none n empty) g later same = absurd cc
 head_first chars from frames (first n f more is rest) g later same = grind arith
-
--- what stands in a list stands after others
-pub stands_after : (prefix cs rest : List Character) (found : Found) (n : ℕ) → length prefix ≡ n → StandsIn found cs 0
-    → StandsIn (record { start = n + found.start; stop = n + found.stop; frame = found.frame }) (prefix ++ (cs ++ rest)) n
-stands_after prefix cs rest found n long stands =
-    let body = faultless (255 ∷ 255 ∷ stands.body) in
-    let size = length-append prefix stands.prefix in
-    record {
-      prefix = prefix ++ stands.prefix;
-      body = stands.body;
-      rest = stands.rest ++ rest;
-      split = grind (arith, append_assoc);
-      is_body = stands.is_body;
-      after = omega (arith, size, long);
-      start = omega (arith, size, long, stands.start);
-      stop = omega (arith, size, long, stands.stop);
-    }
-
--- and what stands after others stands in the list
-pub stands_in : (prefix cs : List Character) (found : Found) (n : ℕ) → length prefix ≡ n → StandsIn found (prefix ++ cs) n
-    → StandsIn (record { start = found.start - n; stop = found.stop - n; frame = found.frame }) cs 0
-stands_in prefix cs found n long stands = grind (arith, length-drop n stands.prefix, drop_at prefix cs n long, append_assoc, drop-append-le)
 
 -- what a scanner holds, stands in all that it heard
 pub held_stands : (s : Scan) (found : Found) → StandsIn found s.held 0

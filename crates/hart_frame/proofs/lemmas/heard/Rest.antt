@@ -1,0 +1,126 @@
+-- The frames of the rest of a list are those of the list from its place on, moved by as many places as stand before it.
+use Rattle.std.proofs.Common.{◌≡◌, ℕ, ◌+◌, ◌-◌, ◌<◌, ◌≤◌, ◌⊎◌, inl, inr, List, [], ◌∷◌, ◌++◌, length, map, take, drop, refl, sym, ap, ◌∙◌, arith}
+use Rattle.std.proofs.Common.{append_assoc, length-append, length-drop, subst, take-append-drop}
+use Rattle.std.proofs.lemmas.List.{append-nil, drop-append-le, drop_all, drop_at, length-take-le}
+use Rattle.hart_frame.specs.heard.Character.{Character, faultless}
+use Rattle.hart_frame.specs.heard.Frames.{AreFrames, IsFirst, moved, none, first}
+use Rattle.hart_frame.specs.heard.Place.{StandsIn}
+use Rattle.hart_frame.specs.declared.heard.found.Found.{Found}
+use Rattle.hart_frame.proofs.lemmas.heard.Delivery.{OneList}
+use Rattle.hart_frame.proofs.lemmas.heard.FramesFound.{AreFrames-found}
+use Rattle.hart_frame.proofs.lemmas.heard.Place.{HasNoFrame-end, StandsIn-from, StandsIn-within}
+
+-- what stands in a list stands after others
+pub stands_after : (prefix cs rest : List Character) (found : Found) (n : ℕ) → length prefix ≡ n → StandsIn found cs 0
+    → StandsIn (record { start = n + found.start; stop = n + found.stop; frame = found.frame }) (prefix ++ (cs ++ rest)) n
+stands_after prefix cs rest found n long stands =
+    let body = faultless (255 ∷ 255 ∷ stands.body) in
+    let size = length-append prefix stands.prefix in
+    record {
+      prefix = prefix ++ stands.prefix;
+      body = stands.body;
+      rest = stands.rest ++ rest;
+      split = grind (arith, append_assoc);
+      is_body = stands.is_body;
+      after = omega (arith, size, long);
+      start = omega (arith, size, long, stands.start);
+      stop = omega (arith, size, long, stands.stop);
+    }
+
+-- and what stands after others stands in the list
+pub stands_in : (prefix cs : List Character) (found : Found) (n : ℕ) → length prefix ≡ n → StandsIn found (prefix ++ cs) n
+    → StandsIn (record { start = found.start - n; stop = found.stop - n; frame = found.frame }) cs 0
+stands_in prefix cs found n long stands = grind (arith, length-drop n stands.prefix, drop_at prefix cs n long, append_assoc, drop-append-le)
+
+-- the same from any place of the list on
+stands_moved : (before rest : List Character) (found : Found) (n from : ℕ) → length before ≡ n → StandsIn found rest from
+    → StandsIn (moved n found) (before ++ rest) (n + from)
+stands_moved before rest found n from long stands =
+    let lies = StandsIn-within found rest from stands in
+    let Here : List Character → Type 0 = λ cs. StandsIn (moved n found) (before ++ cs) n in
+    let low = StandsIn-from found rest from 0 stands (omega (arith, lies.after)) in
+    let here = subst Here (append-nil rest) (stands_after before rest [] found n long low) in
+    StandsIn-from (moved n found) (before ++ rest) n (n + from) here (omega (arith, lies.after))
+
+-- what stands after others, as it stands in the rest
+record StandsMoved (found : Found) (rest : List Character) (n from : ℕ) : Type 0 where
+  pub own : Found
+  pub is : found ≡ moved n own
+  pub stands : StandsIn own rest from
+
+stands_back : (before rest : List Character) (found : Found) (n from : ℕ) → length before ≡ n
+    → StandsIn found (before ++ rest) (n + from) → StandsMoved found rest n from
+stands_back before rest found n from long stands =
+    let lies = StandsIn-within found (before ++ rest) (n + from) stands in
+    let own : Found = record { start = found.start - n; stop = found.stop - n; frame = found.frame } in
+    let low = StandsIn-from found (before ++ rest) (n + from) n stands (omega (arith, lies.after)) in
+    record {
+      own = own;
+      is = grind arith;
+      stands = StandsIn-from own rest 0 from (stands_in before rest found n long low) (omega (arith, lies.after));
+    }
+
+first_moved : (before rest : List Character) (found : Found) (n from : ℕ) → length before ≡ n → IsFirst found rest from
+    → IsFirst (moved n found) (before ++ rest) (n + from)
+first_moved before rest found n from long is = record {
+  stands = stands_moved before rest found n from long is.stands;
+  least = λ other there.
+      let back = stands_back before rest other n from long there in
+      omega (arith, is.least back.own back.stands, ap (λ (f : Found). f.start) back.is);
+}
+
+-- the frames of the rest, counted from its front, stand in the list so many places later
+frames_moved : (before rest : List Character) (n : ℕ) (long : length before ≡ n) (from : ℕ) (frames : List Found)
+    → AreFrames rest from frames → AreFrames (before ++ rest) (n + from) (map (moved n) frames)
+frames_moved before rest n long from frames (none place empty) =
+    AreFrames.none (n + from) (λ found there. let back = stands_back before rest found n from long there in empty back.own back.stands)
+frames_moved before rest n long from frames (first place found later is more) =
+    AreFrames.first (n + from) (moved n found) (map (moved n) later) (first_moved before rest found n from long is)
+    (frames_moved before rest n long found.stop later more)
+
+-- moved frames come from the same frames
+moved_one : (n : ℕ) (f g : Found) → moved n f ≡ moved n g → f ≡ g
+moved_one n f g same =
+    let start = ap (λ (found : Found). found.start) same in
+    let stop = ap (λ (found : Found). found.stop) same in
+    let frame = ap (λ (found : Found). found.frame) same in
+    grind arith
+
+all_moved_one : (n : ℕ) (xs ys : List Found) → map (moved n) xs ≡ map (moved n) ys → xs ≡ ys
+all_moved_one n [] [] same = refl
+all_moved_one n [] (y ∷ ys) same = absurd cc
+all_moved_one n (x ∷ xs) [] same = absurd cc
+all_moved_one n (x ∷ xs) (y ∷ ys) same =
+    let heads : x ≡ y = moved_one n x y cc in
+    let others : xs ≡ ys = all_moved_one n xs ys cc in
+    cc
+
+-- the rest of a list gives the frames from its place on
+pub rest_frames : OneList → (place : ℕ) (chars : List Character) (frames : List Found) → AreFrames (drop place chars) 0 frames
+    → AreFrames chars place (map (moved place) frames)
+rest_frames one place chars frames are =
+    let cases : (place ≤ length chars) ⊎ (length chars < place) = grind arith in
+    elim cases [
+      | inl within ↦
+          let Of : List Character → Type 0 = λ cs. AreFrames cs (place + 0) (map (moved place) frames) in
+          let From : ℕ → Type 0 = λ n. AreFrames chars n (map (moved place) frames) in
+          let here : place + 0 ≡ place = omega arith in
+          subst From here (subst Of (take-append-drop place chars)
+          (frames_moved (take place chars) (drop place chars) place (length-take-le place chars within) 0 frames are))
+      | inr past ↦
+          let gone = drop_all place chars (omega (arith, past)) in
+          let empty : AreFrames (drop place chars) 0 [] =
+          AreFrames.none 0 (HasNoFrame-end (drop place chars) 0 (omega (arith, ap length gone))) in
+          let At : List Found → Type 0 = λ fs. AreFrames chars place (map (moved place) fs) in
+          subst At (one (drop place chars) 0 [] frames empty are)
+          (AreFrames.none place (HasNoFrame-end chars place (omega (arith, past))))
+    ]
+
+-- and the frames from a place on are those of the rest
+pub rest_only : OneList → (place : ℕ) (chars : List Character) (frames : List Found) → AreFrames chars place (map (moved place) frames)
+    → AreFrames (drop place chars) 0 frames
+rest_only one place chars frames are =
+    let own = AreFrames-found (drop place chars) 0 in
+    let same = one chars place _ _ (rest_frames one place chars own.0 own.1) are in
+    let Of : List Found → Type 0 = λ fs. AreFrames (drop place chars) 0 fs in
+    subst Of (all_moved_one place own.0 frames same) own.1
