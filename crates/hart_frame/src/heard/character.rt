@@ -92,7 +92,9 @@ pub(crate) struct Sum {
     pub(crate) faults: u8,
 }
 
-/// What the bytes and the fault bits of some characters come to, in one pass to the end of them.
+/// What the bytes and the fault bits of some characters come to, in one pass to the end of them. It is not inlined: several characters
+/// are folded at once in a function of its own alone.
+#[inline(never)]
 pub(crate) fn sum_of(chars: &[Char]) -> Sum
     ensures check { result.check ≡ fold bit_xor 0 (bytes_of chars.now) }
     ensures faults { (result.faults ≡ 0) ↔ All (λ character. character.faults ≡ 0) chars.now }

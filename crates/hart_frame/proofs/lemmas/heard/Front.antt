@@ -162,13 +162,7 @@ faulty_place (c ∷ cs) = grind (arith, nat_tests, faultless_bytes-more, faultle
 pub faultless_bytes-take : (n : ℕ) (heard : List Character) → faultless_bytes (take n heard) ≡ take n (faultless_bytes heard)
 faultless_bytes-take zero heard = refl
 faultless_bytes-take (suc n) [] = refl
-faultless_bytes-take (suc n) (c ∷ cs) =
-    let cases : (c.faults ≡ 0) ⊎ (c.faults ≢ 0) = grind arith in
-    elim cases [
-      | inl good ↦ faultless_bytes-more c (take n cs) good ∙ ap (λ (xs : List ℕ). c.byte ∷ xs) (faultless_bytes-take n cs)
-          ∙ sym (ap (take (suc n)) (faultless_bytes-more c cs good))
-      | inr bad ↦ faultless_bytes-end c (take n cs) bad ∙ sym (ap (take (suc n)) (faultless_bytes-end c cs bad))
-    ]
+faultless_bytes-take (suc n) (c ∷ cs) = grind (arith, faultless_bytes-more, faultless_bytes-end, faultless_bytes-take n cs)
 
 -- they are all the bytes if no character has fault bits
 pub faultless_bytes-all : (heard : List Character) → All (λ c. c.faults ≡ 0) heard → faultless_bytes heard ≡ bytes_of heard
@@ -183,21 +177,9 @@ faultless_all bytes =
     let make = λ (byte : ℕ). let c : Character = record { byte = byte; faults = 0 } in c in
     All-map (λ (c : Character). c.faults ≡ 0) make bytes (λ k d below. refl)
 
-byte_of : (i : ℕ) (c : Character) (cs : List Character) (d : Character)
-    → faultless_bytes (c ∷ cs) ≡ c.byte ∷ faultless_bytes cs
-    → ((k : ℕ) (d : Character) → k < length (faultless_bytes cs) → (get_or cs k d).byte ≡ get_or (faultless_bytes cs) k 0)
-    → i < length (faultless_bytes (c ∷ cs)) → (get_or (c ∷ cs) i d).byte ≡ get_or (faultless_bytes (c ∷ cs)) i 0
-byte_of zero c cs d is rest below = sym (ap (λ (xs : List ℕ). get_or xs 0 0) is)
-byte_of (suc i) c cs d is rest below =
-    rest i d (omega (arith, ap length is, below)) ∙ sym (ap (λ (xs : List ℕ). get_or xs (suc i) 0) is)
-
 -- each is the byte of the character at its place
 pub byte_at : (heard : List Character) (i : ℕ) (d : Character) → i < length (faultless_bytes heard)
     → (get_or heard i d).byte ≡ get_or (faultless_bytes heard) i 0
 byte_at [] i d below = absurd (omega arith)
-byte_at (c ∷ cs) i d below =
-    let cases : (c.faults ≡ 0) ⊎ (c.faults ≢ 0) = grind arith in
-    elim cases [
-      | inl good ↦ byte_of i c cs d (faultless_bytes-more c cs good) (byte_at cs) below
-      | inr bad ↦ absurd (omega (arith, ap length (faultless_bytes-end c cs bad), below))
-    ]
+byte_at (c ∷ cs) zero d below = grind (arith, faultless_bytes-more, faultless_bytes-end)
+byte_at (c ∷ cs) (suc i) d below = grind (arith, faultless_bytes-more, faultless_bytes-end, byte_at cs i d)

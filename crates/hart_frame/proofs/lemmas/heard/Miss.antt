@@ -193,15 +193,7 @@ pub counted_early : (heard : List Character) (len count start : ℕ) (result : O
     → MatchOption result (len ≤ length (faultless_bytes heard)) (EndsEarly heard len start (Missing count))
     → result ≡ body_miss start heard
 counted_early heard len count start None has long count_is few early = absurd (omega (arith, few, early))
-counted_early heard len count start (Some miss) has long count_is few early =
-    let bytes = faultless_bytes heard in
-    let faulty = slice_get heard (length bytes) in
-    let place = start + length bytes in
-    let is : miss ≡ faulty_or faulty place (Missing (body_length bytes - length bytes)) =
-    early.is ∙ ap (λ (k : ℕ). faulty_or faulty place (Missing k)) count_is ∙ at_end_alike heard len place
-    ∙ ap (λ (k : ℕ). faulty_or faulty place (Missing (k - length bytes))) long in
-    ap (λ (m : Miss). let some : Option Miss = Some m in some) is
-    ∙ sym (miss_in-counted bytes faulty place start has (omega (arith, few, long)))
+counted_early heard len count start (Some miss) has long count_is few early = grind (arith, at_end_alike, miss_in-counted)
 
 -- characters of which one has fault bits hold fewer faultless bytes
 pub not_whole : (heard body : List Character) (len : ℕ) → body ≡ take len heard → (All (λ c. c.faults ≡ 0) body → ⊥)
