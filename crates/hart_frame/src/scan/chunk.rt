@@ -13,8 +13,9 @@ use crate::scan::search::{Sighting, search};
 use crate::wire::layout::Layout;
 use hart_values::ByteList;
 
-/// The most faultless characters that are looked at together.
-const STRETCH: usize = 256;
+/// The most faultless characters that are looked at together. They are copied, so a frame at the front is found without copying many
+/// that follow it.
+const STRETCH: usize = 64;
 
 impl Buffer {
     /// Hears the first bytes of a chunk, up to the first at which a frame is decided, and gives how many.

@@ -24,8 +24,8 @@ returns-then-not-is_empty-clause-hears c =
     let stretch = c.faultless_front-stretch.result in
     let front = c.faultless_front-stretch.ensures in
     let first : faultless stretch ≡ take (length stretch) chunk =
-    ap faultless front ∙ front_heard chunk 256 ∙ ap (λ (xs : List ℕ). take (length xs) chunk) (sym front) in
-    let within = length-front chunk 256 stretch front in
+    ap faultless front ∙ front_heard chunk 64 ∙ ap (λ (xs : List ℕ). take (length xs) chunk) (sym front) in
+    let within = length-front chunk 64 stretch front in
     let some : 0 < length stretch = search rules in
     part_heard (scan_of c.args.self.now) (scan_of c.push_bytes.new.self) chunk (faultless c.as_slice.result.now)
     (length stretch) c.push_bytes.result (ap faultless c.as_slice.ensures.value ∙ first) within some c.push_bytes.ensures.hears
@@ -37,5 +37,5 @@ push_bytes-requires-clause-room c =
       arith,
       c.requires.room,
       ap length c.as_slice.ensures.value,
-      length-front c.args.chunk.now 256 stretch.result stretch.ensures,
+      length-front c.args.chunk.now 64 stretch.result stretch.ensures,
     )
