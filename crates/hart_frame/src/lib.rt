@@ -16,6 +16,14 @@
 //! - `heard`: what was heard, as characters, where frames stand in them and why one does not, and which damage is
 //!   always detected.
 //! - `scan`: the scanner, how frames are found while they are heard.
+//!
+//! Laws that are for readers and for callers outside, and that no other crate here cites:
+//!
+//! - Of frames and bytes: [`truncated_bytes_can_become_a_body`], [`open_places_can_begin_a_frame`], [`damage_by_example`].
+//! - Of misses: [`every_start_has_a_frame_or_a_miss`], [`misses_say_what_is_wrong`], [`misses_are_faults`].
+//! - Of a scanner: [`frames_are_streamed`], [`any_chunking_gives_the_same_frames`], [`held_frames_are_given`].
+//! - For whoever keeps only the rest of what was heard: [`the_rest_has_the_later_frames`] and, with a scanner,
+//!   [`held_characters_have_the_later_frames`], from the place that [`Scanner::first_held`] gives.
 #![tactic(auto)]
 
 mod heard;
