@@ -1,0 +1,58 @@
+-- Frames that are shown one after another.
+use Rattle.std.proofs.Common.{◌≡◌, ◌+◌, ◌<◌, ℕ, false, List, [], ◌∷◌, ◌++◌, All, length, map, take, drop, slice_set, ap, sym, ◌∙◌, subst}
+use Rattle.std.proofs.Common.{arith, inl, inr}
+use Rattle.std.proofs.lemmas.Bool.{false≢true}
+use Rattle.std.proofs.lemmas.List.{drop-drop, map-append, take-set, take_more_set}
+use Rattle.std.proofs.lemmas.List.Elements.{All-append}
+use Rattle.hart_frame.specs.heard.Character.{Character}
+use Rattle.hart_frame.specs.scan.Scanner.{Gives, GivesNothing, Scan}
+use Rattle.hart_frame.specs.scan.Streamed.{IsHistory, take_view, wait}
+use Rattle.hart_frame.specs.declared.heard.found.Found.{Found}
+use Rattle.hart_c.specs.declared.frame.HartFrame.{HartFrame}
+use Rattle.hart_c.specs.Frames.{IsTidy, found_in, found_in_first}
+
+-- one more is shown
+pub shown_more : (count : ℕ) (frames : List HartFrame) (frame : HartFrame) (found : Found) → count < length frames
+    → found_in frame ≡ found → found_in_first (count + 1) (slice_set frames count frame) ≡ found_in_first count frames ++ found ∷ []
+shown_more count frames frame found within is =
+    ap (map found_in) (take_more_set frames count frame within) ∙ map-append found_in (take count frames) (frame ∷ [])
+    ∙ ap (λ (f : Found). found_in_first count frames ++ f ∷ []) is
+
+-- a frame that a scanner gives is shown
+pub history_shown : (past : List Character) (old new : Scan) (count : ℕ) (frames : List HartFrame) (frame : HartFrame) (found : Found)
+    → count < length frames → found_in frame ≡ found → Gives old new found → IsHistory past old (found_in_first count frames)
+    → IsHistory past new (found_in_first (count + 1) (slice_set frames count frame))
+history_shown past old new count frames frame found within is gives history =
+    let Of : List Found → Type 0 = λ given. IsHistory past new given in
+    subst Of (sym (shown_more count frames frame found within is))
+    (take_view past old new (found_in_first count frames) found history gives)
+
+-- one tidy frame
+tidy_one : (frame : HartFrame) → IsTidy frame → All IsTidy (frame ∷ [])
+tidy_one frame tidy = grind arith
+
+-- one more tidy frame is shown
+pub tidy_more : (count : ℕ) (frames : List HartFrame) (frame : HartFrame) → count < length frames → IsTidy frame
+    → All IsTidy (take count frames) → All IsTidy (take (count + 1) (slice_set frames count frame))
+tidy_more count frames frame within tidy all =
+    subst (All IsTidy) (sym (take_more_set frames count frame within)) (All-append IsTidy (take count frames) (frame ∷ []) all (tidy_one frame tidy))
+
+-- a frame that is not shown leaves those before it
+pub shown_before : (count : ℕ) (frames : List HartFrame) (frame : HartFrame)
+    → found_in_first count (slice_set frames count frame) ≡ found_in_first count frames
+shown_before count frames frame = ap (map found_in) (take-set frames count frame)
+
+-- what comes after so many is what it was, so what comes after one more is
+pub later_untouched : (count : ℕ) (frames before : List HartFrame) → drop count frames ≡ drop count before
+    → drop (count + 1) frames ≡ drop (count + 1) before
+later_untouched count frames before same =
+    sym (drop-drop 1 count frames) ∙ ap (drop 1) same ∙ drop-drop 1 count before
+
+-- a scanner that gives none, and is not finished, waits
+pub waits_or_ends : (past : List Character) (old new : Scan) (count : ℕ) (frames : List HartFrame) (frame : HartFrame)
+    → old.finished ≡ false → GivesNothing old new → IsHistory past old (found_in_first count frames)
+    → IsHistory past new (found_in_first count (slice_set frames count frame))
+waits_or_ends past old new count frames frame going (inl waits) history =
+    let Of : List Found → Type 0 = λ given. IsHistory past new given in
+    subst Of (sym (shown_before count frames frame)) (wait past old new (found_in_first count frames) history waits)
+waits_or_ends past old new count frames frame going (inr ends) history = absurd (false≢true (sym going ∙ ends.finished))

@@ -1,0 +1,20 @@
+use Rattle.std.proofs.Common.{◌≡◌, ◌<◌, ◌≤◌, ◌-◌, false, IsTrue, All, drop, length, take}
+use Rattle.hart_frame.specs.heard.Character.{faultless}
+use Rattle.hart_frame.specs.scan.Streamed.{IsHistory}
+use Rattle.hart_c.specs.Frames.{IsTidy, found_in_first}
+use Rattle.hart_c.proofs.find.hart_find_in_bytes.Given as goal
+
+abbrev pub invariant-loop-taken : goal.invariant-loop-taken
+invariant-loop-taken l = record {
+  within : l.taken ≤ length l.bytes;
+  len : length l.frames ≡ length l.initial.frames;
+  room : l.count ≤ length l.frames;
+  untouched : drop l.count l.frames ≡ drop l.count l.initial.frames;
+  tidy : All IsTidy (take l.count l.frames);
+  going : l.scanner.finished ≡ false;
+  drained : l.count < length l.frames → IsTrue l.scanner.drained;
+  history : IsHistory (take l.taken (faultless l.bytes)) l.scanner (found_in_first l.count l.frames);
+}
+
+abbrev pub decreases-loop-taken : goal.decreases-loop-taken
+decreases-loop-taken l = length l.bytes - l.taken

@@ -1,0 +1,52 @@
+-- What a search for frames promises to a caller that keeps only what is not used up (own profile).
+use Rattle.std.specs.Prelude.{◌≡◌, ◌+◌, ◌<◌, ◌≤◌, ◌⊎◌, ℕ, Bool, IsTrue, false, List, [], ◌++◌, drop, length, map, take}
+use Rattle.std.specs.List.{All}
+use Rattle.hart_frame.specs.heard.Character.{AreFaultBits, Character}
+use Rattle.hart_frame.specs.heard.Frames.{AreFrames, moved}
+use Rattle.hart_frame.specs.scan.Scanner.{Scan}
+use Rattle.hart_frame.specs.scan.Streamed.{IsHistory}
+use Rattle.hart_frame.specs.declared.heard.found.Found.{Found}
+use Rattle.hart_c.specs.declared.find.HartChar.{HartChar}
+use Rattle.hart_c.specs.declared.find.HartSearch.{HartSearch}
+use Rattle.hart_c.specs.declared.frame.HartFrame.{HartFrame}
+use Rattle.hart_c.specs.Frames.{IsTidy, found_in_first}
+
+-- Whatever is still to come, the frames of all are some, and then those of the rest from a place on and what is to come, with their
+-- places counted from there. If it ended, nothing is to come.
+abbrev pub AreNext : List Character → Bool → List Found → ℕ → Type 0
+AreNext chars ended given used = (more : List Character) (later : List Found) → (IsTrue ended → more ≡ [])
+    → AreFrames (drop used chars ++ more) 0 later → AreFrames (chars ++ more) 0 (given ++ map (moved used) later)
+
+-- A search shows the next frames, and says how many characters are used up. What it does not need to show stays as it was. If there was
+-- room for more frames, few characters are left, and none if it ended.
+pub record Finds (chars : List Character) (ended : Bool) (before after : List HartFrame) (search : HartSearch) : Type 0 where
+  pub within : search.count ≤ length after
+  pub untouched : drop search.count after ≡ drop search.count before
+  pub tidy : All IsTidy (take search.count after)
+  pub used : search.used ≤ length chars
+  pub are_next : AreNext chars ended (found_in_first search.count after) search.used
+  pub few : search.count < length after → length chars ≤ search.used + 269
+  pub all : search.count < length after → IsTrue ended → search.used ≡ length chars
+  pub fault : search.fault ≡ 0
+
+-- The character that was passed.
+abbrev pub char_of : HartChar → Character
+char_of given = record { byte = given.byte; faults = given.faults }
+
+-- If all characters have no other bits than fault bits, the next frames are shown. Otherwise that is the fault, and nothing is found, used
+-- up or shown.
+abbrev pub SearchOutcome : List HartChar → Bool → List HartFrame → List HartFrame → HartSearch → Type 0
+SearchOutcome heard ended before after search =
+    (All (λ given. AreFaultBits given.faults) heard × Finds (map char_of heard) ended before after search)
+    ⊎ ((All (λ given. AreFaultBits given.faults) heard → ⊥) × (search ≡ record { used = 0; count = 0; fault = 13 }) × (after ≡ before))
+
+-- For private calls alone: so many characters were searched by a scanner that goes on, and so many frames that it gave are shown. If there
+-- is room for more, it waits, and all were searched.
+pub record IsSearched (n : ℕ) (chars : List Character) (before after : List HartFrame) (count : ℕ) (scan : Scan) : Type 0 where
+  pub within : n ≤ length chars
+  pub room : count ≤ length after
+  pub untouched : drop count after ≡ drop count before
+  pub tidy : All IsTidy (take count after)
+  pub going : scan.finished ≡ false
+  pub history : IsHistory (take n chars) scan (found_in_first count after)
+  pub whole : count < length after → n ≡ length chars

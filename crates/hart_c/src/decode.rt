@@ -1,0 +1,27 @@
+//! The frame that bytes begin with.
+ghost use Rattle.hart_c.specs.Decode.{DecodeOutcome};
+
+use crate::fault::{HART_OK, HartOutcome, number_of_frame_fault};
+use crate::frame::{HartFrame, show_frame};
+use hart_frame::decode;
+
+/// Reads the frame whose body bytes begin with, from the delimiter on, and gives the length of that body. `frame` then shows it, from
+/// place 0 on.
+#[unsafe(no_mangle)]
+pub extern "C" fn hart_decode(bytes: &[u8], frame: &mut HartFrame) -> HartOutcome
+    ensures { DecodeOutcome bytes.now frame.old frame.new result }
+{
+    match decode(bytes) {
+        Ok((decoded, len)) => {
+            show_frame(&decoded, 0, len as u64, frame);
+            HartOutcome {
+                len,
+                fault: HART_OK,
+            }
+        }
+        Err(fault) => HartOutcome {
+            len: 0,
+            fault: number_of_frame_fault(fault),
+        },
+    }
+}

@@ -1,0 +1,107 @@
+//! A frame, written as a message.
+ghost use Rattle.std.specs.Prelude.{◌≡◌, ◌↔◌, ℕ, length, IfOk, IfErr, IfSome, IsSome, OnErr};
+ghost use Rattle.hart_c.specs.Encode.{EncodeOutcome, IsEncodeFault, IsFrame, IsInRange, IsWritten};
+ghost use Rattle.hart_c.specs.Frames.{address_of, frame_in, kind_of, master_of};
+
+use crate::fault::{Fault, HART_OK, HartOutcome};
+use crate::frame::HartFrame;
+use hart_frame::{Expansion, Frame, FrameKind, Message, Payload, encode};
+use hart_values::{Address, MasterId};
+
+/// Writes a frame as a message at the front of `output`: so many preamble bytes and its body. 287 bytes are room for any. Where the
+/// frame stands is not looked at.
+#[unsafe(no_mangle)]
+pub extern "C" fn hart_encode(frame: &HartFrame, preambles: u8, output: &mut [u8]) -> HartOutcome
+    ensures { EncodeOutcome frame.now preambles output.old output.new result }
+{
+    match write_message(frame, preambles, output) {
+        Ok(len) => HartOutcome {
+            len,
+            fault: HART_OK,
+        },
+        Err(fault) => HartOutcome {
+            len: 0,
+            fault: fault.number(),
+        },
+    }
+}
+
+/// Writes a frame as a message at the front of `output`, and gives how many bytes that are.
+fn write_message(frame: &HartFrame, preambles: u8, output: &mut [u8]) -> Result<usize, Fault>
+    ensures written { IfOk result (λ len. IsWritten frame.now preambles output.old output.new len) }
+    ensures refused { IfErr result (IsEncodeFault frame.now preambles (length output.old)) }
+    ensures unchanged { OnErr result (output.new ≡ output.old) }
+{
+    let frame = match frame_of(frame) {
+        Ok(frame) => frame,
+        Err(fault) => return Err(fault),
+    };
+    let mut message = Message::new();
+    if let Err(fault) = encode(&frame, preambles, &mut message) {
+        return Err(Fault::Frame(fault));
+    }
+    let len = message.len();
+    if output.len() < len {
+        return Err(Fault::NoRoom);
+    }
+    output[..len].copy_from_slice(message.as_slice());
+    Ok(len)
+}
+
+/// The frame of these numbers.
+fn frame_of(frame: &HartFrame) -> Result<Frame, Fault>
+    ensures same { IfOk result (λ made. made ≡ frame_in frame.now) }
+    ensures frame { IfOk result (λ made. IsFrame frame.now) }
+    ensures refused { IfErr result (λ fault. (preambles room : ℕ) → IsEncodeFault frame.now preambles room fault) }
+{
+    let address = address_of(frame).ok_or(Fault::BadAddress)?;
+    let expansion = frame.expansion.get(..usize::from(frame.expansion_len));
+    let expansion = Expansion::from_slice(expansion.ok_or(Fault::LongExpansion)?);
+    let payload = Payload::from_slice(&frame.payload[..usize::from(frame.payload_len)]);
+    Frame::new(
+        kind_of(frame.is_reply),
+        master_of(frame.is_primary),
+        frame.is_burst,
+        address,
+        expansion.unwrap(),
+        frame.command,
+        payload.unwrap(),
+    )
+    .map_err(Fault::Frame)
+}
+
+/// The address of these numbers, or `None` if one of them is out of range.
+fn address_of(frame: &HartFrame) -> Option<Address>
+    ensures in_range { IsSome result ↔ IsInRange frame.now.is_unique frame.now }
+    ensures same { IfSome result (λ address. address ≡ address_of frame.now.is_unique frame.now) }
+{
+    if !frame.is_unique {
+        return Address::polling(frame.polling_address).ok();
+    }
+    if frame.expanded_type >= 1 << 14 {
+        return None;
+    }
+    Address::unique(frame.expanded_type, frame.device_id).ok()
+}
+
+/// A reply is an ACK, and any other frame an STX.
+fn kind_of(is_reply: bool) -> FrameKind
+    ensures { result ≡ kind_of is_reply }
+{
+    if is_reply {
+        FrameKind::Ack
+    } else {
+        FrameKind::Stx
+    }
+}
+
+/// The primary master, or the secondary one.
+fn master_of(is_primary: bool) -> MasterId
+    ensures { result ≡ master_of is_primary }
+{
+    if is_primary {
+        MasterId::Primary
+    } else {
+        MasterId::Secondary
+    }
+}

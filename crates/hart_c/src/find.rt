@@ -1,0 +1,181 @@
+//! The frames of what was heard, some at a time.
+ghost use Rattle.std.specs.Prelude.{◌≡◌, ◌↔◌, ◌<◌, ◌≤◌, ℕ, false, true, List, IsTrue, All, drop, length, take};
+ghost use Rattle.hart_frame.specs.heard.Character.{AreFaultBits, Character, faultless};
+ghost use Rattle.hart_frame.specs.scan.Streamed.{IsHistory, IsWholeHistory};
+ghost use Rattle.hart_frame.specs.scan.Scanner.{Gives, GivesNothing};
+ghost use Rattle.hart_c.specs.Find.{Finds, IsSearched, SearchOutcome, char_of};
+ghost use Rattle.hart_c.specs.Frames.{IsTidy, found_in, found_in_first};
+
+use crate::fault::{HART_BAD_FAULT_BITS, HART_OK};
+use crate::frame::{HartFrame, show_found};
+use hart_frame::{Char, Scanner};
+
+/// What a search came to.
+#[repr(C)]
+#[derive(Clone, Copy)]
+pub struct HartSearch {
+    /// How many of what was passed are used up: the rest is to be passed again, with what comes after it.
+    pub used: usize,
+    /// How many frames were found.
+    pub count: usize,
+    /// 0, or why nothing was done.
+    pub fault: u8,
+}
+
+/// A character that was heard.
+#[repr(C)]
+#[derive(Clone, Copy)]
+pub struct HartChar {
+    /// The byte.
+    pub byte: u8,
+    /// The fault bits: hex 40 vertical parity, 20 overrun, 10 framing, 02 buffer overflow.
+    pub faults: u8,
+}
+
+/// Finds the next frames of bytes that were heard without faults, as many as `frames` has room for, and says how many bytes they use
+/// up. `ended` says that no more is to come.
+#[unsafe(no_mangle)]
+pub extern "C" fn hart_find_in_bytes(
+    bytes: &[u8],
+    ended: bool,
+    frames: &mut [HartFrame],
+) -> HartSearch
+    ensures { Finds (faultless bytes.now) ended frames.old frames.new result }
+{
+    let mut scanner = Scanner::new();
+    let mut taken = 0;
+    let mut count = 0;
+    while taken < bytes.len() && count < frames.len() {
+        taken += scanner.push_bytes(&bytes[taken..]);
+        count = fill(&mut scanner, frames, count);
+    }
+    settle(&mut scanner, ended, bytes.len(), frames, count)
+}
+
+/// Finds the next frames of characters that were heard, each with its fault bits, as [`hart_find_in_bytes`] does.
+///
+/// # Errors
+///
+/// [`HART_BAD_FAULT_BITS`] if a character has another bit than fault bits. Nothing is then found, used up or shown.
+#[unsafe(no_mangle)]
+pub extern "C" fn hart_find(heard: &[HartChar], ended: bool, frames: &mut [HartFrame]) -> HartSearch
+    ensures { SearchOutcome heard.now ended frames.old frames.new result }
+{
+    if !have_fault_bits(heard) {
+        return HartSearch {
+            used: 0,
+            count: 0,
+            fault: HART_BAD_FAULT_BITS,
+        };
+    }
+    let mut scanner = Scanner::new();
+    let mut taken = 0;
+    let mut count = 0;
+    while taken < heard.len() && count < frames.len() {
+        scanner.push(char_of(&heard[taken]));
+        taken += 1;
+        count = fill(&mut scanner, frames, count);
+    }
+    settle(&mut scanner, ended, heard.len(), frames, count)
+}
+
+/// Whether no character has another bit than fault bits.
+fn have_fault_bits(heard: &[HartChar]) -> bool
+    ensures { IsTrue result ↔ All (λ given. AreFaultBits given.faults) heard.now }
+{
+    heard
+        .iter()
+        .all(|given| Char::new(given.byte, given.faults).is_some())
+}
+
+/// The character that was passed.
+fn char_of(given: &HartChar) -> Char
+    requires { AreFaultBits given.now.faults }
+    ensures { result ≡ char_of given.now }
+{
+    Char::new(given.byte, given.faults).unwrap()
+}
+
+/// What a search came to in so many characters: if they ended and there is still room, the frames that the scanner has left are
+/// shown.
+fn settle(
+    scanner: &mut Scanner,
+    ended: bool,
+    len: usize,
+    frames: &mut [HartFrame],
+    count: usize,
+) -> HartSearch
+    requires room { count ≤ length frames.old }
+    ensures { (n : ℕ) (chars : List Character) (before : List HartFrame) → len ≡ length chars
+        → IsSearched n chars before frames.old count scanner.old → Finds chars ended before frames.new result }
+{
+    if !ended {
+        return step(scanner, count);
+    }
+    if count == frames.len() {
+        return step(scanner, count);
+    }
+    scanner.finish();
+    let count = fill(scanner, frames, count);
+    if count == frames.len() {
+        return step(scanner, count);
+    }
+    HartSearch {
+        used: len,
+        count,
+        fault: HART_OK,
+    }
+}
+
+/// What a search came to that goes on.
+fn step(scanner: &Scanner, count: usize) -> HartSearch
+    ensures used { result.used ≡ scanner.now.first }
+    ensures count { result.count ≡ count }
+    ensures fault { result.fault ≡ 0 }
+    ensures few { length scanner.now.held ≤ 269 }
+{
+    HartSearch {
+        used: scanner.first_held() as usize,
+        count,
+        fault: HART_OK,
+    }
+}
+
+/// Shows the frames that a scanner gives, after so many others, until it gives none or there is no more room.
+fn fill(scanner: &mut Scanner, frames: &mut [HartFrame], count: usize) -> usize
+    requires room { count ≤ length frames.old }
+    ensures within { result ≤ length frames.new }
+    ensures onward { count ≤ result }
+    ensures len { length frames.new ≡ length frames.old }
+    ensures untouched { drop result frames.new ≡ drop result frames.old }
+    ensures tidy { All IsTidy (take count frames.old) → All IsTidy (take result frames.new) }
+    ensures so_far { (past : List Character) → IsHistory past scanner.old (found_in_first count frames.old)
+        → (result < length frames.new → scanner.old.finished ≡ false) → IsHistory past scanner.new (found_in_first result frames.new) }
+    ensures all { (past : List Character) → IsHistory past scanner.old (found_in_first count frames.old)
+        → result < length frames.new → scanner.old.finished ≡ true → IsWholeHistory past (found_in_first result frames.new) }
+    ensures waits { result < length frames.new → scanner.old.finished ≡ false → IsTrue scanner.new.drained }
+    ensures going { scanner.old.finished ≡ false → scanner.new.finished ≡ false }
+{
+    let mut count = count;
+    while count < frames.len() {
+        if !give(scanner, &mut frames[count]) {
+            return count;
+        }
+        count += 1;
+    }
+    count
+}
+
+/// Shows the next frame that a scanner gives, and whether there is one.
+fn give(scanner: &mut Scanner, frame: &mut HartFrame) -> bool
+    ensures found { IsTrue result → Gives scanner.old scanner.new (found_in frame.new) }
+    ensures tidy { IsTrue result → IsTidy frame.new }
+    ensures none { result ≡ false → GivesNothing scanner.old scanner.new }
+    ensures untouched { result ≡ false → frame.new ≡ frame.old }
+{
+    let Some(found) = scanner.take() else {
+        return false;
+    };
+    show_found(&found, frame);
+    true
+}

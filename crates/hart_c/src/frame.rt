@@ -1,0 +1,130 @@
+//! A frame, as numbers for C.
+ghost use Rattle.std.specs.Prelude.{◌≡◌, ◌≤◌, length};
+ghost use Rattle.hart_frame.specs.scan.View.{found_of};
+ghost use Rattle.hart_c.specs.Frames.{IsTidy, found_in, frame_in, parts_in, with_address};
+
+use hart_frame::{FoundView, Frame, FrameKind};
+use hart_values::{Address, MasterId};
+
+/// A frame, and where it stands in what was passed.
+#[repr(C)]
+#[derive(Drop)]
+pub struct HartFrame {
+    /// The place of the delimiter, from 0.
+    pub start: u64,
+    /// The place after the check byte.
+    pub stop: u64,
+    /// The device id of a unique address, at most 16,777,215; of a polling address 0.
+    pub device_id: u32,
+    /// The expanded device type of a unique address, at most 16,383; of a polling address 0.
+    pub expanded_type: u16,
+    /// Whether it is a reply, an ACK, and not a request, an STX.
+    pub is_reply: bool,
+    /// Whether its master is the primary one.
+    pub is_primary: bool,
+    /// The burst bit.
+    pub is_burst: bool,
+    /// Whether its address is a unique address, of five bytes, and not a polling address. Both numbers 0 are broadcast.
+    pub is_unique: bool,
+    /// The polling address, at most 63; of a unique address 0.
+    pub polling_address: u8,
+    /// The command number.
+    pub command: u8,
+    /// How many expansion bytes there are, at most 3.
+    pub expansion_len: u8,
+    /// How many payload bytes there are.
+    pub payload_len: u8,
+    /// The expansion bytes, and after them what stood there before.
+    pub expansion: [u8; 3],
+    /// The payload, and after it what stood there before.
+    pub payload: [u8; 255],
+}
+
+/// The parts of a frame, where they lie.
+#[derive(Drop)]
+struct Parts<'a> {
+    kind: FrameKind,
+    master: MasterId,
+    burst: bool,
+    address: Address,
+    expansion: &'a [u8],
+    command: u8,
+    payload: &'a [u8],
+}
+
+/// Writes what a scanner found over `frame`.
+pub(crate) fn show_found(found: &FoundView<'_>, frame: &mut HartFrame)
+    ensures found { found_in frame.new ≡ found_of found.now }
+    ensures tidy { IsTidy frame.new }
+{
+    let view = &found.frame;
+    let parts = Parts {
+        kind: view.kind(),
+        master: view.master(),
+        burst: view.burst(),
+        address: view.address(),
+        expansion: view.expansion(),
+        command: view.command(),
+        payload: view.payload(),
+    };
+    show_parts(&parts, frame);
+    frame.start = found.start;
+    frame.stop = found.stop;
+}
+
+/// Writes a frame that stands between two places over `frame`.
+pub(crate) fn show_frame(shown: &Frame, start: u64, stop: u64, frame: &mut HartFrame)
+    ensures found { found_in frame.new ≡ record { start = start; stop = stop; frame = shown.now } }
+    ensures tidy { IsTidy frame.new }
+{
+    let parts = Parts {
+        kind: shown.kind(),
+        master: shown.master(),
+        burst: shown.burst(),
+        address: shown.address(),
+        expansion: shown.expansion(),
+        command: shown.command(),
+        payload: shown.payload(),
+    };
+    show_parts(&parts, frame);
+    frame.start = start;
+    frame.stop = stop;
+}
+
+/// Writes the parts of a frame over those of `frame`.
+fn show_parts(parts: &Parts<'_>, frame: &mut HartFrame)
+    requires expansion { length parts.now.expansion.now ≤ 3 }
+    requires payload { length parts.now.payload.now ≤ 255 }
+    ensures parts { frame_in frame.new ≡ parts_in parts.now }
+    ensures tidy { IsTidy frame.new }
+{
+    frame.is_reply = parts.kind == FrameKind::Ack;
+    frame.is_primary = parts.master == MasterId::Primary;
+    frame.is_burst = parts.burst;
+    frame.command = parts.command;
+    show_address(parts.address, frame);
+    frame.expansion_len = parts.expansion.len() as u8;
+    frame.expansion[..parts.expansion.len()].copy_from_slice(parts.expansion);
+    frame.payload_len = parts.payload.len() as u8;
+    frame.payload[..parts.payload.len()].copy_from_slice(parts.payload);
+}
+
+/// Writes an address over that of `frame`.
+fn show_address(address: Address, frame: &mut HartFrame)
+    ensures { frame.new ≡ with_address address frame.old }
+{
+    match address {
+        Address::Polling(polling) => {
+            frame.is_unique = false;
+            frame.polling_address = polling.number();
+            frame.expanded_type = 0;
+            frame.device_id = 0;
+        }
+        Address::Unique(unique) => {
+            frame.is_unique = true;
+            frame.polling_address = 0;
+            frame.expanded_type = unique.expanded_type();
+            frame.device_id = unique.device_id();
+        }
+    }
+}

@@ -1,0 +1,22 @@
+//! HART messages for callers in C (HCF_SPEC-081, HCF_SPEC-127): frames found in what was heard, read and written.
+//!
+//! `include/hart.h` declares what is exported, and says at each call what its caller has to uphold. No call keeps a pointer or holds a
+//! state of its own, and none takes memory: what lasts from call to call lies with the caller. Each call is a function of its arguments.
+#![tactic(auto)]
+
+mod check;
+mod decode;
+mod encode;
+mod fault;
+mod find;
+mod frame;
+
+pub use check::hart_check_byte;
+pub use decode::hart_decode;
+pub use encode::hart_encode;
+pub use fault::HartOutcome;
+pub use find::{HartChar, HartSearch, hart_find, hart_find_in_bytes};
+pub use frame::HartFrame;
+
+#[cfg(test)]
+mod tests;

@@ -1,0 +1,101 @@
+/* HART messages (HART Protocol Revision 7) from proved code.
+ *
+ * Link libhart.a or libhart.so. No call keeps a pointer that it was passed, holds a state of its own, takes memory or waits: each is
+ * a function of its arguments, and two threads may call at once, each on its own memory.
+ *
+ * The caller upholds, at each call:
+ *   - each pointer is not null, also for a length of 0, is aligned for its type, and points to as many elements as the length that
+ *     follows it says (one where none follows); a length is below 2^63;
+ *   - what a pointer to non-const points to is not written or read by anybody else until the call returns, and overlaps nothing
+ *     else that is passed; what a pointer to const points to is not written until then;
+ *   - a bool is 0 or 1, and all that is passed is initialised, also a struct that is to be written.
+ * All else is tested by the call.
+ */
+#ifndef HART_H
+#define HART_H
+
+#include <stdbool.h>
+#include <stddef.h>
+#include <stdint.h>
+
+#ifdef __cplusplus
+extern "C" {
+#endif
+
+/* A frame, and where it stands in what was passed. */
+typedef struct hart_frame {
+    uint64_t start;          /* the place of the delimiter, from 0 */
+    uint64_t stop;           /* the place after the check byte */
+    uint32_t device_id;      /* of a unique address, at most 0xFFFFFF; of a polling address 0 */
+    uint16_t expanded_type;  /* of a unique address, at most 0x3FFF; of a polling address 0 */
+    bool is_reply;           /* a reply, an ACK, and not a request, an STX */
+    bool is_primary;         /* its master is the primary one */
+    bool is_burst;           /* the burst bit */
+    bool is_unique;          /* its address is a unique address, of five bytes; both numbers 0 are broadcast */
+    uint8_t polling_address; /* at most 63; of a unique address 0 */
+    uint8_t command;         /* the command number */
+    uint8_t expansion_len;   /* 0 to 3 */
+    uint8_t payload_len;     /* 0 to 255; of a reply 2 at least */
+    uint8_t expansion[3];    /* the expansion bytes, and then what stood there before */
+    uint8_t payload[255];    /* the payload, and then what stood there before */
+} hart_frame;
+
+/* Why a call did nothing. docs/LIBRARY.md says which call gives which. */
+enum {
+    HART_OK = 0,
+    HART_TOO_SHORT_REPLY = 1, /* a reply with a payload below its two status bytes */
+    HART_BAD_PREAMBLE = 2,    /* a number of preamble bytes outside 5 to 20 */
+    HART_BAD_DELIMITER = 3,   /* the first byte is no delimiter of this profile */
+    HART_TRUNCATED = 4,       /* the bytes end before the check byte */
+    HART_BAD_CHECK = 5,       /* the check byte does not give the body even parity */
+    HART_SHORT_REPLY = 6,     /* the delimiter of a reply with a byte count below 2 */
+    HART_BAD_ADDRESS = 10,    /* a number of an address is out of range */
+    HART_LONG_EXPANSION = 11, /* more than three expansion bytes */
+    HART_NO_ROOM = 12,        /* the output has no room for the message */
+    HART_BAD_FAULT_BITS = 13  /* a character has another bit than fault bits */
+};
+
+/* A character that was heard. */
+typedef struct hart_char {
+    uint8_t byte;
+    uint8_t faults; /* 0, or fault bits: 0x40 vertical parity, 0x20 overrun, 0x10 framing, 0x02 buffer overflow */
+} hart_char;
+
+/* What a search came to. */
+typedef struct hart_search {
+    size_t used;   /* how many of what was passed are used up; the rest is to be passed again, with what comes after it */
+    size_t count;  /* how many frames were found, which are the first of those passed; the others are as they were */
+    uint8_t fault; /* HART_OK, or why nothing was done */
+} hart_search;
+
+/* Finds the next frames of bytes that were heard without faults, as many as there is room for. `ended` says that no more is to come.
+ * What is not used up is passed again, with what comes after it, and places are then counted from its front. If there are fewer
+ * frames than room, at most 269 bytes are left, or none if it ended. Whoever goes on so until the end is given all frames of all
+ * that was heard, and no others, in whatever pieces it came. */
+hart_search hart_find_in_bytes(const uint8_t *bytes, size_t bytes_len, bool ended, hart_frame *frames, size_t frames_len);
+
+/* The same for characters that were heard with fault bits or without. At HART_BAD_FAULT_BITS nothing is found or used up. */
+hart_search hart_find(const hart_char *heard, size_t heard_len, bool ended, hart_frame *frames, size_t frames_len);
+
+/* How many bytes were written or read. */
+typedef struct hart_outcome {
+    size_t len;    /* 0 if there is a fault */
+    uint8_t fault; /* HART_OK, or why nothing was done: what was to be written is as it was */
+} hart_outcome;
+
+/* Reads the frame whose body bytes begin with, from the delimiter on, and tells the length of that body. `frame` then shows it, from
+ * place 0 on. Further bytes may follow. */
+hart_outcome hart_decode(const uint8_t *bytes, size_t bytes_len, hart_frame *frame);
+
+/* Writes a frame as a message at the front of `output`: so many preamble bytes and its body. 287 bytes are room for any. `start` and
+ * `stop` of the frame are not looked at. */
+hart_outcome hart_encode(const hart_frame *frame, uint8_t preambles, uint8_t *output, size_t output_len);
+
+/* The check byte of some bytes: their exclusive or. */
+uint8_t hart_check_byte(const uint8_t *bytes, size_t bytes_len);
+
+#ifdef __cplusplus
+}
+#endif
+
+#endif

@@ -1,0 +1,28 @@
+#!/bin/sh
+# Makes libhart.a and libhart.so of the proved static library of hart_c, with what it needs of the toolchain's C library in them. They
+# offer the calls of include/hart.h and no other symbol.
+#
+# Usage: tools/library.sh FOLDER; the folder is where both are put.
+set -eu
+folder=$(realpath "$1")
+cd "$(dirname "$0")/.."
+kit=$(dirname "$(rt doc)")
+work=$(mktemp -d)
+trap 'rm -rf "$work"' EXIT
+cc=${CC:-cc}
+
+(cd crates/hart_c && rt lib) >"$work/said" 2>&1 || {
+    cat "$work/said" >&2
+    exit 1
+}
+made=crates/hart_c/out/libhart_c.a
+
+"$cc" -r -nostdlib -o "$work/hart.o" -Wl,--whole-archive "$made" -Wl,--no-whole-archive "$kit/c/liblibc_c.a"
+objcopy -w --keep-global-symbol='hart_*' "$work/hart.o"
+rm -f "$work/libhart.a"
+ar rcs "$work/libhart.a" "$work/hart.o"
+
+printf '{ global: hart_*; local: *; };\n' >"$work/hart.map"
+"$cc" -shared -Wl,-z,text -Wl,--no-undefined -Wl,-soname,libhart.so "-Wl,--version-script=$work/hart.map" -o "$work/libhart.so" \
+    -Wl,--whole-archive "$work/libhart.a" -Wl,--no-whole-archive
+cp "$work/libhart.a" "$work/libhart.so" "$folder"
