@@ -9,6 +9,9 @@
 #   make held-view            tries that nothing is pushed to a scanner while a view of it is held, as make check does
 #   make fuzz N=..            holds ./hart against a plain model of it on N random inputs; make check does not
 #   make install PREFIX=DIR   puts hart into DIR/bin
+#   make library              proves the library for C and leaves it as build/libhart.a and build/libhart.so
+#   make library-examples     builds the examples of the library and holds them against ./hart, as make check does
+#   make install-library PREFIX=DIR   puts the library, its header and hart.pc below DIR
 #   make bench                measures hart dump, hart answer, hart explain and hart sim; it asserts no time
 
 PREFIX ?= /usr/local
@@ -16,7 +19,7 @@ N ?= 10000
 CLI := crates/hart_cli
 SOURCES := crates.txt $(shell find crates -name out -prune -o \( -name '*.rt' -o -name '*.antt' \) -print)
 
-.PHONY: all check test refused-growths streams examples held-view fuzz bench install clean
+.PHONY: all check test refused-growths streams examples held-view library library-examples fuzz bench install install-library clean
 
 all: hart
 
@@ -34,12 +37,17 @@ test: hart
 	sh tools/streams.sh
 	sh tools/examples.sh
 	sh tools/held-view.sh
+	sh tools/library-examples.sh
 
 held-view:
 	sh tools/held-view.sh
 
-refused-growths streams examples: hart
+refused-growths streams examples library-examples: hart
 	sh tools/$@.sh
+
+library:
+	mkdir -p build
+	sh tools/library.sh build
 
 fuzz: hart
 	python3 tools/fuzz.py --cases $(N)
@@ -54,5 +62,12 @@ install: hart
 	install -d $(PREFIX)/bin
 	install -m 755 hart $(PREFIX)/bin/hart
 
+install-library: library
+	install -d $(PREFIX)/include $(PREFIX)/lib/pkgconfig
+	install -m 644 include/hart.h $(PREFIX)/include/hart.h
+	install -m 644 build/libhart.a $(PREFIX)/lib/libhart.a
+	install -m 755 build/libhart.so $(PREFIX)/lib/libhart.so
+	sed 's|@PREFIX@|$(PREFIX)|' include/hart.pc.in >$(PREFIX)/lib/pkgconfig/hart.pc
+
 clean:
-	rm -rf hart $(CLI)/out.tmp crates/*/out
+	rm -rf build hart $(CLI)/out.tmp crates/*/out

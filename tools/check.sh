@@ -22,7 +22,7 @@ count=$(grep -xE '[0-9]+ passed, [0-9]+ failed' "$log" | tail -n 1)
 read -r passed _ failed _ <<<"${count:-0 passed, 1 failed}"
 
 if [ -f "$program" ]; then
-    for script in tools/refused-growths.sh tools/streams.sh tools/examples.sh tools/held-view.sh; do
+    for script in tools/refused-growths.sh tools/streams.sh tools/examples.sh tools/held-view.sh tools/library-examples.sh; do
         if ! sh "$script" "$program"; then
             echo "$script: FAILED"
             note 1

@@ -1,0 +1,73 @@
+#!/bin/sh
+# Holds include/hart.h against the source, makes the library, builds the examples without a warning, and runs them: on captures they have
+# to print just what the program does, whether the capture comes at once or byte by byte.
+#
+# A C compiler and Python are needed. C++ and Rust are tried where they are found, and so are the sanitizers of the C compiler.
+#
+# Usage: tools/library-examples.sh [PROGRAM]; PROGRAM is the ./hart of the repository if absent.
+set -eu
+program=$(realpath "${1:-$(dirname "$0")/../hart}")
+cd "$(dirname "$0")/.."
+work=$(mktemp -d)
+trap 'rm -rf "$work"' EXIT
+cc=${CC:-cc}
+cxx=${CXX:-c++}
+strict='-O2 -Wall -Wextra -Wpedantic -Werror'
+
+python3 tools/header.py
+sh tools/library.sh "$work"
+
+offered=$(nm -D --defined-only "$work/libhart.so" | awk '{ print $3 }' | sort)
+declared=$(grep -oE '\bhart_[a-z_]+\(' include/hart.h | tr -d '(' | sort -u)
+if [ "$offered" != "$declared" ]; then
+    echo "libhart.so offers other calls than include/hart.h declares:" >&2
+    printf '%s\n' "$offered" >&2
+    exit 1
+fi
+
+# Frames in noise, a false start that holds back a frame, damage, and a message that ends too early.
+cat >"$work/heard.txt" <<'HEARD'
+00 13 FF FF 82 B7 42 0A 1B 2C 13 03 01 23 45 3D FF FF FF FF FF 86 B7 42 0A 1B 2C 13 05 00 40 01 23 45 7F
+FF FF 02 80 00 08 FF FF 02 80 00 00 82 00 00 00 FF FF E2 80 00 00 00 00 AA BB CC 0B 01 FF 4A
+FF FF 02 80 00 00 83 FF FF 22 BF 55 00 00 C8 FF FF 86 77 42 0A 1B 2C 13 05 00 40 01 23 45 BF
+FF FF 82 B7 42 0A 1B 2C 13 FF FF FF FF FF FF 02 80 00 00 82
+HEARD
+"$program" dump <"$work/heard.txt" >"$work/wanted"
+xxd -r -p "$work/heard.txt" "$work/heard"
+[ "$(wc -l <"$work/wanted")" -eq 7 ] || {
+    echo "the program finds other frames in the capture" >&2
+    exit 1
+}
+
+ran=0
+# Runs an example on the capture from a file, and byte by byte.
+hold() {
+    "$@" <"$work/heard" >"$work/found"
+    cmp "$work/wanted" "$work/found"
+    (while dd bs=1 count=1 2>"$work/said" && grep -q '^1+0 records in' "$work/said"; do :; done) <"$work/heard" | "$@" >"$work/found"
+    cmp "$work/wanted" "$work/found"
+    ran=$((ran + 1))
+}
+
+$cc -std=c11 $strict -Iinclude examples/c/messages.c "$work/libhart.a" -o "$work/messages"
+hold "$work/messages"
+if $cc -std=c11 $strict -fsanitize=address,undefined -Iinclude examples/c/messages.c "$work/libhart.a" -o "$work/sanitized" 2>"$work/said"; then
+    hold "$work/sanitized"
+else
+    echo "no sanitizers: the example in C was not run under them"
+fi
+if command -v "$cxx" >"$work/said"; then
+    $cxx -std=c++17 $strict -Iinclude examples/cpp/messages.cpp "$work/libhart.a" -o "$work/messages_cpp"
+    hold "$work/messages_cpp"
+else
+    echo "no C++ compiler: the example in C++ was not run"
+fi
+if command -v cargo >"$work/said"; then
+    HART_LIB_DIR=$work CARGO_TARGET_DIR=$work/rust RUSTFLAGS='-D warnings' \
+        cargo build --quiet --release --offline --manifest-path examples/rust/Cargo.toml
+    hold "$work/rust/release/messages"
+else
+    echo "no cargo: the example in Rust was not run"
+fi
+hold python3 examples/python/messages.py "$work/libhart.so"
+echo "$ran examples of the library printed what the program does"
