@@ -51,7 +51,8 @@ hold() {
 
 $cc -std=c11 $strict -Iinclude examples/c/messages.c "$work/libhart.a" -o "$work/messages"
 hold "$work/messages"
-if $cc -std=c11 $strict -fsanitize=address,undefined -Iinclude examples/c/messages.c "$work/libhart.a" -o "$work/sanitized" 2>"$work/said"; then
+if $cc -std=c11 $strict -fsanitize=address,undefined -Iinclude examples/c/messages.c "$work/libhart.a" -o "$work/sanitized" \
+    2>"$work/said"; then
     hold "$work/sanitized"
 else
     echo "no sanitizers: the example in C was not run under them"

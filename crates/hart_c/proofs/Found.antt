@@ -2,7 +2,8 @@
 use Rattle.std.proofs.Common.{◌≡◌, ◌+◌, ◌-◌, ◌<◌, ◌≤◌, ◌⊎◌, false, Bool, ℕ, IsTrue, List, [], ◌∷◌, ◌++◌, All, arith, ap, sym, subst}
 use Rattle.std.proofs.Common.{◌∙◌, append_assoc, drop, inl, inr, length, map, refl, slice_index_or, take}
 use Rattle.std.proofs.lemmas.Bool.{false≢true}
-use Rattle.std.proofs.lemmas.List.{append-nil, drop-append-le, drop-drop, length-map, length-take, map-append, take-append-drop, take-map, take_more}
+use Rattle.std.proofs.lemmas.List.{append-nil, drop-append-le, drop-drop, length-map, length-take, map-append, take-append-drop}
+use Rattle.std.proofs.lemmas.List.{take-map, take_more}
 use Rattle.std.proofs.Math.Seq.{drop-length, take-add, take-length}
 use Rattle.hart_frame.specs.heard.Character.{Character, faultless}
 use Rattle.hart_frame.specs.heard.Frames.{AreFrames, first, moved, none}
@@ -104,8 +105,8 @@ closes n chars ended scan (inr all) more ends finished =
 
 -- what a search came to that goes on
 pub finds_more : RestGoesOn → AllPushed → (n count : ℕ) (chars : List Character) (ended : Bool) (before after : List HartFrame)
-    (scan : Scan) (search : HartSearch) → search.used ≡ scan.first → search.count ≡ count → search.fault ≡ 0 → n ≤ length chars → count ≤ length after
-    → drop count after ≡ drop count before → All IsTidy (take count after) → GoesOn n chars ended scan
+    (scan : Scan) (search : HartSearch) → search.used ≡ scan.first → search.count ≡ count → search.fault ≡ 0 → n ≤ length chars
+    → count ≤ length after → drop count after ≡ drop count before → All IsTidy (take count after) → GoesOn n chars ended scan
     → IsHistory (take n chars) scan (found_in_first count after) → length scan.held ≤ 269
     → (count < length after → (n ≡ length chars) × (ended ≡ false)) → Finds chars ended before after search
 finds_more law pushed n count chars ended before after scan search used_is count_is fault fits room untouched tidy goes history few waits =

@@ -35,7 +35,8 @@ tidy_one frame tidy = grind arith
 pub tidy_more : (count : ℕ) (frames : List HartFrame) (frame : HartFrame) → count < length frames → IsTidy frame
     → All IsTidy (take count frames) → All IsTidy (take (count + 1) (slice_set frames count frame))
 tidy_more count frames frame within tidy all =
-    subst (All IsTidy) (sym (take_more_set frames count frame within)) (All-append IsTidy (take count frames) (frame ∷ []) all (tidy_one frame tidy))
+    subst (All IsTidy) (sym (take_more_set frames count frame within))
+    (All-append IsTidy (take count frames) (frame ∷ []) all (tidy_one frame tidy))
 
 -- a frame that is not shown leaves those before it
 pub shown_before : (count : ℕ) (frames : List HartFrame) (frame : HartFrame)

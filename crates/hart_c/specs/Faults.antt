@@ -1,7 +1,8 @@
 -- The numbers of faults for C (own profile).
 use Rattle.std.specs.Prelude.{ℕ}
 use Rattle.hart_frame.specs.declared.wire.fault.FrameFault.{FrameFault}
-use Rattle.hart_frame.specs.declared.wire.fault.FrameFault.TheVariants.{TooShortReply, BadPreamble, BadDelimiter, Truncated, BadCheck, ShortReply}
+use Rattle.hart_frame.specs.declared.wire.fault.FrameFault.TheVariants.{TooShortReply, BadPreamble, BadDelimiter, Truncated, BadCheck}
+use Rattle.hart_frame.specs.declared.wire.fault.FrameFault.TheVariants.{ShortReply}
 use Rattle.hart_c.specs.declared.fault.Fault as own
 use Rattle.hart_c.specs.declared.fault.Fault.TheVariants.{Frame, BadAddress, LongExpansion, NoRoom}
 

@@ -16,7 +16,8 @@ pub returns-then-not-ended : goal.returns-then-not-ended
 returns-then-not-ended c = λ n chars before len searched.
     let step = c.step.ensures in
     finds_more rest history_length n c.args.count chars c.args.ended before c.args.frames.now c.args.scanner.now c.step.result
-    step.used step.count step.fault searched.within searched.room searched.untouched searched.tidy (inl searched.going) searched.history step.few
+    step.used step.count step.fault searched.within searched.room searched.untouched searched.tidy (inl searched.going)
+    searched.history step.few
     (λ fewer. (searched.whole fewer, c.if-not-ended.true))
 
 pub returns-then-count-frames : goal.returns-then-count-frames
@@ -24,7 +25,8 @@ returns-then-count-frames c = λ n chars before len searched.
     let step = c.step-then-count-frames.ensures in
     finds_more rest history_length n c.args.count chars c.args.ended before c.args.frames.now c.args.scanner.now
     c.step-then-count-frames.result
-    step.used step.count step.fault searched.within searched.room searched.untouched searched.tidy (inl searched.going) searched.history step.few
+    step.used step.count step.fault searched.within searched.room searched.untouched searched.tidy (inl searched.going)
+    searched.history step.few
     (not_fewer c.args.count (length c.args.frames.now) c.if-count-frames.true)
 
 pub returns-then-count-frames-2 : goal.returns-then-count-frames-2
@@ -49,8 +51,10 @@ returns c = λ n chars before len searched.
     (sym c.finish.ensures) (finish (take n chars) c.args.scanner.now (found_in_first c.args.count c.args.frames.now) searched.history) in
     let fewer : c.fill-count.result < length c.fill-count.new.frames = omega (arith, fill.within, c.if-count-frames-2.false) in
     let chars_are = take_all n chars whole in
-    let frames = history_all (take n chars) _ (fill.all (take n chars) finished fewer (ap (λ (scan : Scan). scan.finished) c.finish.ensures)) in
+    let frames = history_all (take n chars) _
+    (fill.all (take n chars) finished fewer (ap (λ (scan : Scan). scan.finished) c.finish.ensures)) in
     finds_all frames_of_none n c.fill-count.result chars c.args.ended before c.fill-count.new.frames _ len refl refl whole fill.within
     (fill.untouched ∙ untouched_on c.args.count c.fill-count.result c.args.frames.now before fill.onward searched.untouched)
-    (fill.tidy searched.tidy) (subst (λ (cs : List Character). AreFrames cs 0 (found_in_first c.fill-count.result c.fill-count.new.frames)) chars_are frames)
+    (fill.tidy searched.tidy)
+    (subst (λ (cs : List Character). AreFrames cs 0 (found_in_first c.fill-count.result c.fill-count.new.frames)) chars_are frames)
     c.if-not-ended.false
