@@ -1,36 +1,22 @@
 -- What is found in characters that are heard in pieces, and what is left of them.
 use Rattle.std.proofs.Common.{◌≡◌, ◌+◌, ◌-◌, ◌<◌, ◌≤◌, ◌⊎◌, false, Bool, ℕ, IsTrue, List, [], ◌∷◌, ◌++◌, All, arith, ap, sym, subst}
-use Rattle.std.proofs.Common.{◌∙◌, append_assoc, drop, inl, inr, length, map, refl, slice_index_or, take}
+use Rattle.std.proofs.Common.{◌∙◌, append_assoc, drop, inl, inr, length, map, slice_index_or, take}
 use Rattle.std.proofs.lemmas.Bool.{false≢true}
 use Rattle.std.proofs.lemmas.List.{append-nil, drop-append-le, drop-drop, length-map, length-take, map-append, take-append-drop}
 use Rattle.std.proofs.lemmas.List.{take-map, take_more}
 use Rattle.std.proofs.Math.Seq.{drop-length, take-add, take-length}
 use Rattle.hart_frame.specs.heard.Character.{Character, faultless}
-use Rattle.hart_frame.specs.heard.Frames.{AreFrames, first, moved, none}
+use Rattle.hart_frame.specs.heard.Frames.{AreFrames, moved}
 use Rattle.hart_frame.specs.scan.Scanner.{MovesPast, Scan, hearing}
 use Rattle.hart_frame.specs.scan.Streamed.{IsHistory, push, push_bytes}
 use Rattle.hart_frame.specs.declared.heard.found.Found.{Found}
-use Rattle.hart_frame.proofs.lemmas.heard.Place.{HasNoFrame-end}
+use Rattle.hart_frame.proofs.lemmas.Laws.{frames_are_streamed-pushed, frames_are_unambiguous-one_list}
+use Rattle.hart_frame.proofs.lemmas.Laws.{held_characters_have_the_later_frames-later, messages_have_their_frame_alone-nothing}
 use Rattle.hart_c.specs.declared.find.HartChar.{HartChar}
 use Rattle.hart_c.specs.declared.find.HartSearch.{HartSearch}
 use Rattle.hart_c.specs.declared.frame.HartFrame.{HartFrame}
 use Rattle.hart_c.specs.Find.{AreNext, Finds, char_of}
 use Rattle.hart_c.specs.Frames.{IsTidy, found_in_first}
-
--- the law that the rest alone gives the remaining frames
-abbrev pub RestGoesOn : Type 0
-RestGoesOn = (past more : List Character) (scan : Scan) (given later : List Found) → IsHistory past scan given
-    → (IsTrue scan.finished → more ≡ []) → AreFrames (drop scan.first past ++ more) 0 later
-    → AreFrames (past ++ more) 0 (given ++ map (moved scan.first) later)
-
--- the law that what was pushed was let go or is held
-abbrev pub AllPushed : Type 0
-AllPushed = (past : List Character) (scan : Scan) (given : List Found) → IsHistory past scan given
-    → scan.first + length scan.held ≡ length past
-
--- that of nothing there are no frames
-abbrev pub FramesOfNone : Type 0
-FramesOfNone = (later : List Found) → AreFrames [] 0 later → later ≡ []
 
 -- a faultless character of a byte
 abbrev of_byte : ℕ → Character
@@ -75,21 +61,23 @@ untouched_on count more after before onward same =
     ∙ drop-drop (more - count) count before ∙ ap (At before) is
 
 -- the frames of all are those that were given and those of the rest
-next_frames : RestGoesOn → AllPushed → (n : ℕ) (chars : List Character) (ended : Bool) (scan : Scan) (given : List Found)
+next_frames : (n : ℕ) (chars : List Character) (ended : Bool) (scan : Scan) (given : List Found)
     → n ≤ length chars → ((more : List Character) → (IsTrue ended → more ≡ []) → IsTrue scan.finished → drop n chars ++ more ≡ [])
     → IsHistory (take n chars) scan given → AreNext chars ended given scan.first
-next_frames law pushed n chars ended scan given fits closes history more later ends frames =
+next_frames n chars ended scan given fits closes history more later ends frames =
     let past = take n chars in
     let used = scan.first in
     let split = sym (take-append-drop n chars) in
-    let within : used ≤ length past = omega (arith, pushed past scan given history) in
+    let within : used ≤ length past = omega (arith, frames_are_streamed-pushed past scan given history) in
     let Rest : List Character → Type 0 = λ cs. AreFrames cs 0 later in
     let Whole : List Character → Type 0 = λ cs. AreFrames cs 0 (given ++ map (moved used) later) in
     let rest = ap (λ (cs : List Character). drop used cs ++ more) split
     ∙ ap (λ (cs : List Character). cs ++ more) (drop-append-le used past (drop n chars) within)
     ∙ append_assoc (drop used past) (drop n chars) more in
     let all = ap (λ (cs : List Character). cs ++ more) split ∙ append_assoc past (drop n chars) more in
-    subst Whole (sym all) (law past (drop n chars ++ more) scan given later history (closes more ends) (subst Rest rest frames))
+    let rest_frames = subst Rest rest frames in
+    subst Whole (sym all)
+    (held_characters_have_the_later_frames-later past (drop n chars ++ more) scan given later history (closes more ends) rest_frames)
 
 -- a search goes on if the scanner does, or if all was searched and nothing is to come
 abbrev pub GoesOn : ℕ → List Character → Bool → Scan → Type 0
@@ -104,15 +92,15 @@ closes n chars ended scan (inr all) more ends finished =
     ∙ ap (λ (i : ℕ). drop i chars ++ []) all.1 ∙ ap (λ (cs : List Character). cs ++ []) (drop-length chars)
 
 -- what a search came to that goes on
-pub finds_more : RestGoesOn → AllPushed → (n count : ℕ) (chars : List Character) (ended : Bool) (before after : List HartFrame)
+pub finds_more : (n count : ℕ) (chars : List Character) (ended : Bool) (before after : List HartFrame)
     (scan : Scan) (search : HartSearch) → search.used ≡ scan.first → search.count ≡ count → search.fault ≡ 0 → n ≤ length chars
     → count ≤ length after → drop count after ≡ drop count before → All IsTidy (take count after) → GoesOn n chars ended scan
     → IsHistory (take n chars) scan (found_in_first count after) → length scan.held ≤ 269
     → (count < length after → (n ≡ length chars) × (ended ≡ false)) → Finds chars ended before after search
-finds_more law pushed n count chars ended before after scan search used_is count_is fault fits room untouched tidy goes history few waits =
-    let all_held = pushed (take n chars) scan (found_in_first count after) history in
+finds_more n count chars ended before after scan search used_is count_is fault fits room untouched tidy goes history few waits =
+    let all_held = frames_are_streamed-pushed (take n chars) scan (found_in_first count after) history in
     let taken = length-take n chars in
-    let next = next_frames law pushed n chars ended scan (found_in_first count after) fits (closes n chars ended scan goes) history in
+    let next = next_frames n chars ended scan (found_in_first count after) fits (closes n chars ended scan goes) history in
     let Untouched : ℕ → Type 0 = λ i. drop i after ≡ drop i before in
     let Tidy : ℕ → Type 0 = λ i. All IsTidy (take i after) in
     let Next : ℕ → Type 0 = λ i. AreNext chars ended (found_in_first i after) scan.first in
@@ -135,11 +123,11 @@ pub not_fewer : {X : Type 0} → (count all : ℕ) → count ≡ all → count <
 not_fewer count all same fewer = absurd (omega (arith, same, fewer))
 
 -- what a search came to at the end of all
-pub finds_all : FramesOfNone → (n count : ℕ) (chars : List Character) (ended : Bool) (before after : List HartFrame) (search : HartSearch)
+pub finds_all : (n count : ℕ) (chars : List Character) (ended : Bool) (before after : List HartFrame) (search : HartSearch)
     → search.used ≡ length chars → search.count ≡ count → search.fault ≡ 0 → n ≡ length chars → count ≤ length after
     → drop count after ≡ drop count before → All IsTidy (take count after) → AreFrames chars 0 (found_in_first count after)
     → IsTrue ended → Finds chars ended before after search
-finds_all none_of_none n count chars ended before after search used_is count_is fault whole room untouched tidy frames ends =
+finds_all n count chars ended before after search used_is count_is fault whole room untouched tidy frames ends =
     let Untouched : ℕ → Type 0 = λ i. drop i after ≡ drop i before in
     let Tidy : ℕ → Type 0 = λ i. All IsTidy (take i after) in
     let Frames : ℕ → Type 0 = λ i. AreFrames chars 0 (found_in_first i after) in
@@ -153,7 +141,7 @@ finds_all none_of_none n count chars ended before after search used_is count_is 
           let Rest : List Character → Type 0 = λ cs. AreFrames cs 0 later in
           let nothing = ap (λ (i : ℕ). drop i chars ++ more) used_is ∙ ap (λ (cs : List Character). cs ++ more) (drop-length chars)
           ∙ closed ends in
-          let no_later = none_of_none later (subst Rest nothing rest) in
+          let no_later = frames_are_unambiguous-one_list [] 0 later [] (subst Rest nothing rest) messages_have_their_frame_alone-nothing in
           let chars_is = sym (append-nil chars) ∙ ap (λ (cs : List Character). chars ++ cs) (sym (closed ends)) in
           let frames_are = sym (append-nil given) ∙ ap (λ (fs : List Found). given ++ map (moved search.used) fs) (sym no_later) in
           subst (λ (cs : List Character). AreFrames cs 0 (given ++ map (moved search.used) later)) chars_is
@@ -170,9 +158,3 @@ bytes_length run = length-map run of_byte
 -- so many of all are all
 pub take_all : (n : ℕ) (chars : List Character) → n ≡ length chars → take n chars ≡ chars
 take_all n chars whole = ap (λ (i : ℕ). take i chars) whole ∙ take-length chars
-
--- there are no frames of nothing
-pub frames_of_none : FramesOfNone
-frames_of_none later (none from nothing) = refl
-frames_of_none later (first from found others is_first frames) =
-    absurd (HasNoFrame-end [] 0 (omega arith) found is_first.stands)

@@ -1,11 +1,13 @@
--- The laws of bodies, of frames, of first starts and of damage, for the proofs of this crate and of those above.
-use Rattle.std.proofs.Common.{arith, ◌≡◌, ◌≤◌, ◌⊎◌, ◌↔◌, ℕ, List, [], ◌∷◌, ◌++◌, drop, length, map, refl, sym}
+-- The laws of bodies, of frames, of scanners, of first starts and of damage, for the proofs of this crate and of those above.
+use Rattle.std.proofs.Common.{arith, ◌≡◌, ◌+◌, ◌≤◌, ◌⊎◌, ◌↔◌, ℕ, IsTrue, List, [], ◌∷◌, ◌++◌, drop, length, map, refl, sym}
 use Rattle.std.proofs.lemmas.List.{append-nil}
 use Rattle.hart_values.proofs.lemmas.Laws.{address_bytes_are_unambiguous-one_list, address_bytes_are_unambiguous-one_reading}
 use Rattle.hart_frame.specs.heard.Character.{Character, faultless}
 use Rattle.hart_frame.specs.heard.Damage.{IsCheckDamage, IsMarkedDamage}
 use Rattle.hart_frame.specs.heard.Frames.{AreFrames, IsFirst, moved}
 use Rattle.hart_frame.specs.heard.Start.{HasNoStart, IsFirstStart}
+use Rattle.hart_frame.specs.scan.Scanner.{Scan}
+use Rattle.hart_frame.specs.scan.Streamed.{IsHistory, IsWholeHistory}
 use Rattle.hart_frame.specs.wire.Body.{BeginsWithBody, IsBody}
 use Rattle.hart_frame.specs.wire.FrameParts.{FrameParts}
 use Rattle.hart_frame.specs.wire.Message.{IsMessage}
@@ -16,6 +18,7 @@ use Rattle.hart_frame.proofs.lemmas.heard.Message.{AreFrames-message, AreFrames-
 use Rattle.hart_frame.proofs.lemmas.heard.Rest.{rest_frames, rest_only}
 use Rattle.hart_frame.proofs.lemmas.heard.Start.{IsFirstStart-one, first_start_decided}
 use Rattle.hart_frame.proofs.lemmas.heard.UnambiguousFrames.{AreFrames-one, IsFirst-one}
+use Rattle.hart_frame.proofs.lemmas.scan.Stream.{history_all, history_length, history_rest}
 use Rattle.hart_frame.proofs.lemmas.wire.UnambiguousBodies.{BeginsWithBody-one, IsBody-one, same_bodies}
 
 pub bodies_are_unambiguous-one_frame : (f g : FrameParts) (bytes : List ℕ) → IsBody f bytes → IsBody g bytes → f ≡ g
@@ -49,6 +52,18 @@ pub the_rest_has_the_later_frames : (place : ℕ) (chars : List Character) (fram
     → AreFrames (drop place chars) 0 frames ↔ AreFrames chars place (map (moved place) frames)
 the_rest_has_the_later_frames place chars frames =
     (rest_frames frames_are_unambiguous-one_list place chars frames, rest_only frames_are_unambiguous-one_list place chars frames)
+
+pub frames_are_streamed-all : (past : List Character) (given : List Found) → IsWholeHistory past given → AreFrames past 0 given
+frames_are_streamed-all = history_all
+
+pub frames_are_streamed-pushed : (past : List Character) (scan : Scan) (given : List Found) → IsHistory past scan given
+    → scan.first + length scan.held ≡ length past
+frames_are_streamed-pushed = history_length
+
+pub held_characters_have_the_later_frames-later : (past more : List Character) (scan : Scan) (given later : List Found)
+    → IsHistory past scan given → (IsTrue scan.finished → more ≡ []) → AreFrames (drop scan.first past ++ more) 0 later
+    → AreFrames (past ++ more) 0 (given ++ map (moved scan.first) later)
+held_characters_have_the_later_frames-later = history_rest frames_are_unambiguous-one_list
 
 pub messages_have_their_frame_alone-message : (frame : FrameParts) (preambles : ℕ) (bytes : List ℕ) → 2 ≤ preambles
     → IsMessage frame preambles bytes

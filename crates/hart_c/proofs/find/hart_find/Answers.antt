@@ -2,7 +2,7 @@ use Rattle.std.proofs.Common.{◌∙◌, [], arith, ap, map, refl, subst, sym}
 use Rattle.std.proofs.lemmas.List.{length-map, length-take}
 use Rattle.hart_frame.specs.scan.Scanner.{Scan}
 use Rattle.hart_frame.specs.scan.Streamed.{IsHistory, begin}
-use Rattle.hart_frame.proofs.lemmas.scan.Stream.{history_length}
+use Rattle.hart_frame.proofs.lemmas.Laws.{frames_are_streamed-pushed}
 use Rattle.hart_c.specs.Find.{char_of}
 use Rattle.hart_c.proofs.Found.{history_one, untouched_on}
 use Rattle.hart_c.proofs.find.hart_find.Goals as goal
@@ -25,7 +25,7 @@ push-requires-clause-room c =
     let loop = c.loop-taken.invariant in
     let n = c.loop-taken.taken in
     let chars = map char_of c.args.heard.now in
-    let held = history_length _ c.loop-taken.scanner _ loop.history in
+    let held = frames_are_streamed-pushed _ c.loop-taken.scanner _ loop.history in
     omega (
       arith,
       held,

@@ -4,7 +4,7 @@ use Rattle.hart_frame.specs.heard.Character.{faultless}
 use Rattle.hart_frame.specs.scan.Scanner.{Scan}
 use Rattle.hart_frame.specs.scan.Streamed.{IsHistory, begin}
 use Rattle.hart_c.proofs.Found.{bytes_length, history_more, untouched_on}
-use Rattle.hart_frame.proofs.lemmas.scan.Stream.{history_length}
+use Rattle.hart_frame.proofs.lemmas.Laws.{frames_are_streamed-pushed}
 use Rattle.hart_c.proofs.find.hart_find_in_bytes.Goals.{then-loop-taken-test+else-count-frames, else-loop-taken-test}
 use Rattle.hart_c.proofs.find.hart_find_in_bytes.Goals as goal
 
@@ -26,7 +26,7 @@ push_bytes-taken-requires-clause-room c =
     let run = c.args.bytes.now in
     let n = c.loop-taken.taken in
     let long = ap length (take_rest run n) ∙ length-drop n run in
-    let held = history_length _ c.loop-taken.scanner _ loop.history in
+    let held = frames_are_streamed-pushed _ c.loop-taken.scanner _ loop.history in
     let taken = length-take n (faultless run) in
     omega (arith, long, held, taken, bytes_length run, loop.within, c.type_inv.bytes)
 

@@ -3,19 +3,15 @@ use Rattle.hart_frame.specs.heard.Character.{Character}
 use Rattle.hart_frame.specs.heard.Frames.{AreFrames}
 use Rattle.hart_frame.specs.scan.Scanner.{Scan}
 use Rattle.hart_frame.specs.scan.Streamed.{IsHistory, finish}
-use Rattle.hart_frame.proofs.lemmas.Laws.{frames_are_unambiguous-one_list}
-use Rattle.hart_frame.proofs.lemmas.scan.Stream.{history_all, history_length, history_rest}
+use Rattle.hart_frame.proofs.lemmas.Laws.{frames_are_streamed-all}
 use Rattle.hart_c.specs.Frames.{found_in_first}
-use Rattle.hart_c.proofs.Found.{RestGoesOn, finds_all, finds_more, frames_of_none, not_fewer, take_all, untouched_on}
+use Rattle.hart_c.proofs.Found.{finds_all, finds_more, not_fewer, take_all, untouched_on}
 use Rattle.hart_c.proofs.find.settle.Goals as goal
-
-rest : RestGoesOn
-rest = history_rest frames_are_unambiguous-one_list
 
 pub returns-then-not-ended : goal.returns-then-not-ended
 returns-then-not-ended c = λ n chars before len searched.
     let step = c.step.ensures in
-    finds_more rest history_length n c.args.count chars c.args.ended before c.args.frames.now c.args.scanner.now c.step.result
+    finds_more n c.args.count chars c.args.ended before c.args.frames.now c.args.scanner.now c.step.result
     step.used step.count step.fault searched.within searched.room searched.untouched searched.tidy (inl searched.going)
     searched.history step.few
     (λ fewer. (searched.whole fewer, c.if-not-ended.true))
@@ -23,7 +19,7 @@ returns-then-not-ended c = λ n chars before len searched.
 pub returns-then-count-frames : goal.returns-then-count-frames
 returns-then-count-frames c = λ n chars before len searched.
     let step = c.step-then-count-frames.ensures in
-    finds_more rest history_length n c.args.count chars c.args.ended before c.args.frames.now c.args.scanner.now
+    finds_more n c.args.count chars c.args.ended before c.args.frames.now c.args.scanner.now
     c.step-then-count-frames.result
     step.used step.count step.fault searched.within searched.room searched.untouched searched.tidy (inl searched.going)
     searched.history step.few
@@ -36,7 +32,7 @@ returns-then-count-frames-2 c = λ n chars before len searched.
     let whole = searched.whole (omega (arith, searched.room, c.if-count-frames.false)) in
     let finished = subst (λ (scan : Scan). IsHistory (take n chars) scan (found_in_first c.args.count c.args.frames.now))
     (sym c.finish.ensures) (finish (take n chars) c.args.scanner.now (found_in_first c.args.count c.args.frames.now) searched.history) in
-    finds_more rest history_length n c.fill-count.result chars c.args.ended before c.fill-count.new.frames c.fill-count.new.scanner
+    finds_more n c.fill-count.result chars c.args.ended before c.fill-count.new.frames c.fill-count.new.scanner
     c.step-then-count-frames-2.result step.used step.count step.fault searched.within fill.within
     (fill.untouched ∙ untouched_on c.args.count c.fill-count.result c.args.frames.now before fill.onward searched.untouched)
     (fill.tidy searched.tidy) (inr (c.if-not-ended.false, whole))
@@ -51,9 +47,9 @@ returns c = λ n chars before len searched.
     (sym c.finish.ensures) (finish (take n chars) c.args.scanner.now (found_in_first c.args.count c.args.frames.now) searched.history) in
     let fewer : c.fill-count.result < length c.fill-count.new.frames = omega (arith, fill.within, c.if-count-frames-2.false) in
     let chars_are = take_all n chars whole in
-    let frames = history_all (take n chars) _
+    let frames = frames_are_streamed-all (take n chars) _
     (fill.all (take n chars) finished fewer (ap (λ (scan : Scan). scan.finished) c.finish.ensures)) in
-    finds_all frames_of_none n c.fill-count.result chars c.args.ended before c.fill-count.new.frames _ len refl refl whole fill.within
+    finds_all n c.fill-count.result chars c.args.ended before c.fill-count.new.frames _ len refl refl whole fill.within
     (fill.untouched ∙ untouched_on c.args.count c.fill-count.result c.args.frames.now before fill.onward searched.untouched)
     (fill.tidy searched.tidy)
     (subst (λ (cs : List Character). AreFrames cs 0 (found_in_first c.fill-count.result c.fill-count.new.frames)) chars_are frames)
