@@ -18,7 +18,7 @@ use Rattle.hart_frame.proofs.lemmas.heard.Message.{AreFrames-message, AreFrames-
 use Rattle.hart_frame.proofs.lemmas.heard.Rest.{rest_frames, rest_only}
 use Rattle.hart_frame.proofs.lemmas.heard.Start.{IsFirstStart-one, first_start_decided}
 use Rattle.hart_frame.proofs.lemmas.heard.UnambiguousFrames.{AreFrames-one, IsFirst-one}
-use Rattle.hart_frame.proofs.lemmas.scan.Stream.{history_all, history_length, history_rest}
+use Rattle.hart_frame.proofs.lemmas.scan.Stream.{history_all, history_held, history_length, history_rest}
 use Rattle.hart_frame.proofs.lemmas.wire.UnambiguousBodies.{BeginsWithBody-one, IsBody-one, same_bodies}
 
 pub bodies_are_unambiguous-one_frame : (f g : FrameParts) (bytes : List ℕ) → IsBody f bytes → IsBody g bytes → f ≡ g
@@ -59,6 +59,10 @@ frames_are_streamed-all = history_all
 pub frames_are_streamed-pushed : (past : List Character) (scan : Scan) (given : List Found) → IsHistory past scan given
     → scan.first + length scan.held ≡ length past
 frames_are_streamed-pushed = history_length
+
+pub held_characters_have_the_later_frames-held : (past : List Character) (scan : Scan) (given : List Found) → IsHistory past scan given
+    → drop scan.first past ≡ scan.held
+held_characters_have_the_later_frames-held = history_held
 
 pub held_characters_have_the_later_frames-later : (past more : List Character) (scan : Scan) (given later : List Found)
     → IsHistory past scan given → (IsTrue scan.finished → more ≡ []) → AreFrames (drop scan.first past ++ more) 0 later
