@@ -6,12 +6,13 @@ use Rattle.std.proofs.lemmas.List.{append-nil, drop-append-le, drop-drop, length
 use Rattle.std.proofs.lemmas.List.{take-map, take_more}
 use Rattle.std.proofs.Math.Seq.{drop-length, take-add, take-length}
 use Rattle.hart_frame.specs.heard.Character.{Character, faultless}
-use Rattle.hart_frame.specs.heard.Frames.{AreFrames, moved}
+use Rattle.hart_frame.specs.heard.Frames.{AreFrames, IsUndecided, moved, none}
 use Rattle.hart_frame.specs.scan.Scanner.{MovesPast, Scan, hearing}
 use Rattle.hart_frame.specs.scan.Streamed.{IsHistory, push, push_bytes}
 use Rattle.hart_frame.specs.declared.heard.found.Found.{Found}
 use Rattle.hart_frame.proofs.lemmas.Laws.{frames_are_streamed-pushed, frames_are_unambiguous-one_list}
-use Rattle.hart_frame.proofs.lemmas.Laws.{held_characters_have_the_later_frames-later, messages_have_their_frame_alone-nothing}
+use Rattle.hart_frame.proofs.lemmas.Laws.{held_characters_have_the_later_frames-held, held_characters_have_the_later_frames-later}
+use Rattle.hart_frame.proofs.lemmas.Laws.{messages_have_their_frame_alone-nothing}
 use Rattle.hart_c.specs.declared.find.HartChar.{HartChar}
 use Rattle.hart_c.specs.declared.find.HartSearch.{HartSearch}
 use Rattle.hart_c.specs.declared.frame.HartFrame.{HartFrame}
@@ -96,7 +97,7 @@ pub finds_more : (n count : ℕ) (chars : List Character) (ended : Bool) (before
     (scan : Scan) (search : HartSearch) → search.used ≡ scan.first → search.count ≡ count → search.fault ≡ 0 → n ≤ length chars
     → count ≤ length after → drop count after ≡ drop count before → All IsTidy (take count after) → GoesOn n chars ended scan
     → IsHistory (take n chars) scan (found_in_first count after) → length scan.held ≤ 269
-    → (count < length after → (n ≡ length chars) × (ended ≡ false)) → Finds chars ended before after search
+    → (count < length after → (n ≡ length chars) × (ended ≡ false) × IsUndecided scan.held) → Finds chars ended before after search
 finds_more n count chars ended before after scan search used_is count_is fault fits room untouched tidy goes history few waits =
     let all_held = frames_are_streamed-pushed (take n chars) scan (found_in_first count after) history in
     let taken = length-take n chars in
@@ -112,6 +113,12 @@ finds_more n count chars ended before after scan search used_is count_is fault f
       used = omega (arith, used_is, all_held, taken, fits);
       are_next = subst From (sym used_is) (subst Next (sym count_is) next);
       fault = fault;
+      undecided = λ fewer going.
+          let whole = waits (omega (arith, count_is, fewer)) in
+          let past_is : take n chars ≡ chars = ap (λ (i : ℕ). take i chars) whole.0 ∙ take-length chars in
+          let held = held_characters_have_the_later_frames-held (take n chars) scan (found_in_first count after) history in
+          let rest = ap (λ (place : ℕ). drop place chars) used_is ∙ ap (λ (cs : List Character). drop scan.first cs) (sym past_is) ∙ held in
+          subst IsUndecided (sym rest) whole.2;
       few = λ fewer.
           let whole = waits (omega (arith, count_is, fewer)) in
           omega (arith, used_is, all_held, taken, few, whole.0);
@@ -147,6 +154,7 @@ finds_all n count chars ended before after search used_is count_is fault whole r
           subst (λ (cs : List Character). AreFrames cs 0 (given ++ map (moved search.used) later)) chars_is
           (subst (λ (fs : List Found). AreFrames chars 0 fs) frames_are (subst Frames (sym count_is) frames));
       fault = fault;
+      undecided = λ fewer going. absurd (false≢true (sym going ∙ ends));
       few = λ fewer. omega (arith, used_is);
       all = λ fewer closed. used_is;
     }
@@ -158,3 +166,11 @@ bytes_length run = length-map run of_byte
 -- so many of all are all
 pub take_all : (n : ℕ) (chars : List Character) → n ≡ length chars → take n chars ≡ chars
 take_all n chars whole = ap (λ (i : ℕ). take i chars) whole ∙ take-length chars
+
+-- of nothing there is no frame, so nothing is decided
+no_frame : AreFrames [] 0 [] → IsUndecided []
+no_frame (none from nothing) = inl nothing
+
+-- in nothing nothing is decided
+pub nothing_undecided : IsUndecided []
+nothing_undecided = no_frame messages_have_their_frame_alone-nothing

@@ -2,7 +2,7 @@
 use Rattle.std.specs.Prelude.{◌≡◌, ◌+◌, ◌<◌, ◌≤◌, ◌⊎◌, ℕ, Bool, IsTrue, false, List, [], ◌++◌, drop, length, map, take}
 use Rattle.std.specs.List.{All}
 use Rattle.hart_frame.specs.heard.Character.{AreFaultBits, Character}
-use Rattle.hart_frame.specs.heard.Frames.{AreFrames, moved}
+use Rattle.hart_frame.specs.heard.Frames.{AreFrames, IsUndecided, moved}
 use Rattle.hart_frame.specs.scan.Scanner.{Scan}
 use Rattle.hart_frame.specs.scan.Streamed.{IsHistory}
 use Rattle.hart_frame.specs.declared.heard.found.Found.{Found}
@@ -18,7 +18,7 @@ AreNext chars ended given used = (more : List Character) (later : List Found) �
     → AreFrames (drop used chars ++ more) 0 later → AreFrames (chars ++ more) 0 (given ++ map (moved used) later)
 
 -- A search shows the next frames, and says how many characters are used up. What it does not need to show stays as it was. If there was
--- room for more frames, few characters are left, and none if it ended.
+-- room for more frames, few characters are left, and none if it ended; and otherwise nothing is decided in what is left.
 pub record Finds (chars : List Character) (ended : Bool) (before after : List HartFrame) (search : HartSearch) : Type 0 where
   pub within : search.count ≤ length after
   pub untouched : drop search.count after ≡ drop search.count before
@@ -27,6 +27,7 @@ pub record Finds (chars : List Character) (ended : Bool) (before after : List Ha
   pub are_next : AreNext chars ended (found_in_first search.count after) search.used
   pub few : search.count < length after → length chars ≤ search.used + 269
   pub all : search.count < length after → IsTrue ended → search.used ≡ length chars
+  pub undecided : search.count < length after → ended ≡ false → IsUndecided (drop search.used chars)
   pub fault : search.fault ≡ 0
 
 -- The character that was passed.
@@ -41,7 +42,7 @@ SearchOutcome heard ended before after search =
     ⊎ ((All (λ given. AreFaultBits given.faults) heard → ⊥) × (search ≡ record { used = 0; count = 0; fault = 13 }) × (after ≡ before))
 
 -- For private calls alone: so many characters were searched by a scanner that goes on, and so many frames that it gave are shown. If there
--- is room for more, it waits, and all were searched.
+-- is room for more, all were searched, and nothing is decided in what the scanner holds.
 pub record IsSearched (n : ℕ) (chars : List Character) (before after : List HartFrame) (count : ℕ) (scan : Scan) : Type 0 where
   pub within : n ≤ length chars
   pub room : count ≤ length after
@@ -50,3 +51,4 @@ pub record IsSearched (n : ℕ) (chars : List Character) (before after : List Ha
   pub going : scan.finished ≡ false
   pub history : IsHistory (take n chars) scan (found_in_first count after)
   pub whole : count < length after → n ≡ length chars
+  pub undecided : count < length after → IsUndecided scan.held

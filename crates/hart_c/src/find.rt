@@ -1,6 +1,7 @@
 //! The frames of what was heard, some at a time.
 ghost use Rattle.std.specs.Prelude.{◌≡◌, ◌↔◌, ◌<◌, ◌≤◌, ℕ, false, true, List, IsTrue, All, drop, length, take};
 ghost use Rattle.hart_frame.specs.heard.Character.{AreFaultBits, Character, faultless};
+ghost use Rattle.hart_frame.specs.heard.Frames.{IsUndecided};
 ghost use Rattle.hart_frame.specs.scan.Streamed.{IsHistory, IsWholeHistory};
 ghost use Rattle.hart_frame.specs.scan.Scanner.{Gives, GivesNothing};
 ghost use Rattle.hart_c.specs.Find.{Finds, IsSearched, SearchOutcome, char_of};
@@ -154,6 +155,7 @@ fn fill(scanner: &mut Scanner, frames: &mut [HartFrame], count: usize) -> usize
     ensures all { (past : List Character) → IsHistory past scanner.old (found_in_first count frames.old)
         → result < length frames.new → scanner.old.finished ≡ true → IsWholeHistory past (found_in_first result frames.new) }
     ensures waits { result < length frames.new → scanner.old.finished ≡ false → IsTrue scanner.new.drained }
+    ensures undecided { result < length frames.new → scanner.old.finished ≡ false → IsUndecided scanner.new.held }
     ensures going { scanner.old.finished ≡ false → scanner.new.finished ≡ false }
 {
     let mut count = count;

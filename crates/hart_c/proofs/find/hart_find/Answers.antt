@@ -1,10 +1,12 @@
-use Rattle.std.proofs.Common.{◌∙◌, [], arith, ap, map, refl, subst, sym}
+use Rattle.std.proofs.Common.{◌∙◌, [], arith, ap, length, map, refl, subst, sym, ◌<◌, ◌≡◌, inl}
 use Rattle.std.proofs.lemmas.List.{length-map, length-take}
+use Rattle.hart_frame.specs.heard.Frames.{IsUndecided}
 use Rattle.hart_frame.specs.scan.Scanner.{Scan}
 use Rattle.hart_frame.specs.scan.Streamed.{IsHistory, begin}
 use Rattle.hart_frame.proofs.lemmas.Laws.{frames_are_streamed-pushed}
 use Rattle.hart_c.specs.Find.{char_of}
-use Rattle.hart_c.proofs.Found.{history_one, untouched_on}
+use Rattle.hart_c.proofs.Found.{history_one, nothing_undecided, untouched_on}
+use Rattle.hart_c.proofs.find.hart_find.Goals.{then-loop-taken-test+else-count-frames, else-loop-taken-test}
 use Rattle.hart_c.proofs.find.hart_find.Goals as goal
 
 pub loop-taken-init : goal.loop-taken-init
@@ -16,6 +18,7 @@ loop-taken-init c = record {
   tidy = λ k d none. absurd (omega (arith, none));
   going = ap (λ (scan : Scan). scan.finished) c.new-scanner.ensures;
   drained = λ _. ap (λ (scan : Scan). scan.drained) c.new-scanner.ensures;
+  undecided = λ _. subst (λ (scan : Scan). IsUndecided scan.held) (sym c.new-scanner.ensures) nothing_undecided;
   bits = c.have_fault_bits.ensures.0 c.if-not-have_fault_bits.false;
   history = subst (λ (scan : Scan). IsHistory [] scan []) (sym c.new-scanner.ensures) begin;
 }
@@ -52,6 +55,31 @@ loop-taken-preserved c =
       tidy = fill.tidy loop.tidy;
       going = fill.going going;
       drained = λ fewer. fill.waits fewer going;
+      undecided = λ fewer. fill.undecided fewer going;
       bits = loop.bits;
       history = fill.so_far _ history (λ _. going);
     }
+
+pub returns : goal.returns
+returns c =
+    let loop = c.loop-taken.invariant in
+    let heard = c.args.heard.now in
+    let n = c.loop-taken.taken in
+    let all = length-map heard char_of in
+    let whole : c.loop-taken.count < length c.loop-taken.frames → n ≡ length (map char_of heard) = elim c.loop-taken-test.branch [
+      | then-loop-taken-test+else-count-frames w ↦ λ fewer. absurd (omega (arith, w.if-count-frames.false, fewer))
+      | else-loop-taken-test w ↦ λ _. omega (arith, w.loop-taken-test.false, loop.within, all)
+    ] in
+    inl (
+      loop.bits,
+      c.settle.ensures n (map char_of heard) c.args.frames.now (sym all) (record {
+        within = omega (arith, loop.within, all);
+        room = loop.room;
+        untouched = loop.untouched;
+        tidy = loop.tidy;
+        going = loop.going;
+        history = loop.history;
+        whole = whole;
+        undecided = loop.undecided;
+      }),
+    )

@@ -1,9 +1,10 @@
 use Rattle.std.proofs.Common.{◌-◌, ◌∙◌, ◌<◌, ◌≡◌, [], refl, arith, ap, drop, length, subst, sym, take}
 use Rattle.std.proofs.lemmas.List.{length-drop, length-take, take_rest}
 use Rattle.hart_frame.specs.heard.Character.{faultless}
+use Rattle.hart_frame.specs.heard.Frames.{IsUndecided}
 use Rattle.hart_frame.specs.scan.Scanner.{Scan}
 use Rattle.hart_frame.specs.scan.Streamed.{IsHistory, begin}
-use Rattle.hart_c.proofs.Found.{bytes_length, history_more, untouched_on}
+use Rattle.hart_c.proofs.Found.{bytes_length, history_more, nothing_undecided, untouched_on}
 use Rattle.hart_frame.proofs.lemmas.Laws.{frames_are_streamed-pushed}
 use Rattle.hart_c.proofs.find.hart_find_in_bytes.Goals.{then-loop-taken-test+else-count-frames, else-loop-taken-test}
 use Rattle.hart_c.proofs.find.hart_find_in_bytes.Goals as goal
@@ -17,6 +18,7 @@ loop-taken-init c = record {
   tidy = λ k d none. absurd (omega (arith, none));
   going = ap (λ (scan : Scan). scan.finished) c.new-scanner.ensures;
   drained = λ _. ap (λ (scan : Scan). scan.drained) c.new-scanner.ensures;
+  undecided = λ _. subst (λ (scan : Scan). IsUndecided scan.held) (sym c.new-scanner.ensures) nothing_undecided;
   history = subst (λ (scan : Scan). IsHistory [] scan []) (sym c.new-scanner.ensures) begin;
 }
 
@@ -51,6 +53,7 @@ loop-taken-preserved c =
       tidy = fill.tidy loop.tidy;
       going = fill.going going;
       drained = λ fewer. fill.waits fewer going;
+      undecided = λ fewer. fill.undecided fewer going;
       history = fill.so_far _ history (λ _. going);
     }
 
@@ -72,4 +75,5 @@ returns c =
       going = loop.going;
       history = loop.history;
       whole = whole;
+      undecided = loop.undecided;
     })

@@ -1,5 +1,6 @@
 use Rattle.std.proofs.Common.{◌≡◌, ◌<◌, ◌≤◌, ◌-◌, false, IsTrue, All, drop, length, take}
 use Rattle.hart_frame.specs.heard.Character.{faultless}
+use Rattle.hart_frame.specs.heard.Frames.{IsUndecided}
 use Rattle.hart_frame.specs.scan.Streamed.{IsHistory}
 use Rattle.hart_c.specs.Frames.{IsTidy, found_in_first}
 use Rattle.hart_c.proofs.find.hart_find_in_bytes.Given as goal
@@ -13,6 +14,7 @@ invariant-loop-taken l = record {
   tidy : All IsTidy (take l.count l.frames);
   going : l.scanner.finished ≡ false;
   drained : l.count < length l.frames → IsTrue l.scanner.drained;
+  undecided : l.count < length l.frames → IsUndecided l.scanner.held;
   history : IsHistory (take l.taken (faultless l.bytes)) l.scanner (found_in_first l.count l.frames);
 }
 

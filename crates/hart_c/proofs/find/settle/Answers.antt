@@ -14,7 +14,7 @@ returns-then-not-ended c = λ n chars before len searched.
     finds_more n c.args.count chars c.args.ended before c.args.frames.now c.args.scanner.now c.step.result
     step.used step.count step.fault searched.within searched.room searched.untouched searched.tidy (inl searched.going)
     searched.history step.few
-    (λ fewer. (searched.whole fewer, c.if-not-ended.true))
+    (λ fewer. (searched.whole fewer, c.if-not-ended.true, searched.undecided fewer))
 
 pub returns-then-count-frames : goal.returns-then-count-frames
 returns-then-count-frames c = λ n chars before len searched.
