@@ -1,6 +1,9 @@
 -- `hart explain`.
 pub mod Heard
 pub mod Words
+pub mod Values
+pub mod Fields
+pub mod Data
 pub mod Status
 pub mod Message
 pub mod Misses

@@ -19,11 +19,14 @@ use crate::text::pairs::Pairs;
 use hart_frame::{Char, Found, first_frame};
 use std::alloc::Global;
 
+mod data;
+mod fields;
 mod heard;
 mod kept;
 mod message;
 mod misses;
 mod status;
+mod values;
 mod words;
 
 /// Reads what was heard on a line as hex items, and writes in words what each message in it says, and why no message stands where

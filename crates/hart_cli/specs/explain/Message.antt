@@ -2,11 +2,11 @@
 use Rattle.std.specs.Prelude.{◌++◌, [], ◌∷◌, ℕ, Bool, false, true, List, Option, None, Some, codes, decimal}
 use Rattle.hart_frame.specs.declared.heard.found.Found.{Found}
 use Rattle.hart_commands.specs.Fields.{command_name}
-use Rattle.hart_cli.specs.text.HexText.{hex_items}
 use Rattle.hart_frame.specs.declared.wire.kind.FrameKind.{FrameKind}
 use Rattle.hart_frame.specs.declared.wire.kind.FrameKind.TheVariants.{Stx, Ack}
+use Rattle.hart_cli.specs.explain.Data.{reply_lines, request_lines}
 use Rattle.hart_cli.specs.explain.Status.{status_lines}
-use Rattle.hart_cli.specs.explain.Words.{said_line, who_words}
+use Rattle.hart_cli.specs.explain.Words.{bytes_line, said_line, who_words}
 
 -- A name follows a comma and a space; without a name nothing does.
 abbrev pub name_words : Option (List ℕ) → List ℕ
@@ -29,19 +29,14 @@ abbrev pub burst_line : Bool → List ℕ
 burst_line false = []
 burst_line true = said_line (codes "burst bit") (codes "set")
 
--- Bytes have a line under their name, if there are any.
-abbrev pub bytes_line : List ℕ → List ℕ → List ℕ
-bytes_line name [] = []
-bytes_line name (byte ∷ bytes) = said_line name (hex_items (byte ∷ bytes))
-
 -- The payload of an STX is its data; that of an ACK has its two status bytes, and then its data.
-abbrev pub payload_lines : FrameKind → List ℕ → List ℕ
-payload_lines Stx payload = bytes_line (codes "data") payload
-payload_lines Ack (first ∷ second ∷ bytes) = status_lines first second ++ bytes_line (codes "data") bytes
-payload_lines Ack _ = []
+abbrev pub payload_lines : FrameKind → ℕ → List ℕ → List ℕ
+payload_lines Stx command payload = request_lines command payload
+payload_lines Ack command (first ∷ second ∷ bytes) = status_lines first second ++ reply_lines command (first ∷ second ∷ bytes)
+payload_lines Ack command _ = []
 
 -- The paragraph of a message is its line, and then those of what it says: the burst bit, the expansion bytes, and the payload.
 unfoldable pub paragraph : Found → List ℕ
 paragraph found =
     message_line found ++ burst_line found.frame.burst ++ bytes_line (codes "expansion bytes") found.frame.expansion
-    ++ payload_lines found.frame.kind found.frame.payload
+    ++ payload_lines found.frame.kind found.frame.command found.frame.payload

@@ -7,10 +7,16 @@ use Rattle.hart_values.specs.declared.master_id.MasterId.TheVariants.{Primary, S
 use Rattle.hart_frame.specs.declared.wire.kind.FrameKind.{FrameKind}
 use Rattle.hart_frame.specs.declared.wire.kind.FrameKind.TheVariants.{Stx, Ack}
 use Rattle.hart_cli.specs.text.DeviceDigits.{device_digits}
+use Rattle.hart_cli.specs.text.HexText.{hex_items}
 
 -- A line of what a message says has four spaces, a name, a colon, a space, a value and a line feed.
 abbrev pub said_line : List ℕ → List ℕ → List ℕ
 said_line name value = codes "    " ++ name ++ codes ": " ++ value ++ 10 ∷ []
+
+-- Bytes have a line under their name, if there are any.
+abbrev pub bytes_line : List ℕ → List ℕ → List ℕ
+bytes_line name [] = []
+bytes_line name (byte ∷ bytes) = said_line name (hex_items (byte ∷ bytes))
 
 -- The words of a master.
 abbrev pub master_words : MasterId → List ℕ

@@ -10,7 +10,7 @@ use hart_values::ByteList;
 const KEPT_LEN: usize = 32_768;
 
 /// The most bytes of a paragraph, or of a line of a miss.
-const PIECE_LEN: usize = 1_600;
+const PIECE_LEN: usize = 8_192;
 
 /// Text that is not yet written.
 pub type Kept = ByteList<KEPT_LEN>;
@@ -22,7 +22,7 @@ pub type Kept = ByteList<KEPT_LEN>;
 /// `Failed` if a write fails.
 pub fn make_room<W: Sink>(writer: &mut W, kept: &mut Kept) -> Result<(), Failed>
     ensures tells { Tells (W.stream writer.old) (W.stream writer.new) kept.old kept.new [] result }
-    ensures room { OnOk result (length kept.new + 1600 ≤ 32768) }
+    ensures room { OnOk result (length kept.new + 8192 ≤ 32768) }
 {
     if kept.len() > KEPT_LEN - PIECE_LEN {
         write_all(writer, kept.as_slice())?;

@@ -1,52 +1,52 @@
 //! What is said of a message.
-ghost use Rattle.std.specs.Prelude.{◌≡◌, ◌++◌, ◌+◌, ◌*◌, ◌≤◌, length};
+ghost use Rattle.std.specs.Prelude.{◌≡◌, ◌++◌, ◌+◌, ◌≤◌, length};
 ghost use Rattle.hart_frame.specs.declared.wire.kind.FrameKind.TheVariants.{Ack};
-ghost use Rattle.hart_cli.specs.explain.Message.{burst_line, bytes_line, command_words, message_line, paragraph, payload_lines};
+ghost use Rattle.hart_cli.specs.explain.Message.{burst_line, command_words, message_line, paragraph, payload_lines};
 
+use crate::explain::data::{push_reply_data, push_request_data};
 use crate::explain::kept::Kept;
 use crate::explain::status::push_status;
-use crate::explain::words::{push_said, push_said_bytes, push_who};
+use crate::explain::words::{push_bytes_line, push_said, push_who};
 use crate::text::pairs::Pairs;
 use crate::text::words::push_text;
 use hart_commands::command_name;
-use hart_frame::{Found, FrameKind};
+use hart_frame::{Found, Frame, FrameKind};
 use itoa::Buffer;
 
 /// Adds the paragraph of a message.
 #[tactic(auto, unfolding(crate::specs::explain::Message::paragraph))]
 pub fn push_paragraph(text: &mut Kept, pairs: &Pairs, found: &Found)
-    requires { length text.old + 1600 ≤ 32768 }
+    requires { length text.old + 8192 ≤ 32768 }
     ensures { text.new ≡ text.old ++ paragraph found.now }
 {
     push_message_line(text, pairs, found);
     push_burst_line(text, found.frame.burst());
     push_bytes_line(text, pairs, "expansion bytes", found.frame.expansion());
-    push_payload(text, pairs, found.frame.kind(), found.frame.payload());
+    push_payload(text, pairs, &found.frame);
 }
 
 /// Adds what the payload of a message says.
-fn push_payload(text: &mut Kept, pairs: &Pairs, kind: FrameKind, payload: &[u8])
-    requires room { length text.old + 1300 ≤ 32768 }
-    requires few { length payload.now ≤ 255 }
-    ensures lines { text.new ≡ text.old ++ payload_lines kind payload.now }
+fn push_payload(text: &mut Kept, pairs: &Pairs, frame: &Frame)
+    requires { length text.old + 6000 ≤ 32768 }
+    ensures { text.new ≡ text.old ++ payload_lines frame.now.kind frame.now.command frame.now.payload }
 {
-    match kind {
-        FrameKind::Stx => push_bytes_line(text, pairs, "data", payload),
-        FrameKind::Ack => push_reply(text, pairs, payload),
+    match frame.kind() {
+        FrameKind::Stx => push_request_data(text, pairs, frame.command(), frame.payload()),
+        FrameKind::Ack => push_reply(text, pairs, frame.command(), frame.payload()),
     }
 }
 
 /// Adds what the payload of a reply says.
-fn push_reply(text: &mut Kept, pairs: &Pairs, payload: &[u8])
-    requires room { length text.old + 1300 ≤ 32768 }
+fn push_reply(text: &mut Kept, pairs: &Pairs, command: u8, payload: &[u8])
+    requires room { length text.old + 6000 ≤ 32768 }
     requires few { length payload.now ≤ 255 }
-    ensures lines { text.new ≡ text.old ++ payload_lines Ack payload.now }
+    ensures lines { text.new ≡ text.old ++ payload_lines Ack command payload.now }
 {
-    let [first, second, bytes @ ..] = payload else {
+    let [first, second, ..] = payload else {
         return;
     };
     push_status(text, *first, *second);
-    push_bytes_line(text, pairs, "data", bytes);
+    push_reply_data(text, pairs, command, payload);
 }
 
 /// Adds the line of a message.
@@ -88,16 +88,5 @@ fn push_burst_line(text: &mut Kept, burst: bool)
 {
     if burst {
         push_said(text, "burst bit", "set");
-    }
-}
-
-/// Adds the line of bytes, if there are any.
-fn push_bytes_line(text: &mut Kept, pairs: &Pairs, name: &str, bytes: &[u8])
-    requires { length text.old + length name.now + 3 * length bytes.now + 7 ≤ 32768 }
-    ensures line { text.new ≡ text.old ++ bytes_line name.now bytes.now }
-    ensures few { length text.new ≤ length text.old + length name.now + 3 * length bytes.now + 7 }
-{
-    if !bytes.is_empty() {
-        push_said_bytes(text, pairs, name, bytes);
     }
 }

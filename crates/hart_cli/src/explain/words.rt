@@ -1,6 +1,6 @@
 //! Who speaks to whom, and the lines of what a message says.
 ghost use Rattle.std.specs.Prelude.{◌≡◌, ◌++◌, ◌+◌, ◌*◌, ◌≤◌, codes, length};
-ghost use Rattle.hart_cli.specs.explain.Words.{device_words, master_words, said_line, who_words};
+ghost use Rattle.hart_cli.specs.explain.Words.{bytes_line, device_words, master_words, said_line, who_words};
 ghost use Rattle.hart_cli.specs.text.HexText.{hex_items};
 
 use crate::explain::kept::Kept;
@@ -88,6 +88,17 @@ pub fn push_said_bytes(text: &mut Kept, pairs: &Pairs, name: &str, bytes: &[u8])
     push_name(text, name);
     push_hex_items(text, pairs, bytes);
     text.push(b'\n');
+}
+
+/// Adds the line of bytes, if there are any.
+pub fn push_bytes_line(text: &mut Kept, pairs: &Pairs, name: &str, bytes: &[u8])
+    requires { length text.old + length name.now + 3 * length bytes.now + 7 ≤ 32768 }
+    ensures line { text.new ≡ text.old ++ bytes_line name.now bytes.now }
+    ensures few { length text.new ≤ length text.old + length name.now + 3 * length bytes.now + 7 }
+{
+    if !bytes.is_empty() {
+        push_said_bytes(text, pairs, name, bytes);
+    }
 }
 
 /// Adds the beginning of a line of what a message says, with its name.

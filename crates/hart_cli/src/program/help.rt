@@ -133,7 +133,14 @@ line for each thing that the message says:
   response code and device status, or communication faults
                     of a reply: what its two status bytes say, by names, or
                     none if no bit with a name is set
-  data              if there are any, in hex
+  fields            of the data that the command takes, each by its name:
+                    numbers in decimal, texts in double quotes, dates, and
+                    everything else, floats among it, as bytes in hex
+  ignored           what comes after those, in hex; all data of a reply with
+                    another response code than 0, or with faults
+  data              of a command that hart does not know, or too few, in hex
+and if the data do not fit the command: too few data; refused, with the response
+code that refuses them and why; data that are no reply.
 For each place at which a message seems to start and none stands, a line with
 that place and why. A message seems to start after two preamble bytes FF that
 came whole; of a whole message after one FF alone it says so.
@@ -144,7 +151,12 @@ fails, what comes before is explained, and standard error says why: bad hex at
 N, a place in the text of the input, counted from 0; input too long; read
 fault.",
     example: "\
-Example:
+Examples:
+  echo \"FF FF 82 B7 42 0A 1B 2C 13 03 01 23 45 3D\" | hart explain
+writes
+  2-14: request of the primary master to device 37420A1B2C, Command 19, write final assembly number
+      final assembly number: 01 23 45
+and with a byte changed in the second of two messages,
   echo \"FF FF 02 80 00 00 82 FF FF 02 80 00 00 83\" | hart explain
 writes
   2-7: request of the primary master to the device at polling address 0, Command 0, read unique identifier

@@ -94,12 +94,18 @@ type Row<'a> = (&'a str, &'a str, &'a str);
 /// The most bytes that a read gives. Those from 4 to 8 cut the second item of `FF FF!40` after each of its bytes.
 const PORTIONS: &[usize] = &[1, 2, 3, 4, 5, 6, 7, 8, 100];
 
-/// Runs a subcommand without words of its own on the input of each row, read in portions of each size. At no fault the last read
-/// is the one that finds the end.
-fn check_rows(rt: &impl Abort, alloc: Global, word: &str, rows: &[Row]) -> Result<(), Fail> {
+/// Runs a subcommand without words of its own on the input of each row, after which this comes, read in portions of each size. At no
+/// fault the last read is the one that finds the end.
+fn check_rows(
+    rt: &impl Abort,
+    alloc: Global,
+    word: &str,
+    after: After,
+    rows: &[Row],
+) -> Result<(), Fail> {
     for (input, want, fault) in rows {
         for portion in PORTIONS {
-            let reader = Tape::new(input.as_bytes(), After::End, *portion);
+            let reader = Tape::new(input.as_bytes(), after, *portion);
             let run = run_program(alloc, &[word], reader, None, None)?;
             let status = if fault.is_empty() { DONE } else { FAULT };
             let reads = input.len().div_ceil((*portion).max(1)).saturating_add(1);

@@ -6,7 +6,7 @@ use Rattle.std.specs.List.{find, list_all}
 use Rattle.hart_commands.specs.Fields.{command_name, CommandRows, rows}
 
 -- what is found passes a test that all pass
-passes_all : {X : Type 0} (test p : X → Bool) (xs : List X) (x : X) → list_all test xs ≡ true → find p xs ≡ Some x → test x ≡ true
+pub passes_all : {X : Type 0} (test p : X → Bool) (xs : List X) (x : X) → list_all test xs ≡ true → find p xs ≡ Some x → test x ≡ true
 passes_all test p [] x all found = cc
 passes_all test p (y ∷ xs) x all found = grind (arith, common_steps, passes_all test p xs x)
 

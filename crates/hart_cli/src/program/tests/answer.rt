@@ -1,6 +1,7 @@
 //! `hart answer`.
 
 use super::{DONE, Row, check_rows, run_on};
+use crate::stream::fakes::After;
 use std::alloc::{AllocError, Global};
 use std::test::Fail;
 
@@ -96,7 +97,7 @@ const ROWS: &[Row] = &[
 
 #[test]
 fn deliveries_are_answered(rt: HostRuntime) -> Result<(), Fail> {
-    check_rows(&rt, rt.alloc(), "answer", ROWS)
+    check_rows(&rt, rt.alloc(), "answer", After::End, ROWS)
 }
 
 /// What a request to the device's own unique address has after that address, and what its reply has there: at least a row for each

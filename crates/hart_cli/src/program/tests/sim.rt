@@ -2,6 +2,7 @@
 
 use super::device_text::{image_hex, sim_text};
 use super::{Row, check_rows, serves};
+use crate::stream::fakes::After;
 use std::alloc::{AllocError, Global};
 use std::test::Fail;
 
@@ -351,7 +352,7 @@ turn P FFFF82!40B7420A1B2C1118FFFF0280000082000000000000000000000000000000000043
 
 #[test]
 fn scripts_are_carried_out(rt: HostRuntime) -> Result<(), Fail> {
-    check_rows(&rt, rt.alloc(), "sim", ROWS)
+    check_rows(&rt, rt.alloc(), "sim", After::End, ROWS)
 }
 
 /// How often a master writes, each time in a turn of its own.

@@ -1,0 +1,26 @@
+use Rattle.std.proofs.Common.{append_assoc, ap, arith, length, length-append, length-drop, List, ℕ}
+use Rattle.hart_cli.proofs.lemmas.explain.Fields.{request_rows-shown}
+use Rattle.hart_cli.proofs.explain.data.push_refused.Goals as goal
+
+pub push_fields-rest-requires-clause-shown : goal.push_fields-rest-requires-clause-shown
+push_fields-rest-requires-clause-shown c = rw c.request_rows.ensures (request_rows-shown c.args.command)
+
+pub push_bytes_line-requires : goal.push_bytes_line-requires
+push_bytes_line-requires c =
+    let short = simp length-drop at (ap (λ (xs : List ℕ). length xs) c.push_fields-rest.ensures.rest) in
+    let line = simp length-append at (ap (λ (xs : List ℕ). length xs) c.push.ensures) in
+    omega (arith, short, line)
+
+pub returns : goal.returns
+returns c = record {
+  lines = rw (
+    c.push_bytes_line.ensures.line,
+    c.push.ensures,
+    c.push_refusal.ensures.words,
+    c.value.ensures.same,
+    c.push_name.ensures.name,
+    c.push_fields-rest.ensures.lines,
+    c.push_fields-rest.ensures.rest,
+    c.request_rows.ensures,
+  ) (simp append_assoc);
+}

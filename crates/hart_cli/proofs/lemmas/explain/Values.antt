@@ -1,0 +1,77 @@
+-- The values of fields.
+use Rattle.std.proofs.Common.{◌≡◌, ◌≤◌, ◌<◌, ◌+◌, ◌*◌, ◌/◌, ◌%◌, ℕ, suc, Bool, true, false, List, [], ◌∷◌, ◌++◌, length, take, get_or, refl, sym, ap}
+use Rattle.std.proofs.Common.{◌∙◌, append_assoc, arith}
+use Rattle.std.specs.Prelude.{All, codes, drop}
+use Rattle.std.specs.List.{flat_map, join_by, list_all}
+use Rattle.std.proofs.lemmas.Grind.{common_steps, flat_map-append}
+use Rattle.std.proofs.lemmas.Bool.Decides.{nat_tests}
+use Rattle.hart_values.specs.packed_text.Packing.{IsCharacter, IsPacked, IsPackedGroup}
+use Rattle.hart_cli.specs.explain.Values.{character, characters_of, unpacked}
+
+-- a character is that of its lowest six bits
+character_of : (code : ℕ) → IsCharacter code → character (code % 64) ≡ code
+character_of code is = grind (arith, nat_tests)
+
+-- the characters of a packed group
+group_is : (w x y z a b c : ℕ) → IsCharacter w → IsCharacter x → IsCharacter y → IsCharacter z → a < 256 → b < 256 → c < 256
+    → IsPackedGroup w x y z a b c → characters_of a b c ≡ w ∷ x ∷ y ∷ z ∷ []
+group_is w x y z a b c p q r s t u v packed =
+    let first : a / 4 ≡ w % 64 = omega arith in
+    let second : 16 * (a % 4) + b / 16 ≡ x % 64 = omega arith in
+    let third : 4 * (b % 16) + c / 64 ≡ y % 64 = omega arith in
+    let fourth : c % 64 ≡ z % 64 = omega arith in
+    let w_is : character (a / 4) ≡ w = ap character first ∙ character_of w p in
+    let x_is : character (16 * (a % 4) + b / 16) ≡ x = ap character second ∙ character_of x q in
+    let y_is : character (4 * (b % 16) + c / 64) ≡ y = ap character third ∙ character_of y r in
+    let z_is : character (c % 64) ≡ z = ap character fourth ∙ character_of z s in
+    cc
+
+-- the texts of groups after the first
+rest_packed : (w x y z a b c : ℕ) (text bytes : List ℕ) → IsPacked (w ∷ x ∷ y ∷ z ∷ text) (a ∷ b ∷ c ∷ bytes) → IsPacked text bytes
+rest_packed w x y z a b c text bytes p = record {
+  lengths = omega (arith, p.lengths);
+  characters = λ i d below. p.characters (suc (suc (suc (suc i)))) d (omega arith);
+  bytes_fit = λ i d below. p.bytes_fit (suc (suc (suc i))) d (omega arith);
+  groups = λ place below.
+      let four : 4 * suc place ≡ suc (suc (suc (suc (4 * place)))) = omega arith in
+      let five : 4 * suc place + 1 ≡ suc (suc (suc (suc (4 * place + 1)))) = omega arith in
+      let six : 4 * suc place + 2 ≡ suc (suc (suc (suc (4 * place + 2)))) = omega arith in
+      let seven : 4 * suc place + 3 ≡ suc (suc (suc (suc (4 * place + 3)))) = omega arith in
+      let three : 3 * suc place ≡ suc (suc (suc (3 * place))) = omega arith in
+      let more : 3 * suc place + 1 ≡ suc (suc (suc (3 * place + 1))) = omega arith in
+      let most : 3 * suc place + 2 ≡ suc (suc (suc (3 * place + 2))) = omega arith in
+      let at_next = p.groups (suc place) (omega arith) in
+      rw (five, six, seven, four, more, most, three) at at_next;
+}
+
+-- a text is what its packed bytes unpack to
+pub unpacked-is : (text bytes : List ℕ) → IsPacked text bytes → unpacked bytes ≡ text
+unpacked-is [] [] p = refl
+unpacked-is (w ∷ x ∷ y ∷ z ∷ text) (a ∷ b ∷ c ∷ bytes) p =
+    let first = group_is w x y z a b c (p.characters 0 0 (omega arith)) (p.characters 1 0 (omega arith)) (p.characters 2 0 (omega arith))
+    (p.characters 3 0 (omega arith)) (p.bytes_fit 0 0 (omega arith)) (p.bytes_fit 1 0 (omega arith)) (p.bytes_fit 2 0 (omega arith))
+    (p.groups 0 (omega arith)) in
+    let others = unpacked-is text bytes (rest_packed w x y z a b c text bytes p) in
+    ap (λ (xs : List ℕ). xs ++ unpacked bytes) first ∙ ap (λ (xs : List ℕ). w ∷ x ∷ y ∷ z ∷ xs) others
+unpacked-is (w ∷ []) bytes p = absurd (omega (arith, p.lengths))
+unpacked-is (w ∷ x ∷ []) bytes p = absurd (omega (arith, p.lengths))
+unpacked-is (w ∷ x ∷ y ∷ []) bytes p = absurd (omega (arith, p.lengths))
+unpacked-is [] (a ∷ bytes) p = absurd (omega (arith, p.lengths))
+unpacked-is (w ∷ x ∷ y ∷ z ∷ text) [] p = absurd (omega (arith, p.lengths))
+unpacked-is (w ∷ x ∷ y ∷ z ∷ text) (a ∷ []) p = absurd (omega (arith, p.lengths))
+unpacked-is (w ∷ x ∷ y ∷ z ∷ text) (a ∷ b ∷ []) p = absurd (omega (arith, p.lengths))
+
+-- one more part after the last of one or more
+join_by-push : {X : Type 0} (f : X → List ℕ) (sep : List ℕ) (x : X) (xs : List X) (y : X)
+    → join_by f sep ((x ∷ xs) ++ y ∷ []) ≡ join_by f sep (x ∷ xs) ++ sep ++ f y
+join_by-push f sep x xs y = grind (arith, common_steps, append_assoc, flat_map-append)
+
+-- the first part
+pub parts-first : {X : Type 0} (f : X → List ℕ) (sep start line : List ℕ) (xs : List X) (i : ℕ) (d : X) → i ≤ 0 → i < length xs
+    → line ≡ start ++ join_by f sep (take i xs) → line ++ f (get_or xs i d) ≡ start ++ join_by f sep (take (i + 1) xs)
+parts-first f sep start line xs i d first within is = grind (arith, common_steps, append_assoc)
+
+-- a further part, after what separates it
+pub parts-more : {X : Type 0} (f : X → List ℕ) (sep start line : List ℕ) (xs : List X) (i : ℕ) (d : X) → 0 < i → i < length xs
+    → line ≡ (start ++ join_by f sep (take i xs)) ++ sep → line ++ f (get_or xs i d) ≡ start ++ join_by f sep (take (i + 1) xs)
+parts-more f sep start line xs i d some within is = grind (arith, common_steps, append_assoc, join_by-push)

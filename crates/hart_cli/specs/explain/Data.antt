@@ -1,0 +1,89 @@
+-- What `hart explain` says of the data of a message (own profile).
+use Rattle.std.specs.Prelude.{◌==◌, if◌then◌else◌, ◌++◌, [], ◌∷◌, ℕ, nat_lt, is_some, List, Option, None, Some, Ok, Err, codes, decimal}
+use Rattle.std.specs.Prelude.{drop, length}
+use Rattle.hart_commands.specs.Commands.{content_bytes}
+use Rattle.hart_commands.specs.Fields.{bytes_of, command_name, fields_of, reply_rows, request_rows}
+use Rattle.hart_commands.specs.NeededData.{needed_data}
+use Rattle.hart_commands.specs.ReplyData.{reply_reading}
+use Rattle.hart_commands.specs.RequestData.{Reading, request_data, request_reading}
+use Rattle.hart_commands.specs.declared.reply.Reply.{Reply}
+use Rattle.hart_cli.specs.explain.Fields.{field_lines, taken_lines}
+use Rattle.hart_cli.specs.explain.Words.{bytes_line, said_line}
+use Rattle.hart_cli.specs.text.HexText.{hex_items}
+
+-- Data of a command that is not known are shown as they are, if there are any.
+abbrev pub data_line : List ℕ → List ℕ
+data_line bytes = bytes_line (codes "data") bytes
+
+-- Bytes that are not taken are said to be ignored, if there are any.
+abbrev pub ignored_line : List ℕ → List ℕ
+ignored_line bytes = bytes_line (codes "ignored") bytes
+
+-- Too few data are shown as they are, if there are any, and then it is said how many they are, and how many are needed.
+abbrev pub too_few_lines : ℕ → List ℕ → List ℕ
+too_few_lines needed bytes =
+    data_line bytes ++ said_line (codes "too few data") (decimal (length bytes) ++ codes " of " ++ decimal needed)
+
+-- What a code says of the data that it refuses, after a comma and a space; nothing, if that is not told here.
+abbrev pub refusal_name : ℕ → List ℕ
+refusal_name code =
+    if code == 2 then codes ", invalid selection"
+    else if code == 12 then codes ", invalid mode"
+    else if code == 9 then codes ", invalid date"
+    else []
+
+-- A code that refuses data is said by its number and what it says.
+abbrev pub refusal_words : ℕ → List ℕ
+refusal_words code = decimal code ++ refusal_name code
+
+-- Data that are refused by a code are shown as the fields that the command has in them, then the code, and then what comes after the
+-- fields, which is ignored.
+abbrev pub refused_lines : ℕ → ℕ → List ℕ → List ℕ
+refused_lines command code bytes =
+    let fields = fields_of (request_rows command) bytes in
+    field_lines fields ++ said_line (codes "refused") (refusal_words code) ++ ignored_line (drop (length (bytes_of fields)) bytes)
+
+-- Code 64 refuses data of a command that is not known, and code 5 too few data.
+abbrev pub no_request_lines : ℕ → ℕ → List ℕ → List ℕ
+no_request_lines command code bytes =
+    if code == 64 then data_line bytes
+    else if code == 5 then too_few_lines (needed_data command) bytes
+    else refused_lines command code bytes
+
+-- Data that are read as a request are taken as far as it is written.
+abbrev pub read_lines : ℕ → List ℕ → Reading → List ℕ
+read_lines command bytes (Ok request) = taken_lines (request_rows command) (length (request_data request)) bytes
+read_lines command bytes (Err code) = no_request_lines command code bytes
+
+-- The data of a request are read as those of its command.
+unfoldable pub request_lines : ℕ → List ℕ → List ℕ
+request_lines command bytes = read_lines command bytes (request_reading command bytes)
+
+-- The words of bytes are the bytes, or `none`.
+abbrev pub bytes_or_none : List ℕ → List ℕ
+bytes_or_none [] = codes "none"
+bytes_or_none (byte ∷ bytes) = hex_items (byte ∷ bytes)
+
+-- The line of data that are no reply to a known command shows them as they are.
+abbrev pub other_data_line : ℕ → List ℕ → List ℕ
+other_data_line command bytes =
+    said_line (codes "data that are no reply to Command " ++ decimal command) (bytes_or_none bytes)
+
+-- Data that are no reply have that line if the command is known, and are otherwise shown as they are, if there are any.
+abbrev pub no_reply_line : ℕ → List ℕ → List ℕ
+no_reply_line command bytes = if is_some (command_name command) then other_data_line command bytes else data_line bytes
+
+-- A reply with response code 0 takes as many bytes of the data as its content is written as; with another code all are ignored.
+abbrev pub replied_lines : ℕ → List ℕ → Option Reply → List ℕ
+replied_lines command bytes None = no_reply_line command bytes
+replied_lines command bytes (Some reply) =
+    if reply.code == 0 then taken_lines (reply_rows command) (length (content_bytes reply.content)) bytes
+    else ignored_line bytes
+
+-- With communication faults in its first status byte a reply says nothing by its data, which are ignored; otherwise its payload is read
+-- as a reply to its command.
+unfoldable pub reply_lines : ℕ → List ℕ → List ℕ
+reply_lines command (first ∷ second ∷ bytes) =
+    if nat_lt 127 first then ignored_line bytes
+    else replied_lines command bytes (reply_reading command (first ∷ second ∷ bytes))
+reply_lines command _ = []

@@ -1,0 +1,78 @@
+-- The words of the value of a field, by how its bytes are meant (own profile).
+use Rattle.std.specs.Prelude.{◌+◌, ◌*◌, ◌/◌, ◌%◌, ◌==◌, ◌&&◌, ◌||◌, nat_lt, if◌then◌else◌, ◌++◌, [], ◌∷◌, ℕ, Bool, true, List, codes, decimal, length}
+use Rattle.std.specs.Prelude.{slice_index, slice_range}
+use Rattle.std.specs.List.{fold, join_by}
+use Rattle.std.specs.Simd.{first_chunks}
+use Rattle.hart_values.specs.hart_date.Calendar.{is_date}
+use Rattle.hart_commands.specs.declared.fields.FieldKind.{FieldKind}
+use Rattle.hart_commands.specs.declared.fields.FieldKind.TheVariants.{Bytes, Number, PackedText, Date, Float, Variables}
+use Rattle.hart_cli.specs.text.HexText.{hex_items}
+
+-- Bytes are one number, of which the first is the most significant byte.
+abbrev pub number_in : List ℕ → ℕ
+number_in bytes = fold (λ number byte. 256 * number + byte) 0 bytes
+
+-- The character of six bits is the one with a code from hex 20 to 5F that ends in them.
+abbrev pub character : ℕ → ℕ
+character bits = if nat_lt bits 32 then bits + 64 else bits
+
+-- The four characters of three bytes have six bits each, the highest first.
+abbrev pub characters_of : (a b c : ℕ) → List ℕ
+characters_of a b c =
+    character (a / 4) ∷ character (16 * (a % 4) + b / 16) ∷ character (4 * (b % 16) + c / 64) ∷ character (c % 64) ∷ []
+
+-- The text of packed bytes is the characters of each three of them.
+abbrev pub unpacked : List ℕ → List ℕ
+unpacked (a ∷ b ∷ c ∷ rest) = characters_of a b c ++ unpacked rest
+unpacked _ = []
+
+-- A number below a hundred as two digits.
+abbrev pub two_digits : ℕ → List ℕ
+two_digits number = decimal (number / 10) ++ decimal (number % 10)
+
+-- A day of the calendar is its year, its month and its day, with a hyphen between two of them.
+abbrev pub day_words : (day month year : ℕ) → List ℕ
+day_words day month year = decimal (1900 + year) ++ codes "-" ++ two_digits month ++ codes "-" ++ two_digits day
+
+-- Bytes that are no date are shown as they are.
+abbrev pub no_date_words : List ℕ → List ℕ
+no_date_words bytes = hex_items bytes ++ codes ", no date"
+
+-- A date of three zero bytes is not set; any other is a day of the calendar, or none.
+abbrev pub date_words : List ℕ → List ℕ
+date_words (day ∷ month ∷ year ∷ []) =
+    if (day == 0) && (month == 0) && (year == 0) then codes "not set"
+    else if is_date (day ∷ month ∷ year ∷ []) then day_words day month year
+    else no_date_words (day ∷ month ∷ year ∷ [])
+date_words bytes = no_date_words bytes
+
+-- The words of eight bytes of a device variable: its code, classification and unit in decimal, its value and its status as bytes.
+unfoldable pub variable_words : List ℕ → List ℕ
+variable_words bytes =
+    codes "code " ++ decimal (slice_index bytes 0)
+    ++ codes ", classification " ++ decimal (slice_index bytes 1)
+    ++ codes ", unit " ++ decimal (slice_index bytes 2)
+    ++ codes ", value " ++ hex_items (slice_range bytes 3 7)
+    ++ codes ", status " ++ hex_items (slice_index bytes 7 ∷ [])
+
+-- Device variables have eight bytes each, and a semicolon and a space between two of them.
+abbrev pub variables_words : List ℕ → List ℕ
+variables_words bytes = join_by variable_words (codes "; ") (first_chunks 8 (length bytes / 8) bytes)
+
+-- Bytes and a float are shown as bytes, a number in decimal, a text in double quotes, a date as a day, and device variables one by one.
+abbrev pub value_words : FieldKind → List ℕ → List ℕ
+value_words Bytes bytes = hex_items bytes
+value_words Float bytes = hex_items bytes
+value_words Number bytes = decimal (number_in bytes)
+value_words PackedText bytes = codes "\"" ++ unpacked bytes ++ codes "\""
+value_words Date bytes = date_words bytes
+value_words Variables bytes = variables_words bytes
+
+-- For private calls alone:
+
+-- So many bytes suit a kind: one or two a number, 6, 12 or 24 a packed text, three a date, and any number every other kind.
+abbrev pub suits : FieldKind → ℕ → Bool
+suits Number size = (size == 1) || (size == 2)
+suits PackedText size = (size == 6) || (size == 12) || (size == 24)
+suits Date size = size == 3
+suits _ size = true
