@@ -9,4 +9,6 @@ pub mod Message
 pub mod Misses
 pub mod Explanation
 pub mod Explain
+pub mod Gaps
+pub mod Dumped
 pub mod Told

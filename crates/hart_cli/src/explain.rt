@@ -23,6 +23,7 @@ mod data;
 mod fields;
 mod heard;
 mod kept;
+mod laws;
 mod message;
 mod misses;
 mod status;

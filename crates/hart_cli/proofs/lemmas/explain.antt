@@ -9,3 +9,5 @@ pub mod Data
 pub mod Misses
 pub mod Placed
 pub mod Explain
+pub mod Gaps
+pub mod Dumped

@@ -1,0 +1,266 @@
+-- The places that no message holds: which of them have a miss, and the lines of these.
+use Rattle.std.proofs.Common.{◌≡◌, ◌≢◌, ◌≤◌, ◌<◌, ◌+◌, ◌-◌, ℕ, zero, suc, Bool, true, false, List, [], ◌∷◌, ◌++◌, length, get_or, drop, take}
+use Rattle.std.proofs.Common.{Option, None, Some, inl, inr, refl, sym, ap, ◌∙◌, append_assoc, arith, length-append, length-drop, subst}
+use Rattle.std.specs.Prelude.{◌/◌, ◌%◌, ◌⊎◌, ◌==◌, if◌then◌else◌, All, AllPairs, Contains, IsSome, codes, decimal, not}
+use Rattle.std.specs.List.{flat_map, list_all, range_with_len}
+use Rattle.std.specs.Option.{option_map_or}
+use Rattle.std.specs.Fmt.{digit_glyph, digits, digits_onto}
+use Rattle.std.proofs.lemmas.Grind.{common_steps, flat_map-append}
+use Rattle.std.proofs.lemmas.Bool.{cases_lt}
+use Rattle.std.proofs.lemmas.Bool.Decides.{nat_tests}
+use Rattle.std.proofs.lemmas.List.{append-nil, length-take-le, take-append-drop}
+use Rattle.std.proofs.lemmas.List.Folds.{list_all-append}
+use Rattle.std.proofs.lemmas.List.Elements.{All-cons, All-drop, All-nil, Contains-append_cases, Contains-append_left}
+use Rattle.std.proofs.lemmas.List.Elements.{Contains-append_right, Contains-get_or}
+use Rattle.std.proofs.lemmas.List.Kept.{AllPairs-cons}
+use Rattle.hex.specs.Hex.{encode_upper, encode_with, upper_digits}
+use Rattle.hart_frame.specs.heard.Character.{Character}
+use Rattle.hart_frame.specs.heard.Frames.{AreFrames, first, none}
+use Rattle.hart_frame.specs.heard.Miss.{HasFrameAt, miss_of}
+use Rattle.hart_frame.specs.heard.Place.{StandsIn}
+use Rattle.hart_frame.specs.heard.Start.{IsStart}
+use Rattle.hart_frame.specs.declared.heard.found.Found.{Found}
+use Rattle.hart_frame.specs.declared.heard.miss.Miss.{Miss}
+use Rattle.hart_frame.specs.declared.heard.miss.Miss.TheVariants.{Faulty, Burst, BadDelimiter, EndsBeforeByteCount, ShortReply, Missing}
+use Rattle.hart_frame.specs.declared.heard.miss.Miss.TheVariants.{BadCheck, OnePreamble}
+use Rattle.hart_cli.specs.explain.Gaps.{IsGap, IsOneLine, missed, missed_at, MissedPlace}
+use Rattle.hart_cli.specs.explain.Misses.{byte_digits, characters_word, gap_text, miss_line, miss_words, place_text}
+
+-- the line of a missed place
+abbrev told_line : ℕ → MissedPlace → List ℕ
+told_line from told = miss_line from told.place (Some told.miss)
+
+-- what is said of a place is the line of its miss
+said_of_place : (chars : List Character) (from place : ℕ)
+    → place_text chars from place ≡ flat_map (λ told. told_line from told) (missed_at chars from place)
+unfolding place_text
+said_of_place chars from place =
+    elim (miss_of (drop from chars) (place - from))
+    as (λ miss. miss_line from place miss
+    ≡ flat_map (λ told. told_line from told) (option_map_or (λ m. record { place = place; miss = m } ∷ []) miss []))
+    [ None ↦ refl | Some miss ↦ sym (append-nil (miss_line from place (Some miss))) ]
+
+-- what is said of places is the lines of their misses
+said_of_places : (chars : List Character) (from : ℕ) (places : List ℕ)
+    → flat_map (λ place. place_text chars from place) places
+    ≡ flat_map (λ told. told_line from told) (flat_map (λ place. missed_at chars from place) places)
+said_of_places chars from [] = refl
+said_of_places chars from (place ∷ places) =
+    rw (said_of_place chars from place, said_of_places chars from places)
+    (sym (flat_map-append (λ told. told_line from told) (missed_at chars from place) (flat_map (λ p. missed_at chars from p) places)))
+
+-- places that have something, each with it
+abbrev told_at : (ℕ → Option Miss) → ℕ → List MissedPlace
+told_at f place = option_map_or (λ miss. record { place = place; miss = miss } ∷ []) (f place) []
+
+abbrev told_from : (ℕ → Option Miss) → ℕ → ℕ → List MissedPlace
+told_from f a n = flat_map (λ place. told_at f place) (range_with_len a n)
+
+-- an empty list has no element
+none_in_none : {X : Type 0} (x : X) → Contains [] x → ⊥
+none_in_none x (k, within, is) = omega arith
+
+-- a list of one has that one
+only_one : {X : Type 0} (y x : X) → Contains (y ∷ []) x → y ≡ x
+only_one y x (zero, within, is) = is
+only_one y x (suc k, within, is) = absurd (omega arith)
+
+-- what stands at one place
+at_place : (f : ℕ → Option Miss) (a : ℕ) (miss : Option Miss) → f a ≡ miss → (x : MissedPlace)
+    → Contains (option_map_or (λ m. record { place = a; miss = m } ∷ []) miss []) x → (x.place ≡ a) × (f a ≡ Some x.miss)
+at_place f a None is x has = absurd (none_in_none x has)
+at_place f a (Some m) is x has =
+    let same : record { place = a; miss = m } ≡ x = only_one _ x has in
+    (sym (ap (λ (told : MissedPlace). told.place) same), is ∙ ap (λ (told : MissedPlace). Some told.miss) same)
+
+-- what stands among places
+record IsTold (f : ℕ → Option Miss) (a n : ℕ) (x : MissedPlace) : Type 0 where
+  from : a ≤ x.place
+  below : x.place < a + n
+  has : f x.place ≡ Some x.miss
+
+told_is : (f : ℕ → Option Miss) (a n : ℕ) (x : MissedPlace) → Contains (told_from f a n) x → IsTold f a n x
+told_is f a zero x has = absurd (none_in_none x has)
+told_is f a (suc n) x has =
+    elim (Contains-append_cases (told_at f a) (told_from f (a + 1) n) x has) [
+      | inl here ↦
+          let at = at_place f a (f a) refl x here in
+          record { from = omega (arith, at.0); below = omega (arith, at.0); has = rw at.0 at.1 }
+      | inr later ↦
+          let told = told_is f (a + 1) n x later in
+          record { from = omega (arith, told.from); below = omega (arith, told.below); has = told.has }
+    ]
+
+-- every place that has something is among them
+told_has : (f : ℕ → Option Miss) (a n place : ℕ) (miss : Miss) → a ≤ place → place < a + n → f place ≡ Some miss
+    → Contains (told_from f a n) (record { place = place; miss = miss })
+told_has f a zero place miss from below has = absurd (omega arith)
+told_has f a (suc n) place miss from below has =
+    elim (cases_lt a place) [
+      | inl after ↦
+          Contains-append_right (told_at f a) (told_from f (a + 1) n) _ (told_has f (a + 1) n place miss (omega arith) (omega arith) has)
+      | inr upto ↦
+          let at : a ≡ place = omega arith in
+          let here : told_at f a ≡ record { place = place; miss = miss } ∷ [] =
+          ap (λ (p : ℕ). told_at f p) at
+          ∙ ap (λ (m : Option Miss). option_map_or (λ m. record { place = place; miss = m } ∷ []) m []) has in
+          Contains-append_left (told_at f a) (told_from f (a + 1) n) _
+          (rw here (Contains-get_or (record { place = place; miss = miss } ∷ []) 0 (record { place = place; miss = miss }) (omega arith)))
+    ]
+
+-- they stand in the order of their places
+told_in_order : (f : ℕ → Option Miss) (a n : ℕ) → AllPairs (λ told later. told.place < later.place) (told_from f a n)
+told_in_order f a zero = λ i j d before within. absurd (omega arith)
+told_in_order f a (suc n) = elim (f a) as (λ miss. AllPairs (λ told later. told.place < later.place)
+    (option_map_or (λ m. record { place = a; miss = m } ∷ []) miss [] ++ told_from f (a + 1) n)) [
+      | None ↦ told_in_order f (a + 1) n
+      | Some m ↦
+          AllPairs-cons (λ told later. told.place < later.place) (record { place = a; miss = m }) (told_from f (a + 1) n)
+          (λ k d within.
+          let told = told_is f (a + 1) n (get_or (told_from f (a + 1) n) k d) (Contains-get_or (told_from f (a + 1) n) k d within) in
+          omega (arith, told.from)) (told_in_order f (a + 1) n)
+    ]
+
+-- the code of a line feed is none of a text
+abbrev no_line_feed : ℕ → Bool
+no_line_feed code = not (code == 10)
+
+abbrev unbroken : List ℕ → Bool
+unbroken text = list_all no_line_feed text
+
+unbroken-all : (text : List ℕ) → unbroken text ≡ true → All (λ code. code ≢ 10) text
+unbroken-all [] test = All-nil (λ code. code ≢ 10)
+unbroken-all (code ∷ text) test =
+    All-cons (λ code. code ≢ 10) code text (grind (arith, nat_tests)) (unbroken-all text (grind (arith, nat_tests)))
+
+-- digits are none
+unbroken-glyph : (digit : ℕ) → no_line_feed (digit_glyph false digit) ≡ true
+unbroken-glyph digit = grind (arith, nat_tests)
+
+unbroken-onto : (k n : ℕ) (text : List ℕ) → unbroken text ≡ true → unbroken (digits_onto k 10 false n text) ≡ true
+unbroken-onto zero n text test = test
+unbroken-onto (suc k) n text test =
+    let more : unbroken (digit_glyph false (n % 10) ∷ text) ≡ true = grind (arith, unbroken-glyph (n % 10)) in
+    elim (n / 10 == 0) as (λ last. unbroken (if last then digit_glyph false (n % 10) ∷ text
+    else digits_onto k 10 false (n / 10) (digit_glyph false (n % 10) ∷ text)) ≡ true)
+    [ true ↦ more | false ↦ unbroken-onto k (n / 10) (digit_glyph false (n % 10) ∷ text) more ]
+
+unbroken-decimal : (n : ℕ) → unbroken (decimal n) ≡ true
+unfolding digits
+unbroken-decimal n = unbroken-onto 64 n [] refl
+
+-- an element of a text, or 0 past its end
+unbroken-get_or : (text : List ℕ) (k : ℕ) → unbroken text ≡ true → no_line_feed (get_or text k 0) ≡ true
+unbroken-get_or [] k test = refl
+unbroken-get_or (code ∷ text) zero test = grind arith
+unbroken-get_or (code ∷ text) (suc k) test = unbroken-get_or text k (grind arith)
+
+unbroken-byte_digits : (byte : ℕ) → unbroken (byte_digits byte) ≡ true
+unfolding encode_with
+unbroken-byte_digits byte = grind (arith, unbroken-get_or upper_digits (byte / 16) refl, unbroken-get_or upper_digits (byte % 16) refl)
+
+unbroken-characters_word : (count : ℕ) → unbroken (characters_word count) ≡ true
+unbroken-characters_word count =
+    elim (count == 1) as (λ one. unbroken (if one then codes " character" else codes " characters") ≡ true) [ true ↦ refl | false ↦ refl ]
+
+unbroken-miss_words : (from : ℕ) (miss : Miss) → unbroken (miss_words from miss) ≡ true
+unbroken-miss_words from (Faulty place faults) = simp (list_all-append, unbroken-decimal, unbroken-byte_digits)
+unbroken-miss_words from Burst = refl
+unbroken-miss_words from (BadDelimiter byte) = simp (list_all-append, unbroken-byte_digits)
+unbroken-miss_words from EndsBeforeByteCount = refl
+unbroken-miss_words from (ShortReply byte_count) = simp (list_all-append, unbroken-decimal)
+unbroken-miss_words from (Missing count) = simp (list_all-append, unbroken-decimal, unbroken-characters_word)
+unbroken-miss_words from (BadCheck place byte fits) = simp (list_all-append, unbroken-decimal, unbroken-byte_digits)
+unbroken-miss_words from OnePreamble = refl
+
+-- the line of a miss is one line
+pub miss_line-one : (from place : ℕ) (miss : Miss) → IsOneLine (miss_line from place (Some miss))
+miss_line-one from place miss = record {
+  words = decimal place ++ codes ": no message: " ++ miss_words from miss;
+  ended = refl;
+  unbroken = unbroken-all (decimal place ++ codes ": no message: " ++ miss_words from miss)
+      (simp (list_all-append, unbroken-decimal, unbroken-miss_words));
+}
+
+-- a frame in the rest of characters is one of the characters
+record StandsAt (chars : List Character) (from place : ℕ) : Type 0 where
+  found : Found
+  stands : StandsIn found chars from
+  start : found.start ≡ place
+
+stands_at : (chars : List Character) (from place : ℕ) → HasFrameAt (drop from chars) place → StandsAt chars from (from + place)
+stands_at chars from place (found, stands, start) =
+    let long = ap (λ (xs : List Character). length xs) stands.split in
+    let within : from ≤ length chars = omega (arith, simp (length-append, length-drop) at long) in
+    let first : length (take from chars) ≡ from = length-take-le from chars within in
+    record {
+      found = record { frame = found.frame; start = from + found.start; stop = from + found.stop };
+      stands = record {
+        prefix = take from chars ++ stands.prefix;
+        body = stands.body;
+        rest = stands.rest;
+        split = sym (take-append-drop from chars) ∙ ap (λ (xs : List Character). take from chars ++ xs) stands.split
+            ∙ simp append_assoc;
+        is_body = stands.is_body;
+        after = omega (arith, length-append (take from chars) stands.prefix);
+        start = omega (arith, length-append (take from chars) stands.prefix, stands.start);
+        stop = omega (arith, length-append (take from chars) stands.prefix, stands.stop);
+      };
+      start = omega arith;
+    }
+
+-- no frame stands in a gap
+pub no_frame_in_gap : (chars : List Character) (at : ℕ) (frames : List Found) → AreFrames chars at frames → (from stop place : ℕ)
+    → IsGap chars at frames from stop → from ≤ place → place < stop → HasFrameAt (drop from chars) (place - from) → ⊥
+no_frame_in_gap chars _ _ (none at without) from stop place gap after below has =
+    let stands = stands_at chars from (place - from) has in
+    without stands.found (subst (λ (n : ℕ). StandsIn stands.found chars n) gap.0 stands.stands)
+no_frame_in_gap chars _ _ (first at found later is are) from stop place (inl gap) after below has =
+    let stands = stands_at chars from (place - from) has in
+    let least = is.least stands.found (subst (λ (n : ℕ). StandsIn stands.found chars n) gap.0 stands.stands) in
+    omega (arith, stands.start, gap.1)
+no_frame_in_gap chars _ _ (first at found later is are) from stop place (inr gap) after below has =
+    no_frame_in_gap chars found.stop later are from stop place gap after below has
+
+-- what is said of a gap is the lines of the places that have a miss
+pub gap_lines : (chars : List Character) (from stop : ℕ)
+    → gap_text chars from stop ≡ flat_map (λ told. miss_line from told.place (Some told.miss)) (missed chars from stop)
+gap_lines chars from stop = said_of_places chars from (range_with_len from (stop - from))
+
+-- the miss of a place of a gap
+abbrev miss_at : List Character → ℕ → ℕ → Option Miss
+miss_at chars from place = miss_of (drop from chars) (place - from)
+
+-- the places of a gap that have a miss stand in their order
+pub missed_in_order : (chars : List Character) (from stop : ℕ)
+    → AllPairs (λ told later. told.place < later.place) (missed chars from stop)
+missed_in_order chars from stop = told_in_order (miss_at chars from) from (stop - from)
+
+-- and are just those that have one
+pub missed_are : (chars : List Character) (from stop place : ℕ) (miss : Miss)
+    → Contains (missed chars from stop) (record { place = place; miss = miss })
+    → (from ≤ place) × (place < stop) × (miss_of (drop from chars) (place - from) ≡ Some miss)
+missed_are chars from stop place miss has =
+    let told = told_is (miss_at chars from) from (stop - from) (record { place = place; miss = miss }) has in
+    (told.from, omega (arith, told.from, told.below), told.has)
+
+pub missed_has : (chars : List Character) (from stop place : ℕ) (miss : Miss)
+    → (from ≤ place) × (place < stop) × (miss_of (drop from chars) (place - from) ≡ Some miss)
+    → Contains (missed chars from stop) (record { place = place; miss = miss })
+missed_has chars from stop place miss is =
+    told_has (miss_at chars from) from (stop - from) place miss is.0 (omega (arith, is.0, is.1)) is.2
+
+-- a place has a frame or a miss if it is a start
+abbrev pub HasFrameOrMiss : Type 0
+HasFrameOrMiss = (place : ℕ) (chars : List Character) → All (λ character. character.byte < 256) chars → IsStart place chars
+    → HasFrameAt chars place ⊎ IsSome (miss_of chars place)
+
+-- so a start in a gap has a miss
+pub start_is_missed : HasFrameOrMiss → (chars : List Character) (frames : List Found) (from stop place : ℕ)
+    → All (λ character. character.byte < 256) chars → AreFrames chars 0 frames → IsGap chars 0 frames from stop
+    → from ≤ place → place < stop → IsStart (place - from) (drop from chars) → IsSome (miss_of (drop from chars) (place - from))
+start_is_missed law chars frames from stop place bytes are gap after below start =
+    elim (law (place - from) (drop from chars) (All-drop (λ (character : Character). character.byte < 256) from chars bytes) start) [
+      | inl has ↦ absurd (no_frame_in_gap chars 0 frames are from stop place gap after below has)
+      | inr some ↦ some
+    ]
