@@ -1,5 +1,6 @@
 //! What is said of places at which no message stands, though one seems to start there.
 ghost use Rattle.std.specs.Prelude.{◌≡◌, ◌++◌, ◌+◌, ◌-◌, ◌<◌, ◌≤◌, ◌^◌, codes, decimal, length};
+ghost use Rattle.hart_frame.specs.heard.Miss.{follows_preamble};
 ghost use Rattle.hart_cli.specs.explain.Misses.{ArePlacesBelow, byte_digits, characters_word, gap_text, miss_words, place_text};
 ghost use Rattle.hart_cli.specs.explain.Told.{Tells};
 
@@ -10,6 +11,9 @@ use crate::text::pairs::Pairs;
 use crate::text::words::push_text;
 use hart_frame::{Char, Miss, why_none};
 use itoa::Buffer;
+
+/// The preamble byte.
+const PREAMBLE: u8 = 0xFF;
 
 /// Says what there is to say of the places from the end of a message on and before the start of the next.
 ///
@@ -34,8 +38,42 @@ pub fn tell_gap<W: Sink>(
     Ok(())
 }
 
-/// Says what there is to say of a place that no message holds, after the end of the last message before it.
+/// Says what there is to say of a place that no message holds, after the end of the last message before it. Without a preamble byte
+/// right before it there is nothing, and only then is it asked why no message stands there.
+#[inline]
 fn tell_place<W: Sink>(
+    writer: &mut W,
+    kept: &mut Kept,
+    pairs: &Pairs,
+    chars: &[Char],
+    from: usize,
+    place: usize,
+) -> Result<(), Failed>
+    requires after { from ≤ place }
+    requires within { place < length chars.now }
+    ensures { Tells (W.stream writer.old) (W.stream writer.new) kept.old kept.new (place_text chars.now from place) result }
+{
+    if follows_preamble(&chars[from..], place - from) {
+        tell_miss(writer, kept, pairs, chars, from, place)
+    } else {
+        Ok(())
+    }
+}
+
+/// Whether a faultless preamble byte `FF` stands right before a place.
+fn follows_preamble(chars: &[Char], place: usize) -> bool
+    requires { place ≤ length chars.now }
+    ensures { result ≡ follows_preamble chars.now place }
+{
+    if place == 0 {
+        return false;
+    }
+    let before = chars[place - 1];
+    before.byte() == PREAMBLE && before.is_faultless()
+}
+
+/// Says why no message stands at a place, if one seems to start there.
+fn tell_miss<W: Sink>(
     writer: &mut W,
     kept: &mut Kept,
     pairs: &Pairs,

@@ -1,6 +1,8 @@
 -- What is said of the places between two messages.
 use Rattle.std.proofs.Common.{◌≡◌, ◌≤◌, ◌+◌, ◌-◌, ℕ, Option, drop, zero, suc, List, [], ◌∷◌, ◌++◌, map, refl, sym, ap, ◌∙◌, append_assoc}
-use Rattle.std.proofs.Common.{arith}
+use Rattle.std.proofs.Common.{arith, Bool, true, false, None, Some}
+use Rattle.std.specs.Prelude.{◌&&◌, if◌then◌else◌, is_none, not, slice_get}
+use Rattle.std.specs.Option.{option_map_or}
 use Rattle.std.proofs.lemmas.Grind.{common_steps, flat_map-append}
 use Rattle.std.proofs.lemmas.List.{append-nil}
 use Rattle.std.proofs.lemmas.List.Folds.{flat_map-map}
@@ -8,8 +10,8 @@ use Rattle.std.proofs.lemmas.List.FromFn.{map-range_with_len_more}
 use Rattle.std.specs.List.{flat_map, range_with_len}
 use Rattle.hart_frame.specs.heard.Character.{Character}
 use Rattle.hart_frame.specs.declared.heard.miss.Miss.{Miss}
-use Rattle.hart_frame.specs.declared.heard.miss.Miss.TheVariants.{BadCheck, Faulty}
-use Rattle.hart_frame.specs.heard.Miss.{miss_of}
+use Rattle.hart_frame.specs.declared.heard.miss.Miss.TheVariants.{BadCheck, Faulty, OnePreamble}
+use Rattle.hart_frame.specs.heard.Miss.{body_miss, follows_preamble, is_preamble, miss_of}
 use Rattle.hart_cli.specs.explain.Misses.{ArePlacesBelow, gap_text, miss_line, place_text}
 
 -- the text of one number more
@@ -68,6 +70,24 @@ pub place_text-miss : (chars : List Character) (from place : ℕ) (miss : Option
     → place_text chars from place ≡ miss_line from place miss
 unfolding place_text
 place_text-miss chars from place miss is = ap (λ (found : Option Miss). miss_line from place found) (sym is)
+
+-- a choice that waits on what is false
+none_of : (a b c d : Bool) (first : Option Miss) (other : Miss) → a ≡ false
+    → (if (a && b) && c then first else if (a && not b) && d then Some other else None) ≡ None
+none_of false b c d first other is = refl
+none_of true b c d first other is = cc
+
+-- where no preamble byte stands right before a place, there is no miss
+no_miss : (chars : List Character) (place : ℕ) → follows_preamble chars place ≡ false → miss_of chars place ≡ None
+no_miss chars place none =
+    none_of (follows_preamble chars place) (follows_preamble chars (place - 1))
+    (option_map_or (λ first. not (is_preamble first)) (slice_get chars place) false) (is_none (body_miss place (drop place chars)))
+    (body_miss place (drop place chars)) OnePreamble none
+
+-- so nothing is said of it
+pub no_text : (chars : List Character) (from place : ℕ) → follows_preamble (drop from chars) (place - from) ≡ false
+    → place_text chars from place ≡ []
+no_text chars from place none = place_text-miss chars from place None (sym (no_miss (drop from chars) (place - from) none))
 
 -- places below one number are below a greater one
 pub below_more : (count more : ℕ) (miss : Miss) → ArePlacesBelow count miss → count ≤ more → ArePlacesBelow more miss
