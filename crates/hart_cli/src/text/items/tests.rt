@@ -7,43 +7,40 @@ type Pair = (u8, u8);
 /// A text, the characters that are heard, and the place of bad hex, if any.
 type Case = (&'static str, &'static [Pair], Option<usize>);
 
-/// Inputs that ended.
-const ENDED: &[Case] = &[
-    ("", &[], None),
-    (" \t\r\n", &[], None),
-    ("8282", &[(0x82, 0), (0x82, 0)], None),
+/// Inputs, with a space after those that ended.
+const CASES: &[Case] = &[
+    (" ", &[], None),
+    (" \t\r\n ", &[], None),
+    ("8282 ", &[(0x82, 0), (0x82, 0)], None),
     (
-        "\tfF Ff\r\n aB0c ",
+        "\tfF Ff\r\n aB0c  ",
         &[(0xFF, 0), (0xFF, 0), (0xAB, 0), (0x0C, 0)],
         None,
     ),
-    ("FF!40 ", &[(0xFF, 0x40)], None),
-    ("ff!72", &[(0xFF, 0x72)], None),
+    ("FF!40  ", &[(0xFF, 0x40)], None),
+    ("ff!72 ", &[(0xFF, 0x72)], None),
     (
-        "02!4080!0200",
+        "02!4080!0200 ",
         &[(0x02, 0x40), (0x80, 0x02), (0x00, 0)],
         None,
     ),
-    ("!", &[], Some(0)),
-    ("0", &[], Some(0)),
-    ("0!40", &[], Some(0)),
-    ("82!0", &[], Some(0)),
-    ("82!8", &[], Some(0)),
-    ("82!4 ", &[], Some(0)),
-    ("02!08", &[], Some(0)),
-    ("02!00", &[], Some(0)),
-    ("FF0G", &[(0xFF, 0)], Some(2)),
-    ("82 8", &[(0x82, 0)], Some(3)),
-    ("82 !40", &[(0x82, 0)], Some(3)),
-    ("FF FF 0G", &[(0xFF, 0), (0xFF, 0)], Some(6)),
-    ("FF!40!40", &[(0xFF, 0x40)], Some(5)),
-    ("FF\n\n!FF", &[(0xFF, 0)], Some(4)),
-    ("FF,FF", &[(0xFF, 0)], Some(2)),
-    ("FF\u{b}FF", &[(0xFF, 0)], Some(2)),
-];
-
-/// Inputs that a failed read or the limit broke off.
-const BROKEN_OFF: &[Case] = &[
+    ("! ", &[], Some(0)),
+    ("0 ", &[], Some(0)),
+    ("0!40 ", &[], Some(0)),
+    ("82!0 ", &[], Some(0)),
+    ("82!8 ", &[], Some(0)),
+    ("82!4  ", &[], Some(0)),
+    ("02!08 ", &[], Some(0)),
+    ("02!00 ", &[], Some(0)),
+    ("FF0G ", &[(0xFF, 0)], Some(2)),
+    ("82 8 ", &[(0x82, 0)], Some(3)),
+    ("82 !40 ", &[(0x82, 0)], Some(3)),
+    ("FF FF 0G ", &[(0xFF, 0), (0xFF, 0)], Some(6)),
+    ("FF!40!40 ", &[(0xFF, 0x40)], Some(5)),
+    ("FF\n\n!FF ", &[(0xFF, 0)], Some(4)),
+    ("FF,FF ", &[(0xFF, 0)], Some(2)),
+    ("FF\u{b}FF ", &[(0xFF, 0)], Some(2)),
+    // Those that a failed read or the limit broke off.
     ("", &[], None),
     ("8", &[], None),
     ("82", &[], None),
@@ -62,7 +59,6 @@ const BROKEN_OFF: &[Case] = &[
     ("0!", &[], Some(0)),
     ("82!8", &[], Some(0)),
     ("82!G", &[], Some(0)),
-    ("82!0 ", &[], Some(0)),
     ("02!08", &[], Some(0)),
     ("02!00", &[], Some(0)),
     ("82 !", &[(0x82, 0)], Some(3)),
@@ -82,29 +78,9 @@ fn read(alloc: Global, text: &str) -> Result<(Vec<Pair>, usize, bool), Fail> {
     Ok((pairs, place, is_open))
 }
 
-/// Whether an input that ended is read as these characters, up to its end or to this place.
-fn ends_as(
-    alloc: Global,
-    text: &str,
-    pairs: &[Pair],
-    bad_hex: Option<usize>,
-) -> Result<bool, Fail> {
-    let closed = format!(in alloc; "{text} ")?;
-    let (chars, place, _) = read(alloc, &closed)?;
-    Ok(chars.as_slice() == pairs && place == bad_hex.unwrap_or(closed.len()))
-}
-
-#[test]
-fn an_input_that_ended_is_read_up_to_bad_hex(rt: HostRuntime) -> Result<(), Fail> {
-    for (text, pairs, bad_hex) in ENDED {
-        let is_read = ends_as(rt.alloc(), text, pairs, *bad_hex)?;
-        assert!(rt; is_read, "at {text}");
-    }
-    Ok(())
-}
-
-/// Whether an input that may go on is read as these characters, up to what is open or to bad hex at this place.
-fn goes_on_as(
+/// Whether an input is read as these characters, up to what is open or to bad hex at this place. What ended with a space is open only
+/// if nothing is left of it.
+fn is_read_as(
     alloc: Global,
     text: &str,
     pairs: &[Pair],
@@ -116,9 +92,9 @@ fn goes_on_as(
 }
 
 #[test]
-fn an_input_that_goes_on_is_read_up_to_what_is_open_or_bad(rt: HostRuntime) -> Result<(), Fail> {
-    for (text, pairs, bad_hex) in BROKEN_OFF {
-        let is_read = goes_on_as(rt.alloc(), text, pairs, *bad_hex)?;
+fn an_input_is_read_up_to_what_is_open_or_bad(rt: HostRuntime) -> Result<(), Fail> {
+    for (text, pairs, bad_hex) in CASES {
+        let is_read = is_read_as(rt.alloc(), text, pairs, *bad_hex)?;
         assert!(rt; is_read, "at {text}");
     }
     Ok(())
