@@ -8,7 +8,7 @@
  *     follows it says (one where none follows); a length is below 2^63;
  *   - what a pointer to non-const points to is not written or read by anybody else until the call returns, and overlaps nothing
  *     else that is passed; what a pointer to const points to is not written until then;
- *   - a bool is 0 or 1, and all that is passed is initialised, also a struct that is to be written.
+ *   - a bool is 0 or 1, and all that is passed is initialised, also frames and bytes that are to be written.
  * All else is tested by the call.
  */
 #ifndef HART_H
@@ -36,8 +36,8 @@ typedef struct hart_frame {
     uint8_t command;         /* the command number */
     uint8_t expansion_len;   /* 0 to 3 */
     uint8_t payload_len;     /* 0 to 255; of a reply 2 at least */
-    uint8_t expansion[3];    /* the expansion bytes, and then what stood there before */
-    uint8_t payload[255];    /* the payload, and then what stood there before */
+    uint8_t expansion[3];    /* the expansion bytes; those after expansion_len of them mean nothing */
+    uint8_t payload[255];    /* the payload, of a reply from its two status bytes on; bytes after payload_len of them mean nothing */
 } hart_frame;
 
 /* Why a call did nothing. docs/LIBRARY.md says which call gives which. */
@@ -47,9 +47,9 @@ enum {
     HART_BAD_PREAMBLE = 2,    /* a number of preamble bytes outside 5 to 20 */
     HART_BAD_DELIMITER = 3,   /* the first byte is no delimiter of this profile */
     HART_TRUNCATED = 4,       /* the bytes end before the check byte */
-    HART_BAD_CHECK = 5,       /* the check byte does not give the body even parity */
+    HART_BAD_CHECK = 5,       /* the exclusive or of the body with its check byte is not 0 */
     HART_SHORT_REPLY = 6,     /* the delimiter of a reply with a byte count below 2 */
-    HART_BAD_ADDRESS = 10,    /* a number of an address is out of range */
+    HART_BAD_ADDRESS = 10,    /* a number of the address is out of range */
     HART_LONG_EXPANSION = 11, /* more than three expansion bytes */
     HART_NO_ROOM = 12,        /* the output has no room for the message */
     HART_BAD_FAULT_BITS = 13  /* a character has another bit than fault bits */
@@ -64,14 +64,17 @@ typedef struct hart_char {
 /* What a search came to. */
 typedef struct hart_search {
     size_t used;   /* how many of what was passed are used up; the rest is to be passed again, with what comes after it */
-    size_t count;  /* how many frames were found, which are the first of those passed; the others are as they were */
+    size_t count;  /* how many frames were found: they stand in frames[0] to frames[count - 1], and the others are as they were */
     uint8_t fault; /* HART_OK, or why nothing was done */
 } hart_search;
 
-/* Finds the next frames of bytes that were heard without faults, as many as there is room for. `ended` says that no more is to come.
- * What is not used up is passed again, with what comes after it, and places are then counted from its front. If there are fewer
- * frames than room, at most 269 bytes are left, or none if it ended. Whoever goes on so until the end is given all frames of all
- * that was heard, and no others, in whatever pieces it came. */
+/* Finds the next frames of bytes that were heard without faults, as many as there is room for, which is one at least: with room for
+ * none nothing is used up. `ended` says that no more is to come: without it the frames that a false start holds back are never given.
+ * What is not used up is passed again, with what comes after it, and places are then counted from its front: in all that was heard
+ * they are those and the sum of what was used up before. If there are fewer frames than room, none is left if it ended, and otherwise
+ * at most 269 bytes are, in which nothing is decided yet: so 270 bytes are room enough for what is kept and a byte more. Each call looks
+ * again at what is kept, so that larger pieces cost less. Whoever goes on so until the end is given all frames of all that was heard,
+ * and no others, in whatever pieces it came. */
 hart_search hart_find_in_bytes(const uint8_t *bytes, size_t bytes_len, bool ended, hart_frame *frames, size_t frames_len);
 
 /* The same for characters that were heard with fault bits or without. At HART_BAD_FAULT_BITS nothing is found or used up. */
@@ -84,11 +87,13 @@ typedef struct hart_outcome {
 } hart_outcome;
 
 /* Reads the frame whose body bytes begin with, from the delimiter on, and tells the length of that body. `frame` then shows it, from
- * place 0 on. Further bytes may follow. */
+ * place 0 on. Further bytes may follow. The fault is the first in the order of the bytes: none, or a bad delimiter; an end before the
+ * byte count; a reply with a short byte count; an end before the check byte; a bad check byte. */
 hart_outcome hart_decode(const uint8_t *bytes, size_t bytes_len, hart_frame *frame);
 
-/* Writes a frame as a message at the front of `output`: so many preamble bytes and its body. 287 bytes are room for any. `start` and
- * `stop` of the frame are not looked at. */
+/* Writes a frame as a message at the front of `output`: so many preamble bytes and its body. 287 bytes are room for any. `start`, `stop`,
+ * the numbers of the other kind of address, and bytes after those that count are not looked at. The fault is the first of these that
+ * holds: HART_BAD_ADDRESS, HART_LONG_EXPANSION, HART_TOO_SHORT_REPLY, HART_BAD_PREAMBLE, HART_NO_ROOM. */
 hart_outcome hart_encode(const hart_frame *frame, uint8_t preambles, uint8_t *output, size_t output_len);
 
 /* The check byte of some bytes: their exclusive or. */

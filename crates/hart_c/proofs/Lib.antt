@@ -1,2 +1,3 @@
 mod Shown
 mod Found
+mod Searches

@@ -30,12 +30,14 @@ IsEncodeFault frame preambles room (Frame TooShortReply) =
     IsInRange frame.is_unique frame × (frame.expansion_len ≤ 3) × (IsLongEnough (kind_of frame.is_reply) (frame_in frame).payload → ⊥)
 IsEncodeFault frame preambles room (Frame BadPreamble) = IsFrame frame × (IsPreambleCount preambles → ⊥)
 IsEncodeFault frame preambles room NoRoom =
-    IsFrame frame × ((message : List ℕ) × IsMessage (frame_in frame) preambles message × (room < length message))
+    IsFrame frame × IsPreambleCount preambles
+    × ((message : List ℕ) × IsMessage (frame_in frame) preambles message × (room < length message))
 IsEncodeFault frame preambles room (Frame other) = ⊥
 
 -- A message of the frame was written over the front of the output, and what came after it there stays.
 pub record IsWritten (frame : HartFrame) (preambles : ℕ) (before after : List ℕ) (len : ℕ) : Type 0 where
   pub is_frame : IsFrame frame
+  pub in_range : IsPreambleCount preambles
   pub message : List ℕ
   pub is_message : IsMessage (frame_in frame) preambles message
   pub len_is : len ≡ length message

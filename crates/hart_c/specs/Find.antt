@@ -18,7 +18,7 @@ AreNext chars ended given used = (more : List Character) (later : List Found) �
     → AreFrames (drop used chars ++ more) 0 later → AreFrames (chars ++ more) 0 (given ++ map (moved used) later)
 
 -- A search shows the next frames, and says how many characters are used up. What it does not need to show stays as it was. If there was
--- room for more frames, few characters are left, and none if it ended; and otherwise nothing is decided in what is left.
+-- room for more frames: none are left if it ended; otherwise few are, and nothing is decided in them.
 pub record Finds (chars : List Character) (ended : Bool) (before after : List HartFrame) (search : HartSearch) : Type 0 where
   pub within : search.count ≤ length after
   pub untouched : drop search.count after ≡ drop search.count before
@@ -40,6 +40,15 @@ abbrev pub SearchOutcome : List HartChar → Bool → List HartFrame → List Ha
 SearchOutcome heard ended before after search =
     (All (λ given. AreFaultBits given.faults) heard × Finds (map char_of heard) ended before after search)
     ⊎ ((All (λ given. AreFaultBits given.faults) heard → ⊥) × (search ≡ record { used = 0; count = 0; fault = 13 }) × (after ≡ before))
+
+-- What was heard so far, whether it ended, the frames that were given of it, with their places in all of it, and how much of it is used
+-- up: at first nothing; then a search in what was not used up, and in what came after it, gives further frames, and uses up more.
+pub data IsSearchedSoFar : List Character → Bool → List Found → ℕ → Type 0 where
+  begin : IsSearchedSoFar [] false [] 0
+  search : (heard piece : List Character) (ended : Bool) (given found : List Found) (used further : ℕ)
+      → IsSearchedSoFar heard false given used → used ≤ length heard
+      → AreNext (drop used heard ++ piece) ended found further
+      → IsSearchedSoFar (heard ++ piece) ended (given ++ map (moved used) found) (used + further)
 
 -- For private calls alone: so many characters were searched by a scanner that goes on, and so many frames that it gave are shown. If there
 -- is room for more, all were searched, and nothing is decided in what the scanner holds.

@@ -1,5 +1,5 @@
 -- What the numbers of a frame for C say (own profile).
-use Rattle.std.specs.Prelude.{◌≡◌, ℕ, Bool, true, false, List, map, take}
+use Rattle.std.specs.Prelude.{◌≡◌, ◌≤◌, ℕ, Bool, true, false, List, map, take}
 use Rattle.hart_values.specs.declared.address.Address.{Address}
 use Rattle.hart_values.specs.declared.address.Address.TheVariants.{Polling, Unique}
 use Rattle.hart_values.specs.declared.master_id.MasterId.{MasterId}
@@ -52,9 +52,10 @@ with_address (Polling number) frame = record frame { is_unique = false; polling_
 with_address (Unique numbers) frame =
     record frame { is_unique = true; polling_address = 0; expanded_type = numbers.expanded_type; device_id = numbers.device_id }
 
--- What is not of the address is 0.
-abbrev pub IsTidy : HartFrame → Type 0
-IsTidy frame = frame ≡ with_address (address_of frame.is_unique frame) frame
+-- Numbers that are shown have three expansion bytes at most, and 0 for what is not of the address.
+pub record IsTidy (frame : HartFrame) : Type 0 where
+  pub expansion : frame.expansion_len ≤ 3
+  pub address : frame ≡ with_address (address_of frame.is_unique frame) frame
 
 -- For private calls alone: the frame of parts that lie somewhere.
 abbrev pub parts_in : Parts → FrameParts

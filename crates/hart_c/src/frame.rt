@@ -34,9 +34,9 @@ pub struct HartFrame {
     pub expansion_len: u8,
     /// How many payload bytes there are.
     pub payload_len: u8,
-    /// The expansion bytes, and after them what stood there before.
+    /// The expansion bytes; those after so many mean nothing.
     pub expansion: [u8; 3],
-    /// The payload, and after it what stood there before.
+    /// The payload, of a reply from its two status bytes on; bytes after so many mean nothing.
     pub payload: [u8; 255],
 }
 

@@ -10,6 +10,7 @@ mod encode;
 mod fault;
 mod find;
 mod frame;
+mod laws;
 
 pub use check::hart_check_byte;
 pub use decode::hart_decode;
@@ -17,6 +18,7 @@ pub use encode::hart_encode;
 pub use fault::HartOutcome;
 pub use find::{HartChar, HartSearch, hart_find, hart_find_in_bytes};
 pub use frame::HartFrame;
+pub use laws::searches_give_all_frames;
 
 #[cfg(test)]
 mod tests;
