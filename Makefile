@@ -6,6 +6,7 @@
 #   make refused-growths      refuses each allocation of ./hart in turn, as make check does to the program that it proves
 #   make streams              runs ./hart on streams that fail and for its texts, as make check does
 #   make examples             runs the examples of help and pages on ./hart, as make check does
+#   make vectors              makes docs/vectors.tsv of what ./hart replies; make check holds it against the program
 #   make held-view            tries that nothing is pushed to a scanner while a view of it is held, as make check does
 #   make fuzz N=..            holds ./hart against a plain model of it on N random inputs; make check does not
 #   make install PREFIX=DIR   puts hart into DIR/bin
@@ -19,7 +20,7 @@ N ?= 10000
 CLI := crates/hart_cli
 SOURCES := crates.txt $(shell find crates -name out -prune -o \( -name '*.rt' -o -name '*.antt' \) -print)
 
-.PHONY: all check test refused-growths streams examples held-view library library-examples fuzz bench install install-library clean
+.PHONY: all check test refused-growths streams examples vectors held-view library library-examples fuzz bench install install-library clean
 
 all: hart
 
@@ -36,6 +37,7 @@ test: hart
 	sh tools/refused-growths.sh
 	sh tools/streams.sh
 	sh tools/examples.sh
+	sh tools/vectors.sh
 	sh tools/held-view.sh
 	sh tools/library-examples.sh
 
@@ -44,6 +46,9 @@ held-view:
 
 refused-growths streams examples library-examples: hart
 	sh tools/$@.sh
+
+vectors: hart
+	python3 tools/vectors.py ./hart
 
 library:
 	mkdir -p build

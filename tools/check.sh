@@ -22,7 +22,8 @@ count=$(grep -xE '[0-9]+ passed, [0-9]+ failed' "$log" | tail -n 1)
 read -r passed _ failed _ <<<"${count:-0 passed, 1 failed}"
 
 if [ -f "$program" ]; then
-    for script in tools/refused-growths.sh tools/streams.sh tools/examples.sh tools/held-view.sh tools/library-examples.sh; do
+    for script in refused-growths streams examples vectors held-view library-examples; do
+        script=tools/$script.sh
         if ! sh "$script" "$program"; then
             echo "$script: FAILED"
             note 1

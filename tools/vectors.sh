@@ -1,0 +1,7 @@
+#!/bin/sh
+# Holds docs/vectors.tsv against the program: it has to reply to each case as its row says.
+#
+# Usage: tools/vectors.sh [PROGRAM]; PROGRAM is the ./hart of the repository if absent.
+set -eu
+program=$(realpath "${1:-$(dirname "$0")/../hart}")
+python3 "$(dirname "$0")/vectors.py" "$program" --check
