@@ -11,12 +11,14 @@ trap 'rm -rf "$work"' EXIT
 mkdir "$work/examples" "$work/bin" "$work/folder"
 ln -s "$program" "$work/bin/hart"
 ln -s "$program" "$work/folder/hart"
+ln -s "$PWD/docs" "$work/folder/docs"
 # The program is made already.
 printf '#!/bin/sh\n' >"$work/bin/make"
 chmod +x "$work/bin/make"
 PATH=$work/bin:$PATH
 
-# A help text has its commands and what they write two spaces in, with the word "writes" between; a page has "$ " before a command.
+# A help text has its commands and what they write two spaces in, with the word "writes" between; a page has "$ " before a command, and
+# "> " before a line that goes on with it.
 awk -v folder="$work/examples" '
     function give() {
         if (text != "") {
@@ -32,6 +34,7 @@ awk -v folder="$work/examples" '
     FNR == 1 { give(); page = FILENAME ~ /\.md$/; on = 0 }
     page && /^```/ { give(); on = !on; next }
     page && on && /^\$ / { give(); command = substr($0, 3) "\n"; next }
+    page && on && command != "" && text == "" && /^> / { command = command substr($0, 3) "\n"; next }
     page && on && command != "" { text = text $0 "\n" }
     page { next }
     /^Examples?:$/ { on = 1; next }
