@@ -9,7 +9,8 @@
 #   make vectors              makes docs/vectors.tsv of what ./hart replies; make check holds it against the program
 #   make held-view            tries that nothing is pushed to a scanner while a view of it is held, as make check does
 #   make fuzz N=..            holds ./hart against a plain model of it on N random inputs; make check does not
-#   make install PREFIX=DIR   puts hart into DIR/bin
+#   make manual               holds the page of man and the completion for bash against the help of ./hart, as make check does
+#   make install PREFIX=DIR   puts hart into DIR/bin, and its page of man, the completion and the guide into DIR/share
 #   make library              proves the library for C and leaves it as build/libhart.a and build/libhart.so
 #   make library-examples     builds the examples of the library and holds them against ./hart, as make check does
 #   make install-library PREFIX=DIR   puts the library, its header and hart.pc below DIR
@@ -18,9 +19,10 @@
 PREFIX ?= /usr/local
 N ?= 10000
 CLI := crates/hart_cli
+GUIDE := docs/GUIDE.md docs/COMMANDS.md docs/PROTOCOL.md docs/vectors.tsv
 SOURCES := crates.txt $(shell find crates -name out -prune -o \( -name '*.rt' -o -name '*.antt' \) -print)
 
-.PHONY: all check test refused-growths streams examples vectors held-view library library-examples fuzz bench install install-library clean
+.PHONY: all check test refused-growths streams examples vectors manual held-view library library-examples fuzz bench install install-library clean
 
 all: hart
 
@@ -38,13 +40,14 @@ test: hart
 	sh tools/streams.sh
 	sh tools/examples.sh
 	sh tools/vectors.sh
+	sh tools/manual.sh
 	sh tools/held-view.sh
 	sh tools/library-examples.sh
 
 held-view:
 	sh tools/held-view.sh
 
-refused-growths streams examples library-examples: hart
+refused-growths streams examples manual library-examples: hart
 	sh tools/$@.sh
 
 vectors: hart
@@ -64,8 +67,11 @@ bench: hart
 	python3 bench/sim.py
 
 install: hart
-	install -d $(PREFIX)/bin
+	install -d $(PREFIX)/bin $(PREFIX)/share/man/man1 $(PREFIX)/share/bash-completion/completions $(PREFIX)/share/doc/hart
 	install -m 755 hart $(PREFIX)/bin/hart
+	install -m 644 docs/hart.1 $(PREFIX)/share/man/man1/hart.1
+	install -m 644 docs/hart.bash $(PREFIX)/share/bash-completion/completions/hart
+	install -m 644 $(GUIDE) $(PREFIX)/share/doc/hart
 
 install-library: library
 	install -d $(PREFIX)/include $(PREFIX)/lib/pkgconfig

@@ -1,0 +1,67 @@
+#!/bin/sh
+# Holds the page of man and the completion for bash against the help of the program: both have to name each subcommand and each option
+# that `hart --help` and `hart COMMAND --help` name, the page each option with its commands, and neither may name another. An option has
+# its long name.
+#
+# Usage: tools/manual.sh [PROGRAM]; PROGRAM is the ./hart of the repository if absent.
+set -eu
+program=$(realpath "${1:-$(dirname "$0")/../hart}")
+cd "$(dirname "$0")/.."
+
+# Both lists have to have the same words.
+same() {
+    shown=$(printf '%s\n' "$2" | tr -s ' ' '\n' | sort -u)
+    wanted=$(printf '%s\n' "$3" | tr -s ' ' '\n' | sort -u)
+    if [ "$shown" != "$wanted" ]; then
+        echo "$1 names:" $shown >&2
+        echo "help names:" $wanted >&2
+        exit 1
+    fi
+}
+
+# The options in the help of these words.
+options_of() {
+    "$program" "$@" --help 2>&1 | awk '/^ +(-[A-Za-z], +)?--[a-z]/ { match($0, /--[a-z]+/); print substr($0, RSTART, RLENGTH) }'
+}
+
+# The names at the heads of the paragraphs of a section of the page; with "of" joined to each, the commands that its paragraph names.
+named_in() {
+    sed 's/\\-/-/g' docs/hart.1 | awk -v section="$1" '
+        /^\.SH / { on = $2 == section; next }
+        on && before == ".TP" { name = match($0, /--[a-z]+/) ? substr($0, RSTART, RLENGTH) : $2; print name }
+        on && before != ".TP" && /^\.BR? [a-z]/ { print name "=" $2 }
+        { before = $0 }'
+}
+
+commands=$("$program" --help 2>&1 | awk '/^Commands:/ { on = 1; next } /^$/ { on = 0 } on { print $1 }')
+options=$(options_of)
+pairs=
+for command in $commands; do
+    [ "$command" = help ] && continue
+    for option in $(options_of "$command"); do
+        options="$options $option"
+        [ "$option" = --help ] || pairs="$pairs $option=$command"
+    done
+done
+
+same 'docs/hart.1, under COMMANDS,' "$(named_in COMMANDS)" "$commands"
+same 'docs/hart.1, under OPTIONS,' "$(named_in OPTIONS | grep -v =)" "$options"
+same 'docs/hart.1, option by option,' "$(named_in OPTIONS | grep = | grep -v '=hart$')" "${pairs# }"
+version=$("$program" --version 2>&1 || true)
+grep -q "\"$version\"" docs/hart.1 || {
+    echo "docs/hart.1 is not of $version" >&2
+    exit 1
+}
+
+# What bash is offered after these words.
+offered() {
+    bash -c '. docs/hart.bash; COMP_WORDS=(hart "$@" ""); COMP_CWORD=$(($# + 1)); _hart; echo "${COMPREPLY[@]}"' bash "$@"
+}
+
+same 'docs/hart.bash' "$(offered)" "$commands $(options_of | tr '\n' ' ')"
+for command in $commands; do
+    [ "$command" = help ] && continue
+    same "docs/hart.bash, after $command," "$(offered "$command")" "$(options_of "$command")"
+done
+same 'docs/hart.bash, after help,' "$(offered help)" "$commands"
+echo "docs/hart.1 and docs/hart.bash name what help names"
