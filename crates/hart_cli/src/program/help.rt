@@ -79,9 +79,9 @@ two hex digits of fault bits, as in FF!40. The fault bits are
   10  framing
   02  buffer overflow
 or a sum of these, in hex. Spaces, tabs and line ends may stand between bytes.
-0x before a byte and : between bytes are not taken: remove them first. The
-input has at most 1048576 bytes of text. Raw bytes are not hex: a capture of
-them goes in through xxd -p.
+0x before a byte, and commas or : between bytes, are not taken: remove them
+first. The input has at most 1048576 bytes of text. Raw bytes are not hex: a
+capture of them goes in through xxd -p.
 
 Output (stdout): a line for each message that came without damage, of nine
 fields with one space between them.
@@ -98,8 +98,9 @@ fields with one space between them.
   PAYLOAD    data in hex, or - for none; an ACK begins with two status bytes
 A message is missing if fewer than two preamble bytes FF came whole before it,
 if any byte of it is damaged, if its check byte does not fit, if it is cut
-short by the end of the input, if it stands within another message, or if it is
-a burst message of a device, which hart does not read.
+short by the end of the input, if it stands within another message, if it is an
+ACK with fewer than two bytes of payload, or if its delimiter has bit 4 or 3
+set, or in bits 2 to 0 neither 2 (STX) nor 6 (ACK), as that of a burst message.
 
 If the input holds anything else, is longer, or fails, the lines of the
 messages before are written, and standard error says why: bad hex at N, a place
@@ -110,8 +111,8 @@ Examples:
 for a file of hex text;
   xxd -p FILE | hart dump
 for one of raw bytes, which are not hex;
-  tr ':' ' ' < FILE | sed 's/0x//g' | hart dump
-for bytes written as FF:82 or 0xFF;
+  tr ',:' '  ' < FILE | sed 's/0[xX]//g' | hart dump
+for bytes written as FF:82 or 0xFF, 0x82;
   echo \"FF FF 02 80 00 00 82\" | hart dump
 writes
   2 7 STX P 0 @0 - 0 -",
@@ -152,9 +153,11 @@ N, a place in the text of the input, counted from 0; input too long; read
 fault.",
     example: "\
 Examples:
-  echo \"FF FF 82 B7 42 0A 1B 2C 13 03 01 23 45 3D\" | hart explain
+  echo \"FF FF 86 B7 42 0A 1B 2C 13 05 00 40 01 23 45 7F\" | hart explain
 writes
-  2-14: request of the primary master to device 37420A1B2C, Command 19, write final assembly number
+  2-16: reply of device 37420A1B2C to the primary master, Command 19, write final assembly number
+      response code: 0, success
+      device status: configuration changed
       final assembly number: 01 23 45
 and with a byte changed in the second of two messages,
   echo \"FF FF 02 80 00 00 82 FF FF 02 80 00 00 83\" | hart explain
@@ -178,13 +181,14 @@ Input (stdin): a script, a line for each event.
   restart                            the device was without power
 WHO is P for the primary master and S for the secondary. ADDRESS is @ and the
 polling address, @0 to @63; or ten hex digits, four of the type of the device
-and six of its id; or all, for every device. DATA are hex, and such as COMMAND
-takes; a COMMAND that hart does not know makes a bad line. UP and DOWN are ok
-for what was sent, lost for nothing, or the bytes that are heard in its place:
-like ITEMS, two hex digits for each byte and, if it came damaged, ! and two hex
-digits of fault bits (see hart dump --help), with no space between bytes. Words
-have spaces or tabs between them. Empty lines, and lines that begin with #, are
-no events and are passed over. The script has at most 1048576 bytes.
+and six of its id; or all, for every device. COMMAND is 0 to 3, 6 to 9, 11 to
+22, 38 or 48; another one makes a bad line. DATA are hex, and such as COMMAND
+takes. UP and DOWN are ok for what was sent, lost for nothing, or the bytes
+that are heard in its place: like ITEMS, two hex digits for each byte and, if
+it came damaged, ! and two hex digits of fault bits (see hart dump --help),
+with no space between bytes. Words have spaces or tabs between them. Empty
+lines, and lines that begin with #, are no events and are passed over. The
+script has at most 1048576 bytes.
 
 Output (stdout): written once the script has come to its end.
   P, S or D, and two words   each message on the line, in order: who spoke it,
