@@ -24,7 +24,7 @@ from typing import NamedTuple
 sys.dont_write_bytecode = True
 
 from fuzz import commands, explain, texts, worked  # noqa: E402
-from fuzz.device import GREATEST_POLLING, OWN_ADDRESS, Device, new_device  # noqa: E402
+from fuzz.device import COMMUNICATION_FAULTS, GREATEST_POLLING, LONGITUDINAL_PARITY, OWN_ADDRESS, Device, new_device  # noqa: E402
 from fuzz.frames import BROADCAST, Frame, Polling, Unique, frames_of  # noqa: E402
 
 TOP = pathlib.Path(__file__).parents[1]
@@ -34,7 +34,7 @@ HEADER = "image\theard\treply\tnote"
 PREAMBLES = 5
 FAULT_BITS = (0x40, 0x20, 0x10, 0x02)
 ALL_FAULT_BITS = sum(FAULT_BITS)
-COMMUNICATION_FAULTS, LONGITUDINAL_PARITY = 0x80, 0x08
+COUNTER_BYTES = 2
 
 # The two words that docs/PROTOCOL.md uses in its rows of garbled requests, and a row of what is heard; its second cell may be a reply.
 WORDS = {word: digits for word, digits in re.findall(r"\b([QA]) (?:stands )?for\s+`([0-9A-F ]+)`", PROTOCOL)}
@@ -126,12 +126,18 @@ WRITTEN = dataclasses.replace(
 TAGS = ((11, NEW.tag, PUMP_TAG), (21, NEW.long_tag, PUMP_LONG_TAG))
 
 
+def too_few(command):
+    """Request data of a command that are too few: the shortest, and those that lack a byte. Command 38 does without any."""
+    needed = commands.NEEDED[command]
+    if needed == 0:
+        return [bytes(COUNTER_BYTES - 1)]
+    return [DATA[command][:length] for length in sorted({0, needed - 1})]
+
+
 def refused_data(command, code):
     """Request data of a command that are refused with a code, in one or more ways."""
-    needed = commands.NEEDED[command] or 2
     return {
-        commands.TOO_FEW_BYTES: [data[:length] for data in (DATA[command] or bytes(2),) for length in {needed - 1, (needed - 1) // 2 + 1}
-                                 if length < needed],
+        commands.TOO_FEW_BYTES: too_few(command),
         commands.WRITE_PROTECTED: [DATA[command]],
         commands.INVALID_SELECTION: [b"\x40", b"\x40\x02", b"\xFF\x00"],
         commands.INVALID_MODE: [b"\x3F\x02", b"\x00\xFF"],
