@@ -1,5 +1,5 @@
 -- The fields of data in words (own profile).
-use Rattle.std.specs.Prelude.{◌&&◌, nat_le, ◌++◌, ℕ, Bool, false, true, List, codes, drop, length, map, take}
+use Rattle.std.specs.Prelude.{◌&&◌, nat_le, ◌++◌, ℕ, Bool, false, true, List, codes, drop, length, take}
 use Rattle.std.specs.List.{flat_map, list_all}
 use Rattle.hart_commands.specs.Fields.{Field, fields_of, Row}
 use Rattle.hart_commands.specs.declared.fields.FieldKind.{FieldKind}

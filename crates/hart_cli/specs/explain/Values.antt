@@ -1,6 +1,6 @@
 -- The words of the value of a field, by how its bytes are meant (own profile).
-use Rattle.std.specs.Prelude.{◌+◌, ◌*◌, ◌/◌, ◌%◌, ◌==◌, ◌&&◌, ◌||◌, nat_lt, if◌then◌else◌, ◌++◌, [], ◌∷◌, ℕ, Bool, true, List, codes, decimal, length}
-use Rattle.std.specs.Prelude.{slice_index, slice_range}
+use Rattle.std.specs.Prelude.{◌+◌, ◌*◌, ◌/◌, ◌%◌, ◌==◌, ◌&&◌, ◌||◌, nat_lt, if◌then◌else◌, ◌++◌, [], ◌∷◌, ℕ, Bool, true, List, codes}
+use Rattle.std.specs.Prelude.{decimal, length, slice_index, slice_range}
 use Rattle.std.specs.List.{fold, join_by}
 use Rattle.std.specs.Simd.{first_chunks}
 use Rattle.hart_values.specs.hart_date.Calendar.{is_date}

@@ -1,12 +1,14 @@
 -- What is said of the data of requests and replies, by what they are read as.
-use Rattle.std.proofs.Common.{◌≡◌, ◌≤◌, ◌<◌, ℕ, Bool, true, false, List, [], ◌∷◌, ◌++◌, drop, get_or, length, Option, None, Some, refl, sym, ap, ◌∙◌, arith}
-use Rattle.std.specs.Prelude.{nat_lt, if◌then◌else◌, is_some, option_map}
+use Rattle.std.proofs.Common.{◌≡◌, ◌≤◌, ◌<◌, ℕ, Bool, true, false, List, [], ◌∷◌, drop, get_or, length, Option, None, Some}
+use Rattle.std.proofs.Common.{refl, sym, ap, ◌∙◌, arith}
+use Rattle.std.specs.Prelude.{nat_lt, if◌then◌else◌, is_some}
 use Rattle.std.proofs.lemmas.Bool.Decides.{nat_tests}
 use Rattle.hart_commands.specs.Fields.{command_name}
 use Rattle.hart_commands.specs.ReplyData.{reply_reading}
 use Rattle.hart_commands.specs.RequestData.{Reading, request_reading}
 use Rattle.hart_commands.specs.declared.reply.Reply.{Reply}
-use Rattle.hart_cli.specs.explain.Data.{data_line, ignored_line, no_reply_line, other_data_line, read_lines, replied_lines, reply_lines, request_lines}
+use Rattle.hart_cli.specs.explain.Data.{data_line, ignored_line, no_reply_line, other_data_line, read_lines, replied_lines, reply_lines}
+use Rattle.hart_cli.specs.explain.Data.{request_lines}
 
 -- the data of a request, by what they are read as
 pub request_lines-read : (command : ℕ) (bytes : List ℕ) (reading : Reading) → reading ≡ request_reading command bytes

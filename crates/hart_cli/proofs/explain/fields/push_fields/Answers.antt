@@ -17,9 +17,11 @@ loop-row-preserved c =
     let field = c.in-Some.field.now in
     let after = c.in-Some.after.now in
     let all = few_more _ rest field after split in
+    let rows = c.args.rows.now in
+    let index = c.loop-row.row-index in
     record {
-      lines = row_at-lines c.args.rows.now c.loop-row.row-index _ c.loop-row.text c.push_field.new.text _ rest field after (omega arith) split
+      lines = row_at-lines rows index _ c.loop-row.text c.push_field.new.text _ rest field after (omega arith) split
           c.loop-row.invariant.lines c.push_field.ensures.line;
-      rest = row_at-rest c.args.rows.now c.loop-row.row-index _ rest field after _ (omega arith) split c.loop-row.invariant.rest;
+      rest = row_at-rest rows index _ rest field after _ (omega arith) split c.loop-row.invariant.rest;
       few = omega (arith, c.push_field.ensures.few);
     }
