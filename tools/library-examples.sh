@@ -57,13 +57,13 @@ if $cc -std=c11 $strict -fsanitize=address,undefined -Iinclude examples/c/messag
 else
     echo "no sanitizers: the example in C was not run under them"
 fi
-if command -v "$cxx" >"$work/said"; then
+if "$cxx" --version >"$work/said" 2>&1; then
     $cxx -std=c++17 $strict -Iinclude examples/cpp/messages.cpp "$work/libhart.a" -o "$work/messages_cpp"
     hold "$work/messages_cpp"
 else
     echo "no C++ compiler: the example in C++ was not run"
 fi
-if command -v cargo >"$work/said"; then
+if cargo --version >"$work/said" 2>&1; then
     HART_LIB_DIR=$work CARGO_TARGET_DIR=$work/rust RUSTFLAGS='-D warnings' \
         cargo build --quiet --release --offline --manifest-path examples/rust/Cargo.toml
     hold "$work/rust/release/messages"
