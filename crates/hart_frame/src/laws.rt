@@ -6,7 +6,8 @@ ghost use Rattle.hart_frame.specs.heard.Character.{Character, faultless};
 ghost use Rattle.hart_frame.specs.heard.Frames.{AreFrames, IsFirst, moved};
 ghost use Rattle.hart_frame.specs.wire.Message.{IsMessage};
 ghost use Rattle.hart_frame.specs.heard.Place.{IsOpen, StandsIn};
-ghost use Rattle.hart_frame.specs.wire.Refusal.{IsTruncated};
+ghost use Rattle.hart_frame.specs.wire.Refusal.{IsRefusedWith, IsTruncated};
+ghost use Rattle.hart_frame.specs.declared.wire.fault.FrameFault.{FrameFault};
 ghost use Rattle.hart_frame.specs.declared.heard.found.Found.{Found};
 
 /// Bodies are unambiguous: at most one prefix of a list of bytes is a body, of at most one frame.
@@ -19,6 +20,13 @@ pub fn bodies_are_unambiguous()
         → BeginsWithBody bytes f m → BeginsWithBody bytes g n → (f ≡ g) × (m ≡ n) }
     ensures whatever_follows { (f : FrameParts) (body rest : List ℕ)
         → IsBody f body → BeginsWithBody (body ++ rest) f (length body) }
+{}
+
+/// Bytes are refused with one fault at most, and with none if they begin with a body.
+pub fn bytes_have_one_fault()
+    ensures one { (bytes : List ℕ) (fault other : FrameFault) → IsRefusedWith bytes fault → IsRefusedWith bytes other → fault ≡ other }
+    ensures not_both { (bytes : List ℕ) (frame : FrameParts) (len : ℕ) (fault : FrameFault)
+        → BeginsWithBody bytes frame len → IsRefusedWith bytes fault → ⊥ }
 {}
 
 /// Bytes are refused as truncated exactly if they begin with no body, and would with some bytes after them.

@@ -1,5 +1,5 @@
 -- What begins with a body is not refused.
-use Rattle.std.proofs.Common.{◌≡◌, ℕ, ◌+◌, ◌*◌, ◌<◌, ◌≤◌, List, [], ◌∷◌, ◌++◌, length, take, drop, get_or, sym, ap}
+use Rattle.std.proofs.Common.{◌≡◌, ℕ, ◌+◌, ◌*◌, ◌<◌, ◌≤◌, List, [], ◌∷◌, ◌++◌, length, take, drop, get_or, refl, sym, ap}
 use Rattle.std.proofs.Common.{◌∙◌, arith, append_assoc, length-append, subst, Result, Ok, Err}
 use Rattle.std.specs.Result.{IfOk, IfErr}
 use Rattle.std.proofs.lemmas.List.{length-take-le, take-append-drop, get_or_at}
@@ -68,3 +68,32 @@ only law bytes (Ok found) accepts refused f len begins =
     let same = law found.0 f bytes found.1 len accepts begins in
     grind arith
 only law bytes (Err fault) accepts refused f len begins = absurd (not_refused bytes f len fault begins refused)
+
+-- bytes are refused with one fault at most
+pub refused_once : (bytes : List ℕ) (fault other : FrameFault) → IsRefusedWith bytes fault → IsRefusedWith bytes other → fault ≡ other
+refused_once bytes TooShortReply other p q = absurd p
+refused_once bytes BadPreamble other p q = absurd p
+refused_once bytes BadDelimiter TooShortReply p q = absurd q
+refused_once bytes BadDelimiter BadPreamble p q = absurd q
+refused_once bytes BadDelimiter BadDelimiter p q = refl
+refused_once bytes BadDelimiter Truncated p q = absurd (grind arith)
+refused_once bytes BadDelimiter ShortReply p q = absurd (grind arith)
+refused_once bytes BadDelimiter BadCheck p q = absurd (grind arith)
+refused_once bytes Truncated TooShortReply p q = absurd q
+refused_once bytes Truncated BadPreamble p q = absurd q
+refused_once bytes Truncated BadDelimiter p q = absurd (grind arith)
+refused_once bytes Truncated Truncated p q = refl
+refused_once bytes Truncated ShortReply p q = absurd (grind arith)
+refused_once bytes Truncated BadCheck p q = absurd (grind arith)
+refused_once bytes ShortReply TooShortReply p q = absurd q
+refused_once bytes ShortReply BadPreamble p q = absurd q
+refused_once bytes ShortReply BadDelimiter p q = absurd (grind arith)
+refused_once bytes ShortReply Truncated p q = absurd (grind arith)
+refused_once bytes ShortReply ShortReply p q = refl
+refused_once bytes ShortReply BadCheck p q = absurd (grind arith)
+refused_once bytes BadCheck TooShortReply p q = absurd q
+refused_once bytes BadCheck BadPreamble p q = absurd q
+refused_once bytes BadCheck BadDelimiter p q = absurd (grind arith)
+refused_once bytes BadCheck Truncated p q = absurd (grind arith)
+refused_once bytes BadCheck ShortReply p q = absurd (grind arith)
+refused_once bytes BadCheck BadCheck p q = refl
