@@ -19,8 +19,10 @@
 //!
 //! Laws that are for readers and for callers outside, and that no other crate here cites:
 //!
-//! - Of frames and bytes: [`truncated_bytes_can_become_a_body`], [`open_places_can_begin_a_frame`], [`damage_by_example`].
-//! - Of misses: [`every_start_has_a_frame_or_a_miss`], [`misses_say_what_is_wrong`], [`misses_are_faults`].
+//! - Of frames and bytes: [`bytes_have_one_fault`], [`truncated_bytes_can_become_a_body`], [`open_places_can_begin_a_frame`],
+//!   [`damage_by_example`].
+//! - Of misses: [`every_start_has_a_frame_or_a_miss`], [`misses_are_in_the_way`], [`misses_say_what_is_wrong`],
+//!   [`misses_are_faults`].
 //! - Of a scanner: [`frames_are_streamed`], [`any_chunking_gives_the_same_frames`], [`held_frames_are_given`].
 //! - For whoever keeps only the rest of what was heard: [`the_rest_has_the_later_frames`] and, with a scanner,
 //!   [`held_characters_have_the_later_frames`], from the place that [`Scanner::first_held`] gives.
@@ -37,11 +39,12 @@ pub use heard::damage::{damage_by_example, damaged_messages_have_no_other_frame}
 pub use heard::delivery::LoneFrame;
 pub use heard::found::Found;
 pub use heard::miss::{
-    Miss, every_start_has_a_frame_or_a_miss, misses_are_faults, misses_say_what_is_wrong, why_none,
+    Miss, every_start_has_a_frame_or_a_miss, misses_are_faults, misses_are_in_the_way,
+    misses_say_what_is_wrong, why_none,
 };
 pub use heard::start::{first_start, first_starts_are_decided, is_start};
 pub use laws::{
-    bodies_are_unambiguous, every_list_has_frames, frames_are_unambiguous,
+    bodies_are_unambiguous, bytes_have_one_fault, every_list_has_frames, frames_are_unambiguous,
     messages_have_their_frame_alone, open_places_can_begin_a_frame, the_rest_has_the_later_frames,
     truncated_bytes_can_become_a_body,
 };

@@ -16,3 +16,4 @@ pub mod Miss
 pub mod Missed
 pub mod Hint
 pub mod MissFault
+pub mod InTheWay

@@ -92,6 +92,10 @@ miss_of chars start =
 abbrev pub HasFrameAt : List Character → ℕ → Type 0
 HasFrameAt chars place = (found : Found) × StandsIn found chars 0 × (found.start ≡ place)
 
+-- A frame stands in a list from a place on, and its check byte right before another place.
+abbrev pub HasFrameUpTo : List Character → ℕ → ℕ → Type 0
+HasFrameUpTo chars start stop = (found : Found) × StandsIn found chars 0 × (found.start ≡ start) × (found.stop ≡ stop)
+
 -- The fault of the faultless bytes that a miss comes from: a character with fault bits ends them too early, as the end of the list
 -- does. That only one FF stands before them is no fault of theirs.
 abbrev pub fault_of : Miss → Option FrameFault

@@ -1,12 +1,14 @@
 //! Why no frame stands at a place at which a message seems to start.
-ghost use Rattle.std.specs.Prelude.{◌≡◌, ◌≢◌, ◌+◌, ◌^◌, ◌<◌, ◌≤◌, ◌⊎◌, ℕ, List, [], ◌∷◌, ◌++◌, None, Some, length, drop, insert, set};
-ghost use Rattle.std.specs.Prelude.{All, IsSome, MatchOption, bit_xor, fold, slice_get};
+ghost use Rattle.std.specs.Prelude.{◌≡◌, ◌≢◌, ◌+◌, ◌^◌, ◌<◌, ◌≤◌, ◌⊎◌, ◌↔◌, ℕ, List, [], ◌∷◌, ◌++◌, None, Some, length, drop, insert, set};
+ghost use Rattle.std.specs.Prelude.{All, IsSome, MatchOption, bit_xor, fold, slice_get, true};
 ghost use Rattle.hart_frame.specs.heard.Body.{bytes_of};
 ghost use Rattle.hart_frame.specs.heard.Character.{Character, faultless, faultless_bytes};
-ghost use Rattle.hart_frame.specs.heard.Miss.{EndsEarly, HasFrameAt, body_miss, check_miss, delimiter_miss, fault_of, faulty_or};
+ghost use Rattle.hart_frame.specs.heard.InTheWay.{HasBodyAt, IsInTheWay, bytes_from};
+ghost use Rattle.hart_frame.specs.heard.Miss.{EndsEarly, HasFrameAt, HasFrameUpTo, body_miss, check_miss, delimiter_miss, fault_of, faulty_or};
 ghost use Rattle.hart_frame.specs.heard.Miss.{follows_one_preamble, follows_preamble, miss_of};
 ghost use Rattle.hart_frame.specs.heard.Start.{IsStart};
 ghost use Rattle.hart_frame.specs.wire.Layout.{body_length};
+ghost use Rattle.hart_frame.specs.wire.Parity.{IsCheckByte};
 ghost use Rattle.hart_frame.specs.wire.Refusal.{HasGoodByteCount, IsRefusedWith};
 ghost use Rattle.hart_frame.specs.declared.wire.fault.FrameFault.{FrameFault};
 ghost use Rattle.hart_frame.specs.declared.heard.miss.Miss.{Miss};
@@ -189,18 +191,20 @@ pub fn every_start_has_a_frame_or_a_miss()
 
 /// What a miss names is what stands in the way of a frame.
 ///
-/// With the byte that would fit in the place of the check byte, a frame stands there. With any faultless character in the place of the
-/// one that has fault bits, that place is not named any more. Whatever bytes come for all that are missing but the last, there is a
-/// last one with which a frame stands there. With another faultless `FF` before the one, a frame stands after the two.
+/// With the byte that would fit in the place that is named, a frame stands there, and its check byte in that place. With any faultless
+/// character in the place of the one that has fault bits, no fault bits are named at that place any more. Whatever bytes come for all that
+/// are missing but the last, a frame stands there with the check byte of all of them as the last, which ends the list. With another
+/// faultless `FF` before the one, a frame stands after the two.
 pub fn misses_say_what_is_wrong()
     ensures bad_check { (start place byte fits : ℕ) (chars : List Character) → All (λ character. character.byte < 256) chars
         → miss_of chars start ≡ Some (BadCheck place byte fits)
-        → HasFrameAt (set chars place (record { byte = fits; faults = 0 })) start }
+        → HasFrameUpTo (set chars place (record { byte = fits; faults = 0 })) start (place + 1) }
     ensures faulty { (start place faults byte others : ℕ) (chars : List Character) → miss_of chars start ≡ Some (Faulty place faults)
         → miss_of (set chars place (record { byte = byte; faults = 0 })) start ≢ Some (Faulty place others) }
     ensures missing { (start count : ℕ) (chars : List Character) (bytes : List ℕ) → All (λ character. character.byte < 256) chars
         → All (λ byte. byte < 256) bytes → miss_of chars start ≡ Some (Missing count) → count ≡ length bytes + 1
-        → (last : ℕ) × HasFrameAt (chars ++ faultless (bytes ++ last ∷ [])) start }
+        → (last : ℕ) × IsCheckByte (bytes_from chars start ++ bytes) last
+        × HasFrameUpTo (chars ++ faultless (bytes ++ last ∷ [])) start (length chars + count) }
     ensures one_preamble { (start : ℕ) (chars : List Character) → All (λ character. character.byte < 256) chars
         → miss_of chars start ≡ Some OnePreamble
         → HasFrameAt (insert chars start (record { byte = 255; faults = 0 })) (start + 1) }
@@ -212,4 +216,13 @@ pub fn misses_are_faults()
     ensures { (start : ℕ) (chars : List Character) (miss : Miss) → All (λ character. character.byte < 256) chars
         → IsStart start chars → miss_of chars start ≡ Some miss
         → (fault : FrameFault) × (fault_of miss ≡ Some fault) × IsRefusedWith (faultless_bytes (drop start chars)) fault }
+{}
+
+/// Where a body may start, the miss is what stands in the way there, and nothing else. Anywhere else a miss is told just where a whole body
+/// stands after one preamble byte alone.
+pub fn misses_are_in_the_way()
+    ensures in_the_way { (start : ℕ) (chars : List Character) (miss : Miss) → All (λ character. character.byte < 256) chars
+        → IsStart start chars → (miss_of chars start ≡ Some miss) ↔ IsInTheWay chars start miss }
+    ensures one_alone { (start : ℕ) (chars : List Character) → All (λ character. character.byte < 256) chars
+        → (miss_of chars start ≡ Some OnePreamble) ↔ ((follows_one_preamble chars start ≡ true) × HasBodyAt chars start) }
 {}

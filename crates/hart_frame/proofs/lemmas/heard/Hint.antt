@@ -12,9 +12,11 @@ use Rattle.std.proofs.lemmas.Bool.{false≢true}
 use Rattle.hart_frame.specs.wire.FrameParts.{FrameParts}
 use Rattle.hart_frame.specs.wire.Body.{IsBody}
 use Rattle.hart_frame.specs.wire.Layout.{body_length, byte_count_place}
+use Rattle.hart_frame.specs.wire.Parity.{IsCheckByte}
 use Rattle.hart_frame.specs.wire.Refusal.{HasCheckByte, HasGoodByteCount}
 use Rattle.hart_frame.specs.heard.Character.{Character, faultless, faultless_bytes}
-use Rattle.hart_frame.specs.heard.Miss.{HasFrameAt, body_miss, check_byte_in, fitting_check_byte, miss_in}
+use Rattle.hart_frame.specs.heard.Miss.{HasFrameAt, HasFrameUpTo, body_miss, check_byte_in, fitting_check_byte, miss_in}
+use Rattle.hart_frame.specs.heard.InTheWay.{bytes_from}
 use Rattle.hart_frame.specs.heard.Miss.{follows_one_preamble, miss_of}
 use Rattle.hart_frame.specs.heard.Place.{StandsIn}
 use Rattle.hart_frame.specs.heard.Start.{IsStart}
@@ -28,13 +30,15 @@ use Rattle.hart_frame.proofs.lemmas.heard.Miss.{other_check}
 use Rattle.hart_frame.proofs.lemmas.heard.Missed.{miss_of-some, miss_of-start, not_at_front, one_before_place}
 use Rattle.hart_frame.proofs.lemmas.heard.Place.{preamble}
 use Rattle.hart_frame.proofs.lemmas.wire.Prefix.{HasGoodByteCount-more, length_more}
-use Rattle.hart_frame.proofs.lemmas.wire.Truncated.{fitted}
+use Rattle.hart_frame.proofs.lemmas.wire.Parity.{IsCheckByte-fold}
+use Rattle.hart_frame.proofs.lemmas.wire.Truncated.{fits_at, fitted}
 
 -- a frame stands where its body stands after two preamble bytes
-pub frame_at : (chars prefix rest : List Character) (body : List ℕ) (f : FrameParts) (place : ℕ) → IsBody f body
-    → chars ≡ prefix ++ faultless (255 ∷ 255 ∷ body) ++ rest → place ≡ length prefix + 2 → HasFrameAt chars place
-frame_at chars prefix rest body f place is split at =
-    let found : Found = record { start = place; stop = length prefix + 2 + length body; frame = f } in
+pub frame_up_to : (chars prefix rest : List Character) (body : List ℕ) (f : FrameParts) (place stop : ℕ) → IsBody f body
+    → chars ≡ prefix ++ faultless (255 ∷ 255 ∷ body) ++ rest → place ≡ length prefix + 2 → stop ≡ place + length body
+    → HasFrameUpTo chars place stop
+frame_up_to chars prefix rest body f place stop is split at to =
+    let found : Found = record { start = place; stop = stop; frame = f } in
     let stands : StandsIn found chars 0 = record {
       prefix = prefix;
       body = body;
@@ -43,9 +47,14 @@ frame_at chars prefix rest body f place is split at =
       is_body = is;
       after = omega arith;
       start = at;
-      stop = refl;
+      stop = omega (arith, at, to);
     } in
-    (found, stands, refl)
+    (found, stands, refl, refl)
+
+pub frame_at : (chars prefix rest : List Character) (body : List ℕ) (f : FrameParts) (place : ℕ) → IsBody f body
+    → chars ≡ prefix ++ faultless (255 ∷ 255 ∷ body) ++ rest → place ≡ length prefix + 2 → HasFrameAt chars place
+frame_at chars prefix rest body f place is split at =
+    let found = frame_up_to chars prefix rest body f place (place + length body) is split at refl in (found.0, found.1, found.2)
 
 -- two preamble bytes right before a start
 pub record Starts (chars : List Character) (start : ℕ) : Type 0 where
@@ -129,7 +138,7 @@ body_or_miss heard start faulty end fit (whole has is) =
       | inr differ ↦ inr (ap is_some (is ∙ other_check bytes start differ))
     ]
 
-heard_or_miss : (heard : List Character) (start : ℕ) → All (λ c. c.byte < 256) heard
+pub heard_or_miss : (heard : List Character) (start : ℕ) → All (λ c. c.byte < 256) heard
     → HeardBody heard ⊎ (is_some (body_miss start heard) ≡ true)
 heard_or_miss heard start fit = body_or_miss heard start _ _ fit (told_of heard start)
 
@@ -194,7 +203,7 @@ before_end prefix bytes more last = grind (arith, append_assoc, append-nil, map-
 -- with the byte that would fit a frame stands there
 bad_check_at : (chars : List Character) (start byte fits place : ℕ) → All (λ c. c.byte < 256) chars → Starts chars start
     → IsBadCheck (faultless_bytes (drop start chars)) start place byte fits
-    → HasFrameAt (set chars place (record { byte = fits; faults = 0 })) start
+    → HasFrameUpTo (set chars place (record { byte = fits; faults = 0 })) start (place + 1)
 bad_check_at chars start byte fits place fit at bad =
     let make = λ (byte : ℕ). let c : Character = record { byte = byte; faults = 0 } in c in
     let heard = drop start chars in
@@ -228,11 +237,14 @@ bad_check_at chars start byte fits place fit at bad =
     let last = fitting_check_byte bytes in
     let regroup : front ++ make last ∷ others ≡ at.prefix ++ faultless (255 ∷ 255 ∷ (checked ++ last ∷ [])) ++ others =
     after_front at.prefix checked last others in
-    frame_at (set chars place (make fits)) at.prefix others (checked ++ last ∷ []) body.frame start body.is_body (changed
-    ∙ ap (λ (b : ℕ). front ++ make b ∷ others) bad.fits_is ∙ regroup) at.at
+    let stop : place + 1 ≡ start + length (checked ++ last ∷ []) =
+    omega (arith, bad.place_is, length-append checked (last ∷ []), length-take-le n bytes (omega (arith, within))) in
+    frame_up_to (set chars place (make fits)) at.prefix others (checked ++ last ∷ []) body.frame start (place + 1) body.is_body (changed
+    ∙ ap (λ (b : ℕ). front ++ make b ∷ others) bad.fits_is ∙ regroup) at.at stop
 
 pub bad_check_fits : (start place byte fits : ℕ) (chars : List Character) → All (λ c. c.byte < 256) chars
-    → miss_of chars start ≡ Some (BadCheck place byte fits) → HasFrameAt (set chars place (record { byte = fits; faults = 0 })) start
+    → miss_of chars start ≡ Some (BadCheck place byte fits)
+    → HasFrameUpTo (set chars place (record { byte = fits; faults = 0 })) start (place + 1)
 bad_check_fits start place byte fits chars fit is =
     let heard = drop start chars in
     elim (miss_of-some chars start (BadCheck place byte fits) is) [
@@ -273,7 +285,9 @@ fault_is_gone start place faults byte others chars is again =
 missing_at : (chars : List Character) (start count : ℕ) (more : List ℕ) → All (λ c. c.byte < 256) chars → All (λ byte. byte < 256) more
     → Starts chars start
     → IsMissing (faultless_bytes (drop start chars)) (slice_get (drop start chars) (length (faultless_bytes (drop start chars)))) count
-    → count ≡ length more + 1 → (last : ℕ) × HasFrameAt (chars ++ faultless (more ++ last ∷ [])) start
+    → count ≡ length more + 1
+    → (last : ℕ) × IsCheckByte (faultless_bytes (drop start chars) ++ more) last
+    × HasFrameUpTo (chars ++ faultless (more ++ last ∷ [])) start (length chars + count)
 missing_at chars start count more fit more_fit at missing long =
     let heard = drop start chars in
     let bytes = faultless_bytes heard in
@@ -289,15 +303,30 @@ missing_at chars start count more fit more_fit at missing long =
     at.split ∙ ap (λ (cs : List Character). at.prefix ++ (preamble ∷ preamble ∷ cs)) all in
     let regroup : (at.prefix ++ (preamble ∷ preamble ∷ faultless bytes)) ++ faultless (more ++ last ∷ [])
     ≡ at.prefix ++ faultless (255 ∷ 255 ∷ (checked ++ last ∷ [])) ++ [] =
-    before_end at.prefix bytes more last in (
+    before_end at.prefix bytes more last in
+    let checked_fit = All-append (λ byte. byte < 256) bytes more fits more_fit in
+    let make = λ (byte : ℕ). let c : Character = record { byte = byte; faults = 0 } in c in
+    let stop : length chars + count ≡ start + length (checked ++ last ∷ []) =
+    omega (
+      arith,
+      ap length split,
+      length-append at.prefix (preamble ∷ preamble ∷ faultless bytes),
+      length-map bytes make,
+      at.at,
+      length-append checked (last ∷ []),
+      length-append bytes more,
+      long,
+    ) in (
       last,
-      frame_at (chars ++ faultless (more ++ last ∷ [])) at.prefix [] (checked ++ last ∷ []) body.frame start body.is_body
-          (ap (λ (cs : List Character). cs ++ faultless (more ++ last ∷ [])) split ∙ regroup) at.at,
+      IsCheckByte-fold checked last (fits_at checked checked_fit) refl,
+      frame_up_to (chars ++ faultless (more ++ last ∷ [])) at.prefix [] (checked ++ last ∷ []) body.frame start (length chars + count)
+          body.is_body (ap (λ (cs : List Character). cs ++ faultless (more ++ last ∷ [])) split ∙ regroup) at.at stop,
     )
 
 pub missing_fits : (start count : ℕ) (chars : List Character) (bytes : List ℕ) → All (λ c. c.byte < 256) chars
     → All (λ byte. byte < 256) bytes → miss_of chars start ≡ Some (Missing count) → count ≡ length bytes + 1
-    → (last : ℕ) × HasFrameAt (chars ++ faultless (bytes ++ last ∷ [])) start
+    → (last : ℕ) × IsCheckByte (bytes_from chars start ++ bytes) last
+    × HasFrameUpTo (chars ++ faultless (bytes ++ last ∷ [])) start (length chars + count)
 missing_fits start count chars bytes fit bytes_fit is long =
     let heard = drop start chars in
     elim (miss_of-some chars start (Missing count) is) [

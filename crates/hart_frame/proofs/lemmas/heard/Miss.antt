@@ -250,7 +250,7 @@ pub cut_front : (heard : List Character) (count end : ℕ) → end ≡ length (f
 cut_front heard count end is = is ∙ ap length (faultless_bytes-take count heard) ∙ length-take count (faultless_bytes heard)
 
 -- which case a miss comes from
-faulty_or-is : (faulty : Option Character) (place : ℕ) (at_end miss : Miss) → faulty_or faulty place at_end ≡ miss
+pub faulty_or-is : (faulty : Option Character) (place : ℕ) (at_end miss : Miss) → faulty_or faulty place at_end ≡ miss
     → ((faulty ≡ None) × (at_end ≡ miss)) ⊎ ((c : Character) × (faulty ≡ Some c) × (miss ≡ Faulty place c.faults))
 faulty_or-is None place at_end miss is = inl (refl, is)
 faulty_or-is (Some c) place at_end miss is = inr (c, refl, sym is)

@@ -169,7 +169,7 @@ body_fits bytes f len begins =
     ∙ sym (ap (λ (i : ℕ). fold bit_xor 0 (take i bytes)) whole)
 
 -- nothing is missed of bytes that begin with a body
-nothing_missed : (bytes : List ℕ) (f : FrameParts) (len : ℕ) (faulty : Option Character) (end start : ℕ) → BeginsWithBody bytes f len
+pub nothing_missed : (bytes : List ℕ) (f : FrameParts) (len : ℕ) (faulty : Option Character) (end start : ℕ) → BeginsWithBody bytes f len
     → Told bytes faulty end start → miss_in bytes faulty end start ≡ None
 nothing_missed bytes f len faulty end start begins (empty none is) = absurd (not_refused bytes f len Truncated begins (inl none))
 nothing_missed bytes f len faulty end start begins (other any bad is) = absurd (not_refused bytes f len BadDelimiter begins (any, bad))

@@ -15,7 +15,8 @@ returns-in_default-layout c =
     c.in_default.ensures c.index-heard-0.is c.byte-first.ensures
     (omega (arith, delimiter.address, delimiter.expansion, c.byte_count_place-count_place.ensures)) c.in_default-early_end.ensures
     c.index-heard-count_place.is c.byte-byte_count.ensures in
-    short_reply c.args.heard.now first place count c.args.start begins is (grind (arith, delimiter.kind, c.in_default-layout.ensures.allowed))
+    short_reply c.args.heard.now first place count c.args.start begins is
+    (grind (arith, delimiter.kind, c.in_default-layout.ensures.allowed))
 
 begins : (c : goal.After-body_len)
     → BeginsWithCount c.args.heard.now c.byte-first.result c.byte_count_place-count_place.result c.byte-byte_count.result

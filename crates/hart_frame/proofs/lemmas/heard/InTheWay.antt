@@ -1,0 +1,268 @@
+-- A miss where a body may start is what stands in the way there.
+use Rattle.std.proofs.Common.{◌≡◌, ◌≢◌, ℕ, zero, suc, ◌+◌, ◌-◌, ◌/◌, ◌%◌, ◌<◌, ◌≤◌, ◌⊎◌, inl, inr, List, [], ◌∷◌, ◌++◌, length, take}
+use Rattle.std.proofs.Common.{◌↔◌, drop, fold, get_or, bit_xor, true, false, Option, None, Some, refl, sym, ap, subst, ◌∙◌, arith}
+use Rattle.std.specs.List.{All, slice_get}
+use Rattle.std.specs.Option.{is_some}
+use Rattle.std.proofs.lemmas.Bool.{false≢true}
+use Rattle.std.proofs.lemmas.Bool.Decides.{nat_tests}
+use Rattle.std.proofs.lemmas.List.{get_or-drop, length-append, length-drop}
+use Rattle.std.proofs.lemmas.List.Elements.{All-drop, All-take}
+use Rattle.std.proofs.lemmas.Option.{get_or_from_slice_get, none-some, same_Some, slice_get-get_or, slice_get_cases, slice_get_past, slice_get_within}
+use Rattle.hart_frame.specs.wire.FrameParts.{FrameParts}
+use Rattle.hart_frame.specs.wire.Body.{BeginsWithBody, IsBody}
+use Rattle.hart_frame.specs.wire.Layout.{body_length, byte_count_in, delimiter_in}
+use Rattle.hart_frame.specs.wire.Parity.{HasEvenParity, IsCheckByte}
+use Rattle.hart_frame.specs.wire.Refusal.{HasByteCount, HasCheckByte, HasGoodByteCount, IsDelimiter, IsTruncated}
+use Rattle.hart_frame.specs.heard.Character.{Character, faultless, faultless_bytes}
+use Rattle.hart_frame.specs.heard.InTheWay.{ComeToTheEnd, HasBodyAt, HasFaultsAt, IsBurstDelimiter, IsInTheWay, bytes_from}
+use Rattle.hart_frame.specs.heard.Miss.{body_miss, check_byte_in, delimiter_miss, faulty_or, fitting_check_byte, follows_one_preamble, miss_in}
+use Rattle.hart_frame.specs.heard.Miss.{is_start, miss_of}
+use Rattle.hart_frame.specs.heard.Start.{IsStart}
+use Rattle.hart_frame.specs.declared.heard.miss.Miss.{Miss}
+use Rattle.hart_frame.specs.declared.heard.miss.Miss.TheVariants.{BadCheck, BadDelimiter, Burst, EndsBeforeByteCount, Faulty, Missing}
+use Rattle.hart_frame.specs.declared.heard.miss.Miss.TheVariants.{OnePreamble, ShortReply}
+use Rattle.hart_frame.proofs.lemmas.wire.Parity.{HasEvenParity-push, IsCheckByte-fold, even-is}
+use Rattle.hart_frame.proofs.lemmas.wire.Truncated.{fits_at}
+use Rattle.hart_frame.proofs.lemmas.heard.Front.{after_faultless, faultless_bytes-append, faultless_bytes-end, faultless_bytes-more, faultless_fit, length-faultless_bytes}
+use Rattle.hart_frame.proofs.lemmas.heard.Miss.{Told, begun, counted, empty, faulty_or-is, miss_in-begun, miss_in-counted, miss_in-none}
+use Rattle.hart_frame.proofs.lemmas.heard.Miss.{miss_in-other, never_one_preamble, miss_in-short, miss_in-whole, other, other_check, same_check, short, told_of, whole}
+use Rattle.hart_frame.proofs.lemmas.heard.Hint.{heard_or_miss}
+use Rattle.hart_frame.proofs.lemmas.heard.Missed.{is_start-yes, miss_of-one, miss_of-some, miss_of-start, nothing_missed}
+use Rattle.hart_frame.proofs.lemmas.wire.UnambiguousBodies.{BeginsWithBody-append}
+use Rattle.hart_frame.proofs.lemmas.heard.Place.{preamble}
+
+start_within : (chars : List Character) (start : ℕ) → IsStart start chars → start ≤ length chars
+start_within chars start is =
+    let two : List Character = preamble ∷ preamble ∷ [] in
+    omega (arith, ap length is.split, length-append (is.prefix ++ two) (is.first ∷ is.rest), length-append is.prefix two, is.place_is)
+
+-- a character of the rest of a list
+rest_at : (chars : List Character) (start n : ℕ) (c : Character) → slice_get (drop start chars) n ≡ Some c
+    → slice_get chars (start + n) ≡ Some c
+rest_at chars start n c is =
+    let heard = drop start chars in
+    let within = slice_get_within heard n c is in
+    slice_get-get_or chars (start + n) c (omega (arith, within, length-drop start chars))
+    ∙ ap (λ (x : Character). let found : Option Character = Some x in found)
+    (sym (get_or-drop start chars n c) ∙ get_or_from_slice_get heard n c c is)
+
+at_rest : (chars : List Character) (start n : ℕ) (c : Character) → slice_get chars (start + n) ≡ Some c
+    → slice_get (drop start chars) n ≡ Some c
+at_rest chars start n c is =
+    let heard = drop start chars in
+    let within = slice_get_within chars (start + n) c is in
+    slice_get-get_or heard n c (omega (arith, within, length-drop start chars))
+    ∙ ap (λ (x : Character). let found : Option Character = Some x in found)
+    (get_or-drop start chars n c ∙ get_or_from_slice_get chars (start + n) c c is)
+
+-- a character among the faultless ones at the front
+front_at : (heard : List Character) (i : ℕ) → i < length (faultless_bytes heard)
+    → slice_get heard i ≡ Some (record { byte = get_or (faultless_bytes heard) i 0; faults = 0 })
+front_at [] i below = absurd (omega (arith, below))
+front_at (c ∷ cs) zero below = grind (arith, faultless_bytes-more, faultless_bytes-end)
+front_at (c ∷ cs) (suc i) below = grind (arith, faultless_bytes-more, faultless_bytes-end, front_at cs i)
+
+-- nothing comes after the bytes at the end of the list, and nowhere else
+end_is : (chars : List Character) (start : ℕ) → start ≤ length chars
+    → slice_get (drop start chars) (length (bytes_from chars start)) ≡ None → ComeToTheEnd chars start
+end_is chars start within none =
+    let heard = drop start chars in
+    let n = length (faultless_bytes heard) in
+    elim (slice_get_cases heard n).1 [
+      | inl (c, below, some, same) ↦ absurd (none-some c (sym none ∙ some))
+      | inr (past, past_is) ↦ omega (arith, past, within, length-faultless_bytes heard, length-drop start chars)
+    ]
+
+nothing_at_end : (chars : List Character) (start : ℕ) → ComeToTheEnd chars start
+    → slice_get (drop start chars) (length (bytes_from chars start)) ≡ None
+nothing_at_end chars start end =
+    slice_get_past (drop start chars) (length (bytes_from chars start)) (omega (arith, end, length-drop start chars))
+
+-- where the bytes stop too early: at the end of the list, or at a character with fault bits
+early_way : (chars : List Character) (start : ℕ) (at_end miss : Miss) → start ≤ length chars
+    → faulty_or (slice_get (drop start chars) (length (bytes_from chars start))) (start + length (bytes_from chars start)) at_end ≡ miss
+    → ((at_end ≡ miss) × ComeToTheEnd chars start)
+    ⊎ ((faults : ℕ) × (miss ≡ Faulty (start + length (bytes_from chars start)) faults)
+    × HasFaultsAt chars (start + length (bytes_from chars start)) faults)
+early_way chars start at_end miss within is =
+    let heard = drop start chars in
+    let n = length (faultless_bytes heard) in
+    elim (faulty_or-is (slice_get heard n) (start + n) at_end miss is) [
+      | inl (none, same) ↦ inl (same, end_is chars start within none)
+      | inr (c, at, same) ↦ inr (c.faults, same, (after_faultless heard c at, c.byte, rest_at chars start n c at))
+    ]
+
+-- the first byte of no message
+burst_or_other : (byte : ℕ) → ((delimiter_miss byte ≡ Burst) × IsBurstDelimiter byte)
+    ⊎ ((delimiter_miss byte ≡ BadDelimiter byte) × (IsBurstDelimiter byte → ⊥))
+burst_or_other byte = grind (arith, nat_tests)
+
+burst-yes : (byte : ℕ) → IsBurstDelimiter byte → delimiter_miss byte ≡ Burst
+burst-yes byte is = grind (arith, nat_tests)
+
+burst-no : (byte : ℕ) → (IsBurstDelimiter byte → ⊥) → delimiter_miss byte ≡ BadDelimiter byte
+burst-no byte not = grind (arith, nat_tests)
+
+burst_is_none : (byte : ℕ) → IsBurstDelimiter byte → IsDelimiter byte → ⊥
+burst_is_none byte burst is = grind arith
+
+-- the check byte that fits
+fits-is : (bytes : List ℕ) (fits : ℕ) → All (λ byte. byte < 256) bytes → IsCheckByte bytes fits → fits ≡ fold bit_xor 0 bytes
+fits-is bytes fits fit is = even-is bytes fits (fits_at bytes fit) is.byte (HasEvenParity-push bytes fits is)
+
+-- what is said stands in the way
+said_early : (chars : List Character) (start : ℕ) (at_end miss : Miss) → start ≤ length chars → IsTruncated (bytes_from chars start)
+    → (ComeToTheEnd chars start → IsInTheWay chars start at_end)
+    → faulty_or (slice_get (drop start chars) (length (bytes_from chars start))) (start + length (bytes_from chars start)) at_end ≡ miss
+    → IsInTheWay chars start miss
+said_early chars start at_end miss within truncated by_end is =
+    let In : Miss → Type 0 = λ miss. IsInTheWay chars start miss in
+    elim (early_way chars start at_end miss within is) [
+      | inl (same, end) ↦ subst In same (by_end end)
+      | inr (faults, same, has) ↦ subst In (sym same) (truncated, refl, has)
+    ]
+
+said : (chars : List Character) (start : ℕ) (miss : Miss) → All (λ byte. byte < 256) (bytes_from chars start) → start ≤ length chars
+    → Told (bytes_from chars start) (slice_get (drop start chars) (length (bytes_from chars start)))
+    (start + length (bytes_from chars start)) start → body_miss start (drop start chars) ≡ Some miss → IsInTheWay chars start miss
+said chars start miss fit within (empty none is) told =
+    said_early chars start EndsBeforeByteCount miss within (inl none) (λ end. (inl none, λ has. omega (arith, has.1, none), end))
+    (same_Some _ miss (sym is ∙ told))
+said chars start miss fit within (other any bad is) told =
+    let In : Miss → Type 0 = λ miss. IsInTheWay chars start miss in
+    let first = delimiter_in (bytes_from chars start) in
+    let same = same_Some _ miss (sym is ∙ told) in
+    elim (burst_or_other first) [
+      | inl (burst, has) ↦ subst In (sym burst ∙ same) (any, has)
+      | inr (not, has) ↦ subst In (sym not ∙ same) (any, refl, bad, has)
+    ]
+said chars start miss fit within (begun has few is) told =
+    said_early chars start EndsBeforeByteCount miss within (inr (inl (has, few)))
+    (λ end. (inr (inl (has, few)), λ count. omega (arith, count.1, few), end)) (same_Some _ miss (sym is ∙ told))
+said chars start miss fit within (short has ack few is) told =
+    let In : Miss → Type 0 = λ miss. IsInTheWay chars start miss in
+    subst In (same_Some _ miss (sym is ∙ told)) (has, ack, refl, few)
+said chars start miss fit within (counted has few is) told =
+    let bytes = bytes_from chars start in
+    said_early chars start (Missing (body_length bytes - length bytes)) miss within (inr (inr (has, few)))
+    (λ end. (has, omega (arith, few), omega (arith, few), end)) (same_Some _ miss (sym is ∙ told))
+said chars start miss fit within (whole has is) told =
+    let In : Miss → Type 0 = λ miss. IsInTheWay chars start miss in
+    let bytes = bytes_from chars start in
+    let n = body_length bytes - 1 in
+    let cases : (check_byte_in bytes ≡ fitting_check_byte bytes) ⊎ (check_byte_in bytes ≢ fitting_check_byte bytes) = grind arith in
+    let at = rest_at chars start n (record { byte = get_or bytes n 0; faults = 0 })
+    (front_at (drop start chars) n (omega (arith, has.1))) in
+    let checked = All-take (λ byte. byte < 256) n bytes fit in
+    elim cases [
+      | inl same ↦ absurd (none-some miss (sym (same_check bytes start same) ∙ sym is ∙ told))
+      | inr differ ↦
+          subst In (same_Some _ miss (sym (other_check bytes start differ) ∙ sym is ∙ told))
+          (has, omega arith, at, IsCheckByte-fold (take n bytes) (fitting_check_byte bytes) (fits_at (take n bytes) checked) refl, differ)
+    ]
+
+-- what stands in the way is said
+early_is : (chars : List Character) (start place faults : ℕ) → place ≡ start + length (bytes_from chars start)
+    → HasFaultsAt chars place faults → (at_end : Miss)
+    → faulty_or (slice_get (drop start chars) (length (bytes_from chars start))) (start + length (bytes_from chars start)) at_end
+    ≡ Faulty place faults
+early_is chars start place faults is (some, byte, at) at_end =
+    let n = length (bytes_from chars start) in
+    let c : Character = record { byte = byte; faults = faults } in
+    let here = at_rest chars start n c (ap (slice_get chars) (sym is) ∙ at) in
+    ap (λ (found : Option Character). faulty_or found (start + n) at_end) here ∙ ap (λ (p : ℕ). Faulty p faults) (sym is)
+
+end_told : (chars : List Character) (start : ℕ) → ComeToTheEnd chars start → (at_end : Miss)
+    → faulty_or (slice_get (drop start chars) (length (bytes_from chars start))) (start + length (bytes_from chars start)) at_end ≡ at_end
+end_told chars start end at_end =
+    ap (λ (found : Option Character). faulty_or found (start + length (bytes_from chars start)) at_end) (nothing_at_end chars start end)
+
+some_miss : (a b : Miss) → a ≡ b → Some a ≡ Some b
+some_miss a b same = ap (λ (miss : Miss). let found : Option Miss = Some miss in found) same
+
+only : (chars : List Character) (start : ℕ) (miss : Miss) → All (λ byte. byte < 256) (bytes_from chars start)
+    → IsInTheWay chars start miss → body_miss start (drop start chars) ≡ Some miss
+only chars start (Faulty place faults) fit (inl none, is, has) =
+    miss_in-none _ _ _ start none ∙ some_miss _ _ (early_is chars start place faults is has EndsBeforeByteCount)
+only chars start (Faulty place faults) fit (inr (inl (begins, few)), is, has) =
+    miss_in-begun _ _ _ start begins few ∙ some_miss _ _ (early_is chars start place faults is has EndsBeforeByteCount)
+only chars start (Faulty place faults) fit (inr (inr (good, few)), is, has) =
+    miss_in-counted _ _ _ start good few ∙ some_miss _ _ (early_is chars start place faults is has _)
+only chars start Burst fit (any, burst) =
+    miss_in-other _ _ _ start any (burst_is_none _ burst) ∙ some_miss _ _ (burst-yes _ burst)
+only chars start (BadDelimiter byte) fit (any, same, bad, not) =
+    let Bad : ℕ → Type 0 = λ byte. IsDelimiter byte → ⊥ in
+    miss_in-other _ _ _ start any (subst Bad (sym same) bad)
+    ∙ some_miss _ _ (ap delimiter_miss same ∙ burst-no byte not)
+only chars start EndsBeforeByteCount fit (inl none, not, end) =
+    miss_in-none _ _ _ start none ∙ some_miss _ _ (end_told chars start end EndsBeforeByteCount)
+only chars start EndsBeforeByteCount fit (inr (inl (begins, few)), not, end) =
+    miss_in-begun _ _ _ start begins few ∙ some_miss _ _ (end_told chars start end EndsBeforeByteCount)
+only chars start EndsBeforeByteCount fit (inr (inr (good, few)), not, end) = absurd (not good.0)
+only chars start (ShortReply count) fit (has, ack, same, few) =
+    let bytes = bytes_from chars start in
+    miss_in-short _ _ _ start has ack (omega (arith, same, few)) ∙ some_miss _ _ (ap (λ (n : ℕ). ShortReply n) same)
+only chars start (Missing count) fit (has, some, sum, end) =
+    let bytes = bytes_from chars start in
+    miss_in-counted _ _ _ start has (omega (arith, some, sum))
+    ∙ some_miss _ _ (end_told chars start end _ ∙ ap (λ (n : ℕ). Missing n) (omega (arith, sum)))
+only chars start (BadCheck place byte fits) fit (has, is, at, check, differ) =
+    let bytes = bytes_from chars start in
+    let n = body_length bytes - 1 in
+    let place_is : place ≡ start + n = omega (arith, is) in
+    let here = front_at (drop start chars) n (omega (arith, has.1)) in
+    let there = at_rest chars start n (record { byte = byte; faults = 0 }) (ap (slice_get chars) (sym place_is) ∙ at) in
+    let byte_is : check_byte_in bytes ≡ byte = ap (λ (c : Character). c.byte) (same_Some _ _ (sym here ∙ there)) in
+    let fits_is : fits ≡ fitting_check_byte bytes = fits-is (take n bytes) fits (All-take (λ byte. byte < 256) n bytes fit) check in
+    miss_in-whole _ _ _ start has
+    ∙ other_check bytes start (λ same. differ (sym byte_is ∙ same ∙ sym fits_is)) ∙ some_miss _ _ (grind arith)
+only chars start OnePreamble fit never = absurd never
+
+pub in_the_way : (start : ℕ) (chars : List Character) (miss : Miss) → All (λ c. c.byte < 256) chars → IsStart start chars
+    → (miss_of chars start ≡ Some miss) ↔ IsInTheWay chars start miss
+in_the_way start chars miss fit is =
+    let heard = drop start chars in
+    let fits = faultless_fit heard (All-drop (λ (c : Character). c.byte < 256) start chars fit) in
+    let same = miss_of-start chars heard start refl is in (
+      λ miss_is. said chars start miss fits (start_within chars start is) (told_of heard start) (same ∙ miss_is),
+      λ way. sym same ∙ only chars start miss fits way,
+    )
+
+-- what is heard begins with a whole body, and nothing of it is missed
+none_of : (chars : List Character) (start : ℕ) → HasBodyAt chars start → is_some (body_miss start (drop start chars)) ≡ false
+none_of chars start has =
+    let heard = drop start chars in
+    let bytes = faultless_bytes heard in
+    let all : bytes ≡ has.body ++ faultless_bytes has.rest =
+    ap faultless_bytes has.parts ∙ faultless_bytes-append has.body has.rest in
+    let Begins : List ℕ → Type 0 = λ xs. BeginsWithBody xs has.frame (length has.body) in
+    let begins = subst Begins (sym all) (BeginsWithBody-append has.frame has.body (faultless_bytes has.rest) has.is_body) in
+    ap is_some (nothing_missed bytes has.frame (length has.body) _ _ start begins (told_of heard start))
+
+never_both : (chars : List Character) (start : ℕ) → follows_one_preamble chars start ≡ true → is_start chars start ≡ true → ⊥
+never_both chars start one is = grind arith
+
+-- after one preamble byte alone a whole body stands
+alone_is : (start : ℕ) (chars : List Character) → All (λ c. c.byte < 256) chars → miss_of chars start ≡ Some OnePreamble
+    → (follows_one_preamble chars start ≡ true) × HasBodyAt chars start
+alone_is start chars fit is =
+    let heard = drop start chars in
+    elim (miss_of-some chars start OnePreamble is) [
+      | inl (here, miss) ↦ absurd (never_one_preamble (faultless_bytes heard) _ _ start (told_of heard start) miss)
+      | inr (same, one, no_miss) ↦
+          elim (heard_or_miss heard start (All-drop (λ (c : Character). c.byte < 256) start chars fit)) [
+            | inl found ↦ (
+              one,
+              record { frame = found.frame; body = found.body; rest = found.rest; is_body = found.is_body; parts = found.parts },
+            )
+            | inr some ↦ absurd (false≢true (sym no_miss ∙ some))
+          ]
+    ]
+
+pub one_alone : (start : ℕ) (chars : List Character) → All (λ c. c.byte < 256) chars
+    → (miss_of chars start ≡ Some OnePreamble) ↔ ((follows_one_preamble chars start ≡ true) × HasBodyAt chars start)
+one_alone start chars fit = (
+  alone_is start chars fit,
+  λ both. sym (miss_of-one chars (drop start chars) start refl (λ is. never_both chars start both.0 (is_start-yes chars start is)) both.0
+      (none_of chars start both.1)),
+)

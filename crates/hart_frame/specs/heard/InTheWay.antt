@@ -1,0 +1,60 @@
+-- What stands in the way of a message where one seems to start (HCF_SPEC-081; own profile).
+use Rattle.std.specs.Prelude.{◌≡◌, ◌≢◌, ◌<◌, ◌+◌, ◌-◌, ◌/◌, ◌%◌, ℕ, List, ◌∷◌, ◌++◌, Some, drop, length, slice_get, take}
+use Rattle.hart_frame.specs.heard.Character.{Character, faultless, faultless_bytes}
+use Rattle.hart_frame.specs.wire.Body.{IsBody}
+use Rattle.hart_frame.specs.wire.FrameParts.{FrameParts}
+use Rattle.hart_frame.specs.wire.Layout.{body_length, byte_count_in, delimiter_in}
+use Rattle.hart_frame.specs.wire.Parity.{IsCheckByte}
+use Rattle.hart_frame.specs.wire.Refusal.{HasByteCount, HasCheckByte, HasGoodByteCount, IsDelimiter, IsTruncated}
+use Rattle.hart_frame.specs.declared.heard.miss.Miss.{Miss}
+use Rattle.hart_frame.specs.declared.heard.miss.Miss.TheVariants.{Faulty, Burst, BadDelimiter, EndsBeforeByteCount, ShortReply, Missing}
+use Rattle.hart_frame.specs.declared.heard.miss.Miss.TheVariants.{BadCheck, OnePreamble}
+
+-- The bytes that were heard from a place on, up to the first character with fault bits.
+abbrev pub bytes_from : List Character → ℕ → List ℕ
+bytes_from chars place = faultless_bytes (drop place chars)
+
+-- At a place stands a character with these fault bits, one of them at least.
+abbrev pub HasFaultsAt : List Character → ℕ → ℕ → Type 0
+HasFaultsAt chars place faults = (faults ≢ 0) × (byte : ℕ) × (slice_get chars place ≡ Some (record { byte = byte; faults = faults }))
+
+-- The bytes from a place on are all that was heard from there on.
+abbrev pub ComeToTheEnd : List Character → ℕ → Type 0
+ComeToTheEnd chars place = place + length (bytes_from chars place) ≡ length chars
+
+-- A burst message begins with a delimiter whose bits 4 and 3 are zero, and whose bits 2 to 0 are 1.
+abbrev pub IsBurstDelimiter : ℕ → Type 0
+IsBurstDelimiter byte = (byte / 8 % 4 ≡ 0) × (byte % 8 ≡ 1)
+
+-- What stands in the way of a body at a place where one may start. The bytes from there on end too early, at a character with fault
+-- bits; or they begin with the delimiter of a burst message, or with another byte that is no delimiter; or all that was heard ends before
+-- the byte count; or a reply has a byte count below 2; or all that was heard ends so many characters before the end of the check byte; or
+-- the check byte is another than fits to the bytes before it. That one FF alone stands before a place is never in the way there.
+abbrev pub IsInTheWay : List Character → ℕ → Miss → Type 0
+IsInTheWay chars start (Faulty place faults) =
+    IsTruncated (bytes_from chars start) × (place ≡ start + length (bytes_from chars start)) × HasFaultsAt chars place faults
+IsInTheWay chars start Burst = (0 < length (bytes_from chars start)) × IsBurstDelimiter (delimiter_in (bytes_from chars start))
+IsInTheWay chars start (BadDelimiter byte) =
+    (0 < length (bytes_from chars start)) × (delimiter_in (bytes_from chars start) ≡ byte)
+    × (IsDelimiter byte → ⊥) × (IsBurstDelimiter byte → ⊥)
+IsInTheWay chars start EndsBeforeByteCount =
+    IsTruncated (bytes_from chars start) × (HasByteCount (bytes_from chars start) → ⊥) × ComeToTheEnd chars start
+IsInTheWay chars start (ShortReply byte_count) =
+    HasByteCount (bytes_from chars start) × (delimiter_in (bytes_from chars start) % 8 ≡ 6)
+    × (byte_count_in (bytes_from chars start) ≡ byte_count) × (byte_count < 2)
+IsInTheWay chars start (Missing count) =
+    HasGoodByteCount (bytes_from chars start) × (0 < count)
+    × (length (bytes_from chars start) + count ≡ body_length (bytes_from chars start)) × ComeToTheEnd chars start
+IsInTheWay chars start (BadCheck place byte fits) =
+    HasCheckByte (bytes_from chars start) × (place + 1 ≡ start + body_length (bytes_from chars start))
+    × (slice_get chars place ≡ Some (record { byte = byte; faults = 0 }))
+    × IsCheckByte (take (body_length (bytes_from chars start) - 1) (bytes_from chars start)) fits × (byte ≢ fits)
+IsInTheWay chars start OnePreamble = ⊥
+
+-- A whole body stands in a list from a place on, in faultless characters.
+pub record HasBodyAt (chars : List Character) (place : ℕ) : Type 0 where
+  pub frame : FrameParts
+  pub body : List ℕ
+  pub rest : List Character
+  pub is_body : IsBody frame body
+  pub parts : drop place chars ≡ faultless body ++ rest
