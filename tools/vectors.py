@@ -6,7 +6,7 @@ them those that rules make: each refusal in the table of the commands, each comm
 reply is the program's. It has to be the one that the page shows, if it shows one, and that of the plain model in tools/fuzz.
 
 A row has the image of the device, or - for the bench device as it is new; what it hears; its reply, or - for silence; and a note, which
-`hart explain` says of both. What takes more than one delivery, as a restart does, is no row.
+`hart explain` says of both. In some rows the device is restarted and hears something after it: these have parts, with "; " between.
 
 Usage: tools/vectors.py PROGRAM [--check]; with --check nothing is written, and the file has to be what would be.
 """
@@ -23,10 +23,22 @@ sys.dont_write_bytecode = True
 
 from cases import cases, lone  # noqa: E402
 from fuzz import texts  # noqa: E402
+from restarts import RESTART, of_model, runs, script_of  # noqa: E402
 
 TOP = pathlib.Path(__file__).parents[1]
 FILE = TOP / "docs" / "vectors.tsv"
-HEADER = "image\theard\treply\tnote"
+HEADER = (
+    "# What the bench device hears and replies: a case a row, with tabs between its columns. docs/GUIDE.md says how the rows are run.",
+    "# image: the device before the case; - for the bench device as it is new.",
+    "# heard: what it hears at once, in hex, a damaged byte with its fault bits, as 23!40.",
+    "# reply: its reply, in hex; - for silence.",
+    "# note: what is said of both in words.",
+    "# Where more happens to the device in turn, heard and reply have as many parts, with ; between them. The word restart among what is",
+    "# heard says that the device was without power and is on again; the reply has - there.",
+    "image\theard\treply\tnote",
+)
+BETWEEN = "; "
+REPLY_LINE = re.compile(r"^D (\d+) ([0-9A-F]+)$", re.MULTILINE)
 STATUS_LINE = re.compile(r" +(response code|device status|communication faults): ")
 
 
@@ -46,25 +58,61 @@ def is_known(case, reply):
     return case.reply is None or reply == bytes.fromhex(case.reply).hex(" ").upper()
 
 
-def note(program, image, heard, reply):
-    """What is said of a case: of the device, of each message or miss that is heard, and of the reply."""
-    device = "" if image == "-" else "Write protected. " if int(image[-1], 16) & 4 else "With this image. "
+def status_bytes(reply):
+    """The two status bytes of a reply, "" for silence."""
+    return texts.hex_text(lone(reply).payload[:2]) if reply else ""
+
+
+def device_note(image):
+    """What is said of a device before a case."""
+    return "" if image == "-" else "Write protected. " if int(image[-1], 16) & 4 else "With this image. "
+
+
+def note(program, heard, reply):
+    """What is said of a part of a case: of each message or miss that is heard, and of the reply."""
+    if heard == RESTART:
+        return "Restart."
     lines = [line for line in call(program, ("explain",), heard).splitlines() if not line.startswith(" ")]
-    said = "; ".join(lines) or "No message seems to start"
+    said = BETWEEN.join(lines) or "No message seems to start"
     status = [line.strip() for line in call(program, ("explain",), reply).splitlines()[1:] if STATUS_LINE.match(line)]
-    return f"{device}{said}. {'; '.join(status).capitalize() or 'Silence'}."
+    return f"{said}. {BETWEEN.join(status).capitalize() or 'Silence'}."
+
+
+def image_words(image):
+    """The words of a call by which its device has an image."""
+    return () if image == "-" else ("--image", image)
+
+
+def replies_of(program, image, parts):
+    """What the device of `hart sim` replies to each part of a case."""
+    script, said = "", 0
+    for heard in parts:
+        script += "".join(f"{line}\n" for line in script_of(heard))
+        spoken = REPLY_LINE.findall(call(program, ("sim", *image_words(image)), script))
+        fresh, said = spoken[said:], len(spoken)
+        if len(fresh) > 1:
+            sys.exit(f"vectors: {len(fresh)} replies to {heard} in {parts}")
+        yield "".join(texts.hex_text(b"\xFF" * int(preambles) + bytes.fromhex(body)) for preambles, body in fresh)
+
+
+def row(program, image, parts, replies, is_right):
+    """The row of a case. Replies that are not the model's, or not what is known of them beforehand, end the run."""
+    model = list(of_model(image, parts))
+    if replies != model or not is_right:
+        sys.exit(f"vectors: to {parts} of image {image} the program replies {replies}, the model {model}; as is known: {is_right}")
+    said = " ".join(note(program, heard, reply) for heard, reply in zip(parts, replies))
+    return "\t".join((image, BETWEEN.join(parts), BETWEEN.join(reply or "-" for reply in replies), device_note(image) + said))
 
 
 def rows(program):
-    """The rows of the file. A reply that is not the known one, or not the model's, ends the run."""
-    yield HEADER
+    """The lines of the file."""
+    yield from HEADER
     for image, heard, case in cases():
-        words = [] if image == "-" else ["--image", image]
-        reply = call(program, ("answer", *words), heard)
-        model = texts.answer(texts.Given([word.encode() for word in words], heard.encode())).written.decode().strip()
-        if reply != model or not is_known(case, reply):
-            sys.exit(f"vectors: to {heard} of image {image} the program replies {reply!r}, the model {model!r}; known: {case[2:]}")
-        yield "\t".join((image, heard, reply or "-", note(program, image, heard, reply)))
+        reply = call(program, ("answer", *image_words(image)), heard)
+        yield row(program, image, [heard], [reply], is_known(case, reply))
+    for image, parts, shown in runs():
+        replies = list(replies_of(program, image, parts))
+        yield row(program, image, parts, replies, tuple(map(status_bytes, replies)) == shown)
 
 
 def main():
@@ -76,11 +124,11 @@ def main():
     made = list(rows(os.path.realpath(chosen.program)))
     if not chosen.check:
         FILE.write_text("\n".join(made) + "\n", encoding="utf-8")
-        print(f"{len(made) - 1} cases in {FILE.relative_to(TOP)}")
+        print(f"{len(made) - len(HEADER)} cases in {FILE.relative_to(TOP)}")
         return 0
     there = FILE.read_text(encoding="utf-8").splitlines() if FILE.exists() else []
     if made == there:
-        print(f"vectors: the program replies to {len(made) - 1} cases as {FILE.relative_to(TOP)} says")
+        print(f"vectors: the program replies to {len(made) - len(HEADER)} cases as {FILE.relative_to(TOP)} says")
         return 0
     number = next((place for place, pair in enumerate(zip(made, there)) if pair[0] != pair[1]), min(len(made), len(there)))
     print(f"docs/vectors.tsv differs at line {number + 1}: `make vectors` makes it", file=sys.stderr)
