@@ -1,7 +1,6 @@
 -- What is found by one search after another.
 use Rattle.std.proofs.Common.{◌≡◌, ◌+◌, ◌≤◌, false, true, Bool, ℕ, List, [], ◌∷◌, ◌++◌, arith, ap, append_assoc, drop, length}
-use Rattle.std.proofs.Common.{◌∙◌, map, refl, subst, sym}
-use Rattle.std.proofs.lemmas.Bool.{false≢true}
+use Rattle.std.proofs.Common.{◌∙◌, IsTrue, map, refl, subst, sym}
 use Rattle.std.proofs.lemmas.List.{append-nil, drop-append-le, drop-drop, map-append}
 use Rattle.std.proofs.Math.Seq.{drop-length}
 use Rattle.hart_frame.specs.heard.Character.{Character}
@@ -35,10 +34,10 @@ next_first : AreNext [] false [] 0
 next_first more later ended frames = subst (AreFrames more 0) (sym (moved_nowhere later)) frames
 
 -- one search more
-next_more : (heard piece : List Character) (ended : Bool) (given found : List Found) (used further : ℕ) → used ≤ length heard
-    → AreNext heard false given used → AreNext (drop used heard ++ piece) ended found further
+next_more : (heard piece : List Character) (was ended : Bool) (given found : List Found) (used further : ℕ) → used ≤ length heard
+    → (IsTrue was → (piece ≡ []) × IsTrue ended) → AreNext heard was given used → AreNext (drop used heard ++ piece) ended found further
     → AreNext (heard ++ piece) ended (given ++ map (moved used) found) (used + further)
-next_more heard piece ended given found used further within before now more later ends frames =
+next_more heard piece was ended given found used further within stays before now more later ends frames =
     let rest = drop used heard ++ piece in
     let front : drop used (heard ++ piece) ≡ rest = drop-append-le used heard piece within in
     let left : drop (used + further) (heard ++ piece) ++ more ≡ drop further rest ++ more =
@@ -46,7 +45,8 @@ next_more heard piece ended given found used further within before now more late
     let First : List Character → Type 0 = λ cs. AreFrames cs 0 later in
     let inner = now more later ends (subst First left frames) in
     let Inner : List Character → Type 0 = λ cs. AreFrames cs 0 (found ++ map (moved further) later) in
-    let whole = before (piece ++ more) (found ++ map (moved further) later) (λ never. absurd (false≢true never))
+    let whole = before (piece ++ more) (found ++ map (moved further) later)
+    (λ over. ap (λ (cs : List Character). cs ++ more) (stays over).0 ∙ ends (stays over).1)
     (subst Inner (append_assoc (drop used heard) piece more) inner) in
     let frames_are : given ++ map (moved used) (found ++ map (moved further) later)
     ≡ (given ++ map (moved used) found) ++ map (moved (used + further)) later =
@@ -60,8 +60,8 @@ next_more heard piece ended given found used further within before now more late
 pub searches_give_all_frames-next : (heard : List Character) (ended : Bool) (given : List Found) (used : ℕ)
     → IsSearchedSoFar heard ended given used → AreNext heard ended given used
 searches_give_all_frames-next heard ended given used begin = next_first
-searches_give_all_frames-next heard ended given used (search past piece end frames found gone further before within now) =
-    next_more past piece end frames found gone further within (searches_give_all_frames-next past false frames gone before) now
+searches_give_all_frames-next heard ended given used (search past piece was end frames found gone further before within stays now) =
+    next_more past piece was end frames found gone further within stays (searches_give_all_frames-next past was frames gone before) now
 
 -- and in the end they are all
 pub searches_give_all_frames-all : (heard : List Character) (given : List Found) → IsSearchedSoFar heard true given (length heard)

@@ -42,11 +42,12 @@ SearchOutcome heard ended before after search =
     ⊎ ((All (λ given. AreFaultBits given.faults) heard → ⊥) × (search ≡ record { used = 0; count = 0; fault = 13 }) × (after ≡ before))
 
 -- What was heard so far, whether it ended, the frames that were given of it, with their places in all of it, and how much of it is used
--- up: at first nothing; then a search in what was not used up, and in what came after it, gives further frames, and uses up more.
+-- up: at first nothing; then a search in what was not used up, and in what came after it, gives further frames, and uses up more. Once it
+-- ended nothing comes after it, and it stays ended.
 pub data IsSearchedSoFar : List Character → Bool → List Found → ℕ → Type 0 where
   begin : IsSearchedSoFar [] false [] 0
-  search : (heard piece : List Character) (ended : Bool) (given found : List Found) (used further : ℕ)
-      → IsSearchedSoFar heard false given used → used ≤ length heard
+  search : (heard piece : List Character) (before ended : Bool) (given found : List Found) (used further : ℕ)
+      → IsSearchedSoFar heard before given used → used ≤ length heard → (IsTrue before → (piece ≡ []) × IsTrue ended)
       → AreNext (drop used heard ++ piece) ended found further
       → IsSearchedSoFar (heard ++ piece) ended (given ++ map (moved used) found) (used + further)
 
