@@ -22,6 +22,13 @@ pub fn bodies_are_unambiguous()
         → IsBody f body → BeginsWithBody (body ++ rest) f (length body) }
 {}
 
+/// A body has 267 bytes at most, and a message of 20 preamble bytes at most has 287.
+pub fn messages_are_short()
+    ensures body { (frame : FrameParts) (body : List ℕ) → IsBody frame body → length body ≤ 267 }
+    ensures message { (frame : FrameParts) (preambles : ℕ) (message : List ℕ) → preambles ≤ 20
+        → IsMessage frame preambles message → length message ≤ 287 }
+{}
+
 /// Bytes are refused with one fault at most, and with none if they begin with a body.
 pub fn bytes_have_one_fault()
     ensures one { (bytes : List ℕ) (fault other : FrameFault) → IsRefusedWith bytes fault → IsRefusedWith bytes other → fault ≡ other }

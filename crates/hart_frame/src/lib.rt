@@ -19,7 +19,7 @@
 //!
 //! Laws that are for readers and for callers outside, and that no other crate here cites:
 //!
-//! - Of frames and bytes: [`bytes_have_one_fault`], [`truncated_bytes_can_become_a_body`], [`open_places_can_begin_a_frame`],
+//! - Of frames and bytes: [`bytes_have_one_fault`], [`messages_are_short`], [`truncated_bytes_can_become_a_body`], [`open_places_can_begin_a_frame`],
 //!   [`damage_by_example`].
 //! - Of misses: [`every_start_has_a_frame_or_a_miss`], [`misses_are_in_the_way`], [`misses_say_what_is_wrong`],
 //!   [`misses_are_faults`].
@@ -45,8 +45,8 @@ pub use heard::miss::{
 pub use heard::start::{first_start, first_starts_are_decided, is_start};
 pub use laws::{
     bodies_are_unambiguous, bytes_have_one_fault, every_list_has_frames, frames_are_unambiguous,
-    messages_have_their_frame_alone, open_places_can_begin_a_frame, the_rest_has_the_later_frames,
-    truncated_bytes_can_become_a_body,
+    messages_are_short, messages_have_their_frame_alone, open_places_can_begin_a_frame,
+    the_rest_has_the_later_frames, truncated_bytes_can_become_a_body,
 };
 pub use scan::first::{first_frame, lone_frame};
 pub use scan::scanner::Scanner;

@@ -1,0 +1,36 @@
+-- How long bodies and messages are at most.
+use Rattle.std.proofs.Common.{◌≤◌, ℕ, List, [], ◌++◌, length, replicate, ap, subst, arith, length-append}
+use Rattle.std.proofs.lemmas.List.{append-nil, length-replicate}
+use Rattle.hart_frame.specs.wire.FrameParts.{FrameParts}
+use Rattle.hart_frame.specs.wire.Body.{BeginsWithBody, IsBody}
+use Rattle.hart_frame.specs.wire.Layout.{byte_count_place}
+use Rattle.hart_frame.specs.wire.Message.{IsMessage}
+use Rattle.hart_frame.proofs.lemmas.wire.Refusal.{says}
+use Rattle.hart_frame.proofs.lemmas.wire.Truncated.{fits_at}
+use Rattle.hart_frame.proofs.lemmas.wire.UnambiguousBodies.{BeginsWithBody-append, address_type-lt}
+
+pub short_body : (f : FrameParts) (body : List ℕ) → IsBody f body → length body ≤ 267
+short_body f body is =
+    let Begins : List ℕ → Type 0 = λ bytes. BeginsWithBody bytes f (length body) in
+    let told = says body f (length body) (subst Begins (append-nil body) (BeginsWithBody-append f body [] is)) in
+    omega (
+      arith,
+      told.whole,
+      told.place,
+      told.count,
+      fits_at body is.bytes_fit (byte_count_place body),
+      address_type-lt f.address,
+      is.checked_part.expansion_fits,
+    )
+
+pub short_message : (f : FrameParts) (preambles : ℕ) (message : List ℕ) → preambles ≤ 20 → IsMessage f preambles message
+    → length message ≤ 287
+short_message f preambles message few is =
+    omega (
+      arith,
+      few,
+      ap length is.parts,
+      length-append (replicate preambles 255) is.body,
+      length-replicate {A = ℕ} preambles 255,
+      short_body f is.body is.is_body,
+    )
