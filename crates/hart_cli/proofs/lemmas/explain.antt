@@ -11,3 +11,4 @@ pub mod Placed
 pub mod Explain
 pub mod Gaps
 pub mod Dumped
+pub mod Hints
