@@ -51,8 +51,10 @@ enum {
     HART_SHORT_REPLY = 6,     /* the delimiter of a reply with a byte count below 2 */
     HART_BAD_ADDRESS = 10,    /* a number of the address is out of range */
     HART_LONG_EXPANSION = 11, /* more than three expansion bytes */
-    HART_NO_ROOM = 12,        /* the output has no room for the message */
-    HART_BAD_FAULT_BITS = 13  /* a character has another bit than fault bits */
+    HART_NO_ROOM = 12,        /* the output has no room for what is to be written */
+    HART_BAD_FAULT_BITS = 13, /* a character has another bit than fault bits */
+    HART_NO_REPLY = 14,       /* a payload is no reply to the command */
+    HART_UNKNOWN = 15         /* there is no such command or field */
 };
 
 /* A character that was heard. */
@@ -98,6 +100,53 @@ hart_outcome hart_encode(const hart_frame *frame, uint8_t preambles, uint8_t *ou
 
 /* The check byte of some bytes: their exclusive or. */
 uint8_t hart_check_byte(const uint8_t *bytes, size_t bytes_len);
+
+/* How the bytes of a field are meant. Numbers and floats have the most significant byte first. */
+enum {
+    HART_BYTES = 0,       /* as they are: an id, flags, a status, codes of device variables, a long tag, a time stamp */
+    HART_NUMBER = 1,      /* a number or a code of one or two bytes */
+    HART_PACKED_TEXT = 2, /* packed text, four characters in three bytes */
+    HART_DATE = 3,        /* a date in three bytes: the day, the month, the year after 1900 */
+    HART_FLOAT = 4,       /* a floating point number of IEEE 754 in four bytes */
+    HART_VARIABLES = 5    /* device variables of eight bytes each: code, classification, unit, value in four bytes, status */
+};
+
+/* A field of data: where it stands in what was passed, and how its bytes are meant. */
+typedef struct hart_field {
+    uint8_t start; /* the place of its first byte, from 0 */
+    uint8_t len;   /* how many bytes it has */
+    uint8_t kind;  /* HART_BYTES to HART_VARIABLES */
+} hart_field;
+
+/* What was read of the data of a message. */
+typedef struct hart_reading {
+    size_t count;   /* how many fields there are; as many as there is room for stand in fields, and what comes after them is as it was */
+    size_t taken;   /* how many bytes are taken; what comes after them is ignored */
+    uint8_t code;   /* of a reply its response code; of a request the response code that refuses it, or 0 */
+    uint8_t status; /* of a reply its device status; of a request 0 */
+    uint8_t fault;  /* HART_OK, or why nothing is told */
+} hart_reading;
+
+/* Reads the data of a request of this command, and shows where its fields stand. 16 fields are room for any request or reply. A request
+ * that is refused has no fields, and of it nothing is taken; its code is the first of these that holds: 64, the command is not known; 5,
+ * too few bytes; 2, Command 6 with an address above 63; 12, Command 6 with a mode above 1; 9, Command 18 with a bad date. There is no
+ * fault. */
+hart_reading hart_read_request(uint8_t command, const uint8_t *data, size_t data_len, hart_field *fields, size_t fields_len);
+
+/* Reads the payload of a reply to this command, from its two status bytes on, and shows where its fields stand, counted from the first
+ * status byte: so the first field starts at 2, and two bytes at least are taken. A reply with another code than 0 has no fields. It is
+ * HART_NO_REPLY, and nothing is told or shown, if the payload has fewer than two bytes, if bit 7 of the first is set, if the command is
+ * not known, or if with code 0 its data are not those of the command. */
+hart_reading hart_read_reply(uint8_t command, const uint8_t *payload, size_t payload_len, hart_field *fields, size_t fields_len);
+
+/* Writes the name of a command at the front of `output`, with no 0 after it. 64 bytes are room for any name. It is HART_UNKNOWN for a
+ * command that is not known, and HART_NO_ROOM if the name does not fit. */
+hart_outcome hart_command_name(uint8_t command, uint8_t *output, size_t output_len);
+
+/* Writes the name of a field of a command at the front of `output`, with no 0 after it: of its replies or of its requests, the field that
+ * hart_read_reply or hart_read_request shows at this index. It is HART_UNKNOWN if there is no such command or field, and HART_NO_ROOM if
+ * the name does not fit. */
+hart_outcome hart_field_name(bool is_reply, uint8_t command, size_t index, uint8_t *output, size_t output_len);
 
 #ifdef __cplusplus
 }

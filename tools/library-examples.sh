@@ -1,6 +1,6 @@
 #!/bin/sh
 # Holds include/hart.h against the source, makes the library, builds the examples without a warning, and runs them: on captures they have
-# to print just what the program does, whether the capture comes at once or byte by byte.
+# to print just what the program does, whether the capture comes at once or byte by byte; the one of fields, what is written here.
 #
 # A C compiler and Python are needed. C++ and Rust are tried where they are found, and so are the sanitizers of the C compiler.
 #
@@ -57,6 +57,18 @@ if $cc -std=c11 $strict -fsanitize=address,undefined -Iinclude examples/c/messag
 else
     echo "no sanitizers: the example in C was not run under them"
 fi
+# A reply of Command 1, Command 11 with too few data, and a write.
+cat >"$work/fields" <<'FIELDS'
+reply, Command 1, read primary variable, code 0
+    primary variable unit: 20
+    primary variable: 25
+request, Command 11, read unique identifier associated with tag, code 5
+request, Command 19, write final assembly number, code 0
+    final assembly number: 01 23 45
+FIELDS
+$cc -std=c11 $strict -Iinclude examples/c/fields.c "$work/libhart.a" -o "$work/fields_c"
+printf '%s' FFFF86B7420A1B2C010700002041C80000E1 FFFFE28000000000AABBCC0B01FF4A FFFF82B7420A1B2C13030123453D | xxd -r -p |
+    "$work/fields_c" | cmp "$work/fields" -
 if "$cxx" --version >"$work/said" 2>&1; then
     $cxx -std=c++17 $strict -Iinclude examples/cpp/messages.cpp "$work/libhart.a" -o "$work/messages_cpp"
     hold "$work/messages_cpp"

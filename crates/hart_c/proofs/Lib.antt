@@ -1,3 +1,4 @@
 mod Shown
 mod Found
 mod Searches
+mod Placed

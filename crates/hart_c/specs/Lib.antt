@@ -4,3 +4,5 @@ pub mod Faults
 pub mod Encode
 pub mod Decode
 pub mod Find
+pub mod Data
+pub mod Names

@@ -31,11 +31,17 @@ pub const HART_BAD_ADDRESS: u8 = 10;
 /// More than three expansion bytes.
 pub const HART_LONG_EXPANSION: u8 = 11;
 
-/// The output has no room for the message.
+/// The output has no room for what is to be written.
 pub const HART_NO_ROOM: u8 = 12;
 
 /// A character has another bit than fault bits.
 pub const HART_BAD_FAULT_BITS: u8 = 13;
+
+/// A payload is no reply to the command.
+pub const HART_NO_REPLY: u8 = 14;
+
+/// There is no such command or field.
+pub const HART_UNKNOWN: u8 = 15;
 
 /// How many bytes were written or read, or why none were.
 #[repr(C)]

@@ -5,20 +5,24 @@
 #![tactic(auto)]
 
 mod check;
+mod data;
 mod decode;
 mod encode;
 mod fault;
 mod find;
 mod frame;
 mod laws;
+mod name;
 
 pub use check::hart_check_byte;
+pub use data::{HartField, HartReading, hart_read_reply, hart_read_request};
 pub use decode::hart_decode;
 pub use encode::hart_encode;
 pub use fault::HartOutcome;
 pub use find::{HartChar, HartSearch, hart_find, hart_find_in_bytes};
 pub use frame::HartFrame;
 pub use laws::searches_give_all_frames;
+pub use name::{hart_command_name, hart_field_name};
 
 #[cfg(test)]
 mod tests;

@@ -1,6 +1,8 @@
 //! Each call once, as C makes it.
 use super::*;
 
+mod data;
+
 /// Command 19 of the primary master to device 37420A1B2C, after two preamble bytes, and the beginning of Command 0.
 const HEARD: &[u8] = &[
     0xFF, 0xFF, 0x82, 0xB7, 0x42, 0x0A, 0x1B, 0x2C, 0x13, 0x03, 0x01, 0x23, 0x45, 0x3D, 0xFF, 0xFF,

@@ -1,8 +1,8 @@
 -- The laws of requests, of fields, of registers and of overwrites, for the proofs of the crates above.
-use Rattle.std.proofs.Common.{◌≡◌, ◌≢◌, ℕ, AllPairs, Contains, IsSome, IsTrue, List, Ok, refl, ap, ◌∙◌, lit<, rules}
+use Rattle.std.proofs.Common.{◌≡◌, ◌≢◌, ℕ, AllPairs, Contains, IsSome, IsTrue, List, Ok, Some, length, take, refl, ap, ◌∙◌, lit<, rules}
 use Rattle.std.specs.List.{concat}
 use Rattle.hart_commands.specs.Fields.{bytes_of, fields_of, reply_rows, request_rows}
-use Rattle.hart_commands.specs.ReplyData.{IsReply, content_bytes}
+use Rattle.hart_commands.specs.ReplyData.{IsReply, content_bytes, reply_payload, reply_reading}
 use Rattle.hart_commands.specs.RequestCode.{is_write}
 use Rattle.hart_commands.specs.RequestData.{IsRequest, command_of, request_data, request_reading}
 use Rattle.hart_commands.specs.Registers.{AreValid, Contents, overwrite_of, overwritten, registers}
@@ -11,6 +11,7 @@ use Rattle.hart_commands.specs.declared.register.Register.TheVariants.{Polling, 
 use Rattle.hart_commands.specs.declared.reply.Reply.{Reply}
 use Rattle.hart_commands.specs.declared.request.Request.{Request}
 use Rattle.hart_commands.proofs.lemmas.Parted.{bytes-each, content-parts, request-parts}
+use Rattle.hart_commands.proofs.lemmas.Reply.{read-kept}
 use Rattle.hart_commands.proofs.lemmas.ReplyFields.{parts_of_reply}
 use Rattle.hart_commands.proofs.lemmas.RequestFields.{parts_of_request}
 use Rattle.hart_commands.proofs.lemmas.Request.{written_is_own}
@@ -51,6 +52,10 @@ requests_have_their_command = read-asked
 pub written_data_are_their_request : (request : Request) → IsRequest request
     → request_reading (command_of request) (request_data request) ≡ Ok request
 written_data_are_their_request = written_is_own
+
+pub written_payloads_are_read_again-kept : (command : ℕ) (payload : List ℕ) (reply : Reply) → reply_reading command payload ≡ Some reply
+    → reply_payload reply ≡ take (length (reply_payload reply)) payload
+written_payloads_are_read_again-kept command payload reply read = (read-kept command payload reply read).written
 
 pub writes_have_overwrites-exactly : (request : Request)
     → (IsTrue (is_write (command_of request)) → IsSome (overwrite_of request))

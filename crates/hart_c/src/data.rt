@@ -1,0 +1,185 @@
+//! What the data of a message mean, and where each of their fields stands.
+ghost use Rattle.std.specs.Prelude.{◌≡◌, ◌+◌, ◌≤◌, Some, length, map, slice_set};
+ghost use Rattle.hart_commands.specs.Fields.{fields_of, seen};
+ghost use Rattle.hart_commands.specs.ReplyData.{reply_reading};
+ghost use Rattle.hart_c.specs.Data.{ReplyOutcome, ReplyShown, RequestOutcome, kind_number, placed, written_over};
+
+use crate::fault::{HART_NO_REPLY, HART_OK};
+use hart_commands::{FieldKind, FieldRow, Reply, Request, reply_rows, request_rows};
+use hart_values::{Payload, ResponseCode};
+
+/// The bytes of the field stand for themselves.
+pub const HART_BYTES: u8 = 0;
+
+/// A number or a code, the most significant byte first.
+pub const HART_NUMBER: u8 = 1;
+
+/// Packed text, four characters in three bytes.
+pub const HART_PACKED_TEXT: u8 = 2;
+
+/// A date: day, month, and year after 1900.
+pub const HART_DATE: u8 = 3;
+
+/// A floating point number of IEEE 754, the most significant byte first.
+pub const HART_FLOAT: u8 = 4;
+
+/// Device variables of eight bytes each: code, classification, unit, value in four bytes, status.
+pub const HART_VARIABLES: u8 = 5;
+
+/// Where a field stands in what was passed, and how its bytes are meant.
+#[repr(C)]
+#[derive(Clone, Copy)]
+pub struct HartField {
+    /// The place of its first byte, from 0.
+    pub start: u8,
+    /// How many bytes it has.
+    pub len: u8,
+    /// How they are meant, as one of [`HART_BYTES`] to [`HART_VARIABLES`].
+    pub kind: u8,
+}
+
+/// What was read of the data of a message.
+#[repr(C)]
+#[derive(Clone, Copy)]
+pub struct HartReading {
+    /// How many fields there are; as many as there is room for are shown.
+    pub count: usize,
+    /// How many bytes are taken; what comes after them is ignored.
+    pub taken: usize,
+    /// The response code: of a reply its own, of a request that which refuses it, or 0.
+    pub code: u8,
+    /// The device status of a reply; of a request 0.
+    pub status: u8,
+    /// 0, or why nothing is told.
+    pub fault: u8,
+}
+
+/// Reads the data of a request of this command, and shows where their fields stand, as many as there is room for (HCF_SPEC-127).
+///
+/// A request that is refused has no fields, and its code is the first of these that holds: 64 if the command is not known; 5 if there
+/// are too few bytes; 2 for an address above 63 of Command 6, and then 12 for a mode above 1; 9 for a bad date of Command 18.
+#[unsafe(no_mangle)]
+pub extern "C" fn hart_read_request(
+    command: u8,
+    data: &[u8],
+    fields: &mut [HartField],
+) -> HartReading
+    ensures { RequestOutcome command «data».now fields.old fields.new result }
+{
+    match Request::read(command, data) {
+        Ok(request) => {
+            let taken = &data[..request.data_len().min(data.len())];
+            HartReading {
+                count: show_fields(request_rows(command), taken, 0, fields),
+                taken: taken.len(),
+                code: 0,
+                status: 0,
+                fault: HART_OK,
+            }
+        }
+        Err(code) => HartReading {
+            count: 0,
+            taken: 0,
+            code: code.value(),
+            status: 0,
+            fault: HART_OK,
+        },
+    }
+}
+
+/// Reads the payload of a reply to this command, from its two status bytes on, and shows where the fields of its data stand, as many as
+/// there is room for (HCF_SPEC-127). With another code than 0 there are none.
+///
+/// # Errors
+///
+/// [`HART_NO_REPLY`] if it is no reply to this command: if it has fewer than two bytes, if bit 7 of the first is set, if the command is
+/// not known, or if with code 0 the data are no content of the command. Nothing is then shown.
+#[unsafe(no_mangle)]
+pub extern "C" fn hart_read_reply(
+    command: u8,
+    payload: &[u8],
+    fields: &mut [HartField],
+) -> HartReading
+    ensures { ReplyOutcome command payload.now fields.old fields.new result }
+{
+    match Reply::read(command, payload) {
+        Some(reply) => show_reply(command, payload, &reply, fields),
+        None => HartReading {
+            count: 0,
+            taken: 0,
+            code: 0,
+            status: 0,
+            fault: HART_NO_REPLY,
+        },
+    }
+}
+
+/// Shows where the fields of a reply stand in the payload that it was read from.
+fn show_reply(command: u8, payload: &[u8], reply: &Reply, fields: &mut [HartField]) -> HartReading
+    requires { reply_reading command payload.now ≡ Some reply.now }
+    ensures { ReplyShown command payload.now (Some reply.now) fields.old fields.new result }
+{
+    let mut written = Payload::new();
+    reply.write(&mut written);
+    let mut count = 0;
+    if reply.code == ResponseCode::SUCCESS {
+        let taken = &payload[2..written.len()];
+        count = show_fields(reply_rows(command), taken, 2, fields);
+    }
+    HartReading {
+        count,
+        taken: written.len(),
+        code: reply.code.value(),
+        status: reply.status.0,
+        fault: HART_OK,
+    }
+}
+
+/// Shows where the fields of data stand by these rows, the first from a place on, as many as there is room for, and gives how many there
+/// are.
+fn show_fields(rows: &[FieldRow], bytes: &[u8], start: u8, fields: &mut [HartField]) -> usize
+    requires { start + length bytes.now ≤ 255 }
+    ensures count { result ≡ length (fields_of (map seen rows.now) bytes.now) }
+    ensures shown { fields.new ≡ written_over (placed start (fields_of (map seen rows.now) bytes.now)) fields.old }
+{
+    let mut rest = bytes;
+    let mut place = start;
+    let mut count = 0;
+    for row in rows {
+        let Some((field, after)) = row.split(rest) else {
+            return count;
+        };
+        show_field(row.kind, place, field.len() as u8, count, fields);
+        place += field.len() as u8;
+        count += 1;
+        rest = after;
+    }
+    count
+}
+
+/// Shows where a field stands, if there is room for so many before it.
+fn show_field(kind: FieldKind, start: u8, len: u8, count: usize, fields: &mut [HartField])
+    ensures { fields.new ≡ slice_set fields.old count (record { start = start; len = len; kind = kind_number kind }) }
+{
+    if count < fields.len() {
+        fields[count] = HartField {
+            start,
+            len,
+            kind: kind_number(kind),
+        };
+    }
+}
+
+/// The number of a way in which the bytes of a field are meant, for C.
+fn kind_number(kind: FieldKind) -> u8
+    ensures { result ≡ kind_number kind }
+{
+    match kind {
+        FieldKind::Bytes => HART_BYTES,
+        FieldKind::Number => HART_NUMBER,
+        FieldKind::PackedText => HART_PACKED_TEXT,
+        FieldKind::Date => HART_DATE,
+        FieldKind::Float => HART_FLOAT,
+        FieldKind::Variables => HART_VARIABLES,
+    }
+}

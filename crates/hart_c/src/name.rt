@@ -1,0 +1,74 @@
+//! The names of the commands and of the fields of their data.
+ghost use Rattle.std.specs.Prelude.{◌≡◌, map, option_map};
+ghost use Rattle.hart_commands.specs.Fields.{command_name, seen};
+ghost use Rattle.hart_c.specs.Names.{NameOutcome, field_name, rows_for};
+
+use crate::fault::{HART_NO_ROOM, HART_OK, HART_UNKNOWN, HartOutcome};
+use hart_commands::{FieldRow, command_name, reply_rows, request_rows};
+
+/// Writes the name of a command in the standard at the front of `output`, with no zero byte after it (HCF_SPEC-099).
+///
+/// # Errors
+///
+/// [`HART_UNKNOWN`] if the command is not known, [`HART_NO_ROOM`] if the name does not fit. The output is then as it was.
+#[unsafe(no_mangle)]
+pub extern "C" fn hart_command_name(command: u8, output: &mut [u8]) -> HartOutcome
+    ensures { NameOutcome (command_name command) output.old output.new result }
+{
+    write_name(command_name(command), output)
+}
+
+/// Writes the name of a field of a command at the front of `output`, with no zero byte after it: the field of this index, from 0, of
+/// those that `hart_read_request` or `hart_read_reply` shows (HCF_SPEC-127).
+///
+/// # Errors
+///
+/// [`HART_UNKNOWN`] if the command is not known or has no such field, [`HART_NO_ROOM`] if the name does not fit. The output is then as
+/// it was.
+#[unsafe(no_mangle)]
+pub extern "C" fn hart_field_name(
+    is_reply: bool,
+    command: u8,
+    index: usize,
+    output: &mut [u8],
+) -> HartOutcome
+    ensures { NameOutcome (field_name is_reply command index) output.old output.new result }
+{
+    let name = rows_for(is_reply, command).get(index).map(|row| row.name);
+    write_name(name, output)
+}
+
+/// The fields of a command.
+fn rows_for(is_reply: bool, command: u8) -> &'static [FieldRow]
+    ensures { map seen result.now ≡ rows_for is_reply command }
+{
+    if is_reply {
+        reply_rows(command)
+    } else {
+        request_rows(command)
+    }
+}
+
+/// Writes a name at the front of `output`, if there is one and it fits.
+fn write_name(name: Option<&'static str>, output: &mut [u8]) -> HartOutcome
+    ensures { NameOutcome (option_map (λ text. text.now) name.entry) output.old output.new result }
+{
+    let Some(name) = name else {
+        return HartOutcome {
+            len: 0,
+            fault: HART_UNKNOWN,
+        };
+    };
+    let len = name.len();
+    if output.len() < len {
+        return HartOutcome {
+            len: 0,
+            fault: HART_NO_ROOM,
+        };
+    }
+    output[..len].copy_from_slice(name.as_bytes());
+    HartOutcome {
+        len,
+        fault: HART_OK,
+    }
+}
