@@ -143,6 +143,7 @@ fn step(scanner: &Scanner, count: usize) -> HartSearch
 }
 
 /// Shows the frames that a scanner gives, after so many others, until it gives none or there is no more room.
+#[inline(always)]
 fn fill(scanner: &mut Scanner, frames: &mut [HartFrame], count: usize) -> usize
     requires room { count ≤ length frames.old }
     ensures within { result ≤ length frames.new }
@@ -169,6 +170,7 @@ fn fill(scanner: &mut Scanner, frames: &mut [HartFrame], count: usize) -> usize
 }
 
 /// Shows the next frame that a scanner gives, and whether there is one.
+#[inline(always)]
 fn give(scanner: &mut Scanner, frame: &mut HartFrame) -> bool
     ensures found { IsTrue result → Gives scanner.old scanner.new (found_in frame.new) }
     ensures tidy { IsTrue result → IsTidy frame.new }

@@ -104,7 +104,9 @@ fn show_parts(parts: &Parts<'_>, frame: &mut HartFrame)
     frame.command = parts.command;
     show_address(parts.address, frame);
     frame.expansion_len = parts.expansion.len() as u8;
-    frame.expansion[..parts.expansion.len()].copy_from_slice(parts.expansion);
+    if !parts.expansion.is_empty() {
+        frame.expansion[..parts.expansion.len()].copy_from_slice(parts.expansion);
+    }
     frame.payload_len = parts.payload.len() as u8;
     frame.payload[..parts.payload.len()].copy_from_slice(parts.payload);
 }

@@ -44,6 +44,17 @@ impl Buffer {
             self.end();
             return None;
         }
+        self.decide_held()
+    }
+
+    /// The same, if bytes are held. It stands apart because after most frames none are.
+    #[inline(never)]
+    fn decide_held(&mut self) -> Option<Layout>
+        requires sound { IsSound self.old }
+        requires busy { self.old.state ≡ Busy }
+        ensures sound { IsSound self.new }
+        ensures seen { MatchOption result (GivesNothing (scan_of self.old) (scan_of self.new)) (HoldsWhole self.old self.new) }
+    {
         let found = self.search_held();
         self.pass(found.place);
         if let Some(layout) = found.layout {

@@ -7,7 +7,7 @@ use Rattle.hart_frame.specs.declared.wire.layout.Layout.{Layout}
 use Rattle.hart_frame.specs.declared.scan.buffer.Buffer.{Buffer}
 use Rattle.hart_frame.specs.declared.scan.buffer.State.TheVariants.{Stands}
 use Rattle.hart_frame.proofs.lemmas.scan.Decision.{given_nothing, given_open, given_stands, waits_open}
-use Rattle.hart_frame.proofs.scan.buffer.Buffer.decide.Goals as goal
+use Rattle.hart_frame.proofs.scan.buffer.Buffer.decide_held.Goals as goal
 
 -- what is found, by the layout that there is or is not
 abbrev Found : Buffer → ℕ → Option Layout → Type 0
@@ -23,10 +23,10 @@ returns-in-Some-clause-seen c =
     let Stands : Option Layout → Type 0 = λ l. Found b found.place l in
     subst Of (sym c.pass.ensures.passed) (given_stands b found layout c.requires.busy is (subst Stands c.in-Some.is is.stands))
 
-pub returns-then-is_empty-2-clause-seen : goal.returns-then-is_empty-2-clause-seen
-returns-then-is_empty-2-clause-seen c = search (arith, given_nothing)
+pub returns-then-is_empty-clause-seen : goal.returns-then-is_empty-clause-seen
+returns-then-is_empty-clause-seen c = search (arith, given_nothing)
 
-pub returns-else-is_empty-2-clause-seen : goal.returns-else-is_empty-2-clause-seen
-returns-else-is_empty-2-clause-seen c =
-    let some : 0 < length c.held-2.result.now = search rules in
+pub returns-else-is_empty-clause-seen : goal.returns-else-is_empty-clause-seen
+returns-else-is_empty-clause-seen c =
+    let some : 0 < length c.held.result.now = search rules in
     grind (arith, waits_open, given_open)
