@@ -54,7 +54,14 @@ enum {
     HART_NO_ROOM = 12,        /* the output has no room for what is to be written */
     HART_BAD_FAULT_BITS = 13, /* a character has another bit than fault bits */
     HART_NO_REPLY = 14,       /* a payload is no reply to the command */
-    HART_UNKNOWN = 15         /* there is no such command or field */
+    HART_UNKNOWN = 15,        /* there is no such command or field */
+    HART_OUT_OF_RANGE = 16,   /* a number of an identity is out of range */
+    HART_BROADCAST_ADDRESS = 17, /* the unique address of an identity would be the broadcast address */
+    HART_BAD_VERSION = 18,    /* an image of a version that is not known */
+    HART_BAD_LENGTH = 19,     /* an image of no bytes, or not of as many as its version has */
+    HART_BAD_FIELD = 20,      /* a register would hold bytes that are not valid in it, or the flags of an image are above 7 */
+    HART_BAD_VARIABLES = 21,  /* a process without a dynamic variable, or with more than four */
+    HART_TOO_LONG = 22        /* more than 1,024 characters are heard at once */
 };
 
 /* A character that was heard. */
@@ -147,6 +154,111 @@ hart_outcome hart_command_name(uint8_t command, uint8_t *output, size_t output_l
  * hart_read_reply or hart_read_request shows at this index. It is HART_UNKNOWN if there is no such command or field, and HART_NO_ROOM if
  * the name does not fit. */
 hart_outcome hart_field_name(bool is_reply, uint8_t command, size_t index, uint8_t *output, size_t output_len);
+
+/* Devices: a field device that answers what it hears. Who it is and what it measures is handed in at each call; what it holds is kept by
+ * the caller between the calls, in a hart_device, which may be stored and read again as any bytes are. A float is four bytes, the most
+ * significant first. docs/COMMANDS.md says what each field is to a master. */
+
+/* Who a device is. */
+typedef struct hart_identity {
+    uint32_t device_id;                  /* at most 0xFFFFFF */
+    uint16_t expanded_device_type;       /* of which the lower 14 bits stand in the unique address */
+    uint16_t manufacturer;
+    uint16_t private_label_distributor;
+    uint8_t request_preambles;           /* the least number of preamble bytes of a request, 5 to 20 */
+    uint8_t response_preambles;          /* the number of preamble bytes of a reply, 5 to 20 */
+    uint8_t device_revision;
+    uint8_t software_revision;
+    uint8_t hardware_revision;           /* at most 31 */
+    uint8_t signalling_code;             /* at most 7 */
+    uint8_t flags;
+    uint8_t device_variables;            /* the greatest number of device variables */
+    uint8_t device_profile;
+} hart_identity;
+
+/* A dynamic variable. */
+typedef struct hart_variable {
+    uint8_t classification;
+    uint8_t unit;
+    uint8_t value[4]; /* a float */
+    uint8_t status;
+} hart_variable;
+
+/* What a device says of its sensor, Command 14. The limits and the span are floats. */
+typedef struct hart_sensor {
+    uint8_t serial_number[3];
+    uint8_t unit; /* of the limits and of the span */
+    uint8_t upper_limit[4];
+    uint8_t lower_limit[4];
+    uint8_t minimum_span[4];
+} hart_sensor;
+
+/* The loop current output, Command 15. The range values and the damping are floats. */
+typedef struct hart_output {
+    uint8_t alarm_code;
+    uint8_t transfer_function;
+    uint8_t unit; /* of the range values */
+    uint8_t upper_range_value[4];
+    uint8_t lower_range_value[4];
+    uint8_t damping[4]; /* in seconds */
+    uint8_t channel_flags;
+} hart_output;
+
+/* What a device measures, and what it knows of its parts. */
+typedef struct hart_process {
+    uint8_t loop_current[4];       /* in milliampere, a float */
+    uint8_t percent_of_range[4];   /* a float */
+    hart_variable variables[4];    /* the dynamic variables, the primary one first; those after variables_len of them mean nothing */
+    uint8_t variables_len;         /* 1 to 4 */
+    uint8_t time_stamp[4];         /* when the variables were measured */
+    uint8_t status;                /* the bits 0x80, 0x04, 0x02 and 0x01 of the device status; others are not looked at */
+    uint8_t additional_status[25]; /* byte 6, counted from 0, is the extended device status */
+    hart_sensor sensor;
+    hart_output output;
+} hart_process;
+
+/* What the registers of a new device hold. */
+typedef struct hart_registers {
+    uint8_t polling_address;   /* at most 63 */
+    uint8_t loop_current_mode; /* 1 if the loop current follows the process, 0 if it is held */
+    uint8_t message[24];       /* packed text, as the tag and the descriptor */
+    uint8_t tag[6];
+    uint8_t descriptor[12];
+    uint8_t date[3];           /* the day, the month and the year less 1900, or three zeros if it is not set */
+    uint8_t assembly[3];       /* the final assembly number */
+    uint8_t long_tag[32];
+} hart_registers;
+
+/* What is kept of a device from call to call: all that it holds, but not who it is. An image of `hart sim --image` may be put in, with
+ * both bits false; a call that changes the device leaves an image of version 2. */
+typedef struct hart_device {
+    uint8_t image[86];        /* of version 2 (86 bytes) or of version 1 (54); bytes after image_len of them mean nothing */
+    uint8_t image_len;
+    bool primary_cold_start;  /* the next reply to the primary master shows it a cold start */
+    bool secondary_cold_start;
+} hart_device;
+
+/* The bench device, which the program `hart` has: who it is, what it measures, and what its registers begin with. */
+void hart_bench_identity(hart_identity *identity);
+void hart_bench_process(hart_process *process);
+void hart_bench_registers(hart_registers *registers);
+
+/* Makes a new device with these registers, whose counter is 0 and whose bits are all clear, and tells the length of its image, 86.
+ * HART_BAD_FIELD for a polling address above 63, a loop current mode above 1 or a date that is none: `device` is then as it was. */
+hart_outcome hart_new_device(const hart_registers *registers, hart_device *device);
+
+/* The device was without power: sets both cold start bits, and nothing else. */
+void hart_restart(hart_device *device);
+
+/* A device hears these characters at once, all of what came between two silences. If they have exactly one frame, and that is a request
+ * for the device, it carries it out and replies; a request that was damaged after the device's own address is not carried out, and the
+ * reply says how it was damaged; to all else it keeps silent. `reply` then begins with the whole message to send, its preamble bytes
+ * first, of which the length is told, 0 for silence; 287 bytes are room for any. `device` is the device after it. The fault is the first
+ * of these that holds: HART_OUT_OF_RANGE, HART_BROADCAST_ADDRESS (the identity); HART_BAD_LENGTH for an image_len of 0 or above 86,
+ * HART_BAD_VERSION, HART_BAD_LENGTH, HART_BAD_FIELD (the image); HART_BAD_VARIABLES; HART_BAD_FAULT_BITS, HART_TOO_LONG (the
+ * characters); HART_NO_ROOM. Nothing is then carried out: device and reply are as they were. */
+hart_outcome hart_hear(const hart_identity *identity, const hart_process *process, const hart_char *heard, size_t heard_len,
+                       hart_device *device, uint8_t *reply, size_t reply_len);
 
 #ifdef __cplusplus
 }

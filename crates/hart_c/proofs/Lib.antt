@@ -2,3 +2,4 @@ mod Shown
 mod Found
 mod Searches
 mod Placed
+mod Said

@@ -32,7 +32,7 @@ IsEncodeFault frame preambles room (Frame BadPreamble) = IsFrame frame × (IsPre
 IsEncodeFault frame preambles room NoRoom =
     IsFrame frame × IsPreambleCount preambles
     × ((message : List ℕ) × IsMessage (frame_in frame) preambles message × (room < length message))
-IsEncodeFault frame preambles room (Frame other) = ⊥
+IsEncodeFault frame preambles room _ = ⊥
 
 -- A message of the frame was written over the front of the output, and what came after it there stays.
 pub record IsWritten (frame : HartFrame) (preambles : ℕ) (before after : List ℕ) (len : ℕ) : Type 0 where

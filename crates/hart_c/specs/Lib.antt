@@ -6,3 +6,8 @@ pub mod Decode
 pub mod Find
 pub mod Data
 pub mod Names
+pub mod Identity
+pub mod Process
+pub mod Registers
+pub mod Heard
+pub mod Device

@@ -1,7 +1,8 @@
 //! Why a call wrote nothing, as numbers for C.
 ghost use Rattle.std.specs.Prelude.{◌≡◌};
-ghost use Rattle.hart_c.specs.Faults.{number_of, frame_fault_number};
+ghost use Rattle.hart_c.specs.Faults.{number_of, device_fault_number, frame_fault_number};
 
+use hart_device::DeviceFault;
 use hart_frame::FrameFault;
 
 /// All is well.
@@ -43,6 +44,27 @@ pub const HART_NO_REPLY: u8 = 14;
 /// There is no such command or field.
 pub const HART_UNKNOWN: u8 = 15;
 
+/// A number of an identity is out of range.
+pub const HART_OUT_OF_RANGE: u8 = 16;
+
+/// The unique address of an identity would be the broadcast address.
+pub const HART_BROADCAST_ADDRESS: u8 = 17;
+
+/// An image of a version that is not known.
+pub const HART_BAD_VERSION: u8 = 18;
+
+/// An image of no bytes, or not of as many as its version has.
+pub const HART_BAD_LENGTH: u8 = 19;
+
+/// A register would hold bytes that are not valid in it, or the flags of an image are above 7.
+pub const HART_BAD_FIELD: u8 = 20;
+
+/// A process without a dynamic variable, or with more than four.
+pub const HART_BAD_VARIABLES: u8 = 21;
+
+/// More than 1,024 characters are heard at once.
+pub const HART_TOO_LONG: u8 = 22;
+
 /// How many bytes were written or read, or why none were.
 #[repr(C)]
 #[derive(Clone, Copy)]
@@ -64,6 +86,14 @@ pub(crate) enum Fault {
     LongExpansion,
     /// The output has no room for the message.
     NoRoom,
+    /// A character has another bit than fault bits.
+    BadFaultBits,
+    /// The identity, the image or the registers of a device are refused so.
+    Device(DeviceFault),
+    /// A process has no dynamic variable, or more than four.
+    BadVariables,
+    /// There are more than 1,024 characters.
+    TooLong,
 }
 
 impl Fault {
@@ -76,7 +106,24 @@ impl Fault {
             Fault::BadAddress => HART_BAD_ADDRESS,
             Fault::LongExpansion => HART_LONG_EXPANSION,
             Fault::NoRoom => HART_NO_ROOM,
+            Fault::BadFaultBits => HART_BAD_FAULT_BITS,
+            Fault::Device(fault) => number_of_device_fault(fault),
+            Fault::BadVariables => HART_BAD_VARIABLES,
+            Fault::TooLong => HART_TOO_LONG,
         }
+    }
+}
+
+/// The number of a fault of a device for C.
+fn number_of_device_fault(fault: DeviceFault) -> u8
+    ensures { result ≡ device_fault_number fault }
+{
+    match fault {
+        DeviceFault::OutOfRange => HART_OUT_OF_RANGE,
+        DeviceFault::BroadcastAddress => HART_BROADCAST_ADDRESS,
+        DeviceFault::BadVersion => HART_BAD_VERSION,
+        DeviceFault::BadLength => HART_BAD_LENGTH,
+        DeviceFault::BadField => HART_BAD_FIELD,
     }
 }
 

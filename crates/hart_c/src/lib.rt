@@ -7,22 +7,31 @@
 mod check;
 mod data;
 mod decode;
+mod device;
 mod encode;
 mod fault;
 mod find;
 mod frame;
+mod heard;
+mod identity;
 mod laws;
 mod name;
+mod process;
+mod registers;
 
 pub use check::hart_check_byte;
 pub use data::{HartField, HartReading, hart_read_reply, hart_read_request};
 pub use decode::hart_decode;
+pub use device::{HartDevice, hart_hear, hart_new_device, hart_restart};
 pub use encode::hart_encode;
 pub use fault::HartOutcome;
 pub use find::{HartChar, HartSearch, hart_find, hart_find_in_bytes};
 pub use frame::HartFrame;
+pub use identity::{HartIdentity, hart_bench_identity};
 pub use laws::searches_give_all_frames;
 pub use name::{hart_command_name, hart_field_name};
+pub use process::{HartOutput, HartProcess, HartSensor, HartVariable, hart_bench_process};
+pub use registers::{HartRegisters, hart_bench_registers};
 
 #[cfg(test)]
 mod tests;

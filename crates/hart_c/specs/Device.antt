@@ -1,0 +1,134 @@
+-- The device that a caller in C keeps, and what the calls make of it (own profile).
+use Rattle.std.specs.Prelude.{◌≡◌, ◌<◌, ◌≤◌, ◌⊎◌, ◌++◌, ℕ, Bool, true, List, Option, None, Some, drop, length, map, take}
+use Rattle.hart_values.specs.declared.each_master.EachMaster.{EachMaster}
+use Rattle.hart_frame.specs.wire.FrameParts.{FrameParts}
+use Rattle.hart_frame.specs.wire.Message.{IsMessage}
+use Rattle.hart_commands.specs.Registers.{AreValid}
+use Rattle.hart_device.specs.Device.{DeviceState, new_device, restarted}
+use Rattle.hart_device.specs.Identity.{AreIdentityParts, IsIdentityFault}
+use Rattle.hart_device.specs.answer.Delivery.{Brings, Brought, answer_to, state_after_delivery}
+use Rattle.hart_device.specs.image.Image.{IsImageFault, IsImageOf, image_of}
+use Rattle.hart_device.specs.registers.Values.{values_of}
+use Rattle.hart_device.specs.declared.fault.DeviceFault.{DeviceFault}
+use Rattle.hart_device.specs.declared.fault.DeviceFault.TheVariants.{BadField, BadLength}
+use Rattle.hart_device.specs.declared.identity_parts.IdentityParts.{IdentityParts}
+use Rattle.hart_device.specs.declared.process.Process.{Process}
+use Rattle.hart_device.specs.declared.registers.values.RegisterValues.{RegisterValues}
+use Rattle.hart_c.specs.declared.device.HartDevice.{HartDevice}
+use Rattle.hart_c.specs.declared.fault.Fault.{Fault}
+use Rattle.hart_c.specs.declared.fault.Fault.TheVariants.{BadFaultBits, BadVariables, Device, NoRoom, TooLong}
+use Rattle.hart_c.specs.declared.fault.HartOutcome.{HartOutcome}
+use Rattle.hart_c.specs.declared.find.HartChar.{HartChar}
+use Rattle.hart_c.specs.declared.identity.HartIdentity.{HartIdentity}
+use Rattle.hart_c.specs.declared.process.HartProcess.{HartProcess}
+use Rattle.hart_c.specs.declared.registers.HartRegisters.{HartRegisters}
+use Rattle.hart_c.specs.Faults.{number_of}
+use Rattle.hart_c.specs.Find.{char_of}
+use Rattle.hart_c.specs.Heard.{IsDelivery, IsHeardFault}
+use Rattle.hart_c.specs.Identity.{parts_of}
+use Rattle.hart_c.specs.Process.{HasVariables, IsProcessOf}
+use Rattle.hart_c.specs.Registers.{contents_of}
+
+-- The image is the first of the bytes, as many as are said.
+abbrev pub image_in : HartDevice → List ℕ
+image_in device = take device.image_len device.image
+
+-- The cold start bit of each master.
+abbrev pub cold_start_in : HartDevice → EachMaster Bool
+cold_start_in device = record { primary = device.primary_cold_start; secondary = device.secondary_cold_start }
+
+-- With these parts of an identity a device that is kept stands for a state: that has this identity, the bytes are an image of it, and its
+-- cold start bits are those that are kept.
+pub record IsKept (parts : IdentityParts) (device : HartDevice) (state : DeviceState) : Type 0 where
+  pub is_identity : AreIdentityParts parts
+  pub identity : state.identity ≡ parts
+  pub fits : device.image_len ≤ 86
+  pub image : IsImageOf state (image_in device)
+  pub cold_start : state.cold_start ≡ cold_start_in device
+
+-- What is kept of a state: its image, of version 2, and its cold start bits.
+abbrev pub device_of : DeviceState → HartDevice
+device_of state = record {
+  image = image_of state;
+  image_len = 86;
+  primary_cold_start = state.cold_start.primary;
+  secondary_cold_start = state.cold_start.secondary;
+}
+
+-- Bytes that are said to be more than 86 are refused for their length, and others as an image is.
+abbrev pub IsKeptFault : HartDevice → DeviceFault → Type 0
+IsKeptFault device fault =
+    ((86 < device.image_len) × (fault ≡ BadLength)) ⊎ ((device.image_len ≤ 86) × IsImageFault (image_in device) fault)
+
+-- If every register would hold bytes that are valid in it, the device is kept that is new with them, whoever it is. Otherwise that is the
+-- fault, and what was kept stays.
+abbrev pub NewDeviceOutcome : HartRegisters → HartDevice → HartDevice → HartOutcome → Type 0
+NewDeviceOutcome given before after outcome =
+    ((outcome ≡ record { len = 86; fault = 0 })
+    × (values : RegisterValues) × (values_of values ≡ contents_of given) × AreValid (contents_of given)
+    × ((parts : IdentityParts) → after ≡ device_of (new_device parts values)))
+    ⊎ ((AreValid (contents_of given) → ⊥) × (outcome ≡ record { len = 0; fault = number_of (Device BadField) }) × (after ≡ before))
+
+-- A restart sets both cold start bits and nothing else: whichever state was kept, it is now that after a restart.
+pub record IsRestarted (before after : HartDevice) : Type 0 where
+  pub set : after ≡ record before { primary_cold_start = true; secondary_cold_start = true }
+  pub restarted : (parts : IdentityParts) (state : DeviceState) → IsKept parts before state → IsKept parts after (restarted state)
+
+-- What a device hears: it is kept in a state, its process is handed in, and a delivery brings it something.
+pub record IsHearing (identity : HartIdentity) (process : HartProcess) (heard : List HartChar) (device : HartDevice) : Type 0 where
+  pub state : DeviceState
+  pub measured : Process
+  pub brought : Brought
+  pub kept : IsKept (parts_of identity) device state
+  pub process_is : IsProcessOf process measured
+  pub delivery : IsDelivery heard
+  pub brings : Brings (parts_of identity) (map char_of heard) brought
+
+-- A reply was written as a message over the front of the output, and what came after it there stays; of silence all of it stays.
+abbrev pub IsSaid : Option FrameParts → ℕ → List ℕ → List ℕ → ℕ → Type 0
+IsSaid None preambles before after len = (len ≡ 0) × (after ≡ before)
+IsSaid (Some reply) preambles before after len =
+    (message : List ℕ) × IsMessage reply preambles message × (len ≡ length message) × (after ≡ message ++ drop len before)
+
+-- The message of a reply has more bytes than there is room for.
+abbrev pub HasNoRoom : Option FrameParts → ℕ → ℕ → Type 0
+HasNoRoom None preambles room = ⊥
+HasNoRoom (Some reply) preambles room = (message : List ℕ) × IsMessage reply preambles message × (room < length message)
+
+-- A device that hears a delivery says what it answers to what that brings, and what is kept is then the state after it.
+pub record Hears (identity : HartIdentity) (process : HartProcess) (heard : List HartChar) (before after : HartDevice)
+    (old new : List ℕ) (len : ℕ) : Type 0 where
+  pub hearing : IsHearing identity process heard before
+  pub reply : IsSaid (answer_to hearing.state hearing.measured hearing.brought) identity.response_preambles old new len
+  pub state : after ≡ device_of (state_after_delivery hearing.state hearing.brought)
+
+-- The identity and what is kept of the device are refused for no fault: the device is in a state.
+abbrev pub IsInState : HartIdentity → HartDevice → Type 0
+IsInState identity device = (state : DeviceState) × IsKept (parts_of identity) device state
+
+-- A fault of who a device is comes first, and then one of what is kept of it.
+abbrev pub IsStateFault : HartIdentity → HartDevice → Fault → Type 0
+IsStateFault identity device (Device fault) =
+    IsIdentityFault (parts_of identity) fault ⊎ (AreIdentityParts (parts_of identity) × IsKeptFault device fault)
+IsStateFault identity device _ = ⊥
+
+-- A fault is the first of these that holds: one of the identity, one of what is kept, a process without dynamic variables or with more
+-- than four, one of the characters, or no room for the reply.
+abbrev pub IsHearFault : HartIdentity → HartProcess → List HartChar → HartDevice → ℕ → Fault → Type 0
+IsHearFault identity process heard device room (Device fault) = IsStateFault identity device (Device fault)
+IsHearFault identity process heard device room BadVariables = IsInState identity device × (HasVariables process → ⊥)
+IsHearFault identity process heard device room BadFaultBits =
+    IsInState identity device × HasVariables process × IsHeardFault heard BadFaultBits
+IsHearFault identity process heard device room TooLong = IsInState identity device × HasVariables process × IsHeardFault heard TooLong
+IsHearFault identity process heard device room NoRoom =
+    (hearing : IsHearing identity process heard device)
+    × HasNoRoom (answer_to hearing.state hearing.measured hearing.brought) identity.response_preambles room
+IsHearFault identity process heard device room _ = ⊥
+
+-- Without a fault the device has heard, and the length of its reply is told. With a fault, told by its number, what was kept and the
+-- output are as they were.
+abbrev pub HearOutcome : HartIdentity → HartProcess → List HartChar → HartDevice → HartDevice → List ℕ → List ℕ → HartOutcome → Type 0
+HearOutcome identity process heard before after old new outcome =
+    ((outcome.fault ≡ 0) × Hears identity process heard before after old new outcome.len)
+    ⊎ ((fault : Fault) × IsHearFault identity process heard before (length old) fault × (outcome.fault ≡ number_of fault)
+    × (outcome.len ≡ 0) × (after ≡ before) × (new ≡ old))

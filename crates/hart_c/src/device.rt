@@ -1,0 +1,177 @@
+//! A device that its caller keeps, as its image and its cold start bits.
+ghost use Rattle.std.specs.Prelude.{◌≡◌, ◌≤◌, IfErr, IfOk, OnErr, length};
+ghost use Rattle.hart_frame.specs.wire.Message.{IsPreambleCount};
+ghost use Rattle.hart_device.specs.image.Image.{IsImageOf};
+ghost use Rattle.hart_c.specs.Device.{HasNoRoom, HearOutcome, Hears, IsHearFault, IsKept, IsRestarted, IsSaid, IsStateFault};
+ghost use Rattle.hart_c.specs.Device.{IsKeptFault, NewDeviceOutcome, device_of, image_in};
+ghost use Rattle.hart_c.specs.Faults.{outcome_of};
+ghost use Rattle.hart_c.specs.Identity.{parts_of};
+
+use crate::fault::{Fault, HART_OK, HartOutcome};
+use crate::find::HartChar;
+use crate::heard::delivery_of;
+use crate::identity::{HartIdentity, parts_of};
+use crate::process::{HartProcess, process_of};
+use crate::registers::{HartRegisters, values_of};
+use hart_device::{Device, DeviceFault, Identity, ImageRegisters, bench};
+use hart_frame::{Frame, Message, encode};
+use hart_values::{EachMaster, MasterId};
+
+/// What is kept of a device: all that it holds, but not who it is.
+#[repr(C)]
+#[derive(Clone, Copy)]
+pub struct HartDevice {
+    /// Its image, of version 2 (86 bytes) or of version 1 (54); bytes after so many mean nothing.
+    pub image: [u8; 86],
+    /// How many bytes the image has.
+    pub image_len: u8,
+    /// The primary master's cold start bit.
+    pub primary_cold_start: bool,
+    /// The secondary master's cold start bit.
+    pub secondary_cold_start: bool,
+}
+
+/// Makes a new device, whose registers hold these values: its counter is 0, and all its bits are clear. `device` is then what is kept
+/// of it, and the length of its image is told.
+///
+/// # Errors
+///
+/// [`HART_BAD_FIELD`](crate::fault::HART_BAD_FIELD) if the polling address is above 63, the loop current mode is above 1 or the date is
+/// none. `device` is then as it was.
+#[unsafe(no_mangle)]
+pub extern "C" fn hart_new_device(registers: &HartRegisters, device: &mut HartDevice) -> HartOutcome
+    ensures { NewDeviceOutcome «registers».now device.old device.new result }
+{
+    let Some(values) = values_of(registers) else {
+        return outcome_of(Err(Fault::Device(DeviceFault::BadField)));
+    };
+    // Who it is does not stand in what is kept, so that any identity serves.
+    let new = Device::<ImageRegisters>::new(bench::identity(), &values);
+    keep(&new, device);
+    outcome_of(Ok(usize::from(device.image_len)))
+}
+
+/// The device was without power: sets both masters' cold start bits. All else stays as it is.
+#[unsafe(no_mangle)]
+pub extern "C" fn hart_restart(device: &mut HartDevice)
+    ensures { IsRestarted device.old device.new }
+{
+    device.primary_cold_start = true;
+    device.secondary_cold_start = true;
+}
+
+/// Hands a device what it hears at once, and its process. It carries out what that asks, `device` is then what is kept of it, and its
+/// reply is written as a message at the front of `reply`, of which the length is told; of silence that is 0.
+///
+/// # Errors
+///
+/// The first that holds of a fault of the identity, one of what is kept, a process without dynamic variables or with more than four,
+/// a fault of the characters, or no room for the reply. Nothing is then carried out or written.
+#[unsafe(no_mangle)]
+pub extern "C" fn hart_hear(
+    identity: &HartIdentity,
+    process: &HartProcess,
+    heard: &[HartChar],
+    device: &mut HartDevice,
+    reply: &mut [u8],
+) -> HartOutcome
+    ensures { HearOutcome identity.now process.now heard.now device.old device.new reply.old reply.new result }
+{
+    let said = hear(identity, process, heard, device, reply);
+    outcome_of(said)
+}
+
+/// How many bytes were written, or the fault, as numbers for C.
+fn outcome_of(written: Result<usize, Fault>) -> HartOutcome
+    ensures { result ≡ outcome_of written }
+{
+    match written {
+        Ok(len) => HartOutcome {
+            len,
+            fault: HART_OK,
+        },
+        Err(fault) => HartOutcome {
+            len: 0,
+            fault: fault.number(),
+        },
+    }
+}
+
+/// Hands a device what it hears, and gives how long its reply is.
+fn hear(
+    identity: &HartIdentity,
+    process: &HartProcess,
+    heard: &[HartChar],
+    device: &mut HartDevice,
+    reply: &mut [u8],
+) -> Result<usize, Fault>
+    ensures heard { IfOk result (Hears identity.now process.now heard.now device.old device.new reply.old reply.new) }
+    ensures refused { IfErr result (IsHearFault identity.now process.now heard.now device.old (length reply.old)) }
+    ensures kept { OnErr result (device.new ≡ device.old) }
+    ensures unchanged { OnErr result (reply.new ≡ reply.old) }
+{
+    let mut state = kept_state(identity, device)?;
+    let process = process_of(process).ok_or(Fault::BadVariables)?;
+    let delivery = delivery_of(heard)?;
+    let preambles = state.response_preambles();
+    let said = state.hear(delivery.as_slice(), &process);
+    let len = say(said, preambles, reply)?;
+    keep(&state, device);
+    Ok(len)
+}
+
+/// The device in the state that is kept.
+fn kept_state(identity: &HartIdentity, device: &HartDevice) -> Result<Device<ImageRegisters>, Fault>
+    ensures kept { IfOk result (IsKept (parts_of identity.now) device.now) }
+    ensures refused { IfErr result (IsStateFault identity.now device.now) }
+{
+    let identity = Identity::new(parts_of(identity)).map_err(Fault::Device)?;
+    let mut state = imaged(identity, device).map_err(Fault::Device)?;
+    state.restore_cold_start(EachMaster {
+        primary: device.primary_cold_start,
+        secondary: device.secondary_cold_start,
+    });
+    Ok(state)
+}
+
+/// The device that goes on from the image that is kept.
+fn imaged(identity: Identity, device: &HartDevice) -> Result<Device<ImageRegisters>, DeviceFault>
+    ensures identity { IfOk result (λ state. state.identity ≡ identity) }
+    ensures image { IfOk result (λ state. IsImageOf state (image_in device.now)) }
+    ensures fits { IfOk result (λ state. device.now.image_len ≤ 86) }
+    ensures refused { IfErr result (IsKeptFault device.now) }
+{
+    let image = device.image.get(..usize::from(device.image_len));
+    Device::from_image(identity, image.ok_or(DeviceFault::BadLength)?)
+}
+
+/// Keeps the state of a device.
+fn keep(state: &Device<ImageRegisters>, device: &mut HartDevice)
+    ensures { device.new ≡ device_of state.now }
+{
+    let image = state.image();
+    device.image.copy_from_slice(image.as_slice());
+    device.image_len = image.len() as u8;
+    device.primary_cold_start = state.cold_start(MasterId::Primary);
+    device.secondary_cold_start = state.cold_start(MasterId::Secondary);
+}
+
+/// Writes what a device says as a message at the front of `output`, and gives how many bytes that are; none of silence.
+fn say(said: Option<Frame>, preambles: u8, output: &mut [u8]) -> Result<usize, Fault>
+    requires { IsPreambleCount preambles }
+    ensures said { IfOk result (IsSaid said preambles output.old output.new) }
+    ensures refused { IfErr result (λ fault. (fault ≡ Fault.NoRoom) × HasNoRoom said preambles (length output.old)) }
+    ensures unchanged { OnErr result (output.new ≡ output.old) }
+{
+    let Some(frame) = said else {
+        return Ok(0);
+    };
+    let mut message = Message::new();
+    encode(&frame, preambles, &mut message).unwrap();
+    let len = message.len();
+    if output.len() < len {
+        return Err(Fault::NoRoom);
+    }
+    output[..len].copy_from_slice(message.as_slice());
+    Ok(len)
+}

@@ -1,0 +1,60 @@
+//! What is heard at once, as a caller in C passes it.
+ghost use Rattle.std.specs.Prelude.{◌≡◌, ◌≤◌, ◌↔◌, All, IfErr, IfOk, IsTrue, map, take};
+ghost use Rattle.hart_frame.specs.heard.Character.{AreFaultBits};
+ghost use Rattle.hart_c.specs.Find.{char_of};
+ghost use Rattle.hart_c.specs.Heard.{IsDelivery, IsHeardFault};
+
+use crate::fault::Fault;
+use crate::find::HartChar;
+use hart_frame::Char;
+
+/// The most characters that are heard at once.
+const MOST_CHARACTERS: usize = 1024;
+
+/// A delivery, which is what is heard at once: the first so many of these characters.
+#[derive(Drop)]
+pub(crate) struct Delivery {
+    chars: [Char; MOST_CHARACTERS],
+    len: usize,
+    ghost fits: { len ≤ 1024 },
+}
+
+impl Delivery {
+    /// Its characters.
+    pub fn as_slice(&self) -> &[Char]
+        ensures { result.now ≡ take self.now.len self.now.chars }
+    {
+        &self.chars[..self.len]
+    }
+}
+
+/// The delivery of these characters.
+pub(crate) fn delivery_of(heard: &[HartChar]) -> Result<Delivery, Fault>
+    ensures same { IfOk result (λ delivery. take delivery.len delivery.chars ≡ map char_of heard.now) }
+    ensures accepted { IfOk result (λ delivery. IsDelivery heard.now) }
+    ensures refused { IfErr result (IsHeardFault heard.now) }
+{
+    if !have_fault_bits(heard) {
+        return Err(Fault::BadFaultBits);
+    }
+    if heard.len() > MOST_CHARACTERS {
+        return Err(Fault::TooLong);
+    }
+    let mut chars = [Char::new(0, 0).unwrap(); MOST_CHARACTERS];
+    for (place, given) in heard.iter().enumerate() {
+        chars[place] = Char::new(given.byte, given.faults).unwrap();
+    }
+    Ok(Delivery {
+        chars,
+        len: heard.len(),
+    })
+}
+
+/// Whether no character has another bit than fault bits.
+fn have_fault_bits(heard: &[HartChar]) -> bool
+    ensures { IsTrue result ↔ All (λ given. AreFaultBits given.faults) heard.now }
+{
+    heard
+        .iter()
+        .all(|given| Char::new(given.byte, given.faults).is_some())
+}
