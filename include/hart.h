@@ -56,12 +56,14 @@ enum {
     HART_NO_REPLY = 14,       /* a payload is no reply to the command */
     HART_UNKNOWN = 15,        /* there is no such command or field */
     HART_OUT_OF_RANGE = 16,   /* a number of an identity is out of range */
-    HART_BROADCAST_ADDRESS = 17, /* the unique address of an identity would be the broadcast address */
+    HART_BROADCAST_ADDRESS = 17, /* the unique address of an identity would be broadcast */
     HART_BAD_VERSION = 18,    /* an image of a version that is not known */
     HART_BAD_LENGTH = 19,     /* an image of no bytes, or not of as many as its version has */
     HART_BAD_FIELD = 20,      /* a register would hold bytes that are not valid in it, or the flags of an image are above 7 */
     HART_BAD_VARIABLES = 21,  /* a process without a dynamic variable, or with more than four */
-    HART_TOO_LONG = 22        /* more than 1,024 characters are heard at once */
+    HART_TOO_LONG = 22,       /* more than 1,024 characters are heard at once */
+    HART_NO_REQUEST = 23,     /* a frame that is no request of a master */
+    HART_WRONG_ADDRESS = 24   /* a request that is not asked at this address */
 };
 
 /* A character that was heard. */
@@ -259,6 +261,34 @@ void hart_restart(hart_device *device);
  * characters); HART_NO_ROOM. Nothing is then carried out: device and reply are as they were. */
 hart_outcome hart_hear(const hart_identity *identity, const hart_process *process, const hart_char *heard, size_t heard_len,
                        hart_device *device, uint8_t *reply, size_t reply_len);
+
+/* What became of a request that was sent. */
+typedef struct hart_acceptance {
+    bool is_accepted; /* its reply was heard */
+    uint8_t code;     /* the response code of the reply, 0 being success; 0 if none was heard */
+    uint8_t status;   /* the device status of the reply; 0 if none was heard */
+    uint8_t fault;    /* HART_OK, or why nothing was done */
+} hart_acceptance;
+
+/* Whether these characters, heard at once after a request was sent, are its reply, as a master accepts it: they have exactly one frame, and
+ * that is a reply to this master, from this address, to this command, without expansion bytes, whose payload is one of the command or a
+ * refusal. `reply` then shows that frame and where it stands; its data come after the two status bytes. Otherwise `reply` is as it was.
+ * The fault is the first of these that holds: HART_BAD_ADDRESS, HART_LONG_EXPANSION, HART_TOO_SHORT_REPLY; HART_NO_REQUEST for a reply,
+ * expansion bytes, the burst bit, a command that is not known or data that ask nothing of it; HART_WRONG_ADDRESS for another command than
+ * 0 at a polling address, and than 11 and 21 at the broadcast address; HART_BAD_FAULT_BITS, HART_TOO_LONG. When to send a request again
+ * is for the caller to decide. */
+hart_acceptance hart_accept(const hart_frame *request, const hart_char *heard, size_t heard_len, hart_frame *reply);
+
+/* The unique address that a reply gives. */
+typedef struct hart_unique {
+    bool is_given;          /* it gives one; otherwise both numbers are 0 */
+    uint16_t expanded_type; /* at most 0x3FFF */
+    uint32_t device_id;     /* at most 0xFFFFFF */
+} hart_unique;
+
+/* The unique address at which to go on, from the payload of a reply to Command 0, 11 or 21, from its two status bytes on. A reply to
+ * another command, one with another code than 0, and an identity of the broadcast address give none. */
+hart_unique hart_unique_of(uint8_t command, const uint8_t *payload, size_t payload_len);
 
 #ifdef __cplusplus
 }

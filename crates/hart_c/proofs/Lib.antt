@@ -3,3 +3,5 @@ mod Found
 mod Searches
 mod Placed
 mod Said
+mod Accepted
+mod Kept

@@ -8,7 +8,7 @@ use Rattle.hart_device.specs.declared.fault.DeviceFault.TheVariants.{BadField, B
 use Rattle.hart_c.specs.declared.fault.Fault as own
 use Rattle.hart_c.specs.declared.fault.HartOutcome.{HartOutcome}
 use Rattle.hart_c.specs.declared.fault.Fault.TheVariants.{Frame, BadAddress, LongExpansion, NoRoom}
-use Rattle.hart_c.specs.declared.fault.Fault.TheVariants.{BadFaultBits, BadVariables, Device, TooLong}
+use Rattle.hart_c.specs.declared.fault.Fault.TheVariants.{BadFaultBits, BadVariables, Device, NoRequest, TooLong, WrongAddress}
 
 -- The numbers of the faults of frames, which are those of the library.
 abbrev pub frame_fault_number : FrameFault → ℕ
@@ -37,6 +37,8 @@ number_of BadFaultBits = 13
 number_of (Device fault) = device_fault_number fault
 number_of BadVariables = 21
 number_of TooLong = 22
+number_of NoRequest = 23
+number_of WrongAddress = 24
 
 -- How many bytes were written is told without a fault, and a fault by its number.
 abbrev pub outcome_of : Result ℕ own.Fault → HartOutcome

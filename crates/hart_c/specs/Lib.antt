@@ -11,3 +11,4 @@ pub mod Process
 pub mod Registers
 pub mod Heard
 pub mod Device
+pub mod Master

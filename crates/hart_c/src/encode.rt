@@ -49,7 +49,7 @@ fn write_message(frame: &HartFrame, preambles: u8, output: &mut [u8]) -> Result<
 }
 
 /// The frame of these numbers.
-fn frame_of(frame: &HartFrame) -> Result<Frame, Fault>
+pub(crate) fn frame_of(frame: &HartFrame) -> Result<Frame, Fault>
     ensures same { IfOk result (λ made. made ≡ frame_in frame.now) }
     ensures frame { IfOk result (λ made. IsFrame frame.now) }
     ensures refused { IfErr result (λ fault. (preambles room : ℕ) → IsEncodeFault frame.now preambles room fault) }

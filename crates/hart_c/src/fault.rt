@@ -65,6 +65,12 @@ pub const HART_BAD_VARIABLES: u8 = 21;
 /// More than 1,024 characters are heard at once.
 pub const HART_TOO_LONG: u8 = 22;
 
+/// A frame that is no request of a master.
+pub const HART_NO_REQUEST: u8 = 23;
+
+/// A request that is not asked at this address.
+pub const HART_WRONG_ADDRESS: u8 = 24;
+
 /// How many bytes were written or read, or why none were.
 #[repr(C)]
 #[derive(Clone, Copy)]
@@ -94,6 +100,10 @@ pub(crate) enum Fault {
     BadVariables,
     /// There are more than 1,024 characters.
     TooLong,
+    /// The frame is no request of a master.
+    NoRequest,
+    /// The request is not asked at this address.
+    WrongAddress,
 }
 
 impl Fault {
@@ -110,6 +120,8 @@ impl Fault {
             Fault::Device(fault) => number_of_device_fault(fault),
             Fault::BadVariables => HART_BAD_VARIABLES,
             Fault::TooLong => HART_TOO_LONG,
+            Fault::NoRequest => HART_NO_REQUEST,
+            Fault::WrongAddress => HART_WRONG_ADDRESS,
         }
     }
 }

@@ -3,6 +3,7 @@ use super::*;
 
 mod data;
 mod devices;
+mod masters;
 
 /// Command 19 of the primary master to device 37420A1B2C, after two preamble bytes, and the beginning of Command 0.
 const HEARD: &[u8] = &[
@@ -28,6 +29,15 @@ fn no_frame() -> HartFrame {
         expansion: [0; 3],
         payload: [0; 255],
     }
+}
+
+/// Faultless characters of at most 64 bytes.
+fn heard_of(bytes: &[u8]) -> [HartChar; 64] {
+    let mut heard = [HartChar { byte: 0, faults: 0 }; 64];
+    for (given, byte) in heard.iter_mut().zip(bytes) {
+        given.byte = *byte;
+    }
+    heard
 }
 
 #[test]

@@ -134,10 +134,7 @@ fn reply_of(device: &mut HartDevice, bytes: &[u8], reply: &mut [u8]) -> HartOutc
     hart_bench_identity(&mut identity);
     let mut process = no_process();
     hart_bench_process(&mut process);
-    let mut heard = [HartChar { byte: 0, faults: 0 }; 32];
-    for (given, byte) in heard.iter_mut().zip(bytes) {
-        given.byte = *byte;
-    }
+    let heard = heard_of(bytes);
     let len = bytes.len().min(heard.len());
     hart_hear(&identity, &process, &heard[..len], device, reply)
 }

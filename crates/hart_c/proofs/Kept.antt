@@ -1,0 +1,51 @@
+-- What is kept of a device.
+use Rattle.std.proofs.Common.{◌≡◌, ◌∙◌, ◌++◌, ◌∷◌, [], Bool, ap, arith, length, length-append, refl, rules, subst, sym, take, ℕ}
+use Rattle.std.proofs.Math.Seq.{take-length}
+use Rattle.std.specs.List.{flat_map}
+use Rattle.hart_values.specs.declared.each_master.EachMaster.{EachMaster}
+use Rattle.hart_commands.specs.Registers.{bytes_in, registers}
+use Rattle.hart_commands.specs.declared.register.Register.TheVariants.{Polling, Mode, Message, Tag, Descriptor, Date, Assembly, LongTag}
+use Rattle.hart_device.specs.Device.{DeviceState, IsDevice}
+use Rattle.hart_device.specs.image.Image.{IsImageOf, image_of}
+use Rattle.hart_device.specs.declared.identity_parts.IdentityParts.{IdentityParts}
+use Rattle.hart_device.proofs.lemmas.Laws.{devices_are_kept_whole-any_cold_start, devices_are_kept_whole-either_version}
+use Rattle.hart_device.proofs.lemmas.Laws.{devices_are_kept_whole-image}
+use Rattle.hart_c.specs.declared.device.HartDevice.{HartDevice}
+use Rattle.hart_c.specs.Device.{IsKept, cold_start_in, device_of, image_in}
+
+-- an image of version 2 has 86 bytes
+image_len : (state : DeviceState) → IsDevice state → length (image_of state) ≡ 86
+image_len state is =
+    let valid = is.contents in
+    simp length-append (omega (
+      arith,
+      (valid Polling).0,
+      (valid Mode).0,
+      (valid Message).0,
+      (valid Tag).0,
+      (valid Descriptor).0,
+      (valid Date).0,
+      (valid Assembly).0,
+      (valid LongTag).0,
+    ))
+
+-- so all of it is kept
+image_kept : (state : DeviceState) → IsDevice state → image_in (device_of state) ≡ image_of state
+image_kept state is = ap (λ (n : ℕ). take n (image_of state)) (sym (image_len state is)) ∙ take-length (image_of state)
+
+pub devices_are_kept-kept : (state : DeviceState) → IsDevice state → IsKept state.identity (device_of state) state
+devices_are_kept-kept state is = record {
+  is_identity = is.identity;
+  identity = refl;
+  fits = search rules;
+  image = subst (IsImageOf state) (sym (image_kept state is)) (devices_are_kept_whole-image state is);
+  cold_start = refl;
+}
+
+pub devices_are_kept-one_state : (parts : IdentityParts) (device : HartDevice) (state other : DeviceState) → IsKept parts device state
+    → IsKept parts device other → state ≡ other
+devices_are_kept-one_state parts device state other is other_is =
+    let same : other.cold_start ≡ state.cold_start = other_is.cold_start ∙ sym is.cold_start in
+    sym (ap (λ (cold_start : EachMaster Bool). record other { cold_start = cold_start }) same
+    ∙ devices_are_kept_whole-either_version state other (image_in device) is.image other_is.image
+    (other_is.identity ∙ sym is.identity))

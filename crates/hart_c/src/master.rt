@@ -1,0 +1,178 @@
+//! What a master makes of what it hears.
+ghost use Rattle.std.specs.Prelude.{◌≡◌, false, IfErr, IfOk, OnErr};
+ghost use Rattle.hart_commands.specs.ReplyData.{reply_reading};
+ghost use Rattle.hart_commands.specs.declared.request.Request.{Request};
+ghost use Rattle.hart_c.specs.Master.{AcceptOutcome, Accepts, IsAcceptFault, IsAsked, IsAwaiting, IsSendFault, acceptance_of};
+ghost use Rattle.hart_c.specs.Master.{given_by, given_of};
+
+use crate::encode::frame_of;
+use crate::fault::{Fault, HART_OK};
+use crate::find::HartChar;
+use crate::frame::{HartFrame, show_frame};
+use crate::heard::delivery_of;
+use hart_commands::{Reply, Request};
+use hart_frame::{Frame, FrameKind, LoneFrame, lone_frame};
+use hart_master::{Master, MasterEvent, acceptance_is_decided, unique_of};
+use hart_values::Address;
+
+/// What became of a request that was sent.
+#[repr(C)]
+#[derive(Clone, Copy)]
+pub struct HartAcceptance {
+    /// Whether its reply was heard.
+    pub is_accepted: bool,
+    /// The response code of the reply, 0 being success; 0 if none was heard.
+    pub code: u8,
+    /// The device status of the reply; 0 if none was heard.
+    pub status: u8,
+    /// 0, or why nothing was done.
+    pub fault: u8,
+}
+
+/// The unique address that a reply gives.
+#[repr(C)]
+#[derive(Clone, Copy)]
+pub struct HartUnique {
+    /// Whether it gives one.
+    pub is_given: bool,
+    /// The expanded device type, at most 16,383; 0 if none is given.
+    pub expanded_type: u16,
+    /// The device id, at most 16,777,215; 0 if none is given.
+    pub device_id: u32,
+}
+
+/// The numbers if no unique address is given.
+const NO_ADDRESS: HartUnique = HartUnique {
+    is_given: false,
+    expanded_type: 0,
+    device_id: 0,
+};
+
+/// Whether what was heard at once is the reply to a request that was sent, as a master accepts it. `reply` then shows its frame, and
+/// where that stands.
+///
+/// # Errors
+///
+/// The first that holds of a fault of the frame, as [`hart_encode`](crate::hart_encode) has it, a frame that is no request of a master,
+/// an address that is not asked this, or a fault of the characters. `reply` is then as it was.
+#[unsafe(no_mangle)]
+pub extern "C" fn hart_accept(
+    request: &HartFrame,
+    heard: &[HartChar],
+    reply: &mut HartFrame,
+) -> HartAcceptance
+    ensures { AcceptOutcome request.now heard.now reply.old reply.new result }
+{
+    acceptance_of(accept(request, heard, reply))
+}
+
+/// What was accepted, or the fault, as numbers for C.
+fn acceptance_of(accepted: Result<Option<Reply>, Fault>) -> HartAcceptance
+    ensures { result ≡ acceptance_of accepted }
+{
+    match accepted {
+        Ok(Some(said)) => HartAcceptance {
+            is_accepted: true,
+            code: said.code.value(),
+            status: said.status.0,
+            fault: HART_OK,
+        },
+        Ok(None) => not_accepted(HART_OK),
+        Err(fault) => not_accepted(fault.number()),
+    }
+}
+
+/// Nothing was accepted.
+fn not_accepted(fault: u8) -> HartAcceptance
+    ensures { result ≡ record { is_accepted = false; code = 0; status = 0; fault = fault } }
+{
+    HartAcceptance {
+        is_accepted: false,
+        code: 0,
+        status: 0,
+        fault,
+    }
+}
+
+/// The reply to a request that was sent, if what was heard is that, and shows its frame.
+fn accept(
+    request: &HartFrame,
+    heard: &[HartChar],
+    reply: &mut HartFrame,
+) -> Result<Option<Reply>, Fault>
+    ensures accepted { IfOk result (Accepts request.now heard.now reply.old reply.new) }
+    ensures refused { IfErr result (IsAcceptFault request.now heard.now) }
+    ensures unchanged { OnErr result (reply.new ≡ reply.old) }
+{
+    // No-op: its contract is used below.
+    acceptance_is_decided();
+    let mut master = sent(request)?;
+    let delivery = delivery_of(heard)?;
+    let LoneFrame::Alone(found) = lone_frame(delivery.as_slice()) else {
+        return Ok(None);
+    };
+    let MasterEvent::Answered(said, _) = master.receive(&found.frame) else {
+        return Ok(None);
+    };
+    show_frame(&found.frame, found.start as u64, found.stop as u64, reply);
+    Ok(Some(said))
+}
+
+/// The master that sent a request, and awaits its reply.
+fn sent(request: &HartFrame) -> Result<Master, Fault>
+    ensures awaits { IfOk result (IsAwaiting request.now) }
+    ensures refused { IfErr result (IsSendFault request.now) }
+{
+    let frame = frame_of(request)?;
+    let asked = asked_by(&frame)?;
+    // How often and how long it waits is for its caller to say, who calls only when something was heard.
+    let mut master = Master::new(frame.master(), 0, 1).unwrap();
+    if master.submit(frame.address(), asked).is_err() {
+        return Err(Fault::WrongAddress);
+    }
+    master.send();
+    Ok(master)
+}
+
+/// The request that a master asks with a frame.
+fn asked_by(frame: &Frame) -> Result<Request, Fault>
+    ensures asked { IfOk result (IsAsked frame.now) }
+    ensures refused { IfErr result (λ fault. (fault ≡ Fault.NoRequest) × ((request : Request) → IsAsked frame.now request → ⊥)) }
+{
+    if frame.kind() != FrameKind::Stx || frame.burst() || !frame.expansion().is_empty() {
+        return Err(Fault::NoRequest);
+    }
+    match Request::read(frame.command(), frame.payload()) {
+        Ok(request) => Ok(request),
+        Err(_) => Err(Fault::NoRequest),
+    }
+}
+
+/// The unique address that the payload of a reply to a command gives: that of an identity with code 0, if it is not broadcast. Commands
+/// 0, 11 and 21 are replied to with an identity.
+#[unsafe(no_mangle)]
+pub extern "C" fn hart_unique_of(command: u8, payload: &[u8]) -> HartUnique
+    ensures { result ≡ given_by (reply_reading command payload.now) }
+{
+    let Some(reply) = Reply::read(command, payload) else {
+        return given_of(None);
+    };
+    given_of(unique_of(&reply))
+}
+
+/// The numbers of a unique address.
+fn given_of(address: Option<Address>) -> HartUnique
+    ensures { result ≡ given_of address }
+{
+    let Some(address) = address else {
+        return NO_ADDRESS;
+    };
+    match address {
+        Address::Polling(_) => NO_ADDRESS,
+        Address::Unique(unique) => HartUnique {
+            is_given: true,
+            expanded_type: unique.expanded_type(),
+            device_id: unique.device_id(),
+        },
+    }
+}
