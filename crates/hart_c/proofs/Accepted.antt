@@ -11,7 +11,7 @@ use Rattle.hart_master.specs.Master.{FrameBrings, MasterState, hand_sent, hand_s
 use Rattle.hart_master.specs.Pairing.{may_ask}
 use Rattle.hart_master.specs.declared.fault.Rejected.{Rejected}
 use Rattle.hart_master.specs.declared.hand.Hand.{Hand}
-use Rattle.hart_master.specs.declared.hand.Hand.TheVariants.{Awaiting, Empty, ToSend}
+use Rattle.hart_master.specs.declared.hand.Hand.TheVariants.{Empty, ToSend}
 use Rattle.hart_c.specs.declared.fault.Fault.{Fault}
 use Rattle.hart_c.specs.declared.fault.Fault.TheVariants.{BadFaultBits, NoRequest, TooLong, WrongAddress}
 use Rattle.hart_c.specs.declared.find.HartChar.{HartChar}

@@ -1,17 +1,18 @@
 -- What is kept of a device.
-use Rattle.std.proofs.Common.{◌≡◌, ◌∙◌, ◌++◌, ◌∷◌, [], Bool, ap, arith, length, length-append, refl, rules, subst, sym, take, ℕ}
+use Rattle.std.proofs.Common.{◌≡◌, ◌∙◌, Bool, ap, arith, length, length-append, refl, rules, subst, sym, take, ℕ}
 use Rattle.std.proofs.Math.Seq.{take-length}
-use Rattle.std.specs.List.{flat_map}
 use Rattle.hart_values.specs.declared.each_master.EachMaster.{EachMaster}
-use Rattle.hart_commands.specs.Registers.{bytes_in, registers}
+use Rattle.hart_frame.specs.wire.FrameParts.{FrameParts}
 use Rattle.hart_commands.specs.declared.register.Register.TheVariants.{Polling, Mode, Message, Tag, Descriptor, Date, Assembly, LongTag}
 use Rattle.hart_device.specs.Device.{DeviceState, IsDevice}
+use Rattle.hart_device.specs.answer.Answer.{state_after}
+use Rattle.hart_device.specs.answer.Delivery.{Brought, Garbled, NoMessage, OneFrame, state_after_delivery}
 use Rattle.hart_device.specs.image.Image.{IsImageOf, image_of}
 use Rattle.hart_device.specs.declared.identity_parts.IdentityParts.{IdentityParts}
-use Rattle.hart_device.proofs.lemmas.Laws.{devices_are_kept_whole-any_cold_start, devices_are_kept_whole-either_version}
+use Rattle.hart_device.proofs.lemmas.Laws.{devices_are_kept_whole-either_version}
 use Rattle.hart_device.proofs.lemmas.Laws.{devices_are_kept_whole-image}
 use Rattle.hart_c.specs.declared.device.HartDevice.{HartDevice}
-use Rattle.hart_c.specs.Device.{IsKept, cold_start_in, device_of, image_in}
+use Rattle.hart_c.specs.Device.{IsKept, device_of, image_in}
 
 -- an image of version 2 has 86 bytes
 image_len : (state : DeviceState) → IsDevice state → length (image_of state) ≡ 86
@@ -49,3 +50,27 @@ devices_are_kept-one_state parts device state other is other_is =
     sym (ap (λ (cold_start : EachMaster Bool). record other { cold_start = cold_start }) same
     ∙ devices_are_kept_whole-either_version state other (image_in device) is.image other_is.image
     (other_is.identity ∙ sym is.identity))
+
+module _ (state after : DeviceState) (brought : Brought) (is : after ≡ state_after_delivery state brought) where
+  -- who a device is stays after a delivery, as after a frame
+  stays : (law : (s : DeviceState) (frame : FrameParts) → (state_after s frame).identity ≡ s.identity) (brings : Brought)
+      → (state_after_delivery state brings).identity ≡ state.identity
+  stays law (OneFrame frame) = law state frame
+  stays law (Garbled request) = refl
+  stays law NoMessage = refl
+
+  pub identity_after : ((s : DeviceState) (frame : FrameParts) → (state_after s frame).identity ≡ s.identity)
+      → after.identity ≡ state.identity
+  identity_after law = ap (λ (s : DeviceState). s.identity) is ∙ stays law brought
+
+  -- what is kept of it is what is kept of the state after the delivery
+  pub state_kept : (device : HartDevice) → device ≡ device_of after → device ≡ device_of (state_after_delivery state brought)
+  state_kept device kept = subst (λ (s : DeviceState). device ≡ device_of s) is kept
+
+  -- and stands for it
+  pub stands_after : (parts : IdentityParts) (device : HartDevice) → IsDevice after → after.identity ≡ parts → device ≡ device_of after
+      → IsKept parts device (state_after_delivery state brought)
+  stands_after parts device well_made same kept =
+      subst (λ (s : DeviceState). IsKept parts device s) is
+      (subst (λ (own : IdentityParts). IsKept own device after) same
+      (subst (λ (d : HartDevice). IsKept after.identity d after) (sym kept) (devices_are_kept-kept after well_made)))

@@ -1,4 +1,5 @@
-//! HART messages for callers in C (HCF_SPEC-081, HCF_SPEC-127): frames found in what was heard, read and written.
+//! HART messages for callers in C (HCF_SPEC-081, HCF_SPEC-127): frames found in what was heard, read and written; a field device whose
+//! caller keeps it; and what a master accepts.
 //!
 //! `include/hart.h` declares what is exported, and says at each call what its caller has to uphold. No call keeps a pointer or holds a
 //! state of its own, and none takes memory: what lasts from call to call lies with the caller. Each call is a function of its arguments.

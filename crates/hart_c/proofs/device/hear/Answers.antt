@@ -1,10 +1,13 @@
 use Rattle.std.proofs.Common.{◌≡◌, ◌∙◌, Err, IfErr, Result, ap, arith, length, map, rules, subst, sym, ℕ}
 use Rattle.std.proofs.lemmas.Grind.{common_steps}
+use Rattle.hart_device.specs.declared.identity_parts.IdentityParts.{IdentityParts}
 use Rattle.hart_c.specs.declared.fault.Fault.{Fault}
 use Rattle.hart_c.specs.declared.fault.Fault.TheVariants.{NoRoom}
-use Rattle.hart_c.specs.Device.{IsHearFault, device_of}
+use Rattle.hart_c.specs.Device.{IsHearFault}
 use Rattle.hart_c.specs.Find.{char_of}
+use Rattle.hart_c.specs.Identity.{parts_of}
 use Rattle.hart_c.specs.Process.{IsProcessOf}
+use Rattle.hart_c.proofs.Kept.{identity_after, stands_after, state_kept}
 use Rattle.hart_c.proofs.Said.{brings_there, hearing_of, no_room_there, said_there}
 use Rattle.hart_c.proofs.device.hear.Goals as goal
 
@@ -23,7 +26,9 @@ returns-in_err-len-clause-refused c =
     let all : c.as_slice.result.now ≡ map char_of heard = c.as_slice.ensures ∙ c.in_ok-delivery.ensures.same in
     let there = brings_there identity process heard device state measured kept process_is delivery c.as_slice.result.now all in
     let answer = c.hear-said.ensures.answer hearing.brought there in
-    let counts = c.response_preambles-preambles.ensures.same in
+    let after = c.hear-said.ensures.state hearing.brought there in
+    let own = identity_after state c.hear-said.new.self hearing.brought after c.frames_leave_identity_and_protection.ensures.identity in
+    let counts = c.response_preambles-preambles.ensures.same ∙ ap (λ (parts : IdentityParts). parts.response_preambles) own in
     let fault : Fault → Type 0 = IsHearFault identity process heard device (length c.args.reply.now) in
     let is : c.from_residual-in_err-len.result ≡ Err NoRoom = grind (arith, common_steps, c.in_err-len.ensures.refused.0) in
     let none = no_room_there identity process heard device state measured kept process_is delivery c.hear-said.result
@@ -45,10 +50,14 @@ returns-clause-heard c =
     let all : c.as_slice.result.now ≡ map char_of heard = c.as_slice.ensures ∙ c.in_ok-delivery.ensures.same in
     let there = brings_there identity process heard device state measured kept process_is delivery c.as_slice.result.now all in
     let answer = c.hear-said.ensures.answer hearing.brought there in
-    let counts = c.response_preambles-preambles.ensures.same in
+    let after = c.hear-said.ensures.state hearing.brought there in
+    let own = identity_after state c.hear-said.new.self hearing.brought after c.frames_leave_identity_and_protection.ensures.identity in
+    let counts = c.response_preambles-preambles.ensures.same ∙ ap (λ (parts : IdentityParts). parts.response_preambles) own in
     record {
       hearing = hearing;
       reply = said_there identity process heard device state measured kept process_is delivery c.hear-said.result
           c.response_preambles-preambles.result c.args.reply.now c.say.new.output c.in_ok-len.len answer counts c.in_ok-len.ensures.said;
-      state = c.keep.ensures ∙ ap device_of (c.hear-said.ensures.state hearing.brought there);
+      state = state_kept state c.hear-said.new.self hearing.brought after c.keep.new.device c.keep.ensures;
+      kept = stands_after state c.hear-said.new.self hearing.brought after (parts_of identity) c.keep.new.device
+          c.response_preambles-preambles.ensures.device (own ∙ kept.identity) c.keep.ensures;
     }
