@@ -1,6 +1,7 @@
 #!/bin/sh
 # Holds include/hart.h against the source, makes the library, builds the examples without a warning, and runs them: on captures they have
-# to print just what the program does, whether the capture comes at once or byte by byte; the one of fields, what is written here.
+# to print just what the program does, whether the capture comes at once or byte by byte; the one of fields, what is written here; and
+# the devices among them have to reply just as it does.
 #
 # A C compiler and Python are needed. C++ and Rust are tried where they are found, and so are the sanitizers of the C compiler.
 #
@@ -49,13 +50,29 @@ hold() {
     ran=$((ran + 1))
 }
 
-$cc -std=c11 $strict -Iinclude examples/c/messages.c "$work/libhart.a" -o "$work/messages"
+# Builds a program in C with some flags.
+build() {
+    name=$1
+    shift
+    $cc -std=c11 $strict "$@" -Iinclude "examples/c/$name.c" "$work/libhart.a" -o "$work/$name"
+}
+# Talks to the device at its pseudo-terminal; one that nobody talks to ends by itself.
+talk() {
+    timeout 120 python3 tools/device_example.py "$program" "$work/device"
+    timeout 10 "$work/device" 0.1 >"$work/said"
+    ran=$((ran + 1))
+}
+
+build messages
 hold "$work/messages"
-if $cc -std=c11 $strict -fsanitize=address,undefined -Iinclude examples/c/messages.c "$work/libhart.a" -o "$work/sanitized" \
-    2>"$work/said"; then
-    hold "$work/sanitized"
+build device
+talk
+if build messages -fsanitize=address,undefined 2>"$work/said"; then
+    hold "$work/messages"
+    build device -fsanitize=address,undefined
+    talk
 else
-    echo "no sanitizers: the example in C was not run under them"
+    echo "no sanitizers: the examples in C were not run under them"
 fi
 # A reply of Command 1, Command 11 with too few data, and a write.
 cat >"$work/fields" <<'FIELDS'
@@ -83,4 +100,6 @@ else
     echo "no cargo: the example in Rust was not run"
 fi
 hold python3 examples/python/messages.py "$work/libhart.so"
-echo "$ran examples of the library printed what the program does"
+python3 examples/python/vectors.py "$work/libhart.so" <docs/vectors.tsv
+ran=$((ran + 1))
+echo "$ran examples of the library did what the program does"

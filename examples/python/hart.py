@@ -54,3 +54,57 @@ class Finder:
     def end(self):
         """The frames that are decided by the end of the bytes."""
         yield from self._found(True)
+
+
+class Char(ctypes.Structure):
+    """A character that was heard: its byte, and its fault bits, 0 for none."""
+
+    _fields_ = [("byte", ctypes.c_uint8), ("faults", ctypes.c_uint8)]
+
+
+class Outcome(ctypes.Structure):
+    """How many bytes were written, and 0 or a fault."""
+
+    _fields_ = [("len", ctypes.c_size_t), ("fault", ctypes.c_uint8)]
+
+
+class Kept(ctypes.Structure):
+    """What is kept of a device."""
+
+    _fields_ = [("image", ctypes.c_uint8 * 86), ("image_len", ctypes.c_uint8), ("primary_cold_start", ctypes.c_bool),
+                ("secondary_cold_start", ctypes.c_bool)]
+
+
+class BenchDevice:
+    """The bench device, as it is new or as an image says. Its identity, process and registers are filled and read by the library alone."""
+
+    LONGEST = 287
+    # More than each of the three structs has, and aligned for each.
+    ROOM = ctypes.c_uint64 * 64
+
+    def __init__(self, library="libhart.so", image=None):
+        self._calls = ctypes.CDLL(library)
+        self._calls.hart_new_device.restype = self._calls.hart_hear.restype = Outcome
+        self._identity, self._process, registers = self.ROOM(), self.ROOM(), self.ROOM()
+        self._calls.hart_bench_identity(self._identity)
+        self._calls.hart_bench_process(self._process)
+        self._calls.hart_bench_registers(registers)
+        self.kept = Kept()
+        self._calls.hart_new_device(registers, ctypes.byref(self.kept))
+        if image is not None:
+            self.kept.image[:len(image)] = image
+            self.kept.image_len = len(image)
+
+    def restart(self):
+        """The device was without power, and is on again."""
+        self._calls.hart_restart(ctypes.byref(self.kept))
+
+    def hear(self, heard):
+        """The reply to what is heard at once, pairs of byte and fault bits; b"" is silence."""
+        chars = (Char * max(len(heard), 1))(*heard)
+        reply = (ctypes.c_uint8 * self.LONGEST)()
+        said = self._calls.hart_hear(self._identity, self._process, chars, ctypes.c_size_t(len(heard)), ctypes.byref(self.kept),
+                                     reply, ctypes.c_size_t(self.LONGEST))
+        if said.fault:
+            raise ValueError(f"fault {said.fault}")
+        return bytes(reply[:said.len])

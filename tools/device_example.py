@@ -1,0 +1,127 @@
+"""Holds the device of examples/c/device.c against the program: at a pseudo-terminal it replies byte for byte what the program says.
+
+Each request of docs/COMMANDS.md goes to a new device, as `hart encode` makes it, and has the reply of `hart answer`. What is heard in
+turn, as tools/restarts.py has it, goes to a device that is restarted where it says so, and has the replies of `hart sim`; what the device
+holds at the end is the image of `hart sim`. All devices run at once.
+
+Usage: tools/device_example.py PROGRAM DEVICE
+"""
+
+import contextlib
+import os
+import select
+import signal
+import subprocess
+import sys
+import time
+import tty
+
+sys.dont_write_bytecode = True
+
+from cases import lone  # noqa: E402
+from fuzz import texts, worked  # noqa: E402
+from restarts import RESTART, runs, script_of  # noqa: E402
+from vectors import call, replies_of  # noqa: E402
+
+SECONDS = "60"
+# So long a silence is waited for: much longer than the device waits for a byte.
+QUIET = 0.5
+PATIENCE = 20
+
+
+class Played:
+    """A device that runs, what it is to hear in turn and to reply, and the image that it has to show at the end, if one is known."""
+
+    def __init__(self, device, parts, replies, image=None):
+        self.parts, self.replies, self.image = parts, [bytes.fromhex(reply) for reply in replies], image
+        self.process = subprocess.Popen([device, SECONDS], stdout=subprocess.PIPE, text=True)
+        self.port = os.open(self.process.stdout.readline().strip(), os.O_RDWR | os.O_NOCTTY)
+        if tty.tcgetattr(self.port)[3] & (tty.ECHO | tty.ICANON):
+            self.fail("a port that changes bytes")
+
+    def fail(self, what):
+        """Ends the run."""
+        sys.exit(f"device: {what}, at {self.parts}")
+
+    def tell(self, turn):
+        """Has the device hear a part, in two pieces as it may come."""
+        if self.parts[turn] == RESTART:
+            self.process.send_signal(signal.SIGUSR1)
+            return
+        heard = bytes.fromhex(self.parts[turn])
+        os.write(self.port, heard[:8])
+        os.write(self.port, heard[8:])
+
+    def read(self, until):
+        """What comes in by a time; b"" if nothing does, or if the device has ended."""
+        if not select.select([self.port], [], [], max(until - time.monotonic(), 0))[0]:
+            return b""
+        try:
+            return os.read(self.port, 4096)
+        except OSError:
+            return b""
+
+    def listen(self, turn, quiet):
+        """Holds the reply to a part; where none is wanted, none has come by the time `quiet`."""
+        wanted, replied = self.replies[turn], b""
+        until = time.monotonic() + PATIENCE if wanted else quiet
+        while len(replied) < max(len(wanted), 1) and (more := self.read(until)):
+            replied += more
+        if replied != wanted:
+            self.fail(f"the reply {replied.hex(' ').upper()!r} to part {turn}, and not {wanted.hex(' ').upper()!r}")
+
+    def end(self):
+        """Closes the port, after which the device ends by itself and shows its image."""
+        os.close(self.port)
+        said, _ = self.process.communicate(timeout=PATIENCE)
+        if self.process.returncode or self.image not in (None, said.strip()):
+            self.fail(f"status {self.process.returncode} and image {said.strip()}, and not {self.image}")
+
+    def kill(self):
+        """Ends the device, if it still runs."""
+        self.process.kill()
+        self.process.wait()
+
+
+def asked(program, heard):
+    """A request as `hart encode` makes it; what is no request stays as it is."""
+    frame = lone(heard)
+    if frame is None:
+        return heard
+    words = (frame.master, texts.address_text(frame.address), str(frame.command), frame.payload.hex())
+    return call(program, ("encode", *(word for word in words if word)), "")
+
+
+def plays(program):
+    """What is heard, the replies, and the image at the end."""
+    for heard, _, _ in worked.ON_PAGE:
+        request = asked(program, heard)
+        yield [request], [call(program, ("answer",), request)], None
+    for image, parts, _ in runs():
+        if image == "-" and "!" not in "".join(parts):
+            script = "".join(f"{line}\n" for part in parts for line in script_of(part))
+            yield parts, list(replies_of(program, image, parts)), call(program, ("sim",), script).split()[-1]
+
+
+def main():
+    """Runs all devices, and tells how many replied as they had to."""
+    program, device = map(os.path.realpath, sys.argv[1:])
+    with contextlib.ExitStack() as ended:
+        played = []
+        for parts, replies, image in plays(program):
+            played.append(Played(device, parts, replies, image))
+            ended.callback(played[-1].kill)
+        for turn in range(max(len(one.parts) for one in played)):
+            going = [one for one in played if turn < len(one.parts)]
+            for one in going:
+                one.tell(turn)
+            quiet = time.monotonic() + QUIET
+            for one in sorted(going, key=lambda one: not one.replies[turn]):
+                one.listen(turn, quiet)
+        for one in played:
+            one.end()
+    print(f"{len(played)} devices at pseudo-terminals replied as the program does")
+
+
+if __name__ == "__main__":
+    main()
