@@ -79,8 +79,8 @@ typedef struct hart_search {
     uint8_t fault; /* HART_OK, or why nothing was done */
 } hart_search;
 
-/* Finds the next frames of bytes that were heard without faults, as many as there is room for, which is one at least: with room for
- * none nothing is used up. `ended` says that no more is to come: without it the frames that a false start holds back are never given.
+/* Finds the next frames of bytes that were heard without faults, as many as there is room for; whoever has room for none is given none
+ * and comes to no end. `ended` says that no more is to come: without it the frames that a false start holds back are never given.
  * What is not used up is passed again, with what comes after it, and places are then counted from its front: in all that was heard
  * they are those and the sum of what was used up before. If there are fewer frames than room, none is left if it ended, and otherwise
  * at most 269 bytes are, in which nothing is decided yet: so 270 bytes are room enough for what is kept and a byte more. Each call looks
