@@ -1,5 +1,5 @@
 -- A miss where a body may start is what stands in the way there.
-use Rattle.std.proofs.Common.{◌≡◌, ◌≢◌, ℕ, zero, suc, ◌+◌, ◌-◌, ◌/◌, ◌%◌, ◌<◌, ◌≤◌, ◌⊎◌, inl, inr, List, [], ◌∷◌, ◌++◌, length, take}
+use Rattle.std.proofs.Common.{◌≡◌, ◌≢◌, ℕ, zero, suc, ◌+◌, ◌-◌, ◌<◌, ◌≤◌, ◌⊎◌, inl, inr, List, [], ◌∷◌, ◌++◌, length, take}
 use Rattle.std.proofs.Common.{◌↔◌, drop, fold, get_or, bit_xor, true, false, Option, None, Some, refl, sym, ap, subst, ◌∙◌, arith}
 use Rattle.std.specs.List.{All, slice_get}
 use Rattle.std.specs.Option.{is_some}
@@ -8,14 +8,13 @@ use Rattle.std.proofs.lemmas.Bool.Decides.{nat_tests}
 use Rattle.std.proofs.lemmas.List.{get_or-drop, length-append, length-drop}
 use Rattle.std.proofs.lemmas.List.Elements.{All-drop, All-take}
 use Rattle.std.proofs.lemmas.Option.{get_or_from_slice_get, none-some, same_Some, slice_get-get_or, slice_get_cases, slice_get_past, slice_get_within}
-use Rattle.hart_frame.specs.wire.FrameParts.{FrameParts}
-use Rattle.hart_frame.specs.wire.Body.{BeginsWithBody, IsBody}
-use Rattle.hart_frame.specs.wire.Layout.{body_length, byte_count_in, delimiter_in}
-use Rattle.hart_frame.specs.wire.Parity.{HasEvenParity, IsCheckByte}
-use Rattle.hart_frame.specs.wire.Refusal.{HasByteCount, HasCheckByte, HasGoodByteCount, IsDelimiter, IsTruncated}
-use Rattle.hart_frame.specs.heard.Character.{Character, faultless, faultless_bytes}
+use Rattle.hart_frame.specs.wire.Body.{BeginsWithBody}
+use Rattle.hart_frame.specs.wire.Layout.{body_length, delimiter_in}
+use Rattle.hart_frame.specs.wire.Parity.{IsCheckByte}
+use Rattle.hart_frame.specs.wire.Refusal.{IsDelimiter, IsTruncated}
+use Rattle.hart_frame.specs.heard.Character.{Character, faultless_bytes}
 use Rattle.hart_frame.specs.heard.InTheWay.{ComeToTheEnd, HasBodyAt, HasFaultsAt, IsBurstDelimiter, IsInTheWay, bytes_from}
-use Rattle.hart_frame.specs.heard.Miss.{body_miss, check_byte_in, delimiter_miss, faulty_or, fitting_check_byte, follows_one_preamble, miss_in}
+use Rattle.hart_frame.specs.heard.Miss.{body_miss, check_byte_in, delimiter_miss, faulty_or, fitting_check_byte, follows_one_preamble}
 use Rattle.hart_frame.specs.heard.Miss.{is_start, miss_of}
 use Rattle.hart_frame.specs.heard.Start.{IsStart}
 use Rattle.hart_frame.specs.declared.heard.miss.Miss.{Miss}

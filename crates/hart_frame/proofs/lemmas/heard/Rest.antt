@@ -1,5 +1,5 @@
 -- The frames of the rest of a list are those of the list from its place on, moved by as many places as stand before it.
-use Rattle.std.proofs.Common.{◌≡◌, ℕ, ◌+◌, ◌-◌, ◌<◌, ◌≤◌, ◌⊎◌, inl, inr, List, [], ◌∷◌, ◌++◌, length, map, take, drop, refl, sym, ap, ◌∙◌, arith}
+use Rattle.std.proofs.Common.{◌≡◌, ℕ, ◌+◌, ◌-◌, ◌<◌, ◌≤◌, ◌⊎◌, inl, inr, List, [], ◌∷◌, ◌++◌, length, map, take, drop, refl, ap, arith}
 use Rattle.std.proofs.Common.{append_assoc, length-append, length-drop, subst, take-append-drop}
 use Rattle.std.proofs.lemmas.List.{append-nil, drop-append-le, drop_all, drop_at, length-take-le}
 use Rattle.hart_frame.specs.heard.Character.{Character, faultless}

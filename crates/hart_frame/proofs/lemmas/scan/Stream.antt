@@ -1,5 +1,5 @@
 -- The frames given since a scanner was new are the first of what was pushed, and all of them after the finish.
-use Rattle.std.proofs.Common.{◌≡◌, ◌+◌, ◌≤◌, false, IsTrue, List, [], ◌∷◌, ◌++◌, length, map, drop, refl, sym, ap, ◌∙◌, append_assoc, arith}
+use Rattle.std.proofs.Common.{◌≡◌, ◌+◌, false, IsTrue, List, [], ◌∷◌, ◌++◌, length, map, drop, refl, sym, ap, ◌∙◌, append_assoc, arith}
 use Rattle.std.proofs.Common.{length-append, subst}
 use Rattle.std.proofs.lemmas.List.{append-nil, drop-append-le, drop_at}
 use Rattle.hart_frame.specs.heard.Character.{Character, faultless}

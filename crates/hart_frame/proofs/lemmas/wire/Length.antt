@@ -1,5 +1,5 @@
 -- How long bodies and messages are at most.
-use Rattle.std.proofs.Common.{◌≤◌, ℕ, List, [], ◌++◌, length, replicate, ap, subst, arith, length-append}
+use Rattle.std.proofs.Common.{◌≤◌, ℕ, List, [], length, replicate, ap, subst, arith, length-append}
 use Rattle.std.proofs.lemmas.List.{append-nil, length-replicate}
 use Rattle.hart_frame.specs.wire.FrameParts.{FrameParts}
 use Rattle.hart_frame.specs.wire.Body.{BeginsWithBody, IsBody}

@@ -1,8 +1,7 @@
-use Rattle.std.proofs.Common.{◌≡◌, bit_xor, rules, refl, sym, ap, subst, List}
+use Rattle.std.proofs.Common.{◌≡◌, bit_xor, rules, subst, List}
 use Rattle.std.specs.Int.Bits.{bit_or}
 use Rattle.std.proofs.lemmas.Fn.{fold_over, fronts, slice_gives}
 use Rattle.hart_frame.specs.heard.Character.{Character}
-use Rattle.hart_frame.specs.declared.heard.character.Sum.{Sum}
 use Rattle.hart_frame.proofs.lemmas.heard.Sum.{IsSum, IsSum-more, IsSum-none}
 use Rattle.hart_frame.proofs.heard.character.sum_of.Goals as goal
 

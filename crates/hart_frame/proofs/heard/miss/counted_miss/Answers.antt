@@ -1,8 +1,7 @@
-use Rattle.std.proofs.Common.{◌≡◌, ◌<◌, ◌-◌, ℕ, ap, arith, length, rules, sym, take, ◌∙◌}
-use Rattle.std.proofs.lemmas.Bool.Decides.{nat_tests}
+use Rattle.std.proofs.Common.{◌≡◌, ◌<◌, ◌-◌, ℕ, ap, arith, length, rules, take, ◌∙◌}
 use Rattle.hart_frame.specs.heard.Character.{faultless_bytes}
 use Rattle.hart_frame.proofs.lemmas.heard.Front.{length-faultless_bytes}
-use Rattle.hart_frame.proofs.lemmas.heard.Miss.{IsWholeFront, counted_early, counted_whole, front_length, not_whole, whole_front}
+use Rattle.hart_frame.proofs.lemmas.heard.Miss.{counted_early, counted_whole, front_length, not_whole, whole_front}
 use Rattle.hart_frame.proofs.heard.miss.counted_miss.Goals.{in-Some+else-sum-eq0, in_default}
 use Rattle.hart_frame.proofs.heard.miss.counted_miss.Goals as goal
 

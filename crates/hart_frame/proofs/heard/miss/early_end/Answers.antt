@@ -1,4 +1,4 @@
-use Rattle.std.proofs.Common.{◌≡◌, ◌+◌, ℕ, ap, arith, length, min, rules, sym, ◌∙◌}
+use Rattle.std.proofs.Common.{◌≡◌, ◌+◌, ℕ, ap, arith, length, ◌∙◌}
 use Rattle.std.specs.List.{slice_get}
 use Rattle.hart_frame.specs.heard.Character.{faultless_bytes}
 use Rattle.hart_frame.specs.heard.Miss.{faulty_or}
