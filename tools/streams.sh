@@ -133,6 +133,8 @@ done
 shows help-help help help
 shows version --version
 shows wrong-word frob
+# A file is no word of a call: what is said of one names how it goes in.
+shows wrong-file dump heard.txt
 
 # An input has as many bytes as the limit, and not one more.
 head -c 1048576 /dev/zero | tr '\0' ' ' >"$work/full"

@@ -229,10 +229,14 @@ fn with_image_command<'a>(
 fn plain_command<'a>(alloc: Global, name: &'a str, page: Page<'a>) -> Command<'a>
     ensures { app_of result ≡ new_app name.entry.now }
 {
-    Command::new(alloc, name)
+    let command = Command::new(alloc, name)
         .about(page.about)
         .long_about(page.help)
-        .after_long_help(page.example)
+        .after_long_help(page.example);
+    match page.usage {
+        Some(usage) => command.override_usage(usage),
+        None => command,
+    }
 }
 
 /// A word that has to be there.
