@@ -5,5 +5,6 @@ pub mod HexText
 pub mod DeviceDigits
 pub mod MessageLine
 pub mod Words
+pub mod Reading
 pub mod Chunk
 pub mod Pairs

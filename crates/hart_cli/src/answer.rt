@@ -12,7 +12,7 @@ use crate::input::read_whole;
 use crate::output::write_all;
 use crate::stream::{Sink, Source};
 use crate::text::hex_text::HexLine;
-use crate::text::items::read_chars;
+use crate::text::input_chars::read_chars;
 use crate::text::message_line::message_line;
 use hart_device::{Device, ImageRegisters, bench};
 use hart_frame::Char;

@@ -3,7 +3,9 @@
 pub mod chunk;
 pub mod device_digits;
 pub mod hex_text;
+pub mod input_chars;
 pub mod items;
 pub mod message_line;
 pub mod pairs;
+pub mod plain_items;
 pub mod words;

@@ -6,3 +6,4 @@ pub mod KnownBytes
 pub mod Words
 pub mod MessageLine
 pub mod Chunk
+pub mod PlainItems

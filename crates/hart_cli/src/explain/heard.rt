@@ -7,7 +7,8 @@ ghost use Rattle.hart_cli.specs.text.Items.{NoPieceBegins};
 
 use crate::fault::CliFault;
 use crate::input::{InputEnd, ReadInput};
-use crate::text::items::{may_begin, read_pieces};
+use crate::text::input_chars::read_pieces;
+use crate::text::items::may_begin;
 use hart_frame::Char;
 use hart_line::{Digits, Filling, NoRoom};
 use std::alloc::Global;

@@ -1,10 +1,11 @@
 //! Chunks of items without fault bits.
-ghost use Rattle.std.specs.Prelude.{◌≡◌, ◌≤◌, [], drop, length, IfSome, IsTrue, MatchOption};
+ghost use Rattle.std.specs.Prelude.{◌≡◌, ◌≤◌, [], drop, length, MatchOption};
 ghost use Rattle.hart_frame.specs.heard.Character.{faultless};
 ghost use Rattle.hart_cli.specs.text.Items.{ReadsUpTo};
-ghost use Rattle.hart_cli.specs.text.Chunk.{AreSeparators, ReadsItems, ReadsMore};
+ghost use Rattle.hart_cli.specs.text.Chunk.{ReadsMore};
 
-use crate::text::items::{is_separator, next_piece};
+use crate::text::items::next_piece;
+use crate::text::plain_items::{ITEMS_AT_ONCE, dense_items, spaced_items};
 use hart_line::Digits;
 use hart_values::ByteList;
 
@@ -13,9 +14,6 @@ const CHUNK_LEN: usize = 8192;
 
 /// The bytes of faultless characters.
 pub type Chunk = ByteList<CHUNK_LEN>;
-
-/// The number of items that are read at once.
-const ITEMS_AT_ONCE: usize = 4;
 
 /// Reads pieces without fault bits that a text begins with into an empty chunk, and gives the place after them.
 pub fn read_chunk(digits: &Digits, text: &[u8], chunk: &mut Chunk) -> usize
@@ -54,46 +52,4 @@ fn read_some(digits: &Digits, text: &[u8], chunk: &mut Chunk) -> Option<usize>
         Some(_) => return None,
     }
     Some(lead.len)
-}
-
-/// The bytes of four items with a separator after each, if a text begins with them.
-fn spaced_items(digits: &Digits, text: &[u8]) -> Option<[u8; ITEMS_AT_ONCE]>
-    ensures { IfSome result (ReadsItems text.now 12) }
-{
-    let [a, b, p, c, d, q, e, f, r, g, h, s, ..] = text else {
-        return None;
-    };
-    if !are_separators([*p, *q, *r, *s]) {
-        return None;
-    }
-    let first = digits.byte_of(*a, *b)?;
-    let second = digits.byte_of(*c, *d)?;
-    let third = digits.byte_of(*e, *f)?;
-    let fourth = digits.byte_of(*g, *h)?;
-    Some([first, second, third, fourth])
-}
-
-/// The bytes of four items with nothing between them, if a text begins with them and no fault bits follow.
-fn dense_items(digits: &Digits, text: &[u8]) -> Option<[u8; ITEMS_AT_ONCE]>
-    ensures { IfSome result (ReadsItems text.now 8) }
-{
-    let [a, b, c, d, e, f, g, h, next, ..] = text else {
-        return None;
-    };
-    if *next == b'!' {
-        return None;
-    }
-    let first = digits.byte_of(*a, *b)?;
-    let second = digits.byte_of(*c, *d)?;
-    let third = digits.byte_of(*e, *f)?;
-    let fourth = digits.byte_of(*g, *h)?;
-    Some([first, second, third, fourth])
-}
-
-/// Whether all of four bytes are separators.
-fn are_separators(bytes: [u8; 4]) -> bool
-    ensures { IsTrue result → AreSeparators bytes }
-{
-    let [first, second, third, fourth] = bytes;
-    is_separator(first) && is_separator(second) && is_separator(third) && is_separator(fourth)
 }

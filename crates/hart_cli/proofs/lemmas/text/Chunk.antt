@@ -1,83 +1,19 @@
--- Items that are read several at a time.
-use Rattle.std.proofs.Common.{◌≡◌, ◌≢◌, ◌≤◌, ◌-◌, ℕ, List, [], ◌∷◌, ◌++◌, length, get_or, take, drop, Option, IsTrue, refl}
-use Rattle.std.proofs.Common.{subst, sym, arith}
-use Rattle.std.proofs.lemmas.List.{take_rest}
+-- A piece that is read into a chunk.
+use Rattle.std.proofs.Common.{◌≡◌, ℕ, List, ◌++◌, drop, Option, subst, sym}
 use Rattle.std.specs.Option.{option_to_list}
 use Rattle.hart_frame.specs.heard.Character.{Character, faultless}
-use Rattle.hart_line.specs.script.Items.{Plain}
-use Rattle.hart_cli.specs.text.Chunk.{ReadsItems, ReadsMore}
-use Rattle.hart_line.specs.script.Digits.{AreDigitsOf}
-use Rattle.hart_cli.specs.text.Items.{BeginsAs, IsSeparator, Item, ReadsUpTo, Separator, nothing, piece}
-use Rattle.hart_cli.proofs.lemmas.text.Items.{piece_read}
-use Rattle.hex.specs.Hex.{is_hex_digit}
-
--- a separator is no `!`
-no_mark : (byte : ℕ) → IsSeparator byte → byte ≢ 33
-no_mark byte separator mark = grind (arith, separator, mark)
-
--- nor is a digit
-digit_is_no_mark : (byte : ℕ) → IsTrue (is_hex_digit byte) → byte ≢ 33
-digit_is_no_mark byte digit mark = let no : IsTrue (is_hex_digit 33) = rw mark at digit in cc no
-
--- two digits are read before what is read of the text after them, if it does not begin with a `!`
-item_before : (high low next byte : ℕ) (rest bytes last : List ℕ) → AreDigitsOf byte high low → next ≢ 33
-    → ReadsUpTo (next ∷ rest) (faultless bytes) last → ReadsUpTo (high ∷ low ∷ next ∷ rest) (faultless (byte ∷ bytes)) last
-item_before high low next byte rest bytes last digits none reads =
-    rw digits.1 (piece (high ∷ low ∷ next ∷ rest) (Item (Plain high low)) (next ∷ rest) (faultless bytes) last
-    (record { valid = digits.0; spelled = refl; whole = (λ n. cc n, none) }) reads)
-
--- and with a separator after them
-spaced_before : (high low gap byte : ℕ) (rest bytes last : List ℕ) → AreDigitsOf byte high low → IsSeparator gap
-    → ReadsUpTo rest (faultless bytes) last → ReadsUpTo (high ∷ low ∷ gap ∷ rest) (faultless (byte ∷ bytes)) last
-spaced_before high low gap byte rest bytes last digits separator reads =
-    item_before high low gap byte rest bytes last digits (no_mark gap separator)
-    (piece (gap ∷ rest) (Separator gap) rest (faultless bytes) last (record { valid = separator; spelled = refl; whole = tt }) reads)
-
--- four items with nothing between them
-pub dense_read : (text : List ℕ) (w x y z : ℕ) → 9 ≤ length text → get_or text 8 0 ≢ 33 → AreDigitsOf w (get_or text 0 0) (get_or text 1 0)
-    → AreDigitsOf x (get_or text 2 0) (get_or text 3 0) → AreDigitsOf y (get_or text 4 0) (get_or text 5 0)
-    → AreDigitsOf z (get_or text 6 0) (get_or text 7 0) → ReadsItems text 8 (w ∷ x ∷ y ∷ z ∷ [])
-dense_read (a ∷ b ∷ c ∷ d ∷ e ∷ f ∷ g ∷ h ∷ next ∷ rest) w x y z long none one two three four = record {
-  within = omega arith;
-  reads = item_before a b c w _ (x ∷ y ∷ z ∷ []) _ one (digit_is_no_mark c two.0.0) (
-      item_before c d e x _ (y ∷ z ∷ []) _ two (digit_is_no_mark e three.0.0) (
-      item_before e f g y _ (z ∷ []) _ three (digit_is_no_mark g four.0.0) (
-      item_before g h next z rest [] (next ∷ rest) four none (nothing (next ∷ rest)))));
-  few = omega arith;
-}
-dense_read _ w x y z long none one two three four = absurd (omega arith)
-
--- four items with a separator after each
-pub spaced_read : (text : List ℕ) (w x y z : ℕ) → 12 ≤ length text → IsSeparator (get_or text 2 0) → IsSeparator (get_or text 5 0)
-    → IsSeparator (get_or text 8 0) → IsSeparator (get_or text 11 0) → AreDigitsOf w (get_or text 0 0) (get_or text 1 0)
-    → AreDigitsOf x (get_or text 3 0) (get_or text 4 0) → AreDigitsOf y (get_or text 6 0) (get_or text 7 0)
-    → AreDigitsOf z (get_or text 9 0) (get_or text 10 0) → ReadsItems text 12 (w ∷ x ∷ y ∷ z ∷ [])
-spaced_read (a ∷ b ∷ p ∷ c ∷ d ∷ q ∷ e ∷ f ∷ r ∷ g ∷ h ∷ s ∷ rest) w x y z long gap_p gap_q gap_r gap_s one two three four = record {
-  within = omega arith;
-  reads = spaced_before a b p w _ (x ∷ y ∷ z ∷ []) _ one gap_p (
-      spaced_before c d q x _ (y ∷ z ∷ []) _ two gap_q (
-      spaced_before e f r y _ (z ∷ []) _ three gap_r (
-      spaced_before g h s z rest [] rest four gap_s (nothing rest))));
-  few = omega arith;
-}
-spaced_read _ w x y z long gap_p gap_q gap_r gap_s one two three four = absurd (omega arith)
+use Rattle.hart_cli.specs.text.Chunk.{ReadsMore}
+use Rattle.hart_cli.specs.text.Items.{BeginsAs, ReadsUpTo}
+use Rattle.hart_cli.proofs.lemmas.text.Items.{begins_reads}
 
 -- one piece is read
 pub one_read : (text old new : List ℕ) (char : Option Character) (len : ℕ) (bytes : List ℕ) → BeginsAs text char len
-    → faultless bytes ≡ option_to_list char → new ≡ old ++ bytes → length bytes ≤ 1 → ReadsMore text old new len
-one_read text old new char len bytes begins same added few =
-    let whole : take (length text - 0) text ≡ text = take_rest text 0 in
-    let From : List ℕ → Type 0 = λ xs. BeginsAs xs char len in
-    let read = piece_read text [] (option_to_list char) 0 char len (omega arith) (nothing text) (subst From (sym whole) begins) refl in
-    let To : ℕ → Type 0 = λ n. ReadsUpTo text (option_to_list char) (drop n text) in
+    → faultless bytes ≡ option_to_list char → new ≡ old ++ bytes → ReadsMore text old new len
+one_read text old new char len bytes begins same added =
+    let read = begins_reads text char len begins in
     let Of : List Character → Type 0 = λ chars. ReadsUpTo text chars (drop len text) in
     record {
       bytes = bytes;
-      items = record {
-        within = omega (arith, read.1);
-        reads = subst Of (sym same) (subst To (omega arith) read.2);
-        few = omega (arith, few, read.0);
-      };
+      items = record { some = read.0; within = read.1; reads = subst Of (sym same) read.2 };
       added = added;
-      some = read.0;
     }

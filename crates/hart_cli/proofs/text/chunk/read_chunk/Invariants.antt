@@ -7,7 +7,6 @@ abbrev pub invariant-loop-len : goal.invariant-loop-len
 invariant-loop-len l = record {
   within : l.place ≤ length l.text;
   reads : ReadsUpTo l.text (faultless l.chunk) (drop l.place l.text);
-  few : length l.chunk ≤ l.place;
 }
 
 abbrev pub decreases-loop-len : goal.decreases-loop-len

@@ -1,4 +1,4 @@
-use Rattle.std.proofs.Common.{[], ◌∷◌, ◌++◌, ℕ, Option, sym, ap, ◌∙◌, arith}
+use Rattle.std.proofs.Common.{[], ◌∷◌, ◌++◌, ℕ, Option, sym, ap, ◌∙◌}
 use Rattle.std.proofs.lemmas.List.{append-nil}
 use Rattle.std.specs.Option.{option_to_list}
 use Rattle.hart_frame.specs.heard.Character.{Character}
@@ -8,7 +8,7 @@ use Rattle.hart_cli.proofs.text.chunk.read_some.Goals as goal
 pub returns-in-None : goal.returns-in-None
 returns-in-None c =
     one_read _ _ _ _ _ [] c.in_ok-lead.ensures (ap (λ (x : Option Character). option_to_list x) (sym c.in-None.is))
-    (sym (append-nil _)) (omega arith)
+    (sym (append-nil _))
 
 pub returns-in-Some-char : goal.returns-in-Some-char
 returns-in-Some-char c =
@@ -17,4 +17,4 @@ returns-in-Some-char c =
     let same = ap (λ (faults : ℕ). let x : Character = record { byte = char.byte; faults = faults } in x ∷ []) (sym none)
     ∙ ap (λ (x : Option Character). option_to_list x) (sym c.in-Some-char.is) in
     one_read _ _ _ _ _ (char.byte ∷ []) c.in_ok-lead.ensures same
-    (c.push.ensures ∙ ap (λ (byte : ℕ). c.args.chunk.now ++ byte ∷ []) c.byte.ensures) (omega arith)
+    (c.push.ensures ∙ ap (λ (byte : ℕ). c.args.chunk.now ++ byte ∷ []) c.byte.ensures)

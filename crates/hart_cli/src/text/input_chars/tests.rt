@@ -1,4 +1,5 @@
 use super::*;
+use crate::text::items::may_begin;
 use std::test::Fail;
 
 /// A character as its byte and its fault bits.

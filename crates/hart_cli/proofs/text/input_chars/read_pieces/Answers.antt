@@ -1,0 +1,21 @@
+use Rattle.std.proofs.lemmas.Grind.{common_steps}
+use Rattle.std.proofs.Common.{List, ℕ, length, refl, ap, arith}
+use Rattle.std.proofs.lemmas.List.{length-append, length-drop, take_rest}
+use Rattle.hart_cli.specs.text.Items.{nothing}
+use Rattle.hart_cli.proofs.lemmas.text.Items.{read_on, ReadsUpTo-few}
+use Rattle.hart_cli.proofs.text.input_chars.read_pieces.Goals as goal
+
+pub loop-len-init : goal.loop-len-init
+loop-len-init c =
+    record { within = omega arith; reads = rw (c.requires.empty) (nothing c.args.text.now); same_room = refl }
+
+pub loop-len-preserved : goal.loop-len-preserved
+loop-len-preserved c = grind (arith, common_steps, length-append, length-drop, read_on, take_rest)
+
+pub read_more-requires : goal.read_more-requires
+read_more-requires c =
+    let text = c.args.text.now in
+    let loop = c.loop-len.invariant in
+    let few = ReadsUpTo-few text c.loop-len.chars.items _ loop.reads in
+    let long = ap (λ (xs : List ℕ). length xs) (take_rest text c.loop-len.place) in
+    record { room = omega (arith, few, long, c.requires.room, loop.same_room) }

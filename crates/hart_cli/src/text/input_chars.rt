@@ -1,0 +1,105 @@
+//! The characters of an input.
+ghost use Rattle.std.specs.Prelude.{◌≡◌, ◌<◌, ◌≤◌, ◌+◌, ◌*◌, ◌/◌, [], ◌++◌, ℕ, List, drop, length, Option};
+ghost use Rattle.std.specs.Prelude.{IfErr, IfOk, MatchOption};
+ghost use Rattle.hart_frame.specs.heard.Character.{Character, faultless};
+ghost use Rattle.hart_cli.specs.input.Input.{Ending};
+ghost use Rattle.hart_cli.specs.text.InputChars.{HasChars, IsWholeTextFault};
+ghost use Rattle.hart_cli.specs.text.Items.{NoPieceBegins, ReadsAs, ReadsUpTo};
+ghost use Rattle.hart_cli.specs.text.Reading.{ReadsChars};
+ghost use Rattle.hart_cli.specs.declared.fault.CliFault.{CliFault};
+
+use crate::fault::CliFault;
+use crate::text::items::next_piece;
+use crate::text::plain_items::{ITEMS_AT_ONCE, dense_items, spaced_items};
+use hart_frame::Char;
+use hart_line::{Digits, Filling};
+use std::alloc::Global;
+
+/// An input that was read so far has no two lists of characters before its fault, and no two faults.
+pub fn inputs_are_unambiguous()
+    ensures { (text : List ℕ) (ending : Ending) (xs ys : List Character) (f g : Option CliFault)
+        → HasChars text ending xs f → HasChars text ending ys g → (xs ≡ ys) × (f ≡ g) }
+{}
+
+/// The characters of an input that was read to its end.
+///
+/// # Errors
+///
+/// [`CliFault::BadHex`] at the place of the first thing that is neither a separator nor an item; fault bits of a character are
+/// none. [`CliFault::Memory`] if room for half as many characters as it has bytes was refused.
+pub fn read_chars(alloc: Global, mut text: Filling<u8>) -> Result<Vec<Char>, CliFault>
+    requires spare { length text.items < text.room }
+    ensures chars { IfOk result (λ chars. ReadsAs text.items chars.items) }
+    ensures fault { IfErr result (IsWholeTextFault text.items) }
+{
+    // An item has two bytes at least.
+    let mut chars = Filling::with_room(alloc, text.len() / 2)?;
+    // The end of an input makes its last item whole, as a space does.
+    text.push(b' ');
+    let place = read_pieces(&Digits::new(), text.as_slice(), &mut chars);
+    if place < text.len() {
+        return Err(CliFault::BadHex { place });
+    }
+    Ok(chars.finish())
+}
+
+/// Reads a text up to the place where no piece begins, and gives that place. The last byte is no item's, so that there is room
+/// for half as many characters as there are bytes before it.
+pub fn read_pieces(digits: &Digits, text: &[u8], chars: &mut Filling<Char>) -> usize
+    requires empty { chars.old.items ≡ [] }
+    requires room { length text.now ≤ 2 * chars.old.room + 2 }
+    ensures within { result ≤ length text.now }
+    ensures reads { ReadsUpTo text.now chars.new.items (drop result text.now) }
+    ensures stops { NoPieceBegins (drop result text.now) }
+{
+    let mut place = 0;
+    while let Some(len) = read_more(digits, &text[place..], chars) {
+        place += len;
+    }
+    place
+}
+
+/// Reads the piece that a text begins with, or several items if they stand as they mostly do, and gives the number of their bytes.
+/// There is none if no piece begins the text.
+fn read_more(digits: &Digits, text: &[u8], chars: &mut Filling<Char>) -> Option<usize>
+    requires room { length text.now + 2 * length chars.old.items ≤ 2 * chars.old.room + 2 }
+    ensures { MatchOption result
+        (NoPieceBegins text.now × (chars.new ≡ chars.old))
+        (ReadsChars text.now chars.old chars.new) }
+{
+    if let Some(bytes) = spaced_items(digits, text) {
+        push_faultless(chars, bytes);
+        return Some(3 * ITEMS_AT_ONCE);
+    }
+    if let Some(bytes) = dense_items(digits, text) {
+        push_faultless(chars, bytes);
+        return Some(2 * ITEMS_AT_ONCE);
+    }
+    let lead = next_piece(digits, text)?;
+    if let Some(char) = lead.char {
+        chars.push(char);
+    }
+    Some(lead.len)
+}
+
+/// Adds the characters of bytes that came without faults.
+fn push_faultless(chars: &mut Filling<Char>, bytes: [u8; ITEMS_AT_ONCE])
+    requires { length chars.old.items + 4 ≤ chars.old.room }
+    ensures { chars.new ≡ record chars.old { items = chars.old.items ++ faultless bytes } }
+{
+    let [first, second, third, fourth] = bytes;
+    chars.push(faultless_char(first));
+    chars.push(faultless_char(second));
+    chars.push(faultless_char(third));
+    chars.push(faultless_char(fourth));
+}
+
+/// The character of a byte that came without faults.
+fn faultless_char(byte: u8) -> Char
+    ensures { result ≡ record { byte = byte; faults = 0 } }
+{
+    Char::new(byte, 0).unwrap()
+}
+
+#[cfg(test)]
+mod tests;
