@@ -1,9 +1,11 @@
 -- What `hart explain` says of places at which no message stands, though one seems to start there (own profile).
 use Rattle.std.specs.Prelude.{◌==◌, ◌<◌, ⊤, if◌then◌else◌, ◌+◌, ◌-◌, ◌++◌, [], ◌∷◌, ℕ, List, Option, None, Some, codes, decimal, drop}
+use Rattle.std.specs.Prelude.{◌&&◌, not, slice_get, Bool, false}
+use Rattle.std.specs.Option.{option_map_or}
 use Rattle.std.specs.List.{flat_map, range_with_len}
 use Rattle.hex.specs.Hex.{encode_upper}
 use Rattle.hart_frame.specs.heard.Character.{Character}
-use Rattle.hart_frame.specs.heard.Miss.{miss_of}
+use Rattle.hart_frame.specs.heard.Miss.{follows_preamble, is_preamble, miss_of}
 use Rattle.hart_frame.specs.declared.heard.miss.Miss.{Miss}
 use Rattle.hart_frame.specs.declared.heard.miss.Miss.TheVariants.{Faulty, Burst, BadDelimiter, EndsBeforeByteCount, ShortReply, Missing}
 use Rattle.hart_frame.specs.declared.heard.miss.Miss.TheVariants.{BadCheck, OnePreamble}
@@ -51,3 +53,7 @@ abbrev pub ArePlacesBelow : ℕ → Miss → Type 0
 ArePlacesBelow count (Faulty place faults) = place < count
 ArePlacesBelow count (BadCheck place byte fits) = place < count
 ArePlacesBelow count _ = ⊤
+
+-- A faultless FF stands right before a place, and none at it.
+abbrev pub is_asked : List Character → ℕ → Bool
+is_asked chars place = follows_preamble chars place && option_map_or (λ first. not (is_preamble first)) (slice_get chars place) false

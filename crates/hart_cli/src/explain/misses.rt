@@ -1,7 +1,7 @@
 //! What is said of places at which no message stands, though one seems to start there.
 ghost use Rattle.std.specs.Prelude.{◌≡◌, ◌++◌, ◌+◌, ◌-◌, ◌<◌, ◌≤◌, ◌^◌, codes, decimal, length};
-ghost use Rattle.hart_frame.specs.heard.Miss.{follows_preamble};
-ghost use Rattle.hart_cli.specs.explain.Misses.{ArePlacesBelow, byte_digits, characters_word, gap_text, miss_words, place_text};
+ghost use Rattle.hart_frame.specs.heard.Miss.{is_preamble};
+ghost use Rattle.hart_cli.specs.explain.Misses.{ArePlacesBelow, byte_digits, characters_word, gap_text, is_asked, miss_words, place_text};
 ghost use Rattle.hart_cli.specs.explain.Told.{Tells};
 
 use crate::explain::kept::{Kept, make_room};
@@ -38,8 +38,8 @@ pub fn tell_gap<W: Sink>(
     Ok(())
 }
 
-/// Says what there is to say of a place that no message holds, after the end of the last message before it. Without a preamble byte
-/// right before it there is nothing, and only then is it asked why no message stands there.
+/// Says what there is to say of a place that no message holds, after the end of the last message before it. Unless a run of preamble
+/// bytes ends right before it there is nothing, and only then is it asked why no message stands there.
 #[inline]
 fn tell_place<W: Sink>(
     writer: &mut W,
@@ -53,23 +53,26 @@ fn tell_place<W: Sink>(
     requires within { place < length chars.now }
     ensures { Tells (W.stream writer.old) (W.stream writer.new) kept.old kept.new (place_text chars.now from place) result }
 {
-    if follows_preamble(&chars[from..], place - from) {
+    if is_asked(&chars[from..], place - from) {
         tell_miss(writer, kept, pairs, chars, from, place)
     } else {
         Ok(())
     }
 }
 
-/// Whether a faultless preamble byte `FF` stands right before a place.
-fn follows_preamble(chars: &[Char], place: usize) -> bool
-    requires { place ≤ length chars.now }
-    ensures { result ≡ follows_preamble chars.now place }
+/// Whether a faultless preamble byte `FF` stands right before a place, and none at it.
+fn is_asked(chars: &[Char], place: usize) -> bool
+    requires { place < length chars.now }
+    ensures { result ≡ is_asked chars.now place }
 {
-    if place == 0 {
-        return false;
-    }
-    let before = chars[place - 1];
-    before.byte() == PREAMBLE && before.is_faultless()
+    place > 0 && is_preamble(chars[place - 1]) && !is_preamble(chars[place])
+}
+
+/// Whether a character is a faultless preamble byte `FF`.
+fn is_preamble(character: Char) -> bool
+    ensures { result ≡ is_preamble character }
+{
+    character.byte() == PREAMBLE && character.is_faultless()
 }
 
 /// Says why no message stands at a place, if one seems to start there.

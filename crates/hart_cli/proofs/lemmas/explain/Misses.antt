@@ -12,7 +12,7 @@ use Rattle.hart_frame.specs.heard.Character.{Character}
 use Rattle.hart_frame.specs.declared.heard.miss.Miss.{Miss}
 use Rattle.hart_frame.specs.declared.heard.miss.Miss.TheVariants.{BadCheck, Faulty, OnePreamble}
 use Rattle.hart_frame.specs.heard.Miss.{body_miss, follows_preamble, is_preamble, miss_of}
-use Rattle.hart_cli.specs.explain.Misses.{ArePlacesBelow, gap_text, miss_line, place_text}
+use Rattle.hart_cli.specs.explain.Misses.{ArePlacesBelow, gap_text, is_asked, miss_line, place_text}
 
 -- the text of one number more
 said_more : (said : ℕ → List ℕ) (a n j : ℕ) → a + n ≡ j
@@ -72,20 +72,37 @@ unfolding place_text
 place_text-miss chars from place miss is = ap (λ (found : Option Miss). miss_line from place found) (sym is)
 
 -- a choice that waits on what is false
-none_of : (a b c d : Bool) (first : Option Miss) (other : Miss) → a ≡ false
+none_of : (a b c d : Bool) (first : Option Miss) (other : Miss) → (a && c) ≡ false → (c ≡ false → d ≡ false)
     → (if (a && b) && c then first else if (a && not b) && d then Some other else None) ≡ None
-none_of false b c d first other is = refl
-none_of true b c d first other is = cc
+none_of false b c d first other is none = refl
+none_of true b true d first other is none = cc
+none_of true true false d first other is none = refl
+none_of true false false false first other is none = refl
+none_of true false false true first other is none = let no : true ≡ false = none refl in cc no
 
--- where no preamble byte stands right before a place, there is no miss
-no_miss : (chars : List Character) (place : ℕ) → follows_preamble chars place ≡ false → miss_of chars place ≡ None
+-- no body begins with a preamble byte
+no_body : (start byte faults : ℕ) (rest : List Character) → is_preamble (record { byte = byte; faults = faults }) ≡ true
+    → is_none (body_miss start (record { byte = byte; faults = faults } ∷ rest)) ≡ false
+no_body start byte faults rest is = grind (arith, common_steps)
+
+-- nor does one where nothing stands
+no_body_at : (start at : ℕ) (chars : List Character)
+    → option_map_or (λ first. not (is_preamble first)) (slice_get chars at) false ≡ false
+    → is_none (body_miss start (drop at chars)) ≡ false
+no_body_at start zero [] none = refl
+no_body_at start (suc at) [] none = refl
+no_body_at start zero (first ∷ rest) none = no_body start first.byte first.faults rest (grind (arith, common_steps, none))
+no_body_at start (suc at) (first ∷ rest) none = no_body_at start at rest none
+
+-- where nothing is asked, there is no miss
+no_miss : (chars : List Character) (place : ℕ) → is_asked chars place ≡ false → miss_of chars place ≡ None
 no_miss chars place none =
     none_of (follows_preamble chars place) (follows_preamble chars (place - 1))
     (option_map_or (λ first. not (is_preamble first)) (slice_get chars place) false) (is_none (body_miss place (drop place chars)))
-    (body_miss place (drop place chars)) OnePreamble none
+    (body_miss place (drop place chars)) OnePreamble none (no_body_at place place chars)
 
 -- so nothing is said of it
-pub no_text : (chars : List Character) (from place : ℕ) → follows_preamble (drop from chars) (place - from) ≡ false
+pub no_text : (chars : List Character) (from place : ℕ) → is_asked (drop from chars) (place - from) ≡ false
     → place_text chars from place ≡ []
 no_text chars from place none = place_text-miss chars from place None (sym (no_miss (drop from chars) (place - from) none))
 

@@ -4,8 +4,8 @@ use Rattle.hart_cli.proofs.lemmas.explain.Misses.{no_text}
 use Rattle.hart_cli.proofs.lemmas.explain.Told.{adds_nothing}
 use Rattle.hart_cli.proofs.explain.misses.tell_place.Goals as goal
 
-pub returns-else-follows_preamble : goal.returns-else-follows_preamble
-returns-else-follows_preamble g c =
+pub returns-else-is_asked : goal.returns-else-is_asked
+returns-else-is_asked g c =
     rw (
-    no_text c.args.chars.now c.args.from c.args.place (sym (rw take_rest at c.follows_preamble.ensures) ∙ c.if-follows_preamble.false)
+    no_text c.args.chars.now c.args.from c.args.place (sym (rw take_rest at c.is_asked.ensures) ∙ c.if-is_asked.false)
     ) (adds_nothing _ c.args.kept.now)
