@@ -79,8 +79,8 @@ typedef struct hart_search {
     uint8_t fault; /* HART_OK, or why nothing was done */
 } hart_search;
 
-/* Finds the next frames of bytes that were heard without faults, as many as there is room for; whoever has room for none is given none
- * and comes to no end. `ended` says that no more is to come: without it the frames that a false start holds back are never given.
+/* Finds the next frames of bytes that were heard without faults, each after two preamble bytes FF, as many as there is room for; whoever
+ * has room for none is given none and comes to no end. `ended` says that no more is to come: without it the frames that a false start holds back are never given.
  * What is not used up is passed again, with what comes after it, and places are then counted from its front: in all that was heard
  * they are those and the sum of what was used up before. If there are fewer frames than room, none is left if it ended, and otherwise
  * at most 269 bytes are, in which nothing is decided yet: so 270 bytes are room enough for what is kept and a byte more. Each call looks
@@ -98,8 +98,9 @@ typedef struct hart_outcome {
 } hart_outcome;
 
 /* Reads the frame whose body bytes begin with, from the delimiter on, and tells the length of that body. `frame` then shows it, from
- * place 0 on. Further bytes may follow. The fault is the first in the order of the bytes: none, or a bad delimiter; an end before the
- * byte count; a reply with a short byte count; an end before the check byte; a bad check byte. */
+ * place 0 on. Preamble bytes are not passed, and further bytes may follow. The fault is the first in the order of the bytes:
+ * HART_TRUNCATED for none, HART_BAD_DELIMITER, HART_TRUNCATED for an end before the byte count, HART_SHORT_REPLY, HART_TRUNCATED for an
+ * end before the check byte, HART_BAD_CHECK. */
 hart_outcome hart_decode(const uint8_t *bytes, size_t bytes_len, hart_frame *frame);
 
 /* Writes a frame as a message at the front of `output`: so many preamble bytes and its body. 287 bytes are room for any. `start`, `stop`,
@@ -231,8 +232,11 @@ typedef struct hart_registers {
     uint8_t long_tag[32];
 } hart_registers;
 
-/* What is kept of a device from call to call: all that it holds, but not who it is. An image of `hart sim --image` may be put in, with
- * both bits false; a call that changes the device leaves an image of version 2. */
+/* What is kept of a device from call to call: all that it holds, but not who it is, in 89 bytes without padding. An image of
+ * `hart sim --image` may be put in, with both bits false. hart_hear without a fault leaves an image of version 2, also if it is silent, and
+ * the device is then in the state in which it was; hart_restart leaves the image as it is. image[1] is the polling address and image[2] the
+ * loop current mode; bit 0x04 of image[image_len - 1] is write protection, which the caller may set and clear; docs/COMMANDS.md has every
+ * byte. Of what was kept in a file hart_hear tests the image; that both bools are 0 or 1 is for the caller to test. */
 typedef struct hart_device {
     uint8_t image[86];        /* of version 2 (86 bytes) or of version 1 (54); bytes after image_len of them mean nothing */
     uint8_t image_len;
@@ -258,7 +262,8 @@ void hart_restart(hart_device *device);
  * first, of which the length is told, 0 for silence; 287 bytes are room for any. `device` is the device after it. The fault is the first
  * of these that holds: HART_OUT_OF_RANGE, HART_BROADCAST_ADDRESS (the identity); HART_BAD_LENGTH for an image_len of 0 or above 86,
  * HART_BAD_VERSION, HART_BAD_LENGTH, HART_BAD_FIELD (the image); HART_BAD_VARIABLES; HART_BAD_FAULT_BITS, HART_TOO_LONG (the
- * characters); HART_NO_ROOM. Nothing is then carried out: device and reply are as they were. */
+ * characters); HART_NO_ROOM. Nothing is then carried out: device and reply are as they were. A device that heard too much at once keeps
+ * silent. */
 hart_outcome hart_hear(const hart_identity *identity, const hart_process *process, const hart_char *heard, size_t heard_len,
                        hart_device *device, uint8_t *reply, size_t reply_len);
 
@@ -274,9 +279,10 @@ typedef struct hart_acceptance {
  * that is a reply to this master, from this address, to this command, without expansion bytes, whose payload is one of the command or a
  * refusal. `reply` then shows that frame and where it stands; its data come after the two status bytes. Otherwise `reply` is as it was.
  * The fault is the first of these that holds: HART_BAD_ADDRESS, HART_LONG_EXPANSION, HART_TOO_SHORT_REPLY; HART_NO_REQUEST for a reply,
- * expansion bytes, the burst bit, a command that is not known or data that ask nothing of it; HART_WRONG_ADDRESS for another command than
- * 0 at a polling address, and than 11 and 21 at the broadcast address; HART_BAD_FAULT_BITS, HART_TOO_LONG. When to send a request again
- * is for the caller to decide. */
+ * expansion bytes, the burst bit, a command that is not known or data for which hart_read_request tells another code than 0;
+ * HART_WRONG_ADDRESS for another command than 0 at a polling address, and than 11 and 21 at the broadcast address; HART_BAD_FAULT_BITS,
+ * HART_TOO_LONG. A reply with communication faults, bit 0x80 of its first status byte, is not accepted: hart_find shows it. When to send a
+ * request again is for the caller to decide. `reply` may not be `request`. */
 hart_acceptance hart_accept(const hart_frame *request, const hart_char *heard, size_t heard_len, hart_frame *reply);
 
 /* The unique address that a reply gives. */
