@@ -19,8 +19,8 @@
 //!
 //! Laws that are for readers and for callers outside, and that no other crate here cites:
 //!
-//! - Of frames and bytes: [`bytes_have_one_fault`], [`messages_are_short`], [`truncated_bytes_can_become_a_body`], [`open_places_can_begin_a_frame`],
-//!   [`damage_by_example`].
+//! - Of frames and bytes: [`bytes_have_one_fault`], [`messages_are_short`], [`truncated_bytes_can_become_a_body`],
+//!   [`open_places_can_begin_a_frame`], [`damage_by_example`].
 //! - Of misses: [`every_start_has_a_frame_or_a_miss`], [`misses_are_in_the_way`], [`misses_say_what_is_wrong`],
 //!   [`misses_are_faults`].
 //! - Of a scanner: [`frames_are_streamed`], [`any_chunking_gives_the_same_frames`], [`held_frames_are_given`].

@@ -10,5 +10,6 @@ returns c = record {
   exactly = λ chars from stop place miss. (missed_are chars from stop place miss, missed_has chars from stop place miss);
   every_start = start_is_missed c.every_start_has_a_frame_or_a_miss.ensures.one;
   only_there = λ chars from stop place miss has.
-      c.every_start_has_a_frame_or_a_miss.ensures.only_there (place - from) (drop from chars) miss (missed_are chars from stop place miss has).2;
+      c.every_start_has_a_frame_or_a_miss.ensures.only_there (place - from) (drop from chars) miss
+      (missed_are chars from stop place miss has).2;
 }
