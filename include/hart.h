@@ -80,12 +80,12 @@ typedef struct hart_search {
 } hart_search;
 
 /* Finds the next frames of bytes that were heard without faults, each after two preamble bytes FF, as many as there is room for; whoever
- * has room for none is given none and comes to no end. `ended` says that no more is to come: without it the frames that a false start holds back are never given.
- * What is not used up is passed again, with what comes after it, and places are then counted from its front: in all that was heard
- * they are those and the sum of what was used up before. If there are fewer frames than room, none is left if it ended, and otherwise
- * at most 269 bytes are, in which nothing is decided yet: so 270 bytes are room enough for what is kept and a byte more. Each call looks
- * again at what is kept, so that larger pieces cost less. Whoever goes on so until the end is given all frames of all that was heard,
- * and no others, in whatever pieces it came. */
+ * has room for none is given none and comes to no end. `ended` says that no more is to come: without it the frames that a false start
+ * holds back are never given. What is not used up is passed again, with what comes after it, and places are then counted from its front:
+ * in all that was heard they are those and the sum of what was used up before. If there are fewer frames than room, none is left if it
+ * ended, and otherwise at most 269 bytes are, in which nothing is decided yet: so 270 bytes are room enough for what is kept and a byte
+ * more. Each call looks again at what is kept, so that larger pieces cost less. Whoever goes on so until the end is given all frames of
+ * all that was heard, and no others, in whatever pieces it came. */
 hart_search hart_find_in_bytes(const uint8_t *bytes, size_t bytes_len, bool ended, hart_frame *frames, size_t frames_len);
 
 /* The same for characters that were heard with fault bits or without. At HART_BAD_FAULT_BITS nothing is found or used up. */
@@ -232,15 +232,16 @@ typedef struct hart_registers {
     uint8_t long_tag[32];
 } hart_registers;
 
-/* What is kept of a device from call to call: all that it holds, but not who it is, in 89 bytes without padding. An image of
- * `hart sim --image` may be put in, with both bits false. hart_hear without a fault leaves an image of version 2, also if it is silent, and
- * the device is then in the state in which it was; hart_restart leaves the image as it is. image[1] is the polling address and image[2] the
- * loop current mode; bit 0x04 of image[image_len - 1] is write protection, which the caller may set and clear; docs/COMMANDS.md has every
- * byte. Of what was kept in a file hart_hear tests the image; that both bools are 0 or 1 is for the caller to test. */
+/* What is kept of a device from call to call: all that it holds, but not who it is, in 89 bytes without padding. An image of `hart sim
+ * --image` may be put in, with both bits false. hart_hear without a fault leaves an image of version 2, also if it is silent; after
+ * silence the device is in the state in which it was. hart_restart leaves the image as it is. image[1] is the polling address and
+ * image[2] the loop current mode; bit 0x04 of image[image_len - 1] is write protection, which the caller may set and clear;
+ * docs/COMMANDS.md has every byte. Of what was kept in a file hart_hear tests the image; that both bools are 0 or 1 is for the caller to
+ * test. */
 typedef struct hart_device {
     uint8_t image[86];        /* of version 2 (86 bytes) or of version 1 (54); bytes after image_len of them mean nothing */
     uint8_t image_len;
-    bool primary_cold_start;  /* the next reply to the primary master shows it a cold start */
+    bool primary_cold_start;  /* the next reply with a response code to the primary master shows it a cold start */
     bool secondary_cold_start;
 } hart_device;
 
@@ -257,13 +258,13 @@ hart_outcome hart_new_device(const hart_registers *registers, hart_device *devic
 void hart_restart(hart_device *device);
 
 /* A device hears these characters at once, all of what came between two silences. If they have exactly one frame, and that is a request
- * for the device, it carries it out and replies; a request that was damaged after the device's own address is not carried out, and the
- * reply says how it was damaged; to all else it keeps silent. `reply` then begins with the whole message to send, its preamble bytes
- * first, of which the length is told, 0 for silence; 287 bytes are room for any. `device` is the device after it. The fault is the first
- * of these that holds: HART_OUT_OF_RANGE, HART_BROADCAST_ADDRESS (the identity); HART_BAD_LENGTH for an image_len of 0 or above 86,
- * HART_BAD_VERSION, HART_BAD_LENGTH, HART_BAD_FIELD (the image); HART_BAD_VARIABLES; HART_BAD_FAULT_BITS, HART_TOO_LONG (the
- * characters); HART_NO_ROOM. Nothing is then carried out: device and reply are as they were. A device that heard too much at once keeps
- * silent. */
+ * for the device, it carries it out or refuses it with a response code, and replies; a request to its own unique address that came with
+ * all its characters, damaged only after that address, is not carried out, and the reply says how it was damaged; to all else it keeps
+ * silent. `reply` then begins with the whole message to send, its preamble bytes first, of which the length is told, 0 for silence; 287
+ * bytes are room for any. `device` is the device after it. The fault is the first of these that holds: HART_OUT_OF_RANGE,
+ * HART_BROADCAST_ADDRESS (the identity); HART_BAD_LENGTH for an image_len of 0 or above 86, HART_BAD_VERSION, HART_BAD_LENGTH,
+ * HART_BAD_FIELD (the image); HART_BAD_VARIABLES; HART_BAD_FAULT_BITS, HART_TOO_LONG (the characters); HART_NO_ROOM. Nothing is then
+ * carried out: device and reply are as they were. A device that heard too much at once keeps silent. */
 hart_outcome hart_hear(const hart_identity *identity, const hart_process *process, const hart_char *heard, size_t heard_len,
                        hart_device *device, uint8_t *reply, size_t reply_len);
 
@@ -293,7 +294,7 @@ typedef struct hart_unique {
 } hart_unique;
 
 /* The unique address at which to go on, from the payload of a reply to Command 0, 11 or 21, from its two status bytes on. A reply to
- * another command, one with another code than 0, and an identity of the broadcast address give none. */
+ * another command, one with another code than 0, an identity of the broadcast address, and what is no reply give none. */
 hart_unique hart_unique_of(uint8_t command, const uint8_t *payload, size_t payload_len);
 
 #ifdef __cplusplus

@@ -37,7 +37,7 @@ pub record IsShown (start : ℕ) (fields : List Field) (taken code status : ℕ)
   pub shown : after ≡ written_over (placed start fields) before
 
 -- The data of a request that is read are taken as far as it is written, and shown as the fields of its command; its code is 0. Of a
--- request that is refused no field is shown and no byte taken, but the code that refuses it.
+-- request that is refused no field is shown and no byte taken, and the code that refuses it is told.
 abbrev pub RequestShown : ℕ → List ℕ → Reading → List HartField → List HartField → HartReading → Type 0
 RequestShown command bytes (Ok request) before after reading =
     let taken = take (length (request_data request)) bytes in
@@ -55,7 +55,7 @@ reply_fields command payload reply =
     if reply.code == 0 then fields_of (reply_rows command) (take (length (content_bytes reply.content)) (drop 2 payload)) else []
 
 -- The payload of a reply is taken as far as it is written, and its fields are shown, which stand after its two status bytes, and its code
--- and device status are told. Of a payload that is no reply nothing is shown.
+-- and device status are told. Of a payload that is no reply nothing is shown, and the fault is 14.
 abbrev pub ReplyShown : ℕ → List ℕ → Option Reply → List HartField → List HartField → HartReading → Type 0
 ReplyShown command payload (Some reply) before after reading =
     IsShown 2 (reply_fields command payload reply) (length (reply_payload reply)) reply.code reply.status.0 before after reading

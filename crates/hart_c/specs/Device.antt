@@ -37,8 +37,8 @@ image_in device = take device.image_len device.image
 abbrev pub cold_start_in : HartDevice → EachMaster Bool
 cold_start_in device = record { primary = device.primary_cold_start; secondary = device.secondary_cold_start }
 
--- With these parts of an identity a device that is kept stands for a state: that has this identity, the bytes are an image of it, and its
--- cold start bits are those that are kept.
+-- With these parts of an identity a device that is kept stands for a state: that has this identity, the bytes, which are said to be 86 at
+-- most, are an image of it, and its cold start bits are those that are kept.
 pub record IsKept (parts : IdentityParts) (device : HartDevice) (state : DeviceState) : Type 0 where
   pub is_identity : AreIdentityParts parts
   pub identity : state.identity ≡ parts
@@ -84,7 +84,8 @@ pub record IsHearing (identity : HartIdentity) (process : HartProcess) (heard : 
   pub delivery : IsDelivery heard
   pub brings : Brings (parts_of identity) (map char_of heard) brought
 
--- A reply was written as a message over the front of the output, and what came after it there stays; of silence all of it stays.
+-- A reply was written as a message over the front of the output, what came after it there stays, and its length is told; of silence all of
+-- it stays, and the length is 0.
 abbrev pub IsSaid : Option FrameParts → ℕ → List ℕ → List ℕ → ℕ → Type 0
 IsSaid None preambles before after len = (len ≡ 0) × (after ≡ before)
 IsSaid (Some reply) preambles before after len =
