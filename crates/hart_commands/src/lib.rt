@@ -62,6 +62,3 @@ pub use request::{Request, mode_bytes, needed_data};
 pub use sensor::SensorContent;
 pub use short_list::ShortList;
 pub use value::{UnitValue, VariableReading};
-
-#[cfg(test)]
-mod tests;

@@ -55,6 +55,3 @@ pub use registers::RegisterStore;
 pub use registers::field_registers::FieldRegisters;
 pub use registers::image_registers::ImageRegisters;
 pub use registers::values::RegisterValues;
-
-#[cfg(test)]
-mod tests;

@@ -63,6 +63,3 @@ pub use wire::kind::FrameKind;
 pub use wire::layout::unique_request_len;
 pub use wire::message::{LEAST_PREAMBLES, MOST_PREAMBLES, Message, encode, is_preamble_count};
 pub use wire::parity::check_byte;
-
-#[cfg(test)]
-mod tests;

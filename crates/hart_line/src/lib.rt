@@ -53,6 +53,3 @@ pub use script::digits::Digits;
 pub use script::items::{LeadingItem, leading_item};
 pub use script::read_script;
 pub use script::words::{read_address, read_command, read_data, read_who};
-
-#[cfg(test)]
-mod tests;

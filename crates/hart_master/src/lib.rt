@@ -31,6 +31,3 @@ pub use fault::{MasterFault, Rejected};
 pub use laws::{acceptance_is_decided, communication_faults_are_no_reply, replies_are_decided};
 pub use master::Master;
 pub use unique::unique_of;
-
-#[cfg(test)]
-mod tests;

@@ -59,6 +59,3 @@ pub use status::Status;
 pub use status::comm_faults::CommFaults;
 pub use status::device_status::DeviceStatus;
 pub use status::response_code::ResponseCode;
-
-#[cfg(test)]
-mod tests;

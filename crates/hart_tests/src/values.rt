@@ -1,4 +1,4 @@
-use super::*;
+use hart_values::*;
 use std::test::Fail;
 
 #[test]

@@ -1,4 +1,4 @@
-use super::*;
+use hart_commands::*;
 use hart_values::Payload;
 
 mod fields;

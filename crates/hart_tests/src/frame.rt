@@ -1,7 +1,8 @@
 mod line;
+mod start;
 mod stream;
 
-use super::*;
+use hart_frame::*;
 use hart_values::{Address, MasterId};
 use std::test::Fail;
 
@@ -191,7 +192,7 @@ fn a_check_byte_is_the_exclusive_or(rt: HostRuntime) {
         *byte = (place * 37 % 251) as u8;
     }
     for len in CHECKED_LENGTHS {
-        let check = bytes.get(..*len).map(check_byte);
+        let check = bytes.get(..*len).map(|part| check_byte(part));
         assert!(rt;
             check.is_some() && check == exclusive_or(&bytes, *len),
             "of {len} bytes"

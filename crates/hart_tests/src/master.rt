@@ -1,6 +1,6 @@
-use super::*;
 use hart_commands::{Reply, ReplyContent, Request};
 use hart_frame::{Char, Frame, decode};
+use hart_master::*;
 use hart_values::{Address, MasterId};
 use std::test::Fail;
 

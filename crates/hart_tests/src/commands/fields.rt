@@ -1,5 +1,5 @@
 //! The names of fields, as worked messages show them.
-use crate::{FieldRow, reply_rows, request_rows};
+use hart_commands::{FieldRow, reply_rows, request_rows};
 
 /// Fields of data, each with its name and its bytes.
 type Named = &'static [(&'static str, &'static [u8])];

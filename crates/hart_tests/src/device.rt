@@ -1,5 +1,5 @@
-use super::*;
 use hart_commands::Request;
+use hart_device::*;
 use hart_frame::{Char, Frame, Payload};
 use hart_values::{Address, MasterId, ResponseCode};
 use images::image_fault;

@@ -4,8 +4,8 @@ mod scripts;
 mod texts;
 mod undetected;
 
-use super::*;
 use hart_commands::Request;
+use hart_line::*;
 use hart_values::{Address, MasterId};
 use std::alloc::{AllocError, Global};
 use std::test::Fail;

@@ -1,0 +1,17 @@
+//! The tests of the library's crates, a module for each: what no clause says, as vectors from outside, texts, and rooms that are refused.
+//!
+//! They use what a crate shows to every other. Tests of hart_c and of hart_cli stand in those.
+#![tactic(auto)]
+
+#[cfg(test)]
+mod commands;
+#[cfg(test)]
+mod device;
+#[cfg(test)]
+mod frame;
+#[cfg(test)]
+mod line;
+#[cfg(test)]
+mod master;
+#[cfg(test)]
+mod values;
