@@ -2,15 +2,13 @@
 use Rattle.std.proofs.Common.{◌≡◌, ◌∙◌, Bool, ap, arith, length, length-append, refl, rules, subst, sym, take, ℕ}
 use Rattle.std.proofs.Math.Seq.{take-length}
 use Rattle.hart_values.specs.declared.each_master.EachMaster.{EachMaster}
-use Rattle.hart_frame.specs.wire.FrameParts.{FrameParts}
 use Rattle.hart_commands.specs.declared.register.Register.TheVariants.{Polling, Mode, Message, Tag, Descriptor, Date, Assembly, LongTag}
 use Rattle.hart_device.specs.Device.{DeviceState, IsDevice}
-use Rattle.hart_device.specs.answer.Answer.{state_after}
 use Rattle.hart_device.specs.answer.Delivery.{Brought, Garbled, NoMessage, OneFrame, state_after_delivery}
 use Rattle.hart_device.specs.image.Image.{IsImageOf, image_of}
 use Rattle.hart_device.specs.declared.identity_parts.IdentityParts.{IdentityParts}
 use Rattle.hart_device.proofs.lemmas.Laws.{devices_are_kept_whole-either_version}
-use Rattle.hart_device.proofs.lemmas.Laws.{devices_are_kept_whole-image}
+use Rattle.hart_device.proofs.lemmas.Laws.{devices_are_kept_whole-image, frames_leave_identity_and_protection-identity}
 use Rattle.hart_c.specs.declared.device.HartDevice.{HartDevice}
 use Rattle.hart_c.specs.Device.{IsKept, device_of, image_in}
 
@@ -53,15 +51,13 @@ devices_are_kept-one_state parts device state other is other_is =
 
 module _ (state after : DeviceState) (brought : Brought) (is : after ≡ state_after_delivery state brought) where
   -- who a device is stays after a delivery, as after a frame
-  stays : (law : (s : DeviceState) (frame : FrameParts) → (state_after s frame).identity ≡ s.identity) (brings : Brought)
-      → (state_after_delivery state brings).identity ≡ state.identity
-  stays law (OneFrame frame) = law state frame
-  stays law (Garbled request) = refl
-  stays law NoMessage = refl
+  stays : (brings : Brought) → (state_after_delivery state brings).identity ≡ state.identity
+  stays (OneFrame frame) = frames_leave_identity_and_protection-identity state frame
+  stays (Garbled request) = refl
+  stays NoMessage = refl
 
-  pub identity_after : ((s : DeviceState) (frame : FrameParts) → (state_after s frame).identity ≡ s.identity)
-      → after.identity ≡ state.identity
-  identity_after law = ap (λ (s : DeviceState). s.identity) is ∙ stays law brought
+  pub identity_after : after.identity ≡ state.identity
+  identity_after = ap (λ (s : DeviceState). s.identity) is ∙ stays brought
 
   -- what is kept of it is what is kept of the state after the delivery
   pub state_kept : (device : HartDevice) → device ≡ device_of after → device ≡ device_of (state_after_delivery state brought)

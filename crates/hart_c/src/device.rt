@@ -13,9 +13,7 @@ use crate::heard::delivery_of;
 use crate::identity::{HartIdentity, parts_of};
 use crate::process::{HartProcess, process_of};
 use crate::registers::{HartRegisters, values_of};
-use hart_device::{
-    Device, DeviceFault, Identity, ImageRegisters, bench, frames_leave_identity_and_protection,
-};
+use hart_device::{Device, DeviceFault, Identity, ImageRegisters, bench};
 use hart_frame::{Frame, Message, encode};
 use hart_values::{EachMaster, MasterId};
 
@@ -112,8 +110,6 @@ fn hear(
     ensures kept { OnErr result (device.new ≡ device.old) }
     ensures unchanged { OnErr result (reply.new ≡ reply.old) }
 {
-    // No-op: its contract is used below.
-    frames_leave_identity_and_protection();
     let mut state = kept_state(identity, device)?;
     let process = process_of(process).ok_or(Fault::BadVariables)?;
     let delivery = delivery_of(heard)?;

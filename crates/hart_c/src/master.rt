@@ -12,7 +12,7 @@ use crate::frame::{HartFrame, show_frame};
 use crate::heard::delivery_of;
 use hart_commands::{Reply, Request};
 use hart_frame::{Frame, FrameKind, LoneFrame, lone_frame};
-use hart_master::{Master, MasterEvent, acceptance_is_decided, unique_of};
+use hart_master::{Master, MasterEvent, unique_of};
 use hart_values::Address;
 
 /// What became of a request that was sent.
@@ -104,8 +104,6 @@ fn accept(
     ensures refused { IfErr result (IsAcceptFault request.now heard.now) }
     ensures unchanged { OnErr result (reply.new ≡ reply.old) }
 {
-    // No-op: its contract is used below.
-    acceptance_is_decided();
     let mut master = sent(request)?;
     let delivery = delivery_of(heard)?;
     let LoneFrame::Alone(found) = lone_frame(delivery.as_slice()) else {

@@ -15,7 +15,7 @@ use Rattle.hart_commands.specs.declared.request.Request.TheVariants.{ResetChange
 use Rattle.hart_commands.proofs.lemmas.Laws.{all_registers_are_listed_once-every}
 use Rattle.hart_device.specs.Device.{DeviceState, Executes, IsDevice, Nothing, Resets}
 use Rattle.hart_device.specs.Process.{IsProcess}
-use Rattle.hart_device.specs.answer.Answer.{answer_of, asked_effect, code_of, effect_of, is_answered, reading_of, reply_of}
+use Rattle.hart_device.specs.answer.Answer.{answer_of, asked_effect, code_of, effect_of, is_answered, reading_of, reply_of, state_after}
 use Rattle.hart_device.specs.answer.Delivery.{Brings, Brought}
 use Rattle.hart_device.specs.image.Image.{IsImageFault, IsImageOf, image_of}
 use Rattle.hart_device.specs.registers.Ranges.{array_length, end_of, standing_for, start_of}
@@ -23,7 +23,8 @@ use Rattle.hart_device.specs.declared.fault.DeviceFault.{DeviceFault}
 use Rattle.hart_device.specs.declared.identity_parts.IdentityParts.{IdentityParts}
 use Rattle.hart_device.specs.declared.process.Process.{Process}
 use Rattle.hart_device.proofs.lemmas.answer.Delivery.{Brings-found, Brings-one}
-use Rattle.hart_device.proofs.lemmas.answer.Effect.{answered_if, effect_executes_only, executed_made, judged_has_code, refused, resets_only}
+use Rattle.hart_device.proofs.lemmas.answer.Effect.{answered_if, effect_executes_only, executed_made, identity_stays, judged_has_code, refused}
+use Rattle.hart_device.proofs.lemmas.answer.Effect.{resets_only}
 use Rattle.hart_device.proofs.lemmas.answer.Reply.{payload_if, reply_read}
 use Rattle.hart_device.proofs.lemmas.image.Image.{any_cold_start, no_fault, one_state, written_is}
 use Rattle.hart_device.proofs.lemmas.registers.Range.{filled}
@@ -103,6 +104,11 @@ pub answers_give_their_code-answered : (state : DeviceState) (process : Process)
 answers_give_their_code-answered state process frame reply is =
     let parts = answered_if (is_answered state frame) frame reply (reply_of state process frame) is in
     (parts.0, parts.1, parts.2 ∙ ap Some (judged_has_code state frame))
+
+pub frames_leave_identity_and_protection-identity : (state : DeviceState) (frame : FrameParts)
+    → (state_after state frame).identity ≡ state.identity
+frames_leave_identity_and_protection-identity state frame =
+    identity_stays (is_answered state frame) frame.master (effect_of state frame) state
 
 pub writes_execute_their_overwrite-executes : (state : DeviceState) (frame : FrameParts) (request : Request) (overwrite : Overwrite)
     → is_answered state frame ≡ true → code_of state frame ≡ 0 → reading_of frame ≡ Ok request

@@ -1,11 +1,17 @@
 -- The laws of replies, for the proofs of the crates above.
-use Rattle.std.proofs.Common.{◌≡◌, ◌≤◌, ◌⊎◌, rules, slice_index}
+use Rattle.std.proofs.Common.{◌≡◌, ◌≤◌, ◌⊎◌, ◌∷◌, [], List, ap, rules, slice_index}
 use Rattle.hart_values.specs.declared.address.Address.{Address}
 use Rattle.hart_values.specs.declared.master_id.MasterId.{MasterId}
+use Rattle.hart_frame.specs.heard.Character.{Character}
+use Rattle.hart_frame.specs.heard.Delivery.{lone_of}
+use Rattle.hart_frame.specs.heard.Frames.{AreFrames}
 use Rattle.hart_frame.specs.wire.FrameParts.{FrameParts}
+use Rattle.hart_frame.specs.declared.heard.found.Found.{Found}
+use Rattle.hart_frame.proofs.lemmas.Laws.{frames_are_unambiguous-one_list}
 use Rattle.hart_commands.specs.declared.reply.Reply.{Reply}
 use Rattle.hart_commands.specs.declared.request.Request.{Request}
-use Rattle.hart_master.specs.Acceptance.{IsReplyTo}
+use Rattle.hart_master.specs.Acceptance.{IsAccepted, IsReplyTo}
+use Rattle.hart_master.proofs.lemmas.Acceptance.{IsReplyTo-alone, no_other}
 use Rattle.hart_master.proofs.lemmas.Decided.{never_read, reply_decided}
 
 pub replies_are_decided-one_reply : (id : MasterId) (address : Address) (request : Request) (frame : FrameParts) (r s : Reply)
@@ -15,6 +21,14 @@ replies_are_decided-one_reply id address request frame r s p q = search rules
 pub replies_are_decided-decided : (id : MasterId) (address : Address) (request : Request) (frame : FrameParts)
     → ((reply : Reply) × IsReplyTo id address request frame reply) ⊎ ((reply : Reply) → IsReplyTo id address request frame reply → ⊥)
 replies_are_decided-decided = reply_decided
+
+pub acceptance_is_decided-by_its_frame : (id : MasterId) (address : Address) (request : Request) (delivery : List Character)
+    (found : Found) (reply : Reply) → AreFrames delivery 0 (found ∷ [])
+    → IsAccepted id address request delivery reply → IsReplyTo id address request found.frame reply
+acceptance_is_decided-by_its_frame id address request delivery found reply alone =
+    let only = λ (frames : List Found) (are : AreFrames delivery 0 frames).
+    ap lone_of (frames_are_unambiguous-one_list delivery 0 (found ∷ []) frames alone are) in
+    IsReplyTo-alone id address request delivery found reply (no_other delivery found only)
 
 pub communication_faults_are_no_reply-frame : (id : MasterId) (address : Address) (request : Request) (frame : FrameParts) (reply : Reply)
     → 128 ≤ slice_index frame.payload 0 → IsReplyTo id address request frame reply → ⊥

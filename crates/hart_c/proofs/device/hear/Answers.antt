@@ -27,7 +27,7 @@ returns-in_err-len-clause-refused c =
     let there = brings_there identity process heard device state measured kept process_is delivery c.as_slice.result.now all in
     let answer = c.hear-said.ensures.answer hearing.brought there in
     let after = c.hear-said.ensures.state hearing.brought there in
-    let own = identity_after state c.hear-said.new.self hearing.brought after c.frames_leave_identity_and_protection.ensures.identity in
+    let own = identity_after state c.hear-said.new.self hearing.brought after in
     let counts = c.response_preambles-preambles.ensures.same ∙ ap (λ (parts : IdentityParts). parts.response_preambles) own in
     let fault : Fault → Type 0 = IsHearFault identity process heard device (length c.args.reply.now) in
     let is : c.from_residual-in_err-len.result ≡ Err NoRoom = grind (arith, common_steps, c.in_err-len.ensures.refused.0) in
@@ -51,7 +51,7 @@ returns-clause-heard c =
     let there = brings_there identity process heard device state measured kept process_is delivery c.as_slice.result.now all in
     let answer = c.hear-said.ensures.answer hearing.brought there in
     let after = c.hear-said.ensures.state hearing.brought there in
-    let own = identity_after state c.hear-said.new.self hearing.brought after c.frames_leave_identity_and_protection.ensures.identity in
+    let own = identity_after state c.hear-said.new.self hearing.brought after in
     let counts = c.response_preambles-preambles.ensures.same ∙ ap (λ (parts : IdentityParts). parts.response_preambles) own in
     record {
       hearing = hearing;

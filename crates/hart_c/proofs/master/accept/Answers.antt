@@ -2,6 +2,7 @@ use Rattle.std.proofs.Common.{◌≡◌, ◌∙◌, ◌∷◌, [], Err, List, ar
 use Rattle.std.proofs.lemmas.Grind.{common_steps}
 use Rattle.hart_frame.specs.heard.Character.{Character}
 use Rattle.hart_frame.specs.heard.Frames.{AreFrames}
+use Rattle.hart_master.proofs.lemmas.Laws.{acceptance_is_decided-by_its_frame}
 use Rattle.hart_c.specs.Find.{char_of}
 use Rattle.hart_c.proofs.Accepted.{brought, brought_is, send_fault}
 use Rattle.hart_c.proofs.master.accept.Goals as goal
@@ -25,7 +26,7 @@ returns-in_default-receive c =
         reply = (
           λ reply accepted. c.in_default-receive.not-Answered reply _ (c.receive.ensures.answered reply
               (brought c.args.request.now c.in_ok-master.master awaits found.frame reply
-              (c.acceptance_is_decided.ensures.by_its_frame _ _ _ _ found reply alone accepted))),
+              (acceptance_is_decided-by_its_frame _ _ _ _ found reply alone accepted))),
           refl,
         );
       };
