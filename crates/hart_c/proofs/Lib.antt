@@ -5,3 +5,5 @@ mod Placed
 mod Said
 mod Accepted
 mod Kept
+mod Stands
+mod Rooms

@@ -20,7 +20,7 @@ abbrev pub shown_from : ℕ → List HartField → List HartField → List HartF
 shown_from count places fields = take count fields ++ written_over places (drop count fields)
 
 -- nothing is written where there is nothing
-over_nothing : (places : List HartField) → written_over places [] ≡ []
+pub over_nothing : (places : List HartField) → written_over places [] ≡ []
 over_nothing places = grind (arith, common_steps)
 
 -- the first is written over the first
@@ -78,7 +78,7 @@ shown_next count place fields after whole these others field is all before =
     ∙ ap (λ (xs : List Field). shown_from count (placed place xs) fields) (sym all) ∙ before
 
 -- the first of the fields is that of the first row
-fields_more : (row : Row) (rows : List Row) (bytes field after : List ℕ) → split row.size bytes ≡ Some (field, after)
+pub fields_more : (row : Row) (rows : List Row) (bytes field after : List ℕ) → split row.size bytes ≡ Some (field, after)
     → fields_of (row ∷ rows) bytes ≡ record { name = row.name; kind = row.kind; bytes = field } ∷ fields_of rows after
 fields_more row rows bytes field after is =
     ap (λ (parts : Option (List ℕ × List ℕ)).

@@ -1,7 +1,8 @@
 -- What reading the data of a message promises to a caller in C (own profile).
 use Rattle.std.specs.Prelude.{◌≡◌, ◌+◌, ◌==◌, if◌then◌else◌, ℕ, List, [], ◌∷◌, ◌++◌, drop, length, take, Option, None, Some, Ok, Err}
+use Rattle.std.specs.Prelude.{slice_get}
 use Rattle.hart_commands.specs.Commands.{content_bytes}
-use Rattle.hart_commands.specs.Fields.{Field, fields_of, reply_rows, request_rows}
+use Rattle.hart_commands.specs.Fields.{Field, Row, fields_of, reply_rows, request_rows}
 use Rattle.hart_commands.specs.ReplyData.{reply_payload, reply_reading}
 use Rattle.hart_commands.specs.RequestData.{Reading, request_data, request_reading}
 use Rattle.hart_commands.specs.declared.fields.FieldKind.{FieldKind}
@@ -44,6 +45,12 @@ RequestShown command bytes (Ok request) before after reading =
     IsShown 0 (fields_of (request_rows command) taken) (length taken) 0 0 before after reading
 RequestShown command bytes (Err code) before after reading = IsShown 0 [] 0 code 0 before after reading
 
+-- The fields of a request that is read are those of the rows of its command, in its data as far as it is written; a request that is
+-- refused has none.
+abbrev pub request_fields : ℕ → List ℕ → Reading → List Field
+request_fields command bytes (Ok request) = fields_of (request_rows command) (take (length (request_data request)) bytes)
+request_fields command bytes (Err code) = []
+
 -- Data are read as a request of their command.
 abbrev pub RequestOutcome : ℕ → List ℕ → List HartField → List HartField → HartReading → Type 0
 RequestOutcome command bytes = RequestShown command bytes (request_reading command bytes)
@@ -65,3 +72,14 @@ ReplyShown command payload None before after reading =
 -- A payload is read as a reply to its command.
 abbrev pub ReplyOutcome : ℕ → List ℕ → List HartField → List HartField → HartReading → Type 0
 ReplyOutcome command payload = ReplyShown command payload (reply_reading command payload)
+
+-- A place that is shown of bytes is that of the field of its index, which has the name of the row of that index, and is meant as that
+-- says: at the place stand the bytes of the field.
+pub record StandsAt (rows : List Row) (fields : List Field) (bytes : List ℕ) (index : ℕ) (shown : HartField) : Type 0 where
+  pub row : Row
+  pub field : Field
+  pub is_row : slice_get rows index ≡ Some row
+  pub is_field : slice_get fields index ≡ Some field
+  pub name : field.name ≡ row.name
+  pub kind : shown.kind ≡ kind_number row.kind
+  pub bytes_there : take shown.len (drop shown.start bytes) ≡ field.bytes

@@ -1,13 +1,22 @@
 //! What follows from the contracts for a caller that calls again and again.
-ghost use Rattle.std.specs.Prelude.{◌≡◌, ◌++◌, [], List, Bool, ℕ, true, length};
+ghost use Rattle.std.specs.Prelude.{◌≡◌, ◌≢◌, ◌<◌, ◌≤◌, ◌++◌, [], List, Bool, ℕ, Some, true, length, slice_get};
 ghost use Rattle.hart_frame.specs.heard.Character.{Character};
 ghost use Rattle.hart_frame.specs.heard.Frames.{AreFrames};
 ghost use Rattle.hart_frame.specs.declared.heard.found.Found.{Found};
+ghost use Rattle.hart_commands.specs.Fields.{command_name, reply_rows, request_rows};
+ghost use Rattle.hart_commands.specs.ReplyData.{reply_reading};
+ghost use Rattle.hart_commands.specs.RequestData.{request_reading};
+ghost use Rattle.hart_commands.specs.declared.reply.Reply.{Reply};
 ghost use Rattle.hart_device.specs.Device.{DeviceState, IsDevice};
 ghost use Rattle.hart_device.specs.declared.identity_parts.IdentityParts.{IdentityParts};
+ghost use Rattle.hart_c.specs.declared.data.HartField.{HartField};
+ghost use Rattle.hart_c.specs.declared.data.HartReading.{HartReading};
 ghost use Rattle.hart_c.specs.declared.device.HartDevice.{HartDevice};
+ghost use Rattle.hart_c.specs.declared.fault.HartOutcome.{HartOutcome};
+ghost use Rattle.hart_c.specs.Data.{ReplyOutcome, RequestOutcome, StandsAt, reply_fields, request_fields};
 ghost use Rattle.hart_c.specs.Device.{IsKept, device_of};
 ghost use Rattle.hart_c.specs.Find.{AreNext, IsSearchedSoFar};
+ghost use Rattle.hart_c.specs.Names.{NameOutcome, field_name};
 
 /// Whoever passes what is not used up again, with what comes after it, is given all frames of all that was heard, and no others, in
 /// whatever pieces it came: the frames of each search, moved by what was used up before, are the next ones; and once all is used up
@@ -24,4 +33,28 @@ pub fn devices_are_kept()
     ensures kept { (state : DeviceState) → IsDevice state → IsKept state.identity (device_of state) state }
     ensures one_state { (parts : IdentityParts) (device : HartDevice) (state other : DeviceState)
         → IsKept parts device state → IsKept parts device other → state ≡ other }
+{}
+
+/// Each place that is shown of data is that of the field of its index: it is meant as the row of that index in the table of fields says,
+/// and the field that has the row's name stands there.
+pub fn fields_stand_where_they_are_shown()
+    ensures requests { (command index : ℕ) (bytes : List ℕ) (before after : List HartField) (reading : HartReading) (shown : HartField)
+        → RequestOutcome command bytes before after reading → index < reading.count → slice_get after index ≡ Some shown
+        → StandsAt (request_rows command) (request_fields command bytes (request_reading command bytes)) bytes index shown }
+    ensures replies { (command index : ℕ) (payload : List ℕ) (before after : List HartField) (reading : HartReading)
+        (shown : HartField) (reply : Reply) → reply_reading command payload ≡ Some reply
+        → ReplyOutcome command payload before after reading → index < reading.count → slice_get after index ≡ Some shown
+        → StandsAt (reply_rows command) (reply_fields command payload reply) payload index shown }
+{}
+
+/// Room for 16 fields is room for those of any data, and room for 64 bytes is room for any name.
+pub fn sixteen_fields_and_names_of_64_bytes_have_room()
+    ensures requests { (command : ℕ) (bytes : List ℕ) (before after : List HartField) (reading : HartReading)
+        → RequestOutcome command bytes before after reading → reading.count ≤ 16 }
+    ensures replies { (command : ℕ) (payload : List ℕ) (before after : List HartField) (reading : HartReading)
+        → ReplyOutcome command payload before after reading → reading.count ≤ 16 }
+    ensures command_names { (command : ℕ) (before after : List ℕ) (outcome : HartOutcome) → 64 ≤ length before
+        → NameOutcome (command_name command) before after outcome → outcome.fault ≢ 12 }
+    ensures field_names { (is_reply : Bool) (command index : ℕ) (before after : List ℕ) (outcome : HartOutcome) → 64 ≤ length before
+        → NameOutcome (field_name is_reply command index) before after outcome → outcome.fault ≢ 12 }
 {}
