@@ -4,6 +4,7 @@ use super::*;
 mod data;
 mod devices;
 mod masters;
+mod places;
 
 /// Command 19 of the primary master to device 37420A1B2C, after two preamble bytes, and the beginning of Command 0.
 const HEARD: &[u8] = &[
