@@ -53,6 +53,7 @@ struct Parts<'a> {
 }
 
 /// Writes what a scanner found over `frame`.
+#[inline(always)]
 pub(crate) fn show_found(found: &FoundView<'_>, frame: &mut HartFrame)
     ensures found { found_in frame.new ≡ found_of found.now }
     ensures tidy { IsTidy frame.new }
@@ -62,10 +63,10 @@ pub(crate) fn show_found(found: &FoundView<'_>, frame: &mut HartFrame)
         kind: view.kind(),
         master: view.master(),
         burst: view.burst(),
-        address: view.address(),
         expansion: view.expansion(),
         command: view.command(),
         payload: view.payload(),
+        address: view.address(),
     };
     show_parts(&parts, frame);
     frame.start = found.start;
@@ -92,17 +93,18 @@ pub(crate) fn show_frame(shown: &Frame, start: u64, stop: u64, frame: &mut HartF
 }
 
 /// Writes the parts of a frame over those of `frame`.
+#[inline(always)]
 fn show_parts(parts: &Parts<'_>, frame: &mut HartFrame)
     requires expansion { length parts.now.expansion.now ≤ 3 }
     requires payload { length parts.now.payload.now ≤ 255 }
     ensures parts { frame_in frame.new ≡ parts_in parts.now }
     ensures tidy { IsTidy frame.new }
 {
+    show_address(parts.address, frame);
     frame.is_reply = parts.kind == FrameKind::Ack;
     frame.is_primary = parts.master == MasterId::Primary;
     frame.is_burst = parts.burst;
     frame.command = parts.command;
-    show_address(parts.address, frame);
     frame.expansion_len = parts.expansion.len() as u8;
     if !parts.expansion.is_empty() {
         frame.expansion[..parts.expansion.len()].copy_from_slice(parts.expansion);
@@ -112,6 +114,7 @@ fn show_parts(parts: &Parts<'_>, frame: &mut HartFrame)
 }
 
 /// Writes an address over that of `frame`.
+#[inline(always)]
 fn show_address(address: Address, frame: &mut HartFrame)
     ensures { frame.new ≡ with_address address frame.old }
 {
