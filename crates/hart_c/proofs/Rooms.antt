@@ -49,7 +49,8 @@ few [] bytes = search rules
 few (row ∷ these) bytes = go (split row.size bytes) (few these)
   where
     go : (parts : Option (List ℕ × List ℕ)) → ((after : List ℕ) → length (fields_of these after) ≤ length these)
-        → length (option_map_or (λ p. record { name = row.name; kind = row.kind; bytes = p.0 } ∷ fields_of these p.1) parts []) ≤ suc (length these)
+        → length (option_map_or (λ p. record { name = row.name; kind = row.kind; bytes = p.0 } ∷ fields_of these p.1) parts [])
+        ≤ suc (length these)
     go None others = omega arith
     go (Some (field, after)) others = omega (arith, others after)
 
@@ -103,7 +104,8 @@ fits (Some text) before after outcome room is (inr named) = λ wrong. omega (ari
 
 pub short_command : (command : ℕ) (before after : List ℕ) (outcome : HartOutcome) → 64 ≤ length before
     → NameOutcome (command_name command) before after outcome → outcome.fault ≢ 12
-short_command command before after outcome room = fits (command_name command) before after outcome room (go (rows_of command) (small command))
+short_command command before after outcome room =
+    fits (command_name command) before after outcome room (go (rows_of command) (small command))
   where
     go : (row : Option CommandRows) → IfSome row IsSmall → IfSome (option_map (λ row. row.name) row) (λ text. length text ≤ 64)
     go None is = tt
