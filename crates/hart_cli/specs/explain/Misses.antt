@@ -33,6 +33,12 @@ miss_words from (BadCheck place byte fits) =
     ++ byte_digits fits ++ codes " would fit"
 miss_words from OnePreamble = codes "only one FF stands before it"
 
+-- The miss whose places are counted in the whole list, of one whose places are counted in the list that begins at a place of it.
+abbrev pub miss_in_whole : ℕ → Miss → Miss
+miss_in_whole from (Faulty place faults) = Faulty (from + place) faults
+miss_in_whole from (BadCheck place byte fits) = BadCheck (from + place) byte fits
+miss_in_whole from miss = miss
+
 -- The line of a miss has the place where a message seems to start, in decimal, the words of the miss, and a line feed; without a miss
 -- there is no line.
 abbrev pub miss_line : ℕ → ℕ → Option Miss → List ℕ

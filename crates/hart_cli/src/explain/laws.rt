@@ -4,7 +4,7 @@ ghost use Rattle.std.specs.Prelude.{length, set};
 ghost use Rattle.std.specs.List.{flat_map};
 ghost use Rattle.hart_frame.specs.heard.Character.{Character, faultless};
 ghost use Rattle.hart_frame.specs.heard.Frames.{AreFrames};
-ghost use Rattle.hart_frame.specs.heard.InTheWay.{HasFaultsAt, bytes_from};
+ghost use Rattle.hart_frame.specs.heard.InTheWay.{HasFaultsAt, IsInTheWay, bytes_from};
 ghost use Rattle.hart_frame.specs.heard.Miss.{HasFrameUpTo, miss_of};
 ghost use Rattle.hart_frame.specs.heard.Start.{IsStart};
 ghost use Rattle.hart_frame.specs.declared.heard.found.Found.{Found};
@@ -17,7 +17,7 @@ ghost use Rattle.hart_cli.specs.dump.Dump.{IsDump};
 ghost use Rattle.hart_cli.specs.explain.Dumped.{AreOfOneHearing};
 ghost use Rattle.hart_cli.specs.explain.Explain.{IsExplanation};
 ghost use Rattle.hart_cli.specs.explain.Gaps.{IsGap, IsOneLine, missed};
-ghost use Rattle.hart_cli.specs.explain.Misses.{gap_text, miss_line};
+ghost use Rattle.hart_cli.specs.explain.Misses.{gap_text, miss_in_whole, miss_line};
 ghost use Rattle.hart_cli.specs.input.Input.{CameTo, Left};
 
 use hart_frame::{
@@ -58,10 +58,18 @@ pub fn every_start_outside_messages_has_one_line()
     every_start_has_a_frame_or_a_miss();
 }
 
-/// What the lines of a gap name is what stands in the way, at the places that they tell. With the byte that would fit at the place told, a
-/// frame stands at the place of the line, and ends with it. The character at the place told has the fault bits told. Whatever bytes come
-/// for all that are missing but the last, with their check byte as the last a frame stands at the place of the line, and ends with it.
+/// What the lines of a gap name is what stands in the way, at the places that they tell.
+///
+/// Where a body may start, in the list from the end of the last message on, the reason that a line gives is in the way in the characters
+/// of the whole input, with its place in them, and that is the place told. With the byte that would fit at the place told, a frame stands
+/// at the place of the line, and ends with it. The character at the place told has the fault bits told. Whatever bytes come for all that
+/// are missing but the last, with their check byte as the last a frame stands at the place of the line, and ends with it.
 pub fn hints_of_explanations_are_right()
+    ensures in_the_way { (chars : List Character) (from stop place : ℕ) (miss : Miss) → All (λ character. character.byte < 256) chars
+        → Contains (missed chars from stop) (record { place = place; miss = miss }) → IsStart (place - from) (drop from chars)
+        → IsInTheWay chars place (miss_in_whole from miss) }
+    ensures told { (from place : ℕ) (miss : Miss)
+        → miss_line from place (Some miss) ≡ miss_line 0 place (Some (miss_in_whole from miss)) }
     ensures fits { (chars : List Character) (from stop place at byte fits : ℕ) → All (λ character. character.byte < 256) chars
         → Contains (missed chars from stop) (record { place = place; miss = BadCheck at byte fits })
         → HasFrameUpTo (set chars (from + at) (record { byte = fits; faults = 0 })) place (from + at + 1) }
@@ -69,7 +77,7 @@ pub fn hints_of_explanations_are_right()
         → Contains (missed chars from stop) (record { place = place; miss = Faulty at faults })
         → HasFaultsAt chars (from + at) faults }
     ensures missing { (chars : List Character) (from stop place count : ℕ) (bytes : List ℕ)
-        → All (λ character. character.byte < 256) chars → All (λ byte. byte < 256) bytes → from ≤ length chars
+        → All (λ character. character.byte < 256) chars → All (λ byte. byte < 256) bytes
         → Contains (missed chars from stop) (record { place = place; miss = Missing count }) → count ≡ length bytes + 1
         → (last : ℕ) × IsCheckByte (bytes_from chars place ++ bytes) last
         × HasFrameUpTo (chars ++ faultless (bytes ++ last ∷ [])) place (length chars + count) }

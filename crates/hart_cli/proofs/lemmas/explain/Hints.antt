@@ -1,21 +1,25 @@
 -- What the lines of a gap name, as places of the whole list.
-use Rattle.std.proofs.Common.{◌≡◌, ◌+◌, ◌-◌, ◌<◌, ◌≤◌, ◌⊎◌, ◌↔◌, ℕ, inl, inr, List, [], ◌∷◌, ◌++◌, length, take, drop, set, get_or}
+use Rattle.std.proofs.Common.{◌≡◌, ◌+◌, ◌-◌, ◌<◌, ◌≤◌, ◌⊎◌, ◌↔◌, ℕ, inl, inr, List, [], ◌∷◌, ◌++◌, length, take, drop, set}
 use Rattle.std.proofs.Common.{Option, Some, refl, sym, ap, ◌∙◌, subst, arith, append_assoc, length-append, length-drop}
 use Rattle.std.specs.List.{All, slice_get}
-use Rattle.std.specs.Prelude.{Contains}
+use Rattle.std.specs.Prelude.{◌%◌, Contains, codes, decimal}
 use Rattle.std.proofs.lemmas.List.{drop-append-le, drop-drop, drop-set-add, get_or-drop, length-take-le, take-append-drop}
 use Rattle.std.proofs.lemmas.List.Elements.{All-drop}
 use Rattle.std.proofs.lemmas.Option.{get_or_from_slice_get, slice_get-get_or, slice_get_within}
 use Rattle.hart_frame.specs.heard.Character.{Character, faultless, faultless_bytes}
-use Rattle.hart_frame.specs.heard.InTheWay.{HasFaultsAt, IsInTheWay, bytes_from}
+use Rattle.hart_frame.specs.heard.InTheWay.{HasFaultsAt, IsBurstDelimiter, IsInTheWay, bytes_from}
 use Rattle.hart_frame.specs.heard.Miss.{HasFrameUpTo, miss_of}
 use Rattle.hart_frame.specs.heard.Place.{StandsIn}
 use Rattle.hart_frame.specs.heard.Start.{IsStart}
+use Rattle.hart_frame.specs.wire.Layout.{body_length, byte_count_in, delimiter_in}
 use Rattle.hart_frame.specs.wire.Parity.{IsCheckByte}
+use Rattle.hart_frame.specs.wire.Refusal.{HasByteCount, HasCheckByte, HasGoodByteCount, IsDelimiter, IsTruncated}
 use Rattle.hart_frame.specs.declared.heard.found.Found.{Found}
 use Rattle.hart_frame.specs.declared.heard.miss.Miss.{Miss}
-use Rattle.hart_frame.specs.declared.heard.miss.Miss.TheVariants.{BadCheck, Faulty, Missing, OnePreamble}
+use Rattle.hart_frame.specs.declared.heard.miss.Miss.TheVariants.{BadCheck, BadDelimiter, Burst, EndsBeforeByteCount, Faulty, Missing}
+use Rattle.hart_frame.specs.declared.heard.miss.Miss.TheVariants.{OnePreamble, ShortReply}
 use Rattle.hart_cli.specs.explain.Gaps.{missed}
+use Rattle.hart_cli.specs.explain.Misses.{byte_digits, miss_in_whole, miss_line}
 use Rattle.hart_cli.proofs.lemmas.explain.Gaps.{missed_are}
 
 -- a frame in the rest of characters is one of the characters
@@ -57,15 +61,76 @@ fits_in_gap law chars from stop place at byte fits small has =
     (subst Has (sym (drop-set-add from chars at fitting)) stands) (omega (arith, is.0)) (omega arith)
 
 -- a character in the rest of characters is one of the characters
+char_in_rest : (chars : List Character) (from at : ℕ) (c : Character) → slice_get (drop from chars) at ≡ Some c
+    → slice_get chars (from + at) ≡ Some c
+char_in_rest chars from at c is =
+    let within = slice_get_within (drop from chars) at c is in
+    slice_get-get_or chars (from + at) c (omega (arith, within, length-drop from chars))
+    ∙ ap (λ (x : Character). let found : Option Character = Some x in found)
+    (sym (get_or-drop from chars at c) ∙ get_or_from_slice_get (drop from chars) at c c is)
+
 faults_in_rest : (chars : List Character) (from at faults : ℕ) → HasFaultsAt (drop from chars) at faults
     → HasFaultsAt chars (from + at) faults
-faults_in_rest chars from at faults (some, byte, is) =
-    let c : Character = record { byte = byte; faults = faults } in
-    let within = slice_get_within (drop from chars) at c is in
-    let here = slice_get-get_or chars (from + at) c (omega (arith, within, length-drop from chars))
-    ∙ ap (λ (x : Character). let found : Option Character = Some x in found)
-    (sym (get_or-drop from chars at c) ∙ get_or_from_slice_get (drop from chars) at c c is) in
-    (some, byte, here)
+faults_in_rest chars from at faults (some, byte, is) = (some, byte, char_in_rest chars from at (record { byte = byte; faults = faults }) is)
+
+-- the bytes from a place of the rest of characters on are those of the characters
+bytes_in_rest : (chars : List Character) (from start place : ℕ) → place ≡ from + start
+    → bytes_from (drop from chars) start ≡ bytes_from chars place
+bytes_in_rest chars from start place is =
+    ap faultless_bytes (drop-drop start from chars ∙ ap (λ (n : ℕ). drop n chars) (sym is))
+
+-- what stands in the way in the rest of characters does so in the characters
+way_in_rest : (chars : List Character) (from start place : ℕ) (miss : Miss) → place ≡ from + start → from ≤ length chars
+    → IsInTheWay (drop from chars) start miss → IsInTheWay chars place (miss_in_whole from miss)
+way_in_rest chars from start place (Faulty at faults) is within (truncated, there, has) =
+    let same = bytes_in_rest chars from start place is in
+    (subst IsTruncated same truncated, omega (arith, there, is, ap length same), faults_in_rest chars from at faults has)
+way_in_rest chars from start place Burst is within way =
+    let Way : List ℕ → Type 0 = λ bytes. (0 < length bytes) × IsBurstDelimiter (delimiter_in bytes) in
+    subst Way (bytes_in_rest chars from start place is) way
+way_in_rest chars from start place (BadDelimiter byte) is within way =
+    let Way : List ℕ → Type 0 = λ bytes. (0 < length bytes) × (delimiter_in bytes ≡ byte)
+    × (IsDelimiter byte → ⊥) × (IsBurstDelimiter byte → ⊥) in
+    subst Way (bytes_in_rest chars from start place is) way
+way_in_rest chars from start place EndsBeforeByteCount is within (truncated, none, end) =
+    let same = bytes_in_rest chars from start place is in
+    let Uncounted : List ℕ → Type 0 = λ bytes. HasByteCount bytes → ⊥ in
+    (subst IsTruncated same truncated, subst Uncounted same none, omega (arith, end, is, within, ap length same, length-drop from chars))
+way_in_rest chars from start place (ShortReply byte_count) is within way =
+    let Way : List ℕ → Type 0 = λ bytes. HasByteCount bytes × (delimiter_in bytes % 8 ≡ 6)
+    × (byte_count_in bytes ≡ byte_count) × (byte_count < 2) in
+    subst Way (bytes_in_rest chars from start place is) way
+way_in_rest chars from start place (Missing count) is within (good, some, sum, end) =
+    let same = bytes_in_rest chars from start place is in
+    let Sum : List ℕ → Type 0 = λ bytes. length bytes + count ≡ body_length bytes in (
+      subst HasGoodByteCount same good,
+      some,
+      subst Sum same sum,
+      omega (arith, end, is, within, ap length same, length-drop from chars),
+    )
+way_in_rest chars from start place (BadCheck at byte fits) is within (has, there, char, check, other) =
+    let same = bytes_in_rest chars from start place is in
+    let Check : List ℕ → Type 0 = λ bytes. IsCheckByte (take (body_length bytes - 1) bytes) fits in (
+      subst HasCheckByte same has,
+      omega (arith, there, is, ap body_length same),
+      char_in_rest chars from at (record { byte = byte; faults = 0 }) char,
+      subst Check same check,
+      other,
+    )
+way_in_rest chars from start place OnePreamble is within never = never
+
+-- a place where a body may start in the rest of characters shows that there is a rest
+rest_is : (chars : List Character) (from start : ℕ) → IsStart start (drop from chars) → from ≤ length chars
+rest_is chars from start is =
+    let preamble : Character = record { byte = 255; faults = 0 } in
+    let two : List Character = preamble ∷ preamble ∷ [] in
+    omega (
+      arith,
+      ap length is.split,
+      length-append (is.prefix ++ two) (is.first ∷ is.rest),
+      length-append is.prefix two,
+      length-drop from chars,
+    )
 
 abbrev pub OnlyThere : Type 0
 OnlyThere = (place : ℕ) (chars : List Character) (miss : Miss) → miss_of chars place ≡ Some miss
@@ -88,19 +153,50 @@ faulty_in_gap only_there law chars from stop place at faults small has =
       | inr same ↦ absurd (grind arith)
     ]
 
+pub in_the_way_in_gap : InTheWay → (chars : List Character) (from stop place : ℕ) (miss : Miss)
+    → All (λ character. character.byte < 256) chars → Contains (missed chars from stop) (record { place = place; miss = miss })
+    → IsStart (place - from) (drop from chars) → IsInTheWay chars place (miss_in_whole from miss)
+in_the_way_in_gap law chars from stop place miss small has start =
+    let is = missed_are chars from stop place miss has in
+    let bytes = All-drop (λ (character : Character). character.byte < 256) from chars small in
+    way_in_rest chars from (place - from) place miss (omega (arith, is.0)) (rest_is chars from (place - from) start)
+    ((law (place - from) (drop from chars) miss bytes start).0 is.2)
+
+-- the line of a miss tells its places as places of the whole list
+pub line_in_whole : (from place : ℕ) (miss : Miss)
+    → miss_line from place (Some miss) ≡ miss_line 0 place (Some (miss_in_whole from miss))
+line_in_whole from place (Faulty at faults) =
+    let there : from + at ≡ 0 + (from + at) = omega arith in
+    ap (λ (n : ℕ). decimal place ++ codes ": no message: " ++ (codes "the character at " ++ decimal n
+    ++ codes " has the fault bits " ++ byte_digits faults) ++ 10 ∷ []) there
+line_in_whole from place Burst = refl
+line_in_whole from place (BadDelimiter byte) = refl
+line_in_whole from place EndsBeforeByteCount = refl
+line_in_whole from place (ShortReply byte_count) = refl
+line_in_whole from place (Missing count) = refl
+line_in_whole from place (BadCheck at byte fits) =
+    let there : from + at ≡ 0 + (from + at) = omega arith in
+    ap (λ (n : ℕ). decimal place ++ codes ": no message: " ++ (codes "the check byte is " ++ byte_digits byte ++ codes " at "
+    ++ decimal n ++ codes ", and " ++ byte_digits fits ++ codes " would fit") ++ 10 ∷ []) there
+line_in_whole from place OnePreamble = refl
+
 abbrev pub Misses : Type 0
 Misses = (start count : ℕ) (chars : List Character) (bytes : List ℕ) → All (λ character. character.byte < 256) chars
     → All (λ byte. byte < 256) bytes → miss_of chars start ≡ Some (Missing count) → count ≡ length bytes + 1
     → (last : ℕ) × IsCheckByte (bytes_from chars start ++ bytes) last
     × HasFrameUpTo (chars ++ faultless (bytes ++ last ∷ [])) start (length chars + count)
 
-pub missing_in_gap : Misses → (chars : List Character) (from stop place count : ℕ) (bytes : List ℕ)
-    → All (λ character. character.byte < 256) chars → All (λ byte. byte < 256) bytes → from ≤ length chars
+pub missing_in_gap : OnlyThere → Misses → (chars : List Character) (from stop place count : ℕ) (bytes : List ℕ)
+    → All (λ character. character.byte < 256) chars → All (λ byte. byte < 256) bytes
     → Contains (missed chars from stop) (record { place = place; miss = Missing count }) → count ≡ length bytes + 1
     → (last : ℕ) × IsCheckByte (bytes_from chars place ++ bytes) last
     × HasFrameUpTo (chars ++ faultless (bytes ++ last ∷ [])) place (length chars + count)
-missing_in_gap law chars from stop place count bytes small fit within has long =
+missing_in_gap only_there law chars from stop place count bytes small fit has long =
     let is = missed_are chars from stop place (Missing count) has in
+    let within : from ≤ length chars = elim (only_there (place - from) (drop from chars) (Missing count) is.2) [
+      | inl start ↦ rest_is chars from (place - from) start
+      | inr same ↦ absurd (grind arith)
+    ] in
     let rest = drop from chars in
     let heard = All-drop (λ (character : Character). character.byte < 256) from chars small in
     let (last, check, stands) = law (place - from) count rest bytes heard fit is.2 long in
