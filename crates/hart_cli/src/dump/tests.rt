@@ -140,13 +140,17 @@ fn inputs_are_read_up_to_the_limit(rt: HostRuntime) -> Result<(), Fail> {
     Ok(())
 }
 
+/// The line of a message whose body begins here.
+fn line_at(alloc: Global, start: u64) -> Result<String, AllocError> {
+    let end = start.saturating_add(5);
+    format!(in alloc; "{start} {end} STX P 0 @0 - 0 -\n")
+}
+
 /// The lines of so many messages end to end, of seven bytes each.
 fn lines_of(alloc: Global, messages: u32) -> Result<String, AllocError> {
     let mut text = String::new(alloc);
     for message in 0..messages {
-        let start = u64::from(message) * 7 + 2;
-        let end = start + 5;
-        let line = format!(in alloc; "{start} {end} STX P 0 @0 - 0 -\n")?;
+        let line = line_at(alloc, u64::from(message) * 7 + 2)?;
         text.push_str(line.as_str())?;
     }
     Ok(text)

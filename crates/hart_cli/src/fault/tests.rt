@@ -66,11 +66,17 @@ fn display_of(alloc: Global, fault: CliFault) -> Result<String, AllocError> {
     }
 }
 
+/// Whether a line is these words and a line feed.
+fn is_line(line: &str, words: &str) -> bool {
+    line.as_bytes().split_last() == Some((&b'\n', words.as_bytes()))
+}
+
 /// Whether this is the line of a fault, and with a line feed its display and that of the fault that it passes on.
 fn is_line_of(alloc: Global, fault: CliFault, line: &str) -> Result<bool, Fail> {
-    let display = format!(in alloc; "{fault}\n")?;
-    let passed_on = format!(in alloc; "{}\n", display_of(alloc, fault)?)?;
-    Ok(fault.text_line().as_str() == line && display.as_str() == line && passed_on.as_str() == line)
+    let display = format!(in alloc; "{fault}")?;
+    let passed_on = display_of(alloc, fault)?;
+    let is_its_line = fault.text_line().as_str() == line;
+    Ok(is_its_line && is_line(line, display.as_str()) && is_line(line, passed_on.as_str()))
 }
 
 #[test]

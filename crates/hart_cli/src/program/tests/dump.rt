@@ -57,20 +57,25 @@ const ROWS: &[Row] = &[
     ),
 ];
 
-/// The longest message and its line.
-fn longest(alloc: Global) -> Result<(String, String), AllocError> {
+/// The longest message.
+fn longest_message(alloc: Global) -> Result<String, AllocError> {
     let preamble = "FF".repeat(alloc, 20)?;
     let payload = "00".repeat(alloc, 255)?;
-    let message = format!(in alloc; "{preamble}E28000000000000000 00FF{payload}9D")?;
-    let line = format!(in alloc; "20 287 STX P 0 all 000000 0 {payload}\n")?;
-    Ok((message, line))
+    format!(in alloc; "{preamble}E28000000000000000 00FF{payload}9D")
+}
+
+/// The line of the longest message.
+fn longest_line(alloc: Global) -> Result<String, AllocError> {
+    let payload = "00".repeat(alloc, 255)?;
+    format!(in alloc; "20 287 STX P 0 all 000000 0 {payload}\n")
 }
 
 #[test]
 fn frames_in_noise_have_a_line_each(rt: HostRuntime) -> Result<(), Fail> {
     let alloc = rt.alloc();
     check_rows(&rt, alloc, "dump", After::End, ROWS)?;
-    let (message, line) = longest(alloc)?;
+    let message = longest_message(alloc)?;
+    let line = longest_line(alloc)?;
     let zeros = " 00".repeat(alloc, 246)?;
     let failing = format!(in alloc; "{FALSE_START}{zeros}")?;
     let rows = [

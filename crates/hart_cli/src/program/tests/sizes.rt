@@ -7,9 +7,10 @@ use std::test::Fail;
 /// So many bytes of items: zeros, and then a request for the identity.
 fn items_of(alloc: Global, size: usize) -> Result<String, AllocError> {
     let noise = size.saturating_sub(IDENTIFY.len());
-    let zeros = "00".repeat(alloc, noise / 2)?;
-    let space = " ".repeat(alloc, noise % 2)?;
-    format!(in alloc; "{zeros}{space}{IDENTIFY}")
+    let mut items = "00".repeat(alloc, noise / 2)?;
+    items.push_str(" ".repeat(alloc, noise % 2)?.as_str())?;
+    items.push_str(IDENTIFY)?;
+    Ok(items)
 }
 
 /// The line of that request.
