@@ -96,11 +96,14 @@ fn each_line_is_the_display_and_a_line_feed(rt: HostRuntime) -> Result<(), Fail>
     Ok(())
 }
 
+/// Each leg and its word.
+const LEGS: &[(Leg, &str)] = &[(Leg::Up, "up"), (Leg::Down, "down"), (Leg::Noise, "noise")];
+
 #[test]
 fn a_leg_is_displayed_by_its_word(rt: HostRuntime) -> Result<(), Fail> {
-    for (leg, word) in [(Leg::Up, "up"), (Leg::Down, "down"), (Leg::Noise, "noise")] {
+    for (leg, word) in LEGS {
         let display = format!(in rt.alloc(); "{leg}")?;
-        assert!(rt; display.as_str() == word, "{word}");
+        assert!(rt; display.as_str() == *word, "{word}");
     }
     Ok(())
 }

@@ -14,6 +14,7 @@ mod dump;
 mod encode;
 mod explain;
 mod image;
+mod long_words;
 mod sim;
 mod sizes;
 
@@ -47,6 +48,15 @@ impl ProgramRun {
     }
 }
 
+/// Words as strings.
+fn strings_of(alloc: Global, words: &[&str]) -> Result<Vec<String>, AllocError> {
+    let mut strings = Vec::new(alloc);
+    for word in words {
+        strings.push(String::from_str(alloc, word)?)?;
+    }
+    Ok(strings)
+}
+
 /// The status of `program` on these words and streams.
 fn status_of<R: Source, W: Sink, E: Sink>(
     alloc: Global,
@@ -55,10 +65,7 @@ fn status_of<R: Source, W: Sink, E: Sink>(
     output: &mut W,
     errors: &mut E,
 ) -> Result<u8, AllocError> {
-    let mut arguments = Vec::new(alloc);
-    for word in words {
-        arguments.push(String::from_str(alloc, word)?)?;
-    }
+    let arguments = strings_of(alloc, words)?;
     Ok(program(alloc, arguments.as_slice(), reader, output, errors))
 }
 
@@ -94,8 +101,25 @@ type Row<'a> = (&'a str, &'a str, &'a str);
 /// The most bytes that a read gives. Those from 4 to 8 cut the second item of `FF FF!40` after each of its bytes.
 const PORTIONS: &[usize] = &[1, 2, 3, 4, 5, 6, 7, 8, 100];
 
-/// Runs a subcommand without words of its own on the input of each row, after which this comes, read in portions of each size. At no
-/// fault the last read is the one that finds the end.
+/// Whether a subcommand without words of its own does as a row says on its input, after which this comes, read in portions of this size.
+/// At no fault the last read is the one that finds the end.
+fn does_as(
+    alloc: Global,
+    word: &str,
+    after: After,
+    row: &Row,
+    portion: usize,
+) -> Result<bool, Fail> {
+    let (input, want, fault) = row;
+    let reader = Tape::new(input.as_bytes(), after, portion);
+    let run = run_program(alloc, &[word], reader, None, None)?;
+    let status = if fault.is_empty() { DONE } else { FAULT };
+    let reads = input.len().div_ceil(portion.max(1)).saturating_add(1);
+    let ends = run.reads == reads || !fault.is_empty();
+    Ok(run.gave(status, want, fault) && ends)
+}
+
+/// Runs a subcommand without words of its own on the input of each row, after which this comes, read in portions of each size.
 fn check_rows(
     rt: &impl Abort,
     alloc: Global,
@@ -103,33 +127,34 @@ fn check_rows(
     after: After,
     rows: &[Row],
 ) -> Result<(), Fail> {
-    for (input, want, fault) in rows {
+    for row in rows {
         for portion in PORTIONS {
-            let reader = Tape::new(input.as_bytes(), after, *portion);
-            let run = run_program(alloc, &[word], reader, None, None)?;
-            let status = if fault.is_empty() { DONE } else { FAULT };
-            let reads = input.len().div_ceil((*portion).max(1)).saturating_add(1);
-            let ends = run.reads == reads || !fault.is_empty();
-            assert!(rt;
-                run.gave(status, want, fault) && ends,
-                "on {input}, {portion} a read"
-            );
+            let does = does_as(alloc, word, after, row, *portion)?;
+            assert!(rt; does, "on {}, {portion} a read", row.0);
         }
     }
     Ok(())
 }
 
+/// Subcommands that write nothing of that request if a read of it fails.
+const READERS: &[&str] = &["answer", "dump", "sim"];
+
 #[test]
 fn each_failed_read_is_named(rt: HostRuntime) -> Result<(), Fail> {
-    for word in ["answer", "dump", "sim"] {
+    for word in READERS {
         for read in 0..IDENTIFY.len() + 1 {
             let reader = Tape::new(&IDENTIFY.as_bytes()[..read], After::Failure, 1);
-            let run = run_program(rt.alloc(), &[word], reader, None, None)?;
+            let run = run_program(rt.alloc(), &[*word], reader, None, None)?;
             let is_named = run.gave(FAULT, "", "read fault\n") && run.reads == read + 1;
             assert!(rt; is_named, "{word} at read {read}");
         }
     }
     Ok(())
+}
+
+/// Whether a writer took the beginning of a text up to so many bytes, and failed at its last write.
+fn took_up_to(writer: &Trickle, text: &[u8], room: usize) -> bool {
+    Some(writer.taken()) == text.get(..room) && writer.writes().checked_sub(1) == Some(room)
 }
 
 /// Whether a call names a failed write once so many bytes are written, and writes nothing after it.
@@ -143,8 +168,7 @@ fn names_failed_write(
     let reader = Tape::new(input.as_bytes(), After::End, 1);
     let run = run_program(alloc, words, reader, Some(room), None)?;
     let is_named = run.status == FAULT && run.errors.taken() == b"write fault\n".as_slice();
-    let is_written = Some(run.output.taken()) == want.as_bytes().get(..room);
-    Ok(is_named && is_written && run.output.writes().checked_sub(1) == Some(room))
+    Ok(is_named && took_up_to(&run.output, want.as_bytes(), room))
 }
 
 #[test]
@@ -349,8 +373,7 @@ fn leaves_status(
 ) -> Result<bool, Fail> {
     let reader = Tape::new(b"!", After::End, 1);
     let run = run_program(alloc, &[word], reader, None, Some(room))?;
-    let is_written = Some(run.errors.taken()) == text.get(..room);
-    Ok(run.status == status && is_written && run.errors.writes().checked_sub(1) == Some(room))
+    Ok(run.status == status && took_up_to(&run.errors, text, room))
 }
 
 #[test]
@@ -363,28 +386,6 @@ fn a_failed_write_of_errors_leaves_the_status(rt: HostRuntime) -> Result<(), Fai
             let stays = leaves_status(rt.alloc(), word, *status, text, room)?;
             assert!(rt; stays, "{word} with room for {room}");
         }
-    }
-    Ok(())
-}
-
-#[test]
-fn words_of_any_length_are_read(rt: HostRuntime) -> Result<(), Fail> {
-    let word = "0".repeat(rt.alloc(), 100_000)?;
-    let long = word.as_str();
-    let rows: &[(&[&str], u8, &str)] = &[
-        (&[long], NO_CALL, "error: "),
-        (&["dump", long], NO_CALL, "error: "),
-        (&["sim", "--image", long], FAULT, "bad image: version\n"),
-        (&["encode", long, "@0", "0"], FAULT, "bad word 1\n"),
-        (&["encode", "P", long, "0"], FAULT, "bad word 2\n"),
-        (&["encode", "P", "@0", long], FAULT, "bad word 3\n"),
-        (&["encode", "P", "@0", "0", long], FAULT, "bad word 4\n"),
-    ];
-    for (words, status, start) in rows {
-        let run = run_on(rt.alloc(), words, IDENTIFY)?;
-        let is_named = run.status == *status && run.errors.taken().starts_with(start.as_bytes());
-        let stays = run.reads == 0 && run.output.taken().is_empty();
-        assert!(rt; is_named && stays, "but {start} is wanted");
     }
     Ok(())
 }

@@ -199,34 +199,35 @@ const REQUEST: &str = "FF FF FF FF FF 82 B7 42 0A 1B 2C ";
 /// What stands before these in a reply.
 const REPLY: &str = "FF FF FF FF FF 86 B7 42 0A 1B 2C ";
 
-/// A request to the device's own address, on a line of its own.
-fn request_of(alloc: Global, asked: &str) -> Result<String, AllocError> {
-    format!(in alloc; "{REQUEST}{asked}\n")
+/// A message to or from the device's own address, on a line of its own: what stands up to that address, and what is after it.
+fn line_of(alloc: Global, start: &str, rest: &str) -> Result<String, AllocError> {
+    format!(in alloc; "{start}{rest}\n")
 }
 
 /// Whether a request that comes alone has this reply.
 fn is_answered(alloc: Global, asked: &str, replied: &str) -> Result<bool, Fail> {
-    let input = request_of(alloc, asked)?;
-    let want = format!(in alloc; "{REPLY}{replied}\n")?;
+    let input = line_of(alloc, REQUEST, asked)?;
+    let want = line_of(alloc, REPLY, replied)?;
     let run = run_on(alloc, &["answer"], input.as_str())?;
     Ok(run.gave(DONE, want.as_str(), ""))
 }
 
-/// All requests, one after another.
-fn all_requests(alloc: Global) -> Result<String, AllocError> {
+/// The requests of all rows, one after another.
+fn all_requests(alloc: Global, rows: &[(&str, &str)]) -> Result<String, AllocError> {
     let mut all = String::new(alloc);
-    for (asked, _) in OWN_ROWS {
-        all.push_str(request_of(alloc, asked)?.as_str())?;
+    for (asked, _) in rows {
+        all.push_str(line_of(alloc, REQUEST, asked)?.as_str())?;
     }
     Ok(all)
 }
 
 #[test]
 fn every_command_is_answered_where_it_comes_alone(rt: HostRuntime) -> Result<(), Fail> {
-    for (asked, replied) in OWN_ROWS {
+    let rows = OWN_ROWS;
+    for (asked, replied) in rows {
         assert!(rt; is_answered(rt.alloc(), asked, replied)?, "on {asked}");
     }
-    let all = all_requests(rt.alloc())?;
+    let all = all_requests(rt.alloc(), rows)?;
     let run = run_on(rt.alloc(), &["answer"], all.as_str())?;
     assert!(rt; run.gave(DONE, "", ""));
     Ok(())

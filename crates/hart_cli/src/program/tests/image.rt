@@ -156,12 +156,15 @@ const BAD_IMAGES: &[(&str, &str)] = &[
     ("0\u{e9}", "bad hex at 3\n"),
 ];
 
+/// The subcommands that take an image.
+const WITH_IMAGE: &[&str] = &["answer", "sim"];
+
 #[test]
 fn a_bad_image_is_named_before_anything_is_read(rt: HostRuntime) -> Result<(), Fail> {
     for (image, fault) in BAD_IMAGES {
-        for word in ["answer", "sim"] {
+        for word in WITH_IMAGE {
             // The input would be at fault too.
-            let run = run_on(rt.alloc(), &[word, "--image", *image], "!")?;
+            let run = run_on(rt.alloc(), &[*word, "--image", *image], "!")?;
             let is_named = run.gave(FAULT, "", fault) && run.reads == 0;
             assert!(rt; is_named, "of {image}");
         }

@@ -358,17 +358,25 @@ fn scripts_are_carried_out(rt: HostRuntime) -> Result<(), Fail> {
 /// How often a master writes, each time in a turn of its own.
 const WRITES: &[usize] = &[1, 32, 33, 64, 65, 128, 129, 255, 256, 257, 300];
 
+/// The line of an answered write with this number.
+fn answered_line(alloc: Global, number: usize) -> Result<String, AllocError> {
+    format!(in alloc; "{number} answered 1 00 40 012345\n")
+}
+
+/// The lines of a device after so many writes, of whose image this comes before the counter.
+fn device_lines(alloc: Global, writes: usize, image: &str) -> Result<String, AllocError> {
+    format!(in alloc; "counter {writes}\nimage {image}{writes:04X}03\n")
+}
+
 /// What is written for so many writes.
 fn text_of(alloc: Global, writes: usize) -> Result<String, AllocError> {
     let spoken = "P 20 82B7420A1B2C13030123453D\nD 5 86B7420A1B2C130500400123457F\n";
     let mut text = spoken.repeat(alloc, writes)?;
     for number in 1..=writes {
-        let line = format!(in alloc; "{number} answered 1 00 40 012345\n")?;
-        text.push_str(line.as_str())?;
+        text.push_str(answered_line(alloc, number)?.as_str())?;
     }
     let image = image_hex!(2, assembly = "012345", counter = "", flags = "");
-    let device = format!(in alloc; "counter {writes}\nimage {image}{writes:04X}03\n")?;
-    text.push_str(device.as_str())?;
+    text.push_str(device_lines(alloc, writes, image)?.as_str())?;
     Ok(text)
 }
 
