@@ -1,5 +1,5 @@
 -- What stands in the way of a message where one seems to start (HCF_SPEC-081; own profile).
-use Rattle.std.specs.Prelude.{◌≡◌, ◌≢◌, ◌<◌, ◌+◌, ◌-◌, ◌/◌, ◌%◌, ℕ, List, ◌++◌, Some, drop, length, slice_get, take}
+use Rattle.std.specs.Prelude.{◌≡◌, ◌≢◌, ◌<◌, ◌+◌, ◌-◌, ◌/◌, ◌%◌, ℕ, List, [], ◌∷◌, ◌++◌, Some, drop, length, slice_get, take}
 use Rattle.hart_frame.specs.heard.Character.{Character, faultless, faultless_bytes}
 use Rattle.hart_frame.specs.wire.Body.{IsBody}
 use Rattle.hart_frame.specs.wire.FrameParts.{FrameParts}
@@ -58,3 +58,11 @@ pub record HasBodyAt (chars : List Character) (place : ℕ) : Type 0 where
   pub rest : List Character
   pub is_body : IsBody frame body
   pub parts : drop place chars ≡ faultless body ++ rest
+
+-- One faultless preamble byte FF alone stands right before a place of a list: no other stands right before that one.
+pub record FollowsOnePreamble (chars : List Character) (place : ℕ) : Type 0 where
+  pub prefix : List Character
+  pub rest : List Character
+  pub split : chars ≡ prefix ++ faultless (255 ∷ []) ++ rest
+  pub place_is : place ≡ length prefix + 1
+  pub alone : (earlier : List Character) → prefix ≢ earlier ++ faultless (255 ∷ [])

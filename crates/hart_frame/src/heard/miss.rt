@@ -1,9 +1,9 @@
 //! Why no frame stands at a place at which a message seems to start.
 ghost use Rattle.std.specs.Prelude.{◌≡◌, ◌≢◌, ◌+◌, ◌^◌, ◌<◌, ◌≤◌, ◌⊎◌, ◌↔◌, ℕ, List, [], ◌∷◌, ◌++◌, None, Some, length, drop, insert, set};
-ghost use Rattle.std.specs.Prelude.{All, IsSome, MatchOption, bit_xor, fold, slice_get, true};
+ghost use Rattle.std.specs.Prelude.{All, IsSome, MatchOption, bit_xor, fold, slice_get};
 ghost use Rattle.hart_frame.specs.heard.Body.{bytes_of};
 ghost use Rattle.hart_frame.specs.heard.Character.{Character, faultless, faultless_bytes};
-ghost use Rattle.hart_frame.specs.heard.InTheWay.{HasBodyAt, IsInTheWay, bytes_from};
+ghost use Rattle.hart_frame.specs.heard.InTheWay.{FollowsOnePreamble, HasBodyAt, IsInTheWay, bytes_from};
 ghost use Rattle.hart_frame.specs.heard.Miss.{EndsEarly, HasFrameAt, HasFrameUpTo, body_miss, check_miss, delimiter_miss, fault_of, faulty_or};
 ghost use Rattle.hart_frame.specs.heard.Miss.{follows_one_preamble, follows_preamble, miss_of};
 ghost use Rattle.hart_frame.specs.heard.Start.{IsStart};
@@ -224,5 +224,5 @@ pub fn misses_are_in_the_way()
     ensures in_the_way { (start : ℕ) (chars : List Character) (miss : Miss) → All (λ character. character.byte < 256) chars
         → IsStart start chars → (miss_of chars start ≡ Some miss) ↔ IsInTheWay chars start miss }
     ensures one_alone { (start : ℕ) (chars : List Character) → All (λ character. character.byte < 256) chars
-        → (miss_of chars start ≡ Some OnePreamble) ↔ ((follows_one_preamble chars start ≡ true) × HasBodyAt chars start) }
+        → (miss_of chars start ≡ Some OnePreamble) ↔ (FollowsOnePreamble chars start × HasBodyAt chars start) }
 {}

@@ -13,7 +13,8 @@ use Rattle.hart_frame.specs.wire.Layout.{body_length, delimiter_in}
 use Rattle.hart_frame.specs.wire.Parity.{IsCheckByte}
 use Rattle.hart_frame.specs.wire.Refusal.{IsDelimiter, IsTruncated}
 use Rattle.hart_frame.specs.heard.Character.{Character, faultless_bytes}
-use Rattle.hart_frame.specs.heard.InTheWay.{ComeToTheEnd, HasBodyAt, HasFaultsAt, IsBurstDelimiter, IsInTheWay, bytes_from}
+use Rattle.hart_frame.specs.heard.InTheWay.{ComeToTheEnd, FollowsOnePreamble, HasBodyAt, HasFaultsAt, IsBurstDelimiter}
+use Rattle.hart_frame.specs.heard.InTheWay.{IsInTheWay, bytes_from}
 use Rattle.hart_frame.specs.heard.Miss.{body_miss, check_byte_in, delimiter_miss, faulty_or, fitting_check_byte, follows_one_preamble}
 use Rattle.hart_frame.specs.heard.Miss.{is_start, miss_of}
 use Rattle.hart_frame.specs.heard.Start.{IsStart}
@@ -27,6 +28,7 @@ use Rattle.hart_frame.proofs.lemmas.heard.Miss.{Told, begun, counted, empty, fau
 use Rattle.hart_frame.proofs.lemmas.heard.Miss.{miss_in-other, never_one_preamble, miss_in-short, miss_in-whole, other, other_check, same_check, short, told_of, whole}
 use Rattle.hart_frame.proofs.lemmas.heard.Hint.{heard_or_miss}
 use Rattle.hart_frame.proofs.lemmas.heard.Missed.{is_start-yes, miss_of-one, miss_of-some, miss_of-start, nothing_missed}
+use Rattle.hart_frame.proofs.lemmas.heard.Missed.{one_preamble-is, one_preamble-yes}
 use Rattle.hart_frame.proofs.lemmas.wire.UnambiguousBodies.{BeginsWithBody-append}
 use Rattle.hart_frame.proofs.lemmas.heard.Place.{preamble}
 
@@ -259,9 +261,10 @@ alone_is start chars fit is =
     ]
 
 pub one_alone : (start : ℕ) (chars : List Character) → All (λ c. c.byte < 256) chars
-    → (miss_of chars start ≡ Some OnePreamble) ↔ ((follows_one_preamble chars start ≡ true) × HasBodyAt chars start)
+    → (miss_of chars start ≡ Some OnePreamble) ↔ (FollowsOnePreamble chars start × HasBodyAt chars start)
 one_alone start chars fit = (
-  alone_is start chars fit,
-  λ both. sym (miss_of-one chars (drop start chars) start refl (λ is. never_both chars start both.0 (is_start-yes chars start is)) both.0
+  λ is. let both = alone_is start chars fit is in (one_preamble-is chars start both.0, both.1),
+  λ both. let one = one_preamble-yes chars start both.0 in
+      sym (miss_of-one chars (drop start chars) start refl (λ is. never_both chars start one (is_start-yes chars start is)) one
       (none_of chars start both.1)),
 )

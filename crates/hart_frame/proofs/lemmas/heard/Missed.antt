@@ -5,7 +5,8 @@ use Rattle.std.proofs.Common.{Bool, true, false, Option, None, Some, not, refl, 
 use Rattle.std.proofs.Common.{length-append}
 use Rattle.std.specs.List.{All, slice_get}
 use Rattle.std.specs.Option.{is_some, option_map_or}
-use Rattle.std.proofs.lemmas.List.{drop_at, get_or_at, get_or-take, length-take-le, take_at, take-take}
+use Rattle.std.proofs.lemmas.List.{drop_at, get_or_at, get_or-take, length-take-le, take-append-drop, take_at, take-take}
+use Rattle.std.proofs.Math.Seq.{append_snoc, drop-cons, get_or-append_seam, take-append_seam, take-suc}
 use Rattle.std.proofs.lemmas.List.Elements.{All-take}
 use Rattle.std.proofs.lemmas.Option.{slice_get-get_or, slice_get_cases}
 use Rattle.std.proofs.lemmas.Bool.Decides.{nat_tests}
@@ -16,6 +17,7 @@ use Rattle.hart_frame.specs.wire.Layout.{body_length}
 use Rattle.hart_frame.specs.wire.Parity.{HasEvenParity}
 use Rattle.hart_frame.specs.declared.wire.fault.FrameFault.TheVariants.{BadDelimiter, ShortReply, Truncated}
 use Rattle.hart_frame.specs.heard.Character.{Character, faultless, faultless_bytes}
+use Rattle.hart_frame.specs.heard.InTheWay.{FollowsOnePreamble}
 use Rattle.hart_frame.specs.heard.Start.{IsStart}
 use Rattle.hart_frame.specs.heard.Miss.{HasFrameAt, body_miss, check_byte_in, fitting_check_byte, miss_in, miss_of, follows_one_preamble}
 use Rattle.hart_frame.specs.heard.Miss.{follows_preamble, is_preamble, is_start}
@@ -66,6 +68,12 @@ three a b c passes = grind arith
 
 and_left : (a b : Bool) → a && b ≡ true → a ≡ true
 and_left a b passes = grind arith
+
+not_both : (a b : Bool) → a && not b ≡ true → b ≡ true → ⊥
+not_both a b passes is = grind arith
+
+both : {a b : Bool} → a ≡ true → b ≡ false → a && not b ≡ true
+both is none = cc
 
 not_true : (a : Bool) → (a ≡ true → ⊥) → a ≡ false
 not_true a never = grind arith
@@ -128,6 +136,65 @@ one_before_place chars k one = first_test chars k (and_left _ _ one)
 
 pub not_at_front : (chars : List Character) → follows_one_preamble chars zero ≡ true → ⊥
 not_at_front chars one = grind arith
+
+-- a list up to a preamble byte, that, and what comes after it
+one_split : (chars : List Character) (k : ℕ) → k < length chars → get_or chars k preamble ≡ preamble
+    → chars ≡ take k chars ++ (preamble ∷ []) ++ drop (suc k) chars
+one_split chars k within is =
+    sym (take-append-drop k chars) ∙ ap (λ (xs : List Character). take k chars ++ xs) (drop-cons chars k preamble within)
+    ∙ ap (λ (c : Character). take k chars ++ c ∷ drop (suc k) chars) is
+    ∙ sym (append_snoc (take k chars) preamble (drop (suc k) chars))
+
+-- what ends with a preamble byte has one before the place after it
+ends_with : (chars earlier : List Character) (k : ℕ) → k < length chars → take k chars ≡ earlier ++ preamble ∷ []
+    → follows_preamble chars k ≡ true
+ends_with chars earlier zero within is = absurd (omega (arith, ap length is, length-append earlier (preamble ∷ [])))
+ends_with chars earlier (suc j) within is =
+    let len = ap length is ∙ length-append earlier (preamble ∷ []) in
+    let same : j ≡ length earlier = omega (arith, len, length-take-le (suc j) chars (omega (arith, within))) in
+    let at : get_or chars j preamble ≡ preamble =
+    sym (get_or-take (suc j) chars j preamble (omega arith)) ∙ ap (λ (xs : List Character). get_or xs j preamble) is
+    ∙ ap (λ (n : ℕ). get_or (earlier ++ preamble ∷ []) n preamble) same ∙ get_or-append_seam earlier preamble [] preamble in
+    first_tests chars j (omega (arith, within)) at
+
+-- one preamble byte alone, as the lists say it
+pub one_preamble-is : (chars : List Character) (place : ℕ) → follows_one_preamble chars place ≡ true → FollowsOnePreamble chars place
+one_preamble-is chars zero one = absurd (not_at_front chars one)
+one_preamble-is chars (suc k) one =
+    let at = one_before_place chars k one in
+    let before : suc k - 1 ≡ k = omega arith in
+    record {
+      prefix = take k chars;
+      rest = drop (suc k) chars;
+      split = one_split chars k at.0 at.1;
+      place_is = omega (arith, at.0, length-take-le k chars (omega (arith, at.0)));
+      alone = λ earlier is. not_both _ _ one (ap (follows_preamble chars) before ∙ ends_with chars earlier k at.0 is);
+    }
+
+-- and the other way round
+no_second : (chars prefix rest : List Character) (k : ℕ) → chars ≡ prefix ++ preamble ∷ rest → k ≡ length prefix
+    → ((earlier : List Character) → prefix ≢ earlier ++ preamble ∷ []) → follows_preamble chars k ≡ true → ⊥
+no_second chars prefix rest zero split place alone passes = cc
+no_second chars prefix rest (suc j) split place alone passes =
+    let at = first_test chars j passes in
+    let front : take (suc j) chars ≡ prefix =
+    ap (λ (n : ℕ). take n chars) place ∙ ap (take (length prefix)) split ∙ take-append_seam prefix (preamble ∷ rest) in
+    alone (take j chars)
+    (sym front ∙ take-suc chars j preamble at.0 ∙ ap (λ (c : Character). take j chars ++ c ∷ []) at.1)
+
+pub one_preamble-yes : (chars : List Character) (place : ℕ) → FollowsOnePreamble chars place → follows_one_preamble chars place ≡ true
+one_preamble-yes chars zero is = absurd (omega (arith, is.place_is))
+one_preamble-yes chars (suc k) is =
+    let before : suc k - 1 ≡ k = omega arith in
+    let place : k ≡ length is.prefix = omega (arith, is.place_is) in
+    let split : chars ≡ is.prefix ++ preamble ∷ is.rest = is.split ∙ append_snoc is.prefix preamble is.rest in
+    let within : k < length chars =
+    omega (arith, place, ap length split, length-append is.prefix (preamble ∷ is.rest)) in
+    let at : get_or chars k preamble ≡ preamble =
+    ap (λ (n : ℕ). get_or chars n preamble) place ∙ ap (λ (xs : List Character). get_or xs (length is.prefix) preamble) split
+    ∙ get_or-append_seam is.prefix preamble is.rest preamble in
+    let none = not_true (follows_preamble chars k) (no_second chars is.prefix is.rest k split place is.alone) in
+    both (first_tests chars k within at) (ap (follows_preamble chars) before ∙ none)
 
 -- the first byte of a body is no preamble byte
 record Head (body : List ℕ) : Type 0 where
