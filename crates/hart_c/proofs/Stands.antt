@@ -1,18 +1,20 @@
 -- Where the fields that are shown stand.
-use Rattle.std.proofs.Common.{◌≡◌, ◌<◌, ◌+◌, ◌∙◌, ℕ, zero, suc, List, [], ◌∷◌, ◌++◌, drop, take, length, slice_get, Option, None, Some}
-use Rattle.std.proofs.Common.{refl, sym, ap, subst, append_assoc, arith, length-append, Bool, true, false, Ok, Err}
+use Rattle.std.proofs.Common.{◌≡◌, ◌≤◌, ◌<◌, ◌+◌, ◌∙◌, ℕ, zero, suc, List, [], ◌∷◌, ◌++◌, drop, take, length, slice_get, Option, None, Some}
+use Rattle.std.proofs.Common.{refl, sym, ap, subst, append_assoc, arith, length-append}
+use Rattle.std.proofs.Common.{Bool, true, false, Ok, Err}
 use Rattle.std.specs.Prelude.{option_map, if◌then◌else◌, ◌==◌}
 use Rattle.std.specs.Option.{option_map_or}
 use Rattle.std.proofs.lemmas.List.{take-append-drop}
 use Rattle.std.proofs.Math.Seq.{drop-append_seam, take-append_seam}
 use Rattle.hart_commands.specs.Commands.{content_bytes}
-use Rattle.hart_commands.specs.Fields.{Field, Row, fields_of, reply_rows, request_rows, size_in, split}
+use Rattle.hart_commands.specs.Fields.{Field, Row, bytes_of, fields_of, reply_rows, request_rows, size_in, split}
 use Rattle.hart_commands.specs.ReplyData.{reply_payload, reply_reading}
 use Rattle.hart_commands.specs.RequestData.{Reading, request_data, request_reading}
 use Rattle.hart_commands.specs.declared.fields.FieldSize.{FieldSize}
 use Rattle.hart_commands.specs.declared.reply.Reply.{Reply}
 use Rattle.hart_c.specs.Data.{IsShown, ReplyOutcome, ReplyShown, RequestOutcome, RequestShown, StandsAt, kind_number, placed}
 use Rattle.hart_c.specs.Data.{reply_fields, request_fields, written_over}
+use Rattle.hart_c.specs.Names.{rows_for}
 use Rattle.hart_c.specs.declared.data.HartField.{HartField}
 use Rattle.hart_c.specs.declared.data.HartReading.{HartReading}
 use Rattle.hart_c.proofs.Placed.{fields_more, over_nothing}
@@ -32,7 +34,7 @@ parts_of : (size : FieldSize) (bytes field after : List ℕ) → split size byte
 parts_of size bytes field after is = parts_by bytes field after (size_in size (length bytes)) is
 
 -- what is shown within the places is one of them
-pub over-at : (places before : List HartField) (index : ℕ) (shown : HartField) → index < length places
+over-at : (places before : List HartField) (index : ℕ) (shown : HartField) → index < length places
     → slice_get (written_over places before) index ≡ Some shown → slice_get places index ≡ Some shown
 over-at [] before index shown within is = absurd (omega (arith, within))
 over-at (place ∷ places) [] index shown within is =
@@ -45,9 +47,22 @@ over-at (place ∷ places) (other ∷ others) (suc index) shown within is = over
 abbrev named : Row → List ℕ → Field
 named row bytes = record { name = row.name; kind = row.kind; bytes = bytes }
 
+-- where a field of some rows stands, the first of them from a place on
+record Stands (rows : List Row) (from : ℕ) (fields : List Field) (bytes : List ℕ) (index : ℕ) (shown : HartField) : Type 0 where
+  pub row : Row
+  pub field : Field
+  pub is_row : slice_get rows index ≡ Some row
+  pub is_field : slice_get fields index ≡ Some field
+  pub name : field.name ≡ row.name
+  pub kind : shown.kind ≡ kind_number row.kind
+  pub start : shown.start ≡ from + length (bytes_of (take index fields))
+  pub len : shown.len ≡ length field.bytes
+  pub within : shown.start + shown.len ≤ length bytes
+  pub bytes_there : take shown.len (drop shown.start bytes) ≡ field.bytes
+
 -- the field of a row, whose bytes stand after others and before others
 first : (row : Row) (rows : List Row) (fields : List Field) (before bytes rest : List ℕ)
-    → StandsAt (row ∷ rows) (named row bytes ∷ fields) (before ++ (bytes ++ rest)) 0
+    → Stands (row ∷ rows) (length before) (named row bytes ∷ fields) (before ++ (bytes ++ rest)) 0
     (record { start = length before; len = length bytes; kind = kind_number row.kind })
 first row rows fields before bytes rest = record {
   row = row;
@@ -56,48 +71,56 @@ first row rows fields before bytes rest = record {
   is_field = refl;
   name = refl;
   kind = refl;
+  start = omega arith;
+  len = refl;
+  within = omega (arith, length-append before (bytes ++ rest), length-append bytes rest);
   bytes_there = ap (take (length bytes)) (drop-append_seam before (bytes ++ rest)) ∙ take-append_seam bytes rest;
 }
 
 -- one row more before it
-later : (row : Row) (rows : List Row) (field : Field) (fields : List Field) (bytes : List ℕ) (index : ℕ) (shown : HartField)
-    → StandsAt rows fields bytes index shown → StandsAt (row ∷ rows) (field ∷ fields) bytes (suc index) shown
-later row rows field fields bytes index shown at = record {
+later : (row : Row) (rows : List Row) (from : ℕ) (field : Field) (fields : List Field) (bytes : List ℕ) (index : ℕ) (shown : HartField)
+    → Stands rows (from + length field.bytes) fields bytes index shown
+    → Stands (row ∷ rows) from (field ∷ fields) bytes (suc index) shown
+later row rows from field fields bytes index shown at = record {
   row = at.row;
   field = at.field;
   is_row = at.is_row;
   is_field = at.is_field;
   name = at.name;
   kind = at.kind;
+  start = omega (arith, at.start, length-append field.bytes (bytes_of (take index fields)));
+  len = at.len;
+  within = at.within;
   bytes_there = at.bytes_there;
 }
 
 -- of the rows after one, whose field is the first of the bytes, by what is known of them
 beyond : (row : Row) (rows : List Row) (before field after rest : List ℕ) (index : ℕ) (shown : HartField)
     → ((before rest : List ℕ) (index : ℕ) → slice_get (placed (length before) (fields_of rows after)) index ≡ Some shown
-    → StandsAt rows (fields_of rows after) (before ++ (after ++ rest)) index shown)
+    → Stands rows (length before) (fields_of rows after) (before ++ (after ++ rest)) index shown)
     → slice_get (placed (length before) (named row field ∷ fields_of rows after)) index ≡ Some shown
-    → StandsAt (row ∷ rows) (named row field ∷ fields_of rows after) (before ++ ((field ++ after) ++ rest)) index shown
+    → Stands (row ∷ rows) (length before) (named row field ∷ fields_of rows after) (before ++ ((field ++ after) ++ rest)) index shown
 beyond row rows before field after rest zero shown others is =
     let fields = fields_of rows after in
     let at : HartField = record { start = length before; len = length field; kind = kind_number row.kind } in
     let same : at ≡ shown = cc in
     let there = first row rows fields before field (after ++ rest) in
-    subst (λ (s : HartField). StandsAt (row ∷ rows) (named row field ∷ fields) (before ++ ((field ++ after) ++ rest)) 0 s) same
-    (subst (λ (xs : List ℕ). StandsAt (row ∷ rows) (named row field ∷ fields) (before ++ xs) 0 at) (sym (append_assoc field after rest))
-    there)
+    let all = named row field ∷ fields in
+    subst (λ (s : HartField). Stands (row ∷ rows) (length before) all (before ++ ((field ++ after) ++ rest)) 0 s) same
+    (subst (λ (xs : List ℕ). Stands (row ∷ rows) (length before) all (before ++ xs) 0 at) (sym (append_assoc field after rest)) there)
 beyond row rows before field after rest (suc index) shown others is =
     let fields = fields_of rows after in
     let from = subst (λ (n : ℕ). slice_get (placed n fields) index ≡ Some shown) (sym (length-append before field)) is in
     let there = others (before ++ field) rest index from in
     let same = append_assoc before field (after ++ rest) ∙ ap (λ (xs : List ℕ). before ++ xs) (sym (append_assoc field after rest)) in
-    later row rows (named row field) fields (before ++ ((field ++ after) ++ rest)) index shown
-    (subst (λ (xs : List ℕ). StandsAt rows fields xs index shown) same there)
+    later row rows (length before) (named row field) fields (before ++ ((field ++ after) ++ rest)) index shown
+    (subst (λ (n : ℕ). Stands rows n fields (before ++ ((field ++ after) ++ rest)) index shown) (length-append before field)
+    (subst (λ (xs : List ℕ). Stands rows (length (before ++ field)) fields xs index shown) same there))
 
 -- so the place of each index is that of the field of its row
-pub stands : (rows : List Row) (bytes before rest : List ℕ) (index : ℕ) (shown : HartField)
+stands : (rows : List Row) (bytes before rest : List ℕ) (index : ℕ) (shown : HartField)
     → slice_get (placed (length before) (fields_of rows bytes)) index ≡ Some shown
-    → StandsAt rows (fields_of rows bytes) (before ++ (bytes ++ rest)) index shown
+    → Stands rows (length before) (fields_of rows bytes) (before ++ (bytes ++ rest)) index shown
 stands [] bytes before rest index shown is = cc
 stands (row ∷ rows) bytes before rest index shown is =
     go (split row.size bytes) refl (λ after others more at. stands rows after others more at shown)
@@ -107,8 +130,8 @@ stands (row ∷ rows) bytes before rest index shown is =
 
     go : (parts : Option (List ℕ × List ℕ)) → split row.size bytes ≡ parts
         → ((after others more : List ℕ) (at : ℕ) → slice_get (placed (length others) (fields_of rows after)) at ≡ Some shown
-        → StandsAt rows (fields_of rows after) (others ++ (after ++ more)) at shown)
-        → StandsAt (row ∷ rows) (fields_of (row ∷ rows) bytes) (before ++ (bytes ++ rest)) index shown
+        → Stands rows (length others) (fields_of rows after) (others ++ (after ++ more)) at shown)
+        → Stands (row ∷ rows) (length before) (fields_of (row ∷ rows) bytes) (before ++ (bytes ++ rest)) index shown
     go None none later =
         let all : fields_of (row ∷ rows) bytes ≡ [] = ap fields_if none in
         let nothing = subst (λ (fs : List Field). slice_get (placed (length before) fs) index ≡ Some shown) all is in
@@ -118,52 +141,70 @@ stands (row ∷ rows) bytes before rest index shown is =
         let parts = parts_of row.size bytes field after some in
         let got = subst (λ (fs : List Field). slice_get (placed (length before) fs) index ≡ Some shown) all is in
         let there = beyond row rows before field after rest index shown (later after) got in
-        subst (λ (fs : List Field). StandsAt (row ∷ rows) fs (before ++ (bytes ++ rest)) index shown) (sym all)
-        (subst (λ (xs : List ℕ). StandsAt (row ∷ rows) (named row field ∷ fields_of rows after) (before ++ (xs ++ rest)) index shown) parts
-        there)
+        subst (λ (fs : List Field). Stands (row ∷ rows) (length before) fs (before ++ (bytes ++ rest)) index shown) (sym all)
+        (subst (λ (xs : List ℕ). Stands (row ∷ rows) (length before) (named row field ∷ fields_of rows after) (before ++ (xs ++ rest)) index
+        shown) parts there)
 
 -- there are as many places as fields
 placed-length : (start : ℕ) (fields : List Field) → length (placed start fields) ≡ length fields
 placed-length start [] = refl
 placed-length start (field ∷ fields) = ap suc (placed-length (start + length field.bytes) fields)
 
+-- of the fields of a command the name is told
+told : (is_reply : Bool) (command from : ℕ) (fields : List Field) (bytes : List ℕ) (index : ℕ) (shown : HartField)
+    → Stands (rows_for is_reply command) from fields bytes index shown → StandsAt is_reply command from fields bytes index shown
+told is_reply command from fields bytes index shown at = record {
+  row = at.row;
+  field = at.field;
+  is_row = at.is_row;
+  is_field = at.is_field;
+  name = ap (option_map (λ (row : Row). row.name)) at.is_row ∙ ap (λ (n : List ℕ). Some n) (sym at.name);
+  kind = at.kind;
+  start = at.start;
+  len = at.len;
+  within = at.within;
+  bytes_there = at.bytes_there;
+}
+
 -- of fields that are shown
 shown-stands : (rows : List Row) (bytes before rest : List ℕ) (start taken code status : ℕ) (old new : List HartField)
     (reading : HartReading) (index : ℕ) (shown : HartField) → length before ≡ start
     → IsShown start (fields_of rows bytes) taken code status old new reading → index < reading.count → slice_get new index ≡ Some shown
-    → StandsAt rows (fields_of rows bytes) (before ++ (bytes ++ rest)) index shown
+    → Stands rows start (fields_of rows bytes) (before ++ (bytes ++ rest)) index shown
 shown-stands rows bytes before rest start taken code status old new reading index shown from is within got =
     let fields = fields_of rows bytes in
     let count = ap (λ (r : HartReading). r.count) is.told in
     let there = over-at (placed start fields) old index shown (omega (arith, within, count, placed-length start fields))
     (subst (λ (xs : List HartField). slice_get xs index ≡ Some shown) is.shown got) in
-    stands rows bytes before rest index shown
-    (subst (λ (n : ℕ). slice_get (placed n fields) index ≡ Some shown) (sym from) there)
+    subst (λ (n : ℕ). Stands rows n fields (before ++ (bytes ++ rest)) index shown) from
+    (stands rows bytes before rest index shown
+    (subst (λ (n : ℕ). slice_get (placed n fields) index ≡ Some shown) (sym from) there))
 
-pub fields_stand_where_they_are_shown-requests : (command index : ℕ) (bytes : List ℕ) (old new : List HartField) (told : HartReading)
-    (shown : HartField) → RequestOutcome command bytes old new told → index < told.count → slice_get new index ≡ Some shown
-    → StandsAt (request_rows command) (request_fields command bytes (request_reading command bytes)) bytes index shown
-fields_stand_where_they_are_shown-requests command index bytes old new told shown outcome within got =
+pub fields_stand_where_they_are_shown-requests : (command index : ℕ) (bytes : List ℕ) (old new : List HartField) (reading : HartReading)
+    (shown : HartField) → RequestOutcome command bytes old new reading → index < reading.count → slice_get new index ≡ Some shown
+    → StandsAt false command 0 (request_fields command bytes (request_reading command bytes)) bytes index shown
+fields_stand_where_they_are_shown-requests command index bytes old new reading shown outcome within got =
     go (request_reading command bytes) outcome
   where
-    go : (reading : Reading) → RequestShown command bytes reading old new told
-        → StandsAt (request_rows command) (request_fields command bytes reading) bytes index shown
+    go : (read : Reading) → RequestShown command bytes read old new reading
+        → StandsAt false command 0 (request_fields command bytes read) bytes index shown
     go (Ok request) is =
         let n = length (request_data request) in
-        subst (λ (xs : List ℕ). StandsAt (request_rows command) (request_fields command bytes (Ok request)) xs index shown)
+        told false command 0 (request_fields command bytes (Ok request)) bytes index shown
+        (subst (λ (xs : List ℕ). Stands (request_rows command) 0 (request_fields command bytes (Ok request)) xs index shown)
         (take-append-drop n bytes)
-        (shown-stands (request_rows command) (take n bytes) [] (drop n bytes) 0 (length (take n bytes)) 0 0 old new told index shown refl is
-        within got)
+        (shown-stands (request_rows command) (take n bytes) [] (drop n bytes) 0 (length (take n bytes)) 0 0 old new reading index shown
+        refl is within got))
     go (Err code) is = absurd (omega (arith, within, ap (λ (r : HartReading). r.count) is.told))
 
-pub fields_stand_where_they_are_shown-replies : (command index : ℕ) (payload : List ℕ) (old new : List HartField) (told : HartReading)
-    (shown : HartField) (reply : Reply) → reply_reading command payload ≡ Some reply → ReplyOutcome command payload old new told
-    → index < told.count → slice_get new index ≡ Some shown
-    → StandsAt (reply_rows command) (reply_fields command payload reply) payload index shown
-fields_stand_where_they_are_shown-replies command index [] old new told shown reply read outcome within got = cc
-fields_stand_where_they_are_shown-replies command index (one ∷ []) old new told shown reply read outcome within got = cc
-fields_stand_where_they_are_shown-replies command index (code ∷ status ∷ bytes) old new told shown reply read outcome within got =
-    go (reply.code == 0) (subst (λ (r : Option Reply). ReplyShown command (code ∷ status ∷ bytes) r old new told) read outcome)
+pub fields_stand_where_they_are_shown-replies : (command index : ℕ) (payload : List ℕ) (old new : List HartField) (reading : HartReading)
+    (shown : HartField) (reply : Reply) → reply_reading command payload ≡ Some reply → ReplyOutcome command payload old new reading
+    → index < reading.count → slice_get new index ≡ Some shown
+    → StandsAt true command 2 (reply_fields command payload reply) payload index shown
+fields_stand_where_they_are_shown-replies command index [] old new reading shown reply read outcome within got = cc
+fields_stand_where_they_are_shown-replies command index (one ∷ []) old new reading shown reply read outcome within got = cc
+fields_stand_where_they_are_shown-replies command index (code ∷ status ∷ bytes) old new reading shown reply read outcome within got =
+    go (reply.code == 0) (subst (λ (r : Option Reply). ReplyShown command (code ∷ status ∷ bytes) r old new reading) read outcome)
   where
     n : ℕ
     n = length (content_bytes reply.content)
@@ -172,10 +213,11 @@ fields_stand_where_they_are_shown-replies command index (code ∷ status ∷ byt
     fields_if done = if done then fields_of (reply_rows command) (take n bytes) else []
 
     go : (done : Bool)
-        → IsShown 2 (fields_if done) (length (reply_payload reply)) reply.code reply.status.0 old new told
-        → StandsAt (reply_rows command) (fields_if done) (code ∷ status ∷ bytes) index shown
+        → IsShown 2 (fields_if done) (length (reply_payload reply)) reply.code reply.status.0 old new reading
+        → StandsAt true command 2 (fields_if done) (code ∷ status ∷ bytes) index shown
     go true is =
-        subst (λ (xs : List ℕ). StandsAt (reply_rows command) (fields_if true) (code ∷ status ∷ xs) index shown) (take-append-drop n bytes)
+        told true command 2 (fields_if true) (code ∷ status ∷ bytes) index shown
+        (subst (λ (xs : List ℕ). Stands (reply_rows command) 2 (fields_if true) (code ∷ status ∷ xs) index shown) (take-append-drop n bytes)
         (shown-stands (reply_rows command) (take n bytes) (code ∷ status ∷ []) (drop n bytes) 2 (length (reply_payload reply)) reply.code
-        reply.status.0 old new told index shown refl is within got)
+        reply.status.0 old new reading index shown refl is within got))
     go false is = absurd (omega (arith, within, ap (λ (r : HartReading). r.count) is.told))

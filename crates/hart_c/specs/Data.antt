@@ -1,13 +1,14 @@
 -- What reading the data of a message promises to a caller in C (own profile).
 use Rattle.std.specs.Prelude.{◌≡◌, ◌+◌, ◌==◌, if◌then◌else◌, ℕ, List, [], ◌∷◌, ◌++◌, drop, length, take, Option, None, Some, Ok, Err}
-use Rattle.std.specs.Prelude.{slice_get}
+use Rattle.std.specs.Prelude.{◌≤◌, Bool, slice_get}
 use Rattle.hart_commands.specs.Commands.{content_bytes}
-use Rattle.hart_commands.specs.Fields.{Field, Row, fields_of, reply_rows, request_rows}
+use Rattle.hart_commands.specs.Fields.{Field, Row, bytes_of, fields_of, reply_rows, request_rows}
 use Rattle.hart_commands.specs.ReplyData.{reply_payload, reply_reading}
 use Rattle.hart_commands.specs.RequestData.{Reading, request_data, request_reading}
 use Rattle.hart_commands.specs.declared.fields.FieldKind.{FieldKind}
 use Rattle.hart_commands.specs.declared.fields.FieldKind.TheVariants.{Bytes, Number, PackedText, Date, Float, Variables}
 use Rattle.hart_commands.specs.declared.reply.Reply.{Reply}
+use Rattle.hart_c.specs.Names.{field_name, rows_for}
 use Rattle.hart_c.specs.declared.data.HartField.{HartField}
 use Rattle.hart_c.specs.declared.data.HartReading.{HartReading}
 
@@ -37,19 +38,19 @@ pub record IsShown (start : ℕ) (fields : List Field) (taken code status : ℕ)
   pub told : reading ≡ record { count = length fields; taken = taken; code = code; status = status; fault = 0 }
   pub shown : after ≡ written_over (placed start fields) before
 
--- The data of a request that is read are taken as far as it is written, and shown as the fields of its command; its code is 0. Of a
--- request that is refused no field is shown and no byte taken, and the code that refuses it is told.
-abbrev pub RequestShown : ℕ → List ℕ → Reading → List HartField → List HartField → HartReading → Type 0
-RequestShown command bytes (Ok request) before after reading =
-    let taken = take (length (request_data request)) bytes in
-    IsShown 0 (fields_of (request_rows command) taken) (length taken) 0 0 before after reading
-RequestShown command bytes (Err code) before after reading = IsShown 0 [] 0 code 0 before after reading
-
 -- The fields of a request that is read are those of the rows of its command, in its data as far as it is written; a request that is
 -- refused has none.
 abbrev pub request_fields : ℕ → List ℕ → Reading → List Field
 request_fields command bytes (Ok request) = fields_of (request_rows command) (take (length (request_data request)) bytes)
 request_fields command bytes (Err code) = []
+
+-- The data of a request that is read are taken as far as it is written, and its fields are shown; its code is 0. Of a request that is
+-- refused no field is shown and no byte taken, and the code that refuses it is told.
+abbrev pub RequestShown : ℕ → List ℕ → Reading → List HartField → List HartField → HartReading → Type 0
+RequestShown command bytes (Ok request) before after reading =
+    IsShown 0 (request_fields command bytes (Ok request)) (length (take (length (request_data request)) bytes)) 0 0 before after reading
+RequestShown command bytes (Err code) before after reading =
+    IsShown 0 (request_fields command bytes (Err code)) 0 code 0 before after reading
 
 -- Data are read as a request of their command.
 abbrev pub RequestOutcome : ℕ → List ℕ → List HartField → List HartField → HartReading → Type 0
@@ -73,13 +74,18 @@ ReplyShown command payload None before after reading =
 abbrev pub ReplyOutcome : ℕ → List ℕ → List HartField → List HartField → HartReading → Type 0
 ReplyOutcome command payload = ReplyShown command payload (reply_reading command payload)
 
--- A place that is shown of bytes is that of the field of its index, which has the name of the row of that index, and is meant as that
--- says: at the place stand the bytes of the field.
-pub record StandsAt (rows : List Row) (fields : List Field) (bytes : List ℕ) (index : ℕ) (shown : HartField) : Type 0 where
+-- A place that is shown of bytes is that of the field of its index. The field has the name that is told at that index, and is meant as
+-- the row of it says. It starts right after the fields before it, of which the first starts at a place; it is as long as it is said to be,
+-- and lies within the bytes; and there stand the bytes of the field.
+pub record StandsAt (is_reply : Bool) (command first : ℕ) (fields : List Field) (bytes : List ℕ) (index : ℕ) (shown : HartField)
+    : Type 0 where
   pub row : Row
   pub field : Field
-  pub is_row : slice_get rows index ≡ Some row
+  pub is_row : slice_get (rows_for is_reply command) index ≡ Some row
   pub is_field : slice_get fields index ≡ Some field
-  pub name : field.name ≡ row.name
+  pub name : field_name is_reply command index ≡ Some field.name
   pub kind : shown.kind ≡ kind_number row.kind
+  pub start : shown.start ≡ first + length (bytes_of (take index fields))
+  pub len : shown.len ≡ length field.bytes
+  pub within : shown.start + shown.len ≤ length bytes
   pub bytes_there : take shown.len (drop shown.start bytes) ≡ field.bytes

@@ -1,9 +1,9 @@
 //! What follows from the contracts for a caller that calls again and again.
-ghost use Rattle.std.specs.Prelude.{◌≡◌, ◌≢◌, ◌<◌, ◌≤◌, ◌++◌, [], List, Bool, ℕ, Some, true, length, slice_get};
+ghost use Rattle.std.specs.Prelude.{◌≡◌, ◌≢◌, ◌<◌, ◌≤◌, ◌++◌, [], List, Bool, ℕ, Some, false, true, length, slice_get};
 ghost use Rattle.hart_frame.specs.heard.Character.{Character};
 ghost use Rattle.hart_frame.specs.heard.Frames.{AreFrames};
 ghost use Rattle.hart_frame.specs.declared.heard.found.Found.{Found};
-ghost use Rattle.hart_commands.specs.Fields.{command_name, reply_rows, request_rows};
+ghost use Rattle.hart_commands.specs.Fields.{command_name};
 ghost use Rattle.hart_commands.specs.ReplyData.{reply_reading};
 ghost use Rattle.hart_commands.specs.RequestData.{request_reading};
 ghost use Rattle.hart_commands.specs.declared.reply.Reply.{Reply};
@@ -35,16 +35,16 @@ pub fn devices_are_kept()
         → IsKept parts device state → IsKept parts device other → state ≡ other }
 {}
 
-/// Each place that is shown of data is that of the field of its index: it is meant as the row of that index in the table of fields says,
-/// and the field that has the row's name stands there.
+/// Each place that is shown of data is that of the field of its index: the field whose name is told at that index stands there, right after
+/// the fields before it and within the data, is as long as it is said to be, and is meant as its row in the table of fields says.
 pub fn fields_stand_where_they_are_shown()
     ensures requests { (command index : ℕ) (bytes : List ℕ) (before after : List HartField) (reading : HartReading) (shown : HartField)
         → RequestOutcome command bytes before after reading → index < reading.count → slice_get after index ≡ Some shown
-        → StandsAt (request_rows command) (request_fields command bytes (request_reading command bytes)) bytes index shown }
+        → StandsAt false command 0 (request_fields command bytes (request_reading command bytes)) bytes index shown }
     ensures replies { (command index : ℕ) (payload : List ℕ) (before after : List HartField) (reading : HartReading)
         (shown : HartField) (reply : Reply) → reply_reading command payload ≡ Some reply
         → ReplyOutcome command payload before after reading → index < reading.count → slice_get after index ≡ Some shown
-        → StandsAt (reply_rows command) (reply_fields command payload reply) payload index shown }
+        → StandsAt true command 2 (reply_fields command payload reply) payload index shown }
 {}
 
 /// Room for 16 fields is room for those of any data, and room for 64 bytes is room for any name.

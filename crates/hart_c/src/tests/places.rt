@@ -1,4 +1,4 @@
-//! A device all of whose numbers differ, so that none can stand in the place of another.
+//! A device whose numbers of one size differ, so that none can stand in the place of another.
 use super::*;
 
 /// Who it is.
@@ -94,7 +94,7 @@ const REGISTERS: HartRegisters = HartRegisters {
     ],
 };
 
-/// Each command that reads, and the reply, by the tables of docs/COMMANDS.md.
+/// Each command that reads and needs no tag, and the reply, by the tables of docs/COMMANDS.md.
 const REPLIES: &[(&[u8], &[u8])] = &[
     (
         &[
