@@ -1,9 +1,10 @@
--- The scanner: how frames are found while they are heard.
+-- How frames are found: by the scanner while they are heard, and in bytes where they lie.
 pub mod Scanner
 pub mod Chunk
 pub mod Streamed
 pub mod PlainAddress
 pub mod View
+pub mod Next
 pub mod Candidate
 pub mod Search
 pub mod Buffer

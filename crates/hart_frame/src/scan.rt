@@ -1,10 +1,11 @@
-//! The scanner: how frames are found while they are heard.
+//! How frames are found: by the scanner while they are heard, and in bytes where they lie.
 
 pub mod buffer;
 pub mod candidate;
 pub mod chunk;
 pub mod decision;
 pub mod first;
+pub mod next;
 pub mod plain_address;
 pub mod scanner;
 pub mod search;

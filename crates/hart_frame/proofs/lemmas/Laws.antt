@@ -1,11 +1,13 @@
 -- The laws of bodies, of frames, of scanners, of first starts and of damage, for the proofs of this crate and of those above.
-use Rattle.std.proofs.Common.{arith, ◌≡◌, ◌+◌, ◌≤◌, ◌⊎◌, ◌↔◌, ℕ, IsTrue, List, [], ◌∷◌, ◌++◌, drop, length, map, refl, sym}
-use Rattle.std.proofs.lemmas.List.{append-nil}
+use Rattle.std.proofs.Common.{arith, ◌≡◌, ◌+◌, ◌≤◌, ◌⊎◌, ◌↔◌, ℕ, Bool, false, IsTrue, List, [], ◌∷◌, ◌++◌, drop, length, map, refl, sym}
+use Rattle.std.proofs.Common.{append_assoc, length-append, subst}
+use Rattle.std.proofs.lemmas.List.{append-nil, drop-append-le}
 use Rattle.hart_values.proofs.lemmas.Laws.{address_bytes_are_unambiguous-one_list, address_bytes_are_unambiguous-one_reading}
 use Rattle.hart_frame.specs.heard.Character.{Character, faultless}
 use Rattle.hart_frame.specs.heard.Damage.{IsCheckDamage, IsMarkedDamage}
 use Rattle.hart_frame.specs.heard.Frames.{AreFrames, IsFirst, moved}
 use Rattle.hart_frame.specs.heard.Start.{HasNoStart, IsFirstStart}
+use Rattle.hart_frame.specs.scan.Next.{LeadsOn}
 use Rattle.hart_frame.specs.scan.Scanner.{Scan}
 use Rattle.hart_frame.specs.scan.Streamed.{IsHistory, IsWholeHistory}
 use Rattle.hart_frame.specs.wire.Body.{BeginsWithBody, IsBody}
@@ -15,6 +17,7 @@ use Rattle.hart_frame.specs.declared.heard.found.Found.{Found}
 use Rattle.hart_frame.proofs.lemmas.heard.Damage.{AreFrames-check, AreFrames-marked}
 use Rattle.hart_frame.proofs.lemmas.heard.FramesFound.{AreFrames-found}
 use Rattle.hart_frame.proofs.lemmas.heard.Message.{AreFrames-message, AreFrames-nothing}
+use Rattle.hart_frame.proofs.lemmas.heard.Place.{HasNoFrame-end}
 use Rattle.hart_frame.proofs.lemmas.heard.Rest.{rest_frames, rest_only}
 use Rattle.hart_frame.proofs.lemmas.heard.Start.{IsFirstStart-one, first_start_decided}
 use Rattle.hart_frame.proofs.lemmas.heard.UnambiguousFrames.{AreFrames-one, IsFirst-one}
@@ -68,6 +71,36 @@ pub held_characters_have_the_later_frames-later : (past more : List Character) (
     → IsHistory past scan given → (IsTrue scan.finished → more ≡ []) → AreFrames (drop scan.first past ++ more) 0 later
     → AreFrames (past ++ more) 0 (given ++ map (moved scan.first) later)
 held_characters_have_the_later_frames-later = history_rest frames_are_unambiguous-one_list
+
+pub next_frames_are_all-onward : (chars : List Character) (ended : Bool) (from to after : ℕ) (given found : List Found)
+    → LeadsOn chars ended from given to → LeadsOn chars ended to found after → LeadsOn chars ended from (given ++ found) after
+next_frames_are_all-onward chars ended from to after given found first second more later closed frames =
+    subst (AreFrames (chars ++ more) from) (sym (append_assoc given found later))
+    (first more (found ++ later) closed (second more later closed frames))
+
+pub next_frames_are_all-grown : (chars piece : List Character) (ended : Bool) (from to : ℕ) (given : List Found)
+    → LeadsOn chars false from given to → LeadsOn (chars ++ piece) ended from given to
+next_frames_are_all-grown chars piece ended from to given leads more later closed frames =
+    let all = append_assoc chars piece more in
+    let To : List Character → Type 0 = λ cs. AreFrames cs to later in
+    let From : List Character → Type 0 = λ cs. AreFrames cs from (given ++ later) in
+    subst From (sym all) (leads (piece ++ more) later (λ ends. absurd cc) (subst To all frames))
+
+pub next_frames_are_all-rest : (chars more : List Character) (ended : Bool) (given later : List Found) (to : ℕ) → to ≤ length chars
+    → LeadsOn chars ended 0 given to → (IsTrue ended → more ≡ []) → AreFrames (drop to chars ++ more) 0 later
+    → AreFrames (chars ++ more) 0 (given ++ map (moved to) later)
+next_frames_are_all-rest chars more ended given later to within leads closed frames =
+    let Of : List Character → Type 0 = λ cs. AreFrames cs 0 later in
+    leads more (map (moved to) later) closed
+    (rest_frames frames_are_unambiguous-one_list to (chars ++ more) later (subst Of (sym (drop-append-le to chars more within)) frames))
+
+pub next_frames_are_all-all : (chars : List Character) (ended : Bool) (given : List Found) → LeadsOn chars ended 0 given (length chars)
+    → AreFrames chars 0 given
+next_frames_are_all-all chars ended given leads =
+    let none : AreFrames (chars ++ []) (length chars) [] =
+    AreFrames.none (length chars) (HasNoFrame-end (chars ++ []) (length chars) (omega (arith, length-append chars ([])))) in
+    let Whole : List Character → Type 0 = λ cs. AreFrames cs 0 given in
+    subst Whole (append-nil chars) (subst (AreFrames (chars ++ []) 0) (append-nil given) (leads [] [] (λ _. refl) none))
 
 pub messages_have_their_frame_alone-message : (frame : FrameParts) (preambles : ℕ) (bytes : List ℕ) → 2 ≤ preambles
     → IsMessage frame preambles bytes

@@ -42,6 +42,10 @@ abbrev pub BeginWithNone : List Character → Type 0
 BeginWithNone chars = (frame : FrameParts) (body : List ℕ) (rest : List Character) → IsBody frame body
     → chars ≡ faultless (255 ∷ 255 ∷ body) ++ rest → ⊥
 
+-- Nothing follows that a frame can have: nothing at all, or a character with faults first.
+abbrev pub NothingFollows : List Character → Type 0
+NothingFollows chars = (chars ≡ []) ⊎ ((first : Character) × (rest : List Character) × (chars ≡ first ∷ rest) × (first.faults ≢ 0))
+
 -- Bytes never begin a frame if they begin with none, whatever is heard after them.
 abbrev pub NeverBegin : List ℕ → Type 0
 NeverBegin bytes = (more : List Character) → BeginWithNone (faultless bytes ++ more)

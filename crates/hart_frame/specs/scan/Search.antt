@@ -1,6 +1,7 @@
 -- What a search finds of frames in faultless bytes (own profile). For private calls alone.
-use Rattle.std.specs.Prelude.{◌≡◌, ◌≢◌, ℕ, ◌+◌, ◌<◌, ◌≤◌, ◌⊎◌, List, MatchOption, length, slice_index, take, drop}
-use Rattle.hart_frame.specs.scan.Candidate.{IsWhole, MayBegin, NeverBegin}
+use Rattle.std.specs.Prelude.{◌≡◌, ◌≢◌, ℕ, Bool, false, IsTrue, ◌+◌, ◌<◌, ◌≤◌, ◌⊎◌, List, ◌++◌, MatchOption, length, slice_index, take, drop}
+use Rattle.hart_frame.specs.heard.Character.{Character, faultless}
+use Rattle.hart_frame.specs.scan.Candidate.{BeginWithNone, IsWhole, MayBegin, NeverBegin, NothingFollows}
 use Rattle.hart_frame.specs.declared.scan.search.Sighting.{Sighting}
 
 -- No frame begins at the places of a list from one up to another, whatever is heard after the list.
@@ -38,6 +39,26 @@ pub record IsSearched (bytes : List ℕ) (from seen : ℕ) (found : Sighting) : 
   pub before : IsOpenBefore bytes from seen found.decided
   pub stands : MatchOption found.layout (IsOpenAll bytes found)
       (λ layout. IsWhole layout (drop found.place (take found.decided bytes)))
+
+-- No frame begins at the places of a list from one up to another, whatever follows the list; if it ended, nothing does that a frame can
+-- have.
+abbrev pub NoneBeginThen : List ℕ → Bool → ℕ → ℕ → Type 0
+NoneBeginThen bytes ended from to = (place : ℕ) → from ≤ place → place < to → (next : List Character)
+    → (IsTrue ended → NothingFollows next) → BeginWithNone (faultless (drop place bytes) ++ next)
+
+-- No frame is found from a place on if no byte is left there, or if those that are, fewer than two preamble bytes and the longest body
+-- have, may begin one and have not ended.
+abbrev pub IsLeftOpen : List ℕ → Bool → ℕ → Type 0
+IsLeftOpen bytes ended place =
+    (length bytes ≡ place) ⊎ ((length bytes < place + 269) × MayBegin (drop place bytes) × (ended ≡ false))
+
+-- A search of a list to its end, from a place on, finds a place of the list at or after it: no frame begins before it, and from there on
+-- the bytes begin with a frame, or no frame is found.
+pub record IsSearchedToEnd (bytes : List ℕ) (from : ℕ) (ended : Bool) (found : Sighting) : Type 0 where
+  pub after : from ≤ found.place
+  pub within : found.place ≤ length bytes
+  pub none : NoneBeginThen bytes ended from found.place
+  pub stands : MatchOption found.layout (IsLeftOpen bytes ended found.place) (λ layout. IsWhole layout (drop found.place bytes))
 
 -- No preamble byte stands in a list from a place on.
 abbrev pub HasNoPreamble : List ℕ → ℕ → Type 0

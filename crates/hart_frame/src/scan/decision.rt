@@ -6,7 +6,7 @@ ghost use Rattle.hart_frame.specs.scan.Scanner.{GivesNothing};
 ghost use Rattle.hart_frame.specs.declared.scan.buffer.State.TheVariants.{Busy};
 
 use crate::scan::buffer::{Buffer, Span, State};
-use crate::scan::search::{Sighting, search};
+use crate::scan::search::{Sighting, search_to_end};
 use crate::wire::layout::Layout;
 
 impl Buffer {
@@ -74,11 +74,6 @@ impl Buffer {
         requires sound { IsSound self.now }
         ensures { IsHeldSearched self.now result }
     {
-        let held = self.held();
-        let mut found = search(held, 0, 0);
-        while self.is_ended() && found.layout.is_none() && found.place < held.len() {
-            found = search(held, found.place + 1, found.place + 1);
-        }
-        found
+        search_to_end(self.held(), 0, self.is_ended())
     }
 }

@@ -1,6 +1,6 @@
 //! The search of frames in faultless bytes, where they lie.
 ghost use Rattle.std.specs.Prelude.{None, ◌≡◌, ◌≢◌, ◌<◌, ◌≤◌, ◌+◌, ℕ, All, MatchOption, length, slice_index, take};
-ghost use Rattle.hart_frame.specs.scan.Search.{HasNoPreamble, IsNextCandidate, IsSearched};
+ghost use Rattle.hart_frame.specs.scan.Search.{HasNoPreamble, IsNextCandidate, IsSearched, IsSearchedToEnd};
 
 use crate::scan::candidate::{Candidate, candidate_in};
 use crate::wire::layout::Layout;
@@ -44,6 +44,18 @@ pub(crate) fn search(bytes: &[u8], from: usize, seen: usize) -> Sighting
         }
     }
     open_at(bytes, bytes.len())
+}
+
+/// What the bytes from a place on hold of frames. If they ended, no byte can follow them, and what may begin a frame begins none.
+pub(crate) fn search_to_end(bytes: &[u8], from: usize, ended: bool) -> Sighting
+    requires { from ≤ length bytes.now }
+    ensures { IsSearchedToEnd bytes.now from ended result }
+{
+    let mut found = search(bytes, from, from);
+    while ended && found.layout.is_none() && found.place < bytes.len() {
+        found = search(bytes, found.place + 1, found.place + 1);
+    }
+    found
 }
 
 /// That all the bytes decide nothing from a place on.

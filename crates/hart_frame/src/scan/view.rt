@@ -9,7 +9,7 @@ use crate::wire::layout::Layout;
 use crate::{Expansion, Frame, FrameKind, Payload};
 use hart_values::{Address, MasterId};
 
-/// A frame whose expansion and payload lie in a scanner's buffer.
+/// A frame whose expansion and payload lie where it was found: in a scanner, or in bytes.
 #[derive(Drop)]
 pub struct FrameView<'a> {
     kind: FrameKind,
@@ -25,7 +25,7 @@ pub struct FrameView<'a> {
     ghost long_enough: { kind ≡ Ack → 2 ≤ length payload.now },
 }
 
-/// A frame that a scanner gives, and where it stands in what was heard.
+/// A frame that was found, and where it stands in what was heard.
 #[derive(Drop)]
 pub struct FoundView<'a> {
     /// The place of the delimiter, from 0.

@@ -13,7 +13,7 @@ use Rattle.hart_frame.specs.wire.Refusal.{HasCheckByte, HasDelimiter, HasGoodByt
 use Rattle.hart_frame.specs.heard.Character.{Character, faultless}
 use Rattle.hart_frame.specs.heard.Body.{bytes_of, BeginsWithHeard}
 use Rattle.hart_frame.specs.heard.Frames.{IsUndecided}
-use Rattle.hart_frame.specs.scan.Candidate.{BeginWithNone, IsBodyCandidate, IsCandidate, IsWholeBody, MayBegin, MayBeginBefore}
+use Rattle.hart_frame.specs.scan.Candidate.{BeginWithNone, IsBodyCandidate, IsCandidate, IsWholeBody, MayBegin, MayBeginBefore, NothingFollows}
 use Rattle.hart_frame.specs.scan.Candidate.{NeverBecomeBody, NeverBegin}
 use Rattle.hart_frame.specs.declared.wire.fault.FrameFault.TheVariants.{BadCheck, Truncated}
 use Rattle.hart_frame.specs.declared.wire.layout.Layout.{Layout}
@@ -56,10 +56,6 @@ never_more xs ys never more =
     let parts : faultless xs ++ (faultless ys ++ more) ≡ faultless (xs ++ ys) ++ more = grind (arith, append_assoc, map-append) in
     let None : List Character → Type 0 = λ cs. BeginWithNone cs in
     subst None parts (never (faultless ys ++ more))
-
--- nothing follows, or a character with faults does
-abbrev pub NothingFollows : List Character → Type 0
-NothingFollows tail = (tail ≡ []) ⊎ ((c : Character) × (cs : List Character) × (tail ≡ c ∷ cs) × (c.faults ≢ 0))
 
 -- a body does not reach past the end
 nothing_short : (xs : List ℕ) (tail : List Character) → IsTruncated xs → (f : FrameParts) (body : List ℕ)

@@ -1,18 +1,18 @@
 -- What is decided of a buffer, and what is given then.
-use Rattle.std.proofs.Common.{◌≡◌, ◌≢◌, ℕ, ◌+◌, ◌-◌, ◌<◌, ◌≤◌, ◌⊎◌, inl, inr, Bool, true, false, IsTrue, List, [], ◌∷◌, ◌++◌, length}
+use Rattle.std.proofs.Common.{◌≡◌, ◌≢◌, ℕ, ◌+◌, ◌-◌, ◌≤◌, ◌⊎◌, ◌↔◌, inl, inr, Bool, true, false, IsTrue, List, [], ◌∷◌, ◌++◌, length}
 use Rattle.std.proofs.Common.{take, drop, Option, Some, None, refl, sym, ap, ◌∙◌, arith, subst, append_assoc, length-append, length-drop}
 use Rattle.std.specs.List.{slice_range}
 use Rattle.std.specs.Option.{IfSome, MatchOption, is_some, option_to_list}
-use Rattle.std.proofs.lemmas.List.{drop-drop, drop_at, length-take-le, map-append, take-append-drop, take_at}
+use Rattle.std.proofs.lemmas.List.{drop-drop, drop_at, map-append, take_at}
 use Rattle.hart_frame.specs.wire.Body.{IsBody, IsCheckedPart}
 use Rattle.hart_frame.specs.wire.Layout.{body_length, layout_length}
 use Rattle.hart_frame.specs.heard.Character.{Character, faultless}
 use Rattle.hart_frame.specs.scan.Buffer.{IsEnded, IsSound, IsWaiting, held_bytes, is_drained, scan_of}
-use Rattle.hart_frame.specs.scan.Candidate.{BeginWithNone, IsWhole, IsWholeBody}
+use Rattle.hart_frame.specs.scan.Candidate.{BeginWithNone, IsWhole, IsWholeBody, NothingFollows}
 use Rattle.hart_frame.specs.scan.Chunk.{BeginsWithFrame}
-use Rattle.hart_frame.specs.scan.Decision.{GivesSpan, HoldsWhole, IsHeldOpen, IsHeldSearched, NoneBeginHeld}
+use Rattle.hart_frame.specs.scan.Decision.{GivesSpan, HoldsWhole, IsHeldOpen, IsHeldSearched}
 use Rattle.hart_frame.specs.scan.Scanner.{Scan, MovesPast, GivesNothing}
-use Rattle.hart_frame.specs.scan.Search.{IsOpenAll, IsSearched, NoneBegin}
+use Rattle.hart_frame.specs.scan.Search.{IsLeftOpen, IsSearchedToEnd}
 use Rattle.hart_frame.specs.declared.wire.layout.Layout.{Layout}
 use Rattle.hart_frame.specs.declared.scan.buffer.Buffer.{Buffer}
 use Rattle.hart_frame.specs.declared.scan.buffer.Span.{Span}
@@ -22,9 +22,7 @@ use Rattle.hart_frame.proofs.lemmas.wire.BodiesFound.{held_frame}
 use Rattle.hart_frame.proofs.lemmas.wire.Body.{IsBody-whole}
 use Rattle.hart_frame.proofs.lemmas.heard.Place.{preamble}
 use Rattle.hart_frame.proofs.lemmas.scan.Buffer.{held_passed, moves_passed, passed, waits}
-use Rattle.hart_frame.proofs.lemmas.scan.Candidate.{NothingFollows, nothing_open}
 use Rattle.hart_frame.proofs.lemmas.scan.Scan.{moves_drop, moves_frame, moves_none, moves_then}
-use Rattle.hart_frame.proofs.lemmas.scan.Search.{none_append, whole_append}
 use Rattle.hart_frame.proofs.lemmas.scan.Undecided.{nothing_before}
 
 -- after what is held nothing follows that a frame can have, if it is ended
@@ -37,76 +35,26 @@ ends_by None finished more faulty ended whole = grind arith
 pub not_ended : (b : Buffer) → (IsEnded b → ⊥) → (b.finished ≡ false) × (b.damaged ≡ None)
 not_ended b going = grind arith
 
--- no frame begins further on
-none_further : (b : Buffer) (from to : ℕ) → NoneBeginHeld b from → NoneBegin (held_bytes b) from to → NoneBeginHeld b to
-none_further b from to first second place below more ended =
-    let cases : (place < from) ⊎ (from ≤ place) = grind arith in
-    elim cases [
-      | inl early ↦ first place early more ended
-      | inr late ↦ second place late below (option_to_list b.damaged ++ more)
-    ]
+-- no frame is found in what is held
+left_open : (b : Buffer) (ended : Bool) (place : ℕ) → (IsEnded b → IsTrue ended) → IsLeftOpen (held_bytes b) ended place → IsHeldOpen b place
+left_open b ended place over left = grind (arith, not_ended)
 
--- what is found in what is held from a place on, before which no frame begins
-pub record IsLookedAt (b : Buffer) (found : Sighting) : Type 0 where
-  pub from : ℕ
-  pub none : NoneBeginHeld b from
-  pub searched : IsSearched (held_bytes b) from from found
+held_stands : (b : Buffer) (ended : Bool) (place : ℕ) (layout : Option Layout) → (IsEnded b → IsTrue ended)
+    → MatchOption layout (IsLeftOpen (held_bytes b) ended place) (λ l. IsWhole l (drop place (held_bytes b)))
+    → MatchOption layout (IsHeldOpen b place) (λ l. IsWhole l (drop place (held_bytes b)))
+held_stands b ended place None over left = left_open b ended place over left
+held_stands b ended place (Some layout) over whole = whole
 
--- so none begins before the place that was found
-pub none_found : (b : Buffer) (found : Sighting) → IsLookedAt b found → NoneBeginHeld b found.place
-none_found b found looked =
-    let held = held_bytes b in
-    let n = found.decided in
-    let is = looked.searched in
-    let parts : take n held ++ drop n held ≡ held = take-append-drop n held in
-    let None : List ℕ → Type 0 = λ xs. NoneBegin xs looked.from found.place in
-    none_further b looked.from found.place looked.none
-    (subst None parts (none_append (take n held) (drop n held) looked.from found.place
-    (omega (arith, is.order, length-take-le n held is.within)) is.none))
-
--- what may begin a frame begins none if nothing can follow
-pub looked_on : (b : Buffer) (old new : Sighting) → IsSound b → IsEnded b → IsLookedAt b old → old.layout ≡ None
-    → IsSearched (held_bytes b) (old.place + 1) (old.place + 1) new → IsLookedAt b new
-looked_on b old new sound ended looked none searched =
-    let Stands : Option Layout → Type 0 = λ layout. MatchOption layout (IsOpenAll (held_bytes b) old)
-    (λ l. IsWhole l (drop old.place (take old.decided (held_bytes b)))) in
-    let open_all = subst Stands none looked.searched.stands in
-    record {
-      from = old.place + 1;
-      none = λ here below more whole.
-          let cases : (here < old.place) ⊎ (here ≡ old.place) = grind arith in
-          let tail = option_to_list b.damaged ++ more in
-          let None : ℕ → Type 0 = λ n. BeginWithNone (faultless (drop n (held_bytes b)) ++ tail) in
-          elim cases [
-            | inl early ↦ none_found b old looked here early more whole
-            | inr same ↦
-                subst None (sym same) (nothing_open (drop old.place (held_bytes b)) tail open_all.2
-                (ends_by b.damaged b.finished more sound.stored.damage ended whole))
-          ];
-      searched = searched;
-    }
-
-held_stands : (b : Buffer) (found : Sighting) (layout : Option Layout) → found.place ≤ found.decided → found.decided ≤ length (held_bytes b)
-    → (IsEnded b → found.layout ≡ None → found.place < length (held_bytes b) → ⊥) → layout ≡ found.layout
-    → MatchOption layout (IsOpenAll (held_bytes b) found) (λ l. IsWhole l (drop found.place (take found.decided (held_bytes b))))
-    → MatchOption layout (IsHeldOpen b found.place) (λ l. IsWhole l (drop found.place (held_bytes b)))
-held_stands b found None order within last same opened = grind (arith, not_ended)
-held_stands b found (Some layout) order within last same whole =
-    let held = held_bytes b in
-    let n = found.decided in
-    let Whole : List ℕ → Type 0 = λ xs. IsWhole layout (drop found.place xs) in
-    subst Whole (take-append-drop n held)
-    (whole_append layout (take n held) (drop n held) found.place (omega (arith, order, length-take-le n held within)) whole)
-
--- what is found at last
-pub held_searched : (b : Buffer) (found : Sighting) → IsLookedAt b found
-    → (IsEnded b → found.layout ≡ None → found.place < length (held_bytes b) → ⊥) → IsHeldSearched b found
-held_searched b found looked last =
-    grind (
-      arith,
-      none_found b found looked,
-      held_stands b found found.layout looked.searched.order looked.searched.within last refl looked.searched.stands,
-    )
+-- what is found in what is held, searched to its end
+pub held_searched : (b : Buffer) (ended : Bool) (found : Sighting) → IsSound b → (IsTrue ended ↔ IsEnded b)
+    → IsSearchedToEnd (held_bytes b) 0 ended found → IsHeldSearched b found
+held_searched b ended found sound over is = record {
+  within = is.within;
+  none = λ place below more closed.
+      is.none place (omega arith) below (option_to_list b.damaged ++ more)
+      (λ last. ends_by b.damaged b.finished more sound.stored.damage (over.0 last) closed);
+  stands = held_stands b ended found.place found.layout over.1 is.stands;
+}
 
 -- a frame that begins what is held is given
 body_here : (b : Buffer) (layout : Layout) (whole : IsWhole layout (held_bytes b))

@@ -1,0 +1,121 @@
+-- The next frame of bytes, as that of a scanner that holds the rest of them.
+use Rattle.std.proofs.Common.{◌≡◌, ℕ, ◌+◌, ◌-◌, ◌≤◌, Bool, false, List, [], ◌∷◌, ◌++◌, Option, Some, None, length, take, drop, inl, inr}
+use Rattle.std.proofs.Common.{◌∙◌, ap, arith, append_assoc, length-append, length-drop, refl, subst, sym, take-append-drop}
+use Rattle.std.specs.List.{slice_range}
+use Rattle.std.specs.Option.{MatchOption}
+use Rattle.std.proofs.lemmas.List.{append-nil, drop-drop, drop_all, drop_at, length-map, length-take-le, map-append, take_at}
+use Rattle.hart_frame.specs.heard.Character.{Character, faultless}
+use Rattle.hart_frame.specs.heard.Frames.{IsUndecided}
+use Rattle.hart_frame.specs.wire.Body.{IsBody}
+use Rattle.hart_frame.specs.wire.FrameParts.{FrameParts}
+use Rattle.hart_frame.specs.wire.Layout.{layout_length}
+use Rattle.hart_frame.specs.scan.Candidate.{BeginWithNone, IsWhole}
+use Rattle.hart_frame.specs.scan.Next.{LeadsOn}
+use Rattle.hart_frame.specs.scan.Scanner.{CanHear, MovesPast, Scan}
+use Rattle.hart_frame.specs.scan.Search.{IsLeftOpen, IsSearchedToEnd, NoneBeginThen}
+use Rattle.hart_frame.specs.declared.heard.found.Found.{Found}
+use Rattle.hart_frame.specs.declared.wire.layout.Layout.{Layout}
+use Rattle.hart_frame.specs.declared.scan.search.Sighting.{Sighting}
+use Rattle.hart_frame.proofs.lemmas.scan.Candidate.{undecided_open}
+use Rattle.hart_frame.proofs.lemmas.scan.Scan.{moves_frame, moves_places, moves_then}
+
+-- a byte that was heard without faults
+abbrev of_byte : ℕ → Character
+of_byte byte = record { byte = byte; faults = 0 }
+
+-- a scanner that holds the bytes from a place on
+abbrev scan_at : List ℕ → Bool → ℕ → Scan
+scan_at bytes ended place = record { first = place; held = faultless (drop place bytes); finished = ended; drained = false }
+
+-- what it moves past are the next frames of the bytes
+leads_on : (bytes : List ℕ) (ended : Bool) (from to : ℕ) (given : List Found) → from ≤ length bytes
+    → MovesPast (scan_at bytes ended from) (scan_at bytes ended to) given → LeadsOn (faultless bytes) ended from given to
+leads_on bytes ended from to given within moves more later closed =
+    let all : faultless (take from bytes) ++ faultless (drop from bytes) ≡ faultless bytes =
+    sym (map-append of_byte (take from bytes) (drop from bytes)) ∙ ap faultless (take-append-drop from bytes) in
+    let hears : CanHear (scan_at bytes ended from) more (faultless bytes ++ more) = record {
+      prefix = faultless (take from bytes);
+      split = ap (λ (cs : List Character). cs ++ more) (sym all)
+          ∙ append_assoc (faultless (take from bytes)) (faultless (drop from bytes)) more;
+      place = length-map (take from bytes) of_byte ∙ length-take-le from bytes within;
+      ended = closed;
+    } in
+    moves.frames more (faultless bytes ++ more) later hears
+
+-- places are passed at which no frame begins
+moves_to : (bytes : List ℕ) (ended : Bool) (from to : ℕ) → from ≤ to → to ≤ length bytes → NoneBeginThen bytes ended from to
+    → MovesPast (scan_at bytes ended from) (scan_at bytes ended to) []
+moves_to bytes ended from to order within none =
+    let there : from + (to - from) ≡ to = omega (arith, order) in
+    moves_places (scan_at bytes ended from) (scan_at bytes ended to) (drop from bytes) [] (to - from)
+    (sym (append-nil (faultless (drop from bytes))))
+    (ap (λ (n : ℕ). faultless (drop n bytes)) (sym there) ∙ ap faultless (sym (drop-drop (to - from) from bytes))
+    ∙ sym (append-nil (faultless (drop (to - from) (drop from bytes)))))
+    (sym there) refl (omega (arith, within, length-drop from bytes))
+    (λ place below more closed.
+    subst (λ (xs : List ℕ). BeginWithNone (faultless xs ++ more)) (sym (drop-drop place from bytes))
+    (none (from + place) (omega arith) (omega (arith, below)) more (λ over. inl (closed over))))
+
+-- the body after two preamble bytes at a place, and what comes after it
+pub body_at_place : (bytes : List ℕ) (place len : ℕ) (layout : Layout) (whole : IsWhole layout (drop place bytes))
+    → len ≡ layout_length layout → slice_range bytes (place + 2) (place + 2 + len) ≡ whole.body
+body_at_place bytes place len layout whole same = grind (arith, drop-drop 2 place bytes, take_at)
+
+rest_at_place : (bytes : List ℕ) (place len : ℕ) (layout : Layout) (whole : IsWhole layout (drop place bytes))
+    → len ≡ layout_length layout → drop (place + 2 + len) bytes ≡ whole.rest
+rest_at_place bytes place len layout whole same =
+    ap (λ (n : ℕ). drop n bytes) (let there : place + 2 + len ≡ place + (2 + len) = omega arith in there)
+    ∙ sym (drop-drop (2 + len) place bytes) ∙ ap (drop (2 + len)) whole.parts
+    ∙ drop_at (255 ∷ 255 ∷ whole.body) whole.rest (2 + len) (omega (arith, same, whole.whole.exact))
+
+-- a layout that is found is that of the frame which stands at the place
+pub stands_by : (bytes : List ℕ) (from : ℕ) (ended : Bool) (found : Sighting) (layout : Layout) → IsSearchedToEnd bytes from ended found
+    → found.layout ≡ Some layout → IsWhole layout (drop found.place bytes)
+stands_by bytes from ended found layout is some =
+    let Of : Option Layout → Type 0 = λ l. MatchOption l (IsLeftOpen bytes ended found.place) (λ own. IsWhole own (drop found.place bytes)) in
+    subst Of some is.stands
+
+-- which ends within the bytes
+pub ends_within : (bytes : List ℕ) (place : ℕ) (layout : Layout) → IsWhole layout (drop place bytes)
+    → place + 2 + layout_length layout ≤ length bytes
+ends_within bytes place layout whole =
+    let size = ap length whole.parts ∙ length-append (255 ∷ 255 ∷ whole.body) whole.rest in
+    omega (arith, size, length-drop place bytes, whole.whole.exact)
+
+-- and is the next one
+pub leads_past : (bytes : List ℕ) (ended : Bool) (from len : ℕ) (found : Sighting) (layout : Layout) (frame : FrameParts)
+    → IsSearchedToEnd bytes from ended found → IsWhole layout (drop found.place bytes) → len ≡ layout_length layout
+    → IsBody frame (slice_range bytes (found.place + 2) (found.place + 2 + len))
+    → LeadsOn (faultless bytes) ended from
+    (record { start = found.place + 2; stop = found.place + 2 + len; frame = frame } ∷ []) (found.place + 2 + len)
+leads_past bytes ended from len found layout frame is whole same body =
+    let place = found.place in
+    let stop = place + 2 + len in
+    let Body : List ℕ → Type 0 = λ xs. IsBody frame xs in
+    let own = subst Body (body_at_place bytes place len layout whole same) body in
+    let held : faultless (drop place bytes) ≡ faultless (255 ∷ 255 ∷ whole.body) ++ faultless (drop stop bytes) =
+    ap faultless whole.parts ∙ map-append of_byte (255 ∷ 255 ∷ whole.body) whole.rest
+    ∙ ap (λ (xs : List ℕ). faultless (255 ∷ 255 ∷ whole.body) ++ faultless xs) (sym (rest_at_place bytes place len layout whole same)) in
+    leads_on bytes ended from stop _ (omega (arith, is.after, is.within))
+    (moves_then (scan_at bytes ended from) (scan_at bytes ended place) (scan_at bytes ended stop) _
+    (moves_to bytes ended from place is.after is.within is.none)
+    (moves_frame (scan_at bytes ended place) (scan_at bytes ended stop) frame whole.body held own
+    (omega (arith, same, whole.whole.exact)) refl))
+
+-- and if none is found, the next ones stand from the place on that is found
+pub leads_nowhere : (bytes : List ℕ) (ended : Bool) (from : ℕ) (found : Sighting) → IsSearchedToEnd bytes from ended found
+    → LeadsOn (faultless bytes) ended from [] found.place
+leads_nowhere bytes ended from found is =
+    leads_on bytes ended from found.place [] (omega (arith, is.after, is.within))
+    (moves_to bytes ended from found.place is.after is.within is.none)
+
+-- nothing is decided in what is left
+pub undecided_left : (bytes : List ℕ) (from : ℕ) (ended : Bool) (found : Sighting) → IsSearchedToEnd bytes from ended found
+    → found.layout ≡ None → IsUndecided (faultless (drop found.place bytes))
+undecided_left bytes from ended found is none =
+    let Of : Option Layout → Type 0 = λ l. MatchOption l (IsLeftOpen bytes ended found.place) (λ own. IsWhole own (drop found.place bytes)) in
+    let rest = drop found.place bytes in
+    elim (subst Of none is.stands) [
+      | inl end ↦ undecided_open rest (inl (drop_all found.place bytes (omega (arith, end))))
+      | inr left ↦ undecided_open rest left.1
+    ]
