@@ -2,13 +2,13 @@
 use Rattle.std.proofs.Common.{◌≡◌, ◌+◌, ◌-◌, ◌<◌, ◌≤◌, ◌⊎◌, false, Bool, ℕ, IsTrue, List, [], ◌∷◌, ◌++◌, All, arith, ap, sym, subst}
 use Rattle.std.proofs.Common.{◌∙◌, append_assoc, drop, inl, inr, length, map, slice_index_or, take}
 use Rattle.std.proofs.lemmas.Bool.{false≢true}
-use Rattle.std.proofs.lemmas.List.{append-nil, drop-append-le, drop-drop, length-map, length-take, map-append, take-append-drop}
+use Rattle.std.proofs.lemmas.List.{append-nil, drop-append-le, drop-drop, length-take, map-append, take-append-drop}
 use Rattle.std.proofs.lemmas.List.{take-map, take_more}
-use Rattle.std.proofs.Math.Seq.{drop-length, take-add, take-length}
-use Rattle.hart_frame.specs.heard.Character.{Character, faultless}
+use Rattle.std.proofs.Math.Seq.{drop-length, take-length}
+use Rattle.hart_frame.specs.heard.Character.{Character}
 use Rattle.hart_frame.specs.heard.Frames.{AreFrames, IsUndecided, moved, none}
-use Rattle.hart_frame.specs.scan.Scanner.{MovesPast, Scan, hearing}
-use Rattle.hart_frame.specs.scan.Streamed.{IsHistory, push, push_bytes}
+use Rattle.hart_frame.specs.scan.Scanner.{Scan, hearing}
+use Rattle.hart_frame.specs.scan.Streamed.{IsHistory, push}
 use Rattle.hart_frame.specs.declared.heard.found.Found.{Found}
 use Rattle.hart_frame.proofs.lemmas.Laws.{frames_are_streamed-pushed, frames_are_unambiguous-one_list}
 use Rattle.hart_frame.proofs.lemmas.Laws.{held_characters_have_the_later_frames-held, held_characters_have_the_later_frames-later}
@@ -18,23 +18,6 @@ use Rattle.hart_c.specs.declared.find.HartSearch.{HartSearch}
 use Rattle.hart_c.specs.declared.frame.HartFrame.{HartFrame}
 use Rattle.hart_c.specs.Find.{AreNext, Finds, char_of}
 use Rattle.hart_c.specs.Frames.{IsTidy, found_in_first}
-
--- a faultless character of a byte
-abbrev of_byte : ℕ → Character
-of_byte byte = record { byte = byte; faults = 0 }
-
--- a further part was heard
-pub history_more : (n m : ℕ) (run rest : List ℕ) (old new : Scan) (given : List Found) → rest ≡ drop n run → old.finished ≡ false
-    → IsHistory (take n (faultless run)) old given → MovesPast (hearing old (faultless (take m rest))) new []
-    → new.finished ≡ old.finished → IsHistory (take (n + m) (faultless run)) new given
-history_more n m run rest old new given is going history moves finished =
-    let Of : List Character → Type 0 = λ past. IsHistory past new given in
-    let same : take n (faultless run) ++ faultless (take m rest) ≡ take (n + m) (faultless run) =
-    ap (λ (cs : List Character). cs ++ faultless (take m rest)) (take-map of_byte n run)
-    ∙ sym (map-append of_byte (take n run) (take m rest))
-    ∙ ap (λ (ys : List ℕ). faultless (take n run ++ take m ys)) is
-    ∙ ap faultless (sym (take-add n m run)) ∙ sym (take-map of_byte (n + m) run) in
-    subst Of same (push_bytes (take n (faultless run)) old new given (take m rest) history going moves finished)
 
 -- a further character was heard
 pub history_one : (n : ℕ) (heard : List HartChar) (other : HartChar) (character : Character) (old new : Scan) (shown : List Found)
@@ -158,10 +141,6 @@ finds_all n count chars ended before after search used_is count_is fault whole r
       few = λ fewer. omega (arith, used_is);
       all = λ fewer closed. used_is;
     }
-
--- bytes are as many characters
-pub bytes_length : (run : List ℕ) → length (faultless run) ≡ length run
-bytes_length run = length-map run of_byte
 
 -- so many of all are all
 pub take_all : (n : ℕ) (chars : List Character) → n ≡ length chars → take n chars ≡ chars

@@ -1,5 +1,6 @@
 mod Shown
 mod Found
+mod Nexts
 mod Searches
 mod Placed
 mod Said

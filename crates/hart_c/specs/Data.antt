@@ -74,9 +74,9 @@ ReplyShown command payload None before after reading =
 abbrev pub ReplyOutcome : ℕ → List ℕ → List HartField → List HartField → HartReading → Type 0
 ReplyOutcome command payload = ReplyShown command payload (reply_reading command payload)
 
--- A place that is shown of bytes is that of the field of its index. The field has the name that is told at that index, and is meant as
--- the row of it says. It starts right after the fields before it, of which the first starts at a place; it is as long as it is said to be,
--- and lies within the bytes; and there stand the bytes of the field.
+-- A place that is shown of bytes is that of the field of its index. The field has the name that is told at that index, and the kind that
+-- is shown is the number of the kind of the row of that index. The field starts right after those before it, of which the first starts at
+-- a place; it is as long as it is said to be, and lies within the bytes; and there stand its bytes.
 pub record StandsAt (is_reply : Bool) (command first : ℕ) (fields : List Field) (bytes : List ℕ) (index : ℕ) (shown : HartField)
     : Type 0 where
   pub row : Row

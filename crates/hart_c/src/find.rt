@@ -1,5 +1,5 @@
 //! The frames of what was heard, some at a time.
-ghost use Rattle.std.specs.Prelude.{◌≡◌, ◌↔◌, ◌<◌, ◌≤◌, ℕ, false, true, List, IsTrue, All, drop, length, take};
+ghost use Rattle.std.specs.Prelude.{◌≡◌, ◌<◌, ◌≤◌, ℕ, false, true, List, IsTrue, All, drop, length, take};
 ghost use Rattle.hart_frame.specs.heard.Character.{AreFaultBits, Character, faultless};
 ghost use Rattle.hart_frame.specs.heard.Frames.{IsUndecided};
 ghost use Rattle.hart_frame.specs.scan.Streamed.{IsHistory, IsWholeHistory};
@@ -9,7 +9,8 @@ ghost use Rattle.hart_c.specs.Frames.{IsTidy, found_in, found_in_first};
 
 use crate::fault::{HART_BAD_FAULT_BITS, HART_OK};
 use crate::frame::{HartFrame, show_found};
-use hart_frame::{Char, Scanner};
+use crate::heard::have_fault_bits;
+use hart_frame::{Char, Scanner, next_in_bytes};
 
 /// What a search came to.
 #[repr(C)]
@@ -43,14 +44,29 @@ pub extern "C" fn hart_find_in_bytes(
 ) -> HartSearch
     ensures { Finds (faultless bytes.now) ended frames.old frames.new result }
 {
-    let mut scanner = Scanner::new();
-    let mut taken = 0;
+    let mut used = 0;
     let mut count = 0;
-    while taken < bytes.len() && count < frames.len() {
-        taken += scanner.push_bytes(&bytes[taken..]);
-        count = fill(&mut scanner, frames, count);
+    while count < frames.len() {
+        let next = next_in_bytes(bytes, used, ended);
+        used = next.used;
+        let Some(found) = next.frame else {
+            return found_so_far(used, count);
+        };
+        show_found(&found, &mut frames[count]);
+        count += 1;
     }
-    settle(&mut scanner, ended, bytes.len(), frames, count)
+    found_so_far(used, count)
+}
+
+/// That so many characters are used up, and so many frames were found.
+fn found_so_far(used: usize, count: usize) -> HartSearch
+    ensures { result ≡ record { used = used; count = count; fault = 0 } }
+{
+    HartSearch {
+        used,
+        count,
+        fault: HART_OK,
+    }
 }
 
 /// Finds the next frames of characters that were heard, each with its fault bits, as [`hart_find_in_bytes`] does.
@@ -80,17 +96,8 @@ pub extern "C" fn hart_find(heard: &[HartChar], ended: bool, frames: &mut [HartF
     settle(&mut scanner, ended, heard.len(), frames, count)
 }
 
-/// Whether no character has another bit than fault bits.
-fn have_fault_bits(heard: &[HartChar]) -> bool
-    ensures { IsTrue result ↔ All (λ given. AreFaultBits given.faults) heard.now }
-{
-    heard
-        .iter()
-        .all(|given| Char::new(given.byte, given.faults).is_some())
-}
-
 /// The character that was passed.
-fn char_of(given: &HartChar) -> Char
+pub(crate) fn char_of(given: &HartChar) -> Char
     requires { AreFaultBits given.now.faults }
     ensures { result ≡ char_of given.now }
 {

@@ -1,11 +1,10 @@
 //! What is heard at once, as a caller in C passes it.
-ghost use Rattle.std.specs.Prelude.{◌≡◌, ◌≤◌, ◌↔◌, All, IfErr, IfOk, IsTrue, map, take};
-ghost use Rattle.hart_frame.specs.heard.Character.{AreFaultBits};
+ghost use Rattle.std.specs.Prelude.{◌≡◌, ◌≤◌, ◌↔◌, IfErr, IfOk, IsTrue, map, take};
 ghost use Rattle.hart_c.specs.Find.{char_of};
-ghost use Rattle.hart_c.specs.Heard.{IsDelivery, IsHeardFault};
+ghost use Rattle.hart_c.specs.Heard.{HaveFaultBits, IsDelivery, IsHeardFault};
 
 use crate::fault::Fault;
-use crate::find::HartChar;
+use crate::find::{HartChar, char_of};
 use hart_frame::Char;
 
 /// The most characters that are heard at once.
@@ -42,7 +41,7 @@ pub(crate) fn delivery_of(heard: &[HartChar]) -> Result<Delivery, Fault>
     }
     let mut chars = [Char::new(0, 0).unwrap(); MOST_CHARACTERS];
     for (place, given) in heard.iter().enumerate() {
-        chars[place] = Char::new(given.byte, given.faults).unwrap();
+        chars[place] = char_of(given);
     }
     Ok(Delivery {
         chars,
@@ -51,8 +50,8 @@ pub(crate) fn delivery_of(heard: &[HartChar]) -> Result<Delivery, Fault>
 }
 
 /// Whether no character has another bit than fault bits.
-fn have_fault_bits(heard: &[HartChar]) -> bool
-    ensures { IsTrue result ↔ All (λ given. AreFaultBits given.faults) heard.now }
+pub(crate) fn have_fault_bits(heard: &[HartChar]) -> bool
+    ensures { IsTrue result ↔ HaveFaultBits heard.now }
 {
     heard
         .iter()

@@ -1,79 +1,82 @@
-use Rattle.std.proofs.Common.{◌-◌, ◌∙◌, ◌<◌, ◌≡◌, [], refl, arith, ap, drop, length, subst, sym, take}
-use Rattle.std.proofs.lemmas.List.{length-drop, length-take, take_rest}
+use Rattle.std.proofs.Common.{◌≡◌, ◌+◌, ◌∙◌, ◌++◌, [], ◌∷◌, List, ap, arith, refl, subst, sym}
+use Rattle.std.proofs.lemmas.List.{append-nil, drop-set-lt, length-set}
 use Rattle.hart_frame.specs.heard.Character.{faultless}
-use Rattle.hart_frame.specs.heard.Frames.{IsUndecided}
-use Rattle.hart_frame.specs.scan.Scanner.{Scan}
-use Rattle.hart_frame.specs.scan.Streamed.{IsHistory, begin}
-use Rattle.hart_c.proofs.Found.{bytes_length, history_more, nothing_undecided, untouched_on}
-use Rattle.hart_frame.proofs.lemmas.Laws.{frames_are_streamed-pushed}
-use Rattle.hart_c.proofs.find.hart_find_in_bytes.Goals.{then-loop-taken-test+else-count-frames, else-loop-taken-test}
+use Rattle.hart_frame.specs.scan.Next.{LeadsOn, frames_of}
+use Rattle.hart_frame.specs.scan.View.{found_of}
+use Rattle.hart_frame.specs.declared.heard.found.Found.{Found}
+use Rattle.hart_frame.proofs.lemmas.Laws.{next_frames_are_all-onward}
+use Rattle.hart_c.specs.declared.find.HartSearch.{HartSearch}
+use Rattle.hart_c.specs.Find.{Finds}
+use Rattle.hart_c.specs.Frames.{found_in_first}
+use Rattle.hart_c.proofs.Nexts.{IsFound, finds_next}
+use Rattle.hart_c.proofs.Shown.{later_untouched, shown_more, tidy_more}
 use Rattle.hart_c.proofs.find.hart_find_in_bytes.Goals as goal
 
-pub loop-taken-init : goal.loop-taken-init
-loop-taken-init c = record {
-  within = omega arith;
+pub loop-count-init : goal.loop-count-init
+loop-count-init c = record {
   len = refl;
   room = omega arith;
+  within = omega arith;
   untouched = refl;
   tidy = λ k d none. absurd (omega (arith, none));
-  going = ap (λ (scan : Scan). scan.finished) c.new-scanner.ensures;
-  drained = λ _. ap (λ (scan : Scan). scan.drained) c.new-scanner.ensures;
-  undecided = λ _. subst (λ (scan : Scan). IsUndecided scan.held) (sym c.new-scanner.ensures) nothing_undecided;
-  history = subst (λ (scan : Scan). IsHistory [] scan []) (sym c.new-scanner.ensures) begin;
+  leads = λ more later closed frames. frames;
 }
 
-pub push_bytes-taken-requires-clause-room : goal.push_bytes-taken-requires-clause-room
-push_bytes-taken-requires-clause-room c =
-    let loop = c.loop-taken.invariant in
-    let run = c.args.bytes.now in
-    let n = c.loop-taken.taken in
-    let long = ap length (take_rest run n) ∙ length-drop n run in
-    let held = frames_are_streamed-pushed _ c.loop-taken.scanner _ loop.history in
-    let taken = length-take n (faultless run) in
-    omega (arith, long, held, taken, bytes_length run, loop.within, c.type_inv.bytes)
-
-pub loop-taken-preserved : goal.loop-taken-preserved
-loop-taken-preserved c =
-    let loop = c.loop-taken.invariant in
-    let run = c.args.bytes.now in
-    let n = c.loop-taken.taken in
-    let rest = take_rest run n in
-    let push = c.push_bytes-taken.ensures in
-    let fill = c.fill-count.ensures in
-    let going = push.finished ∙ loop.going in
-    let history = history_more n c.push_bytes-taken.result run (take (length run - n) (drop n run)) c.loop-taken.scanner
-    c.push_bytes-taken.new.self _ rest loop.going loop.history push.moves push.finished in
-    let long = ap length rest ∙ length-drop n run in
+pub loop-count-preserved : goal.loop-count-preserved
+loop-count-preserved c =
+    let loop = c.loop-count.invariant in
+    let count = c.loop-count.count in
+    let frames = c.loop-count.frames in
+    let frame = c.show_found.new.frame in
+    let next = c.next_in_bytes-next in
+    let len = length-set frames count frame in
+    let Leads : List Found → Type 0 = λ given. LeadsOn (faultless c.args.bytes.now) c.args.ended 0 given next.result.used in
+    let given = found_in_first count frames in
+    let leads : Leads (given ++ frames_of next.result.frame) =
+    next_frames_are_all-onward (faultless c.args.bytes.now) c.args.ended 0 c.loop-count.used next.result.used given _ loop.leads
+    next.ensures.frames in
+    let one : frames_of next.result.frame ≡ found_of c.in-Some.found ∷ [] = ap frames_of c.in-Some.is in
     record {
-      within = omega (arith, loop.within, push.within, long);
-      len = fill.len ∙ loop.len;
-      room = fill.within;
-      untouched = fill.untouched
-          ∙ untouched_on c.loop-taken.count c.fill-count.result c.loop-taken.frames c.args.frames.now fill.onward loop.untouched;
-      tidy = fill.tidy loop.tidy;
-      going = fill.going going;
-      drained = λ fewer. fill.waits fewer going;
-      undecided = λ fewer. fill.undecided fewer going;
-      history = fill.so_far _ history (λ _. going);
+      len = len ∙ loop.len;
+      room = omega (arith, len, c.loop-count-test.true);
+      within = next.ensures.within;
+      untouched = drop-set-lt (count + 1) frames count frame (omega arith) ∙ later_untouched count frames c.args.frames.now loop.untouched;
+      tidy = tidy_more count frames frame c.loop-count-test.true c.show_found.ensures.tidy loop.tidy;
+      leads = subst Leads (sym (shown_more count frames frame (found_of c.in-Some.found) c.loop-count-test.true c.show_found.ensures.found))
+          (subst Leads (ap (λ (fs : List Found). given ++ fs) one) leads);
     }
+
+pub returns-in_default : goal.returns-in_default
+returns-in_default c =
+    let loop = c.loop-count.invariant in
+    let next = c.next_in_bytes-next in
+    let bytes = c.args.bytes.now in
+    let given = found_in_first c.loop-count.count c.loop-count.frames in
+    let Leads : List Found → Type 0 = λ found. LeadsOn (faultless bytes) c.args.ended c.loop-count.used found next.result.used in
+    let Outcome : HartSearch → Type 0 = λ search. Finds (faultless bytes) c.args.ended c.args.frames.now c.loop-count.frames search in
+    let leads = next_frames_are_all-onward (faultless bytes) c.args.ended 0 c.loop-count.used next.result.used given [] loop.leads
+    (subst Leads (ap frames_of c.in_default.is) next.ensures.frames) in
+    let found : IsFound bytes c.args.ended c.args.frames.now c.loop-count.frames next.result.used c.loop-count.count = record {
+      len = loop.len;
+      room = loop.room;
+      within = next.ensures.within;
+      untouched = loop.untouched;
+      tidy = loop.tidy;
+      leads = subst (λ (given : List Found). LeadsOn (faultless bytes) c.args.ended 0 given next.result.used) (append-nil given) leads;
+    } in
+    subst Outcome (sym c.found_so_far.ensures)
+    (finds_next bytes c.args.ended c.args.frames.now c.loop-count.frames next.result.used c.loop-count.count found
+    (λ _. record {
+      few = next.ensures.few c.in_default.is;
+      all = next.ensures.all c.in_default.is;
+      undecided = next.ensures.undecided c.in_default.is;
+    }))
 
 pub returns : goal.returns
 returns c =
-    let loop = c.loop-taken.invariant in
-    let run = c.args.bytes.now in
-    let n = c.loop-taken.taken in
-    let all = bytes_length run in
-    let whole : c.loop-taken.count < length c.loop-taken.frames → n ≡ length (faultless run) = elim c.loop-taken-test.branch [
-      | then-loop-taken-test+else-count-frames w ↦ λ fewer. absurd (omega (arith, w.if-count-frames.false, fewer))
-      | else-loop-taken-test w ↦ λ _. omega (arith, w.loop-taken-test.false, loop.within, all)
-    ] in
-    c.settle.ensures n (faultless run) c.args.frames.now (sym all) (record {
-      within = omega (arith, loop.within, all);
-      room = loop.room;
-      untouched = loop.untouched;
-      tidy = loop.tidy;
-      going = loop.going;
-      history = loop.history;
-      whole = whole;
-      undecided = loop.undecided;
-    })
+    let loop = c.loop-count.invariant in
+    let Outcome : HartSearch → Type 0 =
+    λ search. Finds (faultless c.args.bytes.now) c.args.ended c.args.frames.now c.loop-count.frames search in
+    subst Outcome (sym c.found_so_far-2.ensures)
+    (finds_next c.args.bytes.now c.args.ended c.args.frames.now c.loop-count.frames c.loop-count.used c.loop-count.count loop
+    (λ fewer. absurd (omega (arith, fewer, c.loop-count-test.false))))

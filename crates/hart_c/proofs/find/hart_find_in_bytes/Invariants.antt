@@ -1,22 +1,9 @@
-use Rattle.std.proofs.Common.{◌≡◌, ◌<◌, ◌≤◌, ◌-◌, false, IsTrue, All, drop, length, take}
-use Rattle.hart_frame.specs.heard.Character.{faultless}
-use Rattle.hart_frame.specs.heard.Frames.{IsUndecided}
-use Rattle.hart_frame.specs.scan.Streamed.{IsHistory}
-use Rattle.hart_c.specs.Frames.{IsTidy, found_in_first}
+use Rattle.std.proofs.Common.{◌-◌, length}
+use Rattle.hart_c.proofs.Nexts.{IsFound}
 use Rattle.hart_c.proofs.find.hart_find_in_bytes.Given as goal
 
-abbrev pub invariant-loop-taken : goal.invariant-loop-taken
-invariant-loop-taken l = record {
-  within : l.taken ≤ length l.bytes;
-  len : length l.frames ≡ length l.initial.frames;
-  room : l.count ≤ length l.frames;
-  untouched : drop l.count l.frames ≡ drop l.count l.initial.frames;
-  tidy : All IsTidy (take l.count l.frames);
-  going : l.scanner.finished ≡ false;
-  drained : l.count < length l.frames → IsTrue l.scanner.drained;
-  undecided : l.count < length l.frames → IsUndecided l.scanner.held;
-  history : IsHistory (take l.taken (faultless l.bytes)) l.scanner (found_in_first l.count l.frames);
-}
+abbrev pub invariant-loop-count : goal.invariant-loop-count
+invariant-loop-count l = IsFound l.bytes l.ended l.initial.frames l.frames l.used l.count
 
-abbrev pub decreases-loop-taken : goal.decreases-loop-taken
-decreases-loop-taken l = length l.bytes - l.taken
+abbrev pub decreases-loop-count : goal.decreases-loop-count
+decreases-loop-count l = length l.frames - l.count

@@ -1,0 +1,49 @@
+-- What is found in bytes, one frame after another.
+use Rattle.std.proofs.Common.{◌≡◌, ◌+◌, ◌<◌, ◌≤◌, false, Bool, ℕ, IsTrue, List, All, arith, drop, length, refl, subst, sym, take}
+use Rattle.std.proofs.lemmas.List.{drop-map, length-map}
+use Rattle.hart_frame.specs.heard.Character.{Character, faultless}
+use Rattle.hart_frame.specs.heard.Frames.{IsUndecided}
+use Rattle.hart_frame.specs.scan.Next.{LeadsOn}
+use Rattle.hart_frame.proofs.lemmas.Laws.{next_frames_are_all-rest}
+use Rattle.hart_c.specs.declared.frame.HartFrame.{HartFrame}
+use Rattle.hart_c.specs.Find.{Finds}
+use Rattle.hart_c.specs.Frames.{IsTidy, found_in_first}
+
+-- a byte that was heard without faults
+abbrev of_byte : ℕ → Character
+of_byte byte = record { byte = byte; faults = 0 }
+
+-- so many frames of bytes are shown, and so many bytes are used up
+pub record IsFound (bytes : List ℕ) (ended : Bool) (before after : List HartFrame) (used count : ℕ) : Type 0 where
+  pub len : length after ≡ length before
+  pub room : count ≤ length after
+  pub within : used ≤ length bytes
+  pub untouched : drop count after ≡ drop count before
+  pub tidy : All IsTidy (take count after)
+  pub leads : LeadsOn (faultless bytes) ended 0 (found_in_first count after) used
+
+-- what is left of bytes in which no more frames are found
+pub record IsLeft (bytes : List ℕ) (ended : Bool) (used : ℕ) : Type 0 where
+  pub few : length bytes < used + 269
+  pub all : IsTrue ended → used ≡ length bytes
+  pub undecided : ended ≡ false → IsUndecided (faultless (drop used bytes))
+
+-- what a search comes to that has no more room, or finds no more frames
+pub finds_next : (bytes : List ℕ) (ended : Bool) (before after : List HartFrame) (used count : ℕ)
+    → IsFound bytes ended before after used count → (count < length after → IsLeft bytes ended used)
+    → Finds (faultless bytes) ended before after (record { used = used; count = count; fault = 0 })
+finds_next bytes ended before after used count found left =
+    let size = length-map bytes of_byte in
+    let within : used ≤ length (faultless bytes) = omega (arith, size, found.within) in
+    record {
+      within = found.room;
+      untouched = found.untouched;
+      tidy = found.tidy;
+      used = within;
+      are_next = λ more later closed frames.
+          next_frames_are_all-rest (faultless bytes) more ended (found_in_first count after) later used within found.leads closed frames;
+      few = λ fewer. omega (arith, size, (left fewer).few);
+      all = λ fewer ends. omega (arith, size, (left fewer).all ends);
+      undecided = λ fewer going. subst IsUndecided (sym (drop-map of_byte used bytes)) ((left fewer).undecided going);
+      fault = refl;
+    }
