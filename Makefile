@@ -77,7 +77,8 @@ install-library: library
 	install -d $(PREFIX)/include $(PREFIX)/lib/pkgconfig
 	install -m 644 include/hart.h $(PREFIX)/include/hart.h
 	install -m 644 build/libhart.a $(PREFIX)/lib/libhart.a
-	install -m 755 build/libhart.so $(PREFIX)/lib/libhart.so
+	install -m 755 build/libhart.so.0 $(PREFIX)/lib/libhart.so.0
+	ln -sf libhart.so.0 $(PREFIX)/lib/libhart.so
 	sed 's|@PREFIX@|$(PREFIX)|' include/hart.pc.in >$(PREFIX)/lib/pkgconfig/hart.pc
 
 clean:

@@ -65,6 +65,9 @@ talk() {
 
 build messages
 hold "$work/messages"
+$cc -std=c11 $strict -Iinclude examples/c/messages.c -L"$work" -lhart -o "$work/messages_shared"
+readelf -d "$work/messages_shared" | grep -qF '[libhart.so.0]'
+hold env LD_LIBRARY_PATH="$work" "$work/messages_shared"
 build device
 talk
 if build messages -fsanitize=address,undefined 2>"$work/said"; then

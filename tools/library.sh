@@ -1,6 +1,7 @@
 #!/bin/sh
 # Makes libhart.a and libhart.so of the proved static library of hart_c, with what it needs of the toolchain's C library in them. They
-# offer the calls of include/hart.h and no other symbol.
+# offer the calls of include/hart.h and no other symbol. libhart.so is a link to libhart.so.0, whose number grows when a program that was
+# built before would not run with it.
 #
 # Usage: tools/library.sh FOLDER; the folder is where both are put.
 set -eu
@@ -23,6 +24,7 @@ rm -f "$work/libhart.a"
 ar rcs "$work/libhart.a" "$work/hart.o"
 
 printf '{ global: hart_*; local: *; };\n' >"$work/hart.map"
-"$cc" -shared -Wl,-z,text -Wl,--no-undefined -Wl,-soname,libhart.so "-Wl,--version-script=$work/hart.map" -o "$work/libhart.so" \
+"$cc" -shared -Wl,-z,text -Wl,--no-undefined -Wl,-soname,libhart.so.0 "-Wl,--version-script=$work/hart.map" -o "$work/libhart.so.0" \
     -Wl,--whole-archive "$work/libhart.a" -Wl,--no-whole-archive
-cp "$work/libhart.a" "$work/libhart.so" "$folder"
+cp "$work/libhart.a" "$work/libhart.so.0" "$folder"
+ln -sf libhart.so.0 "$folder/libhart.so"
