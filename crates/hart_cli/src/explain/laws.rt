@@ -4,7 +4,7 @@ ghost use Rattle.std.specs.Prelude.{length, set};
 ghost use Rattle.std.specs.List.{flat_map};
 ghost use Rattle.hart_frame.specs.heard.Character.{Character, faultless};
 ghost use Rattle.hart_frame.specs.heard.Frames.{AreFrames};
-ghost use Rattle.hart_frame.specs.heard.InTheWay.{HasFaultsAt, IsInTheWay, bytes_from};
+ghost use Rattle.hart_frame.specs.heard.InTheWay.{FollowsOnePreamble, HasBodyAt, HasFaultsAt, IsInTheWay, bytes_from};
 ghost use Rattle.hart_frame.specs.heard.Miss.{HasFrameUpTo, miss_of};
 ghost use Rattle.hart_frame.specs.heard.Start.{IsStart};
 ghost use Rattle.hart_frame.specs.declared.heard.found.Found.{Found};
@@ -63,7 +63,9 @@ pub fn every_start_outside_messages_has_one_line()
 /// Where a body may start, in the list from the end of the last message on, the reason that a line gives is in the way in the characters
 /// of the whole input, with its place in them, and that is the place told. With the byte that would fit at the place told, a frame stands
 /// at the place of the line, and ends with it. The character at the place told has the fault bits told. Whatever bytes come for all that
-/// are missing but the last, with their check byte as the last a frame stands at the place of the line, and ends with it.
+/// are missing but the last, with their check byte as the last a frame stands at the place of the line, and ends with it. Where only one
+/// `FF` is said to stand, one alone stands right before the place of the line, in the list from the end of the last message on, and a
+/// whole body there.
 pub fn hints_of_explanations_are_right()
     ensures in_the_way { (chars : List Character) (from stop place : ℕ) (miss : Miss) → All (λ character. character.byte < 256) chars
         → Contains (missed chars from stop) (record { place = place; miss = miss }) → IsStart (place - from) (drop from chars)
@@ -81,6 +83,9 @@ pub fn hints_of_explanations_are_right()
         → Contains (missed chars from stop) (record { place = place; miss = Missing count }) → count ≡ length bytes + 1
         → (last : ℕ) × IsCheckByte (bytes_from chars place ++ bytes) last
         × HasFrameUpTo (chars ++ faultless (bytes ++ last ∷ [])) place (length chars + count) }
+    ensures alone { (chars : List Character) (from stop place : ℕ) → All (λ character. character.byte < 256) chars
+        → Contains (missed chars from stop) (record { place = place; miss = OnePreamble })
+        → FollowsOnePreamble (drop from chars) (place - from) × HasBodyAt chars place }
 {
     every_start_has_a_frame_or_a_miss();
     misses_are_in_the_way();

@@ -7,7 +7,7 @@ use Rattle.std.proofs.lemmas.List.{drop-append-le, drop-drop, drop-set-add, get_
 use Rattle.std.proofs.lemmas.List.Elements.{All-drop}
 use Rattle.std.proofs.lemmas.Option.{get_or_from_slice_get, slice_get-get_or, slice_get_within}
 use Rattle.hart_frame.specs.heard.Character.{Character, faultless, faultless_bytes}
-use Rattle.hart_frame.specs.heard.InTheWay.{HasFaultsAt, IsBurstDelimiter, IsInTheWay, bytes_from}
+use Rattle.hart_frame.specs.heard.InTheWay.{FollowsOnePreamble, HasBodyAt, HasFaultsAt, IsBurstDelimiter, IsInTheWay, bytes_from}
 use Rattle.hart_frame.specs.heard.Miss.{HasFrameUpTo, miss_of}
 use Rattle.hart_frame.specs.heard.Place.{StandsIn}
 use Rattle.hart_frame.specs.heard.Start.{IsStart}
@@ -211,3 +211,27 @@ missing_in_gap only_there law chars from stop place count bytes small fit has lo
       frame_up_to (chars ++ more) from (place - from) (length rest + count) place (length chars + count)
           (subst Has (sym (drop-append-le from chars more within)) stands) place_is (omega (arith, within, length-drop from chars)),
     )
+
+abbrev pub OneAlone : Type 0
+OneAlone = (start : ℕ) (chars : List Character) → All (λ character. character.byte < 256) chars
+    → (miss_of chars start ≡ Some OnePreamble) ↔ (FollowsOnePreamble chars start × HasBodyAt chars start)
+
+-- a body in the rest of characters is one in the characters
+body_in_rest : (chars : List Character) (from start place : ℕ) → place ≡ from + start → HasBodyAt (drop from chars) start
+    → HasBodyAt chars place
+body_in_rest chars from start place is has = record {
+  frame = has.frame;
+  body = has.body;
+  rest = has.rest;
+  is_body = has.is_body;
+  parts = ap (λ (n : ℕ). drop n chars) is ∙ sym (drop-drop start from chars) ∙ has.parts;
+}
+
+pub alone_in_gap : OneAlone → (chars : List Character) (from stop place : ℕ) → All (λ character. character.byte < 256) chars
+    → Contains (missed chars from stop) (record { place = place; miss = OnePreamble })
+    → FollowsOnePreamble (drop from chars) (place - from) × HasBodyAt chars place
+alone_in_gap law chars from stop place small has =
+    let is = missed_are chars from stop place OnePreamble has in
+    let bytes = All-drop (λ (character : Character). character.byte < 256) from chars small in
+    let (alone, body) = (law (place - from) (drop from chars) bytes).0 is.2 in
+    (alone, body_in_rest chars from (place - from) place (omega (arith, is.0)) body)
