@@ -8,3 +8,6 @@ mod Accepted
 mod Kept
 mod Stands
 mod Rooms
+mod Outcomes
+mod Hearings
+mod Acceptances

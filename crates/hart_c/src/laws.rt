@@ -1,5 +1,5 @@
-//! What follows from the contracts for a caller that calls again and again.
-ghost use Rattle.std.specs.Prelude.{◌≡◌, ◌≢◌, ◌<◌, ◌≤◌, ◌++◌, [], List, Bool, ℕ, Some, false, true, length, slice_get};
+//! What follows from the contracts for a caller.
+ghost use Rattle.std.specs.Prelude.{◌≡◌, ◌≢◌, ◌<◌, ◌≤◌, List, Bool, ℕ, Option, Some, false, true, length, slice_get};
 ghost use Rattle.hart_frame.specs.heard.Character.{Character};
 ghost use Rattle.hart_frame.specs.heard.Frames.{AreFrames};
 ghost use Rattle.hart_frame.specs.declared.heard.found.Found.{Found};
@@ -14,9 +14,22 @@ ghost use Rattle.hart_c.specs.declared.data.HartReading.{HartReading};
 ghost use Rattle.hart_c.specs.declared.device.HartDevice.{HartDevice};
 ghost use Rattle.hart_c.specs.declared.fault.HartOutcome.{HartOutcome};
 ghost use Rattle.hart_c.specs.Data.{ReplyOutcome, RequestOutcome, StandsAt, reply_fields, request_fields};
-ghost use Rattle.hart_c.specs.Device.{IsKept, device_of};
+ghost use Rattle.hart_c.specs.Device.{HearOutcome, IsKept, NewDeviceOutcome, device_of};
 ghost use Rattle.hart_c.specs.Find.{AreNext, IsSearchedSoFar};
+ghost use Rattle.hart_c.specs.declared.find.HartChar.{HartChar};
+ghost use Rattle.hart_c.specs.declared.frame.HartFrame.{HartFrame};
+ghost use Rattle.hart_c.specs.declared.identity.HartIdentity.{HartIdentity};
+ghost use Rattle.hart_c.specs.declared.master.HartAcceptance.{HartAcceptance};
+ghost use Rattle.hart_c.specs.declared.process.HartProcess.{HartProcess};
+ghost use Rattle.hart_c.specs.declared.registers.HartRegisters.{HartRegisters};
+ghost use Rattle.hart_c.specs.Decode.{DecodeOutcome};
+ghost use Rattle.hart_c.specs.Encode.{EncodeOutcome};
+ghost use Rattle.hart_c.specs.Frames.{found_in};
+ghost use Rattle.hart_c.specs.Master.{AcceptOutcome};
 ghost use Rattle.hart_c.specs.Names.{NameOutcome, field_name};
+
+use hart_device::bytes_have_one_image_fault;
+use hart_frame::bytes_have_one_fault;
 
 /// Whoever passes what is not used up again, with what comes after it, is given all frames of all that was heard, and no others, in
 /// whatever pieces it came: the frames of each search, moved by what was used up before, are the next ones; and once all is used up
@@ -58,3 +71,38 @@ pub fn sixteen_fields_and_names_of_64_bytes_have_room()
     ensures field_names { (is_reply : Bool) (command index : ℕ) (before after : List ℕ) (outcome : HartOutcome) → 64 ≤ length before
         → NameOutcome (field_name is_reply command index) before after outcome → outcome.fault ≢ 12 }
 {}
+
+/// A call has one outcome: with the same arguments, its clauses allow one thing to be told and one to be left behind, if what it writes to
+/// keeps its length. So it has one fault at most, and none besides a success. Only the searches for frames may use up more or less of what
+/// decides nothing.
+pub fn calls_have_one_outcome()
+    ensures decode { (bytes : List ℕ) (before after other : HartFrame) (outcome another : HartOutcome)
+        → DecodeOutcome bytes before after outcome → DecodeOutcome bytes before other another
+        → (outcome ≡ another) × (found_in after ≡ found_in other) }
+    ensures encode { (frame : HartFrame) (preambles : ℕ) (before after other : List ℕ) (outcome another : HartOutcome)
+        → length after ≡ length before → length other ≡ length before
+        → EncodeOutcome frame preambles before after outcome → EncodeOutcome frame preambles before other another
+        → (outcome ≡ another) × (after ≡ other) }
+    ensures requests { (command : ℕ) (bytes : List ℕ) (before after other : List HartField) (reading another : HartReading)
+        → RequestOutcome command bytes before after reading → RequestOutcome command bytes before other another
+        → (reading ≡ another) × (after ≡ other) }
+    ensures replies { (command : ℕ) (payload : List ℕ) (before after other : List HartField) (reading another : HartReading)
+        → ReplyOutcome command payload before after reading → ReplyOutcome command payload before other another
+        → (reading ≡ another) × (after ≡ other) }
+    ensures names { (name : Option (List ℕ)) (before after other : List ℕ) (outcome another : HartOutcome)
+        → NameOutcome name before after outcome → NameOutcome name before other another → (outcome ≡ another) × (after ≡ other) }
+    ensures new_devices { (given : HartRegisters) (before after other : HartDevice) (outcome another : HartOutcome)
+        → NewDeviceOutcome given before after outcome → NewDeviceOutcome given before other another
+        → (outcome ≡ another) × (after ≡ other) }
+    ensures hear { (identity : HartIdentity) (process : HartProcess) (heard : List HartChar) (before after other : HartDevice)
+        (old new newer : List ℕ) (outcome another : HartOutcome) → length new ≡ length old → length newer ≡ length old
+        → HearOutcome identity process heard before after old new outcome
+        → HearOutcome identity process heard before other old newer another
+        → (outcome ≡ another) × (after ≡ other) × (new ≡ newer) }
+    ensures accept { (numbers : HartFrame) (heard : List HartChar) (before after other : HartFrame) (acceptance another : HartAcceptance)
+        → AcceptOutcome numbers heard before after acceptance → AcceptOutcome numbers heard before other another
+        → (acceptance ≡ another) × (found_in after ≡ found_in other) }
+{
+    bytes_have_one_fault();
+    bytes_have_one_image_fault();
+}

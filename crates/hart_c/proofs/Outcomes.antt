@@ -1,0 +1,140 @@
+-- That a call has one outcome.
+use Rattle.std.proofs.Common.{◌≡◌, ◌∙◌, ◌<◌, ◌≤◌, ◌⊎◌, ◌++◌, ℕ, List, Option, None, Some, Ok, Err, arith, ap, drop, inl, inr, length}
+use Rattle.std.proofs.Common.{length-append, replicate, sym}
+use Rattle.hart_frame.specs.wire.Body.{BeginsWithBody}
+use Rattle.hart_frame.specs.wire.FrameParts.{FrameParts}
+use Rattle.hart_frame.specs.wire.Message.{IsMessage}
+use Rattle.hart_frame.specs.wire.Refusal.{IsRefusedWith}
+use Rattle.hart_frame.specs.declared.wire.fault.FrameFault.{FrameFault}
+use Rattle.hart_frame.specs.declared.wire.fault.FrameFault.TheVariants as frame_fault
+use Rattle.hart_frame.proofs.lemmas.Laws.{bodies_are_unambiguous-one_body, bodies_are_unambiguous-one_prefix}
+use Rattle.hart_commands.specs.RequestData.{Reading}
+use Rattle.hart_commands.specs.declared.reply.Reply.{Reply}
+use Rattle.hart_c.specs.declared.data.HartField.{HartField}
+use Rattle.hart_c.specs.declared.data.HartReading.{HartReading}
+use Rattle.hart_c.specs.declared.fault.Fault.{Fault}
+use Rattle.hart_c.specs.declared.fault.Fault.TheVariants.{BadAddress, Frame, LongExpansion, NoRoom}
+use Rattle.hart_c.specs.declared.fault.HartOutcome.{HartOutcome}
+use Rattle.hart_c.specs.declared.frame.HartFrame.{HartFrame}
+use Rattle.hart_c.specs.Decode.{DecodeOutcome}
+use Rattle.hart_c.specs.Data.{ReplyShown, RequestShown}
+use Rattle.hart_c.specs.Encode.{EncodeOutcome, IsEncodeFault, IsWritten}
+use Rattle.hart_c.specs.Faults.{frame_fault_number, number_of}
+use Rattle.hart_c.specs.Frames.{found_in, frame_in}
+use Rattle.hart_c.specs.Names.{NameOutcome}
+
+-- what the laws of hart_frame say of faults
+abbrev pub OneFault : Type 0
+OneFault = (bytes : List ℕ) (fault other : FrameFault) → IsRefusedWith bytes fault → IsRefusedWith bytes other → fault ≡ other
+
+abbrev pub NotBoth : Type 0
+NotBoth = (bytes : List ℕ) (frame : FrameParts) (len : ℕ) (fault : FrameFault) → BeginsWithBody bytes frame len
+    → IsRefusedWith bytes fault → ⊥
+
+-- what is told is one if the length and the number of the fault are
+pub outcome_is : (outcome other : HartOutcome) → outcome.len ≡ other.len → outcome.fault ≡ other.fault → outcome ≡ other
+outcome_is outcome other len fault = grind arith
+
+pub one_decoding : OneFault → NotBoth → (bytes : List ℕ) (before after other : HartFrame) (outcome another : HartOutcome)
+    → DecodeOutcome bytes before after outcome → DecodeOutcome bytes before other another
+    → (outcome ≡ another) × (found_in after ≡ found_in other)
+one_decoding one not_both bytes before after other outcome another (inl (none, shown)) (inl (free, again)) =
+    let same = bodies_are_unambiguous-one_prefix (frame_in after) (frame_in other) bytes outcome.len another.len
+    shown.begins again.begins in
+    (outcome_is outcome another same.1 (none ∙ sym free), grind arith)
+one_decoding one not_both bytes before after other outcome another (inl (none, shown)) (inr (fault, refused, number, len, kept)) =
+    absurd (not_both bytes (frame_in after) outcome.len fault shown.begins refused)
+one_decoding one not_both bytes before after other outcome another (inr (fault, refused, number, len, kept)) (inl (none, shown)) =
+    absurd (not_both bytes (frame_in other) another.len fault shown.begins refused)
+one_decoding one not_both bytes before after other outcome another (inr (fault, refused, number, len, kept))
+    (inr (found, is, told, long, stays)) = (
+      outcome_is outcome another (len ∙ sym long) (number ∙ ap frame_fault_number (one bytes fault found refused is) ∙ sym told),
+      ap found_in (kept ∙ sym stays),
+    )
+
+pub one_name : (name : Option (List ℕ)) (before after other : List ℕ) (outcome another : HartOutcome)
+    → NameOutcome name before after outcome → NameOutcome name before other another → (outcome ≡ another) × (after ≡ other)
+one_name None before after other outcome another (is, kept) (again, stays) = (is ∙ sym again, kept ∙ sym stays)
+one_name (Some name) before after other outcome another (inl (fits, is, written)) (inl (room, again, same)) =
+    (is ∙ sym again, written ∙ sym same)
+one_name (Some name) before after other outcome another (inl (fits, is, written)) (inr (long, again, stays)) =
+    absurd (omega (arith, fits, long))
+one_name (Some name) before after other outcome another (inr (long, is, kept)) (inl (fits, again, same)) =
+    absurd (omega (arith, fits, long))
+one_name (Some name) before after other outcome another (inr (long, is, kept)) (inr (longer, again, stays)) =
+    (is ∙ sym again, kept ∙ sym stays)
+
+-- a frame has one message with so many preamble bytes
+pub one_message : (frame : FrameParts) (preambles : ℕ) (message other : List ℕ) → IsMessage frame preambles message
+    → IsMessage frame preambles other → message ≡ other
+one_message frame preambles message other is again =
+    is.parts
+    ∙ ap (λ (body : List ℕ). replicate preambles 255 ++ body)
+    (bodies_are_unambiguous-one_body frame is.body again.body is.is_body again.is_body)
+    ∙ sym again.parts
+
+-- what was written over the front of a list that keeps its length fits into it
+pub written_fits : (message before after : List ℕ) (len : ℕ) → len ≡ length message → after ≡ message ++ drop len before
+    → length after ≡ length before → length message ≤ length before
+written_fits message before after len long written same =
+    omega (arith, long, ap length written, length-append message (drop len before), same)
+
+-- why a frame is not written
+abbrev EncodeCase : HartFrame → ℕ → ℕ → Fault → Type 0
+EncodeCase frame preambles room fault =
+    ((fault ≡ BadAddress) × IsEncodeFault frame preambles room BadAddress)
+    ⊎ ((fault ≡ LongExpansion) × IsEncodeFault frame preambles room LongExpansion)
+    ⊎ ((fault ≡ Frame frame_fault.TooShortReply) × IsEncodeFault frame preambles room (Frame frame_fault.TooShortReply))
+    ⊎ ((fault ≡ Frame frame_fault.BadPreamble) × IsEncodeFault frame preambles room (Frame frame_fault.BadPreamble))
+    ⊎ ((fault ≡ NoRoom) × IsEncodeFault frame preambles room NoRoom)
+
+pub one_encode_fault : (frame : HartFrame) (preambles room : ℕ) (fault other : Fault) → IsEncodeFault frame preambles room fault
+    → IsEncodeFault frame preambles room other → fault ≡ other
+one_encode_fault frame preambles room fault other why again = grind arith
+
+-- a message that fits has room
+pub has_room : (frame : FrameParts) (preambles room : ℕ) (message : List ℕ) → IsMessage frame preambles message → length message ≤ room
+    → (other : List ℕ) → IsMessage frame preambles other → room < length other → ⊥
+has_room frame preambles room message is fits other again over =
+    omega (arith, fits, over, ap length (one_message frame preambles message other is again))
+
+-- a frame whose message was written has no fault
+not_written : (frame : HartFrame) (preambles len : ℕ) (before after : List ℕ) (fault : Fault) → IsWritten frame preambles before after len
+    → length after ≡ length before → IsEncodeFault frame preambles (length before) fault → ⊥
+not_written frame preambles len before after NoRoom is same (is_frame, count, (other, again, over)) =
+    has_room (frame_in frame) preambles (length before) is.message is.is_message
+    (written_fits is.message before after len is.len_is is.written same) other again over
+not_written frame preambles len before after fault is same why = grind arith
+
+pub one_encoding : (frame : HartFrame) (preambles : ℕ) (before after other : List ℕ) (outcome another : HartOutcome)
+    → length after ≡ length before → length other ≡ length before → EncodeOutcome frame preambles before after outcome
+    → EncodeOutcome frame preambles before other another → (outcome ≡ another) × (after ≡ other)
+one_encoding frame preambles before after other outcome another long longer (inl (none, is)) (inl (free, again)) =
+    let same = one_message (frame_in frame) preambles is.message again.message is.is_message again.is_message in
+    let len : outcome.len ≡ another.len = is.len_is ∙ ap length same ∙ sym again.len_is in (
+      outcome_is outcome another len (none ∙ sym free),
+      is.written ∙ ap (λ (message : List ℕ). message ++ drop outcome.len before) same
+          ∙ ap (λ (n : ℕ). again.message ++ drop n before) len ∙ sym again.written,
+    )
+one_encoding frame preambles before after other outcome another long longer (inl (none, is)) (inr (fault, why, number, len, kept)) =
+    absurd (not_written frame preambles outcome.len before after fault is long why)
+one_encoding frame preambles before after other outcome another long longer (inr (fault, why, number, len, kept)) (inl (none, is)) =
+    absurd (not_written frame preambles another.len before other fault is longer why)
+one_encoding frame preambles before after other outcome another long longer (inr (fault, why, number, len, kept))
+    (inr (found, because, told, size, stays)) = (
+      outcome_is outcome another (len ∙ sym size)
+          (number ∙ ap number_of (one_encode_fault frame preambles (length before) fault found why because) ∙ sym told),
+      kept ∙ sym stays,
+    )
+
+pub one_request : (command : ℕ) (bytes : List ℕ) (read : Reading) (before after other : List HartField) (reading another : HartReading)
+    → RequestShown command bytes read before after reading → RequestShown command bytes read before other another
+    → (reading ≡ another) × (after ≡ other)
+one_request command bytes (Ok request) before after other reading another is again = (is.told ∙ sym again.told, is.shown ∙ sym again.shown)
+one_request command bytes (Err code) before after other reading another is again = (is.told ∙ sym again.told, is.shown ∙ sym again.shown)
+
+pub one_reply : (command : ℕ) (payload : List ℕ) (read : Option Reply) (before after other : List HartField) (reading another : HartReading)
+    → ReplyShown command payload read before after reading → ReplyShown command payload read before other another
+    → (reading ≡ another) × (after ≡ other)
+one_reply command payload None before after other reading another (is, kept) (again, stays) = (is ∙ sym again, kept ∙ sym stays)
+one_reply command payload (Some reply) before after other reading another is again = (is.told ∙ sym again.told, is.shown ∙ sym again.shown)
