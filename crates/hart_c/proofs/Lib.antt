@@ -11,3 +11,4 @@ mod Rooms
 mod Outcomes
 mod Hearings
 mod Acceptances
+mod Bytes

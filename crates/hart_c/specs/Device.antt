@@ -1,5 +1,6 @@
 -- The device that a caller in C keeps, and what the calls make of it (own profile).
-use Rattle.std.specs.Prelude.{◌≡◌, ◌<◌, ◌≤◌, ◌⊎◌, ◌++◌, ℕ, Bool, true, List, Option, None, Some, drop, length, map, take}
+use Rattle.std.specs.Prelude.{◌≡◌, ◌<◌, ◌≤◌, ◌⊎◌, ◌+◌, ◌-◌, ◌%◌, ◌++◌, ℕ, Bool, true, List, Option, None, Some, drop, if◌then◌else◌}
+use Rattle.std.specs.Prelude.{length, map, slice_index, slice_set, take}
 use Rattle.hart_values.specs.declared.each_master.EachMaster.{EachMaster}
 use Rattle.hart_frame.specs.wire.FrameParts.{FrameParts}
 use Rattle.hart_frame.specs.wire.Message.{IsMessage}
@@ -54,6 +55,13 @@ device_of state = record {
   primary_cold_start = state.cold_start.primary;
   secondary_cold_start = state.cold_start.secondary;
 }
+
+-- The same device with write protection set or clear: in the last byte of its image, its flags, bit 2 says so; bits 0 and 1 are as they
+-- were, and the others clear.
+abbrev pub with_protection : Bool → HartDevice → HartDevice
+with_protection protected device =
+    let last = device.image_len - 1 in
+    record device { image = slice_set device.image last (slice_index device.image last % 4 + (if protected then 4 else 0)) }
 
 -- Bytes that are said to be more than 86 are refused for their length, and others as an image is.
 abbrev pub IsKeptFault : HartDevice → DeviceFault → Type 0

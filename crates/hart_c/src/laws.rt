@@ -1,5 +1,6 @@
 //! What follows from the contracts for a caller.
-ghost use Rattle.std.specs.Prelude.{◌≡◌, ◌≢◌, ◌<◌, ◌≤◌, List, Bool, ℕ, Option, Some, false, true, length, slice_get};
+ghost use Rattle.std.specs.Prelude.{◌≡◌, ◌≢◌, ◌<◌, ◌≤◌, ◌-◌, ◌/◌, [], ◌∷◌, List, Bool, ℕ, Option, Some, false, true, if◌then◌else◌};
+ghost use Rattle.std.specs.Prelude.{length, slice_get, slice_index};
 ghost use Rattle.hart_frame.specs.heard.Character.{Character};
 ghost use Rattle.hart_frame.specs.heard.Frames.{AreFrames};
 ghost use Rattle.hart_frame.specs.declared.heard.found.Found.{Found};
@@ -14,7 +15,7 @@ ghost use Rattle.hart_c.specs.declared.data.HartReading.{HartReading};
 ghost use Rattle.hart_c.specs.declared.device.HartDevice.{HartDevice};
 ghost use Rattle.hart_c.specs.declared.fault.HartOutcome.{HartOutcome};
 ghost use Rattle.hart_c.specs.Data.{ReplyOutcome, RequestOutcome, StandsAt, reply_fields, request_fields};
-ghost use Rattle.hart_c.specs.Device.{HearOutcome, IsKept, NewDeviceOutcome, device_of};
+ghost use Rattle.hart_c.specs.Device.{HearOutcome, IsKept, NewDeviceOutcome, device_of, with_protection};
 ghost use Rattle.hart_c.specs.Find.{AreNext, IsSearchedSoFar};
 ghost use Rattle.hart_c.specs.declared.find.HartChar.{HartChar};
 ghost use Rattle.hart_c.specs.declared.frame.HartFrame.{HartFrame};
@@ -70,6 +71,19 @@ pub fn sixteen_fields_and_names_of_64_bytes_have_room()
         → NameOutcome (command_name command) before after outcome → outcome.fault ≢ 12 }
     ensures field_names { (is_reply : Bool) (command index : ℕ) (before after : List ℕ) (outcome : HartOutcome) → 64 ≤ length before
         → NameOutcome (field_name is_reply command index) before after outcome → outcome.fault ≢ 12 }
+{}
+
+/// The bytes of an image that is kept are what they are said to be: the polling address and the loop current mode, and bit 2 of the last
+/// one write protection. With that bit set or cleared, the device is kept in the same state, but for write protection.
+pub fn kept_bytes_are_what_they_say()
+    ensures registers { (parts : IdentityParts) (device : HartDevice) (state : DeviceState) → length device.image ≡ 86
+        → IsKept parts device state
+        → (state.contents.polling ≡ slice_index device.image 1 ∷ []) × (state.contents.mode ≡ slice_index device.image 2 ∷ []) }
+    ensures protected { (parts : IdentityParts) (device : HartDevice) (state : DeviceState) → length device.image ≡ 86
+        → IsKept parts device state
+        → slice_index device.image (device.image_len - 1) / 4 ≡ (if state.protected then 1 else 0) }
+    ensures protects { (parts : IdentityParts) (device : HartDevice) (state : DeviceState) (on : Bool) → length device.image ≡ 86
+        → IsKept parts device state → IsKept parts (with_protection on device) (record state { protected = on }) }
 {}
 
 /// A call has one outcome: with the same arguments, its clauses allow one thing to be told and one to be left behind, if what it writes to

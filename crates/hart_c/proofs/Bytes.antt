@@ -1,0 +1,143 @@
+-- What the bytes of an image that is kept say.
+use Rattle.std.proofs.Common.{◌≡◌, ◌∙◌, ◌+◌, ◌-◌, ◌%◌, ◌<◌, ◌++◌, ◌∷◌, [], ℕ, Bool, List, Some, arith, ap, length, length-append, refl, set}
+use Rattle.std.proofs.Common.{append_assoc, slice_index, sym, take}
+use Rattle.std.specs.Prelude.{if◌then◌else◌, ◌/◌}
+use Rattle.std.specs.List.{flat_map}
+use Rattle.std.proofs.lemmas.List.{get_or-take, length-take-le, take_more, take_more_set}
+use Rattle.hart_values.specs.declared.each_master.EachMaster.{EachMaster}
+use Rattle.hart_commands.specs.Registers.{bytes_in}
+use Rattle.hart_commands.specs.declared.register.Register.{Register}
+use Rattle.hart_commands.specs.declared.register.Register.TheVariants.{Mode, Polling}
+use Rattle.hart_device.specs.Device.{DeviceState}
+use Rattle.hart_device.specs.Identity.{two_bytes}
+use Rattle.hart_device.specs.image.Image.{flags_of, image_bytes, image_ending, registers_of_version}
+use Rattle.hart_device.specs.declared.identity_parts.IdentityParts.{IdentityParts}
+use Rattle.hart_c.specs.declared.device.HartDevice.{HartDevice}
+use Rattle.hart_c.specs.Device.{IsKept, image_in, with_protection}
+
+-- what stands before the last byte, and that byte
+last_same : (xs ys : List ℕ) (x y : ℕ) → xs ++ x ∷ [] ≡ ys ++ y ∷ [] → (xs ≡ ys) × (x ≡ y)
+last_same [] [] x y same = (refl, cc)
+last_same [] (b ∷ ys) x y same = absurd (omega (arith, ap length same, length-append ys (y ∷ [])))
+last_same (a ∷ xs) [] x y same = absurd (omega (arith, ap length same, length-append xs (x ∷ [])))
+last_same (a ∷ xs) (b ∷ ys) x y same =
+    let heads : a ≡ b = cc in
+    let tails : xs ++ x ∷ [] ≡ ys ++ y ∷ [] = cc in
+    let (fronts, lasts) = last_same xs ys x y tails in
+    (cc, lasts)
+
+-- an image is what stands before its flags, and those
+abbrev front_of : ℕ → List Register → DeviceState → List ℕ
+front_of version listed state = version ∷ (flat_map (bytes_in state.contents) listed ++ two_bytes state.counter)
+
+image_parts : (version : ℕ) (listed : List Register) (state : DeviceState)
+    → image_bytes version listed state ≡ front_of version listed state ++ flags_of state.changed state.protected ∷ []
+image_parts version listed state =
+    let flags = flags_of state.changed state.protected ∷ [] in
+    ap (λ (bytes : List ℕ). version ∷ bytes)
+    (sym (append_assoc (flat_map (bytes_in state.contents) listed) (two_bytes state.counter) flags))
+
+-- so are the bytes that are kept
+record IsFlagged (device : HartDevice) (state : DeviceState) (version : ℕ) (listed : List Register) : Type 0 where
+  pub some : 0 < device.image_len
+  pub front : take (device.image_len - 1) device.image ≡ front_of version listed state
+  pub flags : slice_index device.image (device.image_len - 1) ≡ flags_of state.changed state.protected
+
+flagged : (parts : IdentityParts) (device : HartDevice) (state : DeviceState) (is : IsKept parts device state) → length device.image ≡ 86
+    → IsFlagged device state is.image.version is.image.listed
+flagged parts device state is long =
+    let image = device.image in
+    let last = device.image_len - 1 in
+    let written = is.image.written ∙ image_parts is.image.version is.image.listed state in
+    let size = ap length written
+    ∙ length-append (front_of is.image.version is.image.listed state) (flags_of state.changed state.protected ∷ []) in
+    let kept : length (image_in device) ≡ device.image_len = length-take-le device.image_len image (omega (arith, is.fits, long)) in
+    let some : 0 < device.image_len = omega (arith, size, kept) in
+    let all : last + 1 ≡ device.image_len = omega (arith, some) in
+    let same = last_same (take last image) (front_of is.image.version is.image.listed state) (slice_index image last)
+    (flags_of state.changed state.protected)
+    (sym (take_more image last 0 (omega (arith, some, is.fits, long))) ∙ ap (λ (n : ℕ). take n image) all ∙ written) in
+    record { some = some; front = same.0; flags = same.1 }
+
+-- the two lower flags stay
+flags_again : (changed : EachMaster Bool) (protected on : Bool)
+    → flags_of changed protected % 4 + (if on then 4 else 0) ≡ flags_of changed on
+flags_again changed protected on = grind arith
+
+pub protection_kept : (parts : IdentityParts) (device : HartDevice) (state : DeviceState) (on : Bool) → length device.image ≡ 86
+    → IsKept parts device state → IsKept parts (with_protection on device) (record state { protected = on })
+protection_kept parts device state on long is =
+    let image = device.image in
+    let last = device.image_len - 1 in
+    let flags = flagged parts device state is long in
+    let byte = slice_index image last % 4 + (if on then 4 else 0) in
+    let byte_is : byte ≡ flags_of state.changed on =
+    ap (λ (n : ℕ). n % 4 + (if on then 4 else 0)) flags.flags ∙ flags_again state.changed state.protected on in
+    let after : DeviceState = record state { protected = on } in
+    let all : device.image_len ≡ last + 1 = omega (arith, flags.some) in
+    let written : take device.image_len (set image last byte) ≡ image_bytes is.image.version is.image.listed after =
+    ap (λ (n : ℕ). take n (set image last byte)) all ∙ take_more_set image last byte (omega (arith, flags.some, is.fits, long))
+    ∙ ap (λ (bytes : List ℕ). bytes ++ byte ∷ []) flags.front
+    ∙ ap (λ (n : ℕ). front_of is.image.version is.image.listed after ++ n ∷ []) byte_is
+    ∙ sym (image_parts is.image.version is.image.listed after) in
+    record {
+      is_identity = is.is_identity;
+      identity = is.identity;
+      fits = is.fits;
+      image = record {
+        contents = is.image.contents;
+        counter = is.image.counter;
+        version = is.image.version;
+        listed = is.image.listed;
+        known = is.image.known;
+        long_tag = is.image.long_tag;
+        written = written;
+      };
+      cold_start = is.cold_start;
+    }
+
+-- the flag of write protection is bit 2
+third_flag : (changed : EachMaster Bool) (protected : Bool) → flags_of changed protected / 4 ≡ (if protected then 1 else 0)
+third_flag changed protected = grind arith
+
+pub protection_is : (parts : IdentityParts) (device : HartDevice) (state : DeviceState) → length device.image ≡ 86
+    → IsKept parts device state → slice_index device.image (device.image_len - 1) / 4 ≡ (if state.protected then 1 else 0)
+protection_is parts device state long is =
+    ap (λ (n : ℕ). n / 4) (flagged parts device state is long).flags ∙ third_flag state.changed state.protected
+
+-- a list of one byte
+one_byte : (xs : List ℕ) → length xs ≡ 1 → xs ≡ slice_index xs 0 ∷ []
+one_byte [] long = absurd (omega (arith, long))
+one_byte (x ∷ []) long = refl
+one_byte (x ∷ y ∷ xs) long = absurd (omega (arith, long))
+
+-- the first registers of an image are the polling address and the loop current mode
+first_registers : (version : ℕ) (listed : List Register) → registers_of_version version ≡ Some listed
+    → (rest : List Register) × (listed ≡ Polling ∷ Mode ∷ rest)
+first_registers version listed known = grind arith
+
+pub first_bytes : (parts : IdentityParts) (device : HartDevice) (state : DeviceState) → length device.image ≡ 86
+    → IsKept parts device state
+    → (state.contents.polling ≡ slice_index device.image 1 ∷ []) × (state.contents.mode ≡ slice_index device.image 2 ∷ [])
+first_bytes parts device state long is =
+    let image = device.image in
+    let contents = state.contents in
+    let polling = one_byte contents.polling (is.image.contents Polling).0 in
+    let mode = one_byte contents.mode (is.image.contents Mode).0 in
+    let p = slice_index contents.polling 0 in
+    let m = slice_index contents.mode 0 in
+    let (rest, listed) = first_registers is.image.version is.image.listed is.image.known in
+    let others = flat_map (bytes_in contents) rest in
+    let ending = image_ending state in
+    let written : image_in device ≡ is.image.version ∷ p ∷ m ∷ (others ++ ending) =
+    is.image.written ∙ ap (λ (registers : List Register). image_bytes is.image.version registers state) listed
+    ∙ ap (λ (bytes : List ℕ). is.image.version ∷ ((bytes ++ (contents.mode ++ others)) ++ ending)) polling
+    ∙ ap (λ (bytes : List ℕ). is.image.version ∷ p ∷ ((bytes ++ others) ++ ending)) mode in
+    let kept : length (image_in device) ≡ device.image_len = length-take-le device.image_len image (omega (arith, is.fits, long)) in
+    let size = ap length written in
+    let At : ℕ → List ℕ → ℕ = λ i bytes. slice_index bytes i in
+    let first : p ≡ slice_index image 1 =
+    sym (ap (At 1) written) ∙ get_or-take device.image_len image 1 0 (omega (arith, kept, size)) in
+    let second : m ≡ slice_index image 2 =
+    sym (ap (At 2) written) ∙ get_or-take device.image_len image 2 0 (omega (arith, kept, size)) in
+    (polling ∙ ap (λ (n : ℕ). n ∷ []) first, mode ∙ ap (λ (n : ℕ). n ∷ []) second)
