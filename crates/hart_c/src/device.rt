@@ -4,13 +4,13 @@ ghost use Rattle.hart_frame.specs.wire.Message.{IsPreambleCount};
 ghost use Rattle.hart_device.specs.image.Image.{IsImageOf};
 ghost use Rattle.hart_c.specs.Device.{HasNoRoom, HearOutcome, Hears, IsHearFault, IsKept, IsRestarted, IsSaid, IsStateFault};
 ghost use Rattle.hart_c.specs.Device.{IsKeptFault, NewDeviceOutcome, device_of, image_in};
-ghost use Rattle.hart_c.specs.Faults.{outcome_of};
 ghost use Rattle.hart_c.specs.Identity.{parts_of};
 
-use crate::fault::{Fault, HART_OK, HartOutcome};
+use crate::fault::{Fault, HartOutcome};
 use crate::find::HartChar;
 use crate::heard::delivery_of;
 use crate::identity::{HartIdentity, parts_of};
+use crate::output::{outcome_of, put};
 use crate::process::{HartProcess, process_of};
 use crate::registers::{HartRegisters, values_of};
 use hart_device::{Device, DeviceFault, Identity, ImageRegisters, bench};
@@ -79,22 +79,6 @@ pub extern "C" fn hart_hear(
 {
     let said = hear(identity, process, heard, device, reply);
     outcome_of(said)
-}
-
-/// How many bytes were written, or the fault, as numbers for C.
-fn outcome_of(written: Result<usize, Fault>) -> HartOutcome
-    ensures { result ≡ outcome_of written }
-{
-    match written {
-        Ok(len) => HartOutcome {
-            len,
-            fault: HART_OK,
-        },
-        Err(fault) => HartOutcome {
-            len: 0,
-            fault: fault.number(),
-        },
-    }
 }
 
 /// Hands a device what it hears, and gives how long its reply is.
@@ -168,10 +152,5 @@ fn say(said: Option<Frame>, preambles: u8, output: &mut [u8]) -> Result<usize, F
     };
     let mut message = Message::new();
     encode(&frame, preambles, &mut message).unwrap();
-    let len = message.len();
-    if output.len() < len {
-        return Err(Fault::NoRoom);
-    }
-    output[..len].copy_from_slice(message.as_slice());
-    Ok(len)
+    put(message.as_slice(), output)
 }

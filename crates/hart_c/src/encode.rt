@@ -3,8 +3,9 @@ ghost use Rattle.std.specs.Prelude.{◌≡◌, ◌↔◌, ℕ, length, IfOk, IfE
 ghost use Rattle.hart_c.specs.Encode.{EncodeOutcome, IsEncodeFault, IsFrame, IsInRange, IsWritten};
 ghost use Rattle.hart_c.specs.Frames.{address_of, frame_in, kind_of, master_of};
 
-use crate::fault::{Fault, HART_OK, HartOutcome};
+use crate::fault::{Fault, HartOutcome};
 use crate::frame::HartFrame;
+use crate::output::{outcome_of, put};
 use hart_frame::{Expansion, Frame, FrameKind, Message, Payload, encode};
 use hart_values::{Address, MasterId};
 
@@ -14,16 +15,7 @@ use hart_values::{Address, MasterId};
 pub extern "C" fn hart_encode(frame: &HartFrame, preambles: u8, output: &mut [u8]) -> HartOutcome
     ensures { EncodeOutcome frame.now preambles output.old output.new result }
 {
-    match write_message(frame, preambles, output) {
-        Ok(len) => HartOutcome {
-            len,
-            fault: HART_OK,
-        },
-        Err(fault) => HartOutcome {
-            len: 0,
-            fault: fault.number(),
-        },
-    }
+    outcome_of(write_message(frame, preambles, output))
 }
 
 /// Writes a frame as a message at the front of `output`, and gives how many bytes that are.
@@ -40,12 +32,7 @@ fn write_message(frame: &HartFrame, preambles: u8, output: &mut [u8]) -> Result<
     if let Err(fault) = encode(&frame, preambles, &mut message) {
         return Err(Fault::Frame(fault));
     }
-    let len = message.len();
-    if output.len() < len {
-        return Err(Fault::NoRoom);
-    }
-    output[..len].copy_from_slice(message.as_slice());
-    Ok(len)
+    put(message.as_slice(), output)
 }
 
 /// The frame of these numbers.

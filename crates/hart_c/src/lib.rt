@@ -18,6 +18,7 @@ mod identity;
 mod laws;
 mod master;
 mod name;
+mod output;
 mod process;
 mod registers;
 

@@ -3,14 +3,15 @@ ghost use Rattle.std.specs.Prelude.{◌≡◌, map, option_map};
 ghost use Rattle.hart_commands.specs.Fields.{command_name, seen};
 ghost use Rattle.hart_c.specs.Names.{NameOutcome, field_name, rows_for};
 
-use crate::fault::{HART_NO_ROOM, HART_OK, HART_UNKNOWN, HartOutcome};
+use crate::fault::{HART_UNKNOWN, HartOutcome};
+use crate::output::{outcome_of, put};
 use hart_commands::{FieldRow, command_name, reply_rows, request_rows};
 
 /// Writes the name of a command in the standard at the front of `output`, with no zero byte after it (HCF_SPEC-099).
 ///
 /// # Errors
 ///
-/// [`HART_UNKNOWN`] if the command is not known, [`HART_NO_ROOM`] if the name does not fit. The output is then as it was.
+/// [`HART_UNKNOWN`] if the command is not known, [`HART_NO_ROOM`](crate::fault::HART_NO_ROOM) if the name does not fit. The output is then as it was.
 #[unsafe(no_mangle)]
 pub extern "C" fn hart_command_name(command: u8, output: &mut [u8]) -> HartOutcome
     ensures { NameOutcome (command_name command) output.old output.new result }
@@ -23,7 +24,7 @@ pub extern "C" fn hart_command_name(command: u8, output: &mut [u8]) -> HartOutco
 ///
 /// # Errors
 ///
-/// [`HART_UNKNOWN`] if the command is not known or has no such field, [`HART_NO_ROOM`] if the name does not fit. The output is then as
+/// [`HART_UNKNOWN`] if the command is not known or has no such field, [`HART_NO_ROOM`](crate::fault::HART_NO_ROOM) if the name does not fit. The output is then as
 /// it was.
 #[unsafe(no_mangle)]
 pub extern "C" fn hart_field_name(
@@ -59,16 +60,5 @@ fn write_name(name: Option<&'static str>, output: &mut [u8]) -> HartOutcome
             fault: HART_UNKNOWN,
         };
     };
-    let len = name.len();
-    if output.len() < len {
-        return HartOutcome {
-            len: 0,
-            fault: HART_NO_ROOM,
-        };
-    }
-    output[..len].copy_from_slice(name.as_bytes());
-    HartOutcome {
-        len,
-        fault: HART_OK,
-    }
+    outcome_of(put(name.as_bytes(), output))
 }
