@@ -234,10 +234,10 @@ typedef struct hart_registers {
 
 /* What is kept of a device from call to call: all that it holds, but not who it is, in 89 bytes without padding. An image of `hart sim
  * --image` may be put in, with both bits false. hart_hear without a fault leaves an image of version 2, also if it is silent; after
- * silence the device is in the state in which it was. hart_restart leaves the image as it is. image[1] is the polling address and
- * image[2] the loop current mode; bit 0x04 of image[image_len - 1] is write protection, which the caller may set and clear;
- * docs/COMMANDS.md has every byte. Of what was kept in a file hart_hear tests the image; that both bools are 0 or 1 is for the caller to
- * test. */
+ * silence the device is in the state in which it was. hart_restart leaves the image as it is. In an image that a call left, or would
+ * take, image[1] is the polling address and image[2] the loop current mode, and bit 0x04 of image[image_len - 1] is write protection,
+ * which the caller may set and clear; docs/COMMANDS.md has every byte. Of what was kept in a file hart_hear tests the image; that both
+ * bools are 0 or 1 is for the caller to test. */
 typedef struct hart_device {
     uint8_t image[86];        /* of version 2 (86 bytes) or of version 1 (54); bytes after image_len of them mean nothing */
     uint8_t image_len;

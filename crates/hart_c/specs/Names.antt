@@ -4,8 +4,8 @@ use Rattle.std.specs.Prelude.{option_map}
 use Rattle.hart_commands.specs.Fields.{Row, reply_rows, request_rows}
 use Rattle.hart_c.specs.declared.fault.HartOutcome.{HartOutcome}
 
--- A name is written over the front of the output, and its length is told, if it fits. Otherwise that is the fault, and without a name
--- that it is unknown; the output is then as it was.
+-- A name is written over the front of the output, and its length is told, if it fits. If it does not, that is the fault, 12; if there is
+-- no name, the fault is 15. The output is then as it was.
 abbrev pub NameOutcome : Option (List ℕ) → List ℕ → List ℕ → HartOutcome → Type 0
 NameOutcome None before after outcome = (outcome ≡ record { len = 0; fault = 15 }) × (after ≡ before)
 NameOutcome (Some name) before after outcome =

@@ -7,6 +7,11 @@ use hart_frame::decode;
 
 /// Reads the frame whose body bytes begin with, from the delimiter on, and gives the length of that body. `frame` then shows it, from
 /// place 0 on.
+///
+/// # Errors
+///
+/// The first that holds, in the order of the bytes: a bad delimiter, an end before the byte count, a short reply, an end before the check
+/// byte, a bad check byte (HCF_SPEC-081). The frame is then as it was.
 #[unsafe(no_mangle)]
 pub extern "C" fn hart_decode(bytes: &[u8], frame: &mut HartFrame) -> HartOutcome
     ensures { DecodeOutcome bytes.now frame.old frame.new result }

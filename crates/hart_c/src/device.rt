@@ -21,7 +21,7 @@ use hart_values::{EachMaster, MasterId};
 #[repr(C)]
 #[derive(Clone, Copy)]
 pub struct HartDevice {
-    /// Its image, of version 2 (86 bytes) or of version 1 (54); bytes after so many mean nothing.
+    /// Its image, of version 2 (86 bytes) or of version 1 (54); bytes after `image_len` of them mean nothing.
     pub image: [u8; 86],
     /// How many bytes the image has.
     pub image_len: u8,

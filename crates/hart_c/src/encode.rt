@@ -11,6 +11,11 @@ use hart_values::{Address, MasterId};
 
 /// Writes a frame as a message at the front of `output`: so many preamble bytes and its body. 287 bytes are room for any. Where the
 /// frame stands is not looked at.
+///
+/// # Errors
+///
+/// The first that holds: a number of the address out of range, more than three expansion bytes, a reply without its status bytes, a number
+/// of preamble bytes outside 5 to 20, or no room (HCF_SPEC-081). The output is then as it was.
 #[unsafe(no_mangle)]
 pub extern "C" fn hart_encode(frame: &HartFrame, preambles: u8, output: &mut [u8]) -> HartOutcome
     ensures { EncodeOutcome frame.now preambles output.old output.new result }

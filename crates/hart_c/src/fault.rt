@@ -90,7 +90,7 @@ pub(crate) enum Fault {
     BadAddress,
     /// There are more than three expansion bytes.
     LongExpansion,
-    /// The output has no room for the message.
+    /// The output has no room for what is to be written.
     NoRoom,
     /// A character has another bit than fault bits.
     BadFaultBits,

@@ -73,8 +73,8 @@ pub fn sixteen_fields_and_names_of_64_bytes_have_room()
         → NameOutcome (field_name is_reply command index) before after outcome → outcome.fault ≢ 12 }
 {}
 
-/// The bytes of an image that is kept are what they are said to be: the polling address and the loop current mode, and bit 2 of the last
-/// one write protection. With that bit set or cleared, the device is kept in the same state, but for write protection.
+/// In an image that is kept, byte 1 is the polling address and byte 2 the loop current mode, and bit 2 of the last byte, its flags, is
+/// write protection. With that bit set or cleared, the device is kept in the same state, but for write protection.
 pub fn kept_bytes_are_what_they_say()
     ensures registers { (parts : IdentityParts) (device : HartDevice) (state : DeviceState) → length device.image ≡ 86
         → IsKept parts device state
@@ -86,9 +86,9 @@ pub fn kept_bytes_are_what_they_say()
         → IsKept parts device state → IsKept parts (with_protection on device) (record state { protected = on }) }
 {}
 
-/// A call has one outcome: with the same arguments, its clauses allow one thing to be told and one to be left behind, if what it writes to
-/// keeps its length. So it has one fault at most, and none besides a success. Only the searches for frames may use up more or less of what
-/// decides nothing.
+/// What a call comes to that may be refused is one thing: with the same arguments its clauses allow one thing to be told, and one frame to
+/// be shown or one thing to be left behind, if what it writes to keeps its length, as a slice does. So it has one fault at most, and none
+/// besides a success. The searches for frames are not among these calls: how much one uses up is open where no frame depends on it.
 pub fn calls_have_one_outcome()
     ensures decode { (bytes : List ℕ) (before after other : HartFrame) (outcome another : HartOutcome)
         → DecodeOutcome bytes before after outcome → DecodeOutcome bytes before other another

@@ -7,11 +7,12 @@ use crate::fault::{HART_UNKNOWN, HartOutcome};
 use crate::output::{outcome_of, put};
 use hart_commands::{FieldRow, command_name, reply_rows, request_rows};
 
-/// Writes the name of a command in the standard at the front of `output`, with no zero byte after it (HCF_SPEC-099).
+/// Writes the name that the standard gives a command at the front of `output`, with no zero byte after it (HCF_SPEC-099).
 ///
 /// # Errors
 ///
-/// [`HART_UNKNOWN`] if the command is not known, [`HART_NO_ROOM`](crate::fault::HART_NO_ROOM) if the name does not fit. The output is then as it was.
+/// [`HART_UNKNOWN`] if the command is not known, [`HART_NO_ROOM`](crate::fault::HART_NO_ROOM) if the name does not fit. The output is then
+/// as it was.
 #[unsafe(no_mangle)]
 pub extern "C" fn hart_command_name(command: u8, output: &mut [u8]) -> HartOutcome
     ensures { NameOutcome (command_name command) output.old output.new result }
@@ -24,8 +25,8 @@ pub extern "C" fn hart_command_name(command: u8, output: &mut [u8]) -> HartOutco
 ///
 /// # Errors
 ///
-/// [`HART_UNKNOWN`] if the command is not known or has no such field, [`HART_NO_ROOM`](crate::fault::HART_NO_ROOM) if the name does not fit. The output is then as
-/// it was.
+/// [`HART_UNKNOWN`] if the command is not known or has no such field, [`HART_NO_ROOM`](crate::fault::HART_NO_ROOM) if the name does not
+/// fit. The output is then as it was.
 #[unsafe(no_mangle)]
 pub extern "C" fn hart_field_name(
     is_reply: bool,
