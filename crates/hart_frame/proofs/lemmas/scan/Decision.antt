@@ -36,7 +36,8 @@ pub not_ended : (b : Buffer) → (IsEnded b → ⊥) → (b.finished ≡ false) 
 not_ended b going = grind arith
 
 -- no frame is found in what is held
-left_open : (b : Buffer) (ended : Bool) (place : ℕ) → (IsEnded b → IsTrue ended) → IsLeftOpen (held_bytes b) ended place → IsHeldOpen b place
+left_open : (b : Buffer) (ended : Bool) (place : ℕ) → (IsEnded b → IsTrue ended) → IsLeftOpen (held_bytes b) ended place
+    → IsHeldOpen b place
 left_open b ended place over left = grind (arith, not_ended)
 
 held_stands : (b : Buffer) (ended : Bool) (place : ℕ) (layout : Option Layout) → (IsEnded b → IsTrue ended)

@@ -68,12 +68,16 @@ rest_at_place bytes place len layout whole same =
     ∙ sym (drop-drop (2 + len) place bytes) ∙ ap (drop (2 + len)) whole.parts
     ∙ drop_at (255 ∷ 255 ∷ whole.body) whole.rest (2 + len) (omega (arith, same, whole.whole.exact))
 
+-- what stands at a place, by the layout that was found there or was not
+abbrev StandsOrIsLeft : List ℕ → Bool → ℕ → Option Layout → Type 0
+StandsOrIsLeft bytes ended place layout =
+    MatchOption layout (IsLeftOpen bytes ended place) (λ own. IsWhole own (drop place bytes))
+
 -- a layout that is found is that of the frame which stands at the place
 pub stands_by : (bytes : List ℕ) (from : ℕ) (ended : Bool) (found : Sighting) (layout : Layout) → IsSearchedToEnd bytes from ended found
     → found.layout ≡ Some layout → IsWhole layout (drop found.place bytes)
 stands_by bytes from ended found layout is some =
-    let Of : Option Layout → Type 0 = λ l. MatchOption l (IsLeftOpen bytes ended found.place) (λ own. IsWhole own (drop found.place bytes)) in
-    subst Of some is.stands
+    subst (StandsOrIsLeft bytes ended found.place) some is.stands
 
 -- which ends within the bytes
 pub ends_within : (bytes : List ℕ) (place : ℕ) (layout : Layout) → IsWhole layout (drop place bytes)
@@ -113,9 +117,8 @@ leads_nowhere bytes ended from found is =
 pub undecided_left : (bytes : List ℕ) (from : ℕ) (ended : Bool) (found : Sighting) → IsSearchedToEnd bytes from ended found
     → found.layout ≡ None → IsUndecided (faultless (drop found.place bytes))
 undecided_left bytes from ended found is none =
-    let Of : Option Layout → Type 0 = λ l. MatchOption l (IsLeftOpen bytes ended found.place) (λ own. IsWhole own (drop found.place bytes)) in
     let rest = drop found.place bytes in
-    elim (subst Of none is.stands) [
+    elim (subst (StandsOrIsLeft bytes ended found.place) none is.stands) [
       | inl end ↦ undecided_open rest (inl (drop_all found.place bytes (omega (arith, end))))
       | inr left ↦ undecided_open rest left.1
     ]
