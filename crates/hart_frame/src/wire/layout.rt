@@ -29,12 +29,16 @@ impl Layout {
         ensures described { IfOk result (λ layout. Describes layout bytes.now) }
         ensures refused { IfErr result (IsRefusedWith bytes.now) }
     {
-        let first = bytes.first().ok_or(FrameFault::Truncated)?;
-        let delimiter = read_delimiter(*first).ok_or(FrameFault::BadDelimiter)?;
-        let byte_count = *bytes
-            .get(delimiter.byte_count_place())
-            .ok_or(FrameFault::Truncated)?;
-        delimiter.layout(byte_count).ok_or(FrameFault::ShortReply)
+        let Some(first) = bytes.first() else {
+            return Err(FrameFault::Truncated);
+        };
+        let Some(delimiter) = read_delimiter(*first) else {
+            return Err(FrameFault::BadDelimiter);
+        };
+        let Some(byte_count) = bytes.get(delimiter.byte_count_place()) else {
+            return Err(FrameFault::Truncated);
+        };
+        delimiter.layout(*byte_count).ok_or(FrameFault::ShortReply)
     }
 
     /// The length of the body.
