@@ -87,9 +87,11 @@ fn push_date(text: &mut Kept, pairs: &Pairs, bytes: &[u8])
     ensures words { text.new ≡ text.old ++ value_words FieldKind.Date bytes.now }
     ensures few { length text.new ≤ length text.old + 30 }
 {
-    let [day, month, year] = *bytes.first_chunk::<3>().unwrap();
-    match HartDate::from_bytes([day, month, year]) {
-        Ok(date) if date.is_set() => push_day(text, day, month, year),
+    let [day, month, year] = bytes else {
+        unreachable!()
+    };
+    match HartDate::from_bytes([*day, *month, *year]) {
+        Ok(date) if date.is_set() => push_day(text, *day, *month, *year),
         Ok(_) => push_text(text, "not set"),
         Err(_) => {
             push_hex_items(text, pairs, bytes);
