@@ -1,7 +1,7 @@
 //! The program: which call the words make, and with which number it ends.
 
 ghost use Rattle.std.specs.Prelude.{◌≡◌, ◌≢◌, IfErr, map, string_bytes};
-ghost use Rattle.hart_cli.specs.program.Program.{Ran, status_of};
+ghost use Rattle.hart_cli.specs.program.Program.{CallOutcome, IsSendable, Ran, status_of};
 ghost use Rattle.hart_cli.specs.FaultText.{fault_line};
 ghost use Rattle.hart_cli.specs.stream.Stream.{WritesUnlessFailed};
 
@@ -53,11 +53,33 @@ pub fn program<R: Source, W: Sink, E: Sink>(
     ensures quiet { result ≡ 0 → errors.new ≡ errors.old }
 {
     match requested_call(alloc, words) {
-        Ok(Call::Answer(image)) => finish(answer(alloc, image.word, reader, writer), errors),
-        Ok(Call::Dump) => finish(dump(alloc, reader, writer), errors),
-        Ok(Call::Explain) => finish(explain(alloc, reader, writer), errors),
-        Ok(Call::Sim(image)) => finish(simulate(alloc, image.word, reader, writer), errors),
-        Ok(Call::Encode(words)) => {
+        Ok(call) => finish(carried_out(alloc, call, reader, writer), errors),
+        Err(error) => {
+            show(&error, errors);
+            NO_CALL
+        }
+    }
+}
+
+/// Makes a call, and gives what it comes to.
+fn carried_out<R: Source, W: Sink>(
+    alloc: Global,
+    call: Call<'_>,
+    reader: &mut R,
+    writer: &mut W,
+) -> Result<(), CliFault>
+    requires { IsSendable call }
+    ensures { CallOutcome call.entry
+        (R.stream reader.old) (R.stream reader.new)
+        (W.stream writer.old) (W.stream writer.new)
+        result }
+{
+    match call {
+        Call::Answer(image) => answer(alloc, image.word, reader, writer),
+        Call::Dump => dump(alloc, reader, writer),
+        Call::Explain => explain(alloc, reader, writer),
+        Call::Sim(image) => simulate(alloc, image.word, reader, writer),
+        Call::Encode(words) => {
             let EncodeWords {
                 who,
                 address,
@@ -65,12 +87,7 @@ pub fn program<R: Source, W: Sink, E: Sink>(
                 payload,
                 preambles,
             } = words;
-            let outcome = encode_text(alloc, who, address, command, payload, preambles, writer);
-            finish(outcome, errors)
-        }
-        Err(error) => {
-            show(&error, errors);
-            NO_CALL
+            encode_text(alloc, who, address, command, payload, preambles, writer)
         }
     }
 }

@@ -1,6 +1,7 @@
 -- What the program does with the call that its words make (own profile).
 use Rattle.std.specs.Prelude.{◌≡◌, ℕ, IfErr, List, Result, Ok, Err}
 use Rattle.clap.specs.Words.{Text}
+use Rattle.hart_frame.specs.wire.Message.{IsPreambleCount}
 use Rattle.hart_cli.specs.Answer.{AnswerOutcome}
 use Rattle.hart_cli.specs.program.CommandLine.{Calls}
 use Rattle.hart_cli.specs.dump.Dump.{DumpOutcome}
@@ -39,3 +40,10 @@ pub record Ran (words : List Text) (reader reader_after writer writer_after erro
   pub outcome : CallOutcome call reader reader_after writer writer_after result
   pub ends : status ≡ status_of result
   pub reports : IfErr result (λ fault. WritesUnlessFailed errors errors_after (fault_line fault))
+
+-- For private calls alone:
+
+-- A call of `encode` has a number of preamble bytes that a sender may put.
+abbrev pub IsSendable : Call → Type 0
+IsSendable (Encode words) = IsPreambleCount words.preambles
+IsSendable _ = Unit {0}

@@ -229,14 +229,11 @@ fn with_image_command<'a>(
 fn plain_command<'a>(alloc: Global, name: &'a str, page: Page<'a>) -> Command<'a>
     ensures { app_of result ≡ new_app name.entry.now }
 {
-    let command = Command::new(alloc, name)
+    Command::new(alloc, name)
         .about(page.about)
+        .override_usage(page.usage)
         .long_about(page.help)
-        .after_long_help(page.example);
-    match page.usage {
-        Some(usage) => command.override_usage(usage),
-        None => command,
-    }
+        .after_long_help(page.example)
 }
 
 /// A word that has to be there.

@@ -5,8 +5,8 @@
 pub(super) struct Page<'a> {
     /// What the command does, in one line.
     pub about: &'a str,
-    /// How it is called, if that says where its input comes from; otherwise clap says it.
-    pub usage: Option<&'a str>,
+    /// How it is called.
+    pub usage: &'a str,
     /// What goes in and what comes out.
     pub help: &'a str,
     /// How it is used, with what it writes.
@@ -25,7 +25,7 @@ Exit status 2: the command line is invalid, or help was asked for.";
 
 pub(super) const ANSWER: Page = Page {
     about: "Answer one message, in hex, from standard input",
-    usage: Some("hart answer [--image HEX] < FILE"),
+    usage: "hart answer [--image HEX] < FILE",
     help: "\
 Answer one message as the simulated device does.
 
@@ -71,7 +71,7 @@ writes
 
 pub(super) const DUMP: Page = Page {
     about: "List the messages in what was heard, in hex, from standard input",
-    usage: Some("hart dump < FILE"),
+    usage: "hart dump < FILE",
     help: "\
 List the messages in what was heard on a line.
 
@@ -124,7 +124,7 @@ writes
 
 pub(super) const EXPLAIN: Page = Page {
     about: "Say in words what was heard, in hex, from standard input",
-    usage: Some("hart explain < FILE"),
+    usage: "hart explain < FILE",
     help: "\
 Say in words what was heard on a line, and why a message is missing.
 
@@ -173,7 +173,7 @@ writes
 
 pub(super) const SIM: Page = Page {
     about: "Carry out a script of two masters and a device from standard input",
-    usage: Some("hart sim [--image HEX] < FILE"),
+    usage: "hart sim [--image HEX] < FILE",
     help: "\
 Carry out a script on a line with the simulated device and two masters.
 
@@ -253,7 +253,7 @@ writes
 
 pub(super) const ENCODE: Page = Page {
     about: "Write a request to a device, in hex",
-    usage: None,
+    usage: "hart encode [OPTIONS] <WHO> <ADDRESS> <COMMAND> [DATA]",
     help: "\
 Write a request of a master to a device, ready to be sent.
 
