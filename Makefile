@@ -12,7 +12,7 @@
 #   make manual               holds the page of man and the completion for bash against the help of ./hart, as make check does
 #   make install PREFIX=DIR   puts hart into DIR/bin, and its page of man, the completion and the guide into DIR/share
 #   make library              proves the library for C and leaves it as build/libhart.a and build/libhart.so
-#   make library-examples     builds the examples of the library and holds them against ./hart, as make check does
+#   make library-examples     makes each call of the library from C, builds its examples and holds them against ./hart, as make check does
 #   make install-library PREFIX=DIR   puts the library, its header and hart.pc below DIR
 #   make bench                measures hart dump, hart answer, hart explain and hart sim; it asserts no time
 

@@ -1,7 +1,8 @@
 #!/bin/sh
-# Holds include/hart.h against the source, makes the library, builds the examples without a warning, and runs them: on captures they have
-# to print just what the program does, whether the capture comes at once or byte by byte; the one of fields, what is written here; and
-# the devices among them have to reply just as it does.
+# Holds include/hart.h against the source, makes the library, and makes each call of the header from C, which has to do what is written in
+# tools/library_rows.h. Then it builds the examples without a warning, and runs them: on captures they have to print just what the
+# program does, whether the capture comes at once or byte by byte; the one of fields, what is written here; and the devices among them have
+# to reply just as it does.
 #
 # A C compiler and Python are needed. C++ and Rust are tried where they are found, and so are the sanitizers of the C compiler.
 #
@@ -14,17 +15,44 @@ trap 'rm -rf "$work"' EXIT
 cc=${CC:-cc}
 cxx=${CXX:-c++}
 strict='-O2 -Wall -Wextra -Wpedantic -Werror'
+sanitized='-fsanitize=address,undefined -fno-sanitize-recover=all'
 
 python3 tools/header.py
 sh tools/library.sh "$work"
 
+# The calls that a file in C names.
+calls_in() {
+    grep -oE '\bhart_[a-z_]+\(' "$1" | tr -d '(' | sort -u
+}
 offered=$(nm -D --defined-only "$work/libhart.so" | awk '{ print $3 }' | sort)
-declared=$(grep -oE '\bhart_[a-z_]+\(' include/hart.h | tr -d '(' | sort -u)
+declared=$(calls_in include/hart.h)
 if [ "$offered" != "$declared" ]; then
     echo "libhart.so offers other calls than include/hart.h declares:" >&2
     printf '%s\n' "$offered" >&2
     exit 1
 fi
+made=$(calls_in tools/library_calls.c)
+if [ "$made" != "$declared" ]; then
+    echo "tools/library_calls.c makes other calls than include/hart.h declares:" >&2
+    printf '%s\n' "$made" >&2
+    exit 1
+fi
+
+# Builds a program in C with some flags.
+build() {
+    source=$1
+    shift
+    $cc -std=c11 $strict "$@" -Iinclude "$source" "$work/libhart.a" -o "$work/$(basename "$source" .c)"
+}
+# Builds one on the shared library; its name ends with _shared.
+build_shared() {
+    $cc -std=c11 $strict -Iinclude "$1" -L"$work" -lhart -o "$work/$(basename "$1" .c)_shared"
+}
+
+build tools/library_calls.c
+"$work/library_calls"
+build_shared tools/library_calls.c
+LD_LIBRARY_PATH="$work" "$work/library_calls_shared"
 
 # Frames in noise, a false start that holds back a frame, damage, and a message that ends too early.
 cat >"$work/heard.txt" <<'HEARD'
@@ -50,12 +78,6 @@ hold() {
     ran=$((ran + 1))
 }
 
-# Builds a program in C with some flags.
-build() {
-    name=$1
-    shift
-    $cc -std=c11 $strict "$@" -Iinclude "examples/c/$name.c" "$work/libhart.a" -o "$work/$name"
-}
 # Talks to the device at its pseudo-terminal; one that nobody talks to ends by itself.
 talk() {
     timeout 120 python3 tools/device_example.py "$program" "$work/device"
@@ -63,19 +85,21 @@ talk() {
     ran=$((ran + 1))
 }
 
-build messages
+build examples/c/messages.c
 hold "$work/messages"
-$cc -std=c11 $strict -Iinclude examples/c/messages.c -L"$work" -lhart -o "$work/messages_shared"
+build_shared examples/c/messages.c
 readelf -d "$work/messages_shared" | grep -qF '[libhart.so.0]'
 hold env LD_LIBRARY_PATH="$work" "$work/messages_shared"
-build device
+build examples/c/device.c
 talk
-if build messages -fsanitize=address,undefined 2>"$work/said"; then
+if build examples/c/messages.c $sanitized 2>"$work/said"; then
     hold "$work/messages"
-    build device -fsanitize=address,undefined
+    build examples/c/device.c $sanitized
     talk
+    build tools/library_calls.c $sanitized
+    "$work/library_calls"
 else
-    echo "no sanitizers: the examples in C were not run under them"
+    echo "no sanitizers: the calls and the examples in C were not run under them"
 fi
 # A reply of Command 1, Command 11 with too few data, and a write.
 cat >"$work/fields" <<'FIELDS'

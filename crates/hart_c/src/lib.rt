@@ -40,6 +40,3 @@ pub use master::{HartAcceptance, HartUnique, hart_accept, hart_unique_of};
 pub use name::{hart_command_name, hart_field_name};
 pub use process::{HartOutput, HartProcess, HartSensor, HartVariable, hart_bench_process};
 pub use registers::{HartRegisters, hart_bench_registers};
-
-#[cfg(test)]
-mod tests;

@@ -1,0 +1,208 @@
+/* Makes each call of hart.h as a program in C does, and holds what it tells, what it writes and what it leaves as it
+ * was against the rows of library_rows.h. Each check that fails is named on standard error, and the status is then 1. */
+#include "library_rows.h"
+
+#include <stdio.h>
+#include <stdlib.h>
+#include <string.h>
+
+static bool has_failed;
+
+/* Names a call that does not do what it has to, its row, counted from 0, and the function that made it. */
+static void check(bool holds, const char *function, const char *call, size_t row)
+{
+    if (holds)
+        return;
+    has_failed = true;
+    fprintf(stderr, "%s: %s, row %zu: not as it has to be\n", function, call, row);
+}
+
+/* Reads a text of bytes in hex, and tells how many there are. */
+static size_t read_bytes(const char *text, uint8_t *bytes)
+{
+    size_t len = 0;
+    char *rest;
+    unsigned long byte = strtoul(text, &rest, 16);
+    while (rest != text && len < LONGEST) {
+        bytes[len++] = (uint8_t)byte;
+        text = rest;
+        byte = strtoul(text, &rest, 16);
+    }
+    return len;
+}
+
+/* The same as characters without faults. */
+static size_t read_characters(const char *text, hart_char *heard)
+{
+    uint8_t bytes[LONGEST] = {0};
+    size_t len = read_bytes(text, bytes);
+    for (size_t i = 0; i < len; i++)
+        heard[i] = (hart_char){.byte = bytes[i]};
+    return len;
+}
+
+static bool is_outcome(hart_outcome told, size_t len, uint8_t fault)
+{
+    return told.len == len && told.fault == fault;
+}
+
+static bool is_search(hart_search told, hart_search want)
+{
+    return told.used == want.used && told.count == want.count && told.fault == want.fault;
+}
+
+/* Whether a frame is that of WRITE at this place. */
+static bool is_write(const hart_frame *frame, uint64_t start)
+{
+    return frame->start == start && frame->stop == start + 12 && frame->command == 19 &&
+           frame->expanded_type == 0x3742 && frame->device_id == 0x0A1B2C && frame->is_primary && frame->is_unique &&
+           !frame->is_reply && !frame->is_burst && frame->expansion_len == 0 && frame->payload_len == 3 &&
+           memcmp(frame->payload, (uint8_t[]){0x01, 0x23, 0x45}, 3) == 0;
+}
+
+static bool is_reading(hart_reading told, hart_reading want)
+{
+    return told.count == want.count && told.taken == want.taken && told.code == want.code &&
+           told.status == want.status && told.fault == want.fault;
+}
+
+static void data_are_read_and_named(void)
+{
+    for (size_t row = 0; row < ROWS(data_rows); row++) {
+        const struct data_row *want = &data_rows[row];
+        uint8_t data[LONGEST] = {0};
+        size_t len = read_bytes(want->data, data);
+        hart_field fields[FIELDS] = {NONE, NONE, NONE};
+        hart_reading told = want->is_reply ? hart_read_reply(want->command, data, len, fields, FIELDS)
+                                           : hart_read_request(want->command, data, len, fields, FIELDS);
+        bool holds = is_reading(told, want->told) && memcmp(fields, want->fields, sizeof fields) == 0;
+        check(holds, __func__, want->is_reply ? "hart_read_reply" : "hart_read_request", row);
+    }
+    uint8_t name[NAME] = {0};
+    for (size_t row = 0; row < ROWS(name_rows); row++) {
+        const struct name_row *want = &name_rows[row];
+        hart_outcome told = want->is_of_field
+                                ? hart_field_name(want->is_reply, want->command, want->index, name, want->room)
+                                : hart_command_name(want->command, name, want->room);
+        bool holds = is_outcome(told, want->told.len, want->told.fault) && memcmp(name, want->held, NAME) == 0;
+        check(holds, __func__, want->is_of_field ? "hart_field_name" : "hart_command_name", row);
+    }
+}
+
+/* Plays turns with a device, one after the other. After the reply, and in silence, the output has to be as it was. */
+static void play(const char *function, const struct turn *turns, size_t turns_len, const hart_identity *identity,
+                 const hart_process *process, hart_device *device)
+{
+    for (size_t row = 0; row < turns_len; row++) {
+        hart_char heard[LONGEST] = {{0}};
+        uint8_t reply[LONGEST] = {0};
+        uint8_t want[LONGEST] = {0};
+        size_t heard_len = read_characters(turns[row].heard, heard);
+        size_t want_len = read_bytes(turns[row].reply, want);
+        if (turns[row].is_restarted)
+            hart_restart(device);
+        hart_outcome said = hart_hear(identity, process, heard, heard_len, device, reply, sizeof reply);
+        bool holds = is_outcome(said, want_len, HART_OK) && memcmp(reply, want, sizeof reply) == 0;
+        check(holds, function, turns[row].is_restarted ? "hart_restart and hart_hear" : "hart_hear", row);
+    }
+}
+
+static void a_device_answers_and_is_kept(void)
+{
+    hart_identity identity = {0};
+    hart_process process = {0};
+    hart_registers registers = {0};
+    hart_device device = {.primary_cold_start = true, .secondary_cold_start = true};
+    hart_bench_identity(&identity);
+    hart_bench_process(&process);
+    hart_bench_registers(&registers);
+    hart_outcome made = hart_new_device(&registers, &device);
+    check(is_outcome(made, IMAGE, HART_OK), __func__, "hart_new_device", 0);
+    play(__func__, bench_turns, ROWS(bench_turns), &identity, &process, &device);
+    hart_device kept = device;
+    memcpy(registers.date, (uint8_t[]){31, 2, 100}, sizeof registers.date);
+    hart_outcome refused = hart_new_device(&registers, &device);
+    bool is_kept = memcmp(&device, &kept, sizeof device) == 0;
+    check(is_outcome(refused, 0, HART_BAD_FIELD) && is_kept, __func__, "hart_new_device", 1);
+}
+
+static void a_reply_is_accepted_and_gives_an_address(void)
+{
+    uint8_t identify[LONGEST] = {0};
+    hart_frame request = {0};
+    hart_frame reply = {0};
+    size_t identify_len = read_bytes("02 80 00 00 82", identify);
+    hart_outcome read = hart_decode(identify, identify_len, &request);
+    check(read.fault == HART_OK, __func__, "hart_decode", 0);
+    for (size_t row = 0; row < ROWS(acceptance_rows); row++) {
+        const struct acceptance_row *want = &acceptance_rows[row];
+        hart_char heard[LONGEST] = {{0}};
+        size_t heard_len = read_characters(want->heard, heard);
+        request.command = want->command;
+        request.is_burst = want->is_burst;
+        hart_acceptance told = hart_accept(&request, heard, heard_len, &reply);
+        bool is_told = told.is_accepted == want->told.is_accepted && told.code == want->told.code &&
+                       told.status == want->told.status && told.fault == want->told.fault;
+        bool is_shown =
+            reply.start == want->start && reply.stop == want->stop && reply.payload_len == want->payload_len;
+        check(is_told && is_shown, __func__, "hart_accept", row);
+    }
+    hart_unique unique = hart_unique_of(reply.command, reply.payload, 24);
+    bool is_given = unique.is_given && unique.expanded_type == 0x3742 && unique.device_id == 0x0A1B2C;
+    check(is_given, __func__, "hart_unique_of", 0);
+}
+
+static void each_number_has_its_place(void)
+{
+    hart_device device = {.primary_cold_start = true, .secondary_cold_start = true};
+    hart_outcome made = hart_new_device(&other_registers, &device);
+    check(is_outcome(made, IMAGE, HART_OK), __func__, "hart_new_device", 0);
+    play(__func__, other_turns, ROWS(other_turns), &other_identity, &other_process, &device);
+}
+
+/* After the message the beginning of Command 0 is heard, of which nothing is decided. */
+static void a_message_is_found_read_and_written(void)
+{
+    uint8_t heard[LONGEST] = {0};
+    uint8_t message[LONGEST] = {0};
+    uint8_t want[LONGEST] = {0};
+    hart_frame frames[2] = {{0}};
+    hart_frame none = {0};
+    hart_frame decoded = {0};
+    size_t heard_len = read_bytes("FF FF " WRITE " FF FF 02 80", heard);
+    hart_search found = hart_find_in_bytes(heard, heard_len, false, frames, 2);
+    bool is_found = is_search(found, (hart_search){14, 1, HART_OK}) && is_write(&frames[0], 2);
+    bool is_left = memcmp(&frames[1], &none, sizeof none) == 0;
+    check(is_found && is_left, __func__, "hart_find_in_bytes", 0);
+    hart_outcome written = hart_encode(&frames[0], 5, message, sizeof message);
+    read_bytes("FF FF FF FF FF " WRITE, want);
+    bool is_written = is_outcome(written, 17, HART_OK) && memcmp(message, want, sizeof want) == 0;
+    check(is_written, __func__, "hart_encode", 0);
+    check(hart_check_byte(message + 5, 11) == 0x3D, __func__, "hart_check_byte", 0);
+    hart_outcome read = hart_decode(message + 5, sizeof message - 5, &decoded);
+    check(is_outcome(read, 12, HART_OK) && is_write(&decoded, 0), __func__, "hart_decode", 0);
+}
+
+static void faults_of_characters_are_heard(void)
+{
+    hart_char heard[LONGEST] = {{0}};
+    size_t heard_len = read_characters("FF FF " WRITE, heard);
+    for (size_t row = 0; row < ROWS(damage_rows); row++) {
+        const struct damage_row *want = &damage_rows[row];
+        hart_frame frame = {0};
+        heard[10].faults = want->faults;
+        hart_search told = hart_find(heard, heard_len, true, &frame, 1);
+        check(is_search(told, want->told) && frame.stop == want->stop, __func__, "hart_find", row);
+    }
+}
+
+int main(void)
+{
+    data_are_read_and_named();
+    a_device_answers_and_is_kept();
+    a_reply_is_accepted_and_gives_an_address();
+    each_number_has_its_place();
+    a_message_is_found_read_and_written();
+    faults_of_characters_are_heard();
+    return has_failed ? 1 : 0;
+}

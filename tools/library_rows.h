@@ -1,0 +1,231 @@
+/* What library_calls.c passes to each call of hart.h, and what has to come of it. */
+#ifndef LIBRARY_ROWS_H
+#define LIBRARY_ROWS_H
+
+#include "hart.h"
+
+enum {
+    LONGEST = 287, /* room for any message, and for all that is heard below */
+    IMAGE = 86,    /* the length of the image of a new device */
+    FIELDS = 3,    /* room for the fields of the data below */
+    NAME = 16      /* room for the names below */
+};
+
+#define ROWS(table) (sizeof(table) / sizeof(table)[0])
+
+/* A field as it was before a call. */
+#define NONE {9, 9, 9}
+
+/* The body of Command 19 of the primary master to device 37420A1B2C. */
+#define WRITE "82 B7 42 0A 1B 2C 13 03 01 23 45 3D"
+
+/* The reply to Command 0 at polling address 0 after two preamble bytes. */
+#define IDENTITY "FF FF 06 80 00 18 00 40 FE 37 42 05 07 01 02 18 00 0A 1B 2C 05 04 00 00 00 00 37 00 37 01 71"
+
+/* What stands before the command: of requests to the bench device and its replies, and of those of the other device. */
+#define TO_BENCH "FF FF FF FF FF 82 B7 42 0A 1B 2C "
+#define FROM_BENCH "FF FF FF FF FF 86 B7 42 0A 1B 2C "
+#define TO_OTHER "FF FF 82 92 34 56 78 9A "
+#define FROM_OTHER "FF FF FF FF FF FF FF FF FF FF FF 86 92 34 56 78 9A "
+
+/* Programs that were built before have these numbers in them. */
+_Static_assert(HART_NO_ROOM == 12 && HART_BAD_FAULT_BITS == 13 && HART_NO_REPLY == 14 && HART_UNKNOWN == 15 &&
+                   HART_BAD_FIELD == 20 && HART_NO_REQUEST == 23 && HART_WRONG_ADDRESS == 24,
+               "the numbers of faults");
+_Static_assert(HART_BYTES == 0 && HART_NUMBER == 1 && HART_PACKED_TEXT == 2 && HART_DATE == 3 && HART_FLOAT == 4 &&
+                   HART_VARIABLES == 5,
+               "the numbers of kinds");
+
+/* These are compared byte by byte, so they may have no padding. */
+_Static_assert(sizeof(hart_frame) == 288 && sizeof(hart_field) == 3 && sizeof(hart_device) == 89, "padding");
+
+/* A request or a reply, what is told of its data, and its first fields. */
+struct data_row {
+    bool is_reply;
+    uint8_t command;
+    const char *data;
+    hart_reading told; /* the count, the bytes taken, the code, the status, the fault */
+    hart_field fields[FIELDS];
+};
+
+static const struct data_row data_rows[] = {
+    {false, 19, "01 02 03 04", {1, 3, 0, 0, HART_OK}, {{0, 3, HART_BYTES}, NONE, NONE}},
+    {false, 6, "05", {1, 1, 0, 0, HART_OK}, {{0, 1, HART_NUMBER}, NONE, NONE}},
+    {false, 6, "40 00", {0, 0, 2, 0, HART_OK}, {NONE, NONE, NONE}},
+    {false, 19, "01 02", {0, 0, 5, 0, HART_OK}, {NONE, NONE, NONE}},
+    {false, 200, "", {0, 0, 64, 0, HART_OK}, {NONE, NONE, NONE}},
+    {true, 1, "00 40 20 41 BC 00 00 07", {2, 7, 0, 0x40, HART_OK}, {{2, 1, HART_NUMBER}, {3, 4, HART_FLOAT}, NONE}},
+    {true, 1, "05 40 20", {0, 2, 5, 0x40, HART_OK}, {NONE, NONE, NONE}},
+    {true, 1, "00 40 20", {0, 0, 0, 0, HART_NO_REPLY}, {NONE, NONE, NONE}},
+    {true,
+     9,
+     "00 00 00 00 00 00 00 00 00 00 00 00 00 00 00",
+     {3, 15, 0, 0, HART_OK},
+     {{2, 1, HART_BYTES}, {3, 8, HART_VARIABLES}, {11, 4, HART_BYTES}}},
+    {true,
+     13,
+     "00 00 00 00 00 00 00 00 00 00 00 00 00 00 00 00 00 00 00 00 00 00 00",
+     {3, 23, 0, 0, HART_OK},
+     {{2, 6, HART_PACKED_TEXT}, {8, 12, HART_PACKED_TEXT}, {20, 3, HART_DATE}}},
+};
+
+/* A name that is asked for with some room, what is told, and what an output that was there before then holds. */
+struct name_row {
+    bool is_of_field;
+    bool is_reply;
+    uint8_t command;
+    size_t index;
+    size_t room;
+    hart_outcome told;
+    const char *held;
+};
+
+static const struct name_row name_rows[] = {
+    {true, true, 1, 1, 16, {16, HART_OK}, "primary variable"},
+    {true, false, 1, 0, 16, {0, HART_UNKNOWN}, "primary variable"},
+    {false, false, 12, 0, 12, {12, HART_OK}, "read messageable"},
+    {false, false, 12, 0, 11, {0, HART_NO_ROOM}, "read messageable"},
+};
+
+/* What a device hears at once, after it was without power if so, and what it replies. */
+struct turn {
+    const char *heard;
+    const char *reply;
+    bool is_restarted;
+};
+
+/* The bench device, in the worked messages of docs/COMMANDS.md: who it is, its primary variable, communication faults
+ * to a damaged write, the write, what was written, silence to another polling address, and a restart that is shown in
+ * the first reply after it and not in the second. */
+static const struct turn bench_turns[] = {
+    {.heard = "FF FF FF FF FF 02 80 00 00 82",
+     .reply = "FF FF FF FF FF 06 80 00 18 00 00 FE 37 42 05 07 01 02 18 00 0A 1B 2C 05 04 00 00 00 00 37 00 37 01 31"},
+    {.heard = TO_BENCH "01 00 4B", .reply = FROM_BENCH "01 07 00 00 20 41 C8 00 00 E1"},
+    {.heard = TO_BENCH "13 03 01 23 45 3C", .reply = FROM_BENCH "13 02 88 00 D7"},
+    {.heard = TO_BENCH "13 03 01 23 45 3D", .reply = FROM_BENCH "13 05 00 40 01 23 45 7F"},
+    {.heard = TO_BENCH "10 00 5A", .reply = FROM_BENCH "10 05 00 40 01 23 45 7C"},
+    {.heard = "FF FF FF FF FF 02 81 00 00 83", .reply = ""},
+    {.heard = TO_BENCH "01 00 4B", .reply = FROM_BENCH "01 07 00 60 20 41 C8 00 00 81", .is_restarted = true},
+    {.heard = TO_BENCH "01 00 4B", .reply = FROM_BENCH "01 07 00 40 20 41 C8 00 00 A1"},
+};
+
+/* The other device, whose numbers of one size differ, so that none can stand in the place of another: who it is. */
+static const hart_identity other_identity = {
+    .device_id = 0x56789A,
+    .expanded_device_type = 0x1234,
+    .manufacturer = 0xBCDE,
+    .private_label_distributor = 0xF011,
+    .request_preambles = 6,
+    .response_preambles = 11,
+    .device_revision = 0x21,
+    .software_revision = 0x22,
+    .hardware_revision = 10,
+    .signalling_code = 3,
+    .flags = 0x24,
+    .device_variables = 0x25,
+    .device_profile = 0x26,
+};
+
+/* What it measures. */
+static const hart_process other_process = {
+    .loop_current = {0x31, 0x32, 0x33, 0x34},
+    .percent_of_range = {0x35, 0x36, 0x37, 0x38},
+    .variables = {{0x41, 0x42, {0x43, 0x44, 0x45, 0x46}, 0x47},
+                  {0x48, 0x49, {0x4A, 0x4B, 0x4C, 0x4D}, 0x4E},
+                  {0x51, 0x52, {0x53, 0x54, 0x55, 0x56}, 0x57},
+                  {0x58, 0x59, {0x5A, 0x5B, 0x5C, 0x5D}, 0x5E}},
+    .variables_len = 4,
+    .time_stamp = {0x61, 0x62, 0x63, 0x64},
+    .status = 0x85,
+    .additional_status = {0x70, 0x71, 0x72, 0x73, 0x74, 0x75, 0x76, 0x77, 0x78, 0x79, 0x7A, 0x7B, 0x7C,
+                          0x7D, 0x7E, 0x7F, 0x80, 0x81, 0x82, 0x83, 0x84, 0x85, 0x86, 0x87, 0x88},
+    .sensor = {.serial_number = {0x91, 0x92, 0x93},
+               .unit = 0x94,
+               .upper_limit = {0x95, 0x96, 0x97, 0x98},
+               .lower_limit = {0x99, 0x9A, 0x9B, 0x9C},
+               .minimum_span = {0x9D, 0x9E, 0x9F, 0xA0}},
+    .output = {.alarm_code = 0xA1,
+               .transfer_function = 0xA2,
+               .unit = 0xA3,
+               .upper_range_value = {0xA4, 0xA5, 0xA6, 0xA7},
+               .lower_range_value = {0xA8, 0xA9, 0xAA, 0xAB},
+               .damping = {0xAC, 0xAD, 0xAE, 0xAF},
+               .channel_flags = 0xB0},
+};
+
+/* What its registers hold. */
+static const hart_registers other_registers = {
+    .polling_address = 5,
+    .loop_current_mode = 1,
+    .message = {0xC0, 0xC1, 0xC2, 0xC3, 0xC4, 0xC5, 0xC6, 0xC7, 0xC8, 0xC9, 0xCA, 0xCB,
+                0xCC, 0xCD, 0xCE, 0xCF, 0xD0, 0xD1, 0xD2, 0xD3, 0xD4, 0xD5, 0xD6, 0xD7},
+    .tag = {0xE0, 0xE1, 0xE2, 0xE3, 0xE4, 0xE5},
+    .descriptor = {0xE6, 0xE7, 0xE8, 0xE9, 0xEA, 0xEB, 0xEC, 0xED, 0xEE, 0xEF, 0xF0, 0xF1},
+    .date = {0x0F, 0x06, 0x7D},
+    .assembly = {0xF3, 0xF4, 0xF5},
+    .long_tag = {0x01, 0x02, 0x03, 0x04, 0x05, 0x06, 0x07, 0x08, 0x09, 0x0A, 0x0B, 0x0C, 0x0D, 0x0E, 0x0F, 0x10,
+                 0x11, 0x12, 0x13, 0x14, 0x15, 0x16, 0x17, 0x18, 0x19, 0x1A, 0x1B, 0x1C, 0x1D, 0x1E, 0x1F, 0x20},
+};
+
+/* Each command that reads and needs no tag, to the other device, and the reply, by the tables of docs/COMMANDS.md. */
+static const struct turn other_turns[] = {
+    {.heard = TO_OTHER "00 00 90",
+     .reply = FROM_OTHER "00 18 00 95 FE 12 34 06 07 21 22 53 24 56 78 9A 0B 25 00 00 76 BC DE F0 11 26 FD"},
+    {.heard = TO_OTHER "01 00 91", .reply = FROM_OTHER "01 07 00 95 42 43 44 45 46 41"},
+    {.heard = TO_OTHER "02 00 92", .reply = FROM_OTHER "02 0A 00 95 31 32 33 34 35 36 37 38 01"},
+    {.heard = TO_OTHER "03 00 93",
+     .reply = FROM_OTHER "03 1A 00 95 31 32 33 34 42 43 44 45 46 49 4A 4B 4C 4D 52 53 54 55 56 59 5A 5B 5C 5D 1C"},
+    {.heard = TO_OTHER "07 00 97", .reply = FROM_OTHER "07 04 00 95 05 01 06"},
+    {.heard = TO_OTHER "08 00 98", .reply = FROM_OTHER "08 06 00 95 41 48 51 58 0F"},
+    {.heard = TO_OTHER "09 06 F6 F4 F5 01 02 03 68",
+     .reply = FROM_OTHER "09 37 00 95 76 F6 41 42 43 44 45 46 47 F4 00 39 35 36 37 38 47 F5 00 27 31 32 33 34 47 "
+                         "01 48 49 4A 4B 4C 4D 4E 02 51 52 53 54 55 56 57 03 58 59 5A 5B 5C 5D 5E 61 62 63 64 AC"},
+    {.heard = TO_OTHER "0C 00 9C",
+     .reply = FROM_OTHER "0C 1A 00 95 C0 C1 C2 C3 C4 C5 C6 C7 C8 C9 CA CB CC CD CE CF D0 D1 D2 D3 D4 D5 D6 D7 17"},
+    {.heard = TO_OTHER "0D 00 9D",
+     .reply = FROM_OTHER "0D 17 00 95 E0 E1 E2 E3 E4 E5 E6 E7 E8 E9 EA EB EC ED EE EF F0 F1 0F 06 7D 6E"},
+    {.heard = TO_OTHER "0E 00 9E",
+     .reply = FROM_OTHER "0E 12 00 95 91 92 93 94 95 96 97 98 99 9A 9B 9C 9D 9E 9F A0 2D"},
+    {.heard = TO_OTHER "0F 00 9F",
+     .reply = FROM_OTHER "0F 14 00 95 A1 A2 A3 A4 A5 A6 A7 A8 A9 AA AB AC AD AE AF 00 FA B0 F0"},
+    {.heard = TO_OTHER "10 00 80", .reply = FROM_OTHER "10 05 00 95 F3 F4 F5 E6"},
+    {.heard = TO_OTHER "14 00 84",
+     .reply = FROM_OTHER "14 22 00 95 01 02 03 04 05 06 07 08 09 0A 0B 0C 0D 0E 0F 10 11 12 13 14 15 16 17 18 19 "
+                         "1A 1B 1C 1D 1E 1F 20 17"},
+    {.heard = TO_OTHER "30 00 A0",
+     .reply = FROM_OTHER "30 1B 00 95 70 71 72 73 74 75 76 77 78 79 7A 7B 7C 7D 7E 7F 80 81 82 83 84 85 86 87 88 A2"},
+};
+
+/* The command and the burst bit of a request to polling address 0, what is heard after it, what is told of that, and
+ * which frame is then shown, which is the one before if none is accepted. */
+struct acceptance_row {
+    uint8_t command;
+    bool is_burst;
+    const char *heard;
+    hart_acceptance told; /* whether it is accepted, the code, the status, the fault */
+    uint64_t start;
+    uint64_t stop;
+    uint8_t payload_len;
+};
+
+static const struct acceptance_row acceptance_rows[] = {
+    {0, false, IDENTITY " " IDENTITY, {false, 0, 0, HART_OK}, 0, 0, 0},
+    {0, false, IDENTITY, {true, 0, 0x40, HART_OK}, 2, 31, 24},
+    {1, false, IDENTITY " " IDENTITY, {false, 0, 0, HART_WRONG_ADDRESS}, 2, 31, 24},
+    {1, true, IDENTITY " " IDENTITY, {false, 0, 0, HART_NO_REQUEST}, 2, 31, 24},
+};
+
+/* The fault bits of character 10 of a message, what is told of the search, and where the frame stops that is shown. */
+struct damage_row {
+    uint8_t faults;
+    hart_search told; /* how many are used, how many frames there are, the fault */
+    uint64_t stop;
+};
+
+static const struct damage_row damage_rows[] = {
+    {0x00, {14, 1, HART_OK}, 14},
+    {0x40, {14, 0, HART_OK}, 0},
+    {0x01, {0, 0, HART_BAD_FAULT_BITS}, 0},
+};
+
+#endif
