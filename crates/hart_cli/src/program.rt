@@ -1,7 +1,7 @@
 //! The program: which call the words make, and with which number it ends.
 
 ghost use Rattle.std.specs.Prelude.{◌≡◌, ◌≢◌, IfErr, map, string_bytes};
-ghost use Rattle.hart_cli.specs.program.Program.{CallOutcome, IsSendable, Ran, status_of};
+ghost use Rattle.hart_cli.specs.program.Program.{CallOutcome, HasPreambleCount, Ran, status_of};
 ghost use Rattle.hart_cli.specs.FaultText.{fault_line};
 ghost use Rattle.hart_cli.specs.stream.Stream.{WritesUnlessFailed};
 
@@ -53,7 +53,7 @@ pub fn program<R: Source, W: Sink, E: Sink>(
     ensures quiet { result ≡ 0 → errors.new ≡ errors.old }
 {
     match requested_call(alloc, words) {
-        Ok(call) => finish(carried_out(alloc, call, reader, writer), errors),
+        Ok(call) => finish(make_call(alloc, call, reader, writer), errors),
         Err(error) => {
             show(&error, errors);
             NO_CALL
@@ -61,14 +61,14 @@ pub fn program<R: Source, W: Sink, E: Sink>(
     }
 }
 
-/// Makes a call, and gives what it comes to.
-fn carried_out<R: Source, W: Sink>(
+/// Makes the call on the reader and the writer, and gives its result.
+fn make_call<R: Source, W: Sink>(
     alloc: Global,
     call: Call<'_>,
     reader: &mut R,
     writer: &mut W,
 ) -> Result<(), CliFault>
-    requires { IsSendable call }
+    requires { HasPreambleCount call }
     ensures { CallOutcome call.entry
         (R.stream reader.old) (R.stream reader.new)
         (W.stream writer.old) (W.stream writer.new)

@@ -43,7 +43,7 @@ pub record Ran (words : List Text) (reader reader_after writer writer_after erro
 
 -- For private calls alone:
 
--- A call of `encode` has a number of preamble bytes that a sender may put.
-abbrev pub IsSendable : Call → Type 0
-IsSendable (Encode words) = IsPreambleCount words.preambles
-IsSendable _ = Unit {0}
+-- If the call is one of `encode`, its number of preamble bytes is one that a sender puts; nothing is asked of any other.
+abbrev pub HasPreambleCount : Call → Type 0
+HasPreambleCount (Encode words) = IsPreambleCount words.preambles
+HasPreambleCount _ = Unit {0}

@@ -139,7 +139,7 @@ fn hart_command<'a>(alloc: Global) -> Result<Command<'a>, AllocError>
 {
     let hart = reading_command(alloc)?;
     let encode = encode_command(alloc)?;
-    // The words do not give clap the program's name, which the usage of a subcommand shows.
+    // The words do not give clap the program's name, which the usage of `hart help` shows.
     hart.subcommand(encode)?.bin_name("hart")
 }
 

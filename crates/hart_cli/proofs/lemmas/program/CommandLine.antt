@@ -12,7 +12,7 @@ use Rattle.clap.specs.declared.parser.matches.ArgMatches.{ArgMatches}
 use Rattle.hart_frame.specs.wire.Message.{IsPreambleCount}
 use Rattle.hart_cli.specs.program.CommandLine.{Calls, call_of, hart_app, message_words, preambles_of, words_of}
 use Rattle.hart_cli.specs.encode.MessageWords.{MessageWords}
-use Rattle.hart_cli.specs.program.Program.{IsSendable}
+use Rattle.hart_cli.specs.program.Program.{HasPreambleCount}
 use Rattle.hart_cli.specs.declared.program.command_line.Call.{Call}
 use Rattle.hart_cli.specs.declared.program.command_line.Call.TheVariants.{Answer, Dump, Encode, Explain, Sim}
 
@@ -72,16 +72,16 @@ words_called : (answer dump explain sim encode : Bool) (image : Option Text) (gi
     else if encode then option_map (λ w. Encode w) given else None) ≡ Some (Encode words) → given ≡ Some words
 words_called answer dump explain sim encode image given words h = grind (arith, common_steps)
 
--- a call that words make can be sent
-pub calls_sendable : (call : Call) (texts : List Text) → Calls call texts → IsSendable call
-calls_sendable (Encode words) texts calls = of (subcommand_of hart_app texts) calls.gives
+-- a call of `encode` that words make has a number of preamble bytes that a sender puts
+pub calls_counted : (call : Call) (texts : List Text) → Calls call texts → HasPreambleCount call
+calls_counted (Encode words) texts calls = of (subcommand_of hart_app texts) calls.gives
   where
     of : (met : Option (Text × List Row)) → call_of met ≡ Some (Encode words) → IsPreambleCount words.preambles
     of None gives = cc gives
     of (Some found) gives =
         counted (first_of (codes "preambles") found.1) words.preambles
         (words_counted _ _ _ _ _ words (words_called _ _ _ _ _ _ (words_of found.1) words gives))
-calls_sendable _ texts calls = tt
+calls_counted _ texts calls = tt
 
 -- the words make the call that their matches give
 pub calls_given : (words : List Text) (m : ArgMatches) (call : Call) → MeetsCall words m → Some call ≡ call_of (subcommand_rows_of m)

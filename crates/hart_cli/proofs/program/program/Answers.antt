@@ -1,5 +1,5 @@
-use Rattle.hart_cli.proofs.lemmas.program.CommandLine.{calls_sendable}
+use Rattle.hart_cli.proofs.lemmas.program.CommandLine.{calls_counted}
 use Rattle.hart_cli.proofs.program.program.Goals as goal
 
-pub carried_out-requires : goal.carried_out-requires
-carried_out-requires g c = calls_sendable _ _ c.in-Ok.ensures.call
+pub make_call-requires : goal.make_call-requires
+make_call-requires g c = calls_counted _ _ c.in-Ok.ensures.call
