@@ -1,8 +1,8 @@
 #!/bin/sh
-# Holds include/hart.h against the source, makes the library, and makes each call of the header from C, which has to do what is written in
-# tools/library_rows.h. Then it builds the examples without a warning, and runs them: on captures they have to print just what the
-# program does, whether the capture comes at once or byte by byte; the one of fields, what is written here; and the devices among them have
-# to reply just as it does.
+# Holds include/hart.h against the source, makes the library, and makes each call of the header from C, which has to do what
+# tools/library_calls.c says with its rows. Then it builds the examples without a warning, and runs them: on captures they have to print
+# just what the program does, whether the capture comes at once or byte by byte; the one of fields, what is written here; and the devices
+# among them have to reply just as it does.
 #
 # A C compiler and Python are needed. C++ and Rust are tried where they are found, and so are the sanitizers of the C compiler.
 #
@@ -53,6 +53,7 @@ build tools/library_calls.c
 "$work/library_calls"
 build_shared tools/library_calls.c
 LD_LIBRARY_PATH="$work" "$work/library_calls_shared"
+echo "each call of the library did what tools/library_calls.c says"
 
 # Frames in noise, a false start that holds back a frame, damage, and a message that ends too early.
 cat >"$work/heard.txt" <<'HEARD'
@@ -92,7 +93,9 @@ readelf -d "$work/messages_shared" | grep -qF '[libhart.so.0]'
 hold env LD_LIBRARY_PATH="$work" "$work/messages_shared"
 build examples/c/device.c
 talk
-if build examples/c/messages.c $sanitized 2>"$work/said"; then
+echo 'int main(void) { return 0; }' >"$work/nothing.c"
+if build "$work/nothing.c" $sanitized 2>"$work/said"; then
+    build examples/c/messages.c $sanitized
     hold "$work/messages"
     build examples/c/device.c $sanitized
     talk

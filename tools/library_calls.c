@@ -1,5 +1,6 @@
 /* Makes each call of hart.h as a program in C does, and holds what it tells, what it writes and what it leaves as it
- * was against the rows of library_rows.h. Each check that fails is named on standard error, and the status is then 1. */
+ * was against the rows of library_rows.h and what stands here. Each check that fails is named on standard error, and
+ * the status is then 1. */
 #include "library_rows.h"
 
 #include <stdio.h>
@@ -72,19 +73,19 @@ static void data_are_read_and_named(void)
         const struct data_row *want = &data_rows[row];
         uint8_t data[LONGEST] = {0};
         size_t len = read_bytes(want->data, data);
-        hart_field fields[FIELDS] = {NONE, NONE, NONE};
-        hart_reading told = want->is_reply ? hart_read_reply(want->command, data, len, fields, FIELDS)
-                                           : hart_read_request(want->command, data, len, fields, FIELDS);
+        hart_field fields[FIELD_ROOM] = {UNTOUCHED, UNTOUCHED, UNTOUCHED};
+        hart_reading told = want->is_reply ? hart_read_reply(want->command, data, len, fields, FIELD_ROOM)
+                                           : hart_read_request(want->command, data, len, fields, FIELD_ROOM);
         bool holds = is_reading(told, want->told) && memcmp(fields, want->fields, sizeof fields) == 0;
         check(holds, __func__, want->is_reply ? "hart_read_reply" : "hart_read_request", row);
     }
-    uint8_t name[NAME] = {0};
+    uint8_t name[NAME_ROOM] = {0};
     for (size_t row = 0; row < ROWS(name_rows); row++) {
         const struct name_row *want = &name_rows[row];
         hart_outcome told = want->is_of_field
                                 ? hart_field_name(want->is_reply, want->command, want->index, name, want->room)
                                 : hart_command_name(want->command, name, want->room);
-        bool holds = is_outcome(told, want->told.len, want->told.fault) && memcmp(name, want->held, NAME) == 0;
+        bool holds = is_outcome(told, want->told.len, want->told.fault) && memcmp(name, want->held, NAME_ROOM) == 0;
         check(holds, __func__, want->is_of_field ? "hart_field_name" : "hart_command_name", row);
     }
 }
@@ -117,7 +118,7 @@ static void a_device_answers_and_is_kept(void)
     hart_bench_process(&process);
     hart_bench_registers(&registers);
     hart_outcome made = hart_new_device(&registers, &device);
-    check(is_outcome(made, IMAGE, HART_OK), __func__, "hart_new_device", 0);
+    check(is_outcome(made, IMAGE_LEN, HART_OK), __func__, "hart_new_device", 0);
     play(__func__, bench_turns, ROWS(bench_turns), &identity, &process, &device);
     hart_device kept = device;
     memcpy(registers.date, (uint8_t[]){31, 2, 100}, sizeof registers.date);
@@ -156,7 +157,7 @@ static void each_number_has_its_place(void)
 {
     hart_device device = {.primary_cold_start = true, .secondary_cold_start = true};
     hart_outcome made = hart_new_device(&other_registers, &device);
-    check(is_outcome(made, IMAGE, HART_OK), __func__, "hart_new_device", 0);
+    check(is_outcome(made, IMAGE_LEN, HART_OK), __func__, "hart_new_device", 0);
     play(__func__, other_turns, ROWS(other_turns), &other_identity, &other_process, &device);
 }
 

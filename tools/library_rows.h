@@ -1,20 +1,20 @@
-/* What library_calls.c passes to each call of hart.h, and what has to come of it. */
+/* What library_calls.c passes to calls of hart.h row by row, and what has to come of it. */
 #ifndef LIBRARY_ROWS_H
 #define LIBRARY_ROWS_H
 
 #include "hart.h"
 
 enum {
-    LONGEST = 287, /* room for any message, and for all that is heard below */
-    IMAGE = 86,    /* the length of the image of a new device */
-    FIELDS = 3,    /* room for the fields of the data below */
-    NAME = 16      /* room for the names below */
+    LONGEST = 287,  /* room for any message, and for all that is heard below */
+    IMAGE_LEN = 86, /* the length of the image of a new device */
+    FIELD_ROOM = 3, /* room for the fields of the data below */
+    NAME_ROOM = 16  /* room for the names below */
 };
 
 #define ROWS(table) (sizeof(table) / sizeof(table)[0])
 
 /* A field as it was before a call. */
-#define NONE {9, 9, 9}
+#define UNTOUCHED {9, 9, 9}
 
 /* The body of Command 19 of the primary master to device 37420A1B2C. */
 #define WRITE "82 B7 42 0A 1B 2C 13 03 01 23 45 3D"
@@ -29,8 +29,12 @@ enum {
 #define FROM_OTHER "FF FF FF FF FF FF FF FF FF FF FF 86 92 34 56 78 9A "
 
 /* Programs that were built before have these numbers in them. */
-_Static_assert(HART_NO_ROOM == 12 && HART_BAD_FAULT_BITS == 13 && HART_NO_REPLY == 14 && HART_UNKNOWN == 15 &&
-                   HART_BAD_FIELD == 20 && HART_NO_REQUEST == 23 && HART_WRONG_ADDRESS == 24,
+_Static_assert(HART_OK == 0 && HART_TOO_SHORT_REPLY == 1 && HART_BAD_PREAMBLE == 2 && HART_BAD_DELIMITER == 3 &&
+                   HART_TRUNCATED == 4 && HART_BAD_CHECK == 5 && HART_SHORT_REPLY == 6 && HART_BAD_ADDRESS == 10 &&
+                   HART_LONG_EXPANSION == 11 && HART_NO_ROOM == 12 && HART_BAD_FAULT_BITS == 13 &&
+                   HART_NO_REPLY == 14 && HART_UNKNOWN == 15 && HART_OUT_OF_RANGE == 16 &&
+                   HART_BROADCAST_ADDRESS == 17 && HART_BAD_VERSION == 18 && HART_BAD_LENGTH == 19 && HART_BAD_FIELD == 20 &&
+                   HART_BAD_VARIABLES == 21 && HART_TOO_LONG == 22 && HART_NO_REQUEST == 23 && HART_WRONG_ADDRESS == 24,
                "the numbers of faults");
 _Static_assert(HART_BYTES == 0 && HART_NUMBER == 1 && HART_PACKED_TEXT == 2 && HART_DATE == 3 && HART_FLOAT == 4 &&
                    HART_VARIABLES == 5,
@@ -45,18 +49,22 @@ struct data_row {
     uint8_t command;
     const char *data;
     hart_reading told; /* the count, the bytes taken, the code, the status, the fault */
-    hart_field fields[FIELDS];
+    hart_field fields[FIELD_ROOM];
 };
 
 static const struct data_row data_rows[] = {
-    {false, 19, "01 02 03 04", {1, 3, 0, 0, HART_OK}, {{0, 3, HART_BYTES}, NONE, NONE}},
-    {false, 6, "05", {1, 1, 0, 0, HART_OK}, {{0, 1, HART_NUMBER}, NONE, NONE}},
-    {false, 6, "40 00", {0, 0, 2, 0, HART_OK}, {NONE, NONE, NONE}},
-    {false, 19, "01 02", {0, 0, 5, 0, HART_OK}, {NONE, NONE, NONE}},
-    {false, 200, "", {0, 0, 64, 0, HART_OK}, {NONE, NONE, NONE}},
-    {true, 1, "00 40 20 41 BC 00 00 07", {2, 7, 0, 0x40, HART_OK}, {{2, 1, HART_NUMBER}, {3, 4, HART_FLOAT}, NONE}},
-    {true, 1, "05 40 20", {0, 2, 5, 0x40, HART_OK}, {NONE, NONE, NONE}},
-    {true, 1, "00 40 20", {0, 0, 0, 0, HART_NO_REPLY}, {NONE, NONE, NONE}},
+    {false, 19, "01 02 03 04", {1, 3, 0, 0, HART_OK}, {{0, 3, HART_BYTES}, UNTOUCHED, UNTOUCHED}},
+    {false, 6, "05", {1, 1, 0, 0, HART_OK}, {{0, 1, HART_NUMBER}, UNTOUCHED, UNTOUCHED}},
+    {false, 6, "40 00", {0, 0, 2, 0, HART_OK}, {UNTOUCHED, UNTOUCHED, UNTOUCHED}},
+    {false, 19, "01 02", {0, 0, 5, 0, HART_OK}, {UNTOUCHED, UNTOUCHED, UNTOUCHED}},
+    {false, 200, "", {0, 0, 64, 0, HART_OK}, {UNTOUCHED, UNTOUCHED, UNTOUCHED}},
+    {true,
+     1,
+     "00 40 20 41 BC 00 00 07",
+     {2, 7, 0, 0x40, HART_OK},
+     {{2, 1, HART_NUMBER}, {3, 4, HART_FLOAT}, UNTOUCHED}},
+    {true, 1, "05 40 20", {0, 2, 5, 0x40, HART_OK}, {UNTOUCHED, UNTOUCHED, UNTOUCHED}},
+    {true, 1, "00 40 20", {0, 0, 0, 0, HART_NO_REPLY}, {UNTOUCHED, UNTOUCHED, UNTOUCHED}},
     {true,
      9,
      "00 00 00 00 00 00 00 00 00 00 00 00 00 00 00",

@@ -133,6 +133,7 @@ done
 shows help-help help help
 shows version --version
 shows wrong-word frob
+shows missing-word encode P @0
 # A file is no word of a call: what is said of one names how it goes in.
 shows wrong-file dump heard.txt
 
