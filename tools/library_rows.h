@@ -33,8 +33,9 @@ _Static_assert(HART_OK == 0 && HART_TOO_SHORT_REPLY == 1 && HART_BAD_PREAMBLE ==
                    HART_TRUNCATED == 4 && HART_BAD_CHECK == 5 && HART_SHORT_REPLY == 6 && HART_BAD_ADDRESS == 10 &&
                    HART_LONG_EXPANSION == 11 && HART_NO_ROOM == 12 && HART_BAD_FAULT_BITS == 13 &&
                    HART_NO_REPLY == 14 && HART_UNKNOWN == 15 && HART_OUT_OF_RANGE == 16 &&
-                   HART_BROADCAST_ADDRESS == 17 && HART_BAD_VERSION == 18 && HART_BAD_LENGTH == 19 && HART_BAD_FIELD == 20 &&
-                   HART_BAD_VARIABLES == 21 && HART_TOO_LONG == 22 && HART_NO_REQUEST == 23 && HART_WRONG_ADDRESS == 24,
+                   HART_BROADCAST_ADDRESS == 17 && HART_BAD_VERSION == 18 && HART_BAD_LENGTH == 19 &&
+                   HART_BAD_FIELD == 20 && HART_BAD_VARIABLES == 21 && HART_TOO_LONG == 22 && HART_NO_REQUEST == 23 &&
+                   HART_WRONG_ADDRESS == 24,
                "the numbers of faults");
 _Static_assert(HART_BYTES == 0 && HART_NUMBER == 1 && HART_PACKED_TEXT == 2 && HART_DATE == 3 && HART_FLOAT == 4 &&
                    HART_VARIABLES == 5,
