@@ -1,7 +1,7 @@
 //! The tests of the library's crates, a module for each: what no clause says, as vectors from outside, texts, and rooms that are refused.
 //!
-//! They use what a crate shows to every other. Those of hart_cli stand in it, and the calls of hart_c are tested
-//! from C (`tools/library_calls.c`).
+//! They use what a crate shows to every other. hart_cli is a program and shows nothing, so its tests stand beside its code.
+//! The calls of hart_c are tested from C (`tools/library_calls.c`).
 #![tactic(auto)]
 
 #[cfg(test)]
