@@ -1,6 +1,7 @@
 -- The laws of bodies, of frames, of scanners, of first starts and of damage, for the proofs of this crate and of those above.
+use Rattle.std.proofs.lemmas.Grind.{common_steps}
 use Rattle.std.proofs.Common.{arith, ◌≡◌, ◌+◌, ◌≤◌, ◌⊎◌, ◌↔◌, ℕ, Bool, false, IsTrue, List, [], ◌∷◌, ◌++◌, drop, length, map, refl, sym}
-use Rattle.std.proofs.Common.{append_assoc, length-append, subst}
+use Rattle.std.proofs.Common.{append_assoc, length-append}
 use Rattle.std.proofs.lemmas.List.{append-nil, drop-append-le}
 use Rattle.hart_values.proofs.lemmas.Laws.{address_bytes_are_unambiguous-one_list, address_bytes_are_unambiguous-one_reading}
 use Rattle.hart_frame.specs.heard.Character.{Character, faultless}
@@ -53,8 +54,7 @@ every_list_has_frames = AreFrames-found
 
 pub the_rest_has_the_later_frames : (place : ℕ) (chars : List Character) (frames : List Found)
     → AreFrames (drop place chars) 0 frames ↔ AreFrames chars place (map (moved place) frames)
-the_rest_has_the_later_frames place chars frames =
-    (rest_frames frames_are_unambiguous-one_list place chars frames, rest_only frames_are_unambiguous-one_list place chars frames)
+the_rest_has_the_later_frames place chars frames = grind (arith, common_steps, rest_frames, frames_are_unambiguous-one_list, rest_only)
 
 pub frames_are_streamed-all : (past : List Character) (given : List Found) → IsWholeHistory past given → AreFrames past 0 given
 frames_are_streamed-all = history_all
@@ -75,32 +75,24 @@ held_characters_have_the_later_frames-later = history_rest frames_are_unambiguou
 pub next_frames_are_all-onward : (chars : List Character) (ended : Bool) (from to after : ℕ) (given found : List Found)
     → LeadsOn chars ended from given to → LeadsOn chars ended to found after → LeadsOn chars ended from (given ++ found) after
 next_frames_are_all-onward chars ended from to after given found first second more later closed frames =
-    subst (AreFrames (chars ++ more) from) (sym (append_assoc given found later))
-    (first more (found ++ later) closed (second more later closed frames))
+    grind (arith, common_steps, append_assoc)
 
 pub next_frames_are_all-grown : (chars piece : List Character) (ended : Bool) (from to : ℕ) (given : List Found)
     → LeadsOn chars false from given to → LeadsOn (chars ++ piece) ended from given to
-next_frames_are_all-grown chars piece ended from to given leads more later closed frames =
-    let all = append_assoc chars piece more in
-    let To : List Character → Type 0 = λ cs. AreFrames cs to later in
-    let From : List Character → Type 0 = λ cs. AreFrames cs from (given ++ later) in
-    subst From (sym all) (leads (piece ++ more) later (λ ends. absurd cc) (subst To all frames))
+next_frames_are_all-grown chars piece ended from to given leads more later closed frames = grind (arith, common_steps, append_assoc)
 
 pub next_frames_are_all-rest : (chars more : List Character) (ended : Bool) (given later : List Found) (to : ℕ) → to ≤ length chars
     → LeadsOn chars ended 0 given to → (IsTrue ended → more ≡ []) → AreFrames (drop to chars ++ more) 0 later
     → AreFrames (chars ++ more) 0 (given ++ map (moved to) later)
 next_frames_are_all-rest chars more ended given later to within leads closed frames =
-    let Of : List Character → Type 0 = λ cs. AreFrames cs 0 later in
-    leads more (map (moved to) later) closed
-    (rest_frames frames_are_unambiguous-one_list to (chars ++ more) later (subst Of (sym (drop-append-le to chars more within)) frames))
+    grind (arith, common_steps, rest_frames, frames_are_unambiguous-one_list, drop-append-le)
 
 pub next_frames_are_all-all : (chars : List Character) (ended : Bool) (given : List Found) → LeadsOn chars ended 0 given (length chars)
     → AreFrames chars 0 given
 next_frames_are_all-all chars ended given leads =
     let none : AreFrames (chars ++ []) (length chars) [] =
     AreFrames.none (length chars) (HasNoFrame-end (chars ++ []) (length chars) (omega (arith, length-append chars ([])))) in
-    let Whole : List Character → Type 0 = λ cs. AreFrames cs 0 given in
-    subst Whole (append-nil chars) (subst (AreFrames (chars ++ []) 0) (append-nil given) (leads [] [] (λ _. refl) none))
+    grind (arith, common_steps, append-nil)
 
 pub messages_have_their_frame_alone-message : (frame : FrameParts) (preambles : ℕ) (bytes : List ℕ) → 2 ≤ preambles
     → IsMessage frame preambles bytes

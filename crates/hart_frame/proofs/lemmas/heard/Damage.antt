@@ -1,4 +1,5 @@
 -- What damage of a message leaves of its frame: the place of the delimiter is the only one where a body can stand.
+use Rattle.std.proofs.lemmas.Grind.{common_steps}
 use Rattle.std.proofs.Common.{◌≡◌, ◌≢◌, ℕ, zero, suc, ◌+◌, ◌<◌, ◌≤◌, ◌⊎◌, inl, inr, List, [], ◌∷◌, ◌++◌, length, drop, get_or, replicate}
 use Rattle.std.proofs.Common.{refl, sym, ap, ◌∙◌, arith, append_assoc, length-append, subst}
 use Rattle.std.specs.List.{AllZip}
@@ -11,7 +12,6 @@ use Rattle.hart_frame.specs.heard.Damage.{HasNoTwoPreambles, IsCheckDamage, IsHe
 use Rattle.hart_frame.specs.wire.Delimiter.{delimiter_of}
 use Rattle.hart_frame.specs.heard.Frames.{AreFrames, HasNoFrame, IsFirst, none, first}
 use Rattle.hart_frame.specs.wire.Layout.{body_length, delimiter_in}
-use Rattle.hart_frame.specs.wire.Parity.{HasEvenParity}
 use Rattle.hart_frame.specs.heard.Place.{StandsIn}
 use Rattle.hart_frame.specs.declared.heard.found.Found.{Found}
 use Rattle.hart_frame.proofs.lemmas.wire.UnambiguousBodies.{BeginsWithBody-append}
@@ -58,8 +58,7 @@ clear_at : (bytes : List ℕ) (chars : List Character) (place byte : ℕ) → Ar
 clear_at [] [] place byte heard within is = absurd (omega (arith, within))
 clear_at [] (character ∷ others) place byte heard within is = absurd heard
 clear_at (sent ∷ bytes) [] place byte heard within is = absurd heard
-clear_at (sent ∷ bytes) (character ∷ others) zero byte heard within is =
-    sym (clear_is sent byte (subst (IsHeardOrMarked sent) is heard.0))
+clear_at (sent ∷ bytes) (character ∷ others) zero byte heard within is = grind (arith, common_steps, clear_is)
 clear_at (sent ∷ bytes) (character ∷ others) (suc place) byte heard within is =
     clear_at bytes others place byte heard.1 (omega (arith, within)) is
 
@@ -140,8 +139,7 @@ not_after left body chars found from is stands after =
     let pair : List Character = faultless (255 ∷ 255 ∷ []) in
     let rest : List Character = faultless stands.body ++ stands.rest in
     is.no_two_preambles (drop (left + 1) stands.prefix) rest
-    (ap (drop (left + 1)) (parts chars found from stands) ∙ drop-append-le (left + 1) stands.prefix (pair ++ rest) (omega (arith, after))
-    ∙ sym (append_assoc (drop (left + 1) stands.prefix) pair rest))
+    (grind (arith, common_steps, parts, drop-append-le, append_assoc))
 
 -- nor before it
 not_before : (left : ℕ) (body : List ℕ) (chars : List Character) (found : Found) (from : ℕ) → IsHeard left body chars
@@ -151,8 +149,7 @@ not_before left body chars found from is stands before =
       arith,
       delimiter_of-other found.frame stands.body stands.is_body
           (preamble_at left body chars (length stands.prefix + 2) (delimiter_of found.frame) is before
-          (part_at chars found from 2 (length stands.prefix + 2) stands refl
-          ∙ first_at found.frame stands.body stands.rest stands.is_body)),
+          (grind (arith, common_steps, part_at, first_at))),
     )
 
 -- so a frame starts at the delimiter
@@ -180,8 +177,7 @@ begins_body left body chars found from is stands =
     let heard : AreHeardOrMarked body (drop left chars) = grind (arith, length-replicate, heard-drop) in
     let after : drop left chars ≡ rest =
     ap (drop left) (parts chars found from stands ∙ sym (append_assoc stands.prefix pair rest))
-    ∙ drop_at (stands.prefix ++ pair) rest left prefix_len in
-    begins_sent body stands.body stands.rest (subst (AreHeardOrMarked body) after heard)
+    ∙ drop_at (stands.prefix ++ pair) rest left prefix_len in grind (arith, common_steps, begins_sent)
 
 -- MARKED DAMAGE
 -- what keeps bodies unambiguous
@@ -250,10 +246,7 @@ check_none frame preambles chars damage found stands =
     let lengths : length bytes ≡ length stands.body + length begins.rest = ap length begins.parts ∙ length-append stands.body begins.rest in
     let body_lengths : body_length bytes ≡ body_length (stands.body ++ begins.rest) = ap body_length begins.parts in
     let ended = nil_from_length begins.rest
-    (omega (arith, lengths, body_lengths, said.whole, check_length frame preambles chars damage)) in
-    let same : stands.body ≡ bytes =
-    sym (begins.parts ∙ ap (λ (xs : List ℕ). stands.body ++ xs) ended ∙ append-nil stands.body) in
-    damage.parity (subst HasEvenParity same stands.is_body.parity)
+    (omega (arith, lengths, body_lengths, said.whole, check_length frame preambles chars damage)) in grind (arith, common_steps, append-nil)
 
 pub AreFrames-check : (frame : FrameParts) (preambles : ℕ) (chars : List Character) → IsCheckDamage frame preambles chars
     → AreFrames chars 0 []

@@ -1,4 +1,6 @@
 -- The frames of a delivery, by the first of them.
+use Rattle.std.proofs.Common.{arith}
+use Rattle.std.proofs.lemmas.Grind.{common_steps}
 use Rattle.std.proofs.Common.{◌≡◌, ℕ, List, [], ◌∷◌, ap, Option, None, Some, true, false}
 use Rattle.std.specs.Option.{MatchOption, is_some}
 use Rattle.hart_frame.specs.heard.Character.{Character}
@@ -17,8 +19,7 @@ pub only_said : OneList → (delivery : List Character) (said : LoneFrame) → I
     → (frames : List Found) → AreFrames delivery 0 frames → said ≡ lone_of frames
 only_said one_list delivery NoFrame are frames others = ap lone_of (one_list delivery 0 [] frames are others)
 only_said one_list delivery (Alone found) are frames others = ap lone_of (one_list delivery 0 (found ∷ []) frames are others)
-only_said one_list delivery Several (found, other, more, are) frames others =
-    ap lone_of (one_list delivery 0 (found ∷ other ∷ more) frames are others)
+only_said one_list delivery Several (found, other, more, are) frames others = grind (arith, common_steps)
 
 pub no_frame : (delivery : List Character) → HasNoFrame delivery 0 → AreFrames delivery 0 []
 no_frame delivery no_first = none 0 no_first

@@ -1,4 +1,5 @@
 -- Every list of characters has its frames.
+use Rattle.std.proofs.lemmas.Grind.{common_steps}
 use Rattle.std.proofs.Common.{◌≡◌, ℕ, zero, suc, ◌+◌, ◌<◌, ◌≤◌, ◌⊎◌, inl, inr, List, [], ◌∷◌, length, take, drop, refl, ap}
 use Rattle.std.proofs.Common.{◌∙◌, arith, subst}
 use Rattle.std.proofs.lemmas.List.{take-append-drop, take-map, take_rest, length-take-le}
@@ -40,8 +41,7 @@ faultless_decided (first ∷ others) =
       | inl clear ↦ elim (faultless_decided others) [
         | inl rest ↦ inl (record { bytes = first.byte ∷ rest.bytes; are = faultless_made first others rest.bytes clear rest.are })
         | inr damaged ↦ inr (λ all.
-            let split = faultless_first first others all.bytes all.are in
-            damaged (record { bytes = split.rest; are = split.others_are }))
+            let split = faultless_first first others all.bytes all.are in grind (arith, common_steps))
       ]
     ]
 
@@ -110,10 +110,8 @@ nothing_here chars x y rest place is none found stands start =
 -- whether a frame stands right at a place
 here_decided : (chars tail : List Character) (place : ℕ) → place ≤ length chars → tail ≡ drop place chars
     → Here chars place ⊎ NothingHere chars place
-here_decided chars [] place within is =
-    inr (λ found stands start. let at = is ∙ StandsIn-at chars place place found stands start in absurd cc)
-here_decided chars (x ∷ []) place within is =
-    inr (λ found stands start. let at = is ∙ StandsIn-at chars place place found stands start in absurd cc)
+here_decided chars [] place within is = grind (arith, common_steps, StandsIn-at)
+here_decided chars (x ∷ []) place within is = grind (arith, common_steps, StandsIn-at)
 here_decided chars (x ∷ y ∷ rest) place within is =
     elim (preamble_decided x) [
       | inr other ↦ inr (λ found stands start. let at = is ∙ StandsIn-at chars place place found stands start in other (cc))

@@ -1,4 +1,5 @@
 -- The bytes up to the first character with fault bits.
+use Rattle.std.proofs.lemmas.Grind.{common_steps}
 use Rattle.std.proofs.Common.{◌≡◌, ◌≢◌, ℕ, zero, suc, not, ◌+◌, ◌<◌, ◌≤◌, ◌⊎◌, inl, inr, List, [], ◌∷◌, ◌++◌, length, take, drop, get_or, min}
 use Rattle.std.proofs.Common.{None, Some, refl, sym, ap, ◌∙◌, arith, append_assoc, length-append, subst, ◌==◌}
 use Rattle.std.specs.List.{All, position_or_len, slice_get}
@@ -29,9 +30,7 @@ length-faultless_bytes chars = grind (arith, length-map, length-take)
 pub faultless_bytes-append : (body : List ℕ) (rest : List Character)
     → faultless_bytes (faultless body ++ rest) ≡ body ++ faultless_bytes rest
 faultless_bytes-append [] rest = refl
-faultless_bytes-append (byte ∷ bytes) rest =
-    faultless_bytes-more (record { byte = byte; faults = 0 }) (faultless bytes ++ rest) refl
-    ∙ ap (λ (xs : List ℕ). byte ∷ xs) (faultless_bytes-append bytes rest)
+faultless_bytes-append (byte ∷ bytes) rest = grind (arith, common_steps, faultless_bytes-more, faultless_bytes-append bytes rest)
 
 -- a character of the first so many of a list
 pub record Within (heard : List Character) (count most : ℕ) (c : Character) : Type 0 where
@@ -56,10 +55,7 @@ Front-more heard count bytes c within is good front =
 pub Front-end : (heard : List Character) (count most : ℕ) (bytes : List ℕ) (c : Character) → count < length heard → count < most
     → c ≡ get_or heard count c → c.faults ≢ 0 → Front heard count bytes → bytes ≡ take most (faultless_bytes heard)
 Front-end heard count most bytes c within few is bad front =
-    let at = ap faultless_bytes (drop_more heard count c within) in
-    let none : faultless_bytes (drop count heard) ≡ [] = grind (arith, faultless_bytes-end) in
-    let all : faultless_bytes heard ≡ bytes = front.whole ∙ ap (λ (xs : List ℕ). bytes ++ xs) none ∙ append-nil bytes in
-    sym (ap (take most) all ∙ take_all most bytes (omega (arith, front.long, few)))
+    grind (arith, common_steps, drop_more, within, faultless_bytes-end, append-nil, take_all)
 
 pub Front-all : (heard : List Character) (count most : ℕ) (bytes : List ℕ) → count ≡ min (length heard) most → Front heard count bytes
     → bytes ≡ take most (faultless_bytes heard)
@@ -69,12 +65,7 @@ Front-all heard count most bytes all front = grind (arith, drop_all, append-nil,
 pub heard_parts : (heard : List Character)
     → heard ≡ faultless (faultless_bytes heard) ++ drop (length (faultless_bytes heard)) heard
 heard_parts [] = refl
-heard_parts (c ∷ cs) =
-    let cases : (c.faults ≡ 0) ⊎ (c.faults ≢ 0) = grind arith in
-    elim cases [
-      | inl good ↦ grind (arith, faultless_bytes-more c cs good, heard_parts cs)
-      | inr bad ↦ grind (arith, faultless_bytes-end c cs bad)
-    ]
+heard_parts (c ∷ cs) = grind (arith, common_steps, faultless_bytes-more, faultless_bytes-end, heard_parts cs)
 
 -- a character that follows has fault bits
 pub after_faultless : (heard : List Character) (c : Character) → slice_get heard (length (faultless_bytes heard)) ≡ Some c
@@ -86,10 +77,7 @@ after_faultless (x ∷ xs) c is =
       | inl good ↦
           let long : length (faultless_bytes (x ∷ xs)) ≡ suc (length (faultless_bytes xs)) = ap length (faultless_bytes-more x xs good) in
           after_faultless xs c (sym (ap (slice_get (x ∷ xs)) long) ∙ is)
-      | inr bad ↦
-          let long : length (faultless_bytes (x ∷ xs)) ≡ 0 = ap length (faultless_bytes-end x xs bad) in
-          let same : Some x ≡ Some c = sym (ap (slice_get (x ∷ xs)) long) ∙ is in
-          grind arith
+      | inr bad ↦ grind (arith, common_steps, faultless_bytes-end)
     ]
 
 -- if no character follows the faultless bytes, they are all
@@ -133,9 +121,7 @@ faultless_fit (c ∷ cs) fit =
 
 -- faultless characters after others, and before a tail
 pub regrouped : (xs ys : List ℕ) (tail : List Character) → faultless (xs ++ ys) ++ tail ≡ faultless xs ++ (faultless ys ++ tail)
-regrouped xs ys tail =
-    let make = λ (byte : ℕ). let c : Character = record { byte = byte; faults = 0 } in c in
-    ap (λ (cs : List Character). cs ++ tail) (map-append make xs ys) ∙ append_assoc (faultless xs) (faultless ys) tail
+regrouped xs ys tail = grind (arith, common_steps, map-append, append_assoc)
 
 -- nor are the first of them
 pub length-front : (heard : List Character) (most : ℕ) (bytes : List ℕ) → bytes ≡ take most (faultless_bytes heard)
@@ -146,12 +132,7 @@ length-front heard most bytes is =
 -- the characters of so many first bytes
 pub front_heard : (heard : List Character) (most : ℕ)
     → faultless (take most (faultless_bytes heard)) ≡ take (length (take most (faultless_bytes heard))) heard
-front_heard heard most =
-    let bytes = faultless_bytes heard in
-    let n = length (take most bytes) in
-    let long = length-take most bytes in
-    let same : take most bytes ≡ take n bytes = sym (take_min most bytes) ∙ ap (λ (k : ℕ). take k bytes) (sym long) in
-    ap faultless same ∙ sym (take_heard heard n (omega (arith, long)))
+front_heard heard most = grind (arith, common_steps, length-take, take_min, take_heard)
 
 -- the first character with fault bits stands after them
 pub faulty_place : (chars : List Character) → position_or_len (λ c. not (c.faults == 0)) chars ≡ length (faultless_bytes chars)
@@ -173,9 +154,7 @@ faultless_bytes-all (c ∷ cs) all =
 
 -- they come from faultless characters
 pub faultless_all : (bytes : List ℕ) → All (λ c. c.faults ≡ 0) (faultless bytes)
-faultless_all bytes =
-    let make = λ (byte : ℕ). let c : Character = record { byte = byte; faults = 0 } in c in
-    All-map (λ (c : Character). c.faults ≡ 0) make bytes (λ k d below. refl)
+faultless_all bytes = search (arith, common_steps, All-map)
 
 -- each is the byte of the character at its place
 pub byte_at : (heard : List Character) (i : ℕ) (d : Character) → i < length (faultless_bytes heard)

@@ -1,4 +1,5 @@
 -- What a miss names is what stands in the way of a frame.
+use Rattle.std.proofs.lemmas.Grind.{common_steps}
 use Rattle.std.proofs.Common.{◌≡◌, ◌≢◌, ℕ, zero, suc, fold, bit_xor, ◌+◌, ◌-◌, ◌<◌, ◌≤◌, ◌⊎◌, inl, inr, List, [], ◌∷◌, ◌++◌, length, take}
 use Rattle.std.proofs.Common.{drop, get_or, set}
 use Rattle.std.proofs.Common.{true, Option, Some, refl, sym, ap, ◌∙◌, arith, append_assoc, length-append}
@@ -39,17 +40,7 @@ pub frame_up_to : (chars prefix rest : List Character) (body : List ℕ) (f : Fr
     → HasFrameUpTo chars place stop
 frame_up_to chars prefix rest body f place stop is split at to =
     let found : Found = record { start = place; stop = stop; frame = f } in
-    let stands : StandsIn found chars 0 = record {
-      prefix = prefix;
-      body = body;
-      rest = rest;
-      split = split;
-      is_body = is;
-      after = omega arith;
-      start = at;
-      stop = omega (arith, at, to);
-    } in
-    (found, stands, refl, refl)
+    let stands : StandsIn found chars 0 = grind (arith, common_steps) in grind (arith, common_steps)
 
 pub frame_at : (chars prefix rest : List Character) (body : List ℕ) (f : FrameParts) (place : ℕ) → IsBody f body
     → chars ≡ prefix ++ faultless (255 ∷ 255 ∷ body) ++ rest → place ≡ length prefix + 2 → HasFrameAt chars place
@@ -63,16 +54,7 @@ pub record Starts (chars : List Character) (start : ℕ) : Type 0 where
   pub split : chars ≡ prefix ++ (preamble ∷ preamble ∷ drop start chars)
 
 pub starts : (chars : List Character) (start : ℕ) → IsStart start chars → Starts chars start
-starts chars start is =
-    let front : List Character = is.prefix ++ (preamble ∷ preamble ∷ []) in
-    let long : length front ≡ start = length-append is.prefix (preamble ∷ preamble ∷ []) ∙ sym is.place_is in
-    let after : drop start chars ≡ is.first ∷ is.rest = ap (drop start) is.split ∙ drop_at front (is.first ∷ is.rest) start long in
-    record {
-      prefix = is.prefix;
-      at = is.place_is;
-      split = is.split ∙ append_assoc is.prefix (preamble ∷ preamble ∷ []) (is.first ∷ is.rest)
-          ∙ ap (λ (xs : List Character). is.prefix ++ (preamble ∷ preamble ∷ xs)) (sym after);
-    }
+starts chars start is = grind (arith, common_steps, preamble, length-append, drop_at, append_assoc)
 
 -- what is said up to the check byte is said by the bytes before it
 good_prefix : (bytes : List ℕ) (n : ℕ) → HasCheckByte bytes → byte_count_place bytes < n → n ≤ length bytes
@@ -109,10 +91,8 @@ heard_body heard fit has same =
     let tail : List Character = drop (length bytes) heard in
     let found = whole_body bytes (faultless_fit heard fit) has in
     let body : List ℕ = take n bytes ++ fitting_check_byte bytes ∷ [] in
-    let begin : take (n + 1) bytes ≡ body =
-    take_more bytes n 0 (omega (arith, has.1)) ∙ ap (λ (b : ℕ). take n bytes ++ b ∷ []) same in
-    let all : bytes ≡ body ++ drop (n + 1) bytes =
-    sym (take-append-drop (n + 1) bytes) ∙ ap (λ (xs : List ℕ). xs ++ drop (n + 1) bytes) begin in
+    let begin : take (n + 1) bytes ≡ body = grind (arith, common_steps, take_more) in
+    let all : bytes ≡ body ++ drop (n + 1) bytes = grind (arith, common_steps, take-append-drop) in
     record {
       frame = found.frame;
       body = body;
@@ -133,10 +113,7 @@ body_or_miss heard start faulty end fit (counted has few is) = inr (ap is_some i
 body_or_miss heard start faulty end fit (whole has is) =
     let bytes = faultless_bytes heard in
     let cases : (check_byte_in bytes ≡ fitting_check_byte bytes) ⊎ (check_byte_in bytes ≢ fitting_check_byte bytes) = grind arith in
-    elim cases [
-      | inl same ↦ inl (heard_body heard fit has same)
-      | inr differ ↦ inr (ap is_some (is ∙ other_check bytes start differ))
-    ]
+    grind (arith, common_steps, heard_body, other_check)
 
 pub heard_or_miss : (heard : List Character) (start : ℕ) → All (λ c. c.byte < 256) heard
     → HeardBody heard ⊎ (is_some (body_miss start heard) ≡ true)
@@ -147,8 +124,7 @@ heard_frame : (chars prefix heard : List Character) (place : ℕ) → chars ≡ 
     → place ≡ length prefix + 2 → HeardBody heard → HasFrameAt chars place
 heard_frame chars prefix heard place split at found =
     let two : List Character = preamble ∷ preamble ∷ faultless found.body in
-    frame_at chars prefix found.rest found.body found.frame place found.is_body (split
-    ∙ ap (λ (xs : List Character). prefix ++ (preamble ∷ preamble ∷ xs)) found.parts ∙ sym (append_assoc prefix two found.rest)) at
+    frame_at chars prefix found.rest found.body found.frame place found.is_body (grind (arith, common_steps, preamble, append_assoc)) at
 
 pub frame_or_miss : (place : ℕ) (chars : List Character) → All (λ c. c.byte < 256) chars → IsStart place chars
     → HasFrameAt chars place ⊎ IsSome (miss_of chars place)
@@ -167,8 +143,7 @@ with_preamble chars (suc k) one found =
     let at = one_before_place chars k one in
     let heard = drop (suc k) chars in
     let next : suc k ≡ k + 1 = omega arith in
-    let last : take (suc k) chars ≡ take k chars ++ preamble ∷ [] =
-    ap (λ (n : ℕ). take n chars) next ∙ take_more chars k preamble at.0 ∙ ap (λ (c : Character). take k chars ++ c ∷ []) at.1 in
+    let last : take (suc k) chars ≡ take k chars ++ preamble ∷ [] = grind (arith, common_steps, take_more, preamble) in
     let split : insert chars (suc k) preamble ≡ take k chars ++ (preamble ∷ preamble ∷ heard) =
     ap (λ (cs : List Character). cs ++ preamble ∷ heard) last ∙ append_assoc (take k chars) (preamble ∷ []) (preamble ∷ heard) in
     let long = length-take-le k chars (omega (arith, at.0)) in
@@ -180,8 +155,7 @@ pub one_preamble_fits : (start : ℕ) (chars : List Character) → All (λ c. c.
 one_preamble_fits start chars fit is =
     let heard = drop start chars in
     elim (miss_of-some chars start OnePreamble is) [
-      | inl (here, miss) ↦
-          absurd (never_one_preamble (faultless_bytes heard) _ _ start (told_of heard start) miss)
+      | inl (here, miss) ↦ grind (arith, common_steps, never_one_preamble, told_of)
       | inr (same, one, no_miss) ↦
           elim (heard_or_miss heard start (All-drop (λ (c : Character). c.byte < 256) start chars fit)) [
             | inl found ↦ with_preamble chars start one found
@@ -214,14 +188,9 @@ bad_check_at chars start byte fits place fit at bad =
     let others : List Character = drop (n + 1) heard in
     let within : n < length bytes = omega (arith, bad.has.1) in
     let all_within = length-faultless_bytes heard in
-    let parts : heard ≡ faultless checked ++ c ∷ others =
-    sym (take-append-drop n heard)
-    ∙ ap (λ (cs : List Character). cs ++ drop n heard) (take_heard heard n (omega (arith, within)))
-    ∙ ap (λ (cs : List Character). faultless checked ++ cs) (drop_more heard n preamble (omega (arith, within, all_within))) in
+    let parts : heard ≡ faultless checked ++ c ∷ others = search (arith, common_steps, take-append-drop, take_heard, drop_more, preamble) in
     let front : List Character = at.prefix ++ (preamble ∷ preamble ∷ faultless checked) in
-    let split : chars ≡ front ++ c ∷ others =
-    at.split ∙ ap (λ (cs : List Character). at.prefix ++ (preamble ∷ preamble ∷ cs)) parts
-    ∙ sym (append_assoc at.prefix (preamble ∷ preamble ∷ faultless checked) (c ∷ others)) in
+    let split : chars ≡ front ++ c ∷ others = grind (arith, common_steps, preamble, append_assoc) in
     let long : length front ≡ place =
     omega (
       arith,
@@ -232,8 +201,7 @@ bad_check_at chars start byte fits place fit at bad =
       at.at,
     ) in
     let body = whole_body bytes (faultless_fit heard (All-drop (λ (x : Character). x.byte < 256) start chars fit)) bad.has in
-    let changed : set chars place (make fits) ≡ front ++ make fits ∷ others =
-    ap (λ (cs : List Character). set cs place (make fits)) split ∙ set_at front c others (make fits) place long in
+    let changed : set chars place (make fits) ≡ front ++ make fits ∷ others = grind (arith, common_steps, set_at) in
     let last = fitting_check_byte bytes in
     let regroup : front ++ make last ∷ others ≡ at.prefix ++ faultless (255 ∷ 255 ∷ (checked ++ last ∷ [])) ++ others =
     after_front at.prefix checked last others in
@@ -278,8 +246,7 @@ pub fault_is_gone : (start place faults byte others : ℕ) (chars : List Charact
 fault_is_gone start place faults byte others chars is again =
     let c : Character = record { byte = byte; faults = 0 } in
     let at = faulty_at start place faults chars is in
-    let still = faulty_at start place others (set chars place c) again in
-    still.1 (ap (λ (x : Character). x.faults) (get_or-set_same chars place c preamble at.0))
+    let still = faulty_at start place others (set chars place c) again in grind (arith, common_steps, get_or-set_same, preamble)
 
 -- with the bytes that are missing a frame stands there
 missing_at : (chars : List Character) (start count : ℕ) (more : List ℕ) → All (λ c. c.byte < 256) chars → All (λ byte. byte < 256) more
@@ -299,11 +266,9 @@ missing_at chars start count more fit more_fit at missing long =
     let body = fitted checked (All-append (λ byte. byte < 256) bytes more fits more_fit) good
     (omega (arith, same, length-append bytes more, missing.few, missing.count_is, long)) in
     let all : heard ≡ faultless bytes = nothing_follows heard missing.at_end in
-    let split : chars ≡ at.prefix ++ (preamble ∷ preamble ∷ faultless bytes) =
-    at.split ∙ ap (λ (cs : List Character). at.prefix ++ (preamble ∷ preamble ∷ cs)) all in
+    let split : chars ≡ at.prefix ++ (preamble ∷ preamble ∷ faultless bytes) = grind (arith, common_steps, preamble) in
     let regroup : (at.prefix ++ (preamble ∷ preamble ∷ faultless bytes)) ++ faultless (more ++ last ∷ [])
-    ≡ at.prefix ++ faultless (255 ∷ 255 ∷ (checked ++ last ∷ [])) ++ [] =
-    before_end at.prefix bytes more last in
+    ≡ at.prefix ++ faultless (255 ∷ 255 ∷ (checked ++ last ∷ [])) ++ [] = grind (arith, common_steps, before_end) in
     let checked_fit = All-append (λ byte. byte < 256) bytes more fits more_fit in
     let make = λ (byte : ℕ). let c : Character = record { byte = byte; faults = 0 } in c in
     let stop : length chars + count ≡ start + length (checked ++ last ∷ []) =

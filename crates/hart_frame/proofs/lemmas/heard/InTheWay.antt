@@ -1,4 +1,5 @@
 -- A miss where a body may start is what stands in the way there.
+use Rattle.std.proofs.lemmas.Grind.{common_steps}
 use Rattle.std.proofs.Common.{◌≡◌, ◌≢◌, ℕ, zero, suc, ◌+◌, ◌-◌, ◌<◌, ◌≤◌, ◌⊎◌, inl, inr, List, [], ◌∷◌, ◌++◌, length, take}
 use Rattle.std.proofs.Common.{◌↔◌, drop, fold, get_or, bit_xor, true, false, Option, None, Some, refl, sym, ap, subst, ◌∙◌, arith}
 use Rattle.std.specs.List.{All, slice_get}
@@ -9,7 +10,7 @@ use Rattle.std.proofs.lemmas.List.{get_or-drop, length-append, length-drop}
 use Rattle.std.proofs.lemmas.List.Elements.{All-drop, All-take}
 use Rattle.std.proofs.lemmas.Option.{get_or_from_slice_get, none-some, same_Some, slice_get-get_or, slice_get_cases, slice_get_past, slice_get_within}
 use Rattle.hart_frame.specs.wire.Body.{BeginsWithBody}
-use Rattle.hart_frame.specs.wire.Layout.{body_length, delimiter_in}
+use Rattle.hart_frame.specs.wire.Layout.{body_length}
 use Rattle.hart_frame.specs.wire.Parity.{IsCheckByte}
 use Rattle.hart_frame.specs.wire.Refusal.{IsDelimiter, IsTruncated}
 use Rattle.hart_frame.specs.heard.Character.{Character, faultless_bytes}
@@ -33,9 +34,7 @@ use Rattle.hart_frame.proofs.lemmas.wire.UnambiguousBodies.{BeginsWithBody-appen
 use Rattle.hart_frame.proofs.lemmas.heard.Place.{preamble}
 
 start_within : (chars : List Character) (start : ℕ) → IsStart start chars → start ≤ length chars
-start_within chars start is =
-    let two : List Character = preamble ∷ preamble ∷ [] in
-    omega (arith, ap length is.split, length-append (is.prefix ++ two) (is.first ∷ is.rest), length-append is.prefix two, is.place_is)
+start_within chars start is = grind (arith, common_steps, preamble, length-append)
 
 -- a character of the rest of a list
 rest_at : (chars : List Character) (start n : ℕ) (c : Character) → slice_get (drop start chars) n ≡ Some c
@@ -66,18 +65,11 @@ front_at (c ∷ cs) (suc i) below = grind (arith, faultless_bytes-more, faultles
 -- nothing comes after the bytes at the end of the list, and nowhere else
 end_is : (chars : List Character) (start : ℕ) → start ≤ length chars
     → slice_get (drop start chars) (length (bytes_from chars start)) ≡ None → ComeToTheEnd chars start
-end_is chars start within none =
-    let heard = drop start chars in
-    let n = length (faultless_bytes heard) in
-    elim (slice_get_cases heard n).1 [
-      | inl (c, below, some, same) ↦ absurd (none-some c (sym none ∙ some))
-      | inr (past, past_is) ↦ omega (arith, past, within, length-faultless_bytes heard, length-drop start chars)
-    ]
+end_is chars start within none = grind (arith, common_steps, slice_get_cases, none-some, length-faultless_bytes, length-drop)
 
 nothing_at_end : (chars : List Character) (start : ℕ) → ComeToTheEnd chars start
     → slice_get (drop start chars) (length (bytes_from chars start)) ≡ None
-nothing_at_end chars start end =
-    slice_get_past (drop start chars) (length (bytes_from chars start)) (omega (arith, end, length-drop start chars))
+nothing_at_end chars start end = grind (arith, common_steps, slice_get_past, length-drop)
 
 -- where the bytes stop too early: at the end of the list, or at a character with fault bits
 early_way : (chars : List Character) (start : ℕ) (at_end miss : Miss) → start ≤ length chars
@@ -126,23 +118,12 @@ said_early chars start at_end miss within truncated by_end is =
 said : (chars : List Character) (start : ℕ) (miss : Miss) → All (λ byte. byte < 256) (bytes_from chars start) → start ≤ length chars
     → Told (bytes_from chars start) (slice_get (drop start chars) (length (bytes_from chars start)))
     (start + length (bytes_from chars start)) start → body_miss start (drop start chars) ≡ Some miss → IsInTheWay chars start miss
-said chars start miss fit within (empty none is) told =
-    said_early chars start EndsBeforeByteCount miss within (inl none) (λ end. (inl none, λ has. omega (arith, has.1, none), end))
-    (same_Some _ miss (sym is ∙ told))
-said chars start miss fit within (other any bad is) told =
-    let In : Miss → Type 0 = λ miss. IsInTheWay chars start miss in
-    let first = delimiter_in (bytes_from chars start) in
-    let same = same_Some _ miss (sym is ∙ told) in
-    elim (burst_or_other first) [
-      | inl (burst, has) ↦ subst In (sym burst ∙ same) (any, has)
-      | inr (not, has) ↦ subst In (sym not ∙ same) (any, refl, bad, has)
-    ]
+said chars start miss fit within (empty none is) told = grind (arith, common_steps, said_early, same_Some)
+said chars start miss fit within (other any bad is) told = grind (arith, common_steps, same_Some, burst_or_other)
 said chars start miss fit within (begun has few is) told =
     said_early chars start EndsBeforeByteCount miss within (inr (inl (has, few)))
     (λ end. (inr (inl (has, few)), λ count. omega (arith, count.1, few), end)) (same_Some _ miss (sym is ∙ told))
-said chars start miss fit within (short has ack few is) told =
-    let In : Miss → Type 0 = λ miss. IsInTheWay chars start miss in
-    subst In (same_Some _ miss (sym is ∙ told)) (has, ack, refl, few)
+said chars start miss fit within (short has ack few is) told = grind (arith, common_steps, same_Some)
 said chars start miss fit within (counted has few is) told =
     let bytes = bytes_from chars start in
     said_early chars start (Missing (body_length bytes - length bytes)) miss within (inr (inr (has, few)))
@@ -167,16 +148,11 @@ early_is : (chars : List Character) (start place faults : ℕ) → place ≡ sta
     → HasFaultsAt chars place faults → (at_end : Miss)
     → faulty_or (slice_get (drop start chars) (length (bytes_from chars start))) (start + length (bytes_from chars start)) at_end
     ≡ Faulty place faults
-early_is chars start place faults is (some, byte, at) at_end =
-    let n = length (bytes_from chars start) in
-    let c : Character = record { byte = byte; faults = faults } in
-    let here = at_rest chars start n c (ap (slice_get chars) (sym is) ∙ at) in
-    ap (λ (found : Option Character). faulty_or found (start + n) at_end) here ∙ ap (λ (p : ℕ). Faulty p faults) (sym is)
+early_is chars start place faults is (some, byte, at) at_end = grind (arith, common_steps, at_rest)
 
 end_told : (chars : List Character) (start : ℕ) → ComeToTheEnd chars start → (at_end : Miss)
     → faulty_or (slice_get (drop start chars) (length (bytes_from chars start))) (start + length (bytes_from chars start)) at_end ≡ at_end
-end_told chars start end at_end =
-    ap (λ (found : Option Character). faulty_or found (start + length (bytes_from chars start)) at_end) (nothing_at_end chars start end)
+end_told chars start end at_end = grind (arith, common_steps, nothing_at_end)
 
 some_miss : (a b : Miss) → a ≡ b → Some a ≡ Some b
 some_miss a b same = ap (λ (miss : Miss). let found : Option Miss = Some miss in found) same
@@ -189,24 +165,14 @@ only chars start (Faulty place faults) fit (inr (inl (begins, few)), is, has) =
     miss_in-begun _ _ _ start begins few ∙ some_miss _ _ (early_is chars start place faults is has EndsBeforeByteCount)
 only chars start (Faulty place faults) fit (inr (inr (good, few)), is, has) =
     miss_in-counted _ _ _ start good few ∙ some_miss _ _ (early_is chars start place faults is has _)
-only chars start Burst fit (any, burst) =
-    miss_in-other _ _ _ start any (burst_is_none _ burst) ∙ some_miss _ _ (burst-yes _ burst)
-only chars start (BadDelimiter byte) fit (any, same, bad, not) =
-    let Bad : ℕ → Type 0 = λ byte. IsDelimiter byte → ⊥ in
-    miss_in-other _ _ _ start any (subst Bad (sym same) bad)
-    ∙ some_miss _ _ (ap delimiter_miss same ∙ burst-no byte not)
-only chars start EndsBeforeByteCount fit (inl none, not, end) =
-    miss_in-none _ _ _ start none ∙ some_miss _ _ (end_told chars start end EndsBeforeByteCount)
+only chars start Burst fit (any, burst) = grind (arith, common_steps, miss_in-other, burst_is_none, some_miss, burst-yes)
+only chars start (BadDelimiter byte) fit (any, same, bad, not) = grind (arith, common_steps, miss_in-other, some_miss, burst-no)
+only chars start EndsBeforeByteCount fit (inl none, not, end) = grind (arith, common_steps, miss_in-none, some_miss, end_told)
 only chars start EndsBeforeByteCount fit (inr (inl (begins, few)), not, end) =
     miss_in-begun _ _ _ start begins few ∙ some_miss _ _ (end_told chars start end EndsBeforeByteCount)
 only chars start EndsBeforeByteCount fit (inr (inr (good, few)), not, end) = absurd (not good.0)
-only chars start (ShortReply count) fit (has, ack, same, few) =
-    let bytes = bytes_from chars start in
-    miss_in-short _ _ _ start has ack (omega (arith, same, few)) ∙ some_miss _ _ (ap (λ (n : ℕ). ShortReply n) same)
-only chars start (Missing count) fit (has, some, sum, end) =
-    let bytes = bytes_from chars start in
-    miss_in-counted _ _ _ start has (omega (arith, some, sum))
-    ∙ some_miss _ _ (end_told chars start end _ ∙ ap (λ (n : ℕ). Missing n) (omega (arith, sum)))
+only chars start (ShortReply count) fit (has, ack, same, few) = grind (arith, common_steps, miss_in-short, some_miss)
+only chars start (Missing count) fit (has, some, sum, end) = grind (arith, common_steps, miss_in-counted, some_miss, end_told)
 only chars start (BadCheck place byte fits) fit (has, is, at, check, differ) =
     let bytes = bytes_from chars start in
     let n = body_length bytes - 1 in
@@ -215,8 +181,7 @@ only chars start (BadCheck place byte fits) fit (has, is, at, check, differ) =
     let there = at_rest chars start n (record { byte = byte; faults = 0 }) (ap (slice_get chars) (sym place_is) ∙ at) in
     let byte_is : check_byte_in bytes ≡ byte = ap (λ (c : Character). c.byte) (same_Some _ _ (sym here ∙ there)) in
     let fits_is : fits ≡ fitting_check_byte bytes = fits-is (take n bytes) fits (All-take (λ byte. byte < 256) n bytes fit) check in
-    miss_in-whole _ _ _ start has
-    ∙ other_check bytes start (λ same. differ (sym byte_is ∙ same ∙ sym fits_is)) ∙ some_miss _ _ (grind arith)
+    grind (arith, common_steps, miss_in-whole, other_check, some_miss)
 only chars start OnePreamble fit never = absurd never
 
 pub in_the_way : (start : ℕ) (chars : List Character) (miss : Miss) → All (λ c. c.byte < 256) chars → IsStart start chars
@@ -225,7 +190,7 @@ in_the_way start chars miss fit is =
     let heard = drop start chars in
     let fits = faultless_fit heard (All-drop (λ (c : Character). c.byte < 256) start chars fit) in
     let same = miss_of-start chars heard start refl is in (
-      λ miss_is. said chars start miss fits (start_within chars start is) (told_of heard start) (same ∙ miss_is),
+      grind (arith, common_steps, said, start_within, told_of),
       λ way. sym same ∙ only chars start miss fits way,
     )
 
@@ -234,8 +199,7 @@ none_of : (chars : List Character) (start : ℕ) → HasBodyAt chars start → i
 none_of chars start has =
     let heard = drop start chars in
     let bytes = faultless_bytes heard in
-    let all : bytes ≡ has.body ++ faultless_bytes has.rest =
-    ap faultless_bytes has.parts ∙ faultless_bytes-append has.body has.rest in
+    let all : bytes ≡ has.body ++ faultless_bytes has.rest = grind (arith, common_steps, faultless_bytes-append) in
     let Begins : List ℕ → Type 0 = λ xs. BeginsWithBody xs has.frame (length has.body) in
     let begins = subst Begins (sym all) (BeginsWithBody-append has.frame has.body (faultless_bytes has.rest) has.is_body) in
     ap is_some (nothing_missed bytes has.frame (length has.body) _ _ start begins (told_of heard start))
@@ -252,10 +216,7 @@ alone_is start chars fit is =
       | inl (here, miss) ↦ absurd (never_one_preamble (faultless_bytes heard) _ _ start (told_of heard start) miss)
       | inr (same, one, no_miss) ↦
           elim (heard_or_miss heard start (All-drop (λ (c : Character). c.byte < 256) start chars fit)) [
-            | inl found ↦ (
-              one,
-              record { frame = found.frame; body = found.body; rest = found.rest; is_body = found.is_body; parts = found.parts },
-            )
+            | inl found ↦ grind (arith, common_steps)
             | inr some ↦ absurd (false≢true (sym no_miss ∙ some))
           ]
     ]

@@ -1,4 +1,5 @@
 -- Why no body begins at a start: by its bytes, and by the characters that are heard there.
+use Rattle.std.proofs.lemmas.Grind.{common_steps}
 use Rattle.std.proofs.Common.{◌≡◌, ◌≢◌, ℕ, ◌+◌, ◌-◌, ◌*◌, ◌/◌, ◌%◌, ◌<◌, ◌≤◌, List, ◌++◌, length, take, drop, get_or, min}
 use Rattle.std.proofs.Common.{◌⊎◌, inl, inr, subst, true, false, Option, None, Some, refl, sym, ap, ◌∙◌, arith}
 use Rattle.std.proofs.lemmas.List.{get_or_append_left, length-map, length-take, length-take-le, take-append-drop, take-append-le}
@@ -63,11 +64,7 @@ other_check body start other = grind (arith, nat_tests)
 
 -- it is the same whatever follows
 pub check_miss-more : (xs ys : List ℕ) (start : ℕ) → HasCheckByte xs → check_miss (xs ++ ys) start ≡ check_miss xs start
-check_miss-more xs ys start has =
-    let same = length_more xs ys has.0.0.1 in
-    let byte : check_byte_in (xs ++ ys) ≡ check_byte_in xs = grind (arith, get_or_append_left) in
-    let fits : fitting_check_byte (xs ++ ys) ≡ fitting_check_byte xs = grind (arith, take-append-le) in
-    grind arith
+check_miss-more xs ys start has = grind (arith, common_steps, length_more, get_or_append_left, take-append-le)
 
 -- with a check byte it is all that can be wrong
 pub missed_whole : (bytes : List ℕ) (len : ℕ) (faulty : Option Character) (place start : ℕ) → HasCheckByte bytes → body_length bytes ≡ len
@@ -98,23 +95,10 @@ pub data Told (bytes : List ℕ) (faulty : Option Character) (place start : ℕ)
   whole : HasCheckByte bytes → miss_in bytes faulty place start ≡ check_miss bytes start → Told bytes faulty place start
 
 told_counted : (bytes : List ℕ) (faulty : Option Character) (place start : ℕ) → HasGoodByteCount bytes → Told bytes faulty place start
-told_counted bytes faulty place start has =
-    let cases : (length bytes < body_length bytes) ⊎ (body_length bytes ≤ length bytes) = grind arith in
-    elim cases [
-      | inl few ↦ counted has few (miss_in-counted bytes faulty place start has few)
-      | inr long ↦ whole (has, long) (miss_in-whole bytes faulty place start (has, long))
-    ]
+told_counted bytes faulty place start has = grind (arith, common_steps, miss_in-counted, miss_in-whole)
 
 told_begun : (bytes : List ℕ) (faulty : Option Character) (place start : ℕ) → HasByteCount bytes → Told bytes faulty place start
-told_begun bytes faulty place start has =
-    let cases : (2 ≤ byte_count_in bytes) ⊎ (byte_count_in bytes < 2) = grind arith in
-    elim has.0.1.1 [
-      | inl stx ↦ told_counted bytes faulty place start (has, inl stx)
-      | inr ack ↦ elim cases [
-        | inl enough ↦ told_counted bytes faulty place start (has, inr enough)
-        | inr few ↦ short has ack few (miss_in-short bytes faulty place start has ack few)
-      ]
-    ]
+told_begun bytes faulty place start has = search (arith, common_steps, told_counted, miss_in-short)
 
 pub told : (bytes : List ℕ) (faulty : Option Character) (place start : ℕ) → Told bytes faulty place start
 told bytes faulty place start =
@@ -124,18 +108,14 @@ told bytes faulty place start =
       | inl none ↦ empty none (miss_in-none bytes faulty place start none)
       | inr any ↦ elim (delimiter_decided (delimiter_in bytes)) [
         | inr bad ↦ other any bad (miss_in-other bytes faulty place start any bad)
-        | inl good ↦ elim long [
-          | inl more ↦ told_begun bytes faulty place start ((any, good), more)
-          | inr few ↦ begun (any, good) few (miss_in-begun bytes faulty place start (any, good) few)
-        ]
+        | inl good ↦ search (arith, common_steps, told_begun, miss_in-begun)
       ]
     ]
 
 -- of what is heard from a start on
 pub told_of : (heard : List Character) (start : ℕ)
     → Told (faultless_bytes heard) (slice_get heard (length (faultless_bytes heard))) (start + length (faultless_bytes heard)) start
-told_of heard start =
-    let bytes = faultless_bytes heard in told bytes (slice_get heard (length bytes)) (start + length bytes) start
+told_of heard start = grind (arith, common_steps, told)
 
 -- so many first characters without fault bits are as many faultless bytes
 pub record IsWholeFront (heard body : List Character) (len : ℕ) : Type 0 where
@@ -148,20 +128,12 @@ whole_front heard body len within is all =
     let byte = λ (c : Character). c.byte in
     let bytes : bytes_of body ≡ take len (faultless_bytes heard) =
     sym (faultless_bytes-all body all) ∙ ap faultless_bytes is ∙ faultless_bytes-take len heard in
-    let long : length (bytes_of body) ≡ len = length-map body byte ∙ ap length is ∙ length-take-le len heard within in
-    record { bytes = bytes; within = omega (arith, ap length bytes, long, length-take len (faultless_bytes heard)) }
+    grind (arith, common_steps, length-map, length-take-le, length-take)
 
 -- the length of a body is the same by its bytes alone
 pub front_length : (heard body : List Character) (len : ℕ) → IsWholeFront heard body len → HasGoodByteCount (faultless_bytes heard)
     → len ≡ body_length (faultless_bytes heard) → body_length (bytes_of body) ≡ len
-front_length heard body len front has long =
-    let bytes = faultless_bytes heard in
-    let parts = take-append-drop len bytes in
-    let Has : List ℕ → Type 0 = λ xs. HasCheckByte xs in
-    let Within : List ℕ → Type 0 = λ xs. body_length xs ≤ length (take len bytes) in
-    let cut = HasCheckByte-prefix (take len bytes) (drop len bytes) (subst Has (sym parts) (has, omega (arith, front.within, long)))
-    (subst Within (sym parts) (omega (arith, long, length-take-le len bytes front.within))) in
-    ap body_length front.bytes ∙ sym cut.1 ∙ ap body_length parts ∙ sym long
+front_length heard body len front has long = grind (arith, common_steps, take-append-drop, HasCheckByte-prefix, length-take-le)
 
 -- with a whole body its check byte decides
 pub counted_whole : (heard body : List Character) (len start : ℕ) → IsWholeFront heard body len
@@ -182,9 +154,7 @@ at_end_alike heard len place =
     let cases : (n < length heard) ⊎ (length heard ≤ n) = grind arith in
     elim cases [
       | inl within ↦ rw (slice_get-get_or heard n preamble within) refl
-      | inr end ↦
-          let same : length heard ≡ n = omega (arith, length-faultless_bytes heard, end) in
-          ap (λ (k : ℕ). faulty_or (slice_get heard n) place (Missing (len - k))) same
+      | inr end ↦ grind (arith, common_steps, length-faultless_bytes)
     ]
 
 -- with fewer characters it is their end, or the one with fault bits
@@ -198,14 +168,7 @@ counted_early heard len count start (Some miss) has long count_is few early = gr
 -- characters of which one has fault bits hold fewer faultless bytes
 pub not_whole : (heard body : List Character) (len : ℕ) → body ≡ take len heard → (All (λ c. c.faults ≡ 0) body → ⊥)
     → length (faultless_bytes heard) < len
-not_whole heard body len is not_all =
-    let cases : (length (faultless_bytes heard) < len) ⊎ (len ≤ length (faultless_bytes heard)) = grind arith in
-    elim cases [
-      | inl few ↦ few
-      | inr all ↦
-          let Faultless : List Character → Type 0 = λ cs. All (λ c. c.faults ≡ 0) cs in
-          absurd (not_all (subst Faultless (sym (is ∙ take_heard heard len all)) (faultless_all (take len (faultless_bytes heard)))))
-    ]
+not_whole heard body len is not_all = grind (arith, common_steps, take_heard, faultless_all)
 
 -- the first bytes, up to the byte count
 pub record BeginsWithCount (heard : List Character) (first place count : ℕ) : Type 0 where
@@ -219,16 +182,7 @@ pub begins_with_count : (heard : List Character) (first place count : ℕ) (one 
     → place ≡ 2 + (1 + 4 * (first / 128)) + first / 32 % 4 → place + 1 ≤ length (faultless_bytes heard)
     → two ≡ get_or heard place two → count ≡ two.byte → BeginsWithCount heard first place count
 begins_with_count heard first place count one two some one_is first_is place_is within two_is count_is =
-    let byte = λ (c : Character). c.byte in
-    let bytes = faultless_bytes heard in
-    let delimiter : first ≡ delimiter_in bytes = first_is ∙ ap byte one_is ∙ byte_at heard 0 one some in
-    let here : place ≡ byte_count_place bytes = omega (arith, place_is, delimiter) in
-    record {
-      first_is = delimiter;
-      place_is = here;
-      count_is = count_is ∙ ap byte two_is ∙ byte_at heard place two (omega (arith, within)) ∙ ap (λ (k : ℕ). get_or bytes k 0) here;
-      within = omega (arith, here, within);
-    }
+    grind (arith, common_steps, byte_at)
 
 pub good_count : (heard : List Character) (first place count : ℕ) → BeginsWithCount heard first place count → IsDelimiter first
     → ((first % 8 ≡ 2) ⊎ (2 ≤ count)) → HasGoodByteCount (faultless_bytes heard)
@@ -236,13 +190,7 @@ good_count heard first place count begins is good = grind arith
 
 pub short_reply : (heard : List Character) (first place count start : ℕ) → BeginsWithCount heard first place count → IsDelimiter first
     → (((first % 8 ≡ 2) ⊎ (2 ≤ count)) → ⊥) → Some (ShortReply count) ≡ body_miss start heard
-short_reply heard first place count start begins is bad =
-    let bytes = faultless_bytes heard in
-    let has : HasByteCount bytes = grind arith in
-    let ack : delimiter_in bytes % 8 ≡ 6 = grind arith in
-    let few : byte_count_in bytes < 2 = grind arith in
-    ap (λ (k : ℕ). let miss : Option Miss = Some (ShortReply k) in miss) begins.count_is
-    ∙ sym (miss_in-short bytes (slice_get heard (length bytes)) (start + length bytes) start has ack few)
+short_reply heard first place count start begins is bad = grind (arith, common_steps, miss_in-short)
 
 -- so many characters hold fewer faultless ones, as many as come first of all
 pub cut_front : (heard : List Character) (count end : ℕ) → end ≡ length (faultless_bytes (take count heard))
@@ -267,12 +215,7 @@ pub record IsBadCheck (bytes : List ℕ) (start place byte fits : ℕ) : Type 0 
 
 check_miss-is : (bytes : List ℕ) (start : ℕ) (miss : Miss) → check_miss bytes start ≡ Some miss
     → miss ≡ BadCheck (start + (body_length bytes - 1)) (check_byte_in bytes) (fitting_check_byte bytes)
-check_miss-is bytes start miss is =
-    let cases : (check_byte_in bytes ≡ fitting_check_byte bytes) ⊎ (check_byte_in bytes ≢ fitting_check_byte bytes) = grind arith in
-    elim cases [
-      | inl same ↦ let none = sym is ∙ same_check bytes start same in grind arith
-      | inr differ ↦ let some = sym is ∙ other_check bytes start differ in grind arith
-    ]
+check_miss-is bytes start miss is = grind (arith, common_steps, same_check, other_check)
 
 pub bad_check-says : (bytes : List ℕ) (faulty : Option Character) (end start place byte fits : ℕ) → Told bytes faulty end start
     → miss_in bytes faulty end start ≡ Some (BadCheck place byte fits) → IsBadCheck bytes start place byte fits
@@ -281,8 +224,7 @@ bad_check-says bytes faulty end start place byte fits (other any bad is) miss = 
 bad_check-says bytes faulty end start place byte fits (begun has few is) miss = absurd (grind (arith, faulty_or-is))
 bad_check-says bytes faulty end start place byte fits (short has ack few is) miss = absurd (grind arith)
 bad_check-says bytes faulty end start place byte fits (counted has few is) miss = absurd (grind (arith, faulty_or-is))
-bad_check-says bytes faulty end start place byte fits (whole has is) miss =
-    let same = check_miss-is bytes start (BadCheck place byte fits) (sym is ∙ miss) in grind arith
+bad_check-says bytes faulty end start place byte fits (whole has is) miss = search (arith, common_steps, check_miss-is)
 
 pub faulty-says : (bytes : List ℕ) (faulty : Option Character) (end start place faults : ℕ) → Told bytes faulty end start
     → miss_in bytes faulty end start ≡ Some (Faulty place faults)
@@ -292,8 +234,7 @@ faulty-says bytes faulty end start place faults (other any bad is) miss = absurd
 faulty-says bytes faulty end start place faults (begun has few is) miss = grind (arith, faulty_or-is)
 faulty-says bytes faulty end start place faults (short has ack few is) miss = absurd (grind arith)
 faulty-says bytes faulty end start place faults (counted has few is) miss = grind (arith, faulty_or-is)
-faulty-says bytes faulty end start place faults (whole has is) miss =
-    let same = check_miss-is bytes start (Faulty place faults) (sym is ∙ miss) in absurd (grind arith)
+faulty-says bytes faulty end start place faults (whole has is) miss = grind (arith, common_steps, check_miss-is)
 
 pub record IsMissing (bytes : List ℕ) (faulty : Option Character) (count : ℕ) : Type 0 where
   pub has : HasGoodByteCount bytes
@@ -308,8 +249,7 @@ missing-says bytes faulty end start count (other any bad is) miss = absurd (grin
 missing-says bytes faulty end start count (begun has few is) miss = absurd (grind (arith, faulty_or-is))
 missing-says bytes faulty end start count (short has ack few is) miss = absurd (grind arith)
 missing-says bytes faulty end start count (counted has few is) miss = grind (arith, faulty_or-is)
-missing-says bytes faulty end start count (whole has is) miss =
-    let same = check_miss-is bytes start (Missing count) (sym is ∙ miss) in absurd (grind arith)
+missing-says bytes faulty end start count (whole has is) miss = search (arith, common_steps, check_miss-is)
 
 pub never_one_preamble : (bytes : List ℕ) (faulty : Option Character) (end start : ℕ) → Told bytes faulty end start
     → miss_in bytes faulty end start ≡ Some OnePreamble → ⊥
@@ -318,5 +258,4 @@ never_one_preamble bytes faulty end start (other any bad is) miss = grind (arith
 never_one_preamble bytes faulty end start (begun has few is) miss = grind (arith, faulty_or-is)
 never_one_preamble bytes faulty end start (short has ack few is) miss = grind arith
 never_one_preamble bytes faulty end start (counted has few is) miss = grind (arith, faulty_or-is)
-never_one_preamble bytes faulty end start (whole has is) miss =
-    let same = check_miss-is bytes start OnePreamble (sym is ∙ miss) in grind arith
+never_one_preamble bytes faulty end start (whole has is) miss = grind (arith, common_steps, check_miss-is)

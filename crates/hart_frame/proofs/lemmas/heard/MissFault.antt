@@ -1,11 +1,12 @@
 -- A miss comes from the fault with which bytes are refused.
+use Rattle.std.proofs.lemmas.Grind.{common_steps}
 use Rattle.std.proofs.Common.{◌≡◌, ◌≢◌, ℕ, ◌+◌, ◌-◌, ◌<◌, ◌⊎◌, inl, inr, List, [], ◌∷◌, ◌++◌, take, drop}
 use Rattle.std.proofs.Common.{Option, None, Some, refl, sym, ap, ◌∙◌, arith, subst}
 use Rattle.std.specs.List.{All}
 use Rattle.std.proofs.lemmas.List.{take_more}
 use Rattle.std.proofs.lemmas.Option.{none-some, same_Some}
 use Rattle.std.proofs.lemmas.List.Elements.{All-drop, All-take}
-use Rattle.hart_frame.specs.wire.Layout.{body_length, delimiter_in}
+use Rattle.hart_frame.specs.wire.Layout.{body_length}
 use Rattle.hart_frame.specs.wire.Parity.{HasEvenParity}
 use Rattle.hart_frame.specs.wire.Refusal.{HasCheckByte, IsRefusedWith}
 use Rattle.hart_frame.specs.declared.wire.fault.FrameFault.{FrameFault}
@@ -44,19 +45,15 @@ odd : (bytes : List ℕ) → All (λ byte. byte < 256) bytes → HasCheckByte by
 odd bytes fit has differ even =
     let n = body_length bytes - 1 in
     let next : body_length bytes ≡ n + 1 = omega arith in
-    let parts : take (body_length bytes) bytes ≡ take n bytes ++ check_byte_in bytes ∷ [] =
-    ap (λ (k : ℕ). take k bytes) next ∙ take_more bytes n 0 (omega (arith, has.1)) in
+    let parts : take (body_length bytes) bytes ≡ take n bytes ++ check_byte_in bytes ∷ [] = grind (arith, common_steps, take_more) in
     differ (even-is (take n bytes) (check_byte_in bytes) (fits_at (take n bytes) (All-take (λ byte. byte < 256) n bytes fit))
     (fits_at bytes fit n) (subst HasEvenParity parts even))
 
 fault_told : (bytes : List ℕ) (faulty : Option Character) (end start : ℕ) (miss : Miss) → All (λ byte. byte < 256) bytes
     → Told bytes faulty end start → miss_in bytes faulty end start ≡ Some miss → FaultOf bytes miss
-fault_told bytes faulty end start miss fit (empty none is) told =
-    record { fault = Truncated; is = named _ miss (sym is ∙ told) Truncated (early faulty end _ refl); refused = inl none }
-fault_told bytes faulty end start miss fit (other any bad is) told =
-    record { fault = BadDelimiter; is = named _ miss (sym is ∙ told) BadDelimiter (first (delimiter_in bytes)); refused = (any, bad) }
-fault_told bytes faulty end start miss fit (begun has few is) told =
-    record { fault = Truncated; is = named _ miss (sym is ∙ told) Truncated (early faulty end _ refl); refused = inr (inl (has, few)) }
+fault_told bytes faulty end start miss fit (empty none is) told = search (arith, common_steps, named, early)
+fault_told bytes faulty end start miss fit (other any bad is) told = search (arith, common_steps, named, first)
+fault_told bytes faulty end start miss fit (begun has few is) told = search (arith, common_steps, named, early)
 fault_told bytes faulty end start miss fit (short has ack few is) told =
     record { fault = ShortReply; is = named _ miss (sym is ∙ told) ShortReply refl; refused = (has, ack, few) }
 fault_told bytes faulty end start miss fit (counted has few is) told =

@@ -1,5 +1,6 @@
 -- The miss of a place by what stands before it, and that there is none where a frame stands.
-use Rattle.std.proofs.Common.{◌≡◌, ◌≢◌, ℕ, zero, suc, ◌+◌, ◌-◌, ◌<◌, ◌⊎◌, inl, inr, List, [], ◌∷◌, ◌++◌, length, take, drop, get_or, fold}
+use Rattle.std.proofs.lemmas.Grind.{common_steps}
+use Rattle.std.proofs.Common.{◌≡◌, ◌≢◌, ℕ, zero, suc, ◌+◌, ◌-◌, ◌<◌, ◌⊎◌, inl, inr, List, [], ◌∷◌, ◌++◌, length, take, drop, get_or}
 use Rattle.std.proofs.Common.{bit_xor}
 use Rattle.std.proofs.Common.{Bool, true, false, Option, None, Some, not, refl, sym, ap, subst, ◌∙◌, arith, ◌&&◌, append_assoc}
 use Rattle.std.proofs.Common.{length-append}
@@ -12,7 +13,6 @@ use Rattle.std.proofs.lemmas.Option.{slice_get-get_or, slice_get_cases}
 use Rattle.std.proofs.lemmas.Bool.Decides.{nat_tests}
 use Rattle.hart_frame.specs.wire.FrameParts.{FrameParts}
 use Rattle.hart_frame.specs.wire.Body.{BeginsWithBody, IsBody}
-use Rattle.hart_frame.specs.wire.Delimiter.{delimiter_of}
 use Rattle.hart_frame.specs.wire.Layout.{body_length}
 use Rattle.hart_frame.specs.wire.Parity.{HasEvenParity}
 use Rattle.hart_frame.specs.declared.wire.fault.FrameFault.TheVariants.{BadDelimiter, ShortReply, Truncated}
@@ -93,14 +93,7 @@ is_start-is chars (suc (suc k)) passes =
     let before : suc (suc k) - 1 ≡ suc k = omega arith in
     let second : suc (suc k) - 2 ≡ k = omega arith in
     let two = first_test chars k (ap (follows_preamble chars) (sym before) ∙ tests.1) in
-    let three = other_test chars (suc (suc k)) tests.2 in
-    is_start_from chars (suc (suc k)) preamble (record {
-      after_two = omega arith;
-      within = three.0;
-      one = ap (λ (n : ℕ). get_or chars n preamble) second ∙ two.1;
-      two = ap (λ (n : ℕ). get_or chars n preamble) before ∙ one.1;
-      other = three.1;
-    })
+    grind (arith, common_steps, three, other_test, is_start_from, preamble, other)
 
 -- what the miss of a place is, where a body may start, after one preamble byte, and elsewhere
 pub miss_of-start : (chars heard : List Character) (start : ℕ) → heard ≡ drop start chars → IsStart start chars
@@ -140,10 +133,7 @@ not_at_front chars one = grind arith
 -- a list up to a preamble byte, that, and what comes after it
 one_split : (chars : List Character) (k : ℕ) → k < length chars → get_or chars k preamble ≡ preamble
     → chars ≡ take k chars ++ (preamble ∷ []) ++ drop (suc k) chars
-one_split chars k within is =
-    sym (take-append-drop k chars) ∙ ap (λ (xs : List Character). take k chars ++ xs) (drop-cons chars k preamble within)
-    ∙ ap (λ (c : Character). take k chars ++ c ∷ drop (suc k) chars) is
-    ∙ sym (append_snoc (take k chars) preamble (drop (suc k) chars))
+one_split chars k within is = grind (arith, common_steps, take-append-drop, drop-cons, preamble, append_snoc)
 
 -- what ends with a preamble byte has one before the place after it
 ends_with : (chars earlier : List Character) (k : ℕ) → k < length chars → take k chars ≡ earlier ++ preamble ∷ []
@@ -152,10 +142,7 @@ ends_with chars earlier zero within is = absurd (omega (arith, ap length is, len
 ends_with chars earlier (suc j) within is =
     let len = ap length is ∙ length-append earlier (preamble ∷ []) in
     let same : j ≡ length earlier = omega (arith, len, length-take-le (suc j) chars (omega (arith, within))) in
-    let at : get_or chars j preamble ≡ preamble =
-    sym (get_or-take (suc j) chars j preamble (omega arith)) ∙ ap (λ (xs : List Character). get_or xs j preamble) is
-    ∙ ap (λ (n : ℕ). get_or (earlier ++ preamble ∷ []) n preamble) same ∙ get_or-append_seam earlier preamble [] preamble in
-    first_tests chars j (omega (arith, within)) at
+    grind (arith, common_steps, preamble, get_or-take, get_or-append_seam, first_tests)
 
 -- one preamble byte alone, as the lists say it
 pub one_preamble-is : (chars : List Character) (place : ℕ) → follows_one_preamble chars place ≡ true → FollowsOnePreamble chars place
@@ -176,25 +163,12 @@ no_second : (chars prefix rest : List Character) (k : ℕ) → chars ≡ prefix 
     → ((earlier : List Character) → prefix ≢ earlier ++ preamble ∷ []) → follows_preamble chars k ≡ true → ⊥
 no_second chars prefix rest zero split place alone passes = cc
 no_second chars prefix rest (suc j) split place alone passes =
-    let at = first_test chars j passes in
-    let front : take (suc j) chars ≡ prefix =
-    ap (λ (n : ℕ). take n chars) place ∙ ap (take (length prefix)) split ∙ take-append_seam prefix (preamble ∷ rest) in
-    alone (take j chars)
-    (sym front ∙ take-suc chars j preamble at.0 ∙ ap (λ (c : Character). take j chars ++ c ∷ []) at.1)
+    let at = first_test chars j passes in search (arith, common_steps, take-append_seam, preamble, take-suc)
 
 pub one_preamble-yes : (chars : List Character) (place : ℕ) → FollowsOnePreamble chars place → follows_one_preamble chars place ≡ true
 one_preamble-yes chars zero is = absurd (omega (arith, is.place_is))
 one_preamble-yes chars (suc k) is =
-    let before : suc k - 1 ≡ k = omega arith in
-    let place : k ≡ length is.prefix = omega (arith, is.place_is) in
-    let split : chars ≡ is.prefix ++ preamble ∷ is.rest = is.split ∙ append_snoc is.prefix preamble is.rest in
-    let within : k < length chars =
-    omega (arith, place, ap length split, length-append is.prefix (preamble ∷ is.rest)) in
-    let at : get_or chars k preamble ≡ preamble =
-    ap (λ (n : ℕ). get_or chars n preamble) place ∙ ap (λ (xs : List Character). get_or xs (length is.prefix) preamble) split
-    ∙ get_or-append_seam is.prefix preamble is.rest preamble in
-    let none = not_true (follows_preamble chars k) (no_second chars is.prefix is.rest k split place is.alone) in
-    both (first_tests chars k within at) (ap (follows_preamble chars) before ∙ none)
+    grind (arith, common_steps, preamble, append_snoc, length-append, get_or-append_seam, not_true, no_second, both, first_tests)
 
 -- the first byte of a body is no preamble byte
 record Head (body : List ℕ) : Type 0 where
@@ -204,25 +178,17 @@ record Head (body : List ℕ) : Type 0 where
   pub low : first < 255
 
 head_of : (f : FrameParts) (body : List ℕ) → IsBody f body → Head body
-head_of f body is = record {
-  first = delimiter_of f;
-  others = (is.checked_part.address ++ f.expansion ++ f.command ∷ length f.payload ∷ f.payload) ++ is.check ∷ [];
-  is = is.parts ∙ ap (λ (xs : List ℕ). xs ++ is.check ∷ []) is.checked_part.parts;
-  low = delimiter_of-lt f is.checked_part.expansion_fits;
-}
+head_of f body is = grind (arith, common_steps, delimiter_of-lt)
 
 body_fits : (bytes : List ℕ) (f : FrameParts) (len : ℕ) → BeginsWithBody bytes f len → check_byte_in bytes ≡ fitting_check_byte bytes
 body_fits bytes f len begins =
     let body = begins.body in
     let n = length body.checked in
-    let long : len ≡ n + 1 =
-    sym (length-take-le len bytes begins.within) ∙ ap length body.parts ∙ length-append body.checked (body.check ∷ []) in
+    let long : len ≡ n + 1 = grind (arith, common_steps, length-take-le, length-append) in
     let whole : body_length bytes - 1 ≡ n = omega (arith, (says bytes f len begins).whole, long) in
     let checked : take n bytes ≡ body.checked =
     sym (take-take n len bytes (omega (arith, long))) ∙ ap (take n) body.parts ∙ take_at body.checked (body.check ∷ []) n refl in
-    let check : get_or bytes n 0 ≡ body.check =
-    sym (get_or-take len bytes n 0 (omega (arith, long))) ∙ ap (λ (xs : List ℕ). get_or xs n 0) body.parts
-    ∙ get_or_at body.checked body.check [] 0 n refl in
+    let check : get_or bytes n 0 ≡ body.check = grind (arith, common_steps, get_or-take, get_or_at) in
     let Fit : List ℕ → Type 0 = λ xs. All (λ byte. byte < 256) xs in
     let Even : List ℕ → Type 0 = λ xs. HasEvenParity xs in
     let fit = subst Fit body.parts body.bytes_fit in
@@ -232,16 +198,14 @@ body_fits bytes f len begins =
     subst (λ (byte : ℕ). byte < 256) (get_or_at body.checked body.check [] 0 n refl)
     (fit n 0 (omega (arith, length-append body.checked (body.check ∷ [])))) in
     let fits = even-is body.checked body.check (fits_at body.checked first) last (subst Even body.parts body.parity) in
-    ap (λ (i : ℕ). get_or bytes i 0) whole ∙ check ∙ fits ∙ sym (ap (fold bit_xor 0) checked)
-    ∙ sym (ap (λ (i : ℕ). fold bit_xor 0 (take i bytes)) whole)
+    grind (arith, common_steps, whole, bit_xor)
 
 -- nothing is missed of bytes that begin with a body
 pub nothing_missed : (bytes : List ℕ) (f : FrameParts) (len : ℕ) (faulty : Option Character) (end start : ℕ) → BeginsWithBody bytes f len
     → Told bytes faulty end start → miss_in bytes faulty end start ≡ None
 nothing_missed bytes f len faulty end start begins (empty none is) = absurd (not_refused bytes f len Truncated begins (inl none))
 nothing_missed bytes f len faulty end start begins (other any bad is) = absurd (not_refused bytes f len BadDelimiter begins (any, bad))
-nothing_missed bytes f len faulty end start begins (begun has few is) =
-    absurd (not_refused bytes f len Truncated begins (inr (inl (has, few))))
+nothing_missed bytes f len faulty end start begins (begun has few is) = grind (arith, common_steps, not_refused)
 nothing_missed bytes f len faulty end start begins (short has ack few is) =
     absurd (not_refused bytes f len ShortReply begins (has, ack, few))
 nothing_missed bytes f len faulty end start begins (counted has few is) =
@@ -256,20 +220,11 @@ no_miss place chars (found, stands, at) =
     let head = head_of found.frame body stands.is_body in
     let front : List Character = stands.prefix ++ (preamble ∷ preamble ∷ []) in
     let after : List Character = faultless body ++ stands.rest in
-    let split : chars ≡ front ++ after =
-    stands.split ∙ append_assoc stands.prefix (preamble ∷ preamble ∷ faultless body) stands.rest
-    ∙ sym (append_assoc stands.prefix (preamble ∷ preamble ∷ []) after) in
+    let split : chars ≡ front ++ after = grind (arith, common_steps, append_assoc, preamble) in
     let place_is : place ≡ length stands.prefix + 2 = sym at ∙ stands.start in
     let long : length front ≡ place = length-append stands.prefix (preamble ∷ preamble ∷ []) ∙ sym place_is in
     let heard_is : heard ≡ after = ap (drop place) split ∙ drop_at front after place long in
-    let is : IsStart place chars = record {
-      prefix = stands.prefix;
-      first = record { byte = head.first; faults = 0 };
-      rest = faultless head.others ++ stands.rest;
-      split = split ∙ ap (λ (xs : List ℕ). front ++ (faultless xs ++ stands.rest)) head.is;
-      place_is = place_is;
-      other = λ same. omega (arith, head.low, ap (λ (c : Character). c.byte) same);
-    } in
+    let is : IsStart place chars = grind (arith, common_steps, other) in
     let bytes = faultless_bytes heard in
     let all : bytes ≡ body ++ faultless_bytes stands.rest = ap faultless_bytes heard_is ∙ faultless_bytes-append body stands.rest in
     let Begins : List ℕ → Type 0 = λ xs. BeginsWithBody xs found.frame (length body) in

@@ -1,4 +1,5 @@
 -- The frames of the rest of a list are those of the list from its place on, moved by as many places as stand before it.
+use Rattle.std.proofs.lemmas.Grind.{common_steps}
 use Rattle.std.proofs.Common.{◌≡◌, ℕ, ◌+◌, ◌-◌, ◌<◌, ◌≤◌, ◌⊎◌, inl, inr, List, [], ◌∷◌, ◌++◌, length, map, take, drop, refl, ap, arith}
 use Rattle.std.proofs.Common.{append_assoc, length-append, length-drop, subst, take-append-drop}
 use Rattle.std.proofs.lemmas.List.{append-nil, drop-append-le, drop_all, drop_at, length-take-le}
@@ -39,8 +40,7 @@ stands_moved before rest found n from long stands =
     let lies = StandsIn-within found rest from stands in
     let Here : List Character → Type 0 = λ cs. StandsIn (moved n found) (before ++ cs) n in
     let low = StandsIn-from found rest from 0 stands (omega (arith, lies.after)) in
-    let here = subst Here (append-nil rest) (stands_after before rest [] found n long low) in
-    StandsIn-from (moved n found) (before ++ rest) n (n + from) here (omega (arith, lies.after))
+    let here = subst Here (append-nil rest) (stands_after before rest [] found n long low) in grind (arith, common_steps, StandsIn-from)
 
 -- what stands after others, as it stands in the rest
 record StandsMoved (found : Found) (rest : List Character) (n from : ℕ) : Type 0 where
@@ -80,20 +80,13 @@ frames_moved before rest n long from frames (first place found later is more) =
 
 -- moved frames come from the same frames
 moved_one : (n : ℕ) (f g : Found) → moved n f ≡ moved n g → f ≡ g
-moved_one n f g same =
-    let start = ap (λ (found : Found). found.start) same in
-    let stop = ap (λ (found : Found). found.stop) same in
-    let frame = ap (λ (found : Found). found.frame) same in
-    grind arith
+moved_one n f g same = grind (arith, common_steps)
 
 all_moved_one : (n : ℕ) (xs ys : List Found) → map (moved n) xs ≡ map (moved n) ys → xs ≡ ys
 all_moved_one n [] [] same = refl
 all_moved_one n [] (y ∷ ys) same = absurd cc
 all_moved_one n (x ∷ xs) [] same = absurd cc
-all_moved_one n (x ∷ xs) (y ∷ ys) same =
-    let heads : x ≡ y = moved_one n x y cc in
-    let others : xs ≡ ys = all_moved_one n xs ys cc in
-    cc
+all_moved_one n (x ∷ xs) (y ∷ ys) same = grind (arith, common_steps, moved_one, all_moved_one n xs ys cc)
 
 -- the rest of a list gives the frames from its place on
 pub rest_frames : OneList → (place : ℕ) (chars : List Character) (frames : List Found) → AreFrames (drop place chars) 0 frames
@@ -120,7 +113,4 @@ rest_frames one place chars frames are =
 pub rest_only : OneList → (place : ℕ) (chars : List Character) (frames : List Found) → AreFrames chars place (map (moved place) frames)
     → AreFrames (drop place chars) 0 frames
 rest_only one place chars frames are =
-    let own = AreFrames-found (drop place chars) 0 in
-    let same = one chars place _ _ (rest_frames one place chars own.0 own.1) are in
-    let Of : List Found → Type 0 = λ fs. AreFrames (drop place chars) 0 fs in
-    subst Of (all_moved_one place own.0 frames same) own.1
+    let own = AreFrames-found (drop place chars) 0 in grind (arith, common_steps, rest_frames, all_moved_one)

@@ -1,4 +1,5 @@
 -- Where a body may start in a list of characters.
+use Rattle.std.proofs.lemmas.Grind.{common_steps}
 use Rattle.std.proofs.Common.{◌≡◌, ◌≢◌, ℕ, zero, suc, ◌+◌, ◌-◌, ◌<◌, ◌≤◌, ◌⊎◌, inl, inr, List, [], ◌∷◌, ◌++◌, length, take, drop, get_or}
 use Rattle.std.proofs.Common.{sym, ap, ◌∙◌, arith, length-append, drop-cons, append_assoc}
 use Rattle.std.proofs.lemmas.List.{get_or-append-add, length-take-le, take-append-drop}
@@ -19,15 +20,7 @@ pub record StartsAt (chars : List Character) (place : ℕ) (d : Character) : Typ
   pub other : get_or chars place d ≢ preamble
 
 pub starts_at : (chars : List Character) (place : ℕ) (d : Character) → IsStart place chars → StartsAt chars place d
-starts_at chars place d is =
-    let others : List Character = preamble ∷ preamble ∷ is.first ∷ is.rest in
-    let whole : chars ≡ is.prefix ++ others = is.split ∙ append_assoc is.prefix (preamble ∷ preamble ∷ []) (is.first ∷ is.rest) in
-    let all = ap length whole ∙ length-append is.prefix others in
-    let reads : (n : ℕ) → get_or chars (length is.prefix + n) d ≡ get_or others n d = grind (arith, get_or-append-add) in
-    let one = reads 0 in
-    let two = reads 1 in
-    let three = reads 2 in
-    grind (arith, preamble)
+starts_at chars place d is = grind (arith, common_steps, preamble, append_assoc, length-append, get_or-append-add)
 
 pub is_start_from : (chars : List Character) (place : ℕ) (d : Character) → StartsAt chars place d → IsStart place chars
 is_start_from chars place d at =

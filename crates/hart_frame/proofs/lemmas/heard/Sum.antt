@@ -1,10 +1,11 @@
 -- What the bytes and the fault bits of characters come to, character by character.
-use Rattle.std.proofs.Common.{◌≡◌, ℕ, List, [], ◌∷◌, ◌++◌, length, length-append, bit_xor, fold, refl, ap, subst, ◌∙◌, arith}
+use Rattle.std.proofs.lemmas.Grind.{common_steps}
+use Rattle.std.proofs.Common.{◌≡◌, List, [], ◌∷◌, ◌++◌, length, length-append, bit_xor, fold, refl, subst, arith}
 use Rattle.std.proofs.lemmas.List.{get_or_append_left, get_or_at, map-append}
 use Rattle.std.proofs.lemmas.List.Sums.{fold-append}
 use Rattle.std.proofs.lemmas.List.Elements.{All-push}
 use Rattle.std.proofs.lemmas.Nat.{le_or_l, le_or_r}
-use Rattle.std.specs.Int.Bits.{bit_or, or_zero_l}
+use Rattle.std.specs.Int.Bits.{bit_or}
 use Rattle.std.specs.List.{All}
 use Rattle.hart_frame.specs.heard.Body.{bytes_of}
 use Rattle.hart_frame.specs.heard.Character.{Character}
@@ -23,17 +24,12 @@ pub IsSum-more : (chars : List Character) (sum : Sum) (c : Character) (more : Su
     → IsSum (chars ++ c ∷ []) more
 IsSum-more chars sum c more next before = record {
   check = grind (arith, map-append, fold-append);
-  faultless = λ none.
-      let front : sum.faults ≡ 0 = omega (arith, ap (λ (s : Sum). s.faults) next, none, le_or_l sum.faults c.faults) in
-      let last : c.faults ≡ 0 = omega (arith, ap (λ (s : Sum). s.faults) next, none, le_or_r sum.faults c.faults) in
-      All-push (λ (x : Character). x.faults ≡ 0) chars c (before.faultless front) last;
+  faultless = grind (arith, common_steps, le_or_l, le_or_r, All-push);
   none = λ all.
       let front : All (λ (x : Character). x.faults ≡ 0) chars = λ k d below.
       subst (λ (x : Character). x.faults ≡ 0) (get_or_append_left chars (c ∷ []) d k below)
       (all k d (omega (arith, below, length-append chars (c ∷ [])))) in
       let last : c.faults ≡ 0 =
       subst (λ (x : Character). x.faults ≡ 0) (get_or_at chars c [] c (length chars) refl)
-      (all (length chars) c (omega (arith, length-append chars (c ∷ [])))) in
-      let faults : more.faults ≡ bit_or sum.faults c.faults = ap (λ (s : Sum). s.faults) next in
-      faults ∙ ap (λ (n : ℕ). bit_or n c.faults) (before.none front) ∙ ap (bit_or 0) last ∙ or_zero_l 0;
+      (all (length chars) c (omega (arith, length-append chars (c ∷ [])))) in grind (arith, common_steps);
 }

@@ -1,4 +1,5 @@
 -- A buffer stays sound, and what it stands for then.
+use Rattle.std.proofs.lemmas.Grind.{common_steps}
 use Rattle.std.proofs.Common.{◌≡◌, ℕ, ◌+◌, ◌-◌, ◌≤◌, true, IsTrue, List, [], ◌++◌, length}
 use Rattle.std.proofs.Common.{take, drop, None, refl, sym, ap, ◌∙◌, arith, subst}
 use Rattle.std.proofs.Math.Seq.{drop-append-add, drop-append_seam}
@@ -38,19 +39,12 @@ undecided_waiting b waiting = search (arith, held_clear, undecided_open)
 pub waits : (b : Buffer) (new : Scan) → IsWaiting b → new ≡ record (scan_of b) { drained = true } → Waits (scan_of b) new
 waits b new waiting same =
     let Of : Scan → Type 0 = λ s. Waits (scan_of b) s in
-    subst Of (sym same) (record {
-      going = waiting.going;
-      moves = moves_none (scan_of b) (record (scan_of b) { drained = true }) refl refl refl;
-      undecided = undecided_waiting b waiting;
-      unfinished = waiting.going;
-      drained = refl;
-    })
+    subst Of (sym same) (search (arith, common_steps, moves_none, undecided_waiting))
 
 -- the first of what is held and of a chunk after it
 first_both : (held chunk : List ℕ) (stop count : ℕ) → count ≡ length held → count ≤ stop
     → take stop (held ++ chunk) ≡ held ++ take (stop - count) chunk
-first_both held chunk stop count long after =
-    take_both held chunk stop (omega (arith, long, after)) ∙ ap (λ (k : ℕ). held ++ take (stop - k) chunk) (sym long)
+first_both held chunk stop count long after = grind (arith, common_steps, take_both)
 
 -- what is kept of what is held and of a chunk after it
 pub kept_after : (held chunk bytes new : List ℕ) (from place stop count : ℕ) → from ≤ length bytes → drop from bytes ≡ held

@@ -1,4 +1,5 @@
 -- What is known of bytes by how they begin.
+use Rattle.std.proofs.lemmas.Grind.{common_steps}
 use Rattle.std.proofs.Common.{◌≡◌, ◌≢◌, ℕ, zero, suc, ◌+◌, ◌<◌, ◌≤◌, ◌⊎◌, inl, inr, List, [], ◌∷◌, ◌++◌, length, take, drop, get_or, refl}
 use Rattle.std.proofs.Common.{sym, ap, ◌∙◌, arith, subst, append_assoc, length-append}
 use Rattle.std.proofs.lemmas.List.{append-nil, length-map, map-append, take-append-le, take-map, take_at, get_or_at, get_or-take}
@@ -137,8 +138,7 @@ undecided_open xs may =
                 let nothing = nothing_open (255 ∷ 255 ∷ after) [] (inr (inr (after, refl, truncated))) (inl refl) in
                 let None : List Character → Type 0 = λ cs. BeginWithNone cs in
                 let later = skip_one held 0 (subst None (append-nil held) nothing) found stands in
-                let within = StandsIn-within found held 1 later in
-                omega (arith, within.after),
+                grind (arith, common_steps, StandsIn-within),
           ))
     ]
 
@@ -216,12 +216,7 @@ second_never (x ∷ y ∷ xs) long first other = (
   long,
   never_second x y [] other,
   λ fewer below.
-      let cases : (fewer ≡ 0) ⊎ (fewer ≡ 1) = grind arith in
-      let Of : ℕ → Type 0 = λ n. MayBegin (take n (x ∷ y ∷ xs)) in
-      elim cases [
-        | inl none ↦ subst Of (sym none) (inl refl)
-        | inr one ↦ subst Of (sym one) (inr (inl (ap (λ (a : ℕ). a ∷ []) first)))
-      ],
+      let cases : (fewer ≡ 0) ⊎ (fewer ≡ 1) = grind arith in grind (arith, common_steps),
 )
 
 pub whole_cut : (layout : Layout) (xs : List ℕ) (len check : ℕ) → len ≡ layout_length layout → len ≤ length xs → IsCut layout xs len

@@ -1,4 +1,5 @@
 -- What a chunk is to a scanner that hears it at once, or in parts.
+use Rattle.std.proofs.lemmas.Grind.{common_steps}
 use Rattle.std.proofs.Common.{◌≡◌, ℕ, ◌+◌, ◌-◌, ◌<◌, ◌≤◌, ◌^◌, ◌⊎◌, inl, inr, true, false, List, [], ◌∷◌, ◌++◌, length, take}
 use Rattle.std.proofs.Common.{Option, None, Some, drop, get_or, refl, sym, ap, ◌∙◌, arith, subst, append_assoc, length-append, length-drop}
 use Rattle.std.proofs.lemmas.List.{append-nil, drop-map, take-map, take-take, length-map, length-take-le}
@@ -167,9 +168,7 @@ pub hears_until : (old now new : Buffer) (chunk : List Character) (n r : ℕ) �
     → HearsPart (scan_of now) (scan_of new) (slice_range chunk n (length chunk)) r → Hears (scan_of old) (scan_of new) chunk (n + r)
 hears_until old now new chunk n r hears busy part =
     let so = heard_then (scan_of old) (scan_of now) (scan_of new) chunk n r hears.within hears.so part in
-    let within = rest_within (scan_of now) (scan_of new) chunk n r hears.within part in
-    let stops : StopsAt (scan_of new) (n + r) (length chunk) = grind arith in
-    grind (arith, waits_drained)
+    grind (arith, common_steps, rest_within, waits_drained)
 
 -- all of a chunk is heard
 pub hears_all : (old now : Buffer) (chunk : List Character) (n : ℕ) → IsHearing old now chunk n → length chunk ≤ n

@@ -1,4 +1,5 @@
 -- The first frame of a list, by what a scanner gave of it.
+use Rattle.std.proofs.lemmas.Grind.{common_steps}
 use Rattle.std.proofs.Common.{◌≡◌, ℕ, ◌+◌, ◌≤◌, false, true, IsTrue, inl, inr, Option, Some, None, List, [], ◌∷◌, ◌++◌, length, take, drop}
 use Rattle.std.proofs.Common.{refl, sym, ap, ◌∙◌, arith, subst}
 use Rattle.std.specs.Option.{MatchOption}
@@ -60,8 +61,7 @@ last_given chars waiting new None history nothing =
     grind (
       arith,
       no_frames chars 0 []
-          (history_all chars []
-          (record { last = finishing waiting; after = new; history = history; ended = ends_only (finishing waiting) new refl nothing }))
+          (grind (arith, common_steps, history_all, ends_only))
           refl,
     )
 last_given chars waiting new (Some found) history gives =
@@ -99,8 +99,7 @@ first_later chars rest from found within is least =
       stands = stands;
       least = λ other there.
           let low = least.least _ (stands_in prefix rest other from long (subst (Here other) (sym parts) there)) in
-          let lies = StandsIn-within other chars from there in
-          omega (arith, low, lies.after);
+          grind (arith, common_steps, StandsIn-within);
     }
 
 pub no_later : (chars rest : List Character) (from : ℕ) → from ≤ length chars → rest ≡ drop from chars → HasNoFrame rest 0

@@ -1,4 +1,5 @@
 -- The next frame of bytes, as that of a scanner that holds the rest of them.
+use Rattle.std.proofs.lemmas.Grind.{common_steps}
 use Rattle.std.proofs.Common.{◌≡◌, ℕ, ◌+◌, ◌-◌, ◌≤◌, Bool, false, List, [], ◌∷◌, ◌++◌, Option, Some, None, length, take, drop, inl, inr}
 use Rattle.std.proofs.Common.{◌∙◌, ap, arith, append_assoc, length-append, length-drop, refl, subst, sym, take-append-drop}
 use Rattle.std.specs.List.{slice_range}
@@ -33,13 +34,8 @@ leads_on : (bytes : List ℕ) (ended : Bool) (from to : ℕ) (given : List Found
 leads_on bytes ended from to given within moves more later closed =
     let all : faultless (take from bytes) ++ faultless (drop from bytes) ≡ faultless bytes =
     sym (map-append of_byte (take from bytes) (drop from bytes)) ∙ ap faultless (take-append-drop from bytes) in
-    let hears : CanHear (scan_at bytes ended from) more (faultless bytes ++ more) = record {
-      prefix = faultless (take from bytes);
-      split = ap (λ (cs : List Character). cs ++ more) (sym all)
-          ∙ append_assoc (faultless (take from bytes)) (faultless (drop from bytes)) more;
-      place = length-map (take from bytes) of_byte ∙ length-take-le from bytes within;
-      ended = closed;
-    } in
+    let hears : CanHear (scan_at bytes ended from) more (faultless bytes ++ more) =
+    grind (arith, common_steps, append_assoc, length-map, length-take-le) in
     moves.frames more (faultless bytes ++ more) later hears
 
 -- places are passed at which no frame begins
@@ -49,8 +45,7 @@ moves_to bytes ended from to order within none =
     let there : from + (to - from) ≡ to = omega (arith, order) in
     moves_places (scan_at bytes ended from) (scan_at bytes ended to) (drop from bytes) [] (to - from)
     (sym (append-nil (faultless (drop from bytes))))
-    (ap (λ (n : ℕ). faultless (drop n bytes)) (sym there) ∙ ap faultless (sym (drop-drop (to - from) from bytes))
-    ∙ sym (append-nil (faultless (drop (to - from) (drop from bytes)))))
+    (grind (arith, common_steps, drop-drop, append-nil))
     (sym there) refl (omega (arith, within, length-drop from bytes))
     (λ place below more closed.
     subst (λ (xs : List ℕ). BeginWithNone (faultless xs ++ more)) (sym (drop-drop place from bytes))
@@ -76,8 +71,7 @@ StandsOrIsLeft bytes ended place layout =
 -- a layout that is found is that of the frame which stands at the place
 pub stands_by : (bytes : List ℕ) (from : ℕ) (ended : Bool) (found : Sighting) (layout : Layout) → IsSearchedToEnd bytes from ended found
     → found.layout ≡ Some layout → IsWhole layout (drop found.place bytes)
-stands_by bytes from ended found layout is some =
-    subst (StandsOrIsLeft bytes ended found.place) some is.stands
+stands_by bytes from ended found layout is some = grind (arith, common_steps)
 
 -- which ends within the bytes
 pub ends_within : (bytes : List ℕ) (place : ℕ) (layout : Layout) → IsWhole layout (drop place bytes)

@@ -1,4 +1,5 @@
 -- What a part of bytes is to a scanner that searches it together with what it holds.
+use Rattle.std.proofs.lemmas.Grind.{common_steps}
 use Rattle.std.proofs.Common.{◌≡◌, ℕ, ◌+◌, ◌-◌, ◌<◌, ◌⊎◌, inl, inr, false, List, [], ◌++◌, length, take}
 use Rattle.std.proofs.Common.{Option, None, Some, drop, refl, sym, ap, ◌∙◌, arith, subst, length-append, length-drop}
 use Rattle.std.proofs.lemmas.List.{append-nil, map-append, take-map, length-map, length-take-le}
@@ -106,15 +107,13 @@ hears_kept old new part found m kept same =
           let cases : (fewer ≡ 0) ⊎ (0 < fewer) = grind arith in
           let of : IsUndecided (faultless (take (n + fewer) total)) = elim cases [
             | inl none ↦
-                let same : take (n + fewer) total ≡ held =
-                ap (λ (k : ℕ). take k total) (let e : n + fewer ≡ n = omega (arith, none) in e) ∙ take-append_seam held part in
+                let same : take (n + fewer) total ≡ held = grind (arith, common_steps, take-append_seam) in
                 subst Undecided (ap faultless (sym same)) (undecided_open held kept.waiting.may)
             | inr some ↦ undecided_from (take (n + fewer) total)
                 (is.before (n + fewer) (omega (arith, some)) (omega (arith, below, counts)))
           ] in
           subst Undecided (sym (heard fewer)) of;
       stops = subst Stops (sym long)
-          (stops_kept old new part found kept found.layout count kept.state counts
-          (holds_kept old new part found kept found.layout is.stands));
+          (search (arith, common_steps, stops_kept, holds_kept));
       finished = kept.finished;
     }

@@ -1,4 +1,5 @@
 -- What a scanner that lets characters go leaves to the frames of whatever is heard.
+use Rattle.std.proofs.lemmas.Grind.{common_steps}
 use Rattle.std.proofs.Common.{◌≡◌, ℕ, zero, suc, ◌+◌, ◌<◌, ◌≤◌, IsTrue, List, [], ◌∷◌, ◌++◌, length, drop, refl, sym}
 use Rattle.std.proofs.Common.{ap, ◌∙◌, arith, subst, append_assoc, length-append}
 use Rattle.std.proofs.lemmas.List.{drop_at, length-map}
@@ -82,10 +83,7 @@ moves_frame old new f body held is firsts finished = record {
         append_assoc (faultless (255 ∷ 255 ∷ body)) new.held more,
         append_assoc hears.prefix (faultless (255 ∷ 255 ∷ body)) (new.held ++ more),
       ) in
-      AreFrames.first old.first found later (record {
-        stands = stands;
-        least = λ other there. (StandsIn-within other chars old.first there).after;
-      }) frames;
+      AreFrames.first old.first found later (grind (arith, common_steps, StandsIn-within)) frames;
 }
 
 -- bytes are let go at whose places no frame begins
@@ -94,8 +92,7 @@ pub moves_places : (old new : Scan) (bytes : List ℕ) (tail : List Character) (
     → count ≤ length bytes
     → ((place : ℕ) → place < count → (more : List Character) → (IsTrue old.finished → more ≡ [])
     → BeginWithNone (faultless (drop place bytes) ++ (tail ++ more))) → MovesPast old new []
-moves_places old new bytes tail zero held rest firsts finished within never =
-    moves_none old new (rest ∙ sym held) (omega (arith, firsts)) finished
+moves_places old new bytes tail zero held rest firsts finished within never = grind (arith, common_steps, moves_none)
 moves_places old new [] tail (suc n) held rest firsts finished within never = absurd (omega (arith, within))
 moves_places old new (byte ∷ bytes) tail (suc n) held rest firsts finished within never =
     let gone : Character = record { byte = byte; faults = 0 } in

@@ -1,4 +1,5 @@
 -- What is known of bytes while they are searched, and of a search that is joined of two.
+use Rattle.std.proofs.lemmas.Grind.{common_steps}
 use Rattle.std.proofs.Common.{Some, None, ◌≡◌, ◌≢◌, ℕ, zero, suc, ◌+◌, ◌-◌, ◌<◌, ◌≤◌, ◌⊎◌, inl, inr, List, [], ◌∷◌, ◌++◌, length, take}
 use Rattle.std.proofs.Common.{drop, get_or, refl, sym, ap, ◌∙◌, max, arith, subst, append_assoc, length-append, length-drop}
 use Rattle.std.specs.List.{All}
@@ -47,12 +48,7 @@ pub record IsSearching (bytes : List ℕ) (from seen place decided : ℕ) : Type
 -- another byte than a preamble byte begins no frame
 never_other : (xs : List ℕ) (here count : ℕ) → here < count → count ≤ length xs → get_or xs here 0 ≢ 255
     → NeverBegin (drop here (take count xs))
-never_other xs here count below within other =
-    let rest : drop here (take count xs) ≡ get_or xs here 0 ∷ take (count - (here + 1)) (drop (here + 1) xs) =
-    drop_take xs here count (omega (arith, below))
-    ∙ ap (λ (k : ℕ). take k (drop here xs)) (let e : count - here ≡ suc (count - (here + 1)) = omega (arith, below) in e)
-    ∙ ap (take (suc (count - (here + 1)))) (drop_more xs here 0 (omega (arith, below, within))) in
-    subst NeverBegin (sym rest) (never_first (get_or xs here 0) _ other)
+never_other xs here count below within other = search (arith, common_steps, drop_take, drop_more, never_first)
 
 -- nothing is decided of so many bytes if what they have from the place of the search on may begin a frame
 still_open : (xs : List ℕ) (from seen place decided fewer : ℕ) → IsSearching xs from seen place decided → decided ≤ fewer
@@ -110,8 +106,7 @@ searching_never xs from seen place decided count more searching order inside nev
             | inl early ↦ searching.none n here (omega (arith, later, least)) all since early there
             | inr same ↦
                 let rest : drop here (take n xs) ≡ take count (drop place xs) ++ take (n - place - count) (drop count (drop place xs)) =
-                ap (λ (k : ℕ). drop k (take n xs)) same ∙ drop_take xs place n (omega (arith, later, above))
-                ∙ take_more (drop place xs) count (n - place) (omega (arith, later, above)) in
+                grind (arith, common_steps, drop_take, take_more) in
                 subst NeverBegin (sym rest) (never_more (take count (drop place xs)) _ never.1)
           ];
       before = λ fewer late early.
@@ -168,10 +163,7 @@ searching_run xs from seen place decided (suc count) searching order within pass
           let either : (more ≤ decided) ⊎ (more ≤ place + 3) = grind arith in
           let next = searching_never xs from seen place decided 3 more searching order (omega (arith, three.0))
           (three_never xs place three) (omega arith) (omega arith) (omega arith) either in
-          let rest = searching_run xs from seen (place + 1) more count next order (omega (arith, within)) later in
-          let most : (rest.needed ≤ decided) ⊎ (rest.needed ≤ place + 1 + count + 2) = grind arith in
-          subst Passed there
-          (record { needed = rest.needed; searching = rest.searching; least = omega (arith, rest.least); most = most })
+          grind (arith, common_steps, searching_run xs from seen (place + 1) more count next order (omega (arith, within)) later)
     ]
 
 -- a search goes on at the next candidate
@@ -254,8 +246,7 @@ pub searched_stands : (xs : List ℕ) (from seen place decided more : ℕ) (layo
     → IsSearched xs from seen (record { place = place; decided = more; layout = Some layout })
 searched_stands xs from seen place decided more layout searching order whole may short least above either =
     let room = length-drop place xs in
-    let long : length (drop place xs) ≡ 2 + layout_length layout + length whole.rest =
-    ap length whole.parts ∙ length-append (255 ∷ 255 ∷ whole.body) whole.rest ∙ omega (arith, whole.whole.exact) in
+    let long : length (drop place xs) ≡ 2 + layout_length layout + length whole.rest = grind (arith, common_steps, length-append) in
     let fits : more ≤ length xs = grind arith in
     let few : more ≤ place + 269 = grind arith in
     record {

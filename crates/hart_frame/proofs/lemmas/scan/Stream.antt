@@ -1,5 +1,6 @@
 -- The frames given since a scanner was new are the first of what was pushed, and all of them after the finish.
-use Rattle.std.proofs.Common.{◌≡◌, ◌+◌, false, IsTrue, List, [], ◌∷◌, ◌++◌, length, map, drop, refl, sym, ap, ◌∙◌, append_assoc, arith}
+use Rattle.std.proofs.lemmas.Grind.{common_steps}
+use Rattle.std.proofs.Common.{◌≡◌, ◌+◌, false, IsTrue, List, [], ◌∷◌, ◌++◌, length, map, drop, refl, sym, append_assoc, arith}
 use Rattle.std.proofs.Common.{length-append, subst}
 use Rattle.std.proofs.lemmas.List.{append-nil, drop-append-le, drop_at}
 use Rattle.hart_frame.specs.heard.Character.{Character, faultless}
@@ -80,9 +81,7 @@ history_all past given whole =
 pub history_held : (past : List Character) (scan : Scan) (given : List Found) → IsHistory past scan given
     → drop scan.first past ≡ scan.held
 history_held past scan given history =
-    let hears = (streamed past scan given history).hears [] (λ _. refl) in
-    ap (drop scan.first) (sym (append-nil past) ∙ hears.split) ∙ drop_at hears.prefix (scan.held ++ []) scan.first hears.place
-    ∙ append-nil scan.held
+    let hears = (streamed past scan given history).hears [] (λ _. refl) in grind (arith, common_steps, append-nil, drop_at)
 
 -- so the frames to come are those of what is held, and of what is still to come
 pub history_rest : OneList → (past more : List Character) (scan : Scan) (given later : List Found) → IsHistory past scan given

@@ -1,4 +1,5 @@
 -- What a search to the end of a list finds.
+use Rattle.std.proofs.lemmas.Grind.{common_steps}
 use Rattle.std.proofs.Common.{◌≡◌, ℕ, ◌+◌, ◌<◌, ◌≤◌, ◌⊎◌, inl, inr, Bool, IsTrue, List, ◌++◌, length, take, drop, None, Some, Option}
 use Rattle.std.proofs.Common.{arith, subst, sym}
 use Rattle.std.specs.Option.{MatchOption}
@@ -31,12 +32,7 @@ pub record IsLookedAt (bytes : List ℕ) (first : ℕ) (ended : Bool) (found : S
 -- at first no place was passed
 pub looked_first : (bytes : List ℕ) (first : ℕ) (ended : Bool) (found : Sighting) → IsSearched bytes first first found
     → IsLookedAt bytes first ended found
-looked_first bytes first ended found searched = record {
-  from = first;
-  after = omega arith;
-  none = λ place after below. absurd (omega (arith, after, below));
-  searched = searched;
-}
+looked_first bytes first ended found searched = grind (arith, common_steps)
 
 -- so none begins before the place that was found
 none_found : (bytes : List ℕ) (first : ℕ) (ended : Bool) (found : Sighting) → IsLookedAt bytes first ended found
@@ -83,11 +79,4 @@ stands_at_end bytes ended found (Some layout) order within last whole =
 -- what is found at last
 pub searched_to_end : (bytes : List ℕ) (first : ℕ) (ended : Bool) (found : Sighting) → IsLookedAt bytes first ended found
     → (IsTrue ended → found.layout ≡ None → found.place < length bytes → ⊥) → IsSearchedToEnd bytes first ended found
-searched_to_end bytes first ended found looked last =
-    let is = looked.searched in
-    record {
-      after = omega (arith, looked.after, is.after);
-      within = omega (arith, is.order, is.within);
-      none = none_found bytes first ended found looked;
-      stands = stands_at_end bytes ended found found.layout is.order is.within last is.stands;
-    }
+searched_to_end bytes first ended found looked last = search (arith, common_steps, none_found, stands_at_end)

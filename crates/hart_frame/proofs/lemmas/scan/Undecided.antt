@@ -1,4 +1,5 @@
 -- What a scanner keeps of what it is to decide.
+use Rattle.std.proofs.lemmas.Grind.{common_steps}
 use Rattle.std.proofs.Common.{◌≡◌, ℕ, ◌+◌, ◌-◌, ◌<◌, ◌≤◌, ◌⊎◌, inl, inr, false, List, [], ◌∷◌, ◌++◌, length, replicate, drop, refl}
 use Rattle.std.proofs.Common.{sym, ap, ◌∙◌, arith, append_assoc, length-append, length-drop}
 use Rattle.std.proofs.lemmas.List.{append-nil, drop_at, drop-append-le, get_or_at, get_or_append_left, get_or-replicate, length-replicate}
@@ -21,8 +22,7 @@ abbrev sample : Scan → List Character
 sample scan = replicate scan.first other ++ (scan.held ++ [])
 
 hears_sample : (scan : Scan) → CanHear scan [] (sample scan)
-hears_sample scan =
-    record { prefix = replicate scan.first other; split = refl; place = length-replicate scan.first other; ended = λ _. refl }
+hears_sample scan = grind (arith, common_steps, length-replicate)
 
 -- of the frames of a list the first is its first
 pub head_first : (chars : List Character) (from : ℕ) (frames : List Found) → AreFrames chars from frames
@@ -88,8 +88,7 @@ pub nothing_before : (s t : Scan) → MovesPast s t [] → HasNoFrame t.held 0 �
 nothing_before s t moves empty found stands =
     let after = moves.heard [] (sample s) (hears_sample s) in
     let ends : AreFrames (sample s) t.first [] = AreFrames.none t.first (λ g there. empty _ (stands_held t (sample s) g after there)) in
-    let frames = moves.frames [] (sample s) [] (hears_sample s) ends in
-    no_frames (sample s) s.first [] frames refl _ (held_stands s found stands)
+    let frames = moves.frames [] (sample s) [] (hears_sample s) ends in search (arith, common_steps, no_frames, held_stands)
 
 -- what is undecided after some characters are passed was undecided before
 pub undecided_before : (s t : Scan) → MovesPast s t [] → IsUndecided t.held → IsUndecided s.held
@@ -99,9 +98,7 @@ undecided_before s t moves undecided = elim undecided [
       let after = moves.heard [] (sample s) (hears_sample s) in
       let prefix = after.prefix ++ opened.prefix in
       let rest = faultless (255 ∷ 255 ∷ opened.bytes) in
-      let all : sample s ≡ prefix ++ rest =
-      after.split ∙ ap (λ (cs : List Character). after.prefix ++ cs) (append-nil t.held ∙ opened.split)
-      ∙ sym (append_assoc after.prefix opened.prefix rest) in
+      let all : sample s ≡ prefix ++ rest = grind (arith, common_steps, append-nil, append_assoc) in
       let late = preamble_held s prefix (faultless (255 ∷ opened.bytes)) all in
       let size = length-append after.prefix opened.prefix in
       let dropped = length-drop s.first prefix in

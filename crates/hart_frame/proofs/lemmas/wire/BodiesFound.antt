@@ -1,4 +1,5 @@
 -- Whether bytes begin with a body is decided.
+use Rattle.std.proofs.lemmas.Grind.{common_steps}
 use Rattle.std.proofs.Common.{◌≡◌, ℕ, zero, suc, fold, bit_xor, ◌+◌, ◌-◌, ◌*◌, ◌/◌, ◌%◌, ◌<◌, ◌≤◌, ◌⊎◌, inl, inr, Bool}
 use Rattle.std.proofs.Common.{List, [], ◌∷◌, length, take, get_or, refl, ap, ◌∙◌, arith, subst}
 use Rattle.std.specs.List.{All, slice_range}
@@ -172,8 +173,7 @@ checked bytes whole fits =
     let Is : ℕ → Type 0 = λ c. IsCheckByte prefix c in
     elim cases [
       | inl even ↦
-          let body = even_body bytes (body_length bytes) refl whole fit (subst Is even is) in
-          inl (record { frame = body.0; len = body_length bytes; begins = body.1 })
+          let body = even_body bytes (body_length bytes) refl whole fit (subst Is even is) in grind (arith, common_steps)
       | inr odd ↦ inr (refused_for bytes BadCheck (whole, λ parity. omega (arith, check-even prefix _ is parity, odd)))
     ]
 

@@ -1,10 +1,10 @@
 -- An exclusive or lane by lane, and of all lanes at the end, is that of all bytes.
+use Rattle.std.proofs.lemmas.Grind.{common_steps}
 use Rattle.std.proofs.Common.{◌≡◌, ℕ, zero, suc, ◌+◌, ◌*◌, ◌<◌, ◌≤◌, List, [], ◌∷◌, refl, sym, ap, ◌∙◌, arith}
 use Rattle.std.proofs.Common.{fold, bit_xor, take, drop, length, mul-zero, take-add, take-append-drop}
 use Rattle.std.specs.List.{slice_index_or}
 use Rattle.std.specs.Simd.{first_chunks}
 use Rattle.std.specs.Simd.Lanes.{zip2, fold_l}
-use Rattle.std.specs.Int.Bits.{xor_assoc}
 use Rattle.std.proofs.lemmas.Nat.{xor_comm}
 use Rattle.std.proofs.lemmas.List.Sums.{fold-append}
 use Rattle.std.proofs.lemmas.List.{drop-drop}
@@ -17,15 +17,11 @@ xor_of bytes = fold bit_xor 0 bytes
 -- the start comes first
 pub fold-start : (start : ℕ) (bytes : List ℕ) → fold bit_xor start bytes ≡ bit_xor start (xor_of bytes)
 fold-start start [] = sym (xor_comm start 0)
-fold-start start (byte ∷ bytes) =
-    fold-start (bit_xor start byte) bytes ∙ xor_assoc start byte (xor_of bytes) ∙ ap (bit_xor start) (sym (fold-start byte bytes))
+fold-start start (byte ∷ bytes) = grind (arith, common_steps, bit_xor, fold-start (bit_xor start byte) bytes, fold-start byte bytes)
 
 -- two pairs, crossed
 crossed : (a b c d : ℕ) → bit_xor (bit_xor a b) (bit_xor c d) ≡ bit_xor (bit_xor a c) (bit_xor b d)
-crossed a b c d =
-    xor_assoc a b (bit_xor c d)
-    ∙ ap (bit_xor a) (sym (xor_assoc b c d) ∙ ap (λ x. bit_xor x d) (xor_comm b c) ∙ xor_assoc c b d)
-    ∙ sym (xor_assoc a c (bit_xor b d))
+crossed a b c d = grind (arith, common_steps, bit_xor, xor_comm)
 
 -- lane by lane
 pub xor_of-zip2 : (xs ys : List ℕ) → length xs ≡ length ys → xor_of (zip2 bit_xor xs ys) ≡ bit_xor (xor_of xs) (xor_of ys)

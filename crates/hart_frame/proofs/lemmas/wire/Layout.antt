@@ -1,5 +1,6 @@
 -- The parts that a layout cuts out of bytes are, joined again, the bytes.
-use Rattle.std.proofs.Common.{◌≡◌, ℕ, suc, ◌+◌, ◌-◌, ◌*◌, ◌/◌, ◌%◌, ◌<◌, ◌≤◌, List, ◌∷◌, ◌++◌, length, take, drop, get_or, sym, ap, ◌∙◌}
+use Rattle.std.proofs.lemmas.Grind.{common_steps}
+use Rattle.std.proofs.Common.{◌≡◌, ℕ, suc, ◌+◌, ◌-◌, ◌*◌, ◌/◌, ◌%◌, ◌<◌, ◌≤◌, List, ◌∷◌, ◌++◌, length, take, drop, get_or}
 use Rattle.std.proofs.Common.{arith, length-drop}
 use Rattle.std.specs.List.{slice_range}
 use Rattle.std.proofs.Math.Seq.{take-add}
@@ -19,8 +20,7 @@ slice_range-join xs a b c ab bc = grind (arith, take-add (b - a) (c - b) (drop a
 slice_range-first : (xs : List ℕ) (a c : ℕ) → a < c → a < length xs → get_or xs a 0 ∷ slice_range xs (a + 1) c ≡ slice_range xs a c
 slice_range-first xs a c ac within =
     let rest = drop_more xs a 0 within in
-    let count : c - a ≡ suc (c - (a + 1)) = omega arith in
-    sym (ap (λ n. take n (drop a xs)) count ∙ ap (take (suc (c - (a + 1)))) rest)
+    let count : c - a ≡ suc (c - (a + 1)) = omega arith in grind (arith, common_steps)
 
 -- a prefix of some bytes: one byte, a range, a range, two bytes, and a range
 cut : (xs : List ℕ) (i j k : ℕ) → 1 ≤ i → i ≤ j → j + 2 ≤ k → k ≤ length xs
@@ -66,9 +66,7 @@ IsCheckedPart-in bytes layout frame describes whole stands =
     let j = layout.command_place in
     let n = layout.byte_count in
     let long : j + 3 + n ≤ length bytes = omega (arith, whole.1, describes.address, describes.command, describes.count) in
-    let expansion_len : length frame.expansion ≡ j - i =
-    ap length stands.expansion ∙ length-slice_range bytes i j (omega (arith, describes.address, describes.command)) (omega arith) in
-    let payload_len : length frame.payload ≡ n =
-    ap length stands.payload ∙ length-slice_range bytes (j + 2) (j + 2 + n) (omega arith) (omega arith) ∙ omega arith in
+    let expansion_len : length frame.expansion ≡ j - i = grind (arith, common_steps, length-slice_range) in
+    let payload_len : length frame.payload ≡ n = grind (arith, common_steps, length-slice_range) in
     let range_len = length-slice_range bytes 1 i (omega (arith, describes.address)) (omega (arith, describes.address, describes.command)) in
     grind (arith, delimiter-parts, cut, joined)

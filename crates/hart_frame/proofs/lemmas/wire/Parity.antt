@@ -1,4 +1,5 @@
 -- The exclusive or of bytes has a bit if an odd number of them have it.
+use Rattle.std.proofs.lemmas.Grind.{common_steps}
 use Rattle.std.proofs.Common.{◌≡◌, ℕ, refl, ◌+◌, ◌%◌, ◌<◌, List, [], ◌∷◌, ◌++◌, sym, ◌∙◌, arith, cond, eqb, fold, bit_xor, get_or, suc}
 use Rattle.std.proofs.lemmas.List.Sums.{sum_by-append}
 use Rattle.std.specs.Int.{bit_at}
@@ -13,9 +14,7 @@ bit_counts byte bit = let below = bit_at-lt byte bit in grind (arith, nat_tests)
 
 -- a first byte counts before the others
 bit_count-cons : (bit byte : ℕ) (bytes : List ℕ) → bit_count bit (byte ∷ bytes) ≡ bit_at byte bit + bit_count bit bytes
-bit_count-cons bit byte bytes =
-    let split = sum_by-append (λ (x : ℕ). cond (eqb (bit_at x bit) 1) 1 0) (byte ∷ []) bytes in
-    omega (arith, split, bit_counts byte bit)
+bit_count-cons bit byte bytes = grind (arith, common_steps, sum_by-append, bit_counts)
 
 -- the bit of an exclusive or is the parity of the count
 xor_parity : (bytes : List ℕ) (start bit : ℕ) → bit_at (fold bit_xor start bytes) bit ≡ (bit_at start bit + bit_count bit bytes) % 2
@@ -39,14 +38,11 @@ bit_count-append bit xs ys = sum_by-append (λ (x : ℕ). cond (eqb (bit_at x bi
 
 -- bytes and their check byte have even parity
 pub HasEvenParity-push : (bytes : List ℕ) (check : ℕ) → IsCheckByte bytes check → HasEvenParity (bytes ++ check ∷ [])
-HasEvenParity-push bytes check is = record {
-  even = λ bit below. omega (arith, bit_count-append bit bytes (check ∷ []), bit_count-cons bit check [], is.odd bit below);
-}
+HasEvenParity-push bytes check is = grind (arith, common_steps, bit_count-append, bit_count-cons)
 
 -- the check byte of bytes with even parity is 0
 pub check-even : (bytes : List ℕ) (check : ℕ) → IsCheckByte bytes check → HasEvenParity bytes → check ≡ 0
-check-even bytes check is even =
-    same_from_bits_below 8 check 0 is.byte (omega arith) (λ bit below. is.odd bit below ∙ even.even bit below ∙ sym (bit_at-zero bit))
+check-even bytes check is even = grind (arith, common_steps, same_from_bits_below, bit_at-zero)
 
 -- bytes whose check byte is 0 have even parity
 pub even-check : (bytes : List ℕ) → IsCheckByte bytes 0 → HasEvenParity bytes

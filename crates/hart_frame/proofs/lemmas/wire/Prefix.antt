@@ -1,12 +1,13 @@
 -- What bytes say does not change when more bytes follow.
-use Rattle.std.proofs.Common.{◌≡◌, ◌≢◌, ℕ, ◌<◌, ◌≤◌, List, ◌++◌, length, refl, sym, arith, subst, length-append}
+use Rattle.std.proofs.lemmas.Grind.{common_steps}
+use Rattle.std.proofs.Common.{◌≡◌, ◌≢◌, ℕ, ◌<◌, ◌≤◌, List, ◌++◌, length, refl, arith, length-append}
 use Rattle.std.proofs.lemmas.List.{get_or_append_left, take-append-le}
 use Rattle.hart_frame.specs.declared.wire.fault.FrameFault.{FrameFault}
 use Rattle.hart_frame.specs.declared.wire.fault.FrameFault.TheVariants.{TooShortReply, BadPreamble, BadDelimiter, Truncated, BadCheck}
 use Rattle.hart_frame.specs.declared.wire.fault.FrameFault.TheVariants.{ShortReply}
 use Rattle.hart_frame.specs.wire.Layout.{Describes, delimiter_in, byte_count_place, byte_count_in, body_length}
 use Rattle.hart_frame.specs.declared.wire.layout.Layout.{Layout}
-use Rattle.hart_frame.specs.wire.Refusal.{IsDelimiter, IsRefusedWith, HasDelimiter, HasByteCount, HasGoodByteCount, HasCheckByte}
+use Rattle.hart_frame.specs.wire.Refusal.{IsRefusedWith, HasDelimiter, HasByteCount, HasGoodByteCount, HasCheckByte}
 
 pub delimiter_more : (xs ys : List ℕ) → 0 < length xs → delimiter_in (xs ++ ys) ≡ delimiter_in xs
 delimiter_more xs ys some = get_or_append_left xs ys 0 0 some
@@ -21,27 +22,23 @@ pub length_more : (xs ys : List ℕ) → byte_count_place xs < length xs → bod
 length_more xs ys within = omega (arith, count_more xs ys within, count_place_more xs ys (omega (arith, within)))
 
 pub HasDelimiter-more : (xs ys : List ℕ) → HasDelimiter xs → HasDelimiter (xs ++ ys)
-HasDelimiter-more xs ys has =
-    (omega (arith, has.0, length-append xs ys), subst IsDelimiter (sym (delimiter_more xs ys has.0)) has.1)
+HasDelimiter-more xs ys has = grind (arith, common_steps, length-append, delimiter_more)
 
 pub HasByteCount-more : (xs ys : List ℕ) → HasByteCount xs → HasByteCount (xs ++ ys)
-HasByteCount-more xs ys has =
-    (HasDelimiter-more xs ys has.0, omega (arith, has.1, length-append xs ys, count_place_more xs ys has.0.0))
+HasByteCount-more xs ys has = grind (arith, common_steps, HasDelimiter-more, length-append, count_place_more)
 
 pub HasGoodByteCount-more : (xs ys : List ℕ) → HasGoodByteCount xs → HasGoodByteCount (xs ++ ys)
 HasGoodByteCount-more xs ys has = grind (arith, HasByteCount-more, delimiter_more, count_more)
 
 pub HasCheckByte-more : (xs ys : List ℕ) → HasCheckByte xs → HasCheckByte (xs ++ ys)
-HasCheckByte-more xs ys has =
-    (HasGoodByteCount-more xs ys has.0, omega (arith, has.1, length-append xs ys, length_more xs ys has.0.0.1))
+HasCheckByte-more xs ys has = grind (arith, common_steps, HasGoodByteCount-more, length-append, length_more)
 
 -- what is refused, and not for its end, is refused whatever follows
 pub refused_more : (xs ys : List ℕ) (fault : FrameFault) → fault ≢ Truncated → IsRefusedWith xs fault → IsRefusedWith (xs ++ ys) fault
 refused_more xs ys TooShortReply decided refused = refused
 refused_more xs ys BadPreamble decided refused = refused
 refused_more xs ys Truncated decided refused = absurd (decided refl)
-refused_more xs ys BadDelimiter decided refused =
-    (omega (arith, refused.0, length-append xs ys), λ is. refused.1 (subst IsDelimiter (delimiter_more xs ys refused.0) is))
+refused_more xs ys BadDelimiter decided refused = grind (arith, common_steps, length-append, delimiter_more)
 refused_more xs ys ShortReply decided refused = grind (arith, delimiter_more, HasByteCount-more, count_more)
 refused_more xs ys BadCheck decided refused = grind (arith, length_more, take-append-le, HasCheckByte-more)
 

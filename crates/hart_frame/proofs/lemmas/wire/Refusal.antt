@@ -1,6 +1,7 @@
 -- What begins with a body is not refused.
+use Rattle.std.proofs.lemmas.Grind.{common_steps}
 use Rattle.std.proofs.Common.{◌≡◌, ℕ, ◌+◌, ◌*◌, ◌<◌, ◌≤◌, List, [], ◌∷◌, ◌++◌, length, take, drop, get_or, refl, sym, ap}
-use Rattle.std.proofs.Common.{◌∙◌, arith, append_assoc, length-append, subst, Result, Ok, Err}
+use Rattle.std.proofs.Common.{◌∙◌, arith, append_assoc, length-append, Result, Ok, Err}
 use Rattle.std.specs.Result.{IfOk, IfErr}
 use Rattle.std.proofs.lemmas.List.{length-take-le, take-append-drop, get_or_at}
 use Rattle.hart_frame.specs.declared.wire.fault.FrameFault.{FrameFault}
@@ -42,20 +43,14 @@ says bytes f len begins =
     let regrouped : bytes ≡ prefix ++ length f.payload ∷ (f.payload ++ begins.body.check ∷ rest) = whole ∙ simp append_assoc in
     let address = length-address _ _ _ _ part.address_bytes in
     let prefix_len : length prefix ≡ byte_count_place bytes =
-    grind (arith, length-append) in
-    let count : byte_count_in bytes ≡ length f.payload =
-    ap (λ (xs : List ℕ). get_or xs (byte_count_place bytes) 0) regrouped
-    ∙ get_or_at prefix (length f.payload) _ 0 (byte_count_place bytes) prefix_len in
-    let taken_len : length (take len bytes) ≡ len = length-take-le len bytes begins.within in
-    grind (arith, length-append, length-checked)
+    grind (arith, length-append) in search (arith, common_steps, get_or_at, length-take-le, length-append, length-checked)
 
 -- a list that begins with a body is refused with no fault
 pub not_refused : (bytes : List ℕ) (f : FrameParts) (len : ℕ) (fault : FrameFault)
     → BeginsWithBody bytes f len → IsRefusedWith bytes fault → ⊥
 not_refused bytes f len TooShortReply begins refused = refused
 not_refused bytes f len BadPreamble begins refused = refused
-not_refused bytes f len BadDelimiter begins refused =
-    refused.1 (subst IsDelimiter (sym (says bytes f len begins).delimiter) (IsDelimiter-of f begins.body.checked_part.expansion_fits))
+not_refused bytes f len BadDelimiter begins refused = grind (arith, common_steps, says, IsDelimiter-of)
 not_refused bytes f len Truncated begins refused = grind (arith, says bytes f len begins)
 not_refused bytes f len BadCheck begins refused = grind (arith, says bytes f len begins)
 not_refused bytes f len ShortReply begins refused = grind (arith, says bytes f len begins, kind_code-is, address_type-lt f.address)

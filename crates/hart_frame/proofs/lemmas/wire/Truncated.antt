@@ -1,4 +1,5 @@
 -- Bytes that end too early are those that can become a body.
+use Rattle.std.proofs.lemmas.Grind.{common_steps}
 use Rattle.std.proofs.Common.{◌≡◌, ℕ, fold, bit_xor, ◌+◌, ◌-◌, ◌%◌, ◌<◌, ◌≤◌, ◌⊎◌, inl, inr, List, [], ◌∷◌, ◌++◌, length, take, get_or}
 use Rattle.std.proofs.Common.{replicate, refl, sym, ◌∙◌, arith, append_assoc, length-append, subst}
 use Rattle.std.specs.List.{All}
@@ -79,9 +80,7 @@ CanBecomeBody-counted bytes fit good short =
     let count = count_more bytes zeros good.0.1 in
     let long : length (bytes ++ zeros) ≡ length bytes + missing = grind (arith, length-append, length-replicate) in
     let fits = All-append (λ byte. byte < 256) bytes zeros fit (All-replicate (λ byte. byte < 256) missing 0 (omega arith)) in
-    CanBecomeBody-prefix bytes zeros (
-    CanBecomeBody-last (bytes ++ zeros) fits (HasGoodByteCount-more bytes zeros good) (omega (arith, place, count, long, short))
-    )
+    CanBecomeBody-prefix bytes zeros (grind (arith, common_steps, CanBecomeBody-last, HasGoodByteCount-more))
 
 -- bytes that end before their byte count get one of 2
 CanBecomeBody-begun : (bytes : List ℕ) → AreBytes bytes → HasDelimiter bytes → length bytes ≤ byte_count_place bytes
@@ -108,9 +107,7 @@ CanBecomeBody-begun bytes fit has short =
 CanBecomeBody-none : (bytes : List ℕ) → length bytes ≡ 0 → CanBecomeBody bytes
 CanBecomeBody-none [] none =
     let stx : List ℕ = 2 ∷ [] in
-    CanBecomeBody-prefix [] stx (
-    CanBecomeBody-begun stx (All-replicate (λ byte. byte < 256) 1 2 (omega arith)) (omega arith, (refl, inl refl)) (omega arith)
-    )
+    CanBecomeBody-prefix [] stx (grind (arith, common_steps, CanBecomeBody-begun, All-replicate))
 CanBecomeBody-none (byte ∷ bytes) none = absurd (omega (arith, none))
 
 pub CanBecomeBody-truncated : (bytes : List ℕ) → AreBytes bytes → IsTruncated bytes → CanBecomeBody bytes

@@ -1,4 +1,5 @@
 -- A list of bytes begins with one body at most, and that body has one frame at most.
+use Rattle.std.proofs.lemmas.Grind.{common_steps}
 use Rattle.std.proofs.Common.{◌≡◌, ℕ, ◌+◌, ◌*◌, ◌<◌, ◌≤◌, Bool, List, [], ◌∷◌, ◌++◌, length, take, drop, refl, sym, ap, ◌∙◌, arith}
 use Rattle.std.proofs.Common.{append_assoc, length-append}
 use Rattle.std.proofs.lemmas.List.{take_at, drop_at, append_cancel_right, take-append-drop, length-take-le}
@@ -91,10 +92,7 @@ OneList = (m : MasterId) (b : Bool) (x : Address) (bytes others : List ℕ)
 
 -- the last of some bytes is a byte
 last_fits : (bytes : List ℕ) (last : ℕ) → All (λ byte. byte < 256) (bytes ++ last ∷ []) → last < 256
-last_fits bytes last fit =
-    let fits : ℕ → Type 0 = λ byte. byte < 256 in
-    All-head fits last []
-    (All-same fits (last ∷ []) _ (sym (drop_at bytes (last ∷ []) (length bytes) refl)) (All-drop fits (length bytes) _ fit))
+last_fits bytes last fit = search (arith, common_steps, All-head, All-same, drop_at, All-drop)
 
 -- a frame has one body
 pub IsBody-one : OneList → (f : FrameParts) (body other : List ℕ) → IsBody f body → IsBody f other → body ≡ other
