@@ -49,8 +49,7 @@ heard-drop (byte ∷ sent) bytes (character ∷ others) heard = heard-drop sent 
 
 -- a faultless character is heard as it was sent
 pub clear_is : (sent byte : ℕ) → IsHeardOrMarked sent (clear byte) → byte ≡ sent
-clear_is sent byte (inl same) = ap (λ (c : Character). c.byte) same
-clear_is sent byte (inr marked) = absurd (marked.some refl)
+clear_is sent byte fact1 = grind arith
 
 -- so at each place
 clear_at : (bytes : List ℕ) (chars : List Character) (place byte : ℕ) → AreHeardOrMarked bytes chars → place < length bytes
@@ -92,13 +91,7 @@ parts chars found from stands = stands.split ∙ append_assoc stands.prefix (fau
 part_at : (chars : List Character) (found : Found) (from count place : ℕ) (stands : StandsIn found chars from)
     → place ≡ length stands.prefix + count
     → get_or chars place preamble ≡ get_or (faultless (255 ∷ 255 ∷ []) ++ (faultless stands.body ++ stands.rest)) count preamble
-part_at chars found from count place stands is =
-    grind (
-      arith,
-      preamble,
-      parts chars found from stands,
-      get_or-append-add stands.prefix (faultless (255 ∷ 255 ∷ []) ++ (faultless stands.body ++ stands.rest)) count preamble,
-    )
+part_at chars found from count place stands fact1 = grind (arith, common_steps, preamble, parts, get_or-append-add)
 
 -- the body there begins with its delimiter
 first_at : (f : FrameParts) (body : List ℕ) (rest : List Character) → IsBody f body

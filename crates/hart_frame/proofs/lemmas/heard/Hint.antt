@@ -105,15 +105,7 @@ heard_body heard fit has same =
 body_or_miss : (heard : List Character) (start : ℕ) (faulty : Option Character) (end : ℕ) → All (λ c. c.byte < 256) heard
     → Told (faultless_bytes heard) faulty end start
     → HeardBody heard ⊎ (is_some (miss_in (faultless_bytes heard) faulty end start) ≡ true)
-body_or_miss heard start faulty end fit (empty none is) = inr (ap is_some is)
-body_or_miss heard start faulty end fit (other any bad is) = inr (ap is_some is)
-body_or_miss heard start faulty end fit (begun has few is) = inr (ap is_some is)
-body_or_miss heard start faulty end fit (short has ack few is) = inr (ap is_some is)
-body_or_miss heard start faulty end fit (counted has few is) = inr (ap is_some is)
-body_or_miss heard start faulty end fit (whole has is) =
-    let bytes = faultless_bytes heard in
-    let cases : (check_byte_in bytes ≡ fitting_check_byte bytes) ⊎ (check_byte_in bytes ≢ fitting_check_byte bytes) = grind arith in
-    grind (arith, common_steps, heard_body, other_check)
+body_or_miss heard start faulty end fact1 fact2 = grind (arith, heard_body, other_check)
 
 pub heard_or_miss : (heard : List Character) (start : ℕ) → All (λ c. c.byte < 256) heard
     → HeardBody heard ⊎ (is_some (body_miss start heard) ≡ true)

@@ -139,11 +139,7 @@ front_length heard body len front has long = grind (arith, common_steps, take-ap
 pub counted_whole : (heard body : List Character) (len start : ℕ) → IsWholeFront heard body len
     → HasGoodByteCount (faultless_bytes heard) → len ≡ body_length (faultless_bytes heard)
     → check_miss (bytes_of body) start ≡ body_miss start heard
-counted_whole heard body len start front has long =
-    let bytes = faultless_bytes heard in
-    ap (λ (xs : List ℕ). check_miss xs start) front.bytes
-    ∙ missed_whole bytes len (slice_get heard (length bytes)) (start + length bytes) start (has, omega (arith, front.within, long))
-    (sym long)
+counted_whole heard body len start fact1 fact2 fact3 = grind (arith, missed_whole)
 
 -- at the end of the characters as many are missing as of the bytes
 at_end_alike : (heard : List Character) (len place : ℕ)
@@ -162,8 +158,7 @@ pub counted_early : (heard : List Character) (len count start : ℕ) (result : O
     → len ≡ body_length (faultless_bytes heard) → count ≡ len - length heard → length (faultless_bytes heard) < len
     → MatchOption result (len ≤ length (faultless_bytes heard)) (EndsEarly heard len start (Missing count))
     → result ≡ body_miss start heard
-counted_early heard len count start None has long count_is few early = absurd (omega (arith, few, early))
-counted_early heard len count start (Some miss) has long count_is few early = grind (arith, at_end_alike, miss_in-counted)
+counted_early heard len count start result fact1 fact2 fact3 fact4 fact5 = grind (arith, at_end_alike, miss_in-counted)
 
 -- characters of which one has fault bits hold fewer faultless bytes
 pub not_whole : (heard body : List Character) (len : ℕ) → body ≡ take len heard → (All (λ c. c.faults ≡ 0) body → ⊥)
@@ -181,8 +176,7 @@ pub begins_with_count : (heard : List Character) (first place count : ℕ) (one 
     → 1 ≤ length (faultless_bytes heard) → one ≡ get_or heard 0 one → first ≡ one.byte
     → place ≡ 2 + (1 + 4 * (first / 128)) + first / 32 % 4 → place + 1 ≤ length (faultless_bytes heard)
     → two ≡ get_or heard place two → count ≡ two.byte → BeginsWithCount heard first place count
-begins_with_count heard first place count one two some one_is first_is place_is within two_is count_is =
-    grind (arith, common_steps, byte_at)
+begins_with_count heard first place count one two fact1 fact2 fact3 fact4 fact5 fact6 fact7 = grind (arith, byte_at)
 
 pub good_count : (heard : List Character) (first place count : ℕ) → BeginsWithCount heard first place count → IsDelimiter first
     → ((first % 8 ≡ 2) ⊎ (2 ≤ count)) → HasGoodByteCount (faultless_bytes heard)
@@ -200,8 +194,7 @@ cut_front heard count end is = is ∙ ap length (faultless_bytes-take count hear
 -- which case a miss comes from
 pub faulty_or-is : (faulty : Option Character) (place : ℕ) (at_end miss : Miss) → faulty_or faulty place at_end ≡ miss
     → ((faulty ≡ None) × (at_end ≡ miss)) ⊎ ((c : Character) × (faulty ≡ Some c) × (miss ≡ Faulty place c.faults))
-faulty_or-is None place at_end miss is = inl (refl, is)
-faulty_or-is (Some c) place at_end miss is = inr (c, refl, sym is)
+faulty_or-is faulty place at_end miss fact1 = grind arith
 
 delimiter_miss-is : (byte : ℕ) → (delimiter_miss byte ≡ Burst) ⊎ (delimiter_miss byte ≡ BadDelimiter byte)
 delimiter_miss-is byte = grind arith
@@ -219,22 +212,12 @@ check_miss-is bytes start miss is = grind (arith, common_steps, same_check, othe
 
 pub bad_check-says : (bytes : List ℕ) (faulty : Option Character) (end start place byte fits : ℕ) → Told bytes faulty end start
     → miss_in bytes faulty end start ≡ Some (BadCheck place byte fits) → IsBadCheck bytes start place byte fits
-bad_check-says bytes faulty end start place byte fits (empty none is) miss = absurd (grind (arith, faulty_or-is))
-bad_check-says bytes faulty end start place byte fits (other any bad is) miss = absurd (grind (arith, delimiter_miss-is))
-bad_check-says bytes faulty end start place byte fits (begun has few is) miss = absurd (grind (arith, faulty_or-is))
-bad_check-says bytes faulty end start place byte fits (short has ack few is) miss = absurd (grind arith)
-bad_check-says bytes faulty end start place byte fits (counted has few is) miss = absurd (grind (arith, faulty_or-is))
-bad_check-says bytes faulty end start place byte fits (whole has is) miss = search (arith, common_steps, check_miss-is)
+bad_check-says bytes faulty end start place byte fits fact1 fact2 = grind (arith, faulty_or-is, delimiter_miss-is, check_miss-is)
 
 pub faulty-says : (bytes : List ℕ) (faulty : Option Character) (end start place faults : ℕ) → Told bytes faulty end start
     → miss_in bytes faulty end start ≡ Some (Faulty place faults)
     → (c : Character) × (faulty ≡ Some c) × (place ≡ end) × (faults ≡ c.faults)
-faulty-says bytes faulty end start place faults (empty none is) miss = grind (arith, faulty_or-is)
-faulty-says bytes faulty end start place faults (other any bad is) miss = absurd (grind (arith, delimiter_miss-is))
-faulty-says bytes faulty end start place faults (begun has few is) miss = grind (arith, faulty_or-is)
-faulty-says bytes faulty end start place faults (short has ack few is) miss = absurd (grind arith)
-faulty-says bytes faulty end start place faults (counted has few is) miss = grind (arith, faulty_or-is)
-faulty-says bytes faulty end start place faults (whole has is) miss = grind (arith, common_steps, check_miss-is)
+faulty-says bytes faulty end start place faults fact1 fact2 = grind (arith, faulty_or-is, delimiter_miss-is, check_miss-is)
 
 pub record IsMissing (bytes : List ℕ) (faulty : Option Character) (count : ℕ) : Type 0 where
   pub has : HasGoodByteCount bytes
@@ -244,18 +227,8 @@ pub record IsMissing (bytes : List ℕ) (faulty : Option Character) (count : ℕ
 
 pub missing-says : (bytes : List ℕ) (faulty : Option Character) (end start count : ℕ) → Told bytes faulty end start
     → miss_in bytes faulty end start ≡ Some (Missing count) → IsMissing bytes faulty count
-missing-says bytes faulty end start count (empty none is) miss = absurd (grind (arith, faulty_or-is))
-missing-says bytes faulty end start count (other any bad is) miss = absurd (grind (arith, delimiter_miss-is))
-missing-says bytes faulty end start count (begun has few is) miss = absurd (grind (arith, faulty_or-is))
-missing-says bytes faulty end start count (short has ack few is) miss = absurd (grind arith)
-missing-says bytes faulty end start count (counted has few is) miss = grind (arith, faulty_or-is)
-missing-says bytes faulty end start count (whole has is) miss = search (arith, common_steps, check_miss-is)
+missing-says bytes faulty end start count fact1 fact2 = grind (arith, faulty_or-is, delimiter_miss-is, check_miss-is)
 
 pub never_one_preamble : (bytes : List ℕ) (faulty : Option Character) (end start : ℕ) → Told bytes faulty end start
     → miss_in bytes faulty end start ≡ Some OnePreamble → ⊥
-never_one_preamble bytes faulty end start (empty none is) miss = grind (arith, faulty_or-is)
-never_one_preamble bytes faulty end start (other any bad is) miss = grind (arith, delimiter_miss-is)
-never_one_preamble bytes faulty end start (begun has few is) miss = grind (arith, faulty_or-is)
-never_one_preamble bytes faulty end start (short has ack few is) miss = grind arith
-never_one_preamble bytes faulty end start (counted has few is) miss = grind (arith, faulty_or-is)
-never_one_preamble bytes faulty end start (whole has is) miss = grind (arith, common_steps, check_miss-is)
+never_one_preamble bytes faulty end start fact1 fact2 = grind (arith, faulty_or-is, delimiter_miss-is, check_miss-is)

@@ -33,8 +33,7 @@ named a b same fault is = ap fault_of (sym (same_Some a b same)) ∙ is
 
 early : (faulty : Option Character) (place : ℕ) (at_end : Miss) → fault_of at_end ≡ Some Truncated
     → fault_of (faulty_or faulty place at_end) ≡ Some Truncated
-early None place at_end is = is
-early (Some c) place at_end is = refl
+early faulty place at_end fact1 = grind arith
 
 first : (byte : ℕ) → fault_of (delimiter_miss byte) ≡ Some BadDelimiter
 first byte = grind arith
@@ -42,12 +41,7 @@ first byte = grind arith
 -- a check byte that does not fit makes the parity odd
 odd : (bytes : List ℕ) → All (λ byte. byte < 256) bytes → HasCheckByte bytes → check_byte_in bytes ≢ fitting_check_byte bytes
     → HasEvenParity (take (body_length bytes) bytes) → ⊥
-odd bytes fit has differ even =
-    let n = body_length bytes - 1 in
-    let next : body_length bytes ≡ n + 1 = omega arith in
-    let parts : take (body_length bytes) bytes ≡ take n bytes ++ check_byte_in bytes ∷ [] = grind (arith, common_steps, take_more) in
-    differ (even-is (take n bytes) (check_byte_in bytes) (fits_at (take n bytes) (All-take (λ byte. byte < 256) n bytes fit))
-    (fits_at bytes fit n) (subst HasEvenParity parts even))
+odd bytes fact1 fact2 fact3 fact4 = grind (arith, common_steps, take_more, even-is, fits_at, All-take)
 
 fault_told : (bytes : List ℕ) (faulty : Option Character) (end start : ℕ) (miss : Miss) → All (λ byte. byte < 256) bytes
     → Told bytes faulty end start → miss_in bytes faulty end start ≡ Some miss → FaultOf bytes miss

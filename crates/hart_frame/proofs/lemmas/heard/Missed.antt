@@ -138,11 +138,8 @@ one_split chars k within is = grind (arith, common_steps, take-append-drop, drop
 -- what ends with a preamble byte has one before the place after it
 ends_with : (chars earlier : List Character) (k : ℕ) → k < length chars → take k chars ≡ earlier ++ preamble ∷ []
     → follows_preamble chars k ≡ true
-ends_with chars earlier zero within is = absurd (omega (arith, ap length is, length-append earlier (preamble ∷ [])))
-ends_with chars earlier (suc j) within is =
-    let len = ap length is ∙ length-append earlier (preamble ∷ []) in
-    let same : j ≡ length earlier = omega (arith, len, length-take-le (suc j) chars (omega (arith, within))) in
-    grind (arith, common_steps, preamble, get_or-take, get_or-append_seam, first_tests)
+ends_with chars earlier k fact1 fact2 =
+    grind (arith, common_steps, length-append, preamble, length-take-le, get_or-take, get_or-append_seam, first_tests)
 
 -- one preamble byte alone, as the lists say it
 pub one_preamble-is : (chars : List Character) (place : ℕ) → follows_one_preamble chars place ≡ true → FollowsOnePreamble chars place

@@ -22,14 +22,5 @@ IsSum-none = record { check = refl; faultless = λ zero k d below. absurd (omega
 pub IsSum-more : (chars : List Character) (sum : Sum) (c : Character) (more : Sum)
     → more ≡ record { check = bit_xor sum.check c.byte; faults = bit_or sum.faults c.faults } → IsSum chars sum
     → IsSum (chars ++ c ∷ []) more
-IsSum-more chars sum c more next before = record {
-  check = grind (arith, map-append, fold-append);
-  faultless = grind (arith, common_steps, le_or_l, le_or_r, All-push);
-  none = λ all.
-      let front : All (λ (x : Character). x.faults ≡ 0) chars = λ k d below.
-      subst (λ (x : Character). x.faults ≡ 0) (get_or_append_left chars (c ∷ []) d k below)
-      (all k d (omega (arith, below, length-append chars (c ∷ [])))) in
-      let last : c.faults ≡ 0 =
-      subst (λ (x : Character). x.faults ≡ 0) (get_or_at chars c [] c (length chars) refl)
-      (all (length chars) c (omega (arith, length-append chars (c ∷ [])))) in grind (arith, common_steps);
-}
+IsSum-more chars sum c more fact1 fact2 =
+    grind (arith, map-append, fold-append, le_or_l, le_or_r, All-push, get_or_append_left, length-append, get_or_at)

@@ -35,12 +35,8 @@ HasCheckByte-more xs ys has = grind (arith, common_steps, HasGoodByteCount-more,
 
 -- what is refused, and not for its end, is refused whatever follows
 pub refused_more : (xs ys : List ℕ) (fault : FrameFault) → fault ≢ Truncated → IsRefusedWith xs fault → IsRefusedWith (xs ++ ys) fault
-refused_more xs ys TooShortReply decided refused = refused
-refused_more xs ys BadPreamble decided refused = refused
-refused_more xs ys Truncated decided refused = absurd (decided refl)
-refused_more xs ys BadDelimiter decided refused = grind (arith, common_steps, length-append, delimiter_more)
-refused_more xs ys ShortReply decided refused = grind (arith, delimiter_more, HasByteCount-more, count_more)
-refused_more xs ys BadCheck decided refused = grind (arith, length_more, take-append-le, HasCheckByte-more)
+refused_more xs ys fault fact1 fact2 =
+    grind (arith, length-append, delimiter_more, HasByteCount-more, count_more, length_more, take-append-le, HasCheckByte-more)
 
 -- what a list says, its prefix says
 pub HasCheckByte-prefix : (xs ys : List ℕ) → HasCheckByte (xs ++ ys) → body_length (xs ++ ys) ≤ length xs

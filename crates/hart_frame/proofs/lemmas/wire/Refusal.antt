@@ -66,29 +66,4 @@ only law bytes (Err fault) accepts refused f len begins = absurd (not_refused by
 
 -- bytes are refused with one fault at most
 pub refused_once : (bytes : List ℕ) (fault other : FrameFault) → IsRefusedWith bytes fault → IsRefusedWith bytes other → fault ≡ other
-refused_once bytes TooShortReply other p q = absurd p
-refused_once bytes BadPreamble other p q = absurd p
-refused_once bytes BadDelimiter TooShortReply p q = absurd q
-refused_once bytes BadDelimiter BadPreamble p q = absurd q
-refused_once bytes BadDelimiter BadDelimiter p q = refl
-refused_once bytes BadDelimiter Truncated p q = absurd (grind arith)
-refused_once bytes BadDelimiter ShortReply p q = absurd (grind arith)
-refused_once bytes BadDelimiter BadCheck p q = absurd (grind arith)
-refused_once bytes Truncated TooShortReply p q = absurd q
-refused_once bytes Truncated BadPreamble p q = absurd q
-refused_once bytes Truncated BadDelimiter p q = absurd (grind arith)
-refused_once bytes Truncated Truncated p q = refl
-refused_once bytes Truncated ShortReply p q = absurd (grind arith)
-refused_once bytes Truncated BadCheck p q = absurd (grind arith)
-refused_once bytes ShortReply TooShortReply p q = absurd q
-refused_once bytes ShortReply BadPreamble p q = absurd q
-refused_once bytes ShortReply BadDelimiter p q = absurd (grind arith)
-refused_once bytes ShortReply Truncated p q = absurd (grind arith)
-refused_once bytes ShortReply ShortReply p q = refl
-refused_once bytes ShortReply BadCheck p q = absurd (grind arith)
-refused_once bytes BadCheck TooShortReply p q = absurd q
-refused_once bytes BadCheck BadPreamble p q = absurd q
-refused_once bytes BadCheck BadDelimiter p q = absurd (grind arith)
-refused_once bytes BadCheck Truncated p q = absurd (grind arith)
-refused_once bytes BadCheck ShortReply p q = absurd (grind arith)
-refused_once bytes BadCheck BadCheck p q = refl
+refused_once bytes fault other fact1 fact2 = grind arith

@@ -38,10 +38,7 @@ same_parts prefix other back rest lengths whole =
     )
 
 kind_code-one : (k l : FrameKind) → kind_code k ≡ kind_code l → k ≡ l
-kind_code-one Stx Stx e = refl
-kind_code-one Stx Ack e = absurd (omega arith)
-kind_code-one Ack Stx e = absurd (omega arith)
-kind_code-one Ack Ack e = refl
+kind_code-one k l fact1 = grind arith
 
 -- a kind's code is 2 or 6
 pub kind_code-is : (k : FrameKind) → (c : ℕ) × (c < 2) × (kind_code k ≡ 4 * c + 2)
@@ -49,14 +46,12 @@ kind_code-is Stx = (0, omega arith, refl)
 kind_code-is Ack = (1, omega arith, refl)
 
 pub address_type-lt : (a : Address) → address_type a < 2
-address_type-lt (Polling number) = omega arith
-address_type-lt (Unique numbers) = omega arith
+address_type-lt a = grind arith
 
 -- the address type says how long the address bytes are
 pub length-address : (m : MasterId) (b : Bool) (a : Address) (bytes : List ℕ) → IsAddressBytes m b a bytes
     → length bytes ≡ 1 + 4 * address_type a
-length-address m b (Polling number) bytes is = ap length is.1
-length-address m b (Unique numbers) bytes is = ap length is.five
+length-address m b a bytes fact1 = grind arith
 
 -- the same kind, address type and number of expansion bytes
 record SameDelimiter (f g : FrameParts) : Type 0 where
