@@ -5,7 +5,7 @@ use Rattle.std.proofs.Common.{drop, get_or, set}
 use Rattle.std.proofs.Common.{true, Option, Some, refl, sym, ap, ◌∙◌, arith, append_assoc, length-append}
 use Rattle.std.specs.List.{All, insert, slice_get}
 use Rattle.std.specs.Option.{IsSome, is_some}
-use Rattle.std.proofs.lemmas.List.{append-nil, drop_at, drop_more, get_or-drop, get_or-set_same, get_or-take, length-drop}
+use Rattle.std.proofs.lemmas.List.{append-nil, drop_at, drop_more, get_or-set_same, get_or-take}
 use Rattle.std.proofs.lemmas.List.{length-map, length-take-le, map-append, set_at, take-append-drop, take_more}
 use Rattle.std.proofs.lemmas.List.Elements.{All-append, All-drop, All-take}
 use Rattle.std.proofs.lemmas.Option.{get_or_from_slice_get, slice_get_within}
@@ -25,14 +25,22 @@ use Rattle.hart_frame.specs.declared.heard.found.Found.{Found}
 use Rattle.hart_frame.specs.declared.heard.miss.Miss.TheVariants.{BadCheck, Faulty, Missing, OnePreamble}
 use Rattle.hart_frame.proofs.lemmas.heard.Front.{after_faultless, faultless_fit, heard_parts, length-faultless_bytes, nothing_follows}
 use Rattle.hart_frame.proofs.lemmas.heard.Front.{regrouped, take_heard}
-use Rattle.hart_frame.proofs.lemmas.heard.Miss.{Told, begun, counted, empty, other, short, told_of, whole}
-use Rattle.hart_frame.proofs.lemmas.heard.Miss.{IsBadCheck, IsMissing, bad_check-says, faulty-says, missing-says, never_one_preamble}
+use Rattle.hart_frame.proofs.lemmas.heard.Miss.{Told, told_of}
 use Rattle.hart_frame.proofs.lemmas.heard.Miss.{other_check}
 use Rattle.hart_frame.proofs.lemmas.heard.Missed.{miss_of-some, miss_of-start, not_at_front, one_before_place}
 use Rattle.hart_frame.proofs.lemmas.heard.Place.{preamble}
 use Rattle.hart_frame.proofs.lemmas.wire.Prefix.{HasGoodByteCount-more, length_more}
 use Rattle.hart_frame.proofs.lemmas.wire.Parity.{IsCheckByte-fold}
 use Rattle.hart_frame.proofs.lemmas.wire.Truncated.{fits_at, fitted}
+use Rattle.hart_frame.proofs.lemmas.heard.InTheWay.{way_of, fits-is, rest_at, nothing_at_end}
+use Rattle.std.proofs.lemmas.Bool.Decides.{nat_tests}
+use Rattle.hart_frame.specs.heard.Miss.{is_start}
+use Rattle.hart_frame.specs.heard.InTheWay.{FollowsOnePreamble, HasBodyAt}
+use Rattle.std.proofs.Common.{◌↔◌, subst, false}
+use Rattle.hart_frame.specs.wire.Body.{BeginsWithBody}
+use Rattle.hart_frame.proofs.lemmas.heard.Front.{faultless_bytes-append}
+use Rattle.hart_frame.proofs.lemmas.heard.Missed.{is_start-yes, miss_of-one, nothing_missed, one_preamble-is, one_preamble-yes}
+use Rattle.hart_frame.proofs.lemmas.wire.UnambiguousBodies.{BeginsWithBody-append}
 
 -- a frame stands where its body stands after two preamble bytes
 pub frame_up_to : (chars prefix rest : List Character) (body : List ℕ) (f : FrameParts) (place stop : ℕ) → IsBody f body
@@ -111,6 +119,9 @@ pub heard_or_miss : (heard : List Character) (start : ℕ) → All (λ c. c.byte
     → HeardBody heard ⊎ (is_some (body_miss start heard) ≡ true)
 heard_or_miss heard start fit = body_or_miss heard start _ _ fit (told_of heard start)
 
+never_one_preamble : (start : ℕ) (heard : List Character) → body_miss start heard ≡ Some OnePreamble → ⊥
+never_one_preamble start heard miss = grind (arith, nat_tests)
+
 -- a body that is heard after two preamble bytes is a frame there
 heard_frame : (chars prefix heard : List Character) (place : ℕ) → chars ≡ prefix ++ (preamble ∷ preamble ∷ heard)
     → place ≡ length prefix + 2 → HeardBody heard → HasFrameAt chars place
@@ -147,7 +158,7 @@ pub one_preamble_fits : (start : ℕ) (chars : List Character) → All (λ c. c.
 one_preamble_fits start chars fit is =
     let heard = drop start chars in
     elim (miss_of-some chars start OnePreamble is) [
-      | inl (here, miss) ↦ grind (arith, common_steps, never_one_preamble, told_of)
+      | inl (here, miss) ↦ absurd (never_one_preamble start heard miss)
       | inr (same, one, no_miss) ↦
           elim (heard_or_miss heard start (All-drop (λ (c : Character). c.byte < 256) start chars fit)) [
             | inl found ↦ with_preamble chars start one found
@@ -167,69 +178,49 @@ before_end : (prefix : List Character) (bytes more : List ℕ) (last : ℕ)
 before_end prefix bytes more last = grind (arith, append_assoc, append-nil, map-append)
 
 -- with the byte that would fit a frame stands there
-bad_check_at : (chars : List Character) (start byte fits place : ℕ) → All (λ c. c.byte < 256) chars → Starts chars start
-    → IsBadCheck (faultless_bytes (drop start chars)) start place byte fits
+pub bad_check_fits : (start place byte fits : ℕ) (chars : List Character) → All (λ c. c.byte < 256) chars
+    → miss_of chars start ≡ Some (BadCheck place byte fits)
     → HasFrameUpTo (set chars place (record { byte = fits; faults = 0 })) start (place + 1)
-bad_check_at chars start byte fits place fit at bad =
+bad_check_fits start place byte fits chars fit is =
+    let way = way_of start chars (BadCheck place byte fits) fit is (λ same. cc) in
+    let at = starts chars start way.0 in
+    let has = way.1.0 in
     let make = λ (byte : ℕ). let c : Character = record { byte = byte; faults = 0 } in c in
     let heard = drop start chars in
     let bytes = faultless_bytes heard in
     let n = body_length bytes - 1 in
     let checked : List ℕ = take n bytes in
-    let c = get_or heard n preamble in
     let others : List Character = drop (n + 1) heard in
-    let within : n < length bytes = omega (arith, bad.has.1) in
-    let all_within = length-faultless_bytes heard in
-    let parts : heard ≡ faultless checked ++ c ∷ others = search (arith, common_steps, take-append-drop, take_heard, drop_more, preamble) in
+    let long = length-take-le n bytes (omega (arith, has.1)) in
+    let bytes_fit = faultless_fit heard (All-drop (λ (x : Character). x.byte < 256) start chars fit) in
+    let parts : heard ≡ faultless checked ++ get_or heard n preamble ∷ others =
+    grind (arith, take-append-drop n heard, take_heard heard n, drop_more heard n preamble, length-faultless_bytes) in
     let front : List Character = at.prefix ++ (preamble ∷ preamble ∷ faultless checked) in
-    let split : chars ≡ front ++ c ∷ others = grind (arith, common_steps, preamble, append_assoc) in
-    let long : length front ≡ place =
-    omega (
-      arith,
-      length-append at.prefix (preamble ∷ preamble ∷ faultless checked),
-      length-map checked make,
-      length-take-le n bytes (omega (arith, within)),
-      bad.place_is,
-      at.at,
-    ) in
-    let body = whole_body bytes (faultless_fit heard (All-drop (λ (x : Character). x.byte < 256) start chars fit)) bad.has in
-    let changed : set chars place (make fits) ≡ front ++ make fits ∷ others = grind (arith, common_steps, set_at) in
-    let last = fitting_check_byte bytes in
-    let regroup : front ++ make last ∷ others ≡ at.prefix ++ faultless (255 ∷ 255 ∷ (checked ++ last ∷ [])) ++ others =
-    after_front at.prefix checked last others in
-    let stop : place + 1 ≡ start + length (checked ++ last ∷ []) =
-    omega (arith, bad.place_is, length-append checked (last ∷ []), length-take-le n bytes (omega (arith, within))) in
-    frame_up_to (set chars place (make fits)) at.prefix others (checked ++ last ∷ []) body.frame start (place + 1) body.is_body (changed
-    ∙ ap (λ (b : ℕ). front ++ make b ∷ others) bad.fits_is ∙ regroup) at.at stop
-
-pub bad_check_fits : (start place byte fits : ℕ) (chars : List Character) → All (λ c. c.byte < 256) chars
-    → miss_of chars start ≡ Some (BadCheck place byte fits)
-    → HasFrameUpTo (set chars place (record { byte = fits; faults = 0 })) start (place + 1)
-bad_check_fits start place byte fits chars fit is =
-    let heard = drop start chars in
-    elim (miss_of-some chars start (BadCheck place byte fits) is) [
-      | inl (here, miss) ↦
-          bad_check_at chars start byte fits place fit (starts chars start here)
-          (bad_check-says (faultless_bytes heard) _ _ start place byte fits (told_of heard start) miss)
-      | inr (same, one, no_miss) ↦ absurd (grind arith)
-    ]
+    let split : chars ≡ front ++ get_or heard n preamble ∷ others = grind (arith, common_steps, preamble, append_assoc) in
+    let size : length front ≡ place =
+    omega (arith, length-append at.prefix (preamble ∷ preamble ∷ faultless checked), length-map checked make, long, way.1.1, at.at) in
+    let body = whole_body bytes bytes_fit has in
+    let fits_is = fits-is checked fits (All-take (λ byte. byte < 256) n bytes bytes_fit) way.1.3 in
+    let changed : set chars place (make fits) ≡ at.prefix ++ faultless (255 ∷ 255 ∷ (checked ++ fits ∷ [])) ++ others =
+    grind (arith, common_steps, set_at, after_front) in
+    frame_up_to (set chars place (make fits)) at.prefix others (checked ++ fitting_check_byte bytes ∷ []) body.frame start (place + 1)
+    body.is_body (grind arith) at.at (omega (arith, way.1.1, long, length-append checked (fitting_check_byte bytes ∷ [])))
 
 -- the place of a fault is that of a character with fault bits
+told_faulty : (start place faults : ℕ) (heard : List Character) → body_miss start heard ≡ Some (Faulty place faults)
+    → (c : Character) × (slice_get heard (length (faultless_bytes heard)) ≡ Some c) × (place ≡ start + length (faultless_bytes heard))
+told_faulty start place faults heard miss = grind (arith, nat_tests)
+
 faulty_at : (start place faults : ℕ) (chars : List Character) → miss_of chars start ≡ Some (Faulty place faults)
     → (place < length chars) × ((get_or chars place preamble).faults ≢ 0)
 faulty_at start place faults chars is =
     let heard = drop start chars in
+    let n = length (faultless_bytes heard) in
     elim (miss_of-some chars start (Faulty place faults) is) [
       | inl (here, miss) ↦
-          let n = length (faultless_bytes heard) in
-          let says = faulty-says (faultless_bytes heard) _ _ start place faults (told_of heard start) miss in
-          let within = slice_get_within heard n says.0 says.1 in
-          let at : get_or chars place preamble ≡ says.0 =
-          ap (λ (i : ℕ). get_or chars i preamble) says.2 ∙ sym (get_or-drop start chars n preamble)
-          ∙ get_or_from_slice_get heard n says.0 preamble says.1 in (
-            omega (arith, within, length-drop start chars, says.2),
-            λ none. after_faultless heard says.0 says.1 (ap (λ (c : Character). c.faults) (sym at) ∙ none),
-          )
+          let says = told_faulty start place faults heard miss in
+          let there : slice_get chars place ≡ Some says.0 = grind (arith, rest_at chars start n) in
+          (slice_get_within chars place says.0 there, grind (arith, get_or_from_slice_get, after_faultless heard says.0 says.1))
       | inr (same, one, no_miss) ↦ absurd (grind arith)
     ]
 
@@ -241,54 +232,66 @@ fault_is_gone start place faults byte others chars is again =
     let still = faulty_at start place others (set chars place c) again in grind (arith, common_steps, get_or-set_same, preamble)
 
 -- with the bytes that are missing a frame stands there
-missing_at : (chars : List Character) (start count : ℕ) (more : List ℕ) → All (λ c. c.byte < 256) chars → All (λ byte. byte < 256) more
-    → Starts chars start
-    → IsMissing (faultless_bytes (drop start chars)) (slice_get (drop start chars) (length (faultless_bytes (drop start chars)))) count
-    → count ≡ length more + 1
-    → (last : ℕ) × IsCheckByte (faultless_bytes (drop start chars) ++ more) last
-    × HasFrameUpTo (chars ++ faultless (more ++ last ∷ [])) start (length chars + count)
-missing_at chars start count more fit more_fit at missing long =
+pub missing_fits : (start count : ℕ) (chars : List Character) (bytes : List ℕ) → All (λ c. c.byte < 256) chars
+    → All (λ byte. byte < 256) bytes → miss_of chars start ≡ Some (Missing count) → count ≡ length bytes + 1
+    → (last : ℕ) × IsCheckByte (bytes_from chars start ++ bytes) last
+    × HasFrameUpTo (chars ++ faultless (bytes ++ last ∷ [])) start (length chars + count)
+missing_fits start count chars more fit more_fit is long =
+    let way = way_of start chars (Missing count) fit is (λ same. cc) in
+    let at = starts chars start way.0 in
     let heard = drop start chars in
     let bytes = faultless_bytes heard in
     let checked : List ℕ = bytes ++ more in
     let last = fold bit_xor 0 checked in
     let fits = faultless_fit heard (All-drop (λ (x : Character). x.byte < 256) start chars fit) in
-    let good = HasGoodByteCount-more bytes more missing.has in
-    let same = length_more bytes more missing.has.0.1 in
-    let body = fitted checked (All-append (λ byte. byte < 256) bytes more fits more_fit) good
-    (omega (arith, same, length-append bytes more, missing.few, missing.count_is, long)) in
-    let all : heard ≡ faultless bytes = nothing_follows heard missing.at_end in
+    let checked_fit = All-append (λ byte. byte < 256) bytes more fits more_fit in
+    let good = HasGoodByteCount-more bytes more way.1.0 in
+    let same = length_more bytes more way.1.0.0.1 in
+    let size = length-append bytes more in
+    let body = fitted checked checked_fit good (omega (arith, same, size, way.1.2, long)) in
+    let all : heard ≡ faultless bytes = nothing_follows heard (nothing_at_end chars start way.1.3) in
     let split : chars ≡ at.prefix ++ (preamble ∷ preamble ∷ faultless bytes) = grind (arith, common_steps, preamble) in
     let regroup : (at.prefix ++ (preamble ∷ preamble ∷ faultless bytes)) ++ faultless (more ++ last ∷ [])
-    ≡ at.prefix ++ faultless (255 ∷ 255 ∷ (checked ++ last ∷ [])) ++ [] = grind (arith, common_steps, before_end) in
-    let checked_fit = All-append (λ byte. byte < 256) bytes more fits more_fit in
-    let make = λ (byte : ℕ). let c : Character = record { byte = byte; faults = 0 } in c in
-    let stop : length chars + count ≡ start + length (checked ++ last ∷ []) =
-    omega (
-      arith,
-      ap length split,
-      length-append at.prefix (preamble ∷ preamble ∷ faultless bytes),
-      length-map bytes make,
-      at.at,
-      length-append checked (last ∷ []),
-      length-append bytes more,
-      long,
-    ) in (
+    ≡ at.prefix ++ faultless (255 ∷ 255 ∷ (checked ++ last ∷ [])) ++ [] = grind (arith, common_steps, before_end) in (
       last,
       IsCheckByte-fold checked last (fits_at checked checked_fit) refl,
       frame_up_to (chars ++ faultless (more ++ last ∷ [])) at.prefix [] (checked ++ last ∷ []) body.frame start (length chars + count)
-          body.is_body (ap (λ (cs : List Character). cs ++ faultless (more ++ last ∷ [])) split ∙ regroup) at.at stop,
+          body.is_body (ap (λ (cs : List Character). cs ++ faultless (more ++ last ∷ [])) split ∙ regroup) at.at
+          (omega (arith, way.1.2, way.1.3, length-append checked (last ∷ []), size, long)),
     )
 
-pub missing_fits : (start count : ℕ) (chars : List Character) (bytes : List ℕ) → All (λ c. c.byte < 256) chars
-    → All (λ byte. byte < 256) bytes → miss_of chars start ≡ Some (Missing count) → count ≡ length bytes + 1
-    → (last : ℕ) × IsCheckByte (bytes_from chars start ++ bytes) last
-    × HasFrameUpTo (chars ++ faultless (bytes ++ last ∷ [])) start (length chars + count)
-missing_fits start count chars bytes fit bytes_fit is long =
+-- what is heard begins with a whole body, and nothing of it is missed
+none_of : (chars : List Character) (start : ℕ) → HasBodyAt chars start → is_some (body_miss start (drop start chars)) ≡ false
+none_of chars start has =
     let heard = drop start chars in
-    elim (miss_of-some chars start (Missing count) is) [
-      | inl (here, miss) ↦
-          missing_at chars start count bytes fit bytes_fit (starts chars start here)
-          (missing-says (faultless_bytes heard) _ _ start count (told_of heard start) miss) long
-      | inr (same, one, no_miss) ↦ absurd (grind arith)
+    let bytes = faultless_bytes heard in
+    let all : bytes ≡ has.body ++ faultless_bytes has.rest = grind (arith, common_steps, faultless_bytes-append) in
+    let Begins : List ℕ → Type 0 = λ xs. BeginsWithBody xs has.frame (length has.body) in
+    let begins = subst Begins (sym all) (BeginsWithBody-append has.frame has.body (faultless_bytes has.rest) has.is_body) in
+    ap is_some (nothing_missed bytes has.frame (length has.body) _ _ start begins (told_of heard start))
+
+never_both : (chars : List Character) (start : ℕ) → follows_one_preamble chars start ≡ true → is_start chars start ≡ true → ⊥
+never_both chars start one is = grind arith
+
+-- after one preamble byte alone a whole body stands
+alone_is : (start : ℕ) (chars : List Character) → All (λ c. c.byte < 256) chars → miss_of chars start ≡ Some OnePreamble
+    → (follows_one_preamble chars start ≡ true) × HasBodyAt chars start
+alone_is start chars fit is =
+    let heard = drop start chars in
+    elim (miss_of-some chars start OnePreamble is) [
+      | inl (here, miss) ↦ absurd (never_one_preamble start heard miss)
+      | inr (same, one, no_miss) ↦
+          elim (heard_or_miss heard start (All-drop (λ (c : Character). c.byte < 256) start chars fit)) [
+            | inl found ↦ grind (arith, common_steps)
+            | inr some ↦ absurd (false≢true (sym no_miss ∙ some))
+          ]
     ]
+
+pub one_alone : (start : ℕ) (chars : List Character) → All (λ c. c.byte < 256) chars
+    → (miss_of chars start ≡ Some OnePreamble) ↔ (FollowsOnePreamble chars start × HasBodyAt chars start)
+one_alone start chars fit = (
+  λ is. let both = alone_is start chars fit is in (one_preamble-is chars start both.0, both.1),
+  λ both. let one = one_preamble-yes chars start both.0 in
+      sym (miss_of-one chars (drop start chars) start refl (λ is. never_both chars start one (is_start-yes chars start is)) one
+      (none_of chars start both.1)),
+)

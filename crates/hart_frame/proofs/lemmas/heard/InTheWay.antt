@@ -1,59 +1,38 @@
 -- A miss where a body may start is what stands in the way there.
 use Rattle.std.proofs.lemmas.Grind.{common_steps}
-use Rattle.std.proofs.Common.{◌≡◌, ◌≢◌, ℕ, zero, suc, ◌+◌, ◌-◌, ◌<◌, ◌≤◌, ◌⊎◌, inl, inr, List, [], ◌∷◌, ◌++◌, length, take}
-use Rattle.std.proofs.Common.{◌↔◌, drop, fold, get_or, bit_xor, true, false, Option, None, Some, refl, sym, ap, subst, ◌∙◌, arith}
+use Rattle.std.proofs.Common.{◌≡◌, ◌≢◌, ℕ, zero, suc, ◌+◌, ◌-◌, ◌<◌, ◌≤◌, ◌⊎◌, inl, inr, List, [], ◌∷◌, length, take}
+use Rattle.std.proofs.Common.{◌↔◌, drop, fold, get_or, bit_xor, None, Some, refl, sym, ap, subst, ◌∙◌, arith}
 use Rattle.std.specs.List.{All, slice_get}
-use Rattle.std.specs.Option.{is_some}
-use Rattle.std.proofs.lemmas.Bool.{false≢true}
 use Rattle.std.proofs.lemmas.Bool.Decides.{nat_tests}
 use Rattle.std.proofs.lemmas.List.{get_or-drop, length-append, length-drop}
 use Rattle.std.proofs.lemmas.List.Elements.{All-drop, All-take}
-use Rattle.std.proofs.lemmas.Option.{get_or_from_slice_get, none-some, same_Some, slice_get-get_or, slice_get_cases, slice_get_past, slice_get_within}
-use Rattle.hart_frame.specs.wire.Body.{BeginsWithBody}
+use Rattle.std.proofs.lemmas.Option.{none-some, same_Some, slice_get-get_or, slice_get_cases, slice_get_past}
 use Rattle.hart_frame.specs.wire.Layout.{body_length}
 use Rattle.hart_frame.specs.wire.Parity.{IsCheckByte}
 use Rattle.hart_frame.specs.wire.Refusal.{IsDelimiter, IsTruncated}
 use Rattle.hart_frame.specs.heard.Character.{Character, faultless_bytes}
-use Rattle.hart_frame.specs.heard.InTheWay.{ComeToTheEnd, FollowsOnePreamble, HasBodyAt, HasFaultsAt, IsBurstDelimiter}
+use Rattle.hart_frame.specs.heard.InTheWay.{ComeToTheEnd, HasFaultsAt, IsBurstDelimiter}
 use Rattle.hart_frame.specs.heard.InTheWay.{IsInTheWay, bytes_from}
-use Rattle.hart_frame.specs.heard.Miss.{body_miss, check_byte_in, delimiter_miss, faulty_or, fitting_check_byte, follows_one_preamble}
-use Rattle.hart_frame.specs.heard.Miss.{is_start, miss_of}
+use Rattle.hart_frame.specs.heard.Miss.{body_miss, check_byte_in, delimiter_miss, faulty_or, fitting_check_byte}
+use Rattle.hart_frame.specs.heard.Miss.{miss_of}
 use Rattle.hart_frame.specs.heard.Start.{IsStart}
 use Rattle.hart_frame.specs.declared.heard.miss.Miss.{Miss}
 use Rattle.hart_frame.specs.declared.heard.miss.Miss.TheVariants.{BadCheck, BadDelimiter, Burst, EndsBeforeByteCount, Faulty, Missing}
 use Rattle.hart_frame.specs.declared.heard.miss.Miss.TheVariants.{OnePreamble, ShortReply}
 use Rattle.hart_frame.proofs.lemmas.wire.Parity.{HasEvenParity-push, IsCheckByte-fold, even-is}
 use Rattle.hart_frame.proofs.lemmas.wire.Truncated.{fits_at}
-use Rattle.hart_frame.proofs.lemmas.heard.Front.{after_faultless, faultless_bytes-append, faultless_bytes-end, faultless_bytes-more, faultless_fit, length-faultless_bytes}
+use Rattle.hart_frame.proofs.lemmas.heard.Front.{after_faultless, faultless_bytes-end, faultless_bytes-more, faultless_fit, length-faultless_bytes}
 use Rattle.hart_frame.proofs.lemmas.heard.Miss.{Told, begun, counted, empty, faulty_or-is, miss_in-begun, miss_in-counted, miss_in-none}
-use Rattle.hart_frame.proofs.lemmas.heard.Miss.{miss_in-other, never_one_preamble, miss_in-short, miss_in-whole, other, other_check, same_check, short, told_of, whole}
-use Rattle.hart_frame.proofs.lemmas.heard.Hint.{heard_or_miss}
-use Rattle.hart_frame.proofs.lemmas.heard.Missed.{is_start-yes, miss_of-one, miss_of-some, miss_of-start, nothing_missed}
-use Rattle.hart_frame.proofs.lemmas.heard.Missed.{one_preamble-is, one_preamble-yes}
-use Rattle.hart_frame.proofs.lemmas.wire.UnambiguousBodies.{BeginsWithBody-append}
+use Rattle.hart_frame.proofs.lemmas.heard.Miss.{miss_in-other, miss_in-short, miss_in-whole, other, other_check, same_check, short, told_of, whole}
+use Rattle.hart_frame.proofs.lemmas.heard.Missed.{miss_of-some, miss_of-start}
 use Rattle.hart_frame.proofs.lemmas.heard.Place.{preamble}
 
 start_within : (chars : List Character) (start : ℕ) → IsStart start chars → start ≤ length chars
 start_within chars start is = grind (arith, common_steps, preamble, length-append)
 
 -- a character of the rest of a list
-rest_at : (chars : List Character) (start n : ℕ) (c : Character) → slice_get (drop start chars) n ≡ Some c
-    → slice_get chars (start + n) ≡ Some c
-rest_at chars start n c is =
-    let heard = drop start chars in
-    let within = slice_get_within heard n c is in
-    slice_get-get_or chars (start + n) c (omega (arith, within, length-drop start chars))
-    ∙ ap (λ (x : Character). let found : Option Character = Some x in found)
-    (sym (get_or-drop start chars n c) ∙ get_or_from_slice_get heard n c c is)
-
-at_rest : (chars : List Character) (start n : ℕ) (c : Character) → slice_get chars (start + n) ≡ Some c
-    → slice_get (drop start chars) n ≡ Some c
-at_rest chars start n c is =
-    let heard = drop start chars in
-    let within = slice_get_within chars (start + n) c is in
-    slice_get-get_or heard n c (omega (arith, within, length-drop start chars))
-    ∙ ap (λ (x : Character). let found : Option Character = Some x in found)
-    (get_or-drop start chars n c ∙ get_or_from_slice_get chars (start + n) c c is)
+pub rest_at : (chars : List Character) (start n : ℕ) → slice_get (drop start chars) n ≡ slice_get chars (start + n)
+rest_at chars start n = grind (arith, common_steps, slice_get_cases, slice_get-get_or, get_or-drop, length-drop)
 
 -- a character among the faultless ones at the front
 front_at : (heard : List Character) (i : ℕ) → i < length (faultless_bytes heard)
@@ -67,7 +46,7 @@ end_is : (chars : List Character) (start : ℕ) → start ≤ length chars
     → slice_get (drop start chars) (length (bytes_from chars start)) ≡ None → ComeToTheEnd chars start
 end_is chars start within none = grind (arith, common_steps, slice_get_cases, none-some, length-faultless_bytes, length-drop)
 
-nothing_at_end : (chars : List Character) (start : ℕ) → ComeToTheEnd chars start
+pub nothing_at_end : (chars : List Character) (start : ℕ) → ComeToTheEnd chars start
     → slice_get (drop start chars) (length (bytes_from chars start)) ≡ None
 nothing_at_end chars start end = grind (arith, common_steps, slice_get_past, length-drop)
 
@@ -82,7 +61,7 @@ early_way chars start at_end miss within is =
     let n = length (faultless_bytes heard) in
     elim (faulty_or-is (slice_get heard n) (start + n) at_end miss is) [
       | inl (none, same) ↦ inl (same, end_is chars start within none)
-      | inr (c, at, same) ↦ inr (c.faults, same, (after_faultless heard c at, c.byte, rest_at chars start n c at))
+      | inr (c, at, same) ↦ inr (c.faults, same, (after_faultless heard c at, c.byte, sym (rest_at chars start n) ∙ at))
     ]
 
 -- the first byte of no message
@@ -100,7 +79,7 @@ burst_is_none : (byte : ℕ) → IsBurstDelimiter byte → IsDelimiter byte → 
 burst_is_none byte burst is = grind arith
 
 -- the check byte that fits
-fits-is : (bytes : List ℕ) (fits : ℕ) → All (λ byte. byte < 256) bytes → IsCheckByte bytes fits → fits ≡ fold bit_xor 0 bytes
+pub fits-is : (bytes : List ℕ) (fits : ℕ) → All (λ byte. byte < 256) bytes → IsCheckByte bytes fits → fits ≡ fold bit_xor 0 bytes
 fits-is bytes fits fit is = even-is bytes fits (fits_at bytes fit) is.byte (HasEvenParity-push bytes fits is)
 
 -- what is said stands in the way
@@ -133,8 +112,7 @@ said chars start miss fit within (whole has is) told =
     let bytes = bytes_from chars start in
     let n = body_length bytes - 1 in
     let cases : (check_byte_in bytes ≡ fitting_check_byte bytes) ⊎ (check_byte_in bytes ≢ fitting_check_byte bytes) = grind arith in
-    let at = rest_at chars start n (record { byte = get_or bytes n 0; faults = 0 })
-    (front_at (drop start chars) n (omega (arith, has.1))) in
+    let at = sym (rest_at chars start n) ∙ front_at (drop start chars) n (omega (arith, has.1)) in
     let checked = All-take (λ byte. byte < 256) n bytes fit in
     elim cases [
       | inl same ↦ absurd (none-some miss (sym (same_check bytes start same) ∙ sym is ∙ told))
@@ -148,41 +126,32 @@ early_is : (chars : List Character) (start place faults : ℕ) → place ≡ sta
     → HasFaultsAt chars place faults → (at_end : Miss)
     → faulty_or (slice_get (drop start chars) (length (bytes_from chars start))) (start + length (bytes_from chars start)) at_end
     ≡ Faulty place faults
-early_is chars start place faults is (some, byte, at) at_end = grind (arith, common_steps, at_rest)
+early_is chars start place faults is (some, byte, at) at_end = grind (arith, common_steps, rest_at)
 
 end_told : (chars : List Character) (start : ℕ) → ComeToTheEnd chars start → (at_end : Miss)
     → faulty_or (slice_get (drop start chars) (length (bytes_from chars start))) (start + length (bytes_from chars start)) at_end ≡ at_end
 end_told chars start end at_end = grind (arith, common_steps, nothing_at_end)
 
-some_miss : (a b : Miss) → a ≡ b → Some a ≡ Some b
-some_miss a b same = ap (λ (miss : Miss). let found : Option Miss = Some miss in found) same
-
 only : (chars : List Character) (start : ℕ) (miss : Miss) → All (λ byte. byte < 256) (bytes_from chars start)
     → IsInTheWay chars start miss → body_miss start (drop start chars) ≡ Some miss
-only chars start (Faulty place faults) fit (inl none, is, has) =
-    miss_in-none _ _ _ start none ∙ some_miss _ _ (early_is chars start place faults is has EndsBeforeByteCount)
-only chars start (Faulty place faults) fit (inr (inl (begins, few)), is, has) =
-    miss_in-begun _ _ _ start begins few ∙ some_miss _ _ (early_is chars start place faults is has EndsBeforeByteCount)
-only chars start (Faulty place faults) fit (inr (inr (good, few)), is, has) =
-    miss_in-counted _ _ _ start good few ∙ some_miss _ _ (early_is chars start place faults is has _)
-only chars start Burst fit (any, burst) = grind (arith, common_steps, miss_in-other, burst_is_none, some_miss, burst-yes)
-only chars start (BadDelimiter byte) fit (any, same, bad, not) = grind (arith, common_steps, miss_in-other, some_miss, burst-no)
-only chars start EndsBeforeByteCount fit (inl none, not, end) = grind (arith, common_steps, miss_in-none, some_miss, end_told)
-only chars start EndsBeforeByteCount fit (inr (inl (begins, few)), not, end) =
-    miss_in-begun _ _ _ start begins few ∙ some_miss _ _ (end_told chars start end EndsBeforeByteCount)
-only chars start EndsBeforeByteCount fit (inr (inr (good, few)), not, end) = absurd (not good.0)
-only chars start (ShortReply count) fit (has, ack, same, few) = grind (arith, common_steps, miss_in-short, some_miss)
-only chars start (Missing count) fit (has, some, sum, end) = grind (arith, common_steps, miss_in-counted, some_miss, end_told)
+only chars start (Faulty place faults) fit way =
+    grind (arith, miss_in-none, miss_in-begun, miss_in-counted, early_is chars start place faults)
+only chars start Burst fit way = grind (arith, common_steps, miss_in-other, burst_is_none, burst-yes)
+only chars start (BadDelimiter byte) fit way = grind (arith, common_steps, miss_in-other, burst-no)
+only chars start EndsBeforeByteCount fit way =
+    grind (arith, miss_in-none, miss_in-begun, miss_in-counted, end_told chars start)
+only chars start (ShortReply count) fit way = grind (arith, common_steps, miss_in-short)
+only chars start (Missing count) fit way = grind (arith, common_steps, miss_in-counted, end_told)
 only chars start (BadCheck place byte fits) fit (has, is, at, check, differ) =
     let bytes = bytes_from chars start in
     let n = body_length bytes - 1 in
     let place_is : place ≡ start + n = omega (arith, is) in
     let here = front_at (drop start chars) n (omega (arith, has.1)) in
-    let there = at_rest chars start n (record { byte = byte; faults = 0 }) (ap (slice_get chars) (sym place_is) ∙ at) in
+    let there = rest_at chars start n ∙ ap (slice_get chars) (sym place_is) ∙ at in
     let byte_is : check_byte_in bytes ≡ byte = ap (λ (c : Character). c.byte) (same_Some _ _ (sym here ∙ there)) in
     let fits_is : fits ≡ fitting_check_byte bytes = fits-is (take n bytes) fits (All-take (λ byte. byte < 256) n bytes fit) check in
-    grind (arith, common_steps, miss_in-whole, other_check, some_miss)
-only chars start OnePreamble fit never = absurd never
+    grind (arith, common_steps, miss_in-whole, other_check)
+only chars start OnePreamble fit way = absurd way
 
 pub in_the_way : (start : ℕ) (chars : List Character) (miss : Miss) → All (λ c. c.byte < 256) chars → IsStart start chars
     → (miss_of chars start ≡ Some miss) ↔ IsInTheWay chars start miss
@@ -194,38 +163,7 @@ in_the_way start chars miss fit is =
       λ way. sym same ∙ only chars start miss fits way,
     )
 
--- what is heard begins with a whole body, and nothing of it is missed
-none_of : (chars : List Character) (start : ℕ) → HasBodyAt chars start → is_some (body_miss start (drop start chars)) ≡ false
-none_of chars start has =
-    let heard = drop start chars in
-    let bytes = faultless_bytes heard in
-    let all : bytes ≡ has.body ++ faultless_bytes has.rest = grind (arith, common_steps, faultless_bytes-append) in
-    let Begins : List ℕ → Type 0 = λ xs. BeginsWithBody xs has.frame (length has.body) in
-    let begins = subst Begins (sym all) (BeginsWithBody-append has.frame has.body (faultless_bytes has.rest) has.is_body) in
-    ap is_some (nothing_missed bytes has.frame (length has.body) _ _ start begins (told_of heard start))
-
-never_both : (chars : List Character) (start : ℕ) → follows_one_preamble chars start ≡ true → is_start chars start ≡ true → ⊥
-never_both chars start one is = grind arith
-
--- after one preamble byte alone a whole body stands
-alone_is : (start : ℕ) (chars : List Character) → All (λ c. c.byte < 256) chars → miss_of chars start ≡ Some OnePreamble
-    → (follows_one_preamble chars start ≡ true) × HasBodyAt chars start
-alone_is start chars fit is =
-    let heard = drop start chars in
-    elim (miss_of-some chars start OnePreamble is) [
-      | inl (here, miss) ↦ absurd (never_one_preamble (faultless_bytes heard) _ _ start (told_of heard start) miss)
-      | inr (same, one, no_miss) ↦
-          elim (heard_or_miss heard start (All-drop (λ (c : Character). c.byte < 256) start chars fit)) [
-            | inl found ↦ grind (arith, common_steps)
-            | inr some ↦ absurd (false≢true (sym no_miss ∙ some))
-          ]
-    ]
-
-pub one_alone : (start : ℕ) (chars : List Character) → All (λ c. c.byte < 256) chars
-    → (miss_of chars start ≡ Some OnePreamble) ↔ (FollowsOnePreamble chars start × HasBodyAt chars start)
-one_alone start chars fit = (
-  λ is. let both = alone_is start chars fit is in (one_preamble-is chars start both.0, both.1),
-  λ both. let one = one_preamble-yes chars start both.0 in
-      sym (miss_of-one chars (drop start chars) start refl (λ is. never_both chars start one (is_start-yes chars start is)) one
-      (none_of chars start both.1)),
-)
+-- a miss but that of one preamble byte is of a place where a body may start
+pub way_of : (start : ℕ) (chars : List Character) (miss : Miss) → All (λ c. c.byte < 256) chars → miss_of chars start ≡ Some miss
+    → miss ≢ OnePreamble → IsStart start chars × IsInTheWay chars start miss
+way_of start chars miss fit is two = grind (arith, miss_of-some chars start miss is, in_the_way start chars miss fit)

@@ -1,7 +1,7 @@
 -- Why no body begins at a start: by its bytes, and by the characters that are heard there.
 use Rattle.std.proofs.lemmas.Grind.{common_steps}
 use Rattle.std.proofs.Common.{◌≡◌, ◌≢◌, ℕ, ◌+◌, ◌-◌, ◌*◌, ◌/◌, ◌%◌, ◌<◌, ◌≤◌, List, ◌++◌, length, take, drop, get_or, min}
-use Rattle.std.proofs.Common.{◌⊎◌, inl, inr, subst, true, false, Option, None, Some, refl, sym, ap, ◌∙◌, arith}
+use Rattle.std.proofs.Common.{◌⊎◌, subst, true, false, Option, None, Some, sym, ap, ◌∙◌, arith}
 use Rattle.std.proofs.lemmas.List.{get_or_append_left, length-map, length-take, length-take-le, take-append-drop, take-append-le}
 use Rattle.std.proofs.lemmas.Option.{slice_get-get_or}
 use Rattle.std.specs.List.{All, slice_get}
@@ -15,8 +15,7 @@ use Rattle.hart_frame.specs.wire.Layout.{body_length, byte_count_in, byte_count_
 use Rattle.hart_frame.specs.wire.Refusal.{HasByteCount, HasCheckByte, HasDelimiter, HasGoodByteCount, IsDelimiter}
 use Rattle.hart_frame.specs.declared.heard.miss.Miss.{Miss}
 use Rattle.hart_frame.specs.declared.heard.miss.Miss.TheVariants.{BadCheck, BadDelimiter, Burst, EndsBeforeByteCount, Faulty, Missing}
-use Rattle.hart_frame.specs.declared.heard.miss.Miss.TheVariants.{OnePreamble, ShortReply}
-use Rattle.hart_frame.proofs.lemmas.wire.BodiesFound.{delimiter_decided}
+use Rattle.hart_frame.specs.declared.heard.miss.Miss.TheVariants.{ShortReply}
 use Rattle.hart_frame.proofs.lemmas.heard.Front.{byte_at, faultless_all, faultless_bytes-all, faultless_bytes-take, length-faultless_bytes, take_heard}
 use Rattle.hart_frame.proofs.lemmas.heard.Place.{preamble}
 use Rattle.hart_frame.proofs.lemmas.wire.Prefix.{HasCheckByte-prefix, length_more}
@@ -94,23 +93,8 @@ pub data Told (bytes : List ℕ) (faulty : Option Character) (place start : ℕ)
       → Told bytes faulty place start
   whole : HasCheckByte bytes → miss_in bytes faulty place start ≡ check_miss bytes start → Told bytes faulty place start
 
-told_counted : (bytes : List ℕ) (faulty : Option Character) (place start : ℕ) → HasGoodByteCount bytes → Told bytes faulty place start
-told_counted bytes faulty place start has = grind (arith, common_steps, miss_in-counted, miss_in-whole)
-
-told_begun : (bytes : List ℕ) (faulty : Option Character) (place start : ℕ) → HasByteCount bytes → Told bytes faulty place start
-told_begun bytes faulty place start has = search (arith, common_steps, told_counted, miss_in-short)
-
 pub told : (bytes : List ℕ) (faulty : Option Character) (place start : ℕ) → Told bytes faulty place start
-told bytes faulty place start =
-    let some : (length bytes ≡ 0) ⊎ (0 < length bytes) = grind arith in
-    let long : (byte_count_place bytes < length bytes) ⊎ (length bytes ≤ byte_count_place bytes) = grind arith in
-    elim some [
-      | inl none ↦ empty none (miss_in-none bytes faulty place start none)
-      | inr any ↦ elim (delimiter_decided (delimiter_in bytes)) [
-        | inr bad ↦ other any bad (miss_in-other bytes faulty place start any bad)
-        | inl good ↦ search (arith, common_steps, told_begun, miss_in-begun)
-      ]
-    ]
+told bytes faulty place start = grind (arith, nat_tests, empty, other, begun, short, counted, whole)
 
 -- of what is heard from a start on
 pub told_of : (heard : List Character) (start : ℕ)
@@ -146,12 +130,7 @@ at_end_alike : (heard : List Character) (len place : ℕ)
     → faulty_or (slice_get heard (length (faultless_bytes heard))) place (Missing (len - length heard))
     ≡ faulty_or (slice_get heard (length (faultless_bytes heard))) place (Missing (len - length (faultless_bytes heard)))
 at_end_alike heard len place =
-    let n = length (faultless_bytes heard) in
-    let cases : (n < length heard) ⊎ (length heard ≤ n) = grind arith in
-    elim cases [
-      | inl within ↦ rw (slice_get-get_or heard n preamble within) refl
-      | inr end ↦ grind (arith, common_steps, length-faultless_bytes)
-    ]
+    grind (arith, common_steps, slice_get-get_or heard (length (faultless_bytes heard)) preamble, length-faultless_bytes)
 
 -- with fewer characters it is their end, or the one with fault bits
 pub counted_early : (heard : List Character) (len count start : ℕ) (result : Option Miss) → HasGoodByteCount (faultless_bytes heard)
@@ -198,37 +177,3 @@ faulty_or-is faulty place at_end miss fact1 = grind arith
 
 delimiter_miss-is : (byte : ℕ) → (delimiter_miss byte ≡ Burst) ⊎ (delimiter_miss byte ≡ BadDelimiter byte)
 delimiter_miss-is byte = grind arith
-
--- what each miss says of the bytes
-pub record IsBadCheck (bytes : List ℕ) (start place byte fits : ℕ) : Type 0 where
-  pub has : HasCheckByte bytes
-  pub place_is : place ≡ start + (body_length bytes - 1)
-  pub byte_is : byte ≡ check_byte_in bytes
-  pub fits_is : fits ≡ fitting_check_byte bytes
-
-check_miss-is : (bytes : List ℕ) (start : ℕ) (miss : Miss) → check_miss bytes start ≡ Some miss
-    → miss ≡ BadCheck (start + (body_length bytes - 1)) (check_byte_in bytes) (fitting_check_byte bytes)
-check_miss-is bytes start miss is = grind (arith, common_steps, same_check, other_check)
-
-pub bad_check-says : (bytes : List ℕ) (faulty : Option Character) (end start place byte fits : ℕ) → Told bytes faulty end start
-    → miss_in bytes faulty end start ≡ Some (BadCheck place byte fits) → IsBadCheck bytes start place byte fits
-bad_check-says bytes faulty end start place byte fits fact1 fact2 = grind (arith, faulty_or-is, delimiter_miss-is, check_miss-is)
-
-pub faulty-says : (bytes : List ℕ) (faulty : Option Character) (end start place faults : ℕ) → Told bytes faulty end start
-    → miss_in bytes faulty end start ≡ Some (Faulty place faults)
-    → (c : Character) × (faulty ≡ Some c) × (place ≡ end) × (faults ≡ c.faults)
-faulty-says bytes faulty end start place faults fact1 fact2 = grind (arith, faulty_or-is, delimiter_miss-is, check_miss-is)
-
-pub record IsMissing (bytes : List ℕ) (faulty : Option Character) (count : ℕ) : Type 0 where
-  pub has : HasGoodByteCount bytes
-  pub few : length bytes < body_length bytes
-  pub count_is : count ≡ body_length bytes - length bytes
-  pub at_end : faulty ≡ None
-
-pub missing-says : (bytes : List ℕ) (faulty : Option Character) (end start count : ℕ) → Told bytes faulty end start
-    → miss_in bytes faulty end start ≡ Some (Missing count) → IsMissing bytes faulty count
-missing-says bytes faulty end start count fact1 fact2 = grind (arith, faulty_or-is, delimiter_miss-is, check_miss-is)
-
-pub never_one_preamble : (bytes : List ℕ) (faulty : Option Character) (end start : ℕ) → Told bytes faulty end start
-    → miss_in bytes faulty end start ≡ Some OnePreamble → ⊥
-never_one_preamble bytes faulty end start fact1 fact2 = grind (arith, faulty_or-is, delimiter_miss-is, check_miss-is)

@@ -60,12 +60,6 @@ other_tests : (chars : List Character) (k : ℕ) → k < length chars → get_or
     → option_map_or (λ (c : Character). not (is_preamble c)) (slice_get chars k) false ≡ true
 other_tests chars k within is = grind (arith, slice_get-get_or chars k preamble within, is_preamble-no)
 
-one_before : (a b : Bool) → a && false && b ≡ true → ⊥
-one_before a b passes = grind arith
-
-three : (a b c : Bool) → a && b && c ≡ true → (a ≡ true) × (b ≡ true) × (c ≡ true)
-three a b c passes = grind arith
-
 and_left : (a b : Bool) → a && b ≡ true → a ≡ true
 and_left a b passes = grind arith
 
@@ -80,20 +74,18 @@ not_true a never = grind arith
 
 -- the test of a start
 pub is_start-yes : (chars : List Character) (place : ℕ) → IsStart place chars → is_start chars place ≡ true
-is_start-yes chars zero is = absurd (omega (arith, (starts_at chars zero preamble is).after_two))
-is_start-yes chars (suc zero) is = absurd (omega (arith, (starts_at chars (suc zero) preamble is).after_two))
-is_start-yes chars (suc (suc k)) is = let at = starts_at chars (suc (suc k)) preamble is in grind (arith, first_tests, other_tests)
+is_start-yes chars place is =
+    grind (arith, starts_at chars place preamble is, first_tests chars (place - 1), first_tests chars (place - 2), other_tests chars place)
 
 pub is_start-is : (chars : List Character) (place : ℕ) → is_start chars place ≡ true → IsStart place chars
-is_start-is chars zero passes = absurd cc
-is_start-is chars (suc zero) passes = absurd (one_before _ _ passes)
-is_start-is chars (suc (suc k)) passes =
-    let tests = three _ _ _ passes in
-    let one = first_test chars (suc k) tests.0 in
-    let before : suc (suc k) - 1 ≡ suc k = omega arith in
-    let second : suc (suc k) - 2 ≡ k = omega arith in
-    let two = first_test chars k (ap (follows_preamble chars) (sym before) ∙ tests.1) in
-    grind (arith, common_steps, three, other_test, is_start_from, preamble, other)
+is_start-is chars place passes =
+    grind (
+      arith,
+      is_start_from chars place preamble,
+      first_test chars (place - 1),
+      first_test chars (place - 2),
+      other_test chars place,
+    )
 
 -- what the miss of a place is, where a body may start, after one preamble byte, and elsewhere
 pub miss_of-start : (chars heard : List Character) (start : ℕ) → heard ≡ drop start chars → IsStart start chars

@@ -1,6 +1,5 @@
 -- What the bytes and the fault bits of characters come to, character by character.
-use Rattle.std.proofs.lemmas.Grind.{common_steps}
-use Rattle.std.proofs.Common.{◌≡◌, List, [], ◌∷◌, ◌++◌, length, length-append, bit_xor, fold, refl, subst, arith}
+use Rattle.std.proofs.Common.{◌≡◌, List, [], ◌∷◌, ◌++◌, length-append, bit_xor, fold, refl, arith}
 use Rattle.std.proofs.lemmas.List.{get_or_append_left, get_or_at, map-append}
 use Rattle.std.proofs.lemmas.List.Sums.{fold-append}
 use Rattle.std.proofs.lemmas.List.Elements.{All-push}

@@ -1,7 +1,7 @@
 -- A buffer stays sound, and what it stands for then.
 use Rattle.std.proofs.lemmas.Grind.{common_steps}
 use Rattle.std.proofs.Common.{◌≡◌, ℕ, ◌+◌, ◌-◌, ◌≤◌, true, IsTrue, List, [], ◌++◌, length}
-use Rattle.std.proofs.Common.{take, drop, None, refl, sym, ap, ◌∙◌, arith, subst}
+use Rattle.std.proofs.Common.{take, drop, None, sym, ap, ◌∙◌, arith, subst}
 use Rattle.std.proofs.Math.Seq.{drop-append-add, drop-append_seam}
 use Rattle.std.proofs.lemmas.List.{append-nil, drop-append-le, drop-drop, drop-take}
 use Rattle.hart_frame.specs.heard.Character.{faultless}
@@ -11,7 +11,7 @@ use Rattle.hart_frame.specs.scan.Decision.{NoneBeginHeld}
 use Rattle.hart_frame.specs.scan.Scanner.{GivesNothing, Scan, MovesPast, Waits}
 use Rattle.hart_frame.specs.declared.scan.buffer.Buffer.{Buffer}
 use Rattle.hart_frame.specs.declared.scan.buffer.State.{State}
-use Rattle.hart_frame.specs.declared.scan.buffer.State.TheVariants.{Busy, Drained, Stands}
+use Rattle.hart_frame.specs.declared.scan.buffer.State.TheVariants.{Busy, Drained}
 use Rattle.hart_frame.proofs.lemmas.scan.Candidate.{undecided_open}
 use Rattle.hart_frame.proofs.lemmas.scan.Scan.{moves_none, moves_places}
 use Rattle.hart_frame.proofs.lemmas.scan.Search.{take_both}
@@ -70,9 +70,7 @@ kept_past held chunk bytes new from place stop count end long past order is =
     ∙ ap (drop place) (sym (first_both held chunk stop count long (omega (arith, past, order))))
 
 pub drained_is : (state : State) → IsTrue (is_drained state) → state ≡ Drained
-drained_is Drained is = refl
-drained_is Busy is = absurd cc
-drained_is (Stands layout) is = absurd cc
+drained_is state fact1 = grind arith
 
 -- a drained buffer waits
 pub waits_drained : (b : Buffer) → IsSound b → b.state ≡ Drained → IsWaiting b

@@ -204,9 +204,7 @@ after_whole layout xs (within, whole, fewer) =
 
 -- bytes of which the first two are preamble bytes
 pub two_first : (xs : List ℕ) → 2 ≤ length xs → get_or xs 0 0 ≡ 255 → get_or xs 1 0 ≡ 255 → xs ≡ 255 ∷ 255 ∷ drop 2 xs
-two_first [] long first second = absurd (omega (arith, long))
-two_first (x ∷ []) long first second = absurd (omega (arith, long))
-two_first (x ∷ y ∷ xs) long first second = ap (λ (a : ℕ). a ∷ y ∷ xs) first ∙ ap (λ (b : ℕ). 255 ∷ b ∷ xs) second
+two_first xs fact1 fact2 fact3 = grind arith
 
 -- bytes of which the second is another
 pub second_never : (xs : List ℕ) → 2 ≤ length xs → get_or xs 0 0 ≡ 255 → get_or xs 1 0 ≢ 255 → IsCandidate xs (Never 2)

@@ -59,8 +59,7 @@ take_part chunk n r within = grind (arith, take-take, take-add)
 -- a part of the rest of a chunk is a part of the chunk
 rest_within : (b c : Scan) (chunk : List Character) (n r : ℕ) → n ≤ length chunk → HearsPart b c (slice_range chunk n (length chunk)) r
     → n + r ≤ length chunk
-rest_within b c chunk n r inside part =
-    omega (arith, inside, part.within, length-take-le (length chunk - n) (drop n chunk) (omega (arith, length-drop n chunk)))
+rest_within b c chunk n r fact1 fact2 = grind (arith, length-take-le, length-drop)
 
 -- so many characters of a chunk were heard, and nothing was decided before
 pub record HeardSo (a c : Scan) (chunk : List Character) (n : ℕ) : Type 0 where
@@ -115,13 +114,11 @@ seen_one old new character (Some layout) going (moves, busy, whole, finished) =
 pub peeked : (old : Scan) (mid new : Buffer) (character : Character) (seen : Option Layout) → scan_of mid ≡ hearing old (character ∷ [])
     → mid.finished ≡ false → MatchOption seen (GivesNothing (scan_of mid) (scan_of new)) (HoldsWhole mid new)
     → Peeked old new character seen
-peeked old mid new character None heard going nothing = grind arith
-peeked old mid new character (Some layout) heard going holds = grind arith
+peeked old mid new character seen fact1 fact2 fact3 = grind arith
 
 pub first_one : (chunk : List Character) (character : Character) → 0 < length chunk → character ≡ get_or chunk 0 character
     → take 1 chunk ≡ character ∷ []
-first_one [] character some is = absurd (omega (arith, some))
-first_one (first ∷ rest) character some is = ap (λ (c : Character). c ∷ []) (sym is)
+first_one chunk character fact1 fact2 = grind arith
 
 -- so a first part of a chunk is heard
 pub hears_first : (old : Scan) (new : Buffer) (chunk : List Character) (character : Character) (seen : Option Layout) → old.finished ≡ false

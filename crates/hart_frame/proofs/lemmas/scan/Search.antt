@@ -183,13 +183,10 @@ may_take_two xs (suc zero) within truncated = inr (inl refl)
 may_take_two xs (suc (suc n)) within truncated = inr (inr (take n xs, refl, truncated_take xs n (omega (arith, within)) truncated))
 
 may_take_none : (n : ℕ) → MayBegin (take n [])
-may_take_none zero = inl refl
-may_take_none (suc n) = inl refl
+may_take_none n = grind arith
 
 may_take_one : (n : ℕ) → n ≤ 1 → MayBegin (take n (255 ∷ []))
-may_take_one zero within = inl refl
-may_take_one (suc zero) within = inr (inl refl)
-may_take_one (suc (suc n)) within = absurd (omega (arith, within))
+may_take_one n fact1 = grind arith
 
 -- the first of bytes that may begin a frame may
 pub may_take : (xs : List ℕ) (n : ℕ) → n ≤ length xs → MayBegin xs → MayBegin (take n xs)

@@ -1,7 +1,7 @@
 -- The frames given since a scanner was new are the first of what was pushed, and all of them after the finish.
 use Rattle.std.proofs.lemmas.Grind.{common_steps}
-use Rattle.std.proofs.Common.{◌≡◌, ◌+◌, false, IsTrue, List, [], ◌∷◌, ◌++◌, length, map, drop, refl, sym, append_assoc, arith}
-use Rattle.std.proofs.Common.{length-append, subst}
+use Rattle.std.proofs.Common.{◌≡◌, ◌+◌, false, IsTrue, List, [], ◌∷◌, ◌++◌, length, map, drop, refl, append_assoc, arith}
+use Rattle.std.proofs.Common.{length-append}
 use Rattle.std.proofs.lemmas.List.{append-nil, drop-append-le, drop_at}
 use Rattle.hart_frame.specs.heard.Character.{Character, faultless}
 use Rattle.hart_frame.specs.heard.Frames.{AreFrames, moved}
@@ -87,9 +87,4 @@ history_held past scan given history =
 pub history_rest : OneList → (past more : List Character) (scan : Scan) (given later : List Found) → IsHistory past scan given
     → (IsTrue scan.finished → more ≡ []) → AreFrames (drop scan.first past ++ more) 0 later
     → AreFrames (past ++ more) 0 (given ++ map (moved scan.first) later)
-history_rest one past more scan given later history ended are =
-    let long = history_length past scan given history in
-    let Of : List Character → Type 0 = λ cs. AreFrames cs 0 later in
-    let parts : drop scan.first (past ++ more) ≡ drop scan.first past ++ more = drop-append-le scan.first past more (omega (arith, long)) in
-    (streamed past scan given history).frames more (map (moved scan.first) later) ended
-    (rest_frames one scan.first (past ++ more) later (subst Of (sym parts) are))
+history_rest fact1 past more scan given later fact2 fact3 fact4 = grind (arith, history_length, drop-append-le, streamed, rest_frames)

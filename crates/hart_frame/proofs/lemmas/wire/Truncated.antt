@@ -6,7 +6,6 @@ use Rattle.std.specs.List.{All}
 use Rattle.std.proofs.lemmas.List.{take_at, take_all, take-append-le, get_or_at, get_or_past, length-replicate}
 use Rattle.std.proofs.lemmas.List.Elements.{All-append, All-replicate, All-push, All-get_or}
 use Rattle.hart_frame.specs.declared.wire.kind.FrameKind.{FrameKind}
-use Rattle.hart_frame.specs.declared.wire.kind.FrameKind.TheVariants.{Stx, Ack}
 use Rattle.hart_frame.specs.wire.FrameParts.{FrameParts, IsLongEnough}
 use Rattle.hart_frame.specs.wire.Delimiter.{kind_code}
 use Rattle.hart_frame.specs.wire.Body.{IsBody, IsCheckedPart, BeginsWithBody, HasNoBody, CanBecomeBody}
