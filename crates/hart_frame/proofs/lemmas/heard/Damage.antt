@@ -1,7 +1,7 @@
 -- What damage of a message leaves of its frame: the place of the delimiter is the only one where a body can stand.
 use Rattle.std.proofs.lemmas.Grind.{common_steps}
 use Rattle.std.proofs.Common.{◌≡◌, ◌≢◌, ℕ, zero, suc, ◌+◌, ◌<◌, ◌≤◌, ◌⊎◌, inl, inr, List, [], ◌∷◌, ◌++◌, length, drop, get_or, replicate}
-use Rattle.std.proofs.Common.{refl, sym, ap, ◌∙◌, arith, append_assoc, length-append, subst}
+use Rattle.std.proofs.Common.{refl, ap, ◌∙◌, arith, append_assoc, length-append, subst}
 use Rattle.std.specs.List.{AllZip}
 use Rattle.std.proofs.lemmas.List.{append-nil, drop_at, drop-append-le, get_or-append-add, get_or_append_left, get_or-replicate}
 use Rattle.std.proofs.lemmas.List.{length-replicate, nil_from_length}
@@ -10,7 +10,7 @@ use Rattle.hart_frame.specs.wire.Body.{BeginsWithBody, IsBody}
 use Rattle.hart_frame.specs.heard.Character.{Character, faultless}
 use Rattle.hart_frame.specs.heard.Damage.{HasNoTwoPreambles, IsCheckDamage, IsHeardOrMarked, IsMarkedDamage, after_delimiter}
 use Rattle.hart_frame.specs.wire.Delimiter.{delimiter_of}
-use Rattle.hart_frame.specs.heard.Frames.{AreFrames, HasNoFrame, IsFirst, none, first}
+use Rattle.hart_frame.specs.heard.Frames.{AreFrames, HasNoFrame, none, first}
 use Rattle.hart_frame.specs.wire.Layout.{body_length, delimiter_in}
 use Rattle.hart_frame.specs.heard.Place.{StandsIn}
 use Rattle.hart_frame.specs.declared.heard.found.Found.{Found}
@@ -109,29 +109,32 @@ record IsHeard (left : ℕ) (body : List ℕ) (chars : List Character) : Type 0 
 delimiter_at : (left : ℕ) (body : List ℕ) (chars : List Character) → IsHeard left body chars
     → get_or chars left preamble ≡ clear 255 → ⊥
 delimiter_at left body chars is at =
-    let sent : List ℕ = replicate left 255 in
-    let long : length sent ≡ left = length-replicate left 255 in
-    let here : get_or (sent ++ body) left 0 ≡ get_or body 0 0 = grind (arith, get_or-append-add) in
-    is.delimiter (sym here ∙ clear_at (sent ++ body) chars left 255 is.heard
-    (omega (arith, long, length-append sent body, is.some)) at)
+    grind (
+      arith,
+      clear_at (replicate left 255 ++ body) chars left 255 is.heard,
+      length-replicate,
+      length-append,
+      get_or-append-add,
+    )
 
 -- and none but FF before it
 preamble_at : (left : ℕ) (body : List ℕ) (chars : List Character) (place byte : ℕ) → IsHeard left body chars → place < left
     → get_or chars place preamble ≡ clear byte → byte ≡ 255
 preamble_at left body chars place byte is before at =
-    let sent : List ℕ = replicate left 255 in
-    let long : length sent ≡ left = length-replicate left 255 in
-    sym (clear_at (sent ++ body) chars place byte is.heard (omega (arith, long, length-append sent body, before)) at)
-    ∙ get_or_append_left sent body 0 place (omega (arith, long, before))
-    ∙ get_or-replicate left place 255 0 before
+    grind (
+      arith,
+      clear_at (replicate left 255 ++ body) chars place byte is.heard,
+      length-replicate,
+      length-append,
+      get_or_append_left,
+      get_or-replicate,
+    )
 
 -- no frame stands after the delimiter
 not_after : (left : ℕ) (body : List ℕ) (chars : List Character) (found : Found) (from : ℕ) → IsHeard left body chars
     → (stands : StandsIn found chars from) → left < length stands.prefix → ⊥
 not_after left body chars found from is stands after =
-    let pair : List Character = faultless (255 ∷ 255 ∷ []) in
-    let rest : List Character = faultless stands.body ++ stands.rest in
-    is.no_two_preambles (drop (left + 1) stands.prefix) rest
+    is.no_two_preambles (drop (left + 1) stands.prefix) (faultless stands.body ++ stands.rest)
     (grind (arith, common_steps, parts, drop-append-le, append_assoc))
 
 -- nor before it
@@ -149,28 +152,25 @@ not_before left body chars found from is stands before =
 start_is : (left : ℕ) (body : List ℕ) (chars : List Character) (found : Found) (from : ℕ) → IsHeard left body chars
     → (stands : StandsIn found chars from) → length stands.prefix + 2 ≡ left
 start_is left body chars found from is stands =
-    let p = length stands.prefix in
-    let cases : (p + 2 ≡ left) ⊎ ((p + 2 < left) ⊎ ((left < p) ⊎ ((left ≡ p + 0) ⊎ (left ≡ p + 1)))) = grind arith in
-    elim cases [
-      | inl here ↦ here
-      | inr (inl before) ↦ absurd (not_before left body chars found from is stands before)
-      | inr (inr (inl after)) ↦ absurd (not_after left body chars found from is stands after)
-      | inr (inr (inr (inl at_first))) ↦ absurd (delimiter_at left body chars is (part_at chars found from 0 left stands at_first))
-      | inr (inr (inr (inr at_second))) ↦ absurd (delimiter_at left body chars is (part_at chars found from 1 left stands at_second))
-    ]
+    grind (
+      arith,
+      not_before left body chars found from is stands,
+      not_after left body chars found from is stands,
+      delimiter_at left body chars is,
+      part_at chars found from 0 left stands,
+      part_at chars found from 1 left stands,
+    )
 
 -- and its body begins what was sent
 begins_body : (left : ℕ) (body : List ℕ) (chars : List Character) (found : Found) (from : ℕ) → IsHeard left body chars
     → (stands : StandsIn found chars from) → BeginsWith body stands.body
 begins_body left body chars found from is stands =
-    let pair : List Character = faultless (255 ∷ 255 ∷ []) in
+    let front : List Character = stands.prefix ++ faultless (255 ∷ 255 ∷ []) in
     let rest : List Character = faultless stands.body ++ stands.rest in
-    let prefix_len : length (stands.prefix ++ pair) ≡ left =
-    omega (arith, length-append stands.prefix pair, start_is left body chars found from is stands) in
-    let heard : AreHeardOrMarked body (drop left chars) = grind (arith, length-replicate, heard-drop) in
+    let start = start_is left body chars found from is stands in
     let after : drop left chars ≡ rest =
-    ap (drop left) (parts chars found from stands ∙ sym (append_assoc stands.prefix pair rest))
-    ∙ drop_at (stands.prefix ++ pair) rest left prefix_len in grind (arith, common_steps, begins_sent)
+    grind (arith, parts chars found from stands, append_assoc, length-append, drop_at front rest left) in
+    grind (arith, length-replicate, heard-drop (replicate left 255) body chars is.heard, begins_sent body stands.body stands.rest)
 
 -- MARKED DAMAGE
 -- what keeps bodies unambiguous
@@ -194,11 +194,9 @@ marked_own laws frame preambles chars damage found from stands =
     let is = marked_heard frame preambles chars damage in
     let begins = begins_body damage.left damage.body chars found from is stands in
     let start = start_is damage.left damage.body chars found from is stands in
-    let Body : List ℕ → Type 0 = λ xs. IsBody frame xs in
-    let ended = laws.no_proper_prefix found.frame frame stands.body begins.rest stands.is_body (subst Body begins.parts damage.is_body) in
-    let same : damage.body ≡ stands.body = grind (arith, append-nil) in
-    let frames = laws.one_frame found.frame frame stands.body stands.is_body (subst Body same damage.is_body) in
-    grind (arith, length-heard, length-append, length-replicate)
+    let same : damage.body ≡ stands.body =
+    grind (arith, laws.no_proper_prefix found.frame frame stands.body begins.rest, append-nil) in
+    grind (arith, laws.one_frame found.frame frame stands.body, length-heard, length-append, length-replicate)
 
 -- if each frame that stands is one that ends the list, the list has none or that one alone
 none_or_own : (chars : List Character) (from : ℕ) (one : Found) → ((found : Found) → StandsIn found chars from → found ≡ one)
@@ -206,8 +204,7 @@ none_or_own : (chars : List Character) (from : ℕ) (one : Found) → ((found : 
     → AreFrames chars from [] ⊎ AreFrames chars from (one ∷ [])
 none_or_own chars from one alone end frames (none place empty) = inl (none place empty)
 none_or_own chars from one alone end frames (first place found later is_first others) =
-    let First : Found → Type 0 = λ f. IsFirst f chars place in
-    inr (first place one [] (subst First (alone found is_first.stands) is_first) (none one.stop (HasNoFrame-end chars one.stop end)))
+    inr (first place one [] (rw (alone found is_first.stands) at is_first) (none one.stop (HasNoFrame-end chars one.stop end)))
 
 pub AreFrames-marked : BodyLaws → (frame : FrameParts) (preambles : ℕ) (chars : List Character)
     → (damage : IsMarkedDamage frame preambles chars)
@@ -236,10 +233,15 @@ check_none frame preambles chars damage found stands =
     let begins = begins_body damage.left bytes chars found 0 (check_heard frame preambles chars damage) stands in
     let said = says (stands.body ++ begins.rest) found.frame (length stands.body)
     (BeginsWithBody-append found.frame stands.body begins.rest stands.is_body) in
-    let lengths : length bytes ≡ length stands.body + length begins.rest = ap length begins.parts ∙ length-append stands.body begins.rest in
-    let body_lengths : body_length bytes ≡ body_length (stands.body ++ begins.rest) = ap body_length begins.parts in
     let ended = nil_from_length begins.rest
-    (omega (arith, lengths, body_lengths, said.whole, check_length frame preambles chars damage)) in grind (arith, common_steps, append-nil)
+    (omega (
+      arith,
+      ap length begins.parts,
+      length-append stands.body begins.rest,
+      ap body_length begins.parts,
+      said.whole,
+      check_length frame preambles chars damage,
+    )) in grind (arith, append-nil)
 
 pub AreFrames-check : (frame : FrameParts) (preambles : ℕ) (chars : List Character) → IsCheckDamage frame preambles chars
     → AreFrames chars 0 []

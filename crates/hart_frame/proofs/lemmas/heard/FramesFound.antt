@@ -1,49 +1,22 @@
 -- Every list of characters has its frames.
 use Rattle.std.proofs.lemmas.Grind.{common_steps}
-use Rattle.std.proofs.Common.{◌≡◌, ℕ, zero, suc, ◌+◌, ◌<◌, ◌≤◌, ◌⊎◌, inl, inr, List, [], ◌∷◌, length, take, drop, refl, ap}
+use Rattle.std.proofs.Common.{◌≡◌, ℕ, zero, suc, ◌+◌, ◌<◌, ◌≤◌, ◌⊎◌, inl, inr, List, [], ◌∷◌, length, take, drop, refl}
 use Rattle.std.proofs.Common.{◌∙◌, arith, subst}
-use Rattle.std.proofs.lemmas.List.{take-append-drop, take-map, take_rest, length-take-le}
+use Rattle.std.proofs.lemmas.List.{take-append-drop, take_rest, length-take-le}
 use Rattle.hart_frame.specs.wire.FrameParts.{FrameParts}
 use Rattle.hart_frame.specs.wire.Body.{BeginsWithBody}
 use Rattle.hart_frame.specs.heard.Character.{Character, faultless}
-use Rattle.hart_frame.specs.heard.Body.{bytes_of, BeginsWithHeard}
+use Rattle.hart_frame.specs.heard.Body.{BeginsWithHeard}
 use Rattle.hart_frame.specs.heard.Place.{StandsIn}
 use Rattle.hart_frame.specs.heard.Frames.{AreFrames, HasNoFrame, IsFirst}
 use Rattle.hart_frame.specs.declared.heard.found.Found.{Found}
 use Rattle.hart_frame.proofs.lemmas.wire.BodiesFound.{body_decided}
-use Rattle.hart_frame.proofs.lemmas.heard.Body.{BeginsWithBody-heard, bytes_of-faultless, faultless_made, take-heard}
-use Rattle.hart_frame.proofs.lemmas.wire.Refusal.{says}
 use Rattle.hart_frame.proofs.lemmas.heard.Place.{preamble, StandsIn-at, StandsIn-heard, StandsIn-hears, StandsIn-from, StandsIn-within}
 use Rattle.hart_frame.proofs.lemmas.heard.Place.{HasNoFrame-end, start-later}
-
--- the first of faultless characters has no fault, and the others are faultless
-pub record FaultlessFirst (first : Character) (others : List Character) : Type 0 where
-  pub faults : first.faults ≡ 0
-  pub rest : List ℕ
-  pub others_are : others ≡ faultless rest
-
-faultless_first : (first : Character) (others : List Character) (bytes : List ℕ) → first ∷ others ≡ faultless bytes
-    → FaultlessFirst first others
-faultless_first first others [] same = absurd cc
-faultless_first first others (byte ∷ bytes) same = grind arith
-
-pub record Faultless (chars : List Character) : Type 0 where
-  pub bytes : List ℕ
-  pub are : chars ≡ faultless bytes
-
--- whether characters are faultless
-faultless_decided : (chars : List Character) → Faultless chars ⊎ (Faultless chars → ⊥)
-faultless_decided [] = inl (record { bytes = []; are = refl })
-faultless_decided (first ∷ others) =
-    let cases : (first.faults ≡ 0) ⊎ (0 < first.faults) = grind arith in
-    elim cases [
-      | inr faulty ↦ inr (λ all. let split = faultless_first first others all.bytes all.are in omega (arith, split.faults, faulty))
-      | inl clear ↦ elim (faultless_decided others) [
-        | inl rest ↦ inl (record { bytes = first.byte ∷ rest.bytes; are = faultless_made first others rest.bytes clear rest.are })
-        | inr damaged ↦ inr (λ all.
-            let split = faultless_first first others all.bytes all.are in grind (arith, common_steps))
-      ]
-    ]
+use Rattle.std.proofs.Common.{◌++◌, sym}
+use Rattle.hart_frame.specs.heard.Character.{faultless_bytes}
+use Rattle.hart_frame.proofs.lemmas.heard.Front.{heard_parts, regrouped, faultless_bytes-append}
+use Rattle.hart_frame.proofs.lemmas.wire.UnambiguousBodies.{BeginsWithBody-append}
 
 -- characters begin with some body that is heard
 pub record HeardAhead (chars : List Character) : Type 0 where
@@ -54,26 +27,27 @@ pub record HeardAhead (chars : List Character) : Type 0 where
 abbrev pub NothingHeard : List Character → Type 0
 NothingHeard chars = (f : FrameParts) (len : ℕ) → BeginsWithHeard chars f len → ⊥
 
-heard_whole : (chars : List Character) (f : FrameParts) (len : ℕ) → BeginsWithBody (bytes_of chars) f len → Faultless (take len chars)
+pub heard_whole : (chars : List Character) (f : FrameParts) (len : ℕ) → BeginsWithBody (faultless_bytes chars) f len
     → BeginsWithHeard chars f len
-heard_whole chars f len begins all =
-    grind (arith, bytes_of-faultless, take-map, take-append-drop len chars, length-take-le len (bytes_of chars) begins.within)
+heard_whole chars f len begins =
+    let bytes = faultless_bytes chars in
+    let tail : List Character = drop (length bytes) chars in
+    record {
+      body = take len bytes;
+      rest = faultless (drop len bytes) ++ tail;
+      split = grind (arith, heard_parts chars, take-append-drop len bytes, regrouped (take len bytes) (drop len bytes) tail);
+      is_body = begins.body;
+      whole = sym (length-take-le len bytes begins.within);
+    }
 
-damaged_body : (chars : List Character) (f : FrameParts) (len : ℕ) → BeginsWithBody (bytes_of chars) f len
-    → (Faultless (take len chars) → ⊥)
-    → NothingHeard chars
-damaged_body chars f len begins damaged g other heard =
-    let also = BeginsWithBody-heard chars g other heard in
-    let same : len ≡ other = omega (arith, (says (bytes_of chars) f len begins).whole, (says (bytes_of chars) g other also).whole) in
-    damaged (record { bytes = heard.body; are = ap (λ (n : ℕ). take n chars) same ∙ take-heard chars g other heard })
+heard_bytes : (chars : List Character) (f : FrameParts) (len : ℕ) → BeginsWithHeard chars f len → BeginsWithBody (faultless_bytes chars) f len
+heard_bytes chars f len heard =
+    grind (arith, faultless_bytes-append heard.body heard.rest, BeginsWithBody-append f heard.body (faultless_bytes heard.rest))
 
 heard_decided : (chars : List Character) → HeardAhead chars ⊎ NothingHeard chars
-heard_decided chars = elim (body_decided (bytes_of chars)) [
-  | inr none ↦ inr (λ f len heard. none f len (BeginsWithBody-heard chars f len heard))
-  | inl ahead ↦ elim (faultless_decided (take ahead.len chars)) [
-    | inl all ↦ inl (record { frame = ahead.frame; len = ahead.len; begins = heard_whole chars ahead.frame ahead.len ahead.begins all })
-    | inr damaged ↦ inr (damaged_body chars ahead.frame ahead.len ahead.begins damaged)
-  ]
+heard_decided chars = elim (body_decided (faultless_bytes chars)) [
+  | inr none ↦ inr (λ f len heard. none f len (heard_bytes chars f len heard))
+  | inl ahead ↦ inl (record { frame = ahead.frame; len = ahead.len; begins = heard_whole chars ahead.frame ahead.len ahead.begins })
 ]
 
 -- a frame stands right at a place
@@ -168,8 +142,7 @@ frames_found chars zero from enough = ([], AreFrames.none from (HasNoFrame-end c
 frames_found chars (suc fuel) from enough = elim (first_decided chars from) [
   | inr none ↦ ([], AreFrames.none from none)
   | inl has ↦
-      let within = StandsIn-within has.found chars from has.is_first.stands in
-      let later = frames_found chars fuel has.found.stop (omega (arith, enough, within.after, within.some)) in
+      let later = frames_found chars fuel has.found.stop (grind (arith, StandsIn-within)) in
       (has.found ∷ later.0, AreFrames.first from has.found later.0 has.is_first later.1)
 ]
 

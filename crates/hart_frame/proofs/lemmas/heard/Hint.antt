@@ -23,8 +23,8 @@ use Rattle.hart_frame.specs.heard.Place.{StandsIn}
 use Rattle.hart_frame.specs.heard.Start.{IsStart}
 use Rattle.hart_frame.specs.declared.heard.found.Found.{Found}
 use Rattle.hart_frame.specs.declared.heard.miss.Miss.TheVariants.{BadCheck, Faulty, Missing, OnePreamble}
-use Rattle.hart_frame.proofs.lemmas.heard.Front.{after_faultless, faultless_fit, heard_parts, length-faultless_bytes, nothing_follows}
-use Rattle.hart_frame.proofs.lemmas.heard.Front.{regrouped, take_heard}
+use Rattle.hart_frame.proofs.lemmas.heard.Front.{after_faultless, faultless_fit, length-faultless_bytes, nothing_follows}
+use Rattle.hart_frame.proofs.lemmas.heard.Front.{take_heard}
 use Rattle.hart_frame.proofs.lemmas.heard.Miss.{Told, told_of}
 use Rattle.hart_frame.proofs.lemmas.heard.Miss.{other_check}
 use Rattle.hart_frame.proofs.lemmas.heard.Missed.{miss_of-some, miss_of-start, not_at_front, one_before_place}
@@ -36,11 +36,11 @@ use Rattle.hart_frame.proofs.lemmas.heard.InTheWay.{way_of, fits-is, rest_at, no
 use Rattle.std.proofs.lemmas.Bool.Decides.{nat_tests}
 use Rattle.hart_frame.specs.heard.Miss.{is_start}
 use Rattle.hart_frame.specs.heard.InTheWay.{FollowsOnePreamble, HasBodyAt}
-use Rattle.std.proofs.Common.{◌↔◌, subst, false}
+use Rattle.std.proofs.Common.{◌↔◌}
 use Rattle.hart_frame.specs.wire.Body.{BeginsWithBody}
-use Rattle.hart_frame.proofs.lemmas.heard.Front.{faultless_bytes-append}
-use Rattle.hart_frame.proofs.lemmas.heard.Missed.{is_start-yes, miss_of-one, nothing_missed, one_preamble-is, one_preamble-yes}
-use Rattle.hart_frame.proofs.lemmas.wire.UnambiguousBodies.{BeginsWithBody-append}
+use Rattle.hart_frame.proofs.lemmas.heard.Missed.{is_start-yes, miss_of-one, one_preamble-is, one_preamble-yes}
+use Rattle.hart_frame.proofs.lemmas.heard.FramesFound.{heard_whole}
+use Rattle.hart_frame.proofs.lemmas.heard.Missed.{none_of}
 
 -- a frame stands where its body stands after two preamble bytes
 pub frame_up_to : (chars prefix rest : List Character) (body : List ℕ) (f : FrameParts) (place stop : ℕ) → IsBody f body
@@ -95,19 +95,12 @@ heard_body : (heard : List Character) → All (λ c. c.byte < 256) heard → Has
     → check_byte_in (faultless_bytes heard) ≡ fitting_check_byte (faultless_bytes heard) → HeardBody heard
 heard_body heard fit has same =
     let bytes = faultless_bytes heard in
-    let n = body_length bytes - 1 in
-    let tail : List Character = drop (length bytes) heard in
     let found = whole_body bytes (faultless_fit heard fit) has in
-    let body : List ℕ = take n bytes ++ fitting_check_byte bytes ∷ [] in
-    let begin : take (n + 1) bytes ≡ body = grind (arith, common_steps, take_more) in
-    let all : bytes ≡ body ++ drop (n + 1) bytes = grind (arith, common_steps, take-append-drop) in
-    record {
-      frame = found.frame;
-      body = body;
-      rest = faultless (drop (n + 1) bytes) ++ tail;
-      is_body = found.is_body;
-      parts = heard_parts heard ∙ ap (λ (xs : List ℕ). faultless xs ++ tail) all ∙ regrouped body (drop (n + 1) bytes) tail;
-    }
+    let begin : take (body_length bytes) bytes ≡ take (body_length bytes - 1) bytes ++ fitting_check_byte bytes ∷ [] =
+    grind (arith, common_steps, take_more) in
+    let begins : BeginsWithBody bytes found.frame (body_length bytes) = grind arith in
+    let is = heard_whole heard found.frame (body_length bytes) begins in
+    record { frame = found.frame; body = is.body; rest = is.rest; is_body = is.is_body; parts = is.split }
 
 -- what is heard begins with a body, or misses something of it
 body_or_miss : (heard : List Character) (start : ℕ) (faulty : Option Character) (end : ℕ) → All (λ c. c.byte < 256) heard
@@ -119,7 +112,7 @@ pub heard_or_miss : (heard : List Character) (start : ℕ) → All (λ c. c.byte
     → HeardBody heard ⊎ (is_some (body_miss start heard) ≡ true)
 heard_or_miss heard start fit = body_or_miss heard start _ _ fit (told_of heard start)
 
-never_one_preamble : (start : ℕ) (heard : List Character) → body_miss start heard ≡ Some OnePreamble → ⊥
+pub never_one_preamble : (start : ℕ) (heard : List Character) → body_miss start heard ≡ Some OnePreamble → ⊥
 never_one_preamble start heard miss = grind (arith, nat_tests)
 
 -- a body that is heard after two preamble bytes is a frame there
@@ -260,16 +253,6 @@ missing_fits start count chars more fit more_fit is long =
           (omega (arith, way.1.2, way.1.3, length-append checked (last ∷ []), size, long)),
     )
 
--- what is heard begins with a whole body, and nothing of it is missed
-none_of : (chars : List Character) (start : ℕ) → HasBodyAt chars start → is_some (body_miss start (drop start chars)) ≡ false
-none_of chars start has =
-    let heard = drop start chars in
-    let bytes = faultless_bytes heard in
-    let all : bytes ≡ has.body ++ faultless_bytes has.rest = grind (arith, common_steps, faultless_bytes-append) in
-    let Begins : List ℕ → Type 0 = λ xs. BeginsWithBody xs has.frame (length has.body) in
-    let begins = subst Begins (sym all) (BeginsWithBody-append has.frame has.body (faultless_bytes has.rest) has.is_body) in
-    ap is_some (nothing_missed bytes has.frame (length has.body) _ _ start begins (told_of heard start))
-
 never_both : (chars : List Character) (start : ℕ) → follows_one_preamble chars start ≡ true → is_start chars start ≡ true → ⊥
 never_both chars start one is = grind arith
 
@@ -293,5 +276,5 @@ one_alone start chars fit = (
   λ is. let both = alone_is start chars fit is in (one_preamble-is chars start both.0, both.1),
   λ both. let one = one_preamble-yes chars start both.0 in
       sym (miss_of-one chars (drop start chars) start refl (λ is. never_both chars start one (is_start-yes chars start is)) one
-      (none_of chars start both.1)),
+      (ap is_some (none_of chars start both.1))),
 )

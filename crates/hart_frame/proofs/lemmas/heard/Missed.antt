@@ -29,42 +29,28 @@ use Rattle.hart_frame.proofs.lemmas.wire.Truncated.{fits_at}
 use Rattle.hart_frame.proofs.lemmas.wire.UnambiguousBodies.{BeginsWithBody-append}
 use Rattle.hart_frame.proofs.lemmas.heard.Front.{faultless_bytes-append}
 use Rattle.hart_frame.proofs.lemmas.heard.Message.{delimiter_of-lt}
-use Rattle.hart_frame.proofs.lemmas.heard.Miss.{Told, begun, counted, empty, other, same_check, short, told_of, whole}
+use Rattle.hart_frame.proofs.lemmas.heard.Miss.{other, same_check}
 use Rattle.hart_frame.proofs.lemmas.heard.Place.{preamble}
 use Rattle.hart_frame.proofs.lemmas.heard.Start.{is_start_from, starts_at}
-
--- the test of a faultless preamble byte
-is_preamble-yes : (c : Character) → c ≡ preamble → is_preamble c ≡ true
-is_preamble-yes c is = grind (arith, nat_tests, preamble)
-
-is_preamble-no : (c : Character) → c ≢ preamble → is_preamble c ≡ false
-is_preamble-no c differs = grind (arith, nat_tests, preamble)
-
-is_preamble-is : (c : Character) → is_preamble c ≡ true → c ≡ preamble
-is_preamble-is c passes = grind (arith, nat_tests, preamble)
+use Rattle.hart_frame.specs.heard.InTheWay.{HasBodyAt}
+use Rattle.hart_frame.proofs.lemmas.heard.Miss.{told}
 
 -- the tests of what stands at a place
 first_test : (chars : List Character) (k : ℕ) → option_map_or is_preamble (slice_get chars k) false ≡ true
     → (k < length chars) × (get_or chars k preamble ≡ preamble)
-first_test chars k passes = grind (arith, slice_get_cases chars k, slice_get-get_or chars k preamble, is_preamble-is)
+first_test chars k passes = grind (arith, nat_tests, slice_get_cases chars k, slice_get-get_or chars k preamble, preamble)
 
 first_tests : (chars : List Character) (k : ℕ) → k < length chars → get_or chars k preamble ≡ preamble
     → option_map_or is_preamble (slice_get chars k) false ≡ true
-first_tests chars k within is = grind (arith, slice_get-get_or chars k preamble within, is_preamble-yes)
+first_tests chars k within is = grind (arith, nat_tests, slice_get-get_or chars k preamble within, preamble)
 
 other_test : (chars : List Character) (k : ℕ) → option_map_or (λ (c : Character). not (is_preamble c)) (slice_get chars k) false ≡ true
     → (k < length chars) × (get_or chars k preamble ≢ preamble)
-other_test chars k passes = grind (arith, slice_get_cases chars k, slice_get-get_or chars k preamble, is_preamble-yes)
+other_test chars k passes = grind (arith, nat_tests, slice_get_cases chars k, slice_get-get_or chars k preamble, preamble)
 
 other_tests : (chars : List Character) (k : ℕ) → k < length chars → get_or chars k preamble ≢ preamble
     → option_map_or (λ (c : Character). not (is_preamble c)) (slice_get chars k) false ≡ true
-other_tests chars k within is = grind (arith, slice_get-get_or chars k preamble within, is_preamble-no)
-
-and_left : (a b : Bool) → a && b ≡ true → a ≡ true
-and_left a b passes = grind arith
-
-not_both : (a b : Bool) → a && not b ≡ true → b ≡ true → ⊥
-not_both a b passes is = grind arith
+other_tests chars k within is = grind (arith, nat_tests, slice_get-get_or chars k preamble within, preamble)
 
 both : {a b : Bool} → a ≡ true → b ≡ false → a && not b ≡ true
 both is none = cc
@@ -92,16 +78,13 @@ pub miss_of-start : (chars heard : List Character) (start : ℕ) → heard ≡ d
     → body_miss start heard ≡ miss_of chars start
 miss_of-start chars heard start is starts = grind (arith, is_start-yes)
 
-no_start : (chars : List Character) (start : ℕ) → (IsStart start chars → ⊥) → is_start chars start ≡ false
-no_start chars start not = not_true (is_start chars start) (λ passes. not (is_start-is chars start passes))
-
 pub miss_of-one : (chars heard : List Character) (start : ℕ) → heard ≡ drop start chars → (IsStart start chars → ⊥)
     → follows_one_preamble chars start ≡ true → is_some (body_miss start heard) ≡ false → Some OnePreamble ≡ miss_of chars start
-miss_of-one chars heard start is not one none = grind (arith, no_start)
+miss_of-one chars heard start is not one none = grind (arith, is_start-is chars start)
 
 pub miss_of-nothing : (chars heard : List Character) (start : ℕ) → heard ≡ drop start chars → (IsStart start chars → ⊥)
     → (follows_one_preamble chars start ≡ false) ⊎ (is_some (body_miss start heard) ≡ true) → None ≡ miss_of chars start
-miss_of-nothing chars heard start is not cases = grind (arith, no_start)
+miss_of-nothing chars heard start is not cases = grind (arith, is_start-is chars start)
 
 -- which misses there are where a body may start, and after one preamble byte
 pub miss_of-some : (chars : List Character) (start : ℕ) (miss : Miss) → miss_of chars start ≡ Some miss
@@ -117,15 +100,10 @@ miss_of-some chars start miss is =
 -- one preamble byte before a place
 pub one_before_place : (chars : List Character) (k : ℕ) → follows_one_preamble chars (suc k) ≡ true
     → (k < length chars) × (get_or chars k preamble ≡ preamble)
-one_before_place chars k one = first_test chars k (and_left _ _ one)
+one_before_place chars k one = grind (arith, first_test chars k)
 
 pub not_at_front : (chars : List Character) → follows_one_preamble chars zero ≡ true → ⊥
 not_at_front chars one = grind arith
-
--- a list up to a preamble byte, that, and what comes after it
-one_split : (chars : List Character) (k : ℕ) → k < length chars → get_or chars k preamble ≡ preamble
-    → chars ≡ take k chars ++ (preamble ∷ []) ++ drop (suc k) chars
-one_split chars k within is = grind (arith, common_steps, take-append-drop, drop-cons, preamble, append_snoc)
 
 -- what ends with a preamble byte has one before the place after it
 ends_with : (chars earlier : List Character) (k : ℕ) → k < length chars → take k chars ≡ earlier ++ preamble ∷ []
@@ -138,13 +116,12 @@ pub one_preamble-is : (chars : List Character) (place : ℕ) → follows_one_pre
 one_preamble-is chars zero one = absurd (not_at_front chars one)
 one_preamble-is chars (suc k) one =
     let at = one_before_place chars k one in
-    let before : suc k - 1 ≡ k = omega arith in
     record {
       prefix = take k chars;
       rest = drop (suc k) chars;
-      split = one_split chars k at.0 at.1;
+      split = grind (arith, common_steps, take-append-drop, drop-cons, preamble, append_snoc);
       place_is = omega (arith, at.0, length-take-le k chars (omega (arith, at.0)));
-      alone = λ earlier is. not_both _ _ one (ap (follows_preamble chars) before ∙ ends_with chars earlier k at.0 is);
+      alone = λ earlier is. grind (arith, ends_with chars earlier k);
     }
 
 -- and the other way round
@@ -191,32 +168,35 @@ body_fits bytes f len begins =
 
 -- nothing is missed of bytes that begin with a body
 pub nothing_missed : (bytes : List ℕ) (f : FrameParts) (len : ℕ) (faulty : Option Character) (end start : ℕ) → BeginsWithBody bytes f len
-    → Told bytes faulty end start → miss_in bytes faulty end start ≡ None
-nothing_missed bytes f len faulty end start begins (empty none is) = absurd (not_refused bytes f len Truncated begins (inl none))
-nothing_missed bytes f len faulty end start begins (other any bad is) = absurd (not_refused bytes f len BadDelimiter begins (any, bad))
-nothing_missed bytes f len faulty end start begins (begun has few is) = grind (arith, common_steps, not_refused)
-nothing_missed bytes f len faulty end start begins (short has ack few is) =
-    absurd (not_refused bytes f len ShortReply begins (has, ack, few))
-nothing_missed bytes f len faulty end start begins (counted has few is) =
-    absurd (not_refused bytes f len Truncated begins (inr (inr (has, few))))
-nothing_missed bytes f len faulty end start begins (whole has is) = is ∙ same_check bytes start (body_fits bytes f len begins)
+    → miss_in bytes faulty end start ≡ None
+nothing_missed bytes f len faulty end start begins =
+    grind (
+      arith,
+      told bytes faulty end start,
+      not_refused bytes f len Truncated begins,
+      not_refused bytes f len BadDelimiter begins,
+      not_refused bytes f len ShortReply begins,
+      same_check bytes start,
+      body_fits bytes f len begins,
+    )
+
+pub none_of : (chars : List Character) (start : ℕ) → HasBodyAt chars start → body_miss start (drop start chars) ≡ None
+none_of chars start has =
+    let bytes = faultless_bytes (drop start chars) in
+    let begins : BeginsWithBody bytes has.frame (length has.body) =
+    grind (arith, faultless_bytes-append, BeginsWithBody-append has.frame has.body (faultless_bytes has.rest)) in
+    nothing_missed bytes has.frame (length has.body) _ _ start begins
 
 -- where a frame stands there is no miss
 pub no_miss : (place : ℕ) (chars : List Character) → HasFrameAt chars place → miss_of chars place ≡ None
 no_miss place chars (found, stands, at) =
-    let heard = drop place chars in
     let body = stands.body in
     let head = head_of found.frame body stands.is_body in
     let front : List Character = stands.prefix ++ (preamble ∷ preamble ∷ []) in
     let after : List Character = faultless body ++ stands.rest in
     let split : chars ≡ front ++ after = grind (arith, common_steps, append_assoc, preamble) in
     let place_is : place ≡ length stands.prefix + 2 = sym at ∙ stands.start in
-    let long : length front ≡ place = length-append stands.prefix (preamble ∷ preamble ∷ []) ∙ sym place_is in
-    let heard_is : heard ≡ after = ap (drop place) split ∙ drop_at front after place long in
+    let heard_is : drop place chars ≡ after = grind (arith, drop_at front after place, length-append) in
     let is : IsStart place chars = grind (arith, common_steps, other) in
-    let bytes = faultless_bytes heard in
-    let all : bytes ≡ body ++ faultless_bytes stands.rest = ap faultless_bytes heard_is ∙ faultless_bytes-append body stands.rest in
-    let Begins : List ℕ → Type 0 = λ xs. BeginsWithBody xs found.frame (length body) in
-    let begins = subst Begins (sym all) (BeginsWithBody-append found.frame body (faultless_bytes stands.rest) stands.is_body) in
-    sym (miss_of-start chars heard place refl is)
-    ∙ nothing_missed bytes found.frame (length body) _ _ place begins (told_of heard place)
+    sym (miss_of-start chars (drop place chars) place refl is)
+    ∙ none_of chars place (record { frame = found.frame; body = body; rest = stands.rest; is_body = stands.is_body; parts = heard_is })
