@@ -1,6 +1,6 @@
 -- Characters that begin with a body, and their bytes.
-use Rattle.std.proofs.Common.{◌≡◌, ℕ, List, [], ◌∷◌, take, refl, sym, ap, ◌∙◌, arith}
-use Rattle.std.proofs.lemmas.List.{map-append, length-map, take_at}
+use Rattle.std.proofs.Common.{◌≡◌, ℕ, List, [], ◌∷◌, refl, sym, ap, ◌∙◌, arith}
+use Rattle.std.proofs.lemmas.List.{map-append}
 use Rattle.hart_frame.specs.wire.FrameParts.{FrameParts}
 use Rattle.hart_frame.specs.wire.Body.{BeginsWithBody}
 use Rattle.hart_frame.specs.heard.Character.{Character, faultless}
@@ -21,13 +21,3 @@ pub BeginsWithBody-heard : (chars : List Character) (f : FrameParts) (len : ℕ)
     → BeginsWithBody (bytes_of chars) f len
 BeginsWithBody-heard chars f len heard =
     grind (arith, map-append, bytes_of-faultless heard.body, BeginsWithBody-append f heard.body (bytes_of heard.rest) heard.is_body)
-
--- the characters of a heard body
-pub take-heard : (chars : List Character) (f : FrameParts) (len : ℕ) (heard : BeginsWithHeard chars f len)
-    → take len chars ≡ faultless heard.body
-take-heard chars f len heard = grind (arith, take_at, length-map)
-
--- a faultless character is made of its byte
-pub faultless_made : (first : Character) (others : List Character) (rest : List ℕ) → first.faults ≡ 0 → others ≡ faultless rest
-    → first ∷ others ≡ faultless (first.byte ∷ rest)
-faultless_made first others rest faults same = grind arith

@@ -93,11 +93,6 @@ part_at : (chars : List Character) (found : Found) (from count place : ℕ) (sta
     → get_or chars place preamble ≡ get_or (faultless (255 ∷ 255 ∷ []) ++ (faultless stands.body ++ stands.rest)) count preamble
 part_at chars found from count place stands fact1 = grind (arith, common_steps, preamble, parts, get_or-append-add)
 
--- the body there begins with its delimiter
-first_at : (f : FrameParts) (body : List ℕ) (rest : List Character) → IsBody f body
-    → get_or (faultless body ++ rest) 0 preamble ≡ clear (delimiter_of f)
-first_at f body rest is = grind (arith, preamble)
-
 -- what was sent: so many preamble bytes, and bytes that begin with no preamble byte; and what was heard of it
 record IsHeard (left : ℕ) (body : List ℕ) (chars : List Character) : Type 0 where
   pub some : 0 < length body
@@ -145,7 +140,7 @@ not_before left body chars found from is stands before =
       arith,
       delimiter_of-other found.frame stands.body stands.is_body
           (preamble_at left body chars (length stands.prefix + 2) (delimiter_of found.frame) is before
-          (grind (arith, common_steps, part_at, first_at))),
+          (grind (arith, common_steps, part_at, preamble))),
     )
 
 -- so a frame starts at the delimiter

@@ -159,17 +159,6 @@ one_preamble_fits start chars fit is =
           ]
     ]
 
--- characters after two preamble bytes, one list of bytes
-after_front : (prefix : List Character) (checked : List ℕ) (last : ℕ) (others : List Character)
-    → (prefix ++ (preamble ∷ preamble ∷ faultless checked)) ++ record { byte = last; faults = 0 } ∷ others
-    ≡ prefix ++ faultless (255 ∷ 255 ∷ (checked ++ last ∷ [])) ++ others
-after_front prefix checked last others = grind (arith, append_assoc, map-append)
-
-before_end : (prefix : List Character) (bytes more : List ℕ) (last : ℕ)
-    → (prefix ++ (preamble ∷ preamble ∷ faultless bytes)) ++ faultless (more ++ last ∷ [])
-    ≡ prefix ++ faultless (255 ∷ 255 ∷ ((bytes ++ more) ++ last ∷ [])) ++ []
-before_end prefix bytes more last = grind (arith, append_assoc, append-nil, map-append)
-
 -- with the byte that would fit a frame stands there
 pub bad_check_fits : (start place byte fits : ℕ) (chars : List Character) → All (λ c. c.byte < 256) chars
     → miss_of chars start ≡ Some (BadCheck place byte fits)
@@ -195,7 +184,7 @@ bad_check_fits start place byte fits chars fit is =
     let body = whole_body bytes bytes_fit has in
     let fits_is = fits-is checked fits (All-take (λ byte. byte < 256) n bytes bytes_fit) way.1.3 in
     let changed : set chars place (make fits) ≡ at.prefix ++ faultless (255 ∷ 255 ∷ (checked ++ fits ∷ [])) ++ others =
-    grind (arith, common_steps, set_at, after_front) in
+    grind (arith, common_steps, set_at, append_assoc, map-append) in
     frame_up_to (set chars place (make fits)) at.prefix others (checked ++ fitting_check_byte bytes ∷ []) body.frame start (place + 1)
     body.is_body (grind arith) at.at (omega (arith, way.1.1, long, length-append checked (fitting_check_byte bytes ∷ [])))
 
@@ -245,7 +234,7 @@ missing_fits start count chars more fit more_fit is long =
     let all : heard ≡ faultless bytes = nothing_follows heard (nothing_at_end chars start way.1.3) in
     let split : chars ≡ at.prefix ++ (preamble ∷ preamble ∷ faultless bytes) = grind (arith, common_steps, preamble) in
     let regroup : (at.prefix ++ (preamble ∷ preamble ∷ faultless bytes)) ++ faultless (more ++ last ∷ [])
-    ≡ at.prefix ++ faultless (255 ∷ 255 ∷ (checked ++ last ∷ [])) ++ [] = grind (arith, common_steps, before_end) in (
+    ≡ at.prefix ++ faultless (255 ∷ 255 ∷ (checked ++ last ∷ [])) ++ [] = grind (arith, common_steps, append_assoc, append-nil, map-append) in (
       last,
       IsCheckByte-fold checked last (fits_at checked checked_fit) refl,
       frame_up_to (chars ++ faultless (more ++ last ∷ [])) at.prefix [] (checked ++ last ∷ []) body.frame start (length chars + count)

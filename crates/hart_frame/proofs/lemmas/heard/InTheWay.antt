@@ -27,9 +27,6 @@ use Rattle.hart_frame.proofs.lemmas.heard.Miss.{miss_in-other, miss_in-short, mi
 use Rattle.hart_frame.proofs.lemmas.heard.Missed.{miss_of-some, miss_of-start}
 use Rattle.hart_frame.proofs.lemmas.heard.Place.{preamble}
 
-start_within : (chars : List Character) (start : ℕ) → IsStart start chars → start ≤ length chars
-start_within chars start is = grind (arith, common_steps, preamble, length-append)
-
 -- a character of the rest of a list
 pub rest_at : (chars : List Character) (start n : ℕ) → slice_get (drop start chars) n ≡ slice_get chars (start + n)
 rest_at chars start n = grind (arith, common_steps, slice_get_cases, slice_get-get_or, get_or-drop, length-drop)
@@ -65,10 +62,6 @@ early_way chars start at_end miss within is =
     ]
 
 -- the first byte of no message
-burst_or_other : (byte : ℕ) → ((delimiter_miss byte ≡ Burst) × IsBurstDelimiter byte)
-    ⊎ ((delimiter_miss byte ≡ BadDelimiter byte) × (IsBurstDelimiter byte → ⊥))
-burst_or_other byte = grind (arith, nat_tests)
-
 burst-yes : (byte : ℕ) → IsBurstDelimiter byte → delimiter_miss byte ≡ Burst
 burst-yes byte is = grind (arith, nat_tests)
 
@@ -98,7 +91,7 @@ said : (chars : List Character) (start : ℕ) (miss : Miss) → All (λ byte. by
     → Told (bytes_from chars start) (slice_get (drop start chars) (length (bytes_from chars start)))
     (start + length (bytes_from chars start)) start → body_miss start (drop start chars) ≡ Some miss → IsInTheWay chars start miss
 said chars start miss fit within (empty none is) told = grind (arith, common_steps, said_early, same_Some)
-said chars start miss fit within (other any bad is) told = grind (arith, common_steps, same_Some, burst_or_other)
+said chars start miss fit within (other any bad is) told = grind (arith, common_steps, same_Some, nat_tests)
 said chars start miss fit within (begun has few is) told =
     said_early chars start EndsBeforeByteCount miss within (inr (inl (has, few)))
     (λ end. (inr (inl (has, few)), λ count. omega (arith, count.1, few), end)) (same_Some _ miss (sym is ∙ told))
@@ -159,7 +152,7 @@ in_the_way start chars miss fit is =
     let heard = drop start chars in
     let fits = faultless_fit heard (All-drop (λ (c : Character). c.byte < 256) start chars fit) in
     let same = miss_of-start chars heard start refl is in (
-      grind (arith, common_steps, said, start_within, told_of),
+      grind (arith, common_steps, said, told_of, preamble, length-append),
       λ way. sym same ∙ only chars start miss fits way,
     )
 

@@ -1,7 +1,7 @@
 -- Why no body begins at a start: by its bytes, and by the characters that are heard there.
 use Rattle.std.proofs.lemmas.Grind.{common_steps}
 use Rattle.std.proofs.Common.{◌≡◌, ◌≢◌, ℕ, ◌+◌, ◌-◌, ◌*◌, ◌/◌, ◌%◌, ◌<◌, ◌≤◌, List, ◌++◌, length, take, drop, get_or, min}
-use Rattle.std.proofs.Common.{◌⊎◌, subst, true, false, Option, None, Some, sym, ap, ◌∙◌, arith}
+use Rattle.std.proofs.Common.{◌⊎◌, subst, true, Option, None, Some, sym, ap, ◌∙◌, arith}
 use Rattle.std.proofs.lemmas.List.{get_or_append_left, length-map, length-take, length-take-le, take-append-drop, take-append-le}
 use Rattle.std.proofs.lemmas.Option.{slice_get-get_or}
 use Rattle.std.specs.List.{All, slice_get}
@@ -14,7 +14,7 @@ use Rattle.hart_frame.specs.heard.Body.{bytes_of}
 use Rattle.hart_frame.specs.wire.Layout.{body_length, byte_count_in, byte_count_place, delimiter_in}
 use Rattle.hart_frame.specs.wire.Refusal.{HasByteCount, HasCheckByte, HasDelimiter, HasGoodByteCount, IsDelimiter}
 use Rattle.hart_frame.specs.declared.heard.miss.Miss.{Miss}
-use Rattle.hart_frame.specs.declared.heard.miss.Miss.TheVariants.{BadCheck, BadDelimiter, Burst, EndsBeforeByteCount, Faulty, Missing}
+use Rattle.hart_frame.specs.declared.heard.miss.Miss.TheVariants.{BadCheck, EndsBeforeByteCount, Faulty, Missing}
 use Rattle.hart_frame.specs.declared.heard.miss.Miss.TheVariants.{ShortReply}
 use Rattle.hart_frame.proofs.lemmas.heard.Front.{byte_at, faultless_all, faultless_bytes-all, faultless_bytes-take, length-faultless_bytes, take_heard}
 use Rattle.hart_frame.proofs.lemmas.heard.Place.{preamble}
@@ -24,9 +24,6 @@ use Rattle.hart_frame.proofs.lemmas.wire.Prefix.{HasCheckByte-prefix, length_mor
 is_delimiter-yes : (byte : ℕ) → IsDelimiter byte → is_delimiter byte ≡ true
 is_delimiter-yes byte is = grind (arith, nat_tests)
 
-is_delimiter-no : (byte : ℕ) → (IsDelimiter byte → ⊥) → is_delimiter byte ≡ false
-is_delimiter-no byte is = grind (arith, nat_tests)
-
 -- why none begins, case by case
 pub miss_in-none : (bytes : List ℕ) (faulty : Option Character) (place start : ℕ) → length bytes ≡ 0
     → miss_in bytes faulty place start ≡ Some (faulty_or faulty place EndsBeforeByteCount)
@@ -34,7 +31,7 @@ miss_in-none bytes faulty place start none = grind (arith, nat_tests)
 
 pub miss_in-other : (bytes : List ℕ) (faulty : Option Character) (place start : ℕ) → 0 < length bytes
     → (IsDelimiter (delimiter_in bytes) → ⊥) → miss_in bytes faulty place start ≡ Some (delimiter_miss (delimiter_in bytes))
-miss_in-other bytes faulty place start some other = grind (arith, nat_tests, is_delimiter-no)
+miss_in-other bytes faulty place start some other = grind (arith, nat_tests)
 
 pub miss_in-begun : (bytes : List ℕ) (faulty : Option Character) (place start : ℕ) → HasDelimiter bytes
     → length bytes ≤ byte_count_place bytes → miss_in bytes faulty place start ≡ Some (faulty_or faulty place EndsBeforeByteCount)
@@ -174,6 +171,3 @@ cut_front heard count end is = is ∙ ap length (faultless_bytes-take count hear
 pub faulty_or-is : (faulty : Option Character) (place : ℕ) (at_end miss : Miss) → faulty_or faulty place at_end ≡ miss
     → ((faulty ≡ None) × (at_end ≡ miss)) ⊎ ((c : Character) × (faulty ≡ Some c) × (miss ≡ Faulty place c.faults))
 faulty_or-is faulty place at_end miss fact1 = grind arith
-
-delimiter_miss-is : (byte : ℕ) → (delimiter_miss byte ≡ Burst) ⊎ (delimiter_miss byte ≡ BadDelimiter byte)
-delimiter_miss-is byte = grind arith

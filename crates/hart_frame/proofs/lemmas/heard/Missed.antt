@@ -48,20 +48,13 @@ other_test : (chars : List Character) (k : ℕ) → option_map_or (λ (c : Chara
     → (k < length chars) × (get_or chars k preamble ≢ preamble)
 other_test chars k passes = grind (arith, nat_tests, slice_get_cases chars k, slice_get-get_or chars k preamble, preamble)
 
-other_tests : (chars : List Character) (k : ℕ) → k < length chars → get_or chars k preamble ≢ preamble
-    → option_map_or (λ (c : Character). not (is_preamble c)) (slice_get chars k) false ≡ true
-other_tests chars k within is = grind (arith, nat_tests, slice_get-get_or chars k preamble within, preamble)
-
 both : {a b : Bool} → a ≡ true → b ≡ false → a && not b ≡ true
 both is none = cc
-
-not_true : (a : Bool) → (a ≡ true → ⊥) → a ≡ false
-not_true a never = grind arith
 
 -- the test of a start
 pub is_start-yes : (chars : List Character) (place : ℕ) → IsStart place chars → is_start chars place ≡ true
 is_start-yes chars place is =
-    grind (arith, starts_at chars place preamble is, first_tests chars (place - 1), first_tests chars (place - 2), other_tests chars place)
+    grind (arith, starts_at chars place preamble is, first_tests chars (place - 1), first_tests chars (place - 2), nat_tests, slice_get-get_or, preamble)
 
 pub is_start-is : (chars : List Character) (place : ℕ) → is_start chars place ≡ true → IsStart place chars
 is_start-is chars place passes =
@@ -105,12 +98,6 @@ one_before_place chars k one = grind (arith, first_test chars k)
 pub not_at_front : (chars : List Character) → follows_one_preamble chars zero ≡ true → ⊥
 not_at_front chars one = grind arith
 
--- what ends with a preamble byte has one before the place after it
-ends_with : (chars earlier : List Character) (k : ℕ) → k < length chars → take k chars ≡ earlier ++ preamble ∷ []
-    → follows_preamble chars k ≡ true
-ends_with chars earlier k fact1 fact2 =
-    grind (arith, common_steps, length-append, preamble, length-take-le, get_or-take, get_or-append_seam, first_tests)
-
 -- one preamble byte alone, as the lists say it
 pub one_preamble-is : (chars : List Character) (place : ℕ) → follows_one_preamble chars place ≡ true → FollowsOnePreamble chars place
 one_preamble-is chars zero one = absurd (not_at_front chars one)
@@ -121,7 +108,7 @@ one_preamble-is chars (suc k) one =
       rest = drop (suc k) chars;
       split = grind (arith, common_steps, take-append-drop, drop-cons, preamble, append_snoc);
       place_is = omega (arith, at.0, length-take-le k chars (omega (arith, at.0)));
-      alone = λ earlier is. grind (arith, ends_with chars earlier k);
+      alone = λ earlier is. grind (arith, common_steps, length-append, preamble, length-take-le, get_or-take, get_or-append_seam, first_tests);
     }
 
 -- and the other way round
@@ -134,7 +121,7 @@ no_second chars prefix rest (suc j) split place alone passes =
 pub one_preamble-yes : (chars : List Character) (place : ℕ) → FollowsOnePreamble chars place → follows_one_preamble chars place ≡ true
 one_preamble-yes chars zero is = absurd (omega (arith, is.place_is))
 one_preamble-yes chars (suc k) is =
-    grind (arith, common_steps, preamble, append_snoc, length-append, get_or-append_seam, not_true, no_second, both, first_tests)
+    grind (arith, common_steps, preamble, append_snoc, length-append, get_or-append_seam, no_second, both, first_tests)
 
 -- the first byte of a body is no preamble byte
 record Head (body : List ℕ) : Type 0 where

@@ -79,14 +79,11 @@ frames_moved before rest n long from frames (first place found later is more) =
     (frames_moved before rest n long found.stop later more)
 
 -- moved frames come from the same frames
-moved_one : (n : ℕ) (f g : Found) → moved n f ≡ moved n g → f ≡ g
-moved_one n f g same = grind (arith, common_steps)
-
 all_moved_one : (n : ℕ) (xs ys : List Found) → map (moved n) xs ≡ map (moved n) ys → xs ≡ ys
 all_moved_one n [] [] same = refl
 all_moved_one n [] (y ∷ ys) same = absurd cc
 all_moved_one n (x ∷ xs) [] same = absurd cc
-all_moved_one n (x ∷ xs) (y ∷ ys) same = grind (arith, common_steps, moved_one, all_moved_one n xs ys cc)
+all_moved_one n (x ∷ xs) (y ∷ ys) same = grind (arith, common_steps, all_moved_one n xs ys cc)
 
 -- the rest of a list gives the frames from its place on
 pub rest_frames : OneList → (place : ℕ) (chars : List Character) (frames : List Found) → AreFrames (drop place chars) 0 frames

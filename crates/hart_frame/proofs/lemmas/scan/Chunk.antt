@@ -147,9 +147,6 @@ pub record IsHearing (old now : Buffer) (chunk : List Character) (taken : ℕ) :
   pub within : taken ≤ length chunk
   pub so : HeardSo (scan_of old) (scan_of now) chunk taken
 
-pub hearing_start : (b : Buffer) (chunk : List Character) → IsSound b → b.state ≡ Drained → IsHearing b b chunk 0
-hearing_start b chunk sound drained = grind (arith, waits_drained, moves_none, append-nil)
-
 -- the next part is heard, and still nothing is decided
 pub hearing_on : (old now new : Buffer) (chunk : List Character) (n r : ℕ) → IsHearing old now chunk n → IsSound new → new.state ≡ Drained
     → HearsPart (scan_of now) (scan_of new) (slice_range chunk n (length chunk)) r → IsHearing old new chunk (n + r)

@@ -8,7 +8,7 @@ use Rattle.hart_frame.specs.wire.Body.{IsBody, IsCheckedPart}
 use Rattle.hart_frame.specs.wire.Layout.{body_length, layout_length}
 use Rattle.hart_frame.specs.heard.Character.{Character, faultless}
 use Rattle.hart_frame.specs.scan.Buffer.{IsEnded, IsSound, IsWaiting, held_bytes, is_drained, scan_of}
-use Rattle.hart_frame.specs.scan.Candidate.{BeginWithNone, IsWhole, IsWholeBody, NothingFollows}
+use Rattle.hart_frame.specs.scan.Candidate.{IsWhole, IsWholeBody, NothingFollows}
 use Rattle.hart_frame.specs.scan.Chunk.{BeginsWithFrame}
 use Rattle.hart_frame.specs.scan.Decision.{GivesSpan, HoldsWhole, IsHeldOpen, IsHeldSearched}
 use Rattle.hart_frame.specs.scan.Scanner.{Scan, MovesPast, GivesNothing}
@@ -35,14 +35,10 @@ pub not_ended : (b : Buffer) → (IsEnded b → ⊥) → (b.finished ≡ false) 
 not_ended b going = grind arith
 
 -- no frame is found in what is held
-left_open : (b : Buffer) (ended : Bool) (place : ℕ) → (IsEnded b → IsTrue ended) → IsLeftOpen (held_bytes b) ended place
-    → IsHeldOpen b place
-left_open b ended place over left = grind (arith, not_ended)
-
 held_stands : (b : Buffer) (ended : Bool) (place : ℕ) (layout : Option Layout) → (IsEnded b → IsTrue ended)
     → MatchOption layout (IsLeftOpen (held_bytes b) ended place) (λ l. IsWhole l (drop place (held_bytes b)))
     → MatchOption layout (IsHeldOpen b place) (λ l. IsWhole l (drop place (held_bytes b)))
-held_stands b ended place layout fact1 fact2 = grind (arith, left_open)
+held_stands b ended place layout fact1 fact2 = grind (arith, not_ended)
 
 -- what is found in what is held, searched to its end
 pub held_searched : (b : Buffer) (ended : Bool) (found : Sighting) → IsSound b → (IsTrue ended ↔ IsEnded b)
@@ -68,13 +64,10 @@ abbrev pub span_of : Buffer → Layout → Span
 span_of b layout =
     record { at = b.from + 2; layout = layout; start = b.first + 2; stop = b.first + (2 + layout_length layout) }
 
-held_released : (b : Buffer) (layout : Layout) (whole : IsWhole layout (held_bytes b)) → held_bytes (released b layout) ≡ whole.rest
-held_released b layout whole = grind (arith, held_passed, drop_at)
-
 -- two preamble bytes and the body come first of what is held
 held_whole : (b : Buffer) (layout : Layout) (whole : IsWhole layout (held_bytes b))
     → (scan_of b).held ≡ faultless (255 ∷ 255 ∷ whole.body) ++ (scan_of (released b layout)).held
-held_whole b layout whole = grind (arith, map-append, append_assoc, held_released b layout whole)
+held_whole b layout whole = grind (arith, map-append, append_assoc, held_passed, drop_at)
 
 pub gives_span : (b : Buffer) (layout : Layout) → IsSound b → is_drained b.state ≡ false → IsWhole layout (held_bytes b)
     → GivesSpan b (released b layout) (span_of b layout)
@@ -138,15 +131,12 @@ holds_frame b layout whole =
       refl,
     )
 
-nothing_damaged : (c : Character) (more : List Character) → c.faults ≢ 0 → BeginWithNone (c ∷ more)
-nothing_damaged c more faulty f body rest is same = grind (arith, preamble)
-
 -- a character with faults is let go
 pub moves_damaged : (o : Option Character) (old new : Scan) → IfSome o (λ c. c.faults ≢ 0) → is_some o ≡ true → old.held ≡ option_to_list o
     → new.held ≡ [] → new.first ≡ old.first + 1 → new.finished ≡ old.finished → MovesPast old new []
 moves_damaged None old new faulty some held empty firsts finished = absurd cc
 moves_damaged (Some c) old new faulty some held empty firsts finished =
-    moves_drop old new c (grind arith) firsts finished (λ more ended. grind (arith, nothing_damaged))
+    moves_drop old new c (grind arith) firsts finished (λ more ended. grind (arith, preamble))
 
 -- nothing is given if nothing is held from a place on, before which no frame begins
 pub given_nothing : (b mid : Buffer) (found : Sighting) (new : Scan) → IsHeldSearched b found → mid ≡ passed b found.place

@@ -1,6 +1,6 @@
 -- The first frame of a list, by what a scanner gave of it.
 use Rattle.std.proofs.lemmas.Grind.{common_steps}
-use Rattle.std.proofs.Common.{◌≡◌, ℕ, ◌+◌, ◌≤◌, false, true, IsTrue, inl, inr, Option, Some, None, List, [], ◌∷◌, ◌++◌, length, take, drop}
+use Rattle.std.proofs.Common.{◌≡◌, ℕ, ◌+◌, ◌≤◌, false, IsTrue, inl, inr, Option, Some, None, List, [], ◌∷◌, ◌++◌, length, take, drop}
 use Rattle.std.proofs.Common.{refl, sym, ap, ◌∙◌, arith, subst}
 use Rattle.std.specs.Option.{MatchOption}
 use Rattle.std.proofs.lemmas.Bool.{false≢true}
@@ -11,7 +11,7 @@ use Rattle.hart_frame.specs.heard.Frames.{HasNoFrame, IsFirst}
 use Rattle.hart_frame.specs.heard.Place.{StandsIn}
 use Rattle.hart_frame.specs.scan.Chunk.{StopsAt}
 use Rattle.hart_frame.specs.scan.First.{IsFirstIn}
-use Rattle.hart_frame.specs.scan.Scanner.{Scan, Ends, Gives, GivesNothing, MovesPast, finishing, hearing, new_scan}
+use Rattle.hart_frame.specs.scan.Scanner.{Scan, Gives, GivesNothing, MovesPast, finishing, hearing, new_scan}
 use Rattle.hart_frame.specs.scan.Streamed.{IsHistory, begin, finish, push_chars, take_view, wait}
 use Rattle.hart_frame.specs.declared.heard.found.Found.{Found}
 use Rattle.hart_frame.proofs.lemmas.Laws.{frames_are_unambiguous-one_list}
@@ -51,9 +51,6 @@ all_heard scan new count all stops nothing = elim stops [
   | inr holds ↦ absurd (holds_gives scan new holds.1 nothing)
 ]
 
-ends_only : (old new : Scan) → old.finished ≡ true → GivesNothing old new → Ends old new
-ends_only old new finished nothing = grind arith
-
 last_given : (chars : List Character) (waiting new : Scan) (given : Option Found) → IsHistory chars (finishing waiting) []
     → MatchOption given (GivesNothing (finishing waiting) new) (Gives (finishing waiting) new)
     → MatchOption given (HasNoFrame chars 0) (λ found. IsFirstIn found chars)
@@ -61,7 +58,7 @@ last_given chars waiting new None history nothing =
     grind (
       arith,
       no_frames chars 0 []
-          (grind (arith, common_steps, history_all, ends_only))
+          (grind (arith, common_steps, history_all))
           refl,
     )
 last_given chars waiting new (Some found) history gives =

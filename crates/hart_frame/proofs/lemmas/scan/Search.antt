@@ -182,15 +182,9 @@ may_take_two xs zero within truncated = inl refl
 may_take_two xs (suc zero) within truncated = inr (inl refl)
 may_take_two xs (suc (suc n)) within truncated = inr (inr (take n xs, refl, truncated_take xs n (omega (arith, within)) truncated))
 
-may_take_none : (n : ℕ) → MayBegin (take n [])
-may_take_none n = grind arith
-
-may_take_one : (n : ℕ) → n ≤ 1 → MayBegin (take n (255 ∷ []))
-may_take_one n fact1 = grind arith
-
 -- the first of bytes that may begin a frame may
 pub may_take : (xs : List ℕ) (n : ℕ) → n ≤ length xs → MayBegin xs → MayBegin (take n xs)
-may_take xs n within may = grind (arith, may_take_none, may_take_one, may_take_two)
+may_take xs n within may = grind (arith, may_take_two)
 
 -- the whole list decides nothing, if it is searched to its end
 all_open : (xs : List ℕ) (from seen place decided : ℕ) → IsSearching xs from seen place decided → from ≤ seen → MayBegin (drop place xs)

@@ -6,7 +6,7 @@ use Rattle.hart_frame.specs.declared.wire.fault.FrameFault.{FrameFault}
 use Rattle.hart_frame.specs.declared.wire.fault.FrameFault.TheVariants.{Truncated}
 use Rattle.hart_frame.specs.wire.Layout.{Describes, delimiter_in, byte_count_place, byte_count_in, body_length}
 use Rattle.hart_frame.specs.declared.wire.layout.Layout.{Layout}
-use Rattle.hart_frame.specs.wire.Refusal.{IsRefusedWith, HasDelimiter, HasByteCount, HasGoodByteCount, HasCheckByte}
+use Rattle.hart_frame.specs.wire.Refusal.{IsRefusedWith, HasByteCount, HasGoodByteCount, HasCheckByte}
 
 pub delimiter_more : (xs ys : List ℕ) → 0 < length xs → delimiter_in (xs ++ ys) ≡ delimiter_in xs
 delimiter_more xs ys some = get_or_append_left xs ys 0 0 some
@@ -20,11 +20,8 @@ count_more xs ys within = grind (arith, count_place_more, get_or_append_left)
 pub length_more : (xs ys : List ℕ) → byte_count_place xs < length xs → body_length (xs ++ ys) ≡ body_length xs
 length_more xs ys within = omega (arith, count_more xs ys within, count_place_more xs ys (omega (arith, within)))
 
-pub HasDelimiter-more : (xs ys : List ℕ) → HasDelimiter xs → HasDelimiter (xs ++ ys)
-HasDelimiter-more xs ys has = grind (arith, common_steps, length-append, delimiter_more)
-
 pub HasByteCount-more : (xs ys : List ℕ) → HasByteCount xs → HasByteCount (xs ++ ys)
-HasByteCount-more xs ys has = grind (arith, common_steps, HasDelimiter-more, length-append, count_place_more)
+HasByteCount-more xs ys has = grind (arith, common_steps, length-append, count_place_more, delimiter_more)
 
 pub HasGoodByteCount-more : (xs ys : List ℕ) → HasGoodByteCount xs → HasGoodByteCount (xs ++ ys)
 HasGoodByteCount-more xs ys has = grind (arith, HasByteCount-more, delimiter_more, count_more)

@@ -11,7 +11,7 @@ use Rattle.hart_frame.specs.wire.FrameParts.{FrameParts}
 use Rattle.hart_frame.specs.wire.Delimiter.{delimiter_of, address_type}
 use Rattle.hart_frame.specs.wire.Layout.{delimiter_in, byte_count_place, byte_count_in, body_length}
 use Rattle.hart_frame.specs.wire.Refusal.{IsRefusedWith, IsDelimiter}
-use Rattle.hart_frame.specs.wire.Body.{IsCheckedPart, BeginsWithBody}
+use Rattle.hart_frame.specs.wire.Body.{BeginsWithBody}
 use Rattle.hart_frame.proofs.lemmas.wire.UnambiguousBodies.{length-address, address_type-lt, kind_code-is, spread}
 
 -- what a list that begins with a frame's body says of it
@@ -21,11 +21,6 @@ pub record Says (bytes : List ℕ) (f : FrameParts) (len : ℕ) : Type 0 where
   pub count : byte_count_in bytes ≡ length f.payload
   pub whole : len ≡ body_length bytes
   pub within : len ≤ length bytes
-
--- how long the checked part is
-length-checked : (f : FrameParts) (checked : List ℕ) (part : IsCheckedPart f checked)
-    → length checked ≡ 4 + 4 * address_type f.address + length f.expansion + length f.payload
-length-checked f checked part = grind (arith, length-address, length-append)
 
 -- the delimiter of a frame with at most 3 expansion bytes is one of this profile
 pub IsDelimiter-of : (f : FrameParts) → length f.expansion ≤ 3 → IsDelimiter (delimiter_of f)
@@ -43,7 +38,7 @@ says bytes f len begins =
     let regrouped : bytes ≡ prefix ++ length f.payload ∷ (f.payload ++ begins.body.check ∷ rest) = whole ∙ simp append_assoc in
     let address = length-address _ _ _ _ part.address_bytes in
     let prefix_len : length prefix ≡ byte_count_place bytes =
-    grind (arith, length-append) in search (arith, common_steps, get_or_at, length-take-le, length-append, length-checked)
+    grind (arith, length-append) in search (arith, common_steps, get_or_at, length-take-le, length-append, length-address)
 
 -- a list that begins with a body is refused with no fault
 pub not_refused : (bytes : List ℕ) (f : FrameParts) (len : ℕ) (fault : FrameFault)

@@ -36,9 +36,6 @@ same_parts prefix other back rest lengths whole =
       drop_at other rest (length prefix) (sym lengths),
     )
 
-kind_code-one : (k l : FrameKind) → kind_code k ≡ kind_code l → k ≡ l
-kind_code-one k l fact1 = grind arith
-
 -- a kind's code is 2 or 6
 pub kind_code-is : (k : FrameKind) → (c : ℕ) × (c < 2) × (kind_code k ≡ 4 * c + 2)
 kind_code-is Stx = (0, omega arith, refl)
@@ -60,7 +57,7 @@ record SameDelimiter (f g : FrameParts) : Type 0 where
 
 same_delimiter : (f g : FrameParts) → length f.expansion ≤ 3 → length g.expansion ≤ 3
     → delimiter_of f ≡ delimiter_of g → SameDelimiter f g
-same_delimiter f g few fewer same = grind (arith, kind_code-is, address_type-lt, kind_code-one)
+same_delimiter f g few fewer same = grind (arith, kind_code-is, address_type-lt)
 
 -- a body and what follows it, part by part
 pub spread : (f : FrameParts) (body rest : List ℕ) (is : IsBody f body)

@@ -1,3 +1,4 @@
+use Rattle.std.proofs.lemmas.Grind.{common_steps}
 use Rattle.std.proofs.Common.{arith, rules}
 use Rattle.hart_frame.specs.wire.Refusal.{IsDelimiter}
 use Rattle.hart_frame.proofs.lemmas.heard.Miss.{BeginsWithCount, begins_with_count, good_count, short_reply}
@@ -13,9 +14,7 @@ returns-in_default-layout c =
     let begins = begins_with_count c.args.heard.now first place count c.index-heard-0.result c.index-heard-count_place.result
     c.in_default.ensures c.index-heard-0.is c.byte-first.ensures
     (omega (arith, delimiter.address, delimiter.expansion, c.byte_count_place-count_place.ensures)) c.in_default-early_end.ensures
-    c.index-heard-count_place.is c.byte-byte_count.ensures in
-    short_reply c.args.heard.now first place count c.args.start begins is
-    (grind (arith, delimiter.kind, c.in_default-layout.ensures.allowed))
+    c.index-heard-count_place.is c.byte-byte_count.ensures in grind (arith, common_steps, short_reply, begins)
 
 begins : (c : goal.After-body_len)
     → BeginsWithCount c.args.heard.now c.byte-first.result c.byte_count_place-count_place.result c.byte-byte_count.result
@@ -34,18 +33,4 @@ counted_miss-requires-clause-counted c =
     (grind (arith, delimiter.kind, c.in-Some-layout.ensures.allowed))
 
 pub counted_miss-requires-clause-len : goal.counted_miss-requires-clause-len
-counted_miss-requires-clause-len c =
-    let delimiter = c.in-Some-read_delimiter.ensures in
-    let layout = c.in-Some-layout.ensures in
-    let count = begins c in
-    omega (
-      arith,
-      delimiter.address,
-      delimiter.expansion,
-      c.byte_count_place-count_place.ensures,
-      layout.command,
-      layout.count,
-      c.body_len.ensures.len,
-      count.place_is,
-      count.count_is,
-    )
+counted_miss-requires-clause-len c = grind (arith, common_steps, begins)

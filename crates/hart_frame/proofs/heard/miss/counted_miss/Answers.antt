@@ -1,4 +1,5 @@
-use Rattle.std.proofs.Common.{◌≡◌, ◌<◌, ◌-◌, ℕ, ap, arith, length, rules, take, ◌∙◌}
+use Rattle.std.proofs.lemmas.Grind.{common_steps}
+use Rattle.std.proofs.Common.{◌≡◌, ◌<◌, ◌-◌, ℕ, ap, arith, length, take, ◌∙◌}
 use Rattle.hart_frame.specs.heard.Character.{faultless_bytes}
 use Rattle.hart_frame.proofs.lemmas.heard.Front.{length-faultless_bytes}
 use Rattle.hart_frame.proofs.lemmas.heard.Miss.{counted_early, counted_whole, front_length, not_whole, whole_front}
@@ -12,8 +13,7 @@ check_miss-requires-clause-whole c =
     let lookup = c.in-Some.ensures.lookup.0 in
     let whole : c.args.len - 0 ≡ c.args.len = omega arith in
     let front = whole_front heard body c.args.len lookup.1 (lookup.2 ∙ ap (λ (n : ℕ). take n heard) whole)
-    (c.sum_of-sum.ensures.faults.0 c.if-sum-eq0.true) in
-    front_length heard body c.args.len front c.requires.counted c.requires.len ∙ (omega (arith, lookup.3))
+    (c.sum_of-sum.ensures.faults.0 c.if-sum-eq0.true) in grind (arith, common_steps, front_length)
 
 pub returns-then-sum-eq0 : goal.returns-then-sum-eq0
 returns-then-sum-eq0 c =
@@ -34,9 +34,7 @@ returns c =
       | in-Some+else-sum-eq0 w ↦
           not_whole heard w.in-Some.body.now c.args.len (w.in-Some.ensures.lookup.0.2 ∙ ap (λ (n : ℕ). take n heard) whole)
           (λ all. w.if-sum-eq0.false (w.sum_of-sum.ensures.faults.1 all))
-      | in_default w ↦
-          let short : length heard < c.args.len = search rules in
-          omega (arith, length-faultless_bytes heard, short)
+      | in_default w ↦ grind (arith, common_steps, length-faultless_bytes)
     ] in
     counted_early heard c.args.len c.saturating_sub-count.result c.args.start c.early_end.result c.requires.counted c.requires.len
     c.saturating_sub-count.ensures few c.early_end.ensures

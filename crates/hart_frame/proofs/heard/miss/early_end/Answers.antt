@@ -1,7 +1,6 @@
-use Rattle.std.proofs.Common.{◌≡◌, ◌+◌, ℕ, ap, arith, length, ◌∙◌}
-use Rattle.std.specs.List.{slice_get}
+use Rattle.std.proofs.lemmas.Grind.{common_steps}
+use Rattle.std.proofs.Common.{arith, length}
 use Rattle.hart_frame.specs.heard.Character.{faultless_bytes}
-use Rattle.hart_frame.specs.heard.Miss.{faulty_or}
 use Rattle.hart_frame.proofs.lemmas.heard.Front.{length-faultless_bytes}
 use Rattle.hart_frame.proofs.lemmas.heard.Miss.{cut_front}
 use Rattle.hart_frame.proofs.heard.miss.early_end.Goals as goal
@@ -16,9 +15,4 @@ returns c =
     let heard = c.args.heard.now in
     let n = length (faultless_bytes heard) in
     let cut = cut_front heard c.min.result c.faultless_len-end.result c.faultless_len-end.ensures in
-    let end : c.faultless_len-end.result ≡ n =
-    omega (arith, c.if-end-count.false, c.min.ensures, length-faultless_bytes heard) in
-    record {
-      few = omega (arith, c.if-end-count.false, c.min.ensures, length-faultless_bytes heard);
-      is = c.faulty_or.ensures ∙ ap (λ (k : ℕ). faulty_or (slice_get heard k) (c.args.start + k) c.args.at_end) end;
-    }
+    grind (arith, common_steps, length-faultless_bytes)

@@ -1,4 +1,5 @@
-use Rattle.std.proofs.Common.{◌≡◌, inl, inr, true, false, rules, ◌∙◌, ap, sym, arith}
+use Rattle.std.proofs.lemmas.Grind.{common_steps}
+use Rattle.std.proofs.Common.{◌≡◌, true, false, rules, ◌∙◌, arith}
 use Rattle.std.proofs.lemmas.List.{take_rest}
 use Rattle.std.specs.Option.{is_some}
 use Rattle.hart_frame.specs.heard.Miss.{body_miss, follows_one_preamble}
@@ -31,9 +32,7 @@ returns c =
     let not_start : IsStart c.args.start chars → ⊥ = search rules in
     miss_of-nothing chars c.in_ok-heard.heard.now c.args.start heard not_start (
     elim c.else-follows_one_preamble.branch [
-      | else-follows_one_preamble-via-then-follows_one_preamble+else-is_none w ↦
-          inr (sym (ap is_some w.body_miss-then-follows_one_preamble.ensures) ∙ (w.is_none.ensures ∙ (grind arith)))
-      | else-follows_one_preamble-via-else-follows_one_preamble w ↦
-          inl (sym c.follows_one_preamble.ensures ∙ w.if-follows_one_preamble.false)
+      | else-follows_one_preamble-via-then-follows_one_preamble+else-is_none w ↦ grind (arith, common_steps)
+      | else-follows_one_preamble-via-else-follows_one_preamble w ↦ grind (arith, common_steps)
     ]
     )

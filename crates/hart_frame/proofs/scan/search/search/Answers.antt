@@ -1,3 +1,4 @@
+use Rattle.std.proofs.lemmas.Grind.{common_steps}
 use Rattle.std.proofs.Common.{◌≡◌, ◌+◌, ◌-◌, ◌<◌, ◌≤◌, ◌⊎◌, inl, max, ℕ, List, length, drop, take, arith, sym, subst, length-drop}
 use Rattle.std.proofs.lemmas.List.{drop_all, take_rest}
 use Rattle.hart_frame.specs.scan.Candidate.{IsCandidate}
@@ -32,8 +33,7 @@ loop-start-preserved c =
     searching_never bytes c.args.from c.args.seen start passed.needed count c.max-decided.result passed.searching order
     c.in-Some.ensures.within
     (begins bytes start (Never count) c.in-Never.ensures.candidate) short.1
-    (least passed.needed c.loop-start.decided (start + 2) c.max-decided.result (omega (arith, most))
-    (omega (arith, most, short.0)) passed.most)
+    (grind (arith, common_steps, least))
     (omega (arith, most)) (greater c.loop-start.decided (start + count) c.max-decided.result passed.needed most passed.least)
 
 pub returns-in-Open : goal.returns-in-Open

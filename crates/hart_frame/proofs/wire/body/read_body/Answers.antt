@@ -1,3 +1,4 @@
+use Rattle.std.proofs.lemmas.Grind.{common_steps}
 use Rattle.std.proofs.Common.{◌-◌, ◌<◌, ℕ, take, subst, sym, arith}
 use Rattle.std.specs.List.{All}
 use Rattle.std.proofs.lemmas.List.Elements.{All-from_get_or, All-take}
@@ -12,7 +13,7 @@ returns-then-check_byte-ne0-clause-refused c =
     let bytes = c.args.bytes.now in
     let len = c.body_len-len.ensures.described bytes c.in_ok-layout.ensures.described in
     let HasParity : ℕ → Type 0 = λ n. HasEvenParity (take n bytes) in (
-      (c.in_ok-layout.ensures.known, omega (arith, len, c.if-bytes-len.false)),
+      grind (arith, common_steps),
       λ even.
           c.if-check_byte-ne0.true (check-even _ _ c.check_byte.ensures (subst HasParity (sym len) even)),
     )

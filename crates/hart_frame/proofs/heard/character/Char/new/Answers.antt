@@ -1,4 +1,5 @@
-use Rattle.std.proofs.Common.{◌≡◌, ◌<◌, ◌⊎◌, inl, inr, ℕ, suc, zero, refl, bit_and, arith, sym, ap, ◌∙◌}
+use Rattle.std.proofs.lemmas.Grind.{common_steps}
+use Rattle.std.proofs.Common.{◌≡◌, ◌<◌, inl, inr, ℕ, suc, zero, refl, bit_and, arith, sym, ap, ◌∙◌}
 use Rattle.std.specs.Int.{bit_at}
 use Rattle.std.proofs.lemmas.Nat.Bits.{bit_at_and, bit_at-lt, bit_at-zero, same_from_bits_below}
 use Rattle.std.proofs.lemmas.Nat.{and_le_l}
@@ -37,14 +38,8 @@ AreFaultBits-from faults small none = record {
 -- and fault bits have none of the others
 none_other : (faults : ℕ) → AreFaultBits faults → bit_and faults 141 ≡ 0
 none_other faults are =
-    same_from_bits_below 8 (bit_and faults 141) 0 (omega (arith, and_le_l faults 141, are.byte)) (omega arith) (λ bit below.
-    let joined = bit_at_and faults 141 bit in
-    let small = bit_at-lt faults bit in
-    let cases : (bit_at faults bit ≡ 0) ⊎ (bit_at faults bit ≡ 1) = grind (arith, small) in
-    elim cases [
-      | inl clear ↦ omega (arith, joined, clear, bit_at-zero bit)
-      | inr set ↦ omega (arith, joined, not_set bit (are.only bit below set), bit_at-zero bit)
-    ])
+    same_from_bits_below 8 (bit_and faults 141) 0 (omega (arith, and_le_l faults 141, are.byte)) (omega arith) (
+    grind (arith, common_steps, bit_at_and, bit_at-lt, bit_at-zero, not_set))
 
 pub returns-then-faults-ne0-clause-accepted : goal.returns-then-faults-ne0-clause-accepted
 returns-then-faults-ne0-clause-accepted c = grind (arith, false≢true, none_other)

@@ -1,3 +1,4 @@
+use Rattle.std.proofs.lemmas.Grind.{common_steps}
 use Rattle.std.proofs.Common.{◌≡◌, ℕ, ◌<◌, List, length, take, sym, ap, ◌∙◌, rules, arith}
 use Rattle.hart_frame.specs.heard.Character.{faultless}
 use Rattle.hart_frame.specs.scan.Buffer.{scan_of}
@@ -15,8 +16,7 @@ returns-clause-hears c =
     let waiting = waits_drained old c.requires.sound c.requires.drained in
     hears_first (scan_of old) new chunk character c.peek-layout.result waiting.going (undecided_waiting old waiting)
     (first_one chunk character c.requires.some c.index-chunk-0.is) c.requires.some
-    (peeked (scan_of old) c.push.new.self new character c.peek-layout.result c.push.ensures.pushed (c.push.ensures.going ∙ waiting.going)
-    c.peek-layout.ensures.seen)
+    (grind (arith, common_steps, peeked))
 
 pub returns-then-not-is_empty-clause-hears : goal.returns-then-not-is_empty-clause-hears
 returns-then-not-is_empty-clause-hears c =

@@ -1,3 +1,4 @@
+use Rattle.std.proofs.lemmas.Grind.{common_steps}
 use Rattle.std.proofs.Common.{arith, ◌≡◌, ◌++◌, ℕ, List, take, subst}
 use Rattle.std.proofs.lemmas.List.{take-map}
 use Rattle.hart_frame.specs.heard.Character.{Character, faultless}
@@ -23,6 +24,4 @@ returns-clause-before c = λ count below.
     subst Of (first_of c.args.chunk.now count) ((hears c).before count below)
 
 pub returns-clause-pushed : goal.returns-clause-pushed
-returns-clause-pushed c =
-    let is = hears c in
-    heard_length c.args.self.now (scan_of c.push_bytes.new.self) (faultless c.args.chunk.now) c.push_bytes.result is.within is.moves
+returns-clause-pushed c = grind (arith, common_steps, hears, heard_length)

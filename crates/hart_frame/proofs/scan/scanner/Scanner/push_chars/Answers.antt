@@ -1,3 +1,4 @@
+use Rattle.std.proofs.lemmas.Grind.{common_steps}
 use Rattle.std.proofs.Common.{arith}
 use Rattle.hart_frame.specs.scan.Buffer.{scan_of}
 use Rattle.hart_frame.specs.scan.Chunk.{Hears}
@@ -11,6 +12,4 @@ pub returns-clause-before : goal.returns-clause-before
 returns-clause-before c = (hears c).before
 
 pub returns-clause-pushed : goal.returns-clause-pushed
-returns-clause-pushed c =
-    let is = hears c in
-    heard_length c.args.self.now (scan_of c.push_chars.new.self) c.args.chunk.now c.push_chars.result is.within is.moves
+returns-clause-pushed c = grind (arith, common_steps, hears, heard_length)

@@ -1,6 +1,6 @@
-use Rattle.std.proofs.Common.{◌≡◌, ◌+◌, ◌-◌, ℕ, take, subst, rules, get_or, length, arith}
+use Rattle.std.proofs.lemmas.Grind.{common_steps}
+use Rattle.std.proofs.Common.{◌≡◌, ◌+◌, rules, get_or, length, arith}
 use Rattle.std.specs.List.{slice_range}
-use Rattle.hart_frame.specs.wire.Body.{IsCheckedPart}
 use Rattle.hart_frame.specs.scan.PlainAddress.{address_of}
 use Rattle.hart_frame.proofs.lemmas.wire.Body.{IsBody-whole}
 use Rattle.hart_frame.specs.wire.FrameParts.{FrameParts}
@@ -31,6 +31,4 @@ returns c =
     } in
     let stands : StandsByLayout bytes layout frame = grind (arith, long_enough) in
     let exact : body_length bytes ≡ length bytes = omega (arith, body.described, body.exact) in
-    let part = IsCheckedPart-in bytes layout frame body.described whole stands in
-    let Part : ℕ → Type 0 = λ n. IsCheckedPart frame (take (n - 1) bytes) in
-    IsBody-whole bytes frame (omega (arith, whole, exact)) body.fits (subst Part exact part) body.even
+    let part = IsCheckedPart-in bytes layout frame body.described whole stands in grind (arith, common_steps, IsBody-whole)
