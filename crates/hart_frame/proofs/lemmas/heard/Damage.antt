@@ -49,7 +49,7 @@ heard-drop (byte ∷ sent) bytes (character ∷ others) heard = heard-drop sent 
 
 -- a faultless character is heard as it was sent
 pub clear_is : (sent byte : ℕ) → IsHeardOrMarked sent (clear byte) → byte ≡ sent
-clear_is sent byte fact1 = grind arith
+clear_is sent byte is = grind arith
 
 -- so at each place
 clear_at : (bytes : List ℕ) (chars : List Character) (place byte : ℕ) → AreHeardOrMarked bytes chars → place < length bytes
@@ -91,7 +91,7 @@ parts chars found from stands = stands.split ∙ append_assoc stands.prefix (fau
 part_at : (chars : List Character) (found : Found) (from count place : ℕ) (stands : StandsIn found chars from)
     → place ≡ length stands.prefix + count
     → get_or chars place preamble ≡ get_or (faultless (255 ∷ 255 ∷ []) ++ (faultless stands.body ++ stands.rest)) count preamble
-part_at chars found from count place stands fact1 = grind (arith, common_steps, preamble, parts, get_or-append-add)
+part_at chars found from count place stands is = grind (arith, common_steps, preamble, parts, get_or-append-add)
 
 -- what was sent: so many preamble bytes, and bytes that begin with no preamble byte; and what was heard of it
 record IsHeard (left : ℕ) (body : List ℕ) (chars : List Character) : Type 0 where

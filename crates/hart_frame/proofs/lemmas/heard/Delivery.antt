@@ -15,7 +15,7 @@ OneList = (chars : List Character) (from : ℕ) (xs ys : List Found) → AreFram
 -- what is said of some frames is said of all that a delivery has
 pub only_said : OneList → (delivery : List Character) (said : LoneFrame) → IsLone delivery said
     → (frames : List Found) → AreFrames delivery 0 frames → said ≡ lone_of frames
-only_said fact1 delivery said fact2 frames fact3 = grind arith
+only_said one_list delivery said are frames others = grind arith
 
 pub no_frame : (delivery : List Character) → HasNoFrame delivery 0 → AreFrames delivery 0 []
 no_frame delivery no_first = none 0 no_first
@@ -33,7 +33,7 @@ second_none delivery from (Some found) is said = absurd cc
 pub second_some : (delivery : List Character) (from : ℕ) (second : Option Found) → is_some second ≡ true
     → MatchOption second (HasNoFrame delivery from) (λ found. IsFirst found delivery from)
     → (found : Found) × IsFirst found delivery from
-second_some delivery from second fact1 fact2 = grind arith
+second_some delivery from second is said = grind arith
 
 -- after a second frame come the frames of what follows it
 pub several_frames : (delivery : List Character) (found second : Found) (later : List Found) → IsFirst found delivery 0

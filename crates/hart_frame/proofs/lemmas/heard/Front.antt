@@ -126,7 +126,7 @@ regrouped xs ys tail = grind (arith, common_steps, map-append, append_assoc)
 -- nor are the first of them
 pub length-front : (heard : List Character) (most : ℕ) (bytes : List ℕ) → bytes ≡ take most (faultless_bytes heard)
     → length bytes ≤ length heard
-length-front heard most bytes fact1 = grind (arith, length-take, length-faultless_bytes)
+length-front heard most bytes is = grind (arith, length-take, length-faultless_bytes)
 
 -- the characters of so many first bytes
 pub front_heard : (heard : List Character) (most : ℕ)

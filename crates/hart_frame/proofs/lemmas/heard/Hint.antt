@@ -106,7 +106,7 @@ heard_body heard fit has same =
 body_or_miss : (heard : List Character) (start : ℕ) (faulty : Option Character) (end : ℕ) → All (λ c. c.byte < 256) heard
     → Told (faultless_bytes heard) faulty end start
     → HeardBody heard ⊎ (is_some (miss_in (faultless_bytes heard) faulty end start) ≡ true)
-body_or_miss heard start faulty end fact1 fact2 = grind (arith, heard_body, other_check)
+body_or_miss heard start faulty end fit is = grind (arith, heard_body, other_check)
 
 pub heard_or_miss : (heard : List Character) (start : ℕ) → All (λ c. c.byte < 256) heard
     → HeardBody heard ⊎ (is_some (body_miss start heard) ≡ true)

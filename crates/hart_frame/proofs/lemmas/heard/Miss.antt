@@ -120,7 +120,7 @@ front_length heard body len front has long = grind (arith, common_steps, take-ap
 pub counted_whole : (heard body : List Character) (len start : ℕ) → IsWholeFront heard body len
     → HasGoodByteCount (faultless_bytes heard) → len ≡ body_length (faultless_bytes heard)
     → check_miss (bytes_of body) start ≡ body_miss start heard
-counted_whole heard body len start fact1 fact2 fact3 = grind (arith, missed_whole)
+counted_whole heard body len start is has holds = grind (arith, missed_whole)
 
 -- at the end of the characters as many are missing as of the bytes
 at_end_alike : (heard : List Character) (len place : ℕ)
@@ -134,7 +134,7 @@ pub counted_early : (heard : List Character) (len count start : ℕ) (result : O
     → len ≡ body_length (faultless_bytes heard) → count ≡ len - length heard → length (faultless_bytes heard) < len
     → MatchOption result (len ≤ length (faultless_bytes heard)) (EndsEarly heard len start (Missing count))
     → result ≡ body_miss start heard
-counted_early heard len count start result fact1 fact2 fact3 fact4 fact5 = grind (arith, at_end_alike, miss_in-counted)
+counted_early heard len count start result has long count_is few early = grind (arith, at_end_alike, miss_in-counted)
 
 -- characters of which one has fault bits hold fewer faultless bytes
 pub not_whole : (heard body : List Character) (len : ℕ) → body ≡ take len heard → (All (λ c. c.faults ≡ 0) body → ⊥)
@@ -152,7 +152,7 @@ pub begins_with_count : (heard : List Character) (first place count : ℕ) (one 
     → 1 ≤ length (faultless_bytes heard) → one ≡ get_or heard 0 one → first ≡ one.byte
     → place ≡ 2 + (1 + 4 * (first / 128)) + first / 32 % 4 → place + 1 ≤ length (faultless_bytes heard)
     → two ≡ get_or heard place two → count ≡ two.byte → BeginsWithCount heard first place count
-begins_with_count heard first place count one two fact1 fact2 fact3 fact4 fact5 fact6 fact7 = grind (arith, byte_at)
+begins_with_count heard first place count one two some one_is first_is place_is within two_is count_is = grind (arith, byte_at)
 
 pub good_count : (heard : List Character) (first place count : ℕ) → BeginsWithCount heard first place count → IsDelimiter first
     → ((first % 8 ≡ 2) ⊎ (2 ≤ count)) → HasGoodByteCount (faultless_bytes heard)
@@ -170,4 +170,4 @@ cut_front heard count end is = is ∙ ap length (faultless_bytes-take count hear
 -- which case a miss comes from
 pub faulty_or-is : (faulty : Option Character) (place : ℕ) (at_end miss : Miss) → faulty_or faulty place at_end ≡ miss
     → ((faulty ≡ None) × (at_end ≡ miss)) ⊎ ((c : Character) × (faulty ≡ Some c) × (miss ≡ Faulty place c.faults))
-faulty_or-is faulty place at_end miss fact1 = grind arith
+faulty_or-is faulty place at_end miss is = grind arith

@@ -25,7 +25,7 @@ use Rattle.hart_frame.specs.declared.heard.miss.Miss.TheVariants.{OnePreamble}
 -- a check byte that does not fit makes the parity odd
 odd : (bytes : List ℕ) → All (λ byte. byte < 256) bytes → HasCheckByte bytes → check_byte_in bytes ≢ fitting_check_byte bytes
     → HasEvenParity (take (body_length bytes) bytes) → ⊥
-odd bytes fact1 fact2 fact3 fact4 = grind (arith, common_steps, take_more, even-is, fits_at, All-take)
+odd bytes is has holds so = grind (arith, common_steps, take_more, even-is, fits_at, All-take)
 
 -- a miss has the fault with which the bytes are refused, but that of one preamble byte has none
 has_fault : (miss : Miss) → miss ≢ OnePreamble → (fault : FrameFault) × (fault_of miss ≡ Some fault)

@@ -39,7 +39,7 @@ StandsIn-at chars place from found stands start = grind (arith, append_assoc, dr
 pub StandsIn-hears : (chars tail : List Character) (place from : ℕ) (found : Found) (stands : StandsIn found chars from)
     → found.start ≡ place + 2 → tail ≡ drop place chars
     → BeginsWithHeard (take (length tail - 2) (drop 2 tail)) found.frame (length stands.body)
-StandsIn-hears chars tail place from found stands fact1 fact2 = grind (arith, common_steps, take_rest, StandsIn-at)
+StandsIn-hears chars tail place from found stands start is = grind (arith, common_steps, take_rest, StandsIn-at)
 
 -- what stands after a place stands in the list from that place on
 pub StandsIn-from : (found : Found) (chars : List Character) (place from : ℕ) → StandsIn found chars place → from + 2 ≤ found.start

@@ -21,5 +21,5 @@ IsSum-none = record { check = refl; faultless = λ zero k d below. absurd (omega
 pub IsSum-more : (chars : List Character) (sum : Sum) (c : Character) (more : Sum)
     → more ≡ record { check = bit_xor sum.check c.byte; faults = bit_or sum.faults c.faults } → IsSum chars sum
     → IsSum (chars ++ c ∷ []) more
-IsSum-more chars sum c more fact1 fact2 =
+IsSum-more chars sum c more next before =
     grind (arith, map-append, fold-append, le_or_l, le_or_r, All-push, get_or_append_left, length-append, get_or_at)

@@ -70,7 +70,7 @@ kept_past held chunk bytes new from place stop count end long past order is =
     ∙ ap (drop place) (sym (first_both held chunk stop count long (omega (arith, past, order))))
 
 pub drained_is : (state : State) → IsTrue (is_drained state) → state ≡ Drained
-drained_is state fact1 = grind arith
+drained_is state is = grind arith
 
 -- a drained buffer waits
 pub waits_drained : (b : Buffer) → IsSound b → b.state ≡ Drained → IsWaiting b

@@ -1,9 +1,8 @@
 -- What is known of bytes by how they begin.
-use Rattle.std.proofs.lemmas.Grind.{common_steps}
-use Rattle.std.proofs.Common.{◌≡◌, ◌≢◌, ℕ, zero, suc, ◌+◌, ◌<◌, ◌≤◌, ◌⊎◌, inl, inr, List, [], ◌∷◌, ◌++◌, length, take, drop, get_or, refl}
-use Rattle.std.proofs.Common.{sym, ap, ◌∙◌, arith, subst, append_assoc, length-append}
-use Rattle.std.proofs.lemmas.List.{append-nil, length-map, map-append, take-append-le, take-map, take_at, get_or_at, get_or-take}
-use Rattle.std.proofs.lemmas.List.{get_or_append_left, get_or-map, length-take, length-take-le, take-append-drop, take_all}
+use Rattle.std.proofs.Common.{◌≡◌, ◌≢◌, ℕ, zero, suc, ◌+◌, ◌<◌, ◌≤◌, inl, inr, List, [], ◌∷◌, ◌++◌, length, take, drop, get_or, refl}
+use Rattle.std.proofs.Common.{sym, arith, subst, append_assoc}
+use Rattle.std.proofs.lemmas.List.{append-nil, map-append, get_or-take}
+use Rattle.std.proofs.lemmas.List.{length-take, length-take-le, take-append-drop, take_all}
 use Rattle.std.proofs.lemmas.List.Elements.{All-from_get_or}
 use Rattle.std.proofs.Math.Seq.{take-append-add}
 use Rattle.hart_frame.specs.wire.FrameParts.{FrameParts}
@@ -19,12 +18,15 @@ use Rattle.hart_frame.specs.scan.Candidate.{NeverBecomeBody, NeverBegin}
 use Rattle.hart_frame.specs.declared.wire.fault.FrameFault.TheVariants.{BadCheck, Truncated}
 use Rattle.hart_frame.specs.declared.wire.layout.Layout.{Layout}
 use Rattle.hart_frame.specs.declared.scan.candidate.Candidate.TheVariants.{Never, Whole}
-use Rattle.hart_frame.proofs.lemmas.heard.Body.{BeginsWithBody-heard, bytes_of-faultless, faultless-one}
+use Rattle.hart_frame.proofs.lemmas.heard.Body.{BeginsWithBody-heard, bytes_of-faultless}
 use Rattle.hart_frame.proofs.lemmas.wire.Prefix.{Describes-prefix, HasCheckByte-prefix, refused_more}
 use Rattle.hart_frame.proofs.lemmas.heard.Place.{StandsIn-within, preamble}
 use Rattle.hart_frame.proofs.lemmas.wire.Parity.{check-even, even-check}
 use Rattle.hart_frame.proofs.lemmas.wire.Refusal.{not_refused}
 use Rattle.hart_frame.proofs.lemmas.scan.Scan.{skip_one}
+use Rattle.hart_frame.specs.heard.Character.{faultless_bytes}
+use Rattle.hart_frame.proofs.lemmas.heard.Front.{faultless_bytes-append, faultless_bytes-end}
+use Rattle.hart_frame.proofs.lemmas.wire.UnambiguousBodies.{BeginsWithBody-append}
 
 bytes_of_append : (xs : List ℕ) (tail : List Character) → bytes_of (faultless xs ++ tail) ≡ xs ++ bytes_of tail
 bytes_of_append xs tail = grind (arith, map-append, bytes_of-faultless)
@@ -43,10 +45,6 @@ nothing_never_body xs tail is f body rest is_body same =
 pub never_first : (x : ℕ) (xs : List ℕ) → x ≢ 255 → NeverBegin (x ∷ xs)
 never_first x xs other more f body rest is same = grind arith
 
--- nor do those whose second byte is another
-pub never_second : (x y : ℕ) (xs : List ℕ) → y ≢ 255 → NeverBegin (x ∷ y ∷ xs)
-never_second x y xs other more f body rest is same = grind arith
-
 -- nor do those that never become a body after two
 pub never_after : (x y : ℕ) (xs : List ℕ) → NeverBecomeBody xs → NeverBegin (x ∷ y ∷ xs)
 never_after x y xs never more f body rest is same = nothing_never_body xs more never f body rest is (cc)
@@ -58,88 +56,38 @@ never_more xs ys never more =
     let None : List Character → Type 0 = λ cs. BeginWithNone cs in
     subst None parts (never (faultless ys ++ more))
 
--- a body does not reach past the end
-nothing_short : (xs : List ℕ) (tail : List Character) → IsTruncated xs → (f : FrameParts) (body : List ℕ)
-    (rest : List Character) → IsBody f body → length body ≤ length xs → faultless xs ++ tail ≡ faultless body ++ rest → ⊥
-nothing_short xs tail truncated f body rest is fits same =
-    let n = length body in
-    let make = λ (byte : ℕ). let c : Character = record { byte = byte; faults = 0 } in c in
-    let long : length (faultless xs) ≡ length xs = length-map xs make in
-    let body_long : length (faultless body) ≡ n = length-map body make in
-    let prefixes : faultless (take n xs) ≡ faultless body =
-    sym (take-map make n xs) ∙ sym (take-append-le n (faultless xs) tail (omega (arith, long, fits)))
-    ∙ ap (take n) same ∙ take_at (faultless body) rest n body_long in
-    let bytes = faultless-one (take n xs) body prefixes in
-    let Is : List ℕ → Type 0 = λ ys. IsBody f ys in
-    not_refused xs f n Truncated (record { within = fits; body = subst Is (sym bytes) is }) truncated
-
-nothing_long : (xs : List ℕ) (tail : List Character) → NothingFollows tail → (body : List ℕ) (rest : List Character)
-    → length xs < length body → faultless xs ++ tail ≡ faultless body ++ rest → ⊥
-nothing_long xs tail ends body rest longer same =
-    let make = λ (byte : ℕ). let c : Character = record { byte = byte; faults = 0 } in c in
-    let long : length (faultless xs) ≡ length xs = length-map xs make in
-    let body_long : length (faultless body) ≡ length body = length-map body make in
-    let lengths = ap length same in
-    elim ends [
-      | inl nothing ↦ grind (arith, length-append)
-      | inr (c, cs, is, faulty) ↦
-          grind (
-            arith,
-            get_or_at (faultless xs) c cs c (length xs) long,
-            get_or_append_left (faultless body) rest c (length xs) (omega (arith, longer, body_long)),
-            get_or-map make body (length xs) 0 c longer,
-          )
-    ]
-
+-- what follows then has no bytes
 nothing_open_body : (xs : List ℕ) (tail : List Character) → IsTruncated xs → NothingFollows tail → (f : FrameParts)
     (body : List ℕ) (rest : List Character) → IsBody f body → faultless xs ++ tail ≡ faultless body ++ rest → ⊥
 nothing_open_body xs tail truncated ends f body rest is same =
-    let cases : (length body ≤ length xs) ⊎ (length xs < length body) = grind arith in
-    elim cases [
-      | inl fits ↦ nothing_short xs tail truncated f body rest is fits same
-      | inr longer ↦ nothing_long xs tail ends body rest longer same
-    ]
-
-no_tail : (tail more : List Character) → NothingFollows tail → tail ≡ preamble ∷ more → ⊥
-no_tail tail more ends same = grind (arith, preamble)
-
--- characters with these after them begin with no frame
-abbrev Before : List Character → List ℕ → Type 0
-Before tail xs = BeginWithNone (faultless xs ++ tail)
+    let bytes : xs ≡ body ++ faultless_bytes rest =
+    grind (arith, append-nil, faultless_bytes-append xs tail, faultless_bytes-append body rest, faultless_bytes-end) in
+    grind (arith, not_refused xs f (length body) Truncated, BeginsWithBody-append f body (faultless_bytes rest) is)
 
 -- what may begin a frame begins none if the end is reached
 pub nothing_open : (xs : List ℕ) (tail : List Character) → MayBegin xs → NothingFollows tail → BeginWithNone (faultless xs ++ tail)
-nothing_open xs tail may ends =
+nothing_open xs tail may ends f body rest is same =
     elim may [
-      | inl none ↦ subst (Before tail) (sym none) (λ f body rest is same. no_tail tail (preamble ∷ (faultless body ++ rest)) ends same)
-      | inr (inl one) ↦ subst (Before tail) (sym one) (λ f body rest is same. no_tail tail (faultless body ++ rest) ends (cc))
-      | inr (inr (after, two, truncated)) ↦
-          subst (Before tail) (sym two) (λ f body rest is same. nothing_open_body after tail truncated ends f body rest is (cc))
+      | inl none ↦ grind (arith, preamble)
+      | inr (inl one) ↦ grind (arith, preamble)
+      | inr (inr (after, two, truncated)) ↦ nothing_open_body after tail truncated ends f body rest is (grind arith)
     ]
-
-pub undecided_nothing : IsUndecided []
-undecided_nothing = inl (λ found stands. let within = StandsIn-within found [] 0 stands in omega (arith, within))
 
 -- what may begin a frame is undecided
 pub undecided_open : (xs : List ℕ) → MayBegin xs → IsUndecided (faultless xs)
 undecided_open xs may =
-    let Undecided : List ℕ → Type 0 = λ ys. IsUndecided (faultless ys) in
     elim may [
-      | inl none ↦ subst Undecided (sym none) undecided_nothing
-      | inr (inl one) ↦
-          subst Undecided (sym one) (inl (λ found stands.
-          let within = StandsIn-within found (faultless (255 ∷ [])) 0 stands in omega (arith, within)))
-      | inr (inr (after, two, truncated)) ↦
-          subst Undecided (sym two) (inr (
-            2,
-            record { prefix = []; bytes = after; split = refl; start = refl; truncated = truncated },
-            λ found stands.
-                let held : List Character = faultless (255 ∷ 255 ∷ after) in
-                let nothing = nothing_open (255 ∷ 255 ∷ after) [] (inr (inr (after, refl, truncated))) (inl refl) in
-                let None : List Character → Type 0 = λ cs. BeginWithNone cs in
-                let later = skip_one held 0 (subst None (append-nil held) nothing) found stands in
-                grind (arith, common_steps, StandsIn-within),
-          ))
+      | inl none ↦ inl (λ found stands. grind (arith, StandsIn-within found (faultless xs) 0 stands))
+      | inr (inl one) ↦ inl (λ found stands. grind (arith, StandsIn-within found (faultless xs) 0 stands))
+      | inr (inr (after, two, truncated)) ↦ inr (
+        2,
+        record { prefix = []; bytes = after; split = grind arith; start = refl; truncated = truncated },
+        λ found stands.
+            let nothing = nothing_open xs [] (inr (inr (after, two, truncated))) (inl refl) in
+            let None : List Character → Type 0 = λ cs. BeginWithNone cs in
+            let later = skip_one (faultless xs) 0 (subst None (append-nil (faultless xs)) nothing) found stands in
+            grind (arith, StandsIn-within found (faultless xs) 1 later),
+      )
     ]
 
 -- fewer bytes than go up to a byte count end too early
@@ -204,18 +152,11 @@ after_whole layout xs (within, whole, fewer) =
 
 -- bytes of which the first two are preamble bytes
 pub two_first : (xs : List ℕ) → 2 ≤ length xs → get_or xs 0 0 ≡ 255 → get_or xs 1 0 ≡ 255 → xs ≡ 255 ∷ 255 ∷ drop 2 xs
-two_first xs fact1 fact2 fact3 = grind arith
+two_first xs long first second = grind arith
 
 -- bytes of which the second is another
 pub second_never : (xs : List ℕ) → 2 ≤ length xs → get_or xs 0 0 ≡ 255 → get_or xs 1 0 ≢ 255 → IsCandidate xs (Never 2)
-second_never [] long first other = absurd (omega (arith, long))
-second_never (x ∷ []) long first other = absurd (omega (arith, long))
-second_never (x ∷ y ∷ xs) long first other = (
-  long,
-  never_second x y [] other,
-  λ fewer below.
-      let cases : (fewer ≡ 0) ⊎ (fewer ≡ 1) = grind arith in grind (arith, common_steps),
-)
+second_never xs long first other = (long, grind (arith), grind arith)
 
 pub whole_cut : (layout : Layout) (xs : List ℕ) (len check : ℕ) → len ≡ layout_length layout → len ≤ length xs → IsCut layout xs len
     → ((i : ℕ) → get_or xs i 0 < 256) → IsCheckByte (take len xs) check → check ≡ 0 → IsBodyCandidate xs (Whole layout)

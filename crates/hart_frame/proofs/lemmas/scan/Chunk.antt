@@ -59,7 +59,7 @@ take_part chunk n r within = grind (arith, take-take, take-add)
 -- a part of the rest of a chunk is a part of the chunk
 rest_within : (b c : Scan) (chunk : List Character) (n r : ℕ) → n ≤ length chunk → HearsPart b c (slice_range chunk n (length chunk)) r
     → n + r ≤ length chunk
-rest_within b c chunk n r fact1 fact2 = grind (arith, length-take-le, length-drop)
+rest_within b c chunk n r inside part = grind (arith, length-take-le, length-drop)
 
 -- so many characters of a chunk were heard, and nothing was decided before
 pub record HeardSo (a c : Scan) (chunk : List Character) (n : ℕ) : Type 0 where
@@ -114,11 +114,11 @@ seen_one old new character (Some layout) going (moves, busy, whole, finished) =
 pub peeked : (old : Scan) (mid new : Buffer) (character : Character) (seen : Option Layout) → scan_of mid ≡ hearing old (character ∷ [])
     → mid.finished ≡ false → MatchOption seen (GivesNothing (scan_of mid) (scan_of new)) (HoldsWhole mid new)
     → Peeked old new character seen
-peeked old mid new character seen fact1 fact2 fact3 = grind arith
+peeked old mid new character seen heard going nothing = grind arith
 
 pub first_one : (chunk : List Character) (character : Character) → 0 < length chunk → character ≡ get_or chunk 0 character
     → take 1 chunk ≡ character ∷ []
-first_one chunk character fact1 fact2 = grind arith
+first_one chunk character some is = grind arith
 
 -- so a first part of a chunk is heard
 pub hears_first : (old : Scan) (new : Buffer) (chunk : List Character) (character : Character) (seen : Option Layout) → old.finished ≡ false
@@ -126,19 +126,9 @@ pub hears_first : (old : Scan) (new : Buffer) (chunk : List Character) (characte
     → HearsPart old (scan_of new) chunk 1
 hears_first old new chunk character seen going undecided first some peeked =
     let is = seen_one old new character seen going peeked in
-    let Moves : List Character → Type 0 = λ cs. MovesPast (hearing old cs) (scan_of new) [] in
-    let Undecided : List Character → Type 0 = λ cs. IsUndecided cs in
-    record {
-      within = omega (arith, some);
-      some = omega arith;
-      moves = subst Moves (sym first) is.0;
-      before = λ fewer below.
-          let none : fewer ≡ 0 = omega (arith, below) in
-          subst (λ (n : ℕ). IsUndecided (old.held ++ take n chunk)) (sym none)
-          (subst Undecided (sym (append-nil old.held)) undecided);
-      stops = is.1;
-      finished = is.2;
-    }
+    let before : (fewer : ℕ) → fewer < 1 → IsUndecided (old.held ++ take fewer chunk) = λ fewer below.
+    let none : fewer ≡ 0 = omega (arith, below) in rw (none, append-nil) undecided in
+    grind arith
 
 -- a loop over the parts of a chunk: what it has heard, and that nothing is decided of it
 pub record IsHearing (old now : Buffer) (chunk : List Character) (taken : ℕ) : Type 0 where
@@ -184,16 +174,10 @@ part_heard old new chunk part n count is within some hears =
     let size = ap length is ∙ length-take-le n chunk within in
     let few : count ≤ n = omega (arith, hears.within, size) in
     let first : (k : ℕ) → k ≤ n → take k part ≡ take k chunk = λ k less. ap (take k) is ∙ take-take k n chunk less in
-    let Moves : List Character → Type 0 = λ cs. MovesPast (hearing old cs) new [] in
-    let Undecided : List Character → Type 0 = λ cs. IsUndecided (old.held ++ cs) in
-    record {
-      within = omega (arith, few, within);
-      some = hears.some (omega (arith, size, some));
-      moves = subst Moves (first count few) hears.moves;
-      before = λ fewer below. subst Undecided (first fewer (omega (arith, below, few))) (hears.before fewer below);
-      stops = elim hears.stops [ inl waits ↦ inl (waits.0, waits.1, refl) | inr holds ↦ inr holds ];
-      finished = hears.finished;
-    }
+    let before : (fewer : ℕ) → fewer < count → IsUndecided (old.held ++ take fewer chunk) =
+    λ fewer below. rw (← first fewer (omega (arith, below, few))) (hears.before fewer below) in
+    let moves : MovesPast (hearing old (take count chunk)) new [] = rw (first count few) at hears.moves in
+    grind arith
 
 -- of bytes as of their characters
 pub bytes_heard : (old new : Scan) (chunk : List ℕ) (n count : ℕ) → n ≤ length chunk → 0 < n

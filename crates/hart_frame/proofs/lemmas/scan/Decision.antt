@@ -28,17 +28,13 @@ use Rattle.hart_frame.proofs.lemmas.scan.Undecided.{nothing_before}
 -- after what is held nothing follows that a frame can have, if it is ended
 ends_by : (o : Option Character) (finished : Bool) (more : List Character) → IfSome o (λ c. c.faults ≢ 0)
     → (finished ≡ true) ⊎ (o ≢ None) → (IsTrue finished → more ≡ []) → NothingFollows (option_to_list o ++ more)
-ends_by o finished more fact1 fact2 fact3 = grind arith
-
--- an end that is not reached
-pub not_ended : (b : Buffer) → (IsEnded b → ⊥) → (b.finished ≡ false) × (b.damaged ≡ None)
-not_ended b going = grind arith
+ends_by o finished more faulty ended whole = grind arith
 
 -- no frame is found in what is held
 held_stands : (b : Buffer) (ended : Bool) (place : ℕ) (layout : Option Layout) → (IsEnded b → IsTrue ended)
     → MatchOption layout (IsLeftOpen (held_bytes b) ended place) (λ l. IsWhole l (drop place (held_bytes b)))
     → MatchOption layout (IsHeldOpen b place) (λ l. IsWhole l (drop place (held_bytes b)))
-held_stands b ended place layout fact1 fact2 = grind (arith, not_ended)
+held_stands b ended place layout over left = grind (arith)
 
 -- what is found in what is held, searched to its end
 pub held_searched : (b : Buffer) (ended : Bool) (found : Sighting) → IsSound b → (IsTrue ended ↔ IsEnded b)

@@ -55,12 +55,12 @@ Holds old new part found layout = MatchOption layout
 holds_kept : (old new : Buffer) (part : List ℕ) (found : Sighting) → IsKept old new part found → (layout : Option Layout)
     → MatchOption layout (IsOpenAll (held_bytes old ++ part) found)
     (λ l. IsWhole l (drop found.place (take found.decided (held_bytes old ++ part)))) → Holds old new part found layout
-holds_kept old new part found fact1 layout fact2 = grind (arith, take-length, length-drop, length-append)
+holds_kept old new part found kept layout whole = grind (arith, take-length, length-drop, length-append)
 
 -- so it is what its state means
 meant_kept : (old new : Buffer) (part : List ℕ) (found : Sighting) → IsKept old new part found → (layout : Option Layout)
     → Holds old new part found layout → IsMeant new (state_of layout)
-meant_kept old new part found fact1 layout fact2 = grind arith
+meant_kept old new part found kept layout whole = grind arith
 
 pub sound_kept : (old new : Buffer) (part : List ℕ) (found : Sighting) → IsStored new → IsKept old new part found → IsSound new
 sound_kept old new part found stored kept =

@@ -92,44 +92,31 @@ pub searching_never : (xs : List ℕ) (from seen place decided count more : ℕ)
     → (more ≤ decided) ⊎ (more ≤ place + count) → IsSearching xs from seen (place + 1) more
 searching_never xs from seen place decided count more searching order inside never short least above either =
     let room = length-drop place xs in
-    let fits : more ≤ length xs = grind arith in
-    let few : more ≤ place + 1 + 269 = grind arith in
-    record {
-      after = omega (arith, searching.after);
-      place_within = omega (arith, inside);
-      late = omega (arith, searching.late, least);
-      within = fits;
-      few = few;
-      none = λ n here later all since below there.
-          let cases : (here < place) ⊎ (here ≡ place) = grind arith in
-          elim cases [
-            | inl early ↦ searching.none n here (omega (arith, later, least)) all since early there
-            | inr same ↦
-                let rest : drop here (take n xs) ≡ take count (drop place xs) ++ take (n - place - count) (drop count (drop place xs)) =
-                grind (arith, common_steps, drop_take, take_more) in
-                subst NeverBegin (sym rest) (never_more (take count (drop place xs)) _ never.1)
-          ];
-      before = λ fewer late early.
-          let cases : (fewer < decided) ⊎ (decided ≤ fewer) = grind arith in
-          elim cases [
-            | inl before ↦ searching.before fewer late before
-            | inr not ↦
-                still_open xs from seen place decided fewer searching not (omega (arith, early, fits)) (omega (arith, order, late))
-                (λ reached. grind arith)
-          ];
-    }
+    let none : (n here : ℕ) → more ≤ n → n ≤ length xs → from ≤ here → here < place + 1 → here < n → NeverBegin (drop here (take n xs)) =
+    λ n here later all since below there.
+    let cases : (here < place) ⊎ (here ≡ place) = grind arith in
+    elim cases [
+      | inl early ↦ searching.none n here (omega (arith, later, least)) all since early there
+      | inr same ↦
+          let rest : drop here (take n xs) ≡ take count (drop place xs) ++ take (n - place - count) (drop count (drop place xs)) =
+          grind (arith, common_steps, drop_take, take_more) in
+          rw rest (never_more (take count (drop place xs)) _ never.1)
+    ] in
+    let before : IsOpenBefore xs from seen more = λ fewer late early.
+    let cases : (fewer < decided) ⊎ (decided ≤ fewer) = grind arith in
+    elim cases [
+      | inl before ↦ searching.before fewer late before
+      | inr not ↦ still_open xs from seen place decided fewer searching not (grind arith) (grind arith) (λ reached. grind arith)
+    ] in
+    grind arith
 
 -- three preamble bytes begin no frame, and two may
 three_never : (xs : List ℕ) (here : ℕ) → HasThree xs here → IsCandidate (drop here xs) (Never 3)
 three_never xs here (within, first, second, third) =
-    let a = drop_more xs here 0 (omega (arith, within)) in
-    let b = drop_more xs (here + 1) 0 (omega (arith, within)) in
-    let d = drop_more xs (here + 2) 0 (omega (arith, within)) in
-    let rest = drop (here + 3) xs in
-    let parts : drop here xs ≡ 255 ∷ 255 ∷ 255 ∷ rest = grind arith in
-    let Is : List ℕ → Type 0 = λ ys. IsCandidate ys (Never 3) in
+    let parts : drop here xs ≡ 255 ∷ 255 ∷ 255 ∷ drop (here + 3) xs =
+    grind (arith, drop_more xs here 0, drop_more xs (here + 1) 0, drop_more xs (here + 2) 0) in
     let never : NeverBecomeBody (255 ∷ []) = record { fault = BadDelimiter; refused = grind arith; decided = λ same. absurd cc } in
-    subst Is (sym parts) (omega arith, never_after 255 255 (255 ∷ []) never, may_begin_before 1 (255 ∷ rest) (grind arith))
+    rw parts (omega arith, never_after 255 255 (255 ∷ []) never, may_begin_before 1 (255 ∷ drop (here + 3) xs) (grind arith))
 
 -- a search has come to a place, and only so many bytes more are needed for it
 pub record HasPassed (xs : List ℕ) (from seen place decided : ℕ) : Type 0 where
@@ -173,14 +160,10 @@ searching_next xs from seen place decided start searching order next =
     let there : place + (start - place) ≡ start = omega (arith, next.after) in
     grind (arith, searching_run)
 
--- what ends too early ends too early if it ends earlier
-truncated_take : (xs : List ℕ) (n : ℕ) → n ≤ length xs → IsTruncated xs → IsTruncated (take n xs)
-truncated_take xs n within truncated = grind (arith, length-take-le, truncated_count, truncated_check)
-
 may_take_two : (xs : List ℕ) (n : ℕ) → n ≤ length xs + 2 → IsTruncated xs → MayBegin (take n (255 ∷ 255 ∷ xs))
 may_take_two xs zero within truncated = inl refl
 may_take_two xs (suc zero) within truncated = inr (inl refl)
-may_take_two xs (suc (suc n)) within truncated = inr (inr (take n xs, refl, truncated_take xs n (omega (arith, within)) truncated))
+may_take_two xs (suc (suc n)) within truncated = grind (arith, length-take-le, truncated_count, truncated_check)
 
 -- the first of bytes that may begin a frame may
 pub may_take : (xs : List ℕ) (n : ℕ) → n ≤ length xs → MayBegin xs → MayBegin (take n xs)
@@ -190,13 +173,13 @@ may_take xs n within may = grind (arith, may_take_two)
 all_open : (xs : List ℕ) (from seen place decided : ℕ) → IsSearching xs from seen place decided → from ≤ seen → MayBegin (drop place xs)
     → IsOpenBefore xs from seen (length xs)
 all_open xs from seen place decided searching order may fewer late early =
-    let cases : (fewer < decided) ⊎ (decided ≤ fewer) = grind arith in
-    elim cases [
-      | inl before ↦ searching.before fewer late before
-      | inr not ↦
-          still_open xs from seen place decided fewer searching not (omega (arith, early)) (omega (arith, order, late))
-          (λ reached. may_take (drop place xs) (fewer - place) (omega (arith, length-drop place xs, early, reached)) may)
-    ]
+    grind (
+      arith,
+      searching.before fewer late,
+      still_open xs from seen place decided fewer searching,
+      may_take (drop place xs) (fewer - place),
+      length-drop place xs,
+    )
 
 -- the search ends where the list ends, or where a frame may begin that has more bytes
 pub searched_open : (xs : List ℕ) (from seen place decided : ℕ) → IsSearching xs from seen place decided → from ≤ seen
@@ -220,10 +203,12 @@ whole_take : (layout : Layout) (xs : List ℕ) (n : ℕ) → (whole : IsWhole la
     → IsWhole layout (take n xs)
 whole_take layout xs n whole long within =
     let front : List ℕ = 255 ∷ 255 ∷ whole.body in
-    let count = length front in
-    let size : count ≤ n = omega (arith, long, whole.whole.exact) in
-    let parts : take n (front ++ whole.rest) ≡ front ++ take (n - count) whole.rest = take_both front whole.rest n size in
-    record { body = whole.body; rest = take (n - count) whole.rest; parts = ap (take n) whole.parts ∙ parts; whole = whole.whole }
+    record {
+      body = whole.body;
+      rest = take (n - length front) whole.rest;
+      parts = grind (arith, take_both front whole.rest n);
+      whole = whole.whole;
+    }
 
 -- and stays one if more bytes follow
 pub whole_append : (layout : Layout) (xs ys : List ℕ) (place : ℕ) → place ≤ length xs → IsWhole layout (drop place xs)

@@ -87,4 +87,4 @@ history_held past scan given history =
 pub history_rest : OneList → (past more : List Character) (scan : Scan) (given later : List Found) → IsHistory past scan given
     → (IsTrue scan.finished → more ≡ []) → AreFrames (drop scan.first past ++ more) 0 later
     → AreFrames (past ++ more) 0 (given ++ map (moved scan.first) later)
-history_rest fact1 past more scan given later fact2 fact3 fact4 = grind (arith, history_length, drop-append-le, streamed, rest_frames)
+history_rest is past more scan given later has holds so = grind (arith, history_length, drop-append-le, streamed, rest_frames)

@@ -83,7 +83,7 @@ held_kind byte delimiter = grind arith
 
 pub long_enough : (kind : FrameKind) (payload : List ℕ) (byte count : ℕ) → kind_code kind ≡ byte % 8 → length payload ≡ count
     → (byte % 8 ≡ 2) ⊎ (2 ≤ count) → IsLongEnough kind payload
-long_enough kind payload byte count fact1 fact2 fact3 = grind arith
+long_enough kind payload byte count is long good = grind arith
 
 -- the first so many bytes fit
 abbrev pub Fit : List ℕ → ℕ → Type 0

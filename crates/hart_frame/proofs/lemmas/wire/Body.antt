@@ -12,7 +12,7 @@ use Rattle.hart_frame.proofs.lemmas.wire.Parity.{HasEvenParity-push, even-check}
 -- a check byte after the checked part makes a body
 pub IsBody-push : (frame : FrameParts) (checked : List ℕ) (check : ℕ) → IsCheckedPart frame checked
     → All (λ byte. byte < 256) checked → IsCheckByte checked check → IsBody frame (checked ++ check ∷ [])
-IsBody-push frame checked check fact1 fact2 fact3 = grind (arith, common_steps, All-push, HasEvenParity-push)
+IsBody-push frame checked check part fits check_byte = grind (arith, common_steps, All-push, HasEvenParity-push)
 
 -- what the check byte covers, and one more byte with which the check byte of all is 0, is a body that begins the bytes
 pub BeginsWithBody-prefix : (bytes : List ℕ) (frame : FrameParts) (len : ℕ) → 1 ≤ len → len ≤ length bytes

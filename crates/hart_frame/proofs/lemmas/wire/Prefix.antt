@@ -31,7 +31,7 @@ HasCheckByte-more xs ys has = grind (arith, common_steps, HasGoodByteCount-more,
 
 -- what is refused, and not for its end, is refused whatever follows
 pub refused_more : (xs ys : List ℕ) (fault : FrameFault) → fault ≢ Truncated → IsRefusedWith xs fault → IsRefusedWith (xs ++ ys) fault
-refused_more xs ys fault fact1 fact2 =
+refused_more xs ys fault decided refused =
     grind (arith, length-append, delimiter_more, HasByteCount-more, count_more, length_more, take-append-le, HasCheckByte-more)
 
 -- what a list says, its prefix says

@@ -61,4 +61,4 @@ only law bytes (Err fault) accepts refused f len begins = absurd (not_refused by
 
 -- bytes are refused with one fault at most
 pub refused_once : (bytes : List ℕ) (fault other : FrameFault) → IsRefusedWith bytes fault → IsRefusedWith bytes other → fault ≡ other
-refused_once bytes fault other fact1 fact2 = grind arith
+refused_once bytes fault other p q = grind arith

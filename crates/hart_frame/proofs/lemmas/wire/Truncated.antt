@@ -115,7 +115,7 @@ CanBecomeBody-truncated bytes fit truncated = grind (arith, CanBecomeBody-none, 
 -- the byte count of a frame is none that is refused
 enough : (kind : FrameKind) (payload : List ℕ) (byte count : ℕ) → byte % 8 ≡ kind_code kind → count ≡ length payload
     → IsLongEnough kind payload → (byte % 8 ≡ 2) ⊎ (2 ≤ count)
-enough kind payload byte count fact1 fact2 fact3 = grind arith
+enough kind payload byte count low is long = grind arith
 
 pub IsTruncated-becomes : (bytes rest : List ℕ) (f : FrameParts) (len : ℕ) → BeginsWithBody (bytes ++ rest) f len
     → length bytes < len → IsTruncated bytes

@@ -47,7 +47,7 @@ address_type-lt a = grind arith
 -- the address type says how long the address bytes are
 pub length-address : (m : MasterId) (b : Bool) (a : Address) (bytes : List ℕ) → IsAddressBytes m b a bytes
     → length bytes ≡ 1 + 4 * address_type a
-length-address m b a bytes fact1 = grind arith
+length-address m b a bytes is = grind arith
 
 -- the same kind, address type and number of expansion bytes
 record SameDelimiter (f g : FrameParts) : Type 0 where
