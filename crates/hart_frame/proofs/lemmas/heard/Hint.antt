@@ -2,7 +2,7 @@
 use Rattle.std.proofs.lemmas.Grind.{common_steps}
 use Rattle.std.proofs.Common.{◌≡◌, ◌≢◌, ℕ, zero, suc, fold, bit_xor, ◌+◌, ◌-◌, ◌<◌, ◌≤◌, ◌⊎◌, inl, inr, List, [], ◌∷◌, ◌++◌, length, take}
 use Rattle.std.proofs.Common.{drop, get_or, set}
-use Rattle.std.proofs.Common.{true, Option, Some, refl, sym, ap, ◌∙◌, arith, append_assoc, length-append}
+use Rattle.std.proofs.Common.{true, Some, refl, sym, ap, ◌∙◌, arith, append_assoc, length-append}
 use Rattle.std.specs.List.{All, insert, slice_get}
 use Rattle.std.specs.Option.{IsSome, is_some}
 use Rattle.std.proofs.lemmas.List.{append-nil, drop_at, drop_more, get_or-set_same, get_or-take}
@@ -16,7 +16,7 @@ use Rattle.hart_frame.specs.wire.Layout.{body_length, byte_count_place}
 use Rattle.hart_frame.specs.wire.Parity.{IsCheckByte}
 use Rattle.hart_frame.specs.wire.Refusal.{HasCheckByte, HasGoodByteCount}
 use Rattle.hart_frame.specs.heard.Character.{Character, faultless, faultless_bytes}
-use Rattle.hart_frame.specs.heard.Miss.{HasFrameAt, HasFrameUpTo, body_miss, check_byte_in, fitting_check_byte, miss_in}
+use Rattle.hart_frame.specs.heard.Miss.{HasFrameAt, HasFrameUpTo, body_miss, check_byte_in, fitting_check_byte}
 use Rattle.hart_frame.specs.heard.InTheWay.{bytes_from}
 use Rattle.hart_frame.specs.heard.Miss.{follows_one_preamble, miss_of}
 use Rattle.hart_frame.specs.heard.Place.{StandsIn}
@@ -25,7 +25,7 @@ use Rattle.hart_frame.specs.declared.heard.found.Found.{Found}
 use Rattle.hart_frame.specs.declared.heard.miss.Miss.TheVariants.{BadCheck, Faulty, Missing, OnePreamble}
 use Rattle.hart_frame.proofs.lemmas.heard.Front.{after_faultless, faultless_fit, length-faultless_bytes, nothing_follows}
 use Rattle.hart_frame.proofs.lemmas.heard.Front.{take_heard}
-use Rattle.hart_frame.proofs.lemmas.heard.Miss.{Told, told_of}
+use Rattle.hart_frame.proofs.lemmas.heard.Miss.{told_of}
 use Rattle.hart_frame.proofs.lemmas.heard.Miss.{other_check}
 use Rattle.hart_frame.proofs.lemmas.heard.Missed.{miss_of-some, miss_of-start, not_at_front, one_before_place}
 use Rattle.hart_frame.proofs.lemmas.heard.Place.{preamble}
@@ -103,14 +103,9 @@ heard_body heard fit has same =
     record { frame = found.frame; body = is.body; rest = is.rest; is_body = is.is_body; parts = is.split }
 
 -- what is heard begins with a body, or misses something of it
-body_or_miss : (heard : List Character) (start : ℕ) (faulty : Option Character) (end : ℕ) → All (λ c. c.byte < 256) heard
-    → Told (faultless_bytes heard) faulty end start
-    → HeardBody heard ⊎ (is_some (miss_in (faultless_bytes heard) faulty end start) ≡ true)
-body_or_miss heard start faulty end fit is = grind (arith, heard_body, other_check)
-
 pub heard_or_miss : (heard : List Character) (start : ℕ) → All (λ c. c.byte < 256) heard
     → HeardBody heard ⊎ (is_some (body_miss start heard) ≡ true)
-heard_or_miss heard start fit = body_or_miss heard start _ _ fit (told_of heard start)
+heard_or_miss heard start fit = grind (arith, told_of heard start, heard_body heard fit, other_check)
 
 pub never_one_preamble : (start : ℕ) (heard : List Character) → body_miss start heard ≡ Some OnePreamble → ⊥
 never_one_preamble start heard miss = grind (arith, nat_tests)
