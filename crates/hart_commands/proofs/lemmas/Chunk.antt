@@ -1,4 +1,5 @@
 -- The chunks of a list, n items each.
+use Rattle.std.proofs.lemmas.Grind.{common_steps}
 use Rattle.std.proofs.Common.{◌≡◌, ℕ, zero, suc, ◌+◌, ◌*◌, ◌≤◌, List, take, drop, length, map, refl, arith}
 use Rattle.std.proofs.Common.{length-take-le, length-drop}
 use Rattle.std.specs.List.{flat_map}
@@ -15,12 +16,7 @@ chunks-bytes n (suc count) of bytes_of back bytes long =
     let more : suc count * n ≡ n + count * n = grind arith in
     let first : n ≤ length bytes = grind arith in
     let others : count * n ≤ length (drop n bytes) = (let gone = length-drop n bytes in grind arith) in
-    rw (
-      more,
-      take-add n (count * n) bytes,
-      back (take n bytes) (length-take-le n bytes first),
-      chunks-bytes n count of bytes_of back (drop n bytes) others,
-    ) refl
+    grind (arith, common_steps, take-add, length-take-le, chunks-bytes n count of bytes_of back (drop n bytes) others)
 
 -- The front of a list has its chunks.
 pub chunks-take : (n count : ℕ) (bytes : List ℕ) → count * n ≤ length bytes
@@ -30,6 +26,4 @@ chunks-take n (suc count) bytes long =
     let more : suc count * n ≡ n + count * n = grind arith in
     let first : n ≤ length bytes = grind arith in
     let others : count * n ≤ length (drop n bytes) = (let gone = length-drop n bytes in grind arith) in
-    let front : take n (take (n + count * n) bytes) ≡ take n bytes =
-    rw (take-add n (count * n) bytes) (take_at (take n bytes) (take (count * n) (drop n bytes)) n (length-take-le n bytes first)) in
-    rw (more, front, drop-take n (count * n) bytes, chunks-take n count (drop n bytes) others) refl
+    grind (arith, common_steps, take-add, take_at, length-take-le, drop-take, chunks-take n count (drop n bytes) others)

@@ -1,6 +1,7 @@
 -- The laws of requests, of fields, of registers and of overwrites, for the proofs of the crates above.
-use Rattle.std.proofs.Common.{◌≡◌, ◌≢◌, ℕ, AllPairs, Contains, IsSome, IsTrue, List, Ok, Some, length, take, refl, ap, ◌∙◌, lit<, rules}
-use Rattle.std.specs.List.{concat}
+use Rattle.std.proofs.Common.{arith}
+use Rattle.std.proofs.lemmas.Grind.{common_steps}
+use Rattle.std.proofs.Common.{◌≡◌, ◌≢◌, ℕ, AllPairs, Contains, IsSome, IsTrue, List, Ok, Some, length, take, refl, lit<, rules}
 use Rattle.hart_commands.specs.Fields.{bytes_of, fields_of, reply_rows, request_rows}
 use Rattle.hart_commands.specs.ReplyData.{IsReply, content_bytes, reply_payload, reply_reading}
 use Rattle.hart_commands.specs.RequestCode.{is_write}
@@ -32,15 +33,11 @@ all_registers_are_listed_once-once = search rules
 
 pub fields_are_all_of_the_data-request : (request : Request) → IsRequest request
     → bytes_of (fields_of (request_rows (command_of request)) (request_data request)) ≡ request_data request
-fields_are_all_of_the_data-request request is =
-    bytes-each (fields_of (request_rows (command_of request)) (request_data request))
-    ∙ ap concat (parts_of_request request is) ∙ request-parts request
+fields_are_all_of_the_data-request request is = grind (arith, common_steps, bytes-each, parts_of_request, request-parts)
 
 pub fields_are_all_of_the_data-reply : (reply : Reply) → IsReply reply
     → bytes_of (fields_of (reply_rows reply.command) (content_bytes reply.content)) ≡ content_bytes reply.content
-fields_are_all_of_the_data-reply reply is =
-    bytes-each (fields_of (reply_rows reply.command) (content_bytes reply.content))
-    ∙ ap concat (parts_of_reply reply is) ∙ content-parts reply.content
+fields_are_all_of_the_data-reply reply is = grind (arith, common_steps, bytes-each, parts_of_reply, content-parts)
 
 pub overwrites_are_valid : (write : Request) (old : Contents) → IsRequest write → AreValid old → AreValid (overwritten write old)
 overwrites_are_valid write old made valid = search rules

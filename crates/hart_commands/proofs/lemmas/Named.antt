@@ -1,6 +1,7 @@
 -- Every command that is known has a name of its own.
-use Rattle.std.proofs.Common.{◌≡◌, rules, ℕ, List, [], ◌∷◌, map, Option, Some, None, IfSome, IsSome, refl, ap}
-use Rattle.std.proofs.Common.{◌∙◌, sym, subst, arith, Bool, true, false, eqb, is_some}
+use Rattle.std.proofs.lemmas.Grind.{common_steps}
+use Rattle.std.proofs.Common.{◌≡◌, rules, ℕ, List, [], ◌∷◌, map, Option, Some, None, IfSome, IsSome, refl}
+use Rattle.std.proofs.Common.{◌∙◌, sym, arith, Bool, true, false, eqb, is_some}
 use Rattle.std.specs.Prelude.{if◌then◌else◌, bytes_eq}
 use Rattle.std.specs.List.{AllByRecursion, find}
 use Rattle.std.specs.Option.{option_map}
@@ -22,8 +23,7 @@ same (row ∷ named) [] command e = cc
 same (row ∷ named) (other ∷ others) command e =
     let number : row.number ≡ other.number = cc in
     let rest : map (λ row. row.number) named ≡ map (λ row. row.number) others = cc in
-    let one : eqb row.number command ≡ eqb command other.number = rw number (eqb_sym other.number command) in
-    go (eqb row.number command) (eqb command other.number) one (same named others command rest)
+    grind (arith, common_steps, eqb_sym, same named others command rest)
   where
     go : (b d : Bool) → b ≡ d
         → is_some (option_map (λ row. row.name) (find (λ row. eqb row.number command) named)) ≡ is_some (row_in others command)
@@ -65,8 +65,7 @@ found P (row ∷ others) command all = go (eqb row.number command) refl (found P
 number-name : (command : ℕ) (name : List ℕ) (row : Option CommandRows) → IfSome row (λ row. (row.number ≡ command) × IsNamed row)
     → option_map (λ row. row.name) row ≡ Some name → number_of name ≡ Some command
 number-name command name None is e = cc
-number-name command name (Some row) is e =
-    let same : row.name ≡ name = cc in subst (λ (n : List ℕ). number_of n ≡ Some command) same (is.1 ∙ ap (λ n. Some n) is.0)
+number-name command name (Some row) is e = grind (arith, common_steps, same)
 
 pub different : (command other : ℕ) → IsSome (command_name command) → command_name command ≡ command_name other → command ≡ other
 different command other some e = go (command_name command) refl some

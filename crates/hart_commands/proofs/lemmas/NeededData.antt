@@ -1,6 +1,7 @@
 -- Which data are too few for a command.
+use Rattle.std.proofs.lemmas.Grind.{common_steps}
 use Rattle.std.proofs.Common.{◌≡◌, ◌≢◌, ◌↔◌, ℕ, ◌<◌, ◌≤◌, ◌⊎◌, inl, inr, List, [], ◌∷◌, ◌++◌, length, Option, Some, None, Err, IfSome, refl}
-use Rattle.std.proofs.Common.{subst, arith, false, eqb, length-append}
+use Rattle.std.proofs.Common.{arith, false, eqb, length-append}
 use Rattle.std.specs.List.{AllByRecursion}
 use Rattle.std.specs.Option.{option_map_or}
 use Rattle.std.proofs.lemmas.Bool.{cases_lt}
@@ -75,8 +76,7 @@ exactly command bytes = go (command_row command) (found NeedsOwn commands comman
     go (Some row) own =
         let P : ℕ → Type 0 =
         λ n. (asked row.request bytes ≡ Err 5)
-        ↔ ((length bytes < needed_as row.number row.request) × (n ≡ 38 → 0 < length bytes)) in
-        subst P own.0 (needs row.number row.request own.1 bytes)
+        ↔ ((length bytes < needed_as row.number row.request) × (n ≡ 38 → 0 < length bytes)) in grind (arith, common_steps, needs)
 
 -- data of at least as many bytes as are needed are never refused with it
 pub enough : (command : ℕ) (bytes : List ℕ) → needed_data command ≤ length bytes → request_reading command bytes ≢ Err 5
@@ -85,7 +85,4 @@ enough command bytes all e = let few : length bytes < needed_data command = ((ex
 -- data that are refused with it stay so with more bytes, while they are fewer than needed
 pub still : (command : ℕ) (bytes rest : List ℕ) → request_reading command bytes ≡ Err 5 → length (bytes ++ rest) < needed_data command
     → request_reading command (bytes ++ rest) ≡ Err 5
-still command bytes rest e few =
-    let some : command ≡ 38 → 0 < length bytes = ((exactly command bytes).0 e).1 in
-    (exactly command (bytes ++ rest)).1
-    (few, λ is. let first : 0 < length bytes = some is in omega (arith, length-append bytes rest))
+still command bytes rest e few = grind (arith, common_steps, exactly, length-append)

@@ -1,6 +1,7 @@
 -- What is read of a payload is written as the front of it, and read again.
-use Rattle.std.proofs.Common.{◌≡◌, ℕ, zero, suc, ◌+◌, ◌-◌, ◌*◌, ◌/◌, ◌<◌, ◌≤◌, ◌⊎◌, inl, inr, List, [], ◌∷◌, ◌++◌, take, drop, length}
-use Rattle.std.proofs.Common.{map, min, Option, Some, None, IfSome, refl, ap, sym, ◌∙◌, subst, arith, Bool, true, false, ltb, eqb}
+use Rattle.std.proofs.lemmas.Grind.{common_steps}
+use Rattle.std.proofs.Common.{◌≡◌, ℕ, zero, suc, ◌+◌, ◌*◌, ◌/◌, ◌<◌, ◌≤◌, ◌⊎◌, inl, inr, List, [], ◌∷◌, ◌++◌, take, drop, length}
+use Rattle.std.proofs.Common.{map, min, Option, Some, None, IfSome, refl, ap, ◌∙◌, subst, arith, Bool, true, false, ltb, eqb}
 use Rattle.std.proofs.Common.{◌≢◌, ◌&&◌, is_some, length-append, length-take, length-drop, length-take-le, slice_index}
 use Rattle.std.specs.Prelude.{if◌then◌else◌}
 use Rattle.std.specs.List.{flat_map, AllByRecursion}
@@ -11,10 +12,10 @@ use Rattle.std.proofs.lemmas.Bool.{cases_lt}
 use Rattle.std.proofs.lemmas.Bool.Decides.{nat_tests}
 use Rattle.std.proofs.lemmas.List.{take_at, drop_at, take_all, take-append-drop}
 use Rattle.hart_commands.specs.declared.content.ReplyContent.{ReplyContent}
-use Rattle.hart_commands.specs.declared.content.ReplyContent.TheVariants.{Identity, Dynamic, Variables, More, Refused}
+use Rattle.hart_commands.specs.declared.content.ReplyContent.TheVariants.{Identity, Dynamic, More, Refused}
 use Rattle.hart_commands.specs.declared.reply.Reply.{Reply}
 use Rattle.hart_commands.specs.FirstBytes.{having}
-use Rattle.hart_commands.specs.Values.{float_at, unit_value_of, unit_value_bytes, variable_of, variable_bytes}
+use Rattle.hart_commands.specs.Values.{float_at, unit_value_of, unit_value_bytes}
 use Rattle.hart_commands.specs.IdentityBytes.{identity_of}
 use Rattle.hart_commands.specs.ReplyReading.{saying, identity_reading, dynamic_reading, variables_reading, more_reading}
 use Rattle.hart_commands.specs.Commands.{Replied, Saying, SaidBy, CommandRow, replied, commands, command_row, is_known}
@@ -101,7 +102,7 @@ dynamic bytes = go (cases_lt (length bytes) 9)
         chunks-bytes 5 groups unit_value_of unit_value_bytes unit_value-bytes rest long in
         let whole : take 4 bytes ++ take (groups * 5) rest ≡ take (4 + groups * 5) bytes = rw (take-add 4 (groups * 5) bytes, is) refl in
         rw values (
-          rw whole (front (4 + groups * 5) bytes),
+          grind (arith, common_steps, front),
           dynamic-again (take 4 bytes) rest groups (length-take-le 4 bytes four) some few long,
         )
 
@@ -121,21 +122,7 @@ three_tests false b c e = absurd (cc)
 variables : Keeps variables_reading
 variables [] = tt
 variables (status ∷ bytes) =
-    let groups : ℕ = (length (status ∷ bytes) - 5) / 8 in
-    by_test _
-    (Some (Variables status (map variable_of (first_chunks 8 groups bytes)) (drop (1 + 8 * groups) (status ∷ bytes))))
-    None (IsKept variables_reading (status ∷ bytes))
-    (λ t.
-    let whole : length (status ∷ bytes) ≡ 5 + 8 * groups =
-    is_one (length (status ∷ bytes)) (5 + 8 * groups) (three_tests (ltb 0 groups) (ltb groups 9) _ t).2 in
-    let read : flat_map variable_bytes (map variable_of (first_chunks 8 groups bytes)) ≡ take (groups * 8) bytes =
-    chunks-bytes 8 groups variable_of variable_bytes variable-bytes bytes (omega arith) in
-    let after : drop (1 + 8 * groups) (status ∷ bytes) ≡ drop (groups * 8) bytes =
-    ap (λ n. drop n (status ∷ bytes)) (let e : 1 + 8 * groups ≡ suc (groups * 8) = omega arith in e) in
-    let all : take (groups * 8) bytes ++ drop (1 + 8 * groups) (status ∷ bytes) ≡ bytes =
-    rw after (take-append-drop (groups * 8) bytes) in
-    rw (read, all) (sym (take_all (length (status ∷ bytes)) (status ∷ bytes) (omega arith)), rw t refl))
-    (λ f. tt)
+    grind (arith, common_steps, by_test, is_one, three_tests, flat_map, chunks-bytes, variable-bytes, take-append-drop, take_all)
 
 more : Keeps more_reading
 more [] = tt
@@ -174,10 +161,8 @@ reading-kept command [] = tt
 reading-kept command (code ∷ []) = tt
 reading-kept command (code ∷ status ∷ bytes) =
     by_test _ _ _ _ (λ t. tt) (λ small.
-    by_test _ _ _ _ (λ none. success small none (content_reading command bytes) (content-kept command bytes)) (λ refused.
-    by_test (is_known command) (Some (saying Refused)) None (IsReplyKept command (code ∷ status ∷ bytes))
-    (λ known. record { own = refl; written = refl; again = rw (small, refused, known) refl })
-    (λ f. tt)))
+    by_test _ _ _ _ (λ none. success small none (content_reading command bytes) (content-kept command bytes)) (
+    grind (arith, common_steps, by_test)))
   where
     saying : ReplyContent → Reply
     saying content = record { command = command; code = code; status = record { 0 = status }; content = content }
@@ -205,9 +190,7 @@ written_is_read reply is = (read-kept reply.command is.0 reply is.1).again
 pub read-made : (command : ℕ) (payload : List ℕ) (reply : Reply) → reply_reading command payload ≡ Some reply
     → IsReply reply × (reply.command ≡ command)
 read-made command payload reply e =
-    let by : reply.command ≡ command = (read-kept command payload reply e).own in
-    let P : ℕ → Type 0 = λ n. reply_reading n payload ≡ Some reply in
-    ((payload, subst P (sym by) e), by)
+    let by : reply.command ≡ command = (read-kept command payload reply e).own in grind (arith, common_steps)
 
 pub reading-made : (command : ℕ) (payload : List ℕ) → IfSome (reply_reading command payload) IsReply
 reading-made command payload = go (reply_reading command payload) refl

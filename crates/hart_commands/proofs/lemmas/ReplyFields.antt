@@ -1,4 +1,5 @@
 -- The fields of the data of a well-made reply are the parts of its content.
+use Rattle.std.proofs.lemmas.Grind.{common_steps}
 use Rattle.std.proofs.Common.{◌≡◌, ℕ, zero, suc, ◌+◌, ◌-◌, ◌*◌, ◌/◌, ◌<◌, ◌≤◌, ◌⊎◌, inl, inr, List, [], ◌∷◌, ◌++◌, take, drop, length}
 use Rattle.std.proofs.Common.{map, min, Option, Some, None, IfSome, refl, ap, ◌∙◌, subst, arith, rules, true, eqb, ltb, length-append}
 use Rattle.std.proofs.Common.{length-drop, length-take-le, slice_index}
@@ -121,8 +122,7 @@ variables (status ∷ bytes) =
     let whole : length (status ∷ bytes) ≡ 5 + 8 * groups = is_one (length (status ∷ bytes)) (5 + 8 * groups) tests.2 in
     let some : 0 < groups = (let u : ltb 0 groups ≡ true = tests.0 in grind (arith, nat_tests)) in
     let long : groups * 8 ≤ length bytes = omega arith in
-    let values : read ≡ take (groups * 8) bytes =
-    chunks-bytes 8 groups variable_of variable_bytes variable-bytes bytes long in
+    let values : read ≡ take (groups * 8) bytes = grind (arith, common_steps, chunks-bytes, variable-bytes) in
     let size : length read ≡ groups * 8 = ap length values ∙ length-take-le (groups * 8) bytes long in
     cut status read (drop (1 + 8 * groups) (status ∷ bytes)) (omega arith) (omega (arith, length-drop (1 + 8 * groups) (status ∷ bytes))))
     (λ f. tt)
@@ -152,8 +152,7 @@ content-parted command bytes = go (command_row command) (found (λ row. Parted r
         → IfSome (content_by row bytes) (IsParted command)
     go None all = tt
     go (Some row) all =
-        let P : ℕ → Type 0 = λ n. Parts n (replied row.reply) in
-        subst P all.0 (parts row.number row.reply all.1) bytes
+        let P : ℕ → Type 0 = λ n. Parts n (replied row.reply) in grind (arith, common_steps, parts)
 
 -- no data have no fields
 abbrev pub IsEmpty : List Row → Type 0

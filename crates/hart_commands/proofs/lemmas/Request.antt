@@ -1,4 +1,5 @@
 -- Written data are read again.
+use Rattle.std.proofs.lemmas.Grind.{common_steps}
 use Rattle.std.proofs.Common.{◌≡◌, ℕ, ◌≤◌, ◌⊎◌, inl, inr, List, [], ◌∷◌, ◌++◌, take, drop, length, Ok, Some, None, refl, ap, arith, true}
 use Rattle.std.proofs.Common.{false, ltb, length-append, append-nil}
 use Rattle.std.proofs.lemmas.List.{take_at, take_all}
@@ -18,8 +19,7 @@ use Rattle.hart_commands.proofs.lemmas.Parts.{by_spelling}
 -- needed bytes are read, whatever follows
 needing-append : (size : ℕ) (asked : List ℕ → Request) (bytes rest : List ℕ) → length bytes ≡ size
     → needing size asked (bytes ++ rest) ≡ Ok (asked bytes)
-needing-append size asked bytes rest long =
-    rw (above (length (bytes ++ rest)) size (omega (arith, length-append bytes rest)), take_at bytes rest size long) refl
+needing-append size asked bytes rest long = grind (arith, common_steps, above, length-append, take_at)
 
 -- at most eight codes are read with what may follow
 take-codes : (codes rest : List ℕ) → length codes ≤ 8 → (length codes ≡ 8) ⊎ (rest ≡ []) → take 8 (codes ++ rest) ≡ codes
@@ -50,8 +50,7 @@ written_is_read (ReadVariables (code ∷ codes)) rest is may =
     ap (λ xs. Ok (ReadVariables xs)) (take-codes (code ∷ codes) rest is.1 may)
 written_is_read (IdentifyByTag tag) rest is may = needing-append 6 IdentifyByTag tag rest is
 written_is_read (WriteMessage message) rest is may = needing-append 24 WriteMessage message rest is
-written_is_read (WriteTag tag descriptor date) rest is may =
-    tag_reading-good tag descriptor date rest is.0 is.1 is.2.0 ((dates_are_decided-date date).1 is.2)
+written_is_read (WriteTag tag descriptor date) rest is may = grind (arith, common_steps, tag_reading-good, dates_are_decided-date)
 written_is_read (WriteAssembly assembly) rest is may = needing-append 3 WriteAssembly assembly rest is
 written_is_read (IdentifyByLongTag long_tag) rest is may = needing-append 32 IdentifyByLongTag long_tag rest is
 written_is_read (WriteLongTag long_tag) rest is may = needing-append 32 WriteLongTag long_tag rest is

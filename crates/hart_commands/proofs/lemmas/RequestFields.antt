@@ -1,5 +1,6 @@
 -- The fields of the data of a well-made request are its parts.
-use Rattle.std.proofs.Common.{◌≡◌, ℕ, ◌-◌, ◌<◌, List, [], ◌∷◌, ◌++◌, length, Some, None, refl, arith}
+use Rattle.std.proofs.lemmas.Grind.{common_steps}
+use Rattle.std.proofs.Common.{◌≡◌, ℕ, ◌<◌, List, [], ◌∷◌, ◌++◌, length, Some, None, refl, arith}
 use Rattle.std.specs.Prelude.{codes}
 use Rattle.std.proofs.lemmas.List.{take_all}
 use Rattle.hart_commands.specs.declared.fields.FieldKind.{FieldKind}
@@ -17,9 +18,7 @@ use Rattle.hart_commands.proofs.lemmas.Test.{below}
 -- a row that takes all bytes that are left has them
 pub all_left : (name : List ℕ) (kind : FieldKind) (bytes : List ℕ) → 0 < length bytes
     → field_bytes (fields_of (field name (AllBut 0) kind ∷ []) bytes) ≡ bytes ∷ []
-all_left name kind bytes some =
-    let all : length bytes - 0 ≡ length bytes = omega arith in
-    rw (below 0 (length bytes) some, all, take_all (length bytes) bytes (omega arith)) refl
+all_left name kind bytes some = grind (arith, common_steps, below, take_all)
 
 pub parts_of_request : (request : Request) → IsRequest request
     → field_bytes (fields_of (request_rows (command_of request)) (request_data request)) ≡ request_parts request

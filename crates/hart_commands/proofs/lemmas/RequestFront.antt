@@ -1,6 +1,7 @@
 -- Data that are read as a request begin with those that it is written as, but for the mode that Command 6 may leave out.
-use Rattle.std.proofs.Common.{◌≡◌, ℕ, ◌*◌, ◌+◌, ◌/◌, ◌%◌, ◌<◌, ◌≤◌, ◌⊎◌, inl, inr, All, List, [], ◌∷◌, ◌++◌, take, drop, length, Ok}
-use Rattle.std.proofs.Common.{Option, Some, None, Err, IfSome, refl, sym, ap, ◌∙◌, subst, arith, ltb, eqb}
+use Rattle.std.proofs.lemmas.Grind.{common_steps}
+use Rattle.std.proofs.Common.{◌≡◌, ℕ, ◌<◌, ◌≤◌, ◌⊎◌, inl, inr, All, List, [], ◌∷◌, ◌++◌, take, drop, length, Ok}
+use Rattle.std.proofs.Common.{Option, Some, None, Err, IfSome, refl, sym, ap, ◌∙◌, arith}
 use Rattle.std.proofs.Common.{append_assoc, length-take}
 use Rattle.std.specs.List.{AllByRecursion}
 use Rattle.std.proofs.Math.Seq.{take-add}
@@ -8,7 +9,7 @@ use Rattle.std.proofs.lemmas.Bool.{cases_lt}
 use Rattle.std.proofs.lemmas.List.{drop-drop, take_all}
 use Rattle.hart_values.specs.declared.loop_mode.LoopMode.TheVariants.{Disabled, Enabled}
 use Rattle.hart_commands.specs.declared.request.Request.{Request}
-use Rattle.hart_commands.specs.declared.request.Request.TheVariants.{SetPolling, WriteTag}
+use Rattle.hart_commands.specs.declared.request.Request.TheVariants.{SetPolling}
 use Rattle.hart_commands.specs.TagBytes.{tag_in, descriptor_in, date_in}
 use Rattle.hart_commands.specs.RequestReading.{Reading, needing, polling_with, mode_left_out, polling_reading, codes_reading, tag_reading}
 use Rattle.hart_commands.specs.RequestReading.{reset_reading}
@@ -47,10 +48,7 @@ needed command size request each bytes fit = go (cases_lt (length bytes) size)
 -- an address with a mode, which is 0 or 1
 with_mode : (address mode : ℕ) (bytes : List ℕ) → (mode ≡ 0 → IsBegun 6 bytes (Ok (SetPolling address Disabled)))
     → (mode ≡ 1 → IsBegun 6 bytes (Ok (SetPolling address Enabled))) → IsBegun 6 bytes (polling_with address mode)
-with_mode address mode bytes disabled enabled =
-    by_test (ltb 63 address) (Err 2) _ (IsBegun 6 bytes) (λ t. tt) (λ f.
-    by_test (eqb mode 0) (Ok (SetPolling address Disabled)) _ (IsBegun 6 bytes) (λ t. disabled (is_one mode 0 t)) (λ g.
-    by_test (eqb mode 1) (Ok (SetPolling address Enabled)) (Err 12) (IsBegun 6 bytes) (λ t. enabled (is_one mode 1 t)) (λ h. tt)))
+with_mode address mode bytes disabled enabled = grind (arith, common_steps, by_test, is_one)
 
 polling : Begins 6 polling_reading
 polling [] fit = tt
@@ -58,20 +56,14 @@ polling (address ∷ []) fit =
     with_mode address (mode_left_out address) (address ∷ [])
     (λ e. inr (record { own = refl; one = refl; two = refl; first = refl }))
     (λ e. inr (record { own = refl; one = refl; two = refl; first = refl }))
-polling (address ∷ mode ∷ rest) fit =
-    with_mode address mode (address ∷ mode ∷ rest)
-    (λ e. inl (ap (λ m. address ∷ m ∷ []) e))
-    (λ e. inl (ap (λ m. address ∷ m ∷ []) e))
+polling (address ∷ mode ∷ rest) fit = grind (arith, common_steps, with_mode)
 
 codes : Begins 9 codes_reading
 codes [] fit = tt
 codes (code ∷ others) fit = inl (sym (front 8 (code ∷ others)))
 
 tag : Begins 18 tag_reading
-tag bytes fit =
-    by_test (ltb (length bytes) 21) (Err 5) _ (IsBegun 18 bytes) (λ t. tt) (λ f.
-    by_test _ (Ok (WriteTag (tag_in bytes) (descriptor_in bytes) (date_in bytes))) (Err 9) (IsBegun 18 bytes)
-    (λ t. inl (rw whole (sym (front 21 bytes)))) (λ g. tt))
+tag bytes fit = grind (arith, common_steps, by_test, whole, front)
   where
     whole : tag_in bytes ++ descriptor_in bytes ++ date_in bytes ≡ take 21 bytes
     whole = rw (take-add 6 15 bytes, take-add 12 3 (drop 6 bytes), drop-drop 12 6 bytes, append_assoc) refl
@@ -80,10 +72,7 @@ reset : Begins 38 reset_reading
 reset [] fit = inl refl
 reset (high ∷ []) fit = tt
 reset (high ∷ low ∷ rest) fit =
-    let small : low < 256 = fit 1 0 (omega arith) in
-    let first : (256 * high + low) / 256 ≡ high = omega arith in
-    let second : (256 * high + low) % 256 ≡ low = omega arith in
-    inl (rw (first, second) refl)
+    let small : low < 256 = fit 1 0 (omega arith) in grind (arith, common_steps)
 
 -- what is to be seen of a row, so that its data begin with those of its requests
 abbrev pub Own : ℕ → Asked → Type 0
@@ -110,9 +99,7 @@ begun command bytes request fit e = go (command_row command) e (found BeginsOwn 
         → IsBegun command bytes (Ok request)
     go None e is = cc
     go (Some row) e is =
-        let P : Reading → Type 0 = IsBegun row.number bytes in
-        let Q : ℕ → Type 0 = λ n. IsBegun n bytes (Ok request) in
-        subst Q is.0 (subst P e (begins row.number row.request is.1 bytes fit))
+        let P : Reading → Type 0 = IsBegun row.number bytes in grind (arith, common_steps, begins)
 
 -- data agree with those that their request is written as, as far as both go
 pub agree : (command : ℕ) (bytes : List ℕ) (request : Request) → All (λ byte. byte < 256) bytes → request_reading command bytes ≡ Ok request

@@ -1,14 +1,14 @@
 -- What is read of data is a well-made request of its command, or refused with another code than 64.
+use Rattle.std.proofs.lemmas.Grind.{common_steps}
 use Rattle.std.proofs.Common.{◌≡◌, ◌≢◌, ◌↔◌, ℕ, ◌<◌, ◌≤◌, ◌⊎◌, inl, inr, List, [], ◌∷◌, take, drop, length, Option, Some, None, Ok, Err}
-use Rattle.std.proofs.Common.{IfSome, refl, subst, arith, Bool, true, false, ltb, eqb, length-take, length-drop, length-take-le}
+use Rattle.std.proofs.Common.{IfSome, refl, arith, Bool, true, false, ltb, length-take, length-drop, length-take-le}
 use Rattle.std.specs.Prelude.{if◌then◌else◌, is_some}
 use Rattle.std.specs.List.{AllByRecursion}
 use Rattle.std.proofs.lemmas.Bool.{cases_lt}
 use Rattle.std.proofs.lemmas.Bool.Decides.{nat_tests}
 use Rattle.hart_values.proofs.lemmas.Laws.{dates_are_decided-date}
-use Rattle.hart_values.specs.declared.loop_mode.LoopMode.TheVariants.{Disabled, Enabled}
 use Rattle.hart_commands.specs.declared.request.Request.{Request}
-use Rattle.hart_commands.specs.declared.request.Request.TheVariants.{SetPolling, ReadVariables, WriteTag}
+use Rattle.hart_commands.specs.declared.request.Request.TheVariants.{ReadVariables, WriteTag}
 use Rattle.hart_commands.specs.TagBytes.{tag_in, descriptor_in, date_in}
 use Rattle.hart_commands.specs.RequestReading.{Reading, needing, polling_with, mode_left_out, polling_reading, codes_reading, tag_reading}
 use Rattle.hart_commands.specs.RequestReading.{reset_reading}
@@ -39,12 +39,7 @@ needed command size request each bytes = go (cases_lt (length bytes) size)
     go (inr more) = rw (above (length bytes) size more) (each (take size bytes) (length-take-le size bytes more))
 
 polling-with : (address mode : ℕ) → IsGiven 6 (polling_with address mode)
-polling-with address mode =
-    by_test (ltb 63 address) (Err 2) _ (IsGiven 6) (λ t. omega arith) (λ f.
-    let small : address < 64 = grind (arith, nat_tests) in
-    by_test (eqb mode 0) (Ok (SetPolling address Disabled)) (if eqb mode 1 then Ok (SetPolling address Enabled) else Err 12) (IsGiven 6)
-    (λ t. (refl, small)) (λ g.
-    by_test (eqb mode 1) (Ok (SetPolling address Enabled)) (Err 12) (IsGiven 6) (λ t. (refl, small)) (λ h. omega arith)))
+polling-with address mode = grind (arith, common_steps, by_test)
 
 polling : Gives 6 polling_reading
 polling [] = omega arith
@@ -64,9 +59,9 @@ tag bytes =
     let enough : 21 ≤ length bytes = grind (arith, nat_tests) in
     by_test _ (Ok (WriteTag (tag_in bytes) (descriptor_in bytes) (date_in bytes))) (Err 9) (IsGiven 18)
     (λ t. (
-      refl,
+      grind (arith, common_steps),
       (
-        length-take-le 6 bytes (omega arith),
+        grind (arith, common_steps, length-take-le),
         length-take-le 12 (drop 6 bytes) (omega (arith, length-drop 6 bytes)),
         (dates_are_decided-date (date_in bytes)).0 t,
       ),
@@ -100,10 +95,7 @@ given_by : (command : ℕ) (row : Option CommandRow) (bytes : List ℕ) (request
     → IfSome row (λ row. (row.number ≡ command) × AsksOwn row)
     → read_by row bytes ≡ Ok request → IsGiven command (Ok request)
 given_by command None bytes request given e = cc
-given_by command (Some row) bytes request given e =
-    let P : Reading → Type 0 = IsGiven row.number in
-    let Q : ℕ → Type 0 = λ n. IsGiven n (Ok request) in
-    subst Q given.0 (subst P e (gives row.number row.request given.1 bytes))
+given_by command (Some row) bytes request given e = grind (arith, common_steps, gives)
 
 pub read-asked : (command : ℕ) (bytes : List ℕ) (request : Request) → request_reading command bytes ≡ Ok request
     → (command_of request ≡ command) × IsRequest request
@@ -113,8 +105,7 @@ read-asked command bytes request = given_by command (command_row command) bytes 
 refused_by : (command : ℕ) (row : Option CommandRow) (bytes : List ℕ) → IfSome row (λ row. (row.number ≡ command) × AsksOwn row)
     → (read_by row bytes ≡ Err 64) ↔ (is_some row ≡ false)
 refused_by command None bytes given = (λ e. refl, λ n. refl)
-refused_by command (Some row) bytes given =
-    (λ e. let P : Reading → Type 0 = IsGiven row.number in absurd (subst P e (gives row.number row.request given.1 bytes) refl), λ n. cc)
+refused_by command (Some row) bytes given = grind (arith, common_steps, gives)
 
 pub unknown-refused : (command : ℕ) (bytes : List ℕ) → (request_reading command bytes ≡ Err 64) ↔ (is_known command ≡ false)
 unknown-refused command bytes = refused_by command (command_row command) bytes (found AsksOwn commands command rows)
