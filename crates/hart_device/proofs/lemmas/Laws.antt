@@ -1,4 +1,6 @@
 -- The laws of devices, for the proofs of this crate and of those above.
+use Rattle.std.proofs.Common.{arith}
+use Rattle.std.proofs.lemmas.Grind.{common_steps}
 use Rattle.std.proofs.Common.{◌≡◌, ◌≢◌, ◌≤◌, ◌⊎◌, ◌∙◌, ap, refl, rules, subst, false, true, ℕ, Contains, List, [], ◌∷◌, ◌++◌, length, sym}
 use Rattle.std.proofs.Common.{Bool, IfSome, Ok, Option, Some, slice_get}
 use Rattle.std.specs.List.{flat_map}
@@ -15,7 +17,7 @@ use Rattle.hart_commands.specs.declared.request.Request.TheVariants.{ResetChange
 use Rattle.hart_commands.proofs.lemmas.Laws.{all_registers_are_listed_once-every}
 use Rattle.hart_device.specs.Device.{DeviceState, Executes, IsDevice, Nothing, Resets}
 use Rattle.hart_device.specs.Process.{IsProcess}
-use Rattle.hart_device.specs.answer.Answer.{answer_of, asked_effect, code_of, effect_of, is_answered, reading_of, reply_of, state_after}
+use Rattle.hart_device.specs.answer.Answer.{answer_of, code_of, effect_of, is_answered, reading_of, reply_of, state_after}
 use Rattle.hart_device.specs.answer.Delivery.{Brings, Brought}
 use Rattle.hart_device.specs.image.Image.{IsImageFault, IsImageOf, image_of}
 use Rattle.hart_device.specs.registers.Ranges.{array_length, end_of, standing_for, start_of}
@@ -90,8 +92,7 @@ registers_of_lists-none initial = search rules
 
 pub refused_commands_change_nothing-refused : (state : DeviceState) (frame : FrameParts) → code_of state frame ≢ 0
     → effect_of state frame ≡ Nothing
-refused_commands_change_nothing-refused state frame =
-    refused (is_answered state frame) (code_of state frame) (asked_effect (reading_of frame))
+refused_commands_change_nothing-refused state frame = grind (arith, common_steps, refused)
 
 pub refused_commands_change_nothing-silent : (state : DeviceState) (frame : FrameParts) → is_answered state frame ≡ false
     → effect_of state frame ≡ Nothing
@@ -107,8 +108,7 @@ answers_give_their_code-answered state process frame reply is =
 
 pub frames_leave_identity_and_protection-identity : (state : DeviceState) (frame : FrameParts)
     → (state_after state frame).identity ≡ state.identity
-frames_leave_identity_and_protection-identity state frame =
-    identity_stays (is_answered state frame) frame.master (effect_of state frame) state
+frames_leave_identity_and_protection-identity state frame = grind (arith, common_steps, identity_stays)
 
 pub writes_execute_their_overwrite-executes : (state : DeviceState) (frame : FrameParts) (request : Request) (overwrite : Overwrite)
     → is_answered state frame ≡ true → code_of state frame ≡ 0 → reading_of frame ≡ Ok request

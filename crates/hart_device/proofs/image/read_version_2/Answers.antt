@@ -22,10 +22,7 @@ returns-clause-refused c =
       grind (arith, common_steps, split.front_len, split.back_len, c.if-rest.false),
       bad_field 2 registers c.copy_from_slice.new.self c.split_at.result.0.now c.split_at.result.1.now
           (omega (arith, split.back_len, c.if-rest.false)) (λ register differ. all_registers_are_listed_once-every register)
-          (λ register differ.
-          let fits = range_within register in
-          rw c.copy_from_slice.ensures.after
-          (before_others register c.split_at.result.0.now c.split_at.result.1.now (omega (arith, fits, len))))
+          (grind (arith, common_steps, range_within, before_others))
           bad,
     )))
 

@@ -1,5 +1,6 @@
 -- What a device replies with code 0 to a well-made request is read again from its bytes.
-use Rattle.std.proofs.Common.{◌≡◌, ℕ, zero, suc, ◌+◌, ◌-◌, ◌*◌, ◌/◌, ◌<◌, ◌≤◌, List, [], ◌∷◌, ◌++◌, length, map, min}
+use Rattle.std.proofs.lemmas.Grind.{common_steps}
+use Rattle.std.proofs.Common.{◌≡◌, ℕ, zero, suc, ◌*◌, ◌/◌, ◌<◌, ◌≤◌, List, [], ◌∷◌, ◌++◌, length, map, min}
 use Rattle.std.proofs.Common.{Option, Some, None, All, get_or, slice_get, unwrap_or, refl, ap, subst, ◌∙◌, arith, true, false, ltb, eqb}
 use Rattle.std.proofs.Common.{append_assoc, append-nil, length-append}
 use Rattle.std.specs.List.{flat_map}
@@ -59,18 +60,15 @@ end_to_end : {X : Type 0} (n : ℕ) (bytes_of : X → List ℕ) (of : List ℕ �
 end_to_end n bytes_of of Sized size back [] rest all = (omega arith, refl)
 end_to_end n bytes_of of Sized size back (x ∷ xs) rest all =
     let here : Sized x = all zero x (omega arith) in
-    let others = end_to_end n bytes_of of Sized size back xs rest (λ k d within. all (suc k) d (omega arith)) in
-    let bytes = flat_map bytes_of xs in
-    let more : suc (length xs) * n ≡ n + length xs * n = grind arith in
-    let whole = append_assoc (bytes_of x) bytes rest in (
-      omega (arith, length-append (bytes_of x) bytes, size x here, others.0),
-      rw (
-        whole,
-        take_at (bytes_of x) (bytes ++ rest) n (size x here),
-        drop_at (bytes_of x) (bytes ++ rest) n (size x here),
-        others.1,
-        back x here,
-      ) refl,
+    grind (
+      arith,
+      common_steps,
+      flat_map,
+      append_assoc,
+      length-append,
+      take_at,
+      drop_at,
+      end_to_end n bytes_of of Sized size back xs rest (λ k d within. all (suc k) d (omega arith)),
     )
 
 -- CONTENTS
@@ -120,18 +118,7 @@ variables_said status variables time some few all float =
     let groups = flat_map variable_bytes variables in
     let each = end_to_end 8 variable_bytes variable_of (λ v. IsFloat v.value)
     (λ v is. omega (arith, length-append v.value.0 (v.status ∷ []))) (λ v is. let x = four v.value.0 is in rw x.4 refl)
-    variables time all in
-    let whole : length (status ∷ (groups ++ time)) ≡ 5 + 8 * length variables = omega (arith, length-append groups time, each.0) in
-    let count : (length (status ∷ (groups ++ time)) - 5) / 8 ≡ length variables = omega arith in
-    rw (
-      count,
-      below 0 (length variables) some,
-      below (length variables) 9 (omega arith),
-      whole,
-      same (5 + 8 * length variables),
-      drop_at (status ∷ groups) time (1 + 8 * length variables) (omega (arith, each.0)),
-      each.1,
-    ) refl
+    variables time all in grind (arith, common_steps, length-append, below, same, drop_at)
 
 -- The dynamic variables and the variable of each code have values of four bytes.
 dynamic_floats : (process : Process) → IsProcess process → All (λ variable. IsFloat variable.value) (dynamic_variables process)
@@ -157,10 +144,7 @@ pub content_again : (state : DeviceState) (process : Process) → AreValid state
     → IsRequest request → IsReadAgain (command_of request) (reply_content state process request)
 content_again state process valid is requested.Identify made = refl
 content_again state process valid is requested.ReadPrimary made = let x = four process.first.value.0 is.first in rw x.4 refl
-content_again state process valid is requested.ReadCurrent made =
-    let x = four process.loop_current.0 is.loop_current in
-    let y = four process.percent_of_range.0 is.percent_of_range in
-    rw (x.4, y.4) refl
+content_again state process valid is requested.ReadCurrent made = grind (arith, common_steps, four)
 content_again state process valid is requested.ReadDynamic made =
     dynamic_said process.loop_current (map unit_value (dynamic_variables process)) is.loop_current
     (omega (arith, length-map (dynamic_variables process) unit_value))
@@ -179,17 +163,11 @@ content_again state process valid is (requested.IdentifyByTag tag) made = refl
 content_again state process valid is requested.ReadMessage made = said 24 replied.Message state.contents.message (valid registers.Message).0
 content_again state process valid is requested.ReadTag made =
     tag_said _ _ _ (valid registers.Tag).0 (valid registers.Descriptor).0 (valid registers.Date).0
-content_again state process valid is requested.ReadSensor made =
-    let n = three process.sensor.serial_number is.serial_number in
-    let u = four process.sensor.upper_limit.0 is.upper_limit in
-    let l = four process.sensor.lower_limit.0 is.lower_limit in
-    let m = four process.sensor.minimum_span.0 is.minimum_span in
-    rw (n.3, u.4, l.4, m.4) refl
+content_again state process valid is requested.ReadSensor made = grind (arith, common_steps, three, four)
 content_again state process valid is requested.ReadOutput made =
     let u = four process.output.upper_range_value.0 is.upper_range_value in
     let l = four process.output.lower_range_value.0 is.lower_range_value in
-    let d = four process.output.damping.0 is.damping in
-    rw (u.4, l.4, d.4) refl
+    let d = four process.output.damping.0 is.damping in rw (u.4, l.4, d.4) refl
 content_again state process valid is requested.ReadAssembly made =
     said 3 replied.Assembly state.contents.assembly (valid registers.Assembly).0
 content_again state process valid is (requested.WriteMessage message) made =

@@ -1,5 +1,6 @@
 -- A delivery brings a device one thing.
-use Rattle.std.proofs.Common.{◌≡◌, inl, inr, List, [], ◌∷◌, ap, subst, ◌∙◌, refl, Option, None, Some, arith}
+use Rattle.std.proofs.lemmas.Grind.{common_steps}
+use Rattle.std.proofs.Common.{◌≡◌, inl, inr, List, [], ◌∷◌, ap, ◌∙◌, refl, Option, None, Some, arith}
 use Rattle.std.specs.Option.{MatchOption}
 use Rattle.hart_frame.specs.heard.Character.{Character}
 use Rattle.hart_frame.specs.wire.FrameParts.{FrameParts}
@@ -24,9 +25,7 @@ BringsBy-one identity chars frames a b p q = grind (arith, garbled_one)
 -- any list of the frames of a delivery says what it brings
 pub by_frames : (identity : IdentityParts) (chars : List Character) (frames : List Found) (brought : Brought)
     → AreFrames chars 0 frames → Brings identity chars brought → BringsBy identity chars frames brought
-by_frames identity chars frames brought are brings =
-    let By : List Found → Type 0 = λ xs. BringsBy identity chars xs brought in
-    subst By (frames_are_unambiguous-one_list chars 0 brings.frames frames brings.are_frames are) brings.by_frames
+by_frames identity chars frames brought are brings = grind (arith, common_steps, frames_are_unambiguous-one_list)
 
 pub Brings-one : (identity : IdentityParts) (chars : List Character) (a b : Brought)
     → Brings identity chars a → Brings identity chars b → a ≡ b
@@ -47,8 +46,7 @@ pub Brings-found : (identity : IdentityParts) (chars : List Character)
     → (brought : Brought) × Brings identity chars brought
 Brings-found identity chars =
     let frames = every_list_has_frames chars 0 in
-    let brings = BringsBy-found identity chars frames.0 in
-    (brings.0, record { frames = frames.0; are_frames = frames.1; by_frames = brings.1 })
+    let brings = BringsBy-found identity chars frames.0 in grind (arith, common_steps, by_frames)
 
 -- only no frames are no frame
 pub none_of : (frames : List Found) → NoFrame ≡ lone_of frames → frames ≡ []
@@ -71,6 +69,4 @@ reply_by state process chars NoMessage (Some reply) nothing is = absurd (nothing
 pub answer_without_frame : (state : DeviceState) (process : Process) (chars : List Character) (brought : Brought)
     (answer : Option FrameParts) → (brings : Brings state.identity chars brought) → NoFrame ≡ lone_of brings.frames
     → IsGarbledReply state.identity chars answer → answer ≡ answer_to state process brought
-answer_without_frame state process chars brought answer brings none is =
-    let By : List Found → Type 0 = λ frames. BringsBy state.identity chars frames brought in
-    reply_by state process chars brought answer (subst By (none_of brings.frames none) brings.by_frames) is
+answer_without_frame state process chars brought answer brings none is = grind (arith, common_steps, reply_by, none_of)

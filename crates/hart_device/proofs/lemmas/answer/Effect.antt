@@ -1,5 +1,6 @@
 -- What a command does to a device.
-use Rattle.std.proofs.Common.{◌≡◌, ◌≢◌, ℕ, ap, refl, subst, arith, slice_get}
+use Rattle.std.proofs.lemmas.Grind.{common_steps}
+use Rattle.std.proofs.Common.{◌≡◌, ◌≢◌, ℕ, ap, refl, arith, slice_get}
 use Rattle.std.proofs.Common.{Bool, true, false, ◌==◌, ◌&&◌, if◌then◌else◌}
 use Rattle.std.proofs.Common.{Option, None, Some, IfSome, Ok, Err}
 use Rattle.std.proofs.lemmas.Bool.Decides.{nat_tests}
@@ -46,10 +47,7 @@ done_if answered code asked effect some is = grind (arith, nat_tests)
 pub effect_executes_only : (answered : Bool) (code : ℕ) (reading : Reading) (overwrite : Overwrite)
     → (if answered && (code == 0) then asked_effect reading else Nothing) ≡ Executes overwrite
     → (answered ≡ true) × (code ≡ 0) × (request : Request) × (reading ≡ Ok request) × (overwrite_of request ≡ Some overwrite)
-effect_executes_only answered code reading overwrite is =
-    let parts = done_if answered code (asked_effect reading) (Executes overwrite) (λ no. cc) is in
-    let write = executes_only reading overwrite parts.2 in
-    (parts.0, parts.1, write.0, write.1, write.2)
+effect_executes_only answered code reading overwrite is = grind (arith, common_steps, done_if, executes_only)
 
 -- An overwrite that is executed is a well-made request.
 own_overwrite : (request : Request) (overwrite : Overwrite) → overwrite_of request ≡ Some overwrite → request ≡ overwrite
@@ -59,8 +57,7 @@ pub executed_made : (state : DeviceState) (frame : FrameParts) (overwrite : Over
     → IsRequest overwrite
 executed_made state frame overwrite is =
     let write = effect_executes_only (is_answered state frame) (code_of state frame) (reading_of frame) overwrite is in
-    subst IsRequest (own_overwrite write.2 overwrite write.4)
-    (requests_have_their_command frame.command frame.payload write.2 write.3).1
+    grind (arith, common_steps, own_overwrite, requests_have_their_command)
 
 asked_resets : (reading : Reading) → asked_effect reading ≡ Resets → (counter : Option ℕ) × (reading ≡ Ok (ResetChanged counter))
 asked_resets (Err code) is = cc

@@ -1,6 +1,7 @@
 -- The communication faults of characters, bit by bit.
+use Rattle.std.proofs.lemmas.Grind.{common_steps}
 use Rattle.std.proofs.Common.{◌≡◌, ℕ, ◌+◌, ◌*◌, ◌%◌, ◌^◌, ◌<◌, ◌==◌, not, Bool, List, [], ◌∷◌}
-use Rattle.std.proofs.Common.{length, take, get_or, count_by, refl, sym, ap, ◌∙◌, arith, bit_and, bit_or, bit_xor}
+use Rattle.std.proofs.Common.{length, take, get_or, count_by, refl, arith, bit_and, bit_or, bit_xor}
 use Rattle.std.specs.Int.{bit_at}
 use Rattle.std.specs.List.{list_any}
 use Rattle.std.proofs.lemmas.Bool.Decides.{nat_tests}
@@ -52,8 +53,4 @@ bit_says n bit = let below = bit_at-lt n bit in grind (arith, nat_tests)
 
 pub IsCheck-more : (chars : List Character) (i check : ℕ) (character : Character) → i < length chars
     → character ≡ get_or chars i character → IsCheck (take i chars) check → IsCheck (take (i + 1) chars) (bit_xor check character.byte)
-IsCheck-more chars i check character within is checked bit =
-    let one : Character → ℕ = λ x. bit_if (bit_at x.byte bit == 1) 1 in
-    let more : count bit (take (i + 1) chars) ≡ count bit (take i chars) + one character =
-    sum_by_more one chars i character within ∙ ap (λ (x : Character). count bit (take i chars) + one x) (sym is) in
-    omega (arith, more, bit_says character.byte bit, bit_at_xor check character.byte bit, checked bit)
+IsCheck-more chars i check character within is checked bit = grind (arith, common_steps, sum_by_more, bit_says, bit_at_xor)

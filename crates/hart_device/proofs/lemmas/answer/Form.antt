@@ -1,6 +1,7 @@
 -- The form that a whole request has as a garbled one.
+use Rattle.std.proofs.lemmas.Grind.{common_steps}
 use Rattle.std.proofs.Common.{◌≡◌, ℕ, ◌+◌, ◌*◌, ◌<◌, ◌==◌, true, false, List, [], ◌∷◌, ◌++◌, Some}
-use Rattle.std.proofs.Common.{if◌then◌else◌, nat_lt, length, take, count_by, refl, ap, ◌∙◌, arith}
+use Rattle.std.proofs.Common.{if◌then◌else◌, nat_lt, length, take, count_by, refl, arith}
 use Rattle.std.specs.Int.{bit_at}
 use Rattle.std.proofs.lemmas.Bool.Decides.{nat_tests}
 use Rattle.std.proofs.lemmas.List.{length-map, length-append, take_all}
@@ -82,16 +83,9 @@ formed : (identity : IdentityParts) (master : MasterId) (command : ℕ) (payload
 formed identity master command payload check type_high type_low id_high id_middle id_low ranges expanded_type device_id body is parity =
     let named = own_named identity master type_high type_low id_high id_middle id_low ranges expanded_type device_id in
     let by = master_named master type_high ranges.0 in
-    let after : length (faultless (payload ++ check ∷ [])) ≡ length payload + 1 =
-    length-map (payload ++ check ∷ []) _ ∙ length-append payload (check ∷ []) in
+    let after : length (faultless (payload ++ check ∷ [])) ≡ length payload + 1 = grind (arith, common_steps, length-map, length-append) in
     let whole : take (9 + length payload) (faultless body) ≡ faultless body =
-    take_all (9 + length payload) (faultless body)
-    (omega (
-      arith,
-      length-map {B = Character} body (λ x. record { byte = x; faults = 0 }),
-      ap length is,
-      length-append payload (check ∷ []),
-    )) in
+    grind (arith, common_steps, take_all, length-map, length-append) in
     let quiet = no_communication_faults body parity in
     grind (arith, nat_tests)
 

@@ -1,4 +1,5 @@
 -- That a list of characters has one garbled request, or none, and that its address is the device's own.
+use Rattle.std.proofs.lemmas.Grind.{common_steps}
 use Rattle.std.proofs.Common.{◌≡◌, ℕ, ◌<◌, ◌/◌, ◌%◌, ◌⊎◌, ◌↔◌, inl, inr, List, [], ◌∷◌, ◌++◌, All, drop, slice_index, Option, None, Some}
 use Rattle.std.proofs.Common.{Bool, true, false, IsTrue, refl, sym, ap, ◌∙◌, arith}
 use Rattle.std.proofs.lemmas.Bool.{cases_lt}
@@ -88,19 +89,7 @@ six_bits Secondary false n small = omega arith
 bytes_of : (master : MasterId) (burst : Bool) (first : ℕ) (others : List ℕ) (numbers : DeviceNumbers)
     → IsUniqueBytes master burst numbers (first ∷ others)
     → first % 64 ∷ others ≡ two_bytes numbers.expanded_type ++ three_bytes numbers.device_id
-bytes_of master burst first others numbers is =
-    let type = is.expanded_type in
-    let id = is.device_id in
-    let ranges = is.ranges in
-    let head : first ≡ first_byte master burst is.type_high = ap (λ xs. slice_index xs 0) is.five in
-    let rest : others ≡ is.type_low ∷ is.id_high ∷ is.id_middle ∷ is.id_low ∷ [] = ap (drop 1) is.five in
-    let six = six_bits master burst is.type_high ranges.0 in
-    let a : numbers.expanded_type / 256 ≡ is.type_high = omega (arith, type, ranges.1) in
-    let b : numbers.expanded_type % 256 ≡ is.type_low = omega (arith, type, ranges.1) in
-    let c : numbers.device_id / 65536 ≡ is.id_high = omega (arith, id, ranges.3, ranges.4) in
-    let d : numbers.device_id / 256 % 256 ≡ is.id_middle = omega (arith, id, ranges.2, ranges.3, ranges.4) in
-    let e : numbers.device_id % 256 ≡ is.id_low = omega (arith, id, ranges.4) in
-    rw (a, b, c, d, e, rest, head, six) refl
+bytes_of master burst first others numbers is = grind (arith, common_steps, slice_index, six_bits)
 
 -- so bytes name the device itself if they are those of its own address, for either master and with any burst bit
 pub own_address : (identity : IdentityParts) (bytes : List ℕ) → All (λ byte. byte < 256) bytes

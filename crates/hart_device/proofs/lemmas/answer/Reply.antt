@@ -1,6 +1,7 @@
 -- What a device replies to a command that is known is read again from its payload.
+use Rattle.std.proofs.lemmas.Grind.{common_steps}
 use Rattle.std.proofs.Common.{◌≡◌, ℕ, ◌<◌, List, [], ◌∷◌}
-use Rattle.std.proofs.Common.{◌==◌, Some, None, Ok, Err, refl, subst, arith, Bool, true, false, eqb}
+use Rattle.std.proofs.Common.{◌==◌, Some, None, Ok, Err, refl, arith, Bool, true, false, eqb}
 use Rattle.std.specs.Prelude.{if◌then◌else◌}
 use Rattle.std.specs.List.{AllByRecursion}
 use Rattle.std.proofs.lemmas.Bool.Decides.{nat_tests}
@@ -16,12 +17,11 @@ use Rattle.hart_commands.specs.RequestReading.{tag_reading}
 use Rattle.hart_commands.specs.declared.request.Request.{Request}
 use Rattle.hart_commands.proofs.lemmas.Laws.{overwrites_are_valid, requests_have_their_command}
 use Rattle.hart_device.specs.answer.Answer.{after_command, code_of, effect_of, judged_of, reading_of, reply_of, reply_with}
-use Rattle.hart_device.specs.answer.Content.{reply_content}
 use Rattle.hart_device.specs.declared.process.Process.{Process}
 use Rattle.hart_device.specs.Device.{DeviceState, Effect, Executes, Nothing, Resets, after}
 use Rattle.hart_device.specs.Process.{IsProcess}
 use Rattle.hart_device.proofs.lemmas.answer.Effect.{code_good, executed_made}
-use Rattle.hart_device.proofs.lemmas.answer.Content.{IsReadAgain, content_again, above}
+use Rattle.hart_device.proofs.lemmas.answer.Content.{content_again, above}
 
 -- CODES
 -- Data are read as a request, or refused with a code from 1 to 127.
@@ -95,12 +95,8 @@ judged_made state frame =
 reply_again : (state : DeviceState) (process : Process) (frame : FrameParts) (judged : Reading) → AreValid state.contents
     → IsProcess process → is_known frame.command ≡ true → IsJudged frame.command judged
     → reply_reading frame.command (reply_payload (reply_with state process frame judged)) ≡ Some (reply_with state process frame judged)
-reply_again state process frame (Ok request) valid is known made =
-    let again = content_again state process valid is request made.1 in
-    rw (subst (λ n. IsReadAgain n (reply_content state process request)) made.0 again) refl
-reply_again state process frame (Err code) valid is known made =
-    let positive : eqb code 0 ≡ false = (let some = made.0 in grind (arith, nat_tests)) in
-    rw (above 127 code (omega (arith, made.1)), positive, known) refl
+reply_again state process frame (Ok request) valid is known made = grind (arith, common_steps, content_again)
+reply_again state process frame (Err code) valid is known made = grind (arith, common_steps, above)
 
 -- A command leaves valid contents valid.
 after_valid : (master : MasterId) (effect : Effect) (state : DeviceState)

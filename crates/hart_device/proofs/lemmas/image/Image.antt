@@ -1,5 +1,5 @@
 -- What an image says, and that it says one thing.
-use Rattle.std.proofs.Common.{◌≡◌, ◌≢◌, ℕ, ◌-◌, ◌/◌, ◌%◌, ◌^◌, ◌<◌, ◌≤◌, ◌⊎◌, inl, inr, refl, sym, ap, ◌∙◌, subst}
+use Rattle.std.proofs.Common.{◌≡◌, ◌≢◌, ℕ, ◌-◌, ◌^◌, ◌<◌, ◌≤◌, ◌⊎◌, inl, inr, refl, sym, ap, ◌∙◌, subst}
 use Rattle.std.proofs.Common.{arith, Bool, true, Some, List, [], ◌∷◌, ◌++◌, length, drop}
 use Rattle.std.proofs.Common.{slice_index}
 use Rattle.std.specs.List.{Contains, flat_map, sum_by}
@@ -75,10 +75,7 @@ said : (state : DeviceState) (version : ℕ) (rest : List ℕ) (listed : List Re
     → IsImageOf state (version ∷ rest)
     → (rest ≡ flat_map (bytes_in state.contents) listed ++ image_ending state)
     × ((Contains listed LongTag → ⊥) → IsLongTagOf state.contents.tag state.contents.long_tag)
-said state version rest listed known is =
-    let written = is.written in
-    let list : is.listed ≡ listed = cc in
-    (cc, rw list at is.long_tag)
+said state version rest listed known is = grind (arith, common_steps, written)
 
 -- A state has one image of each version.
 pub one_image : (state : DeviceState) (image other : List ℕ) (is : IsImageOf state image) (other_is : IsImageOf state other)
@@ -100,15 +97,7 @@ written_is state valid counter = record {
 -- An image is one of a state whichever cold start bits are set.
 pub any_cold_start : (state : DeviceState) (image : List ℕ) (cold_start : EachMaster Bool) → IsImageOf state image
     → IsImageOf (record state { cold_start = cold_start }) image
-any_cold_start state image cold_start is = record {
-  contents = is.contents;
-  counter = is.counter;
-  version = is.version;
-  listed = is.listed;
-  known = is.known;
-  long_tag = is.long_tag;
-  written = is.written;
-}
+any_cold_start state image cold_start is = grind (arith, common_steps, written)
 
 -- The flags are below 8.
 pub flags_of-le : (changed : EachMaster Bool) (protected : Bool) → flags_of changed protected ≤ 7
@@ -134,8 +123,7 @@ pub read_is : (version : ℕ) (listed : List Register) → registers_of_version 
     → two_bytes parts.counter ++ flags_of parts.flags.changed parts.flags.protected ∷ [] ≡ end
     → (identity : IdentityParts) → IsImageOf (state_with identity parts) (version ∷ (prefix ++ end))
 read_is version listed known parts array prefix end fill long_tag contents valid ends identity =
-    let held : flat_map (bytes_in (contents_in array)) listed ≡ prefix =
-    (λ i. flat_map (λ register. bytes_in-contents_by (λ r. standing_for r array) register i) listed) ∙ fill in
+    let held : flat_map (bytes_in (contents_in array)) listed ≡ prefix = grind (arith, common_steps, flat_map, bytes_in-contents_by) in
     record {
       contents = valid.0;
       counter = valid.1;
@@ -169,11 +157,9 @@ bad_field version listed array prefix end three has whole (inr above) = inr (rw 
 -- An image has no fault.
 pub no_fault : (state : DeviceState) (image : List ℕ) (fault : DeviceFault) → IsImageOf state image → IsImageFault image fault → ⊥
 no_fault state [] fault is faulty = let none = is.written in cc
-no_fault state (version ∷ rest) BadVersion is faulty =
-    let written = is.written in cc
+no_fault state (version ∷ rest) BadVersion is faulty = grind (arith, common_steps, written)
 no_fault state (version ∷ rest) BadLength is (listed, known, wrong) =
-    let len = held_len state is.contents listed in
-    wrong (grind (arith, common_steps, (said state version rest listed known is).0, len))
+    let len = held_len state is.contents listed in grind (arith, common_steps, said)
 no_fault state (version ∷ rest) BadField is (listed, known, len, inl (register, there, bad)) =
     let after = (said state version rest listed known is).0 in
     bad (rw (after, held_in_image state is.contents listed (ends_of version listed known) register there) (is.contents register))
@@ -242,8 +228,4 @@ one_state state other (version ∷ rest) every one_text is other_is identity col
       drop_at _ (image_ending state) (sum_by size_of listed) (held_len state is.contents listed),
       drop_at _ (image_ending other) (sum_by size_of listed) (held_len other other_is.contents listed),
     )
-    at (ap (drop (sum_by size_of listed)) same) in
-    let high : state.counter / 256 ≡ other.counter / 256 = ap (λ xs. slice_index xs 0) ends in
-    let low : state.counter % 256 ≡ other.counter % 256 = ap (λ xs. slice_index xs 1) ends in
-    let bits = flags_determine state.changed other.changed state.protected other.protected (ap (λ xs. slice_index xs 2) ends) in
-    same_state state other identity contents (omega (arith, high, low)) bits.0 bits.1 cold_start
+    at (ap (drop (sum_by size_of listed)) same) in grind (arith, common_steps, slice_index, flags_determine, same_state)

@@ -1,4 +1,5 @@
 -- What an image of version 1 says, whose registers are read of an array of them all.
+use Rattle.std.proofs.lemmas.Grind.{common_steps}
 use Rattle.std.proofs.Common.{◌≡◌, ◌≢◌, ◌≤◌, ℕ, List, [], ◌++◌, length, refl, sym, ◌∙◌, arith, rules}
 use Rattle.std.proofs.Common.{Option, IfSome, IfNone, IfOk, IfErr}
 use Rattle.std.specs.List.{flat_map}
@@ -25,9 +26,7 @@ before_long_tag register differ = search rules
 -- So it stands in the 50 bytes that the registers of version 1 have, whatever follows.
 pub stands_before : (prefix others : List ℕ) → length prefix ≡ 50 → (register : Register) → register ≢ LongTag
     → standing_for register (prefix ++ others) ≡ standing_for register prefix
-stands_before prefix others len register differ =
-    let fits = before_long_tag register differ in
-    before_others register prefix others (omega (arith, fits, len))
+stands_before prefix others len register differ = grind (arith, common_steps, before_long_tag, before_others)
 
 -- An array that holds the same for all of them holds those bytes.
 pub holds_prefix : (array prefix : List ℕ) → length prefix ≡ 50

@@ -37,9 +37,7 @@ pub written : (bytes : Register → List ℕ) (before after : List ℕ) (held : 
     → (k : ℕ) (d : Register) → k < length held
     → standing_for (slice_index_or held k d) (before ++ (flat_map bytes held ++ after)) ≡ bytes (slice_index_or held k d)
 written bytes before after [] ends sizes k d within = absurd (omega arith)
-written bytes before after (register ∷ later) ends sizes zero d within =
-    let first = starts (length before) register later ends in
-    grind (arith, common_steps, first.0, sizes register)
+written bytes before after (register ∷ later) ends sizes zero d within = grind (arith, common_steps, starts)
 written bytes before after (register ∷ later) ends sizes (suc k) d within =
     let first = starts (length before) register later ends in
     let len : length (before ++ bytes register) ≡ end_of register = grind (arith, common_steps, sizes register, first.0) in

@@ -1,4 +1,5 @@
 -- The registers that lists of overwrites leave.
+use Rattle.std.proofs.lemmas.Grind.{common_steps}
 use Rattle.std.proofs.Common.{◌≡◌, ℕ, ◌<◌, zero, suc, ap, sym, arith, Option, None, unwrap_or}
 use Rattle.std.proofs.Common.{List, [], ◌∷◌, ◌++◌, length}
 use Rattle.std.specs.List.{Contains, slice_index_or}
@@ -26,8 +27,7 @@ bytes_in-overwritten overwrite old = bytes_in-contents_by (λ register. unwrap_o
 
 pub bytes_in-registers_of : (overwrites : List Overwrite) (initial : Contents) (register : Register)
     → bytes_in (registers_of overwrites initial) register ≡ unwrap_or (last_named overwrites register) (bytes_in initial register)
-bytes_in-registers_of overwrites initial =
-    bytes_in-contents_by (λ register. unwrap_or (last_named overwrites register) (bytes_in initial register))
+bytes_in-registers_of overwrites initial = grind (arith, common_steps, bytes_in-contents_by, unwrap_or)
 
 pub unwrap_or-option_or : {A : Type 0} (a b : Option A) (d : A) → unwrap_or (option_or a b) d ≡ unwrap_or a (unwrap_or b d)
 unwrap_or-option_or a b d = grind arith
@@ -42,18 +42,14 @@ option_or-assoc a b c = grind arith
 pub last_named-append : (overwrites : List Overwrite) (overwrite : Overwrite) (register : Register)
     → last_named (overwrites ++ overwrite ∷ []) register ≡ option_or (named_in overwrite register) (last_named overwrites register)
 last_named-append [] overwrite register = sym (option_or-None (named_in overwrite register))
-last_named-append (o ∷ os) overwrite register =
-    rw (last_named-append os overwrite register)
-    (option_or-assoc (named_in overwrite register) (last_named os register) (named_in o register))
+last_named-append (o ∷ os) overwrite register = grind (arith, common_steps, option_or-assoc, last_named-append os overwrite register)
 
 -- One that comes again later changes nothing.
 pub last_named-again : (later : List Overwrite) (overwrite : Overwrite) (register : Register) (k : ℕ)
     → k < length later → slice_index_or later k overwrite ≡ overwrite
     → option_or (last_named later register) (named_in overwrite register) ≡ last_named later register
 last_named-again [] overwrite register k within there = absurd (omega arith)
-last_named-again (o ∷ os) overwrite register zero within there =
-    let same : o ≡ overwrite = there in
-    rw same (twice (last_named os register) (named_in overwrite register))
+last_named-again (o ∷ os) overwrite register zero within there = grind (arith, common_steps)
   where
     twice : {A : Type 0} (a b : Option A) → option_or (option_or a b) b ≡ option_or a b
     twice a b = grind arith
@@ -76,5 +72,4 @@ registers_of-append overwrites overwrite initial = same_contents _ _ (λ registe
 
 pub registers_of-again : (overwrite : Overwrite) (later : List Overwrite) (initial : Contents) → Contains later overwrite
     → registers_of (overwrite ∷ later) initial ≡ registers_of later initial
-registers_of-again overwrite later initial there = same_contents _ _ (λ register.
-    let again = last_named-again later overwrite register there.0 there.1 there.2 in grind (arith, bytes_in-registers_of, again))
+registers_of-again overwrite later initial there = grind (arith, common_steps, same_contents, last_named-again, bytes_in-registers_of)

@@ -1,6 +1,7 @@
 -- Writing registers into an array, one after another.
-use Rattle.std.proofs.Common.{◌≡◌, ◌≢◌, ℕ, ◌+◌, ◌-◌, ◌<◌, ◌≤◌, ◌⊎◌, inl, inr, ap, ◌∙◌, arith}
-use Rattle.std.proofs.Common.{List, length, take, drop, nat_lt, if◌then◌else◌, Option, None, unwrap_or}
+use Rattle.std.proofs.lemmas.Grind.{common_steps}
+use Rattle.std.proofs.Common.{◌≡◌, ◌≢◌, ℕ, ◌+◌, ◌-◌, ◌<◌, ◌≤◌, ◌⊎◌, inl, inr, ◌∙◌, arith}
+use Rattle.std.proofs.Common.{List, length, nat_lt, if◌then◌else◌, Option, None, unwrap_or}
 use Rattle.std.specs.List.{AllPairs, Contains, slice_index_or, slice_range}
 use Rattle.std.proofs.lemmas.Bool.Decides.{nat_tests}
 use Rattle.std.proofs.lemmas.List.{get_or_default}
@@ -15,11 +16,8 @@ use Rattle.hart_device.specs.registers.Ranges.{standing_for}
 pub kept_apart : (array bytes : List ℕ) (start end other_start other_end : ℕ) → start ≤ end → end ≤ length array
     → length bytes ≡ end - start → other_start ≤ other_end → (end ≤ other_start) ⊎ (other_end ≤ start)
     → slice_range (put_mid start (end - start) array bytes) other_start other_end ≡ slice_range array other_start other_end
-kept_apart array bytes start end from to order fits size other (inl after) =
-    ap (take (to - from)) (drop-put_mid start (end - start) array bytes from (omega arith) (omega arith) size)
-kept_apart array bytes start end from to order fits size other (inr before) =
-    rw (between_is (put_mid start (end - start) array bytes) from to, between_is array from to)
-    (ap (drop from) (take-put_mid_below start (end - start) array bytes to before (omega arith)))
+kept_apart array bytes start end from to order fits size other (inl after) = grind (arith, common_steps, drop-put_mid)
+kept_apart array bytes start end from to order fits size other (inr before) = grind (arith, common_steps, between_is, take-put_mid_below)
 
 -- The register at a place of the list.
 abbrev pub register_at : ℕ → Register

@@ -1,6 +1,6 @@
+use Rattle.std.proofs.lemmas.Grind.{common_steps}
 use Rattle.std.proofs.Common.{◌≡◌, ◌+◌, ◌-◌, ◌<◌, ◌≤◌, List, ◌∷◌, length, take, drop, get_or, length-drop}
 use Rattle.std.proofs.Common.{Option, Some, None, arith, sym, ap, ◌∙◌}
-use Rattle.std.specs.Option.{option_and_then}
 use Rattle.std.proofs.Math.Seq.{drop-cons}
 use Rattle.std.proofs.lemmas.Bool.Decides.{nat_tests}
 use Rattle.hart_values.specs.declared.master_id.MasterId.{MasterId}
@@ -27,9 +27,7 @@ asked : (identity : IdentityParts) (chars head : List Character) (master : Maste
 asked identity chars head master found command count is asks some long sixth seventh =
     let a = drop-cons chars 6 command (omega (arith, long)) in
     let b = drop-cons chars 7 count long in
-    let rest : drop 6 chars ≡ command ∷ count ∷ drop 8 chars = cc in
-    ap (option_and_then (garbled_after chars (drop 6 chars))) (ap (asking_master identity) (sym is) ∙ sym asks ∙ some)
-    ∙ ap (λ (xs : List Character). garbled_after chars xs master) rest
+    let rest : drop 6 chars ≡ command ∷ count ∷ drop 8 chars = cc in grind (arith, common_steps)
 
 pub returns : goal.returns
 returns c =

@@ -1,8 +1,6 @@
-use Rattle.std.proofs.Common.{◌≡◌, ◌<◌, ◌^◌, arith}
+use Rattle.std.proofs.Common.{◌<◌, ◌^◌, arith}
 use Rattle.std.specs.List.{slice_index_or}
 use Rattle.std.proofs.lemmas.Grind.{common_steps}
-use Rattle.hart_commands.specs.Registers.{bytes_in, registers}
-use Rattle.hart_commands.specs.declared.register.Register.TheVariants.{Polling}
 use Rattle.hart_device.proofs.lemmas.image.Image.{written_is}
 use Rattle.hart_device.proofs.lemmas.registers.Range.{next_size, next_written}
 use Rattle.hart_device.proofs.device.Device.image.Goals as goal
@@ -16,15 +14,4 @@ returns-clause-image g c =
     rw (returns-clause-written g c) (written_is c.args.self.now c.registers-registers.ensures.valid counter)
 
 pub loop-register-preserved : goal.loop-register-preserved
-loop-register-preserved g c =
-    let place = c.loop-register.register-index in
-    let within = c.loop-register-test.true in
-    let bytes = next_written (bytes_in c.args.self.now.contents) place within in
-    let len = next_size place within in
-    let before = c.loop-register.invariant in
-    let got : c.get.result.now ≡ bytes_in c.args.self.now.contents (slice_index_or registers place Polling) =
-    rw c.registers-registers.ensures.contents at c.get.ensures.value in
-    record {
-      bytes = rw (c.extend_from_slice.ensures, before.bytes, got, bytes);
-      len = grind (arith, common_steps, c.extend_from_slice.ensures, before.len, len, c.get.ensures.size);
-    }
+loop-register-preserved g c = grind (arith, common_steps, next_written, next_size, slice_index_or)

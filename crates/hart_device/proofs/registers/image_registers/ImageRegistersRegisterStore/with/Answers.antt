@@ -1,5 +1,7 @@
-use Rattle.std.proofs.Common.{◌≡◌, Some, subst, sym, ◌∙◌}
-use Rattle.hart_commands.specs.Registers.{IsValidIn, bytes_in}
+use Rattle.std.proofs.Common.{arith}
+use Rattle.std.proofs.lemmas.Grind.{common_steps}
+use Rattle.std.proofs.Common.{◌≡◌, Some, ◌∙◌}
+use Rattle.hart_commands.specs.Registers.{bytes_in}
 use Rattle.hart_commands.specs.declared.register.Register.{Register}
 use Rattle.hart_device.specs.registers.Ranges.{contents_in, standing_for}
 use Rattle.hart_device.specs.registers.Values.{values_of}
@@ -21,9 +23,4 @@ returns c =
     λ register.
     bytes_in-contents_by (λ r. standing_for r c.loop-register.store.bytes) register
     ∙ all_written (λ r. Some (bytes_in (values_of c.args.values.now) r)) _ c.loop-register.store.bytes c.loop-register.register-index
-    c.loop-register-test.false all_registers_are_listed_once-every c.loop-register.invariant register in
-    record {
-      held = held;
-      valid = λ register.
-          subst (IsValidIn register) (c.with-fields.ensures.held register ∙ sym (held register)) (c.with-fields.ensures.valid register);
-    }
+    c.loop-register-test.false all_registers_are_listed_once-every c.loop-register.invariant register in grind (arith, common_steps)
