@@ -24,21 +24,15 @@ use Rattle.hart_device.specs.registers.Ranges.{array_length, end_of, standing_fo
 use Rattle.hart_device.specs.declared.fault.DeviceFault.{DeviceFault}
 use Rattle.hart_device.specs.declared.identity_parts.IdentityParts.{IdentityParts}
 use Rattle.hart_device.specs.declared.process.Process.{Process}
-use Rattle.hart_device.proofs.lemmas.answer.Delivery.{Brings-found, Brings-one}
-use Rattle.hart_device.proofs.lemmas.answer.Effect.{answered_if, effect_executes_only, executed_made, identity_stays, judged_has_code, refused}
-use Rattle.hart_device.proofs.lemmas.answer.Effect.{resets_only}
 use Rattle.hart_device.proofs.lemmas.answer.Reply.{payload_if, reply_read}
-use Rattle.hart_device.proofs.lemmas.image.Image.{any_cold_start, no_fault, one_state, written_is}
 use Rattle.hart_device.proofs.lemmas.registers.Range.{filled}
-use Rattle.hart_device.proofs.lemmas.registers.Registers.{registers_of-again, registers_of-append, registers_of-cons}
-
-pub deliveries_bring_one-brings : (identity : IdentityParts) (delivery : List Character)
-    → (brought : Brought) × Brings identity delivery brought
-deliveries_bring_one-brings = Brings-found
-
-pub deliveries_bring_one-one : (identity : IdentityParts) (delivery : List Character) (brought other : Brought)
-    → Brings identity delivery brought → Brings identity delivery other → brought ≡ other
-deliveries_bring_one-one = Brings-one
+use Rattle.hart_device.proofs.lemmas.answer.Effect.{answered_if, identity_stays, judged_has_code, refused}
+use Rattle.hart_device.proofs.lemmas.image.Image.{one_state, written_is}
+pub use Rattle.hart_device.proofs.lemmas.answer.Delivery.{deliveries_bring_one-brings, deliveries_bring_one-one}
+pub use Rattle.hart_device.proofs.lemmas.answer.Effect.{resets_name_this_counter-only}
+pub use Rattle.hart_device.proofs.lemmas.answer.Effect.{writes_execute_their_overwrite-only, writes_execute_their_overwrite-well_made}
+pub use Rattle.hart_device.proofs.lemmas.image.Image.{devices_are_kept_whole-any_cold_start, images_have_no_fault}
+pub use Rattle.hart_device.proofs.lemmas.registers.Registers.{registers_of_lists-again, registers_of_lists-first, registers_of_lists-last}
 
 pub answers_are_replies-well_made : (state : DeviceState) (process : Process) (frame : FrameParts) → AreValid state.contents
     → IsProcess process → is_known frame.command ≡ true → IsReply (reply_of state process frame)
@@ -53,39 +47,19 @@ answers_are_replies-read state process frame answer valid is known answered =
     (payload_if (is_answered state frame) frame answer (reply_payload (reply_of state process frame)) answered)
     (reply_read state process frame valid is known)
 
-pub images_have_no_fault : (state : DeviceState) (image : List ℕ) (fault : DeviceFault) → IsImageOf state image
-    → IsImageFault image fault → ⊥
-images_have_no_fault = no_fault
-
 pub devices_are_kept_whole-image : (state : DeviceState) → IsDevice state → IsImageOf state (image_of state)
 devices_are_kept_whole-image state is = written_is state is.contents is.counter
-
-pub devices_are_kept_whole-any_cold_start : (state : DeviceState) (image : List ℕ) (cold_start : EachMaster Bool)
-    → IsImageOf state image → IsImageOf (record state { cold_start = cold_start }) image
-devices_are_kept_whole-any_cold_start = any_cold_start
 
 pub devices_are_kept_whole-either_version : (state other : DeviceState) (image : List ℕ) → IsImageOf state image
     → IsImageOf other image → other.identity ≡ state.identity → record other { cold_start = state.cold_start } ≡ state
 devices_are_kept_whole-either_version state other image is other_is same =
     one_state _ state image all_registers_are_listed_once-every packed_text_and_bytes_determine_each_other-one_text
-    (any_cold_start other image state.cold_start other_is) is same refl
+    (devices_are_kept_whole-any_cold_start other image state.cold_start other_is) is same refl
 
 pub devices_are_kept_whole-whole : (state other : DeviceState) → IsDevice state → IsImageOf other (image_of state)
     → other.identity ≡ state.identity → record other { cold_start = state.cold_start } ≡ state
 devices_are_kept_whole-whole state other is =
     devices_are_kept_whole-either_version state other (image_of state) (devices_are_kept_whole-image state is)
-
-pub registers_of_lists-first : (overwrite : Overwrite) (later : List Overwrite) (initial : Contents)
-    → registers_of (overwrite ∷ later) initial ≡ registers_of later (overwritten overwrite initial)
-registers_of_lists-first = registers_of-cons
-
-pub registers_of_lists-last : (overwrites : List Overwrite) (overwrite : Overwrite) (initial : Contents)
-    → registers_of (overwrites ++ overwrite ∷ []) initial ≡ overwritten overwrite (registers_of overwrites initial)
-registers_of_lists-last = registers_of-append
-
-pub registers_of_lists-again : (overwrite : Overwrite) (later : List Overwrite) (initial : Contents) → Contains later overwrite
-    → registers_of (overwrite ∷ later) initial ≡ registers_of later initial
-registers_of_lists-again = registers_of-again
 
 pub registers_of_lists-none : (initial : Contents) → registers_of [] initial ≡ initial
 registers_of_lists-none initial = search rules
@@ -114,22 +88,6 @@ pub writes_execute_their_overwrite-executes : (state : DeviceState) (frame : Fra
     → is_answered state frame ≡ true → code_of state frame ≡ 0 → reading_of frame ≡ Ok request
     → overwrite_of request ≡ Some overwrite → effect_of state frame ≡ Executes overwrite
 writes_execute_their_overwrite-executes state frame request overwrite answered zero reading is = search rules
-
-pub writes_execute_their_overwrite-only : (state : DeviceState) (frame : FrameParts) (overwrite : Overwrite)
-    → effect_of state frame ≡ Executes overwrite
-    → (is_answered state frame ≡ true) × (code_of state frame ≡ 0)
-    × (request : Request) × (reading_of frame ≡ Ok request) × (overwrite_of request ≡ Some overwrite)
-writes_execute_their_overwrite-only state frame =
-    effect_executes_only (is_answered state frame) (code_of state frame) (reading_of frame)
-
-pub writes_execute_their_overwrite-well_made : (state : DeviceState) (frame : FrameParts) (overwrite : Overwrite)
-    → effect_of state frame ≡ Executes overwrite → IsRequest overwrite
-writes_execute_their_overwrite-well_made = executed_made
-
-pub resets_name_this_counter-only : (state : DeviceState) (frame : FrameParts) → effect_of state frame ≡ Resets
-    → (is_answered state frame ≡ true) × (code_of state frame ≡ 0)
-    × (counter : Option ℕ) × (reading_of frame ≡ Ok (ResetChanged counter)) × IfSome counter (λ n. n ≡ state.counter)
-resets_name_this_counter-only state frame = resets_only state frame
 
 -- The ranges of the registers lie within the array, lie apart, and fill it in the order of the registers.
 pub range_within : (register : Register) → end_of register ≤ array_length

@@ -1,4 +1,5 @@
 -- What a device replies with code 0 to a well-made request is read again from its bytes.
+use Rattle.hart_commands.proofs.lemmas.Parts.{by_spelling, spell}
 use Rattle.std.proofs.lemmas.Grind.{common_steps}
 use Rattle.std.proofs.Common.{◌≡◌, ℕ, zero, suc, ◌*◌, ◌/◌, ◌<◌, ◌≤◌, List, [], ◌∷◌, ◌++◌, length, map, min}
 use Rattle.std.proofs.Common.{Option, Some, None, All, get_or, slice_get, unwrap_or, refl, ap, subst, ◌∙◌, arith, true, false, ltb, eqb}
@@ -79,20 +80,15 @@ IsReadAgain command content = content_reading command (content_bytes content) �
 -- So many bytes say what they say.
 said : (size : ℕ) (content : List ℕ → ReplyContent) (bytes : List ℕ) → length bytes ≡ size
     → saying size content bytes ≡ Some (content bytes)
-said size content bytes long = rw (above (length bytes) size (omega arith), take_all size bytes (omega arith)) refl
+said size content bytes long = grind (arith, common_steps, nat_tests, take_all)
 
 tag_said : (tag descriptor date : List ℕ) → length tag ≡ 6 → length descriptor ≡ 12 → length date ≡ 3
     → saying 21 tag_of (tag ++ descriptor ++ date) ≡ Some (replied.Tag tag descriptor date)
 tag_said tag descriptor date of_tag of_descriptor of_date =
-    let bytes = tag ++ descriptor ++ date in
-    let front : length (tag ++ descriptor) ≡ 18 = omega (arith, length-append tag descriptor) in
-    let long : length bytes ≡ 21 = omega (arith, length-append (tag ++ descriptor) date) in
-    let whole : bytes ≡ tag ++ (descriptor ++ date) = append_assoc tag descriptor date in
-    let tag_is : tag_in bytes ≡ tag = rw whole (take_at tag (descriptor ++ date) 6 of_tag) in
-    let descriptor_is : descriptor_in bytes ≡ descriptor =
-    rw (whole, drop_at tag (descriptor ++ date) 6 of_tag) (take_at descriptor date 12 of_descriptor) in
-    let date_is : date_in bytes ≡ date = rw (drop_at (tag ++ descriptor) date 18 front) (take_all 3 date (omega arith)) in
-    said 21 tag_of bytes long ∙ rw (tag_is, descriptor_is, date_is) refl
+    by_spelling 6 (λ xs. saying 21 tag_of (xs ++ descriptor ++ date) ≡ Some (replied.Tag xs descriptor date)) (λ xs.
+    by_spelling 12 (λ ys. saying 21 tag_of (spell 6 xs ++ ys ++ date) ≡ Some (replied.Tag (spell 6 xs) ys date)) (λ ys.
+    by_spelling 3 (λ zs. saying 21 tag_of (spell 6 xs ++ spell 12 ys ++ zs) ≡ Some (replied.Tag (spell 6 xs) (spell 12 ys) zs)) (λ zs. refl)
+    date of_date) descriptor of_descriptor) tag of_tag
 
 dynamic_said : (current : Bits32) (values : List UnitValue) → IsFloat current → 0 < length values → length values ≤ 4
     → All (λ v. IsFloat v.value) values
@@ -142,25 +138,20 @@ variable_is_float process is code = grind (arith, dynamic_is_float)
 -- What a device replies with code 0 to a well-made request is read again.
 pub content_again : (state : DeviceState) (process : Process) → AreValid state.contents → IsProcess process → (request : Request)
     → IsRequest request → IsReadAgain (command_of request) (reply_content state process request)
-content_again state process valid is requested.Identify made = refl
-content_again state process valid is requested.ReadPrimary made = let x = four process.first.value.0 is.first in rw x.4 refl
+content_again state process valid is requested.ReadPrimary made = grind (arith, common_steps, four)
 content_again state process valid is requested.ReadCurrent made = grind (arith, common_steps, four)
 content_again state process valid is requested.ReadDynamic made =
     dynamic_said process.loop_current (map unit_value (dynamic_variables process)) is.loop_current
     (omega (arith, length-map (dynamic_variables process) unit_value))
     (omega (arith, length-map (dynamic_variables process) unit_value, is.few))
     (All-map (λ (v : UnitValue). IsFloat v.value) unit_value (dynamic_variables process) (dynamic_floats process is))
-content_again state process valid is (requested.SetPolling address mode) made = refl
-content_again state process valid is requested.ReadPolling made = refl
-content_again state process valid is requested.ReadClasses made = refl
 content_again state process valid is (requested.ReadVariables codes) made =
     variables_said _ (map (variable_reading process) codes) process.time_stamp
     (omega (arith, length-map codes (variable_reading process), made.0))
     (omega (arith, length-map codes (variable_reading process), made.1))
     (All-map (λ v. IsFloat v.value) (variable_reading process) codes (λ k d within. variable_is_float process is (get_or codes k d)))
     is.time_stamp
-content_again state process valid is (requested.IdentifyByTag tag) made = refl
-content_again state process valid is requested.ReadMessage made = said 24 replied.Message state.contents.message (valid registers.Message).0
+content_again state process valid is requested.ReadMessage made = said 24 replied.Message _ (valid registers.Message).0
 content_again state process valid is requested.ReadTag made =
     tag_said _ _ _ (valid registers.Tag).0 (valid registers.Descriptor).0 (valid registers.Date).0
 content_again state process valid is requested.ReadSensor made = grind (arith, common_steps, three, four)
@@ -168,22 +159,13 @@ content_again state process valid is requested.ReadOutput made =
     let u = four process.output.upper_range_value.0 is.upper_range_value in
     let l = four process.output.lower_range_value.0 is.lower_range_value in
     let d = four process.output.damping.0 is.damping in rw (u.4, l.4, d.4) refl
-content_again state process valid is requested.ReadAssembly made =
-    said 3 replied.Assembly state.contents.assembly (valid registers.Assembly).0
-content_again state process valid is (requested.WriteMessage message) made =
-    said 24 replied.Message state.contents.message (valid registers.Message).0
+content_again state process valid is requested.ReadAssembly made = said 3 replied.Assembly _ (valid registers.Assembly).0
+content_again state process valid is (requested.WriteMessage message) made = said 24 replied.Message _ (valid registers.Message).0
 content_again state process valid is (requested.WriteTag tag descriptor date) made =
     tag_said _ _ _ (valid registers.Tag).0 (valid registers.Descriptor).0 (valid registers.Date).0
-content_again state process valid is (requested.WriteAssembly assembly) made =
-    said 3 replied.Assembly state.contents.assembly (valid registers.Assembly).0
-content_again state process valid is requested.ReadLongTag made =
-    said 32 replied.LongTag state.contents.long_tag (valid registers.LongTag).0
-content_again state process valid is (requested.IdentifyByLongTag long_tag) made = refl
-content_again state process valid is (requested.WriteLongTag long_tag) made =
-    said 32 replied.LongTag state.contents.long_tag (valid registers.LongTag).0
-content_again state process valid is (requested.ResetChanged counter) made = refl
-content_again state process valid is requested.ReadMore made = more process.additional_status is.additional_status
-  where
-    more : (status : List ℕ) → length status ≡ 25 → IsReadAgain 48 (replied.More status)
-    more [] long = absurd (omega arith)
-    more (byte ∷ bytes) long = ap (λ xs. Some (replied.More xs)) (take_all 25 (byte ∷ bytes) (omega arith))
+content_again state process valid is (requested.WriteAssembly assembly) made = said 3 replied.Assembly _ (valid registers.Assembly).0
+content_again state process valid is requested.ReadLongTag made = said 32 replied.LongTag _ (valid registers.LongTag).0
+content_again state process valid is (requested.WriteLongTag long_tag) made = said 32 replied.LongTag _ (valid registers.LongTag).0
+content_again state process valid is requested.ReadMore made =
+    by_spelling 25 (λ xs. IsReadAgain 48 (replied.More xs)) (λ xs. refl) process.additional_status is.additional_status
+content_again state process valid is _ made = refl

@@ -27,10 +27,9 @@ pub by_frames : (identity : IdentityParts) (chars : List Character) (frames : Li
     → AreFrames chars 0 frames → Brings identity chars brought → BringsBy identity chars frames brought
 by_frames identity chars frames brought are brings = grind (arith, common_steps, frames_are_unambiguous-one_list)
 
-pub Brings-one : (identity : IdentityParts) (chars : List Character) (a b : Brought)
+pub deliveries_bring_one-one : (identity : IdentityParts) (chars : List Character) (a b : Brought)
     → Brings identity chars a → Brings identity chars b → a ≡ b
-Brings-one identity chars a b p q =
-    BringsBy-one identity chars q.frames a b (by_frames identity chars q.frames a q.are_frames p) q.by_frames
+deliveries_bring_one-one identity chars a b p q = grind (arith, common_steps, frames_are_unambiguous-one_list, BringsBy-one)
 
 -- so that every delivery brings something
 BringsBy-found : (identity : IdentityParts) (chars : List Character) (frames : List Found)
@@ -42,9 +41,9 @@ BringsBy-found identity chars [] = elim (garbled_decided identity chars) [
 BringsBy-found identity chars (found ∷ []) = (OneFrame found.frame, refl)
 BringsBy-found identity chars (found ∷ other ∷ more) = (NoMessage, refl)
 
-pub Brings-found : (identity : IdentityParts) (chars : List Character)
+pub deliveries_bring_one-brings : (identity : IdentityParts) (chars : List Character)
     → (brought : Brought) × Brings identity chars brought
-Brings-found identity chars =
+deliveries_bring_one-brings identity chars =
     let frames = every_list_has_frames chars 0 in
     let brings = BringsBy-found identity chars frames.0 in grind (arith, common_steps, by_frames)
 

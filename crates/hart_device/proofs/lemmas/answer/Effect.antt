@@ -29,40 +29,39 @@ effect_is_asked state frame answered = grind (arith, nat_tests)
 -- Only a write executes an overwrite, and that is its own.
 executes_only : (reading : Reading) (overwrite : Overwrite) → asked_effect reading ≡ Executes overwrite
     → (request : Request) × (reading ≡ Ok request) × (overwrite_of request ≡ Some overwrite)
-executes_only (Err code) overwrite is = cc
-executes_only (Ok (ResetChanged counter)) overwrite is = cc
-executes_only (Ok request) overwrite is = (request, refl, grind arith)
+executes_only reading overwrite is = grind arith
 
 -- A write executes its overwrite.
 pub write_executes : (request : Request) (overwrite : Overwrite) → overwrite_of request ≡ Some overwrite
     → asked_effect (Ok request) ≡ Executes overwrite
-write_executes (ResetChanged counter) overwrite is = cc
-write_executes request overwrite is = ap executed is
+write_executes request overwrite is = grind arith
 
 -- An effect is that of an answer with code 0, and is what was asked.
 done_if : (answered : Bool) (code : ℕ) (asked effect : Effect) → effect ≢ Nothing
     → (if answered && (code == 0) then asked else Nothing) ≡ effect → (answered ≡ true) × (code ≡ 0) × (asked ≡ effect)
 done_if answered code asked effect some is = grind (arith, nat_tests)
 
-pub effect_executes_only : (answered : Bool) (code : ℕ) (reading : Reading) (overwrite : Overwrite)
-    → (if answered && (code == 0) then asked_effect reading else Nothing) ≡ Executes overwrite
-    → (answered ≡ true) × (code ≡ 0) × (request : Request) × (reading ≡ Ok request) × (overwrite_of request ≡ Some overwrite)
-effect_executes_only answered code reading overwrite is = grind (arith, common_steps, done_if, executes_only)
+pub writes_execute_their_overwrite-only : (state : DeviceState) (frame : FrameParts) (overwrite : Overwrite)
+    → effect_of state frame ≡ Executes overwrite
+    → (is_answered state frame ≡ true) × (code_of state frame ≡ 0)
+    × (request : Request) × (reading_of frame ≡ Ok request) × (overwrite_of request ≡ Some overwrite)
+writes_execute_their_overwrite-only state frame overwrite is =
+    let done = done_if (is_answered state frame) (code_of state frame) (asked_effect (reading_of frame)) _ (λ no. cc) is in
+    let write = executes_only (reading_of frame) overwrite done.2 in
+    (done.0, done.1, write.0, write.1, write.2)
 
 -- An overwrite that is executed is a well-made request.
 own_overwrite : (request : Request) (overwrite : Overwrite) → overwrite_of request ≡ Some overwrite → request ≡ overwrite
 own_overwrite request overwrite is = grind arith
 
-pub executed_made : (state : DeviceState) (frame : FrameParts) (overwrite : Overwrite) → effect_of state frame ≡ Executes overwrite
-    → IsRequest overwrite
-executed_made state frame overwrite is =
-    let write = effect_executes_only (is_answered state frame) (code_of state frame) (reading_of frame) overwrite is in
+pub writes_execute_their_overwrite-well_made : (state : DeviceState) (frame : FrameParts) (overwrite : Overwrite)
+    → effect_of state frame ≡ Executes overwrite → IsRequest overwrite
+writes_execute_their_overwrite-well_made state frame overwrite is =
+    let write = writes_execute_their_overwrite-only state frame overwrite is in
     grind (arith, common_steps, own_overwrite, requests_have_their_command)
 
 asked_resets : (reading : Reading) → asked_effect reading ≡ Resets → (counter : Option ℕ) × (reading ≡ Ok (ResetChanged counter))
-asked_resets (Err code) is = cc
-asked_resets (Ok (ResetChanged counter)) is = (counter, refl)
-asked_resets (Ok request) is = absurd (grind arith)
+asked_resets reading is = grind arith
 
 -- Code 0 is what the data and the counter say.
 pub code_good : (state : DeviceState) (frame : FrameParts) → code_of state frame ≡ 0 → data_code (reading_of frame) state.counter ≡ 0
@@ -80,10 +79,10 @@ named_counter : (named : Option ℕ) (counter : ℕ) → counter_code (ResetChan
     → IfSome named (λ n. n ≡ counter)
 named_counter named counter is = grind (arith, nat_tests)
 
-pub resets_only : (state : DeviceState) (frame : FrameParts) → effect_of state frame ≡ Resets
+pub resets_name_this_counter-only : (state : DeviceState) (frame : FrameParts) → effect_of state frame ≡ Resets
     → (is_answered state frame ≡ true) × (code_of state frame ≡ 0)
     × (counter : Option ℕ) × (reading_of frame ≡ Ok (ResetChanged counter)) × IfSome counter (λ n. n ≡ state.counter)
-resets_only state frame is =
+resets_name_this_counter-only state frame is =
     let parts = done_if (is_answered state frame) (code_of state frame) (asked_effect (reading_of frame)) Resets (λ no. cc) is in
     let asked = asked_resets (reading_of frame) parts.2 in
     (parts.0, parts.1, asked.0, asked.1, named_counter asked.0 state.counter (rw asked.1 at (code_good state frame parts.1)))

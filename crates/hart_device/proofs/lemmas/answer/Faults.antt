@@ -34,23 +34,11 @@ count bit chars = count_by (λ character. bit_at character.byte bit == 1) chars
 abbrev pub IsCheck : List Character → ℕ → Type 0
 IsCheck chars check = (bit : ℕ) → bit_at check bit ≡ count bit chars % 2
 
--- a byte is zero unless one of its bits is set
-some_bit : (n a b c d e f g h : ℕ) → n ≡ a + 2 * b + 4 * c + 8 * d + 16 * e + 32 * f + 64 * g + 128 * h
-    → a < 2 → b < 2 → c < 2 → d < 2 → e < 2 → f < 2 → g < 2 → h < 2
-    → not (n == 0) ≡ list_any (λ bit. bit == 1) (a ∷ b ∷ c ∷ d ∷ e ∷ f ∷ g ∷ h ∷ [])
-some_bit n a b c d e f g h is p q r s t u v w = grind (arith, nat_tests)
-
 -- a check byte is zero unless some bit is odd
 pub odd_is : (chars : List Character) (check : ℕ) → IsCheck chars check → check < 256 → not (check == 0) ≡ has_odd_bit chars
-odd_is chars check is small =
-    let odd : ℕ → ℕ = λ bit. count bit chars % 2 in
-    some_bit check (odd 0) (odd 1) (odd 2) (odd 3) (odd 4) (odd 5) (odd 6) (odd 7)
-    (omega (arith, small, is 0, is 1, is 2, is 3, is 4, is 5, is 6, is 7))
-    (omega arith) (omega arith) (omega arith) (omega arith) (omega arith) (omega arith) (omega arith) (omega arith)
-
-bit_says : (n bit : ℕ) → bit_at n bit ≡ bit_if (bit_at n bit == 1) 1
-bit_says n bit = let below = bit_at-lt n bit in grind (arith, nat_tests)
+odd_is chars check is small = grind (arith, nat_tests, is 0, is 1, is 2, is 3, is 4, is 5, is 6, is 7)
 
 pub IsCheck-more : (chars : List Character) (i check : ℕ) (character : Character) → i < length chars
     → character ≡ get_or chars i character → IsCheck (take i chars) check → IsCheck (take (i + 1) chars) (bit_xor check character.byte)
-IsCheck-more chars i check character within is checked bit = grind (arith, common_steps, sum_by_more, bit_says, bit_at_xor)
+IsCheck-more chars i check character within is checked bit =
+    grind (arith, common_steps, nat_tests, sum_by_more, bit_at-lt, bit_at_xor)

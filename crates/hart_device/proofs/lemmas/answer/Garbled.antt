@@ -1,4 +1,6 @@
 -- That a list of characters has one garbled request, or none, and that its address is the device's own.
+use Rattle.std.proofs.lemmas.Bool.Decides.{nat_tests}
+use Rattle.std.proofs.Common.{nat_lt, if◌then◌else◌, not}
 use Rattle.std.proofs.lemmas.Grind.{common_steps}
 use Rattle.std.proofs.Common.{◌≡◌, ℕ, ◌<◌, ◌/◌, ◌%◌, ◌⊎◌, ◌↔◌, inl, inr, List, [], ◌∷◌, ◌++◌, All, drop, slice_index, Option, None, Some}
 use Rattle.std.proofs.Common.{Bool, true, false, IsTrue, refl, sym, ap, ◌∙◌, arith}
@@ -46,16 +48,7 @@ garbled_decided identity chars = elim (first_starts_are_decided-decided chars) [
 
 -- the bytes of numbers, below the two bits on top of the first, are those of a unique address
 first_of : (first : ℕ) → first < 256 → (master : MasterId) × (burst : Bool) × (first ≡ first_byte master burst (first % 64))
-first_of first small = elim (cases_lt first 128) [
-  | inl low ↦ elim (cases_lt first 64) [
-    | inl clear ↦ (Secondary, false, omega arith)
-    | inr set ↦ (Secondary, true, omega arith)
-  ]
-  | inr high ↦ elim (cases_lt first 192) [
-    | inl clear ↦ (Primary, false, omega arith)
-    | inr set ↦ (Primary, true, omega arith)
-  ]
-]
+first_of first small = (if nat_lt first 128 then Secondary else Primary, not (nat_lt (first % 128) 64), grind (arith, nat_tests))
 
 unique_of : (first : ℕ) (others : List ℕ) (numbers : DeviceNumbers) → All (λ byte. byte < 256) (first ∷ others)
     → first % 64 ∷ others ≡ two_bytes numbers.expanded_type ++ three_bytes numbers.device_id
@@ -80,16 +73,9 @@ unique_of first others numbers small is =
       },
     )
 
-six_bits : (master : MasterId) (burst : Bool) (n : ℕ) → n < 64 → first_byte master burst n % 64 ≡ n
-six_bits Primary true n small = omega arith
-six_bits Primary false n small = omega arith
-six_bits Secondary true n small = omega arith
-six_bits Secondary false n small = omega arith
-
-bytes_of : (master : MasterId) (burst : Bool) (first : ℕ) (others : List ℕ) (numbers : DeviceNumbers)
-    → IsUniqueBytes master burst numbers (first ∷ others)
-    → first % 64 ∷ others ≡ two_bytes numbers.expanded_type ++ three_bytes numbers.device_id
-bytes_of master burst first others numbers is = grind (arith, common_steps, slice_index, six_bits)
+pub own_named : (identity : IdentityParts) (master : MasterId) (burst : Bool) (bytes : List ℕ)
+    → IsUniqueBytes master burst (own_numbers identity) bytes → IsTrue (is_own_address identity bytes)
+own_named identity master burst bytes is = grind (arith, nat_tests)
 
 -- so bytes name the device itself if they are those of its own address, for either master and with any burst bit
 pub own_address : (identity : IdentityParts) (bytes : List ℕ) → All (λ byte. byte < 256) bytes
@@ -98,5 +84,5 @@ pub own_address : (identity : IdentityParts) (bytes : List ℕ) → All (λ byte
 own_address identity [] small = (λ is. cc, λ has. let five = has.2.five in cc)
 own_address identity (first ∷ others) small = (
   λ is. unique_of first others (own_numbers identity) small ((bytes_eq-Decides _ _).0 is),
-  λ has. (bytes_eq-Decides _ _).1 (bytes_of has.0 has.1 first others (own_numbers identity) has.2),
+  λ has. own_named identity has.0 has.1 (first ∷ others) has.2,
 )

@@ -1,4 +1,8 @@
 -- What a device replies to a command that is known is read again from its payload.
+use Rattle.std.proofs.Common.{IfSome, Option}
+use Rattle.hart_commands.specs.RequestData.{request_reading}
+use Rattle.hart_commands.specs.Commands.{command_row}
+use Rattle.hart_commands.proofs.lemmas.Rows.{found}
 use Rattle.std.proofs.lemmas.Grind.{common_steps}
 use Rattle.std.proofs.Common.{◌≡◌, ℕ, ◌<◌, List, [], ◌∷◌}
 use Rattle.std.proofs.Common.{◌==◌, Some, None, Ok, Err, refl, arith, Bool, true, false, eqb}
@@ -20,7 +24,7 @@ use Rattle.hart_device.specs.answer.Answer.{after_command, code_of, effect_of, j
 use Rattle.hart_device.specs.declared.process.Process.{Process}
 use Rattle.hart_device.specs.Device.{DeviceState, Effect, Executes, Nothing, Resets, after}
 use Rattle.hart_device.specs.Process.{IsProcess}
-use Rattle.hart_device.proofs.lemmas.answer.Effect.{code_good, executed_made}
+use Rattle.hart_device.proofs.lemmas.answer.Effect.{code_good, writes_execute_their_overwrite-well_made}
 use Rattle.hart_device.proofs.lemmas.answer.Content.{content_again, above}
 
 -- CODES
@@ -29,46 +33,21 @@ abbrev pub IsRefusal : Reading → Type 0
 IsRefusal (Ok request) = Unit {0}
 IsRefusal (Err code) = (0 < code) × (code < 128)
 
-needing_refuses : (size : ℕ) (request : List ℕ → Request) (bytes : List ℕ) → IsRefusal (needing size request bytes)
-needing_refuses size request bytes = grind arith
-
-mode_refuses : (address mode : ℕ) → IsRefusal (polling_with address mode)
-mode_refuses address mode = grind arith
-
-polling_refuses : (bytes : List ℕ) → IsRefusal (polling_reading bytes)
-polling_refuses bytes = grind (arith, mode_refuses)
-
-codes_refuse : (bytes : List ℕ) → IsRefusal (codes_reading bytes)
-codes_refuse bytes = grind arith
-
-tag_refuses : (bytes : List ℕ) → IsRefusal (tag_reading bytes)
-tag_refuses bytes = grind arith
-
-reset_refuses : (bytes : List ℕ) → IsRefusal (reset_reading bytes)
-reset_refuses bytes = grind arith
-
 abbrev pub Refuses : CommandRow → Type 0
 Refuses row = (bytes : List ℕ) → IsRefusal (asked row.request bytes)
 
 rows_refuse : AllByRecursion Refuses commands
-rows_refuse = search (needing_refuses, polling_refuses, codes_refuse, tag_refuses, reset_refuses)
+rows_refuse = search (arith, nat_tests)
 
-table_refuses : (rows : List CommandRow) → AllByRecursion Refuses rows → (command : ℕ) (bytes : List ℕ)
-    → IsRefusal (read_by (row_in rows command) bytes)
-table_refuses [] all command bytes = (omega arith, omega arith)
-table_refuses (row ∷ rows) all command bytes = go (eqb command row.number) (table_refuses rows all.1 command bytes)
+reading_refuses : (command : ℕ) (bytes : List ℕ) → IsRefusal (request_reading command bytes)
+reading_refuses command bytes = by_row (command_row command) (found Refuses commands command rows_refuse)
   where
-    go : (b : Bool) → IsRefusal (read_by (row_in rows command) bytes)
-        → IsRefusal (read_by (if b then Some row else row_in rows command) bytes)
-    go true others = all.0 bytes
-    go false others = others
-
-data_small : (reading : Reading) (counter : ℕ) → IsRefusal reading → data_code reading counter < 128
-data_small reading counter refusal = grind arith
+    by_row : (row : Option CommandRow) → IfSome row (λ row. (row.number ≡ command) × Refuses row) → IsRefusal (read_by row bytes)
+    by_row row refuses = grind arith
 
 code_small : (command : ℕ) (reading : Reading) (protected : Bool) (counter : ℕ) → IsRefusal reading
     → request_code command reading protected counter < 128
-code_small command reading protected counter refusal = grind (arith, data_small)
+code_small command reading protected counter refusal = grind arith
 
 -- REPLIES
 -- A frame comes to a well-made request of its command, or to a code from 1 to 127 that refuses it.
@@ -82,7 +61,7 @@ judged_by command code reading small good = grind (arith, nat_tests)
 
 judged_made : (state : DeviceState) (frame : FrameParts) → IsJudged frame.command (judged_of state frame)
 judged_made state frame =
-    let refuses = table_refuses commands rows_refuse frame.command frame.payload in
+    let refuses = reading_refuses frame.command frame.payload in
     judged_by frame.command (code_of state frame) (reading_of frame)
     (code_small frame.command (reading_of frame) state.protected state.counter refuses)
     (λ none. go (reading_of frame) refl refuses (code_good state frame none))
@@ -107,7 +86,7 @@ after_valid master (Executes overwrite) state made valid = overwrites_are_valid 
 after_valid master Resets state made valid = valid
 
 command_valid : (state : DeviceState) (frame : FrameParts) → AreValid state.contents → AreValid (after_command state frame).contents
-command_valid state frame = after_valid frame.master (effect_of state frame) state (executed_made state frame)
+command_valid state frame = after_valid frame.master (effect_of state frame) state (writes_execute_their_overwrite-well_made state frame)
 
 -- What a device replies to a command that is known is read as that reply.
 pub reply_read : (state : DeviceState) (process : Process) (frame : FrameParts) → AreValid state.contents → IsProcess process

@@ -95,9 +95,9 @@ written_is state valid counter = record {
 }
 
 -- An image is one of a state whichever cold start bits are set.
-pub any_cold_start : (state : DeviceState) (image : List ℕ) (cold_start : EachMaster Bool) → IsImageOf state image
+pub devices_are_kept_whole-any_cold_start : (state : DeviceState) (image : List ℕ) (cold_start : EachMaster Bool) → IsImageOf state image
     → IsImageOf (record state { cold_start = cold_start }) image
-any_cold_start state image cold_start is = grind (arith, common_steps, written)
+devices_are_kept_whole-any_cold_start state image cold_start is = grind (arith, common_steps, written)
 
 -- The flags are below 8.
 pub flags_of-le : (changed : EachMaster Bool) (protected : Bool) → flags_of changed protected ≤ 7
@@ -155,19 +155,19 @@ bad_field version listed array prefix end three has whole (inl (register, differ
 bad_field version listed array prefix end three has whole (inr above) = inr (rw (last_is version prefix end three) above)
 
 -- An image has no fault.
-pub no_fault : (state : DeviceState) (image : List ℕ) (fault : DeviceFault) → IsImageOf state image → IsImageFault image fault → ⊥
-no_fault state [] fault is faulty = let none = is.written in cc
-no_fault state (version ∷ rest) BadVersion is faulty = grind (arith, common_steps, written)
-no_fault state (version ∷ rest) BadLength is (listed, known, wrong) =
+pub images_have_no_fault : (state : DeviceState) (image : List ℕ) (fault : DeviceFault) → IsImageOf state image → IsImageFault image fault → ⊥
+images_have_no_fault state [] fault is faulty = let none = is.written in cc
+images_have_no_fault state (version ∷ rest) BadVersion is faulty = grind (arith, common_steps, written)
+images_have_no_fault state (version ∷ rest) BadLength is (listed, known, wrong) =
     let len = held_len state is.contents listed in grind (arith, common_steps, said)
-no_fault state (version ∷ rest) BadField is (listed, known, len, inl (register, there, bad)) =
+images_have_no_fault state (version ∷ rest) BadField is (listed, known, len, inl (register, there, bad)) =
     let after = (said state version rest listed known is).0 in
     bad (rw (after, held_in_image state is.contents listed (ends_of version listed known) register there) (is.contents register))
-no_fault state (version ∷ rest) BadField is (listed, known, len, inr above) =
+images_have_no_fault state (version ∷ rest) BadField is (listed, known, len, inr above) =
     let after : rest ≡ flat_map (bytes_in state.contents) listed ++ image_ending state = (said state version rest listed known is).0 in
     let last = last_is version (flat_map (bytes_in state.contents) listed) (image_ending state) refl in
     absurd (omega (arith, rw (after, last) at above, flags_of-le state.changed state.protected))
-no_fault state (version ∷ rest) _ is faulty = faulty
+images_have_no_fault state (version ∷ rest) _ is faulty = faulty
 
 -- Bytes have one fault.
 pub one_fault : (image : List ℕ) (fault other : DeviceFault) → IsImageFault image fault → IsImageFault image other → fault ≡ other

@@ -60,16 +60,16 @@ last_named-again (o ∷ os) overwrite register (suc k) within there =
     again_below : {A : Type 0} (a b c : Option A) → option_or a b ≡ a → option_or (option_or a c) b ≡ option_or a c
     again_below a b c h = grind arith
 
-pub registers_of-cons : (overwrite : Overwrite) (later : List Overwrite) (initial : Contents)
+pub registers_of_lists-first : (overwrite : Overwrite) (later : List Overwrite) (initial : Contents)
     → registers_of (overwrite ∷ later) initial ≡ registers_of later (overwritten overwrite initial)
-registers_of-cons overwrite later initial =
+registers_of_lists-first overwrite later initial =
     same_contents _ _ (λ register. grind (arith, bytes_in-registers_of, bytes_in-overwritten, unwrap_or-option_or))
 
-pub registers_of-append : (overwrites : List Overwrite) (overwrite : Overwrite) (initial : Contents)
+pub registers_of_lists-last : (overwrites : List Overwrite) (overwrite : Overwrite) (initial : Contents)
     → registers_of (overwrites ++ overwrite ∷ []) initial ≡ overwritten overwrite (registers_of overwrites initial)
-registers_of-append overwrites overwrite initial = same_contents _ _ (λ register.
+registers_of_lists-last overwrites overwrite initial = same_contents _ _ (λ register.
     grind (arith, last_named-append, bytes_in-registers_of, bytes_in-overwritten, unwrap_or-option_or))
 
-pub registers_of-again : (overwrite : Overwrite) (later : List Overwrite) (initial : Contents) → Contains later overwrite
+pub registers_of_lists-again : (overwrite : Overwrite) (later : List Overwrite) (initial : Contents) → Contains later overwrite
     → registers_of (overwrite ∷ later) initial ≡ registers_of later initial
-registers_of-again overwrite later initial there = grind (arith, common_steps, same_contents, last_named-again, bytes_in-registers_of)
+registers_of_lists-again overwrite later initial there = grind (arith, common_steps, same_contents, last_named-again, bytes_in-registers_of)
