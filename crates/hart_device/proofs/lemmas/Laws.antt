@@ -43,9 +43,7 @@ pub answers_are_replies-read : (state : DeviceState) (process : Process) (frame 
     → IsProcess process → is_known frame.command ≡ true → answer_of state process frame ≡ Some answer
     → reply_reading frame.command answer.payload ≡ Some (reply_of state process frame)
 answers_are_replies-read state process frame answer valid is known answered =
-    subst (λ payload. reply_reading frame.command payload ≡ Some (reply_of state process frame))
-    (payload_if (is_answered state frame) frame answer (reply_payload (reply_of state process frame)) answered)
-    (reply_read state process frame valid is known)
+    rw (← payload_if (is_answered state frame) frame answer _ answered) (reply_read state process frame valid is known)
 
 pub devices_are_kept_whole-image : (state : DeviceState) → IsDevice state → IsImageOf state (image_of state)
 devices_are_kept_whole-image state is = written_is state is.contents is.counter
@@ -53,8 +51,7 @@ devices_are_kept_whole-image state is = written_is state is.contents is.counter
 pub devices_are_kept_whole-either_version : (state other : DeviceState) (image : List ℕ) → IsImageOf state image
     → IsImageOf other image → other.identity ≡ state.identity → record other { cold_start = state.cold_start } ≡ state
 devices_are_kept_whole-either_version state other image is other_is same =
-    one_state _ state image all_registers_are_listed_once-every packed_text_and_bytes_determine_each_other-one_text
-    (devices_are_kept_whole-any_cold_start other image state.cold_start other_is) is same refl
+    one_state _ state image (devices_are_kept_whole-any_cold_start other image state.cold_start other_is) is same refl
 
 pub devices_are_kept_whole-whole : (state other : DeviceState) → IsDevice state → IsImageOf other (image_of state)
     → other.identity ≡ state.identity → record other { cold_start = state.cold_start } ≡ state
@@ -77,12 +74,11 @@ pub answers_give_their_code-answered : (state : DeviceState) (process : Process)
     → (is_answered state frame ≡ true) × (reply ≡ reply_parts frame reply.payload)
     × (slice_get reply.payload 0 ≡ Some (code_of state frame))
 answers_give_their_code-answered state process frame reply is =
-    let parts = answered_if (is_answered state frame) frame reply (reply_of state process frame) is in
-    (parts.0, parts.1, parts.2 ∙ ap Some (judged_has_code state frame))
+    rw (judged_has_code state frame) at (answered_if (is_answered state frame) frame reply (reply_of state process frame) is)
 
 pub frames_leave_identity_and_protection-identity : (state : DeviceState) (frame : FrameParts)
     → (state_after state frame).identity ≡ state.identity
-frames_leave_identity_and_protection-identity state frame = grind (arith, common_steps, identity_stays)
+frames_leave_identity_and_protection-identity state frame = search identity_stays
 
 pub writes_execute_their_overwrite-executes : (state : DeviceState) (frame : FrameParts) (request : Request) (overwrite : Overwrite)
     → is_answered state frame ≡ true → code_of state frame ≡ 0 → reading_of frame ≡ Ok request

@@ -1,4 +1,7 @@
 -- What an image says, and that it says one thing.
+use Rattle.hart_values.proofs.lemmas.Laws.{packed_text_and_bytes_determine_each_other-one_text}
+use Rattle.hart_commands.proofs.lemmas.Laws.{all_registers_are_listed_once-every}
+use Rattle.std.proofs.lemmas.List.{append_cancel_left}
 use Rattle.std.proofs.Common.{◌≡◌, ◌≢◌, ℕ, ◌-◌, ◌^◌, ◌<◌, ◌≤◌, ◌⊎◌, inl, inr, refl, sym, ap, ◌∙◌, subst}
 use Rattle.std.proofs.Common.{arith, Bool, true, Some, List, [], ◌∷◌, ◌++◌, length, drop}
 use Rattle.std.proofs.Common.{slice_index}
@@ -31,11 +34,6 @@ known_version : (version : ℕ) (listed : List Register) → registers_of_versio
     → ((version ≡ 1) × (listed ≡ registers_of_version_1)) ⊎ ((version ≡ 2) × (listed ≡ registers))
 known_version version listed known = grind (arith, nat_tests)
 
--- A version has one list of registers.
-one_list : (version : ℕ) (listed other : List Register) → registers_of_version version ≡ Some listed
-    → registers_of_version version ≡ Some other → listed ≡ other
-one_list version listed other known same = cc
-
 -- The registers of a version stand end to end.
 ends_of : (version : ℕ) (listed : List Register) → registers_of_version version ≡ Some listed → end_to_end 0 listed ≡ true
 ends_of version listed known = grind (arith, nat_tests)
@@ -46,22 +44,16 @@ no_long_tag has = grind (arith, elements, has.1, has.2)
 
 -- Every other register is.
 pub in_version_1 : (register : Register) → register ≢ LongTag → Contains registers_of_version_1 register
-in_version_1 Polling differs = (0, omega arith, refl)
-in_version_1 Mode differs = (1, omega arith, refl)
-in_version_1 Message differs = (2, omega arith, refl)
-in_version_1 Tag differs = (3, omega arith, refl)
-in_version_1 Descriptor differs = (4, omega arith, refl)
-in_version_1 Date differs = (5, omega arith, refl)
-in_version_1 Assembly differs = (6, omega arith, refl)
-in_version_1 LongTag differs = absurd (differs refl)
+in_version_1 register differs =
+    let there = all_registers_are_listed_once-every register in
+    (there.0, grind (arith, elements, there.1, there.2), grind (arith, elements, there.1, there.2))
 
 -- A register that a version has not is the long tag.
-listed_or_not : (version : ℕ) (listed : List Register) → registers_of_version version ≡ Some listed
-    → ((register : Register) → Contains registers register) → (register : Register)
+listed_or_not : (version : ℕ) (listed : List Register) → registers_of_version version ≡ Some listed → (register : Register)
     → Contains listed register ⊎ ((register ≡ LongTag) × (Contains listed LongTag → ⊥) × Contains listed Tag)
-listed_or_not version listed known every register = elim (known_version version listed known) [
+listed_or_not version listed known register = elim (known_version version listed known) [
   | inl one ↦ rw one.1 (in_first register)
-  | inr two ↦ inl (rw two.1 (every register))
+  | inr two ↦ inl (rw two.1 (all_registers_are_listed_once-every register))
 ]
   where
     in_first : (r : Register)
@@ -103,17 +95,15 @@ devices_are_kept_whole-any_cold_start state image cold_start is = grind (arith, 
 pub flags_of-le : (changed : EachMaster Bool) (protected : Bool) → flags_of changed protected ≤ 7
 flags_of-le changed protected = grind arith
 
--- As many bytes as its registers have stand before the ending of an image.
-pub held_len : (state : DeviceState) → AreValid state.contents → (listed : List Register)
-    → length (flat_map (bytes_in state.contents) listed) ≡ sum_by size_of listed
-held_len state valid = length_written (bytes_in state.contents) (λ r. (valid r).0)
-
 -- What stands for a register in an image that has it is what it holds.
-pub held_in_image : (state : DeviceState) → AreValid state.contents → (listed : List Register) → end_to_end 0 listed ≡ true
-    → (register : Register) → Contains listed register
-    → standing_for register (flat_map (bytes_in state.contents) listed ++ image_ending state) ≡ bytes_in state.contents register
-held_in_image state valid listed ends register there =
-    rw there.2 at (written (bytes_in state.contents) [] (image_ending state) listed ends (λ r. (valid r).0) there.0 register there.1)
+held_in_image : (state : DeviceState) (version : ℕ) (rest : List ℕ) (listed : List Register) → registers_of_version version ≡ Some listed
+    → IsImageOf state (version ∷ rest) → (register : Register) → Contains listed register
+    → standing_for register rest ≡ bytes_in state.contents register
+held_in_image state version rest listed known is register there =
+    let sizes = λ (r : Register). (is.contents r).0 in
+    let after = (said state version rest listed known is).0 in
+    rw after (rw there.2 at (written (bytes_in state.contents) [] (image_ending state) listed (ends_of version listed known) sizes
+    there.0 register there.1))
 
 -- What was read of the registers in an array, and of the bytes that end an image, is what the image says.
 pub read_is : (version : ℕ) (listed : List Register) → registers_of_version version ≡ Some listed
@@ -155,14 +145,14 @@ bad_field version listed array prefix end three has whole (inl (register, differ
 bad_field version listed array prefix end three has whole (inr above) = inr (rw (last_is version prefix end three) above)
 
 -- An image has no fault.
-pub images_have_no_fault : (state : DeviceState) (image : List ℕ) (fault : DeviceFault) → IsImageOf state image → IsImageFault image fault → ⊥
+pub images_have_no_fault : (state : DeviceState) (image : List ℕ) (fault : DeviceFault) → IsImageOf state image
+    → IsImageFault image fault → ⊥
 images_have_no_fault state [] fault is faulty = let none = is.written in cc
 images_have_no_fault state (version ∷ rest) BadVersion is faulty = grind (arith, common_steps, written)
 images_have_no_fault state (version ∷ rest) BadLength is (listed, known, wrong) =
-    let len = held_len state is.contents listed in grind (arith, common_steps, said)
+    let len = length_written (bytes_in state.contents) (λ r. (is.contents r).0) listed in grind (arith, common_steps, said)
 images_have_no_fault state (version ∷ rest) BadField is (listed, known, len, inl (register, there, bad)) =
-    let after = (said state version rest listed known is).0 in
-    bad (rw (after, held_in_image state is.contents listed (ends_of version listed known) register there) (is.contents register))
+    bad (rw (held_in_image state version rest listed known is register there) (is.contents register))
 images_have_no_fault state (version ∷ rest) BadField is (listed, known, len, inr above) =
     let after : rest ≡ flat_map (bytes_in state.contents) listed ++ image_ending state = (said state version rest listed known is).0 in
     let last = last_is version (flat_map (bytes_in state.contents) listed) (image_ending state) refl in
@@ -171,61 +161,36 @@ images_have_no_fault state (version ∷ rest) _ is faulty = faulty
 
 -- Bytes have one fault.
 pub one_fault : (image : List ℕ) (fault other : DeviceFault) → IsImageFault image fault → IsImageFault image other → fault ≡ other
-one_fault image fault other p q = grind (arith, nat_tests, one_list)
+one_fault image fault other p q = grind (arith, nat_tests)
 
--- Flags determine what they are of.
-flags_determine : (changed others : EachMaster Bool) (protected other : Bool)
-    → flags_of changed protected ≡ flags_of others other → (changed ≡ others) × (protected ≡ other)
-flags_determine changed others protected other same = grind arith
-
--- A state is determined by its parts.
+-- A state is determined by its parts, of which an image ends with three.
 same_state : (state other : DeviceState) → state.identity ≡ other.identity → state.contents ≡ other.contents
-    → state.counter ≡ other.counter → state.changed ≡ other.changed → state.protected ≡ other.protected
-    → state.cold_start ≡ other.cold_start → state ≡ other
-same_state state other identity contents counter changed protected cold_start = grind arith
+    → state.cold_start ≡ other.cold_start → image_ending state ≡ image_ending other → state ≡ other
+same_state state other identity contents cold_start ends = grind arith
 
 -- Contents are determined by what an image says of them.
-one_contents : (state other : DeviceState) (listed : List Register)
-    → ((text others bytes : List ℕ) → IsPacked text bytes → IsPacked others bytes → text ≡ others)
-    → ((register : Register) → Contains listed register ⊎ ((register ≡ LongTag) × (Contains listed LongTag → ⊥) × Contains listed Tag))
+one_contents : (state other : DeviceState) (version : ℕ) (listed : List Register) → registers_of_version version ≡ Some listed
     → ((register : Register) → Contains listed register → bytes_in state.contents register ≡ bytes_in other.contents register)
     → ((Contains listed LongTag → ⊥) → IsLongTagOf state.contents.tag state.contents.long_tag)
     → ((Contains listed LongTag → ⊥) → IsLongTagOf other.contents.tag other.contents.long_tag)
     → state.contents ≡ other.contents
-one_contents state other listed one_text is_listed same long_tag other_long_tag =
-    same_contents state.contents other.contents (λ register. by_listed register (is_listed register))
-  where
-    one_long_tag : (tag a b : List ℕ) → IsLongTagOf tag a → IsLongTagOf tag b → a ≡ b
-    one_long_tag tag a b (text, packed, is) (others, other_packed, other_is) =
-        let same = one_text text others tag packed other_packed in cc
-
-    by_listed : (register : Register)
-        → Contains listed register ⊎ ((register ≡ LongTag) × (Contains listed LongTag → ⊥) × Contains listed Tag)
-        → bytes_in state.contents register ≡ bytes_in other.contents register
-    by_listed register (inl there) = same register there
-    by_listed register (inr (is, not, tag)) =
-        rw is (one_long_tag other.contents.tag _ _ (rw (same Tag tag) at (long_tag not)) (other_long_tag not))
+one_contents state other version listed known same long_tag other_long_tag = same_contents _ _ (λ register.
+    grind (arith, packed_text_and_bytes_determine_each_other-one_text, listed_or_not version listed known register, same register, same Tag))
 
 -- An image is of one state.
-pub one_state : (state other : DeviceState) (image : List ℕ) → ((register : Register) → Contains registers register)
-    → ((text others bytes : List ℕ) → IsPacked text bytes → IsPacked others bytes → text ≡ others)
-    → IsImageOf state image → IsImageOf other image → state.identity ≡ other.identity → state.cold_start ≡ other.cold_start → state ≡ other
-one_state state other [] every one_text is other_is identity cold_start = let none = is.written in cc
-one_state state other (version ∷ rest) every one_text is other_is identity cold_start =
+pub one_state : (state other : DeviceState) (image : List ℕ) → IsImageOf state image → IsImageOf other image
+    → state.identity ≡ other.identity → state.cold_start ≡ other.cold_start → state ≡ other
+one_state state other [] is other_is identity cold_start = let none = is.written in cc
+one_state state other (version ∷ rest) is other_is identity cold_start =
     let listed = is.listed in
     let written = is.written in
     let known : registers_of_version version ≡ Some listed = cc in
     let says = said state version rest listed known is in
     let other_says = said other version rest listed known other_is in
-    let same = sym says.0 ∙ other_says.0 in
-    let table = ends_of version listed known in
     let contents : state.contents ≡ other.contents =
-    one_contents state other listed one_text (listed_or_not version listed known every) (λ register there.
-    sym (held_in_image state is.contents listed table register there) ∙ ap (standing_for register) same
-    ∙ held_in_image other other_is.contents listed table register there) says.1 other_says.1 in
-    let ends : image_ending state ≡ image_ending other =
-    rw (
-      drop_at _ (image_ending state) (sum_by size_of listed) (held_len state is.contents listed),
-      drop_at _ (image_ending other) (sum_by size_of listed) (held_len other other_is.contents listed),
-    )
-    at (ap (drop (sum_by size_of listed)) same) in grind (arith, common_steps, slice_index, flags_determine, same_state)
+    one_contents state other version listed known (λ register there.
+    sym (held_in_image state version rest listed known is register there)
+    ∙ held_in_image other version rest listed known other_is register there) says.1 other_says.1 in
+    let front = ap (λ (c : Contents). flat_map (bytes_in c) listed) contents in
+    same_state state other identity contents cold_start
+    (append_cancel_left (flat_map (bytes_in other.contents) listed) _ _ (let a = says.0 in let b = other_says.0 in cc))
