@@ -1,30 +1,22 @@
 -- The laws of devices, for the proofs of this crate and of those above.
 use Rattle.std.proofs.Common.{arith}
 use Rattle.std.proofs.lemmas.Grind.{common_steps}
-use Rattle.std.proofs.Common.{◌≡◌, ◌≢◌, ◌≤◌, ◌⊎◌, ◌∙◌, ap, refl, rules, subst, false, true, ℕ, Contains, List, [], ◌∷◌, ◌++◌, length, sym}
-use Rattle.std.proofs.Common.{Bool, IfSome, Ok, Option, Some, slice_get}
+use Rattle.std.proofs.Common.{◌≡◌, ◌≢◌, ◌≤◌, ◌⊎◌, refl, rules, false, true, ℕ, List, [], length, sym}
+use Rattle.std.proofs.Common.{Ok, Some, slice_get}
 use Rattle.std.specs.List.{flat_map}
-use Rattle.hart_values.specs.declared.each_master.EachMaster.{EachMaster}
-use Rattle.hart_values.proofs.lemmas.Laws.{packed_text_and_bytes_determine_each_other-one_text}
-use Rattle.hart_frame.specs.heard.Character.{Character}
 use Rattle.hart_frame.specs.wire.FrameParts.{FrameParts, reply_parts}
-use Rattle.hart_commands.specs.Registers.{AreValid, Contents, Overwrite, overwrite_of, overwritten, registers, registers_of}
+use Rattle.hart_commands.specs.Registers.{AreValid, Contents, Overwrite, overwrite_of, registers, registers_of}
 use Rattle.hart_commands.specs.ReplyData.{IsReply, reply_payload, reply_reading}
-use Rattle.hart_commands.specs.RequestData.{IsRequest, is_known}
+use Rattle.hart_commands.specs.RequestData.{is_known}
 use Rattle.hart_commands.specs.declared.register.Register.{Register}
 use Rattle.hart_commands.specs.declared.request.Request.{Request}
-use Rattle.hart_commands.specs.declared.request.Request.TheVariants.{ResetChanged}
-use Rattle.hart_commands.proofs.lemmas.Laws.{all_registers_are_listed_once-every}
-use Rattle.hart_device.specs.Device.{DeviceState, Executes, IsDevice, Nothing, Resets}
+use Rattle.hart_device.specs.Device.{DeviceState, Executes, IsDevice, Nothing}
 use Rattle.hart_device.specs.Process.{IsProcess}
 use Rattle.hart_device.specs.answer.Answer.{answer_of, code_of, effect_of, is_answered, reading_of, reply_of, state_after}
-use Rattle.hart_device.specs.answer.Delivery.{Brings, Brought}
-use Rattle.hart_device.specs.image.Image.{IsImageFault, IsImageOf, image_of}
+use Rattle.hart_device.specs.image.Image.{IsImageOf, image_of}
 use Rattle.hart_device.specs.registers.Ranges.{array_length, end_of, standing_for, start_of}
-use Rattle.hart_device.specs.declared.fault.DeviceFault.{DeviceFault}
-use Rattle.hart_device.specs.declared.identity_parts.IdentityParts.{IdentityParts}
 use Rattle.hart_device.specs.declared.process.Process.{Process}
-use Rattle.hart_device.proofs.lemmas.answer.Reply.{payload_if, reply_read}
+use Rattle.hart_device.proofs.lemmas.answer.Reply.{reply_read}
 use Rattle.hart_device.proofs.lemmas.registers.Range.{filled}
 use Rattle.hart_device.proofs.lemmas.answer.Effect.{answered_if, identity_stays, judged_has_code, refused}
 use Rattle.hart_device.proofs.lemmas.image.Image.{one_state, written_is}
@@ -43,7 +35,8 @@ pub answers_are_replies-read : (state : DeviceState) (process : Process) (frame 
     → IsProcess process → is_known frame.command ≡ true → answer_of state process frame ≡ Some answer
     → reply_reading frame.command answer.payload ≡ Some (reply_of state process frame)
 answers_are_replies-read state process frame answer valid is known answered =
-    rw (← payload_if (is_answered state frame) frame answer _ answered) (reply_read state process frame valid is known)
+    rw (← (answered_if (is_answered state frame) frame answer (reply_of state process frame) answered).3)
+    (reply_read state process frame valid is known)
 
 pub devices_are_kept_whole-image : (state : DeviceState) → IsDevice state → IsImageOf state (image_of state)
 devices_are_kept_whole-image state is = written_is state is.contents is.counter
@@ -74,7 +67,8 @@ pub answers_give_their_code-answered : (state : DeviceState) (process : Process)
     → (is_answered state frame ≡ true) × (reply ≡ reply_parts frame reply.payload)
     × (slice_get reply.payload 0 ≡ Some (code_of state frame))
 answers_give_their_code-answered state process frame reply is =
-    rw (judged_has_code state frame) at (answered_if (is_answered state frame) frame reply (reply_of state process frame) is)
+    let parts = answered_if (is_answered state frame) frame reply (reply_of state process frame) is in
+    (parts.0, parts.1, rw (judged_has_code state frame) at parts.2)
 
 pub frames_leave_identity_and_protection-identity : (state : DeviceState) (frame : FrameParts)
     → (state_after state frame).identity ≡ state.identity

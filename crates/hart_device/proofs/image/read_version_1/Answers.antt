@@ -1,5 +1,4 @@
-use Rattle.std.proofs.Common.{◌≡◌, ◌≢◌, ap, refl, sym, ◌∙◌, ◌++◌, drop, replicate, arith}
-use borrow.Rule.Slice.PartMut.{put_mid}
+use Rattle.std.proofs.Common.{◌≡◌, ◌≢◌, refl, sym, ◌∙◌, drop, replicate, arith}
 use Rattle.std.proofs.lemmas.Grind.{common_steps}
 use Rattle.hart_commands.specs.declared.register.Register.{Register}
 use Rattle.hart_commands.specs.declared.register.Register.TheVariants.{LongTag}
@@ -12,18 +11,12 @@ use Rattle.hart_device.proofs.image.read_version_1.Goals as goal
 pub returns-then-rest-clause-refused : goal.returns-then-rest-clause-refused
 returns-then-rest-clause-refused c = (registers_of_version_1, refl, λ same. absurd (c.if-rest.true (omega (arith, same))))
 
--- The registers of the image are the first bytes of the array.
-stored : (c : goal.After-ok_or)
-    → put_mid 0 50 (replicate 82 0) c.copy_from_slice.new.self ≡ c.split_at.result.0.now ++ drop 50 (replicate 82 0)
-stored c = rw c.copy_from_slice.ensures.after refl
-
 -- What the image has for a register is read of the array.
 is_read : (c : goal.After-ok_or) (register : Register) → register ≢ LongTag
     → standing_for register c.set_long_tag.new.self.bytes ≡ standing_for register c.split_at.result.0.now
 is_read c register differ =
     c.set_long_tag.ensures.others register differ
-    ∙ ap (standing_for register) (stored c)
-    ∙ stands_before c.split_at.result.0.now (drop 50 (replicate 82 0)) c.split_at.ensures.front_len register differ
+    ∙ rw c.copy_from_slice.ensures.after (stands_before _ (drop 50 (replicate 82 0)) c.split_at.ensures.front_len register differ)
 
 pub returns-clause-refused : goal.returns-clause-refused
 returns-clause-refused c =
@@ -34,8 +27,7 @@ returns-clause-refused c =
       grind (arith, common_steps, split.front_len, split.back_len, c.if-rest.false),
       bad_field 1 registers_of_version_1 c.set_long_tag.new.self.bytes c.split_at.result.0.now c.split_at.result.1.now
           (omega (arith, split.back_len, c.if-rest.false)) in_version_1
-          (λ register differ.
-          stands_before c.split_at.result.0.now c.split_at.result.1.now split.front_len register differ ∙ sym (is_read c register differ))
+          (λ register differ. stands_before _ _ split.front_len register differ ∙ sym (is_read c register differ))
           bad,
     )))
 
@@ -45,6 +37,5 @@ returns-clause-kept c =
     let array = c.set_long_tag.new.self.bytes in
     rw (c.ok_or.ensures.value, c.split_at.ensures.by_index.0)
     (kept_or _ _ _ _ c.read_parts.result _ read.registers read.valid read.ending (λ parts contents valid ends.
-    read_is 1 registers_of_version_1 refl parts array c.split_at.result.0.now c.split_at.result.1.now
-    (holds_prefix array c.split_at.result.0.now c.split_at.ensures.front_len (is_read c))
+    read_is 1 _ refl parts array _ _ (holds_prefix array _ c.split_at.ensures.front_len (is_read c))
     (λ not_listed. c.set_long_tag.ensures.set) contents valid ends))

@@ -1,37 +1,34 @@
-use Rattle.std.proofs.Common.{if◌then◌else◌, ◌≡◌, ◌∙◌, ℕ, Bool, Some, IsSomeAnd, slice_get, ap, subst, false}
+use Rattle.hart_device.proofs.lemmas.answer.Effect.{answered_if}
+use Rattle.std.proofs.Common.{if◌then◌else◌, ◌≡◌, Some, IsSomeAnd, slice_get}
 use Rattle.std.specs.Int.{bit_at}
 use Rattle.hart_values.specs.EachMaster.{of_master}
-use Rattle.hart_values.specs.declared.each_master.EachMaster.{EachMaster}
 use Rattle.hart_frame.specs.wire.FrameParts.{FrameParts}
 use Rattle.hart_device.specs.answer.Answer.{after_command, answer_of, effect_of, is_answered, reply_of, state_after}
 use Rattle.hart_device.specs.Device.{DeviceState}
 use Rattle.hart_device.specs.Process.{has_more_status}
 use Rattle.hart_device.specs.answer.Status.{is_loop_current_fixed}
 use Rattle.hart_device.specs.declared.process.Process.{Process}
-use Rattle.hart_device.proofs.lemmas.answer.ColdStart.{bit_in_status, cleared, effect_keeps, status_of, with_this}
+use Rattle.hart_device.proofs.lemmas.answer.ColdStart.{bit_in_status, cleared, effect_keeps, with_this}
 use Rattle.hart_device.proofs.laws.cold_starts_are_shown_once.Goals as goal
 
 shown : (state : DeviceState) (process : Process) (frame reply : FrameParts) → answer_of state process frame ≡ Some reply
     → IsSomeAnd (slice_get reply.payload 1) (λ status. bit_at status 5 ≡ (if of_master frame.master state.cold_start then 1 else 0))
 shown state process frame reply is =
     let commanded = after_command state frame in
-    let P : ℕ → Type 0 = λ status. bit_at status 5 ≡ (if of_master frame.master state.cold_start then 1 else 0) in
-    let cold = effect_keeps frame.master (effect_of state frame) state in
-    let bit = bit_in_status process.status (of_master frame.master commanded.changed) (of_master frame.master commanded.cold_start)
-    (has_more_status process) (is_loop_current_fixed commanded) in
-    status_of (is_answered state frame) frame reply (reply_of state process frame) P is
-    (bit ∙ ap (λ (bits : EachMaster Bool). if of_master frame.master bits then 1 else 0) cold)
+    rw (
+      ← effect_keeps frame.master (effect_of state frame) state,
+      ← (answered_if (is_answered state frame) frame reply (reply_of state process frame) is).3,
+    )
+    (bit_in_status process.status (of_master frame.master commanded.changed) (of_master frame.master commanded.cold_start)
+    (has_more_status process) (is_loop_current_fixed commanded))
 
 pub returns-clause-shown : goal.returns-clause-shown
 returns-clause-shown c = shown
 
 pub returns-clause-once : goal.returns-clause-once
 returns-clause-once c = λ state process frame later reply answered same is.
-    let bits = cleared (is_answered state frame) frame.master (effect_of state frame) state answered in
-    let clear : of_master later.master (state_after state frame).cold_start ≡ false =
-    ap (of_master later.master) bits ∙ rw same (with_this frame.master false state.cold_start) in
-    let P : Bool → Type 0 = λ bit. IsSomeAnd (slice_get reply.payload 1) (λ status. bit_at status 5 ≡ (if bit then 1 else 0)) in
-    subst P clear (shown (state_after state frame) process later reply is)
+    rw (cleared (is_answered state frame) frame.master (effect_of state frame) state answered, same, with_this)
+    at (shown (state_after state frame) process later reply is)
 
 pub returns-clause-cleared : goal.returns-clause-cleared
-returns-clause-cleared c = λ state frame. cleared (is_answered state frame) frame.master (effect_of state frame) state
+returns-clause-cleared c = search cleared

@@ -1,14 +1,10 @@
 -- What a frame and a reply do to the cold start bits.
-use Rattle.std.proofs.Common.{◌≡◌, ℕ, arith, bit_and, bit_or, slice_get, Bool, true, false, if◌then◌else◌}
-use Rattle.std.proofs.Common.{Some, None, IsSomeAnd}
+use Rattle.std.proofs.Common.{◌≡◌, ℕ, arith, bit_and, bit_or, Bool, true, false, if◌then◌else◌}
 use Rattle.std.specs.Int.{bit_at}
 use Rattle.std.proofs.lemmas.Nat.Bits.{bit_at_and, bit_at_or}
 use Rattle.hart_values.specs.declared.master_id.MasterId.{MasterId}
 use Rattle.hart_values.specs.EachMaster.{of_master, with_master}
 use Rattle.hart_values.specs.declared.each_master.EachMaster.{EachMaster}
-use Rattle.hart_frame.specs.wire.FrameParts.{FrameParts, reply_parts}
-use Rattle.hart_commands.specs.ReplyData.{reply_payload}
-use Rattle.hart_commands.specs.declared.reply.Reply.{Reply}
 use Rattle.hart_device.specs.Device.{DeviceState, Effect, Nothing, after, after_reply}
 use Rattle.hart_device.specs.answer.Status.{bit_if}
 
@@ -34,13 +30,6 @@ pub bit_in_status : (x : ℕ) (changed cold more fixed : Bool)
     → bit_at (bit_or (bit_or (bit_or (bit_or (bit_and x 0x87) (bit_if changed 0x40)) (bit_if cold 0x20)) (bit_if more 0x10))
     (bit_if fixed 0x08)) 5 ≡ (if cold then 1 else 0)
 bit_in_status x changed cold more fixed = simp (bit_at_or, bit_at_and) (grind arith)
-
--- A reply has its device status as the second byte.
-pub status_of : (holds : Bool) (frame reply : FrameParts) (answer : Reply) (P : ℕ → Type 0)
-    → (if holds then Some (reply_parts frame (reply_payload answer)) else None) ≡ Some reply → P (answer.status).0
-    → IsSomeAnd (slice_get reply.payload 1) P
-status_of true frame reply answer P is has = let same : reply_parts frame (reply_payload answer) ≡ reply = cc in rw (← same) has
-status_of false frame reply answer P is has = cc
 
 pub with_this : (master : MasterId) (bit : Bool) (bits : EachMaster Bool) → of_master master (with_master master bit bits) ≡ bit
 with_this master bit bits = grind arith

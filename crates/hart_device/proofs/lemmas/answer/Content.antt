@@ -1,8 +1,10 @@
 -- What a device replies with code 0 to a well-made request is read again from its bytes.
+use Rattle.std.proofs.Common.{slice_index}
+use Rattle.std.proofs.lemmas.Grind.{elements}
 use Rattle.hart_commands.proofs.lemmas.Parts.{by_spelling, spell}
 use Rattle.std.proofs.lemmas.Grind.{common_steps}
 use Rattle.std.proofs.Common.{◌≡◌, ℕ, zero, suc, ◌*◌, ◌/◌, ◌<◌, ◌≤◌, List, [], ◌∷◌, ◌++◌, length, map, min}
-use Rattle.std.proofs.Common.{Option, Some, None, All, get_or, slice_get, unwrap_or, refl, ap, subst, ◌∙◌, arith, true, false, ltb, eqb}
+use Rattle.std.proofs.Common.{Option, Some, All, get_or, slice_get, unwrap_or, refl, arith, true, false, ltb, eqb}
 use Rattle.std.proofs.Common.{append_assoc, append-nil, length-append}
 use Rattle.std.specs.List.{flat_map}
 use Rattle.std.specs.Simd.{first_chunks}
@@ -17,7 +19,6 @@ use Rattle.hart_commands.specs.Values.{unit_value_of, unit_value_bytes, variable
 use Rattle.hart_commands.specs.ReplyData.{content_reading}
 use Rattle.hart_commands.specs.ReplyReading.{dynamic_reading, saying, tag_of, variables_reading}
 use Rattle.hart_commands.specs.RequestData.{IsRequest, command_of}
-use Rattle.hart_commands.specs.TagBytes.{date_in, descriptor_in, tag_in}
 use Rattle.hart_commands.specs.declared.content.ReplyContent.{ReplyContent}
 use Rattle.hart_commands.specs.declared.content.ReplyContent.TheVariants as replied
 use Rattle.hart_commands.specs.declared.register.Register.TheVariants as registers
@@ -43,15 +44,10 @@ same : (n : ℕ) → eqb n n ≡ true
 same n = grind (arith, nat_tests)
 
 three : (xs : List ℕ) → length xs ≡ 3 → (a : ℕ) × (b : ℕ) × (c : ℕ) × (xs ≡ a ∷ b ∷ c ∷ [])
-three [] long = absurd (omega arith)
-three (a ∷ []) long = absurd (omega arith)
-three (a ∷ b ∷ []) long = absurd (omega arith)
-three (a ∷ b ∷ c ∷ []) long = (a, b, c, refl)
-three (a ∷ b ∷ c ∷ d ∷ xs) long = absurd (omega arith)
+three xs long = (slice_index xs 0, slice_index xs 1, slice_index xs 2, grind (arith, elements))
 
 four : (xs : List ℕ) → length xs ≡ 4 → (a : ℕ) × (b : ℕ) × (c : ℕ) × (d : ℕ) × (xs ≡ a ∷ b ∷ c ∷ d ∷ [])
-four [] long = absurd (omega arith)
-four (a ∷ xs) long = let rest = three xs (omega arith) in (a, rest.0, rest.1, rest.2, ap (λ ys. a ∷ ys) rest.3)
+four xs long = (slice_index xs 0, slice_index xs 1, slice_index xs 2, slice_index xs 3, grind (arith, elements))
 
 -- Things of n bytes each, end to end, are read one by one.
 end_to_end : {X : Type 0} (n : ℕ) (bytes_of : X → List ℕ) (of : List ℕ → X) (Sized : X → Type 0)
@@ -120,20 +116,18 @@ variables_said status variables time some few all float =
 dynamic_floats : (process : Process) → IsProcess process → All (λ variable. IsFloat variable.value) (dynamic_variables process)
 dynamic_floats process is = All-cons (λ (v : ProcessVariable). IsFloat v.value) process.first process.others is.first is.others
 
-dynamic_is_float : (process : Process) → IsProcess process → (place : Option ℕ)
+dynamic_is_float : (process : Process) → IsProcess process → (place : ℕ) (variable : ProcessVariable)
+    → slice_get (dynamic_variables process) place ≡ Some variable → IsFloat variable.value
+dynamic_is_float process is place variable found =
+    rw (get_or_from_slice_get (dynamic_variables process) place variable variable found)
+    at (dynamic_floats process is place variable (slice_get_within (dynamic_variables process) place variable found))
+
+at_place_is_float : (process : Process) → IsProcess process → (place : Option ℕ)
     → IsFloat (unwrap_or (dynamic_at process place) missing_variable).value
-dynamic_is_float process is None = refl
-dynamic_is_float process is (Some place) = go (slice_get (dynamic_variables process) place) refl
-  where
-    go : (variable : Option ProcessVariable) → slice_get (dynamic_variables process) place ≡ variable
-        → IsFloat (unwrap_or variable missing_variable).value
-    go None found = refl
-    go (Some variable) found = subst (λ (v : ProcessVariable). IsFloat v.value)
-        (get_or_from_slice_get (dynamic_variables process) place variable variable found)
-        (dynamic_floats process is place variable (slice_get_within (dynamic_variables process) place variable found))
+at_place_is_float process is place = grind (arith, dynamic_is_float)
 
 variable_is_float : (process : Process) → IsProcess process → (code : ℕ) → IsFloat (variable_of_code process code).value
-variable_is_float process is code = grind (arith, dynamic_is_float)
+variable_is_float process is code = grind (arith, at_place_is_float)
 
 -- What a device replies with code 0 to a well-made request is read again.
 pub content_again : (state : DeviceState) (process : Process) → AreValid state.contents → IsProcess process → (request : Request)

@@ -1,6 +1,6 @@
 -- What a command does to a device.
 use Rattle.std.proofs.lemmas.Grind.{common_steps}
-use Rattle.std.proofs.Common.{◌≡◌, ◌≢◌, ℕ, ap, refl, arith, slice_get}
+use Rattle.std.proofs.Common.{◌≡◌, ◌≢◌, ℕ, arith, slice_get}
 use Rattle.std.proofs.Common.{Bool, true, false, ◌==◌, ◌&&◌, if◌then◌else◌}
 use Rattle.std.proofs.Common.{Option, None, Some, IfSome, Ok, Err}
 use Rattle.std.proofs.lemmas.Bool.Decides.{nat_tests}
@@ -14,7 +14,7 @@ use Rattle.hart_commands.specs.declared.reply.Reply.{Reply}
 use Rattle.hart_commands.specs.Registers.{Overwrite, overwrite_of}
 use Rattle.hart_commands.specs.declared.request.Request.{Request}
 use Rattle.hart_commands.specs.declared.request.Request.TheVariants.{ResetChanged}
-use Rattle.hart_device.specs.answer.Answer.{asked_effect, code_of, effect_of, executed, is_answered, judged_code, judged_of, reading_of}
+use Rattle.hart_device.specs.answer.Answer.{asked_effect, code_of, effect_of, is_answered, judged_code, judged_of, reading_of}
 use Rattle.hart_device.specs.Device.{DeviceState, Effect, Nothing, Executes, Resets, after, after_reply}
 
 pub refused : (answered : Bool) (code : ℕ) (effect : Effect) → code ≢ 0
@@ -99,8 +99,9 @@ protection_stays answered master effect state = grind arith
 pub none_if : {A : Type 0} (holds : Bool) (answer : A) → (if holds then Some answer else None) ≡ None → holds ≡ false
 none_if holds answer is = grind arith
 
--- A reply's payload begins with its code.
+-- An answer is the reply to its frame, whose payload begins with its code.
 pub answered_if : (holds : Bool) (frame reply : FrameParts) (answer : Reply)
     → (if holds then Some (reply_parts frame (reply_payload answer)) else None) ≡ Some reply
     → (holds ≡ true) × (reply ≡ reply_parts frame reply.payload) × (slice_get reply.payload 0 ≡ Some answer.code)
+    × (reply_payload answer ≡ reply.payload)
 answered_if holds frame reply answer is = grind arith

@@ -1,10 +1,9 @@
 -- The form that a whole request has as a garbled one.
-use Rattle.std.proofs.Common.{IsTrue, Bool}
 use Rattle.hart_device.proofs.lemmas.answer.Garbled.{own_named}
 use Rattle.std.proofs.lemmas.Nat.Bits.{bit_at-zero}
 use Rattle.std.proofs.lemmas.Grind.{common_steps}
-use Rattle.std.proofs.Common.{◌≡◌, ℕ, ◌+◌, ◌*◌, ◌<◌, ◌==◌, true, false, List, [], ◌∷◌, ◌++◌, Some}
-use Rattle.std.proofs.Common.{if◌then◌else◌, nat_lt, length, take, count_by, refl, arith}
+use Rattle.std.proofs.Common.{◌≡◌, ℕ, ◌<◌, ◌==◌, false, List, [], ◌∷◌, Some}
+use Rattle.std.proofs.Common.{if◌then◌else◌, nat_lt, count_by, refl, arith}
 use Rattle.std.specs.Int.{bit_at}
 use Rattle.std.proofs.lemmas.Bool.Decides.{nat_tests}
 use Rattle.std.proofs.lemmas.List.{length-map, length-append, take_all}
@@ -18,7 +17,7 @@ use Rattle.hart_frame.specs.wire.Body.{IsBody}
 use Rattle.hart_frame.specs.wire.FrameParts.{request_parts}
 use Rattle.hart_frame.specs.wire.Parity.{HasEvenParity, bit_count}
 use Rattle.hart_device.specs.Identity.{own_numbers}
-use Rattle.hart_device.specs.answer.Garbled.{communication_faults, garbled_request, is_own_address, has_fault, is_odd}
+use Rattle.hart_device.specs.answer.Garbled.{communication_faults, garbled_request, has_fault, is_odd}
 use Rattle.hart_device.specs.declared.identity_parts.IdentityParts.{IdentityParts}
 
 -- bytes without faults have no fault bit

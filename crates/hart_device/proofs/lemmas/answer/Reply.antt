@@ -4,25 +4,22 @@ use Rattle.hart_commands.specs.RequestData.{request_reading}
 use Rattle.hart_commands.specs.Commands.{command_row}
 use Rattle.hart_commands.proofs.lemmas.Rows.{found}
 use Rattle.std.proofs.lemmas.Grind.{common_steps}
-use Rattle.std.proofs.Common.{◌≡◌, ℕ, ◌<◌, List, [], ◌∷◌}
-use Rattle.std.proofs.Common.{◌==◌, Some, None, Ok, Err, refl, arith, Bool, true, false, eqb}
+use Rattle.std.proofs.Common.{◌≡◌, ℕ, ◌<◌, List}
+use Rattle.std.proofs.Common.{◌==◌, Some, Ok, Err, refl, arith, Bool, true}
 use Rattle.std.specs.Prelude.{if◌then◌else◌}
 use Rattle.std.specs.List.{AllByRecursion}
 use Rattle.std.proofs.lemmas.Bool.Decides.{nat_tests}
 use Rattle.hart_values.specs.declared.master_id.MasterId.{MasterId}
-use Rattle.hart_frame.specs.wire.FrameParts.{FrameParts, reply_parts}
-use Rattle.hart_commands.specs.Commands.{CommandRow, asked, commands, is_known, row_in}
+use Rattle.hart_frame.specs.wire.FrameParts.{FrameParts}
+use Rattle.hart_commands.specs.Commands.{CommandRow, asked, commands, is_known}
 use Rattle.hart_commands.specs.Registers.{AreValid, Overwrite}
 use Rattle.hart_commands.specs.ReplyData.{reply_payload, reply_reading}
 use Rattle.hart_commands.specs.RequestCode.{data_code, request_code}
 use Rattle.hart_commands.specs.RequestData.{IsRequest, Reading, command_of, read_by}
-use Rattle.hart_commands.specs.RequestReading.{codes_reading, needing, polling_reading, polling_with, reset_reading}
-use Rattle.hart_commands.specs.RequestReading.{tag_reading}
-use Rattle.hart_commands.specs.declared.request.Request.{Request}
 use Rattle.hart_commands.proofs.lemmas.Laws.{overwrites_are_valid, requests_have_their_command}
 use Rattle.hart_device.specs.answer.Answer.{after_command, code_of, effect_of, judged_of, reading_of, reply_of, reply_with}
 use Rattle.hart_device.specs.declared.process.Process.{Process}
-use Rattle.hart_device.specs.Device.{DeviceState, Effect, Executes, Nothing, Resets, after}
+use Rattle.hart_device.specs.Device.{DeviceState, Effect, Executes, after}
 use Rattle.hart_device.specs.Process.{IsProcess}
 use Rattle.hart_device.proofs.lemmas.answer.Effect.{code_good, writes_execute_their_overwrite-well_made}
 use Rattle.hart_device.proofs.lemmas.answer.Content.{content_again, above}
@@ -55,21 +52,16 @@ abbrev pub IsJudged : ℕ → Reading → Type 0
 IsJudged command (Ok request) = (command_of request ≡ command) × IsRequest request
 IsJudged command (Err code) = (0 < code) × (code < 128)
 
-judged_by : (command code : ℕ) (reading : Reading) → code < 128 → (code ≡ 0 → IsJudged command reading)
+judged_by : (command code counter : ℕ) (payload : List ℕ) (reading : Reading) → request_reading command payload ≡ reading
+    → IsRefusal reading → code < 128 → (code ≡ 0 → data_code reading counter ≡ 0)
     → IsJudged command (if code == 0 then reading else Err code)
-judged_by command code reading small good = grind (arith, nat_tests)
+judged_by command code counter payload reading is refuses small good = grind (arith, nat_tests, requests_have_their_command)
 
 judged_made : (state : DeviceState) (frame : FrameParts) → IsJudged frame.command (judged_of state frame)
 judged_made state frame =
     let refuses = reading_refuses frame.command frame.payload in
-    judged_by frame.command (code_of state frame) (reading_of frame)
-    (code_small frame.command (reading_of frame) state.protected state.counter refuses)
-    (λ none. go (reading_of frame) refl refuses (code_good state frame none))
-  where
-    go : (reading : Reading) → reading_of frame ≡ reading → IsRefusal reading → data_code reading state.counter ≡ 0
-        → IsJudged frame.command reading
-    go (Ok request) is refuses none = requests_have_their_command frame.command frame.payload request is
-    go (Err code) is refuses none = absurd (omega (arith, refuses.0, none))
+    judged_by frame.command (code_of state frame) state.counter frame.payload (reading_of frame) refl refuses
+    (code_small frame.command (reading_of frame) state.protected state.counter refuses) (code_good state frame)
 
 reply_again : (state : DeviceState) (process : Process) (frame : FrameParts) (judged : Reading) → AreValid state.contents
     → IsProcess process → is_known frame.command ≡ true → IsJudged frame.command judged
@@ -81,9 +73,8 @@ reply_again state process frame (Err code) valid is known made = grind (arith, c
 after_valid : (master : MasterId) (effect : Effect) (state : DeviceState)
     → ((overwrite : Overwrite) → effect ≡ Executes overwrite → IsRequest overwrite)
     → AreValid state.contents → AreValid (after master effect state).contents
-after_valid master Nothing state made valid = valid
 after_valid master (Executes overwrite) state made valid = overwrites_are_valid overwrite state.contents (made overwrite refl) valid
-after_valid master Resets state made valid = valid
+after_valid master _ state made valid = valid
 
 command_valid : (state : DeviceState) (frame : FrameParts) → AreValid state.contents → AreValid (after_command state frame).contents
 command_valid state frame = after_valid frame.master (effect_of state frame) state (writes_execute_their_overwrite-well_made state frame)
@@ -95,7 +86,3 @@ pub reply_read : (state : DeviceState) (process : Process) (frame : FrameParts) 
 reply_read state process frame valid is known =
     reply_again (after_command state frame) process frame (judged_of state frame) (command_valid state frame valid) is known
     (judged_made state frame)
-
-pub payload_if : (holds : Bool) (frame answer : FrameParts) (payload : List ℕ)
-    → (if holds then Some (reply_parts frame payload) else None) ≡ Some answer → payload ≡ answer.payload
-payload_if holds frame answer payload is = grind arith

@@ -3,18 +3,17 @@ use Rattle.hart_values.proofs.lemmas.Laws.{packed_text_and_bytes_determine_each_
 use Rattle.hart_commands.proofs.lemmas.Laws.{all_registers_are_listed_once-every}
 use Rattle.std.proofs.lemmas.List.{append_cancel_left}
 use Rattle.std.proofs.Common.{◌≡◌, ◌≢◌, ℕ, ◌-◌, ◌^◌, ◌<◌, ◌≤◌, ◌⊎◌, inl, inr, refl, sym, ap, ◌∙◌, subst}
-use Rattle.std.proofs.Common.{arith, Bool, true, Some, List, [], ◌∷◌, ◌++◌, length, drop}
+use Rattle.std.proofs.Common.{arith, Bool, true, Some, List, [], ◌∷◌, ◌++◌, length}
 use Rattle.std.proofs.Common.{slice_index}
-use Rattle.std.specs.List.{Contains, flat_map, sum_by}
+use Rattle.std.specs.List.{Contains, flat_map}
 use Rattle.std.proofs.lemmas.Bool.Decides.{nat_tests}
 use Rattle.std.proofs.lemmas.Grind.{common_steps, elements}
-use Rattle.std.proofs.lemmas.List.{drop_at, take-append-le}
+use Rattle.std.proofs.lemmas.List.{take-append-le}
 use Rattle.std.proofs.lemmas.Slice.{between_is}
-use Rattle.hart_values.specs.packed_text.Packing.{IsPacked}
 use Rattle.hart_values.specs.declared.each_master.EachMaster.{EachMaster}
-use Rattle.hart_commands.specs.Registers.{AreValid, Contents, bytes_in, registers, size_of}
+use Rattle.hart_commands.specs.Registers.{AreValid, Contents, bytes_in, registers}
 use Rattle.hart_commands.specs.declared.register.Register.{Register}
-use Rattle.hart_commands.specs.declared.register.Register.TheVariants.{Polling, Mode, Message, Tag, Descriptor, Date, Assembly, LongTag}
+use Rattle.hart_commands.specs.declared.register.Register.TheVariants.{Tag, LongTag}
 use Rattle.hart_device.specs.declared.fault.DeviceFault.{DeviceFault}
 use Rattle.hart_device.specs.declared.fault.DeviceFault.TheVariants.{BadField, BadLength, BadVersion}
 use Rattle.hart_device.specs.Device.{DeviceState}

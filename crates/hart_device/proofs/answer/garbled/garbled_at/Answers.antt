@@ -1,6 +1,7 @@
+use Rattle.std.proofs.Common.{nat_lt, true, false}
 use Rattle.std.proofs.lemmas.Grind.{common_steps}
-use Rattle.std.proofs.Common.{◌≡◌, ◌+◌, ◌-◌, ◌<◌, ◌≤◌, List, ◌∷◌, length, take, drop, get_or, length-drop}
-use Rattle.std.proofs.Common.{Option, Some, None, arith, sym, ap, ◌∙◌}
+use Rattle.std.proofs.Common.{◌≡◌, ◌+◌, ◌-◌, ◌<◌, List, ◌∷◌, length, take, drop, get_or, length-drop}
+use Rattle.std.proofs.Common.{Option, Some, arith, ap, ◌∙◌}
 use Rattle.std.proofs.Math.Seq.{drop-cons}
 use Rattle.std.proofs.lemmas.Bool.Decides.{nat_tests}
 use Rattle.hart_values.specs.declared.master_id.MasterId.{MasterId}
@@ -8,16 +9,6 @@ use Rattle.hart_frame.specs.heard.Character.{Character}
 use Rattle.hart_device.specs.answer.Garbled.{asking_master, communication_faults, garbled_after, garbled_request}
 use Rattle.hart_device.specs.declared.identity_parts.IdentityParts.{IdentityParts}
 use Rattle.hart_device.proofs.answer.garbled.garbled_at.Goals as goal
-
--- a master that asks has a garbled request, or there are too few characters
-enough : (chars after : List Character) (master : MasterId) (command count : Character) → count.byte < length after
-    → garbled_after chars (command ∷ count ∷ after) master
-    ≡ Some (record { master = master; command = command.byte; faults = communication_faults (take (9 + count.byte) chars) })
-enough chars after master command count long = grind (arith, nat_tests)
-
-too_few : (chars after : List Character) (master : MasterId) (command count : Character) → length after ≤ count.byte
-    → garbled_after chars (command ∷ count ∷ after) master ≡ None
-too_few chars after master command count short = grind (arith, nat_tests)
 
 -- after the head stand the command, the byte count and the rest
 asked : (identity : IdentityParts) (chars head : List Character) (master : MasterId) (found : Option MasterId) (command count : Character)
@@ -32,25 +23,22 @@ asked identity chars head master found command count is asks some long sixth sev
 pub returns : goal.returns
 returns c =
     let chars = c.args.chars.now in
-    let command : Character = c.in_ok-get-2.field-0.now in
     let count : Character = c.in_ok-get-3.field-0.now in
     let garbled = c.in_ok-garbled.ensures.lookup.0 in
     let many : c.unique_request_len.result - 0 ≡ 9 + count.byte =
     omega (arith, c.unique_request_len.ensures.len, c.byte-byte_count.ensures) in
     let is = asked c.args.identity.now chars _ _ _ _ _ c.in_ok-get.ensures.lookup.0.2 c.asking_master.ensures c.in_ok-master.was
-    c.in_ok-get-3.ensures.lookup.3.0 c.in_ok-get-2.ensures.lookup.1 c.in_ok-get-3.ensures.lookup.1
-    ∙ enough chars (drop 8 chars) _ command count (omega (arith, length-drop 8 chars, garbled.1, many)) in
-    let faults = c.communication_faults.ensures ∙ ap communication_faults (garbled.2 ∙ ap (λ n. take n chars) many) in
-    cc
+    c.in_ok-get-3.ensures.lookup.3.0 c.in_ok-get-2.ensures.lookup.1 c.in_ok-get-3.ensures.lookup.1 in
+    let enough : nat_lt count.byte (length (drop 8 chars)) ≡ true = grind (arith, nat_tests, length-drop, garbled.1, many) in
+    let whole = rw enough at is in
+    let faults = c.communication_faults.ensures ∙ ap communication_faults (garbled.2 ∙ ap (λ n. take n chars) many) in cc
 
 pub returns-in_err-garbled : goal.returns-in_err-garbled
 returns-in_err-garbled c =
     let chars = c.args.chars.now in
-    let command : Character = c.in_ok-get-2.field-0.now in
     let count : Character = c.in_ok-get-3.field-0.now in
-    let short = c.in_err-garbled.ensures.lookup in
-    c.from_residual-in_err-garbled.ensures
-    ∙ sym (asked c.args.identity.now chars _ _ _ _ _ c.in_ok-get.ensures.lookup.0.2 c.asking_master.ensures c.in_ok-master.was
-    c.in_ok-get-3.ensures.lookup.3.0 c.in_ok-get-2.ensures.lookup.1 c.in_ok-get-3.ensures.lookup.1
-    ∙ too_few chars (drop 8 chars) _ command count
-    (omega (arith, length-drop 8 chars, short, c.unique_request_len.ensures.len, c.byte-byte_count.ensures)))
+    let is = asked c.args.identity.now chars _ _ _ _ _ c.in_ok-get.ensures.lookup.0.2 c.asking_master.ensures c.in_ok-master.was
+    c.in_ok-get-3.ensures.lookup.3.0 c.in_ok-get-2.ensures.lookup.1 c.in_ok-get-3.ensures.lookup.1 in
+    let short : nat_lt count.byte (length (drop 8 chars)) ≡ false =
+    grind (arith, nat_tests, length-drop, c.in_err-garbled.ensures.lookup, c.unique_request_len.ensures.len, c.byte-byte_count.ensures) in
+    let none = rw short at is in cc

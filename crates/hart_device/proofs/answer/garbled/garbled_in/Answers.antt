@@ -1,4 +1,4 @@
-use Rattle.std.proofs.Common.{◌≡◌, ℕ, List, drop, Option, Some, None, MatchOption, sym, subst, ◌∙◌}
+use Rattle.std.proofs.Common.{◌≡◌, ℕ, List, drop, Option, Some, None, MatchOption, sym, ◌∙◌}
 use Rattle.std.proofs.lemmas.List.{take_rest}
 use Rattle.hart_frame.specs.heard.Character.{Character}
 use Rattle.hart_frame.specs.heard.Start.{IsFirstStart}
@@ -20,8 +20,7 @@ at_start identity chars start (Some request) first is = record { start = start; 
 
 pub returns-in_err-first_start : goal.returns-in_err-first_start
 returns-in_err-first_start c =
-    let P : Option GarbledRequest → Type 0 = Has c.args.identity.now c.args.delivery.now in
-    subst P (sym c.from_residual.ensures) (λ request has. c.in_err-first_start.ensures has.start has.first_start.start)
+    rw c.from_residual.ensures (λ request has. c.in_err-first_start.ensures has.start has.first_start.start)
 
 pub returns : goal.returns
 returns c =
