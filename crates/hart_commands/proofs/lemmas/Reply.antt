@@ -40,29 +40,12 @@ by_test false x y P then_x else_y = else_y refl
 
 -- the front of a list is as many of its items as it has
 pub front : (n : ℕ) (xs : List ℕ) → take n xs ≡ take (length (take n xs)) xs
-front zero xs = refl
-front (suc n) [] = refl
-front (suc n) (x ∷ xs) = ap (λ ys. x ∷ ys) (front n xs)
+front n xs = grind (arith, common_steps)
 
 -- so many bytes that say a content are what it is written as
 said : (size : ℕ) (read : List ℕ → Option ReplyContent)
     → ((xs : List ℕ) → length xs ≡ size → IfSome (read xs) (λ content. content_bytes content ≡ xs)) → Keeps (having size None read)
-said size read each bytes = go (cases_lt (length bytes) size)
-  where
-    again : (xs : List ℕ) → length xs ≡ size → having size None read xs ≡ read xs
-    again xs long = rw (above (length xs) size (omega arith), take_all size xs (omega arith)) refl
-
-    kept : (xs : List ℕ) → length xs ≡ size → xs ≡ take (length xs) bytes → (content : Option ReplyContent) → read xs ≡ content
-        → IfSome content (λ content. content_bytes content ≡ xs) → IfSome content (IsKept (having size None read) bytes)
-    kept xs long is None e written = tt
-    kept xs long is (Some content) e written = rw written (is, again xs long ∙ e)
-
-    go : (length bytes < size) ⊎ (size ≤ length bytes) → IfSome (having size None read bytes) (IsKept (having size None read) bytes)
-    go (inl less) = rw (below (length bytes) size less) tt
-    go (inr more) =
-        let long : length (take size bytes) ≡ size = length-take-le size bytes more in
-        rw (above (length bytes) size more)
-        (kept (take size bytes) long (front size bytes) (read (take size bytes)) refl (each (take size bytes) long))
+said size read each bytes = grind (arith, common_steps, nat_tests, front, take_all)
 
 -- the same, seen byte by byte
 spelt : (size : ℕ) (content : List ℕ → ReplyContent) → ((xs : List ℕ) → content_bytes (content (spell size xs)) ≡ spell size xs)
@@ -75,12 +58,8 @@ abbrev pub identity_in : List ℕ → Option ReplyContent
 identity_in xs = if eqb (slice_index xs 0) 254 then Some (Identity (identity_of xs)) else None
 
 identity : Keeps identity_reading
-identity = said 22 identity_in (by_spelling 22 (λ xs. IfSome (identity_in xs) (λ content. content_bytes content ≡ xs)) each)
-  where
-    each : (xs : List ℕ) → IfSome (identity_in (spell 22 xs)) (λ content. content_bytes content ≡ spell 22 xs)
-    each xs =
-        by_test (eqb (slice_index xs 0) 254) (Some (Identity (identity_of (spell 22 xs)))) None _
-        (λ t. rw (is_one (slice_index xs 0) 254 t) refl) (λ f. tt)
+identity = said 22 identity_in (by_spelling 22 (λ xs. IfSome (identity_in xs) (λ content. content_bytes content ≡ xs))
+    (λ xs. grind (arith, nat_tests)))
 
 dynamic-again : (start rest : List ℕ) (groups : ℕ) → length start ≡ 4 → 0 < groups → groups ≤ 4 → groups * 5 ≤ length rest
     → dynamic_reading (start ++ take (groups * 5) rest)
@@ -93,31 +72,11 @@ dynamic-again start rest groups four some few long =
     rw (enough, take_at start ys 4 four, drop_at start ys 4 four, count, chunks-take 5 groups rest long) refl
 
 dynamic : Keeps dynamic_reading
-dynamic bytes = go (cases_lt (length bytes) 9)
-  where
-    kept : (rest : List ℕ) (groups : ℕ) → drop 4 bytes ≡ rest → 4 ≤ length bytes → 0 < groups → groups ≤ 4 → groups * 5 ≤ length rest
-        → IsKept dynamic_reading bytes (Dynamic (float_at bytes 0) (map unit_value_of (first_chunks 5 groups rest)))
-    kept rest groups is four some few long =
-        let values : flat_map unit_value_bytes (map unit_value_of (first_chunks 5 groups rest)) ≡ take (groups * 5) rest =
-        chunks-bytes 5 groups unit_value_of unit_value_bytes unit_value-bytes rest long in
-        let whole : take 4 bytes ++ take (groups * 5) rest ≡ take (4 + groups * 5) bytes = rw (take-add 4 (groups * 5) bytes, is) refl in
-        rw values (
-          grind (arith, common_steps, front),
-          dynamic-again (take 4 bytes) rest groups (length-take-le 4 bytes four) some few long,
-        )
-
-    go : (length bytes < 9) ⊎ (9 ≤ length bytes) → IfSome (dynamic_reading bytes) (IsKept dynamic_reading bytes)
-    go (inl less) = rw (below (length bytes) 9 less) tt
-    go (inr more) =
-        let long : length (drop 4 bytes) + 4 ≡ length bytes = omega (arith, length-drop 4 bytes) in
-        rw (above (length bytes) 9 more)
-        (kept (drop 4 bytes) (min (length (drop 4 bytes) / 5) 4) refl (omega arith) (omega arith) (omega arith) (omega arith))
+dynamic bytes =
+    grind (arith, common_steps, nat_tests, front, chunks-bytes, unit_value-bytes, take-add, dynamic-again)
 
 pub three_tests : (a b c : Bool) → (a && b && c) ≡ true → (a ≡ true) × (b ≡ true) × (c ≡ true)
-three_tests true true true e = (refl, refl, refl)
-three_tests true true false e = absurd (cc)
-three_tests true false c e = absurd (cc)
-three_tests false b c e = absurd (cc)
+three_tests a b c e = grind arith
 
 variables : Keeps variables_reading
 variables [] = tt
@@ -147,8 +106,7 @@ content-kept command bytes = go (command_row command) (found (λ row. Seen row.r
   where
     go : (row : Option CommandRow) → IfSome row (λ row. (row.number ≡ command) × Seen row.reply)
         → IfSome (content_by row bytes) (IsKept (content_by row) bytes)
-    go None seen = tt
-    go (Some row) seen = keeps row.reply seen.1 bytes
+    go row seen = grind (arith, keeps)
 
 -- a reply is to the command, is written as the front of its payload, and is read again
 pub record IsReplyKept (command : ℕ) (payload : List ℕ) (reply : Reply) : Type 0 where
@@ -180,8 +138,7 @@ reading-kept command (code ∷ status ∷ bytes) =
 -- the same of a reply that was read
 pub read-kept : (command : ℕ) (payload : List ℕ) (reply : Reply) → reply_reading command payload ≡ Some reply
     → IsReplyKept command payload reply
-read-kept command payload reply e =
-    let P : Option Reply → Type 0 = λ o. IfSome o (IsReplyKept command payload) in subst P e (reading-kept command payload)
+read-kept command payload reply e = rw e at (reading-kept command payload)
 
 pub written_is_read : (reply : Reply) → IsReply reply → reply_reading reply.command (reply_payload reply) ≡ Some reply
 written_is_read reply is = (read-kept reply.command is.0 reply is.1).again
@@ -208,8 +165,7 @@ said_by : (row : Option CommandRow) (command code status : ℕ) (bytes : List �
     else if is_some row then Some (saying Refused)
     else None) ≡ Some reply
     → (is_some row ≡ true) × (reply.code < 128) × (reply.code ≢ 0 → reply.content ≡ Refused)
-said_by None command code status bytes reply e = grind (arith, nat_tests)
-said_by (Some row) command code status bytes reply e = grind (arith, nat_tests)
+said_by row command code status bytes reply e = grind (arith, nat_tests)
 
 pub read-said : (command : ℕ) (payload : List ℕ) (reply : Reply) → reply_reading command payload ≡ Some reply
     → (is_known command ≡ true) × (reply.code < 128) × (reply.code ≢ 0 → reply.content ≡ Refused)

@@ -41,21 +41,14 @@ Parts command read = (bytes : List ℕ) → IfSome (read bytes) (IsParted comman
 -- so many bytes that say a content have its parts, if that is seen of them byte by byte
 said : (command size : ℕ) (read : List ℕ → Option ReplyContent) → ((xs : List ℕ) → IfSome (read (spell size xs)) (IsParted command))
     → Parts command (having size None read)
-said command size read each bytes = go (cases_lt (length bytes) size)
-  where
-    go : (length bytes < size) ⊎ (size ≤ length bytes) → IfSome (having size None read bytes) (IsParted command)
-    go (inl less) = rw (below (length bytes) size less) tt
-    go (inr more) =
-        rw (above (length bytes) size more)
-        (by_spelling size (λ xs. IfSome (read xs) (IsParted command)) each (take size bytes) (length-take-le size bytes more))
+said command size read each bytes =
+    let whole = by_spelling size (λ xs. IfSome (read xs) (IsParted command)) each (take size bytes) in
+    grind (arith, common_steps, nat_tests)
 
 identity : (command : ℕ) → reply_rows command ≡ fields.identity → Parts command identity_reading
-identity command same = said command 22 identity_in each
-  where
-    each : (xs : List ℕ) → IfSome (identity_in (spell 22 xs)) (IsParted command)
-    each xs =
-        by_test (eqb (slice_index xs 0) 254) (Some (Identity (identity_of (spell 22 xs)))) None (IsParted command)
-        (λ t. rw same refl) (λ f. tt)
+identity command same = said command 22 identity_in (λ xs.
+    by_test (eqb (slice_index xs 0) 254) (Some (Identity (identity_of (spell 22 xs)))) None (IsParted command)
+    (λ t. rw same refl) (λ f. tt))
 
 -- a loop current and one to four variables, seen byte by byte
 in_groups : (groups : ℕ) → 0 < groups → groups ≤ 4 → (start rest : List ℕ) → length start ≡ 4 → length rest ≡ groups * 5
@@ -94,43 +87,15 @@ cut : (status : ℕ) (variables time_stamp : List ℕ) → 0 < length variables 
     → field_bytes (fields_of (reply_rows 9) (status ∷ variables ++ time_stamp)) ≡ one status ∷ variables ∷ time_stamp ∷ []
 unfolding rows
 cut status variables time_stamp some four =
-    let all : List ℕ = variables ++ time_stamp in
-    let long : length all ≡ length variables + 4 = omega (arith, length-append variables time_stamp) in
-    let left : length all - 4 ≡ length variables = omega arith in
-    rw (
-      above (length (status ∷ all)) 1 (omega arith),
-      below 4 (length all) (omega arith),
-      left,
-      take_at variables time_stamp (length variables) refl,
-      drop_at variables time_stamp (length variables) refl,
-      above (length time_stamp) 4 (omega arith),
-      left,
-      drop_at variables time_stamp (length variables) refl,
-      take_all 4 time_stamp (omega arith),
-    ) refl
+    grind (arith, common_steps, nat_tests, length-append, take_at, drop_at, take_all)
 
 variables : Parts 9 variables_reading
-variables [] = tt
-variables (status ∷ bytes) =
-    let groups : ℕ = (length (status ∷ bytes) - 5) / 8 in
-    let read : List ℕ = flat_map variable_bytes (map variable_of (first_chunks 8 groups bytes)) in
-    by_test _
-    (Some (Variables status (map variable_of (first_chunks 8 groups bytes)) (drop (1 + 8 * groups) (status ∷ bytes))))
-    None (IsParted 9)
-    (λ t.
-    let tests = three_tests (ltb 0 groups) (ltb groups 9) _ t in
-    let whole : length (status ∷ bytes) ≡ 5 + 8 * groups = is_one (length (status ∷ bytes)) (5 + 8 * groups) tests.2 in
-    let some : 0 < groups = (let u : ltb 0 groups ≡ true = tests.0 in grind (arith, nat_tests)) in
-    let long : groups * 8 ≤ length bytes = omega arith in
-    let values : read ≡ take (groups * 8) bytes = grind (arith, common_steps, chunks-bytes, variable-bytes) in
-    let size : length read ≡ groups * 8 = ap length values ∙ length-take-le (groups * 8) bytes long in
-    cut status read (drop (1 + 8 * groups) (status ∷ bytes)) (omega arith) (omega (arith, length-drop (1 + 8 * groups) (status ∷ bytes))))
-    (λ f. tt)
+variables bytes =
+    grind (arith, common_steps, by_test, is_one, three_tests, cut, chunks-bytes, variable-bytes, length-take-le, length-drop)
 
 more : Parts 48 more_reading
 unfolding rows
-more [] = tt
-more (byte ∷ bytes) = all_left (codes "additional status") Bytes (byte ∷ take 24 bytes) (omega arith)
+more bytes = grind (arith, common_steps, all_left)
 
 -- what is to be seen of a row, so that its fields are the parts of what it reads
 abbrev pub Parted : ℕ → Replied → Type 0
@@ -150,9 +115,7 @@ content-parted command bytes = go (command_row command) (found (λ row. Parted r
   where
     go : (row : Option CommandRow) → IfSome row (λ row. (row.number ≡ command) × Parted row.number row.reply)
         → IfSome (content_by row bytes) (IsParted command)
-    go None all = tt
-    go (Some row) all =
-        let P : ℕ → Type 0 = λ n. Parts n (replied row.reply) in grind (arith, common_steps, parts)
+    go row all = grind (arith, common_steps, parts)
 
 -- no data have no fields
 abbrev pub IsEmpty : List Row → Type 0
@@ -163,12 +126,7 @@ unfolding rows
 nothing = search rules
 
 none-parted : (command : ℕ) → IsParted command Refused
-none-parted command = ap field_bytes (go (rows_of command) (names.found (λ command. IsEmpty command.reply) rows command nothing))
-  where
-    go : (row : Option CommandRows) → IfSome row (λ row. (row.number ≡ command) × IsEmpty row.reply)
-        → IsEmpty (option_map_or (λ row. row.reply) row [])
-    go None all = refl
-    go (Some row) all = all.1
+none-parted command = grind (arith, names.found (λ command. IsEmpty command.reply) rows command nothing)
 
 -- the same of a reply that was read
 reading-parted : (command : ℕ) (payload : List ℕ) → IfSome (reply_reading command payload) (λ reply. IsParted command reply.content)
@@ -197,6 +155,4 @@ reading-parted command (code ∷ status ∷ bytes) =
 
 pub parts_of_reply : (reply : Reply) → IsReply reply
     → field_bytes (fields_of (reply_rows reply.command) (content_bytes reply.content)) ≡ content_parts reply.content
-parts_of_reply reply is =
-    let P : Option Reply → Type 0 = λ o. IfSome o (λ read. IsParted reply.command read.content) in
-    subst P is.1 (reading-parted reply.command is.0)
+parts_of_reply reply is = rw is.1 at (reading-parted reply.command is.0)

@@ -1,4 +1,5 @@
 -- Data that are read as a request begin with those that it is written as, but for the mode that Command 6 may leave out.
+use Rattle.std.proofs.lemmas.Bool.Decides.{nat_tests}
 use Rattle.std.proofs.lemmas.Grind.{common_steps}
 use Rattle.std.proofs.Common.{◌≡◌, ℕ, ◌<◌, ◌≤◌, ◌⊎◌, inl, inr, All, List, [], ◌∷◌, ◌++◌, take, drop, length, Ok}
 use Rattle.std.proofs.Common.{Option, Some, None, Err, IfSome, refl, sym, ap, ◌∙◌, arith}
@@ -39,28 +40,13 @@ Begins command read = (bytes : List ℕ) → All (λ byte. byte < 256) bytes →
 
 needed : (command size : ℕ) (request : List ℕ → Request) → ((xs : List ℕ) → request_data (request xs) ≡ xs)
     → Begins command (needing size request)
-needed command size request each bytes fit = go (cases_lt (length bytes) size)
-  where
-    go : (length bytes < size) ⊎ (size ≤ length bytes) → IsBegun command bytes (needing size request bytes)
-    go (inl less) = rw (below (length bytes) size less) tt
-    go (inr more) = rw (above (length bytes) size more) (inl (rw (each (take size bytes)) (sym (front size bytes))))
-
--- an address with a mode, which is 0 or 1
-with_mode : (address mode : ℕ) (bytes : List ℕ) → (mode ≡ 0 → IsBegun 6 bytes (Ok (SetPolling address Disabled)))
-    → (mode ≡ 1 → IsBegun 6 bytes (Ok (SetPolling address Enabled))) → IsBegun 6 bytes (polling_with address mode)
-with_mode address mode bytes disabled enabled = grind (arith, common_steps, by_test, is_one)
+needed command size request each bytes fit = grind (arith, common_steps, nat_tests, front)
 
 polling : Begins 6 polling_reading
-polling [] fit = tt
-polling (address ∷ []) fit =
-    with_mode address (mode_left_out address) (address ∷ [])
-    (λ e. inr (record { own = refl; one = refl; two = refl; first = refl }))
-    (λ e. inr (record { own = refl; one = refl; two = refl; first = refl }))
-polling (address ∷ mode ∷ rest) fit = grind (arith, common_steps, with_mode)
+polling bytes fit = grind (arith, common_steps, nat_tests)
 
 codes : Begins 9 codes_reading
-codes [] fit = tt
-codes (code ∷ others) fit = inl (sym (front 8 (code ∷ others)))
+codes bytes fit = grind (arith, front)
 
 tag : Begins 18 tag_reading
 tag bytes fit = grind (arith, common_steps, by_test, whole, front)
@@ -69,10 +55,7 @@ tag bytes fit = grind (arith, common_steps, by_test, whole, front)
     whole = rw (take-add 6 15 bytes, take-add 12 3 (drop 6 bytes), drop-drop 12 6 bytes, append_assoc) refl
 
 reset : Begins 38 reset_reading
-reset [] fit = inl refl
-reset (high ∷ []) fit = tt
-reset (high ∷ low ∷ rest) fit =
-    let small : low < 256 = fit 1 0 (omega arith) in grind (arith, common_steps)
+reset bytes fit = grind (arith, common_steps, fit 1 0)
 
 -- what is to be seen of a row, so that its data begin with those of its requests
 abbrev pub Own : ℕ → Asked → Type 0
@@ -97,41 +80,22 @@ begun command bytes request fit e = go (command_row command) e (found BeginsOwn 
   where
     go : (row : Option CommandRow) → read_by row bytes ≡ Ok request → IfSome row (λ row. (row.number ≡ command) × BeginsOwn row)
         → IsBegun command bytes (Ok request)
-    go None e is = cc
-    go (Some row) e is =
-        let P : Reading → Type 0 = IsBegun row.number bytes in grind (arith, common_steps, begins)
+    go row e is = grind (arith, common_steps, begins)
 
 -- data agree with those that their request is written as, as far as both go
 pub agree : (command : ℕ) (bytes : List ℕ) (request : Request) → All (λ byte. byte < 256) bytes → request_reading command bytes ≡ Ok request
     → take (length (request_data request)) bytes ≡ take (length bytes) (request_data request)
-agree command bytes request fit e = go (request_data request) (begun command bytes request fit e)
-  where
-    go : (written : List ℕ) → (take (length written) bytes ≡ written) ⊎ IsAlone command bytes written
-        → take (length written) bytes ≡ take (length bytes) written
-    go written (inl is) =
-        let few : length written ≤ length bytes = omega (arith, ap length is, length-take (length written) bytes) in
-        is ∙ sym (take_all (length bytes) written few)
-    go written (inr is) = rw (is.two, is.one, take_all 2 bytes (omega arith)) is.first
+agree command bytes request fit e = let is = begun command bytes request fit e in grind (arith, common_steps, take_all)
 
 -- data that are as many begin with all of them
 pub whole : (command : ℕ) (bytes : List ℕ) (request : Request) → All (λ byte. byte < 256) bytes → request_reading command bytes ≡ Ok request
     → length (request_data request) ≤ length bytes → take (length (request_data request)) bytes ≡ request_data request
-whole command bytes request fit e = go (request_data request) (begun command bytes request fit e)
-  where
-    go : (written : List ℕ) → (take (length written) bytes ≡ written) ⊎ IsAlone command bytes written → length written ≤ length bytes
-        → take (length written) bytes ≡ written
-    go written (inl is) enough = is
-    go written (inr is) enough = absurd (omega (arith, is.one, is.two))
+whole command bytes request fit e enough = let is = begun command bytes request fit e in grind arith
 
 -- fewer are an address alone
 alone : (command : ℕ) (bytes : List ℕ) (request : Request) → All (λ byte. byte < 256) bytes → request_reading command bytes ≡ Ok request
     → length bytes < length (request_data request) → IsAlone command bytes (request_data request)
-alone command bytes request fit e = go (request_data request) (begun command bytes request fit e)
-  where
-    go : (written : List ℕ) → (take (length written) bytes ≡ written) ⊎ IsAlone command bytes written → length bytes < length written
-        → IsAlone command bytes written
-    go written (inl is) fewer = absurd (omega (arith, ap length is, length-take (length written) bytes))
-    go written (inr is) fewer = is
+alone command bytes request fit e fewer = let is = begun command bytes request fit e in grind (arith, common_steps)
 
 pub left_out : (command : ℕ) (bytes : List ℕ) (request : Request) → All (λ byte. byte < 256) bytes
     → request_reading command bytes ≡ Ok request → length bytes < length (request_data request) → (command ≡ 6) × (length bytes ≡ 1)
@@ -141,10 +105,7 @@ left_out command bytes request fit e fewer = let is = alone command bytes reques
 first_field : (written : List ℕ) → length written ≡ 2
     → fields_of (request_rows 6) (take 1 written) ≡ take 1 (fields_of (request_rows 6) written)
 unfolding rows
-first_field [] two = absurd (omega arith)
-first_field (address ∷ []) two = absurd (omega arith)
-first_field (address ∷ mode ∷ []) two = refl
-first_field (address ∷ mode ∷ more ∷ rest) two = absurd (omega arith)
+first_field written two = grind arith
 
 pub fields : (command : ℕ) (bytes : List ℕ) (request : Request) → All (λ byte. byte < 256) bytes
     → request_reading command bytes ≡ Ok request → length bytes < length (request_data request)

@@ -32,26 +32,13 @@ by_test false x y P then_x else_y = else_y refl
 
 needed : (command size : ℕ) (request : List ℕ → Request) → ((xs : List ℕ) → length xs ≡ size → IsGiven command (Ok (request xs)))
     → Gives command (needing size request)
-needed command size request each bytes = go (cases_lt (length bytes) size)
-  where
-    go : (length bytes < size) ⊎ (size ≤ length bytes) → IsGiven command (needing size request bytes)
-    go (inl less) = rw (below (length bytes) size less) (omega arith)
-    go (inr more) = rw (above (length bytes) size more) (each (take size bytes) (length-take-le size bytes more))
-
-polling-with : (address mode : ℕ) → IsGiven 6 (polling_with address mode)
-polling-with address mode = grind (arith, common_steps, by_test)
+needed command size request each bytes = grind (arith, common_steps, nat_tests)
 
 polling : Gives 6 polling_reading
-polling [] = omega arith
-polling (address ∷ []) = polling-with address (mode_left_out address)
-polling (address ∷ mode ∷ rest) = polling-with address mode
+polling bytes = grind (arith, nat_tests)
 
 codes : Gives 9 codes_reading
-codes [] = omega arith
-codes (code ∷ others) = go 8 refl
-  where
-    go : (n : ℕ) → n ≡ 8 → IsGiven 9 (Ok (ReadVariables (take n (code ∷ others))))
-    go n is = (refl, (omega (arith, length-take n (code ∷ others)), omega (arith, length-take n (code ∷ others))))
+codes bytes = grind (arith, common_steps)
 
 tag : Gives 18 tag_reading
 tag bytes =
@@ -69,9 +56,7 @@ tag bytes =
     (λ g. omega arith))
 
 reset : Gives 38 reset_reading
-reset [] = (refl, tt)
-reset (high ∷ []) = omega arith
-reset (high ∷ low ∷ rest) = (refl, tt)
+reset bytes = grind arith
 
 -- what is to be seen of a row, so that it asks requests of its number
 abbrev pub Own : ℕ → Asked → Type 0
@@ -94,8 +79,7 @@ gives command (AskedBy reading) own bytes = own bytes
 given_by : (command : ℕ) (row : Option CommandRow) (bytes : List ℕ) (request : Request)
     → IfSome row (λ row. (row.number ≡ command) × AsksOwn row)
     → read_by row bytes ≡ Ok request → IsGiven command (Ok request)
-given_by command None bytes request given e = cc
-given_by command (Some row) bytes request given e = grind (arith, common_steps, gives)
+given_by command row bytes request given e = grind (arith, common_steps, gives)
 
 pub read-asked : (command : ℕ) (bytes : List ℕ) (request : Request) → request_reading command bytes ≡ Ok request
     → (command_of request ≡ command) × IsRequest request
@@ -104,8 +88,7 @@ read-asked command bytes request = given_by command (command_row command) bytes 
 -- only a command that is not known is refused with code 64
 refused_by : (command : ℕ) (row : Option CommandRow) (bytes : List ℕ) → IfSome row (λ row. (row.number ≡ command) × AsksOwn row)
     → (read_by row bytes ≡ Err 64) ↔ (is_some row ≡ false)
-refused_by command None bytes given = (λ e. refl, λ n. refl)
-refused_by command (Some row) bytes given = grind (arith, common_steps, gives)
+refused_by command row bytes given = grind (arith, common_steps, gives)
 
 pub unknown-refused : (command : ℕ) (bytes : List ℕ) → (request_reading command bytes ≡ Err 64) ↔ (is_known command ≡ false)
 unknown-refused command bytes = refused_by command (command_row command) bytes (found AsksOwn commands command rows)
