@@ -1,14 +1,13 @@
 -- Every command that is known has a name of its own.
 use Rattle.std.proofs.lemmas.Grind.{common_steps}
 use Rattle.std.proofs.Common.{◌≡◌, rules, ℕ, List, [], ◌∷◌, map, Option, Some, None, IfSome, IsSome, refl}
-use Rattle.std.proofs.Common.{◌∙◌, sym, arith, Bool, true, false, eqb, is_some}
-use Rattle.std.specs.Prelude.{if◌then◌else◌, bytes_eq}
+use Rattle.std.proofs.Common.{◌∙◌, sym, arith, eqb, is_some}
+use Rattle.std.specs.Prelude.{bytes_eq}
 use Rattle.std.specs.List.{AllByRecursion, find}
 use Rattle.std.specs.Option.{option_map}
 use Rattle.std.proofs.lemmas.Bool.Decides.{nat_tests}
 use Rattle.hart_commands.specs.Commands.{CommandRow, commands, is_known, row_in}
 use Rattle.hart_commands.specs.Fields.{CommandRows, command_name, rows, rows_of}
-use Rattle.hart_commands.proofs.lemmas.Test.{is_one}
 
 -- the tests of two rows with one number
 eqb_sym : (m n : ℕ) → eqb m n ≡ eqb n m
@@ -24,15 +23,6 @@ same (row ∷ named) (other ∷ others) command e =
     let number : row.number ≡ other.number = cc in
     let rest : map (λ row. row.number) named ≡ map (λ row. row.number) others = cc in
     grind (arith, common_steps, eqb_sym, same named others command rest)
-  where
-    go : (b d : Bool) → b ≡ d
-        → is_some (option_map (λ row. row.name) (find (λ row. eqb row.number command) named)) ≡ is_some (row_in others command)
-        → is_some (option_map (λ row. row.name) (if b then Some row else find (λ row. eqb row.number command) named))
-        ≡ is_some (if d then Some other else row_in others command)
-    go true true e rest = refl
-    go true false e rest = cc
-    go false true e rest = cc
-    go false false e rest = rest
 
 pub known : (command : ℕ) → is_some (command_name command) ≡ is_known command
 unfolding rows
@@ -53,28 +43,19 @@ named = search rules
 pub found : (P : CommandRows → Type 0) (rows : List CommandRows) (command : ℕ) → AllByRecursion P rows
     → IfSome (find (λ row. eqb row.number command) rows) (λ row. (row.number ≡ command) × P row)
 found P [] command all = tt
-found P (row ∷ others) command all = go (eqb row.number command) refl (found P others command all.1)
-  where
-    go : (b : Bool) → eqb row.number command ≡ b
-        → IfSome (find (λ row. eqb row.number command) others) (λ row. (row.number ≡ command) × P row)
-        → IfSome (if b then Some row else find (λ row. eqb row.number command) others) (λ row. (row.number ≡ command) × P row)
-    go true t rest = (is_one row.number command t, all.0)
-    go false t rest = rest
+found P (row ∷ others) command all = grind (arith, nat_tests, all.0, found P others command all.1)
 
 -- a name is that of the command only whose number it has
-number-name : (command : ℕ) (name : List ℕ) (row : Option CommandRows) → IfSome row (λ row. (row.number ≡ command) × IsNamed row)
+by_row : (command : ℕ) (name : List ℕ) (row : Option CommandRows) → IfSome row (λ row. (row.number ≡ command) × IsNamed row)
     → option_map (λ row. row.name) row ≡ Some name → number_of name ≡ Some command
-number-name command name None is e = cc
-number-name command name (Some row) is e = grind (arith, common_steps, same)
+by_row command name row is e = grind (arith, common_steps)
+
+number-name : (command : ℕ) (name : List ℕ) → command_name command ≡ Some name → number_of name ≡ Some command
+number-name command name = by_row command name (rows_of command) (found IsNamed rows command named)
 
 pub different : (command other : ℕ) → IsSome (command_name command) → command_name command ≡ command_name other → command ≡ other
 different command other some e = go (command_name command) refl some
   where
     go : (name : Option (List ℕ)) → command_name command ≡ name → IsSome name → command ≡ other
     go None is some = cc
-    go (Some name) is some =
-        let first : number_of name ≡ Some command =
-        number-name command name (rows_of command) (found IsNamed rows command named) is in
-        let second : number_of name ≡ Some other =
-        number-name other name (rows_of other) (found IsNamed rows other named) (sym e ∙ is) in
-        cc
+    go (Some name) is some = let first = number-name command name is in let second = number-name other name (sym e ∙ is) in cc

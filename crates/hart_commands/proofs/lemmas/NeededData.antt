@@ -1,19 +1,16 @@
 -- Which data are too few for a command.
 use Rattle.std.proofs.lemmas.Grind.{common_steps}
-use Rattle.std.proofs.Common.{◌≡◌, ◌≢◌, ◌↔◌, ℕ, ◌<◌, ◌≤◌, ◌⊎◌, inl, inr, List, [], ◌∷◌, ◌++◌, length, Option, Some, None, Err, IfSome, refl}
+use Rattle.std.proofs.Common.{◌≡◌, ◌≢◌, ◌↔◌, ℕ, ◌<◌, ◌≤◌, List, ◌++◌, length, Option, Err, IfSome}
 use Rattle.std.proofs.Common.{arith, false, eqb, length-append}
 use Rattle.std.specs.List.{AllByRecursion}
 use Rattle.std.specs.Option.{option_map_or}
-use Rattle.std.proofs.lemmas.Bool.{cases_lt}
 use Rattle.std.proofs.lemmas.Bool.Decides.{nat_tests}
 use Rattle.hart_commands.specs.declared.request.Request.{Request}
-use Rattle.hart_commands.specs.RequestReading.{Reading, needing, polling_with, mode_left_out, polling_reading, codes_reading, tag_reading}
-use Rattle.hart_commands.specs.RequestReading.{reset_reading}
+use Rattle.hart_commands.specs.RequestReading.{Reading, needing}
 use Rattle.hart_commands.specs.Commands.{Asked, Always, Needing, AskedBy, CommandRow, asked, commands, command_row}
 use Rattle.hart_commands.specs.NeededData.{AreTooFew, needed_as, needed_data, own_needed}
 use Rattle.hart_commands.specs.RequestData.{read_by, request_reading}
 use Rattle.hart_commands.proofs.lemmas.Rows.{found}
-use Rattle.hart_commands.proofs.lemmas.Test.{below, above}
 
 -- data are refused with code 5 exactly if they are fewer than so many, but that Command 38 may have none
 abbrev pub Needs : ℕ → ℕ → (List ℕ → Reading) → Type 0

@@ -1,29 +1,28 @@
 -- The fields of the data of a well-made reply are the parts of its content.
+use Rattle.std.proofs.Common.{Bool}
 use Rattle.std.proofs.lemmas.Grind.{common_steps}
-use Rattle.std.proofs.Common.{◌≡◌, ℕ, zero, suc, ◌+◌, ◌-◌, ◌*◌, ◌/◌, ◌<◌, ◌≤◌, ◌⊎◌, inl, inr, List, [], ◌∷◌, ◌++◌, take, drop, length}
-use Rattle.std.proofs.Common.{map, min, Option, Some, None, IfSome, refl, ap, ◌∙◌, subst, arith, rules, true, eqb, ltb, length-append}
+use Rattle.std.proofs.Common.{◌≡◌, ℕ, zero, suc, ◌*◌, ◌<◌, ◌≤◌, List, [], ◌∷◌, ◌++◌, take, length}
+use Rattle.std.proofs.Common.{map, Option, Some, None, IfSome, refl, arith, rules, eqb, ltb, length-append}
 use Rattle.std.proofs.Common.{length-drop, length-take-le, slice_index}
-use Rattle.std.specs.Prelude.{codes, if◌then◌else◌}
-use Rattle.std.specs.List.{flat_map, AllByRecursion}
-use Rattle.std.specs.Option.{option_map, option_map_or}
+use Rattle.std.specs.Prelude.{if◌then◌else◌}
+use Rattle.std.specs.List.{AllByRecursion}
+use Rattle.std.specs.Option.{option_map}
 use Rattle.std.specs.Simd.{first_chunks}
-use Rattle.std.proofs.lemmas.Bool.{cases_lt}
 use Rattle.std.proofs.lemmas.Bool.Decides.{nat_tests}
 use Rattle.std.proofs.lemmas.List.{take_at, drop_at, take_all}
 use Rattle.hart_commands.specs.declared.content.ReplyContent.{ReplyContent}
-use Rattle.hart_commands.specs.declared.content.ReplyContent.TheVariants.{Identity, Dynamic, Variables, Refused}
-use Rattle.hart_commands.specs.declared.fields.FieldKind.TheVariants.{Bytes}
+use Rattle.hart_commands.specs.declared.content.ReplyContent.TheVariants.{Identity, Dynamic, Refused}
 use Rattle.hart_commands.specs.declared.reply.Reply.{Reply}
 use Rattle.hart_commands.specs.FirstBytes.{having}
 use Rattle.hart_commands.specs.Fields.{CommandRows, Row, field_bytes, fields_of, reply_rows, rows, rows_of}
 use Rattle.hart_commands.specs.Fields as fields
 use Rattle.hart_commands.specs.Parts.{content_parts, one}
 use Rattle.hart_commands.specs.IdentityBytes.{identity_of}
-use Rattle.hart_commands.specs.Values.{float_at, unit_value_of, variable_of, variable_bytes}
+use Rattle.hart_commands.specs.Values.{float_at, unit_value_of}
 use Rattle.hart_commands.specs.ReplyReading.{identity_reading, dynamic_reading, variables_reading, more_reading}
 use Rattle.hart_commands.specs.Commands.{Replied, Saying, SaidBy, CommandRow, replied, commands, command_row, is_known}
 use Rattle.hart_commands.specs.ReplyData.{IsReply, content_by, content_bytes, content_reading, reply_reading}
-use Rattle.hart_commands.proofs.lemmas.Test.{below, above, is_one}
+use Rattle.hart_commands.proofs.lemmas.Test.{is_one}
 use Rattle.hart_commands.proofs.lemmas.Parts.{spell, by_spelling, variable-bytes}
 use Rattle.hart_commands.proofs.lemmas.Chunk.{chunks-bytes, chunks-take}
 use Rattle.hart_commands.proofs.lemmas.Reply.{by_test, identity_in, three_tests}
@@ -54,33 +53,27 @@ identity command same = said command 22 identity_in (λ xs.
 in_groups : (groups : ℕ) → 0 < groups → groups ≤ 4 → (start rest : List ℕ) → length start ≡ 4 → length rest ≡ groups * 5
     → IsParted 3 (Dynamic (record { 0 = start }) (map unit_value_of (first_chunks 5 groups rest)))
 unfolding rows
-in_groups groups some few start rest four long = by_spelling 4 (P rest) (λ s. go groups some few s rest long) start four
+in_groups groups some few start rest four long =
+    by_spelling 4 (λ start. IsParted 3 (Dynamic (record { 0 = start }) (map unit_value_of (first_chunks 5 groups rest))))
+    (λ s. go groups some few s rest long) start four
   where
-    P : List ℕ → List ℕ → Type 0
-    P rest start = IsParted 3 (Dynamic (record { 0 = start }) (map unit_value_of (first_chunks 5 groups rest)))
-
     go : (n : ℕ) → 0 < n → n ≤ 4 → (s rest : List ℕ) → length rest ≡ n * 5
         → IsParted 3 (Dynamic (record { 0 = spell 4 s }) (map unit_value_of (first_chunks 5 n rest)))
-    go zero some few s = absurd (omega arith)
     go (suc zero) some few s = by_spelling 5 _ (λ xs. refl)
     go (suc (suc zero)) some few s = by_spelling 10 _ (λ xs. refl)
     go (suc (suc (suc zero))) some few s = by_spelling 15 _ (λ xs. refl)
     go (suc (suc (suc (suc zero)))) some few s = by_spelling 20 _ (λ xs. refl)
-    go (suc (suc (suc (suc (suc n))))) some few s = absurd (omega arith)
+    go _ some few s = absurd (omega arith)
+
+in_front : (bytes rest : List ℕ) (groups : ℕ) → 4 ≤ length bytes → 0 < groups → groups ≤ 4 → groups * 5 ≤ length rest
+    → IsParted 3 (Dynamic (float_at bytes 0) (map unit_value_of (first_chunks 5 groups rest)))
+in_front bytes rest groups four some few long =
+    rw (chunks-take 5 groups rest long) at
+    (in_groups groups some few (take 4 bytes) (take (groups * 5) rest)
+    (length-take-le 4 bytes four) (length-take-le (groups * 5) rest long))
 
 dynamic : Parts 3 dynamic_reading
-dynamic bytes =
-    by_test (ltb (length bytes) 9) None _ (IsParted 3) (λ t. tt) (λ f.
-    let enough : 9 ≤ length bytes = grind (arith, nat_tests) in
-    let gone : length (drop 4 bytes) ≡ length bytes - 4 = length-drop 4 bytes in
-    parted (drop 4 bytes) (min (length (drop 4 bytes) / 5) 4) (omega arith) (omega arith) (omega arith) (omega arith))
-  where
-    parted : (rest : List ℕ) (groups : ℕ) → 4 ≤ length bytes → 0 < groups → groups ≤ 4 → groups * 5 ≤ length rest
-        → IsParted 3 (Dynamic (float_at bytes 0) (map unit_value_of (first_chunks 5 groups rest)))
-    parted rest groups four some few long =
-        rw (chunks-take 5 groups rest long) at
-        (in_groups groups some few (take 4 bytes) (take (groups * 5) rest)
-        (length-take-le 4 bytes four) (length-take-le (groups * 5) rest long))
+dynamic bytes = grind (arith, nat_tests, in_front, length-drop)
 
 -- an extended device status, variables, and a time stamp at the end
 cut : (status : ℕ) (variables time_stamp : List ℕ) → 0 < length variables → length time_stamp ≡ 4
@@ -129,29 +122,21 @@ none-parted : (command : ℕ) → IsParted command Refused
 none-parted command = grind (arith, names.found (λ command. IsEmpty command.reply) rows command nothing)
 
 -- the same of a reply that was read
+by_reading : (command code status : ℕ) (content : Option ReplyContent) (is_known : Bool) → IfSome content (IsParted command)
+    → IsParted command Refused
+    → (let saying : ReplyContent → Reply =
+    λ content. record { command = command; code = code; status = record { 0 = status }; content = content } in
+    IfSome (if ltb 127 code then None
+    else if eqb code 0 then option_map saying content
+    else if is_known then Some (saying Refused)
+    else None) (λ reply. IsParted command reply.content))
+by_reading command code status content is_known all none = grind arith
+
 reading-parted : (command : ℕ) (payload : List ℕ) → IfSome (reply_reading command payload) (λ reply. IsParted command reply.content)
 reading-parted command [] = tt
 reading-parted command (code ∷ []) = tt
 reading-parted command (code ∷ status ∷ bytes) =
-    by_test (ltb 127 code) None (if eqb code 0 then said_in else refused) P (λ t. tt) (λ small.
-    by_test (eqb code 0) said_in refused P (λ none. success (content_reading command bytes) (content-parted command bytes)) (λ some.
-    by_test (is_known command) (Some (saying Refused)) None P (λ known. none-parted command) (λ f. tt)))
-  where
-    P : Reply → Type 0
-    P reply = IsParted command reply.content
-
-    saying : ReplyContent → Reply
-    saying content = record { command = command; code = code; status = record { 0 = status }; content = content }
-
-    said_in : Option Reply
-    said_in = option_map saying (content_reading command bytes)
-
-    refused : Option Reply
-    refused = if is_known command then Some (saying Refused) else None
-
-    success : (content : Option ReplyContent) → IfSome content (IsParted command) → IfSome (option_map saying content) P
-    success None all = tt
-    success (Some content) all = all
+    by_reading command code status _ _ (content-parted command bytes) (none-parted command)
 
 pub parts_of_reply : (reply : Reply) → IsReply reply
     → field_bytes (fields_of (reply_rows reply.command) (content_bytes reply.content)) ≡ content_parts reply.content

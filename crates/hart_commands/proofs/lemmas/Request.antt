@@ -60,10 +60,7 @@ written_is_read _ rest is may = refl
 
 -- nothing may follow any request
 none-may : (request : Request) → MayFollow request []
-none-may (ReadVariables codes) = inr refl
-none-may (ResetChanged None) = refl
-none-may (ResetChanged (Some counter)) = tt
-none-may _ = tt
+none-may request = grind arith
 
 -- the same with nothing after them
 pub written_is_own : (request : Request) → IsRequest request

@@ -1,18 +1,15 @@
 -- Data that are read as a request begin with those that it is written as, but for the mode that Command 6 may leave out.
 use Rattle.std.proofs.lemmas.Bool.Decides.{nat_tests}
 use Rattle.std.proofs.lemmas.Grind.{common_steps}
-use Rattle.std.proofs.Common.{◌≡◌, ℕ, ◌<◌, ◌≤◌, ◌⊎◌, inl, inr, All, List, [], ◌∷◌, ◌++◌, take, drop, length, Ok}
-use Rattle.std.proofs.Common.{Option, Some, None, Err, IfSome, refl, sym, ap, ◌∙◌, arith}
-use Rattle.std.proofs.Common.{append_assoc, length-take}
+use Rattle.std.proofs.Common.{◌≡◌, ℕ, ◌<◌, ◌≤◌, ◌⊎◌, inl, All, List, [], ◌++◌, take, drop, length, Ok}
+use Rattle.std.proofs.Common.{Option, Err, IfSome, refl, arith}
+use Rattle.std.proofs.Common.{append_assoc}
 use Rattle.std.specs.List.{AllByRecursion}
 use Rattle.std.proofs.Math.Seq.{take-add}
-use Rattle.std.proofs.lemmas.Bool.{cases_lt}
 use Rattle.std.proofs.lemmas.List.{drop-drop, take_all}
-use Rattle.hart_values.specs.declared.loop_mode.LoopMode.TheVariants.{Disabled, Enabled}
 use Rattle.hart_commands.specs.declared.request.Request.{Request}
-use Rattle.hart_commands.specs.declared.request.Request.TheVariants.{SetPolling}
 use Rattle.hart_commands.specs.TagBytes.{tag_in, descriptor_in, date_in}
-use Rattle.hart_commands.specs.RequestReading.{Reading, needing, polling_with, mode_left_out, polling_reading, codes_reading, tag_reading}
+use Rattle.hart_commands.specs.RequestReading.{Reading, needing, polling_reading, codes_reading, tag_reading}
 use Rattle.hart_commands.specs.RequestReading.{reset_reading}
 use Rattle.hart_commands.specs.Commands.{Asked, Always, Needing, AskedBy, CommandRow, asked, commands, command_row}
 use Rattle.hart_commands.specs.Fields.{fields_of, request_rows, rows}
@@ -20,7 +17,6 @@ use Rattle.hart_commands.specs.RequestData.{read_by, request_data, request_readi
 use Rattle.hart_commands.proofs.lemmas.Reply.{front}
 use Rattle.hart_commands.proofs.lemmas.RequestMade.{by_test}
 use Rattle.hart_commands.proofs.lemmas.Rows.{found}
-use Rattle.hart_commands.proofs.lemmas.Test.{below, above, is_one}
 
 -- an address without the mode with which it is written
 pub record IsAlone (command : ℕ) (bytes written : List ℕ) : Type 0 where

@@ -1,21 +1,19 @@
 -- What is read of data is a well-made request of its command, or refused with another code than 64.
 use Rattle.std.proofs.lemmas.Grind.{common_steps}
-use Rattle.std.proofs.Common.{◌≡◌, ◌≢◌, ◌↔◌, ℕ, ◌<◌, ◌≤◌, ◌⊎◌, inl, inr, List, [], ◌∷◌, take, drop, length, Option, Some, None, Ok, Err}
-use Rattle.std.proofs.Common.{IfSome, refl, arith, Bool, true, false, ltb, length-take, length-drop, length-take-le}
+use Rattle.std.proofs.Common.{◌≡◌, ◌≢◌, ◌↔◌, ℕ, ◌≤◌, List, drop, length, Option, Ok, Err}
+use Rattle.std.proofs.Common.{IfSome, refl, arith, Bool, true, false, ltb, length-drop, length-take-le}
 use Rattle.std.specs.Prelude.{if◌then◌else◌, is_some}
 use Rattle.std.specs.List.{AllByRecursion}
-use Rattle.std.proofs.lemmas.Bool.{cases_lt}
 use Rattle.std.proofs.lemmas.Bool.Decides.{nat_tests}
 use Rattle.hart_values.proofs.lemmas.Laws.{dates_are_decided-date}
 use Rattle.hart_commands.specs.declared.request.Request.{Request}
-use Rattle.hart_commands.specs.declared.request.Request.TheVariants.{ReadVariables, WriteTag}
+use Rattle.hart_commands.specs.declared.request.Request.TheVariants.{WriteTag}
 use Rattle.hart_commands.specs.TagBytes.{tag_in, descriptor_in, date_in}
-use Rattle.hart_commands.specs.RequestReading.{Reading, needing, polling_with, mode_left_out, polling_reading, codes_reading, tag_reading}
+use Rattle.hart_commands.specs.RequestReading.{Reading, needing, polling_reading, codes_reading, tag_reading}
 use Rattle.hart_commands.specs.RequestReading.{reset_reading}
 use Rattle.hart_commands.specs.Commands.{Asked, Always, Needing, AskedBy, CommandRow, asked, commands, command_row, is_known}
 use Rattle.hart_commands.specs.RequestData.{IsRequest, command_of, read_by, request_reading}
 use Rattle.hart_commands.proofs.lemmas.Rows.{found}
-use Rattle.hart_commands.proofs.lemmas.Test.{below, above}
 
 -- a well-made request of a command, or a code other than 64
 abbrev pub IsGiven : ℕ → Reading → Type 0
