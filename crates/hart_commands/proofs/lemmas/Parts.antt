@@ -7,7 +7,7 @@ abbrev pub spell : ℕ → List ℕ → List ℕ
 spell zero xs = []
 spell (suc n) xs = slice_index xs 0 ∷ spell n (drop 1 xs)
 
-spelled : (n : ℕ) (xs : List ℕ) → length xs ≡ n → spell n xs ≡ xs
+pub spelled : (n : ℕ) (xs : List ℕ) → length xs ≡ n → spell n xs ≡ xs
 spelled zero [] long = refl
 spelled zero (x ∷ xs) long = absurd (omega arith)
 spelled (suc n) [] long = absurd (omega arith)

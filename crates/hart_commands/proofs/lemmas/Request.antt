@@ -1,16 +1,15 @@
 -- Written data are read again.
+use Rattle.hart_commands.proofs.lemmas.Parts.{spell}
 use Rattle.std.proofs.lemmas.Grind.{common_steps}
-use Rattle.std.proofs.Common.{◌≡◌, ℕ, ◌≤◌, ◌⊎◌, inl, inr, List, [], ◌∷◌, ◌++◌, take, drop, length, Ok, Some, None, refl, ap, arith, true}
-use Rattle.std.proofs.Common.{false, ltb, length-append, append-nil}
+use Rattle.std.proofs.Common.{◌≡◌, ℕ, ◌≤◌, ◌⊎◌, inl, inr, List, [], ◌∷◌, ◌++◌, take, length, Ok, refl, ap, arith, true}
+use Rattle.std.proofs.Common.{length-append, append-nil}
 use Rattle.std.proofs.lemmas.List.{take_at, take_all}
 use Rattle.std.proofs.lemmas.Bool.Decides.{nat_tests}
 use Rattle.hart_values.proofs.lemmas.Laws.{dates_are_decided-date}
-use Rattle.hart_values.specs.declared.loop_mode.LoopMode.TheVariants.{Disabled, Enabled}
 use Rattle.hart_values.specs.hart_date.Calendar.{is_date}
 use Rattle.hart_commands.specs.declared.request.Request.{Request}
 use Rattle.hart_commands.specs.declared.request.Request.TheVariants.{SetPolling, ReadVariables, IdentifyByTag, WriteMessage, WriteTag}
 use Rattle.hart_commands.specs.declared.request.Request.TheVariants.{WriteAssembly, IdentifyByLongTag, WriteLongTag, ResetChanged}
-use Rattle.hart_commands.specs.TagBytes.{tag_in, descriptor_in, date_in}
 use Rattle.hart_commands.specs.RequestReading.{needing, tag_reading}
 use Rattle.hart_commands.specs.RequestData.{IsRequest, MayFollow, command_of, request_reading, request_data}
 use Rattle.hart_commands.proofs.lemmas.Test.{above}
@@ -29,33 +28,24 @@ take-codes codes rest few (inr none) = rw (none, append-nil) (take_all 8 codes f
 -- a good date is read with its tag and descriptor
 tag_reading-good : (tag descriptor date rest : List ℕ) → length tag ≡ 6 → length descriptor ≡ 12 → length date ≡ 3 → is_date date ≡ true
     → tag_reading (tag ++ descriptor ++ date ++ rest) ≡ Ok (WriteTag tag descriptor date)
-tag_reading-good tag descriptor date rest six twelve three good =
-    let bytes : List ℕ = tag ++ descriptor ++ date ++ rest in
-    let enough : ltb (length bytes) 21 ≡ false = above (length bytes) 21 (omega (arith, length-append {A = ℕ})) in
-    let tag_is : tag_in bytes ≡ tag = by_spelling 6 (λ t. tag_in (t ++ descriptor ++ date ++ rest) ≡ t) (λ t. refl) tag six in
-    let descriptor_is : descriptor_in bytes ≡ descriptor =
-    by_spelling 6 (λ t. descriptor_in (t ++ descriptor ++ date ++ rest) ≡ descriptor)
-    (λ t. by_spelling 12 (λ d. take 12 (d ++ date ++ rest) ≡ d) (λ d. refl) descriptor twelve) tag six in
-    let date_is : date_in bytes ≡ date =
-    by_spelling 6 (λ t. date_in (t ++ descriptor ++ date ++ rest) ≡ date)
-    (λ t. by_spelling 12 (λ d. take 3 (drop 12 (d ++ date ++ rest)) ≡ date) (λ d. take_at date rest 3 three) descriptor twelve) tag six in
-    rw (enough, tag_is, descriptor_is, date_is, good) refl
+tag_reading-good tag descriptor date rest six twelve three =
+    by_spelling 6 (λ t. is_date date ≡ true → tag_reading (t ++ descriptor ++ date ++ rest) ≡ Ok (WriteTag t descriptor date)) (λ t.
+    by_spelling 12 (λ d. is_date date ≡ true → tag_reading (spell 6 t ++ d ++ date ++ rest) ≡ Ok (WriteTag (spell 6 t) d date)) (λ d.
+    by_spelling 3 (λ s. is_date s ≡ true → tag_reading (spell 6 t ++ spell 12 d ++ s ++ rest) ≡ Ok (WriteTag (spell 6 t) (spell 12 d) s))
+    (λ s good. grind (arith, nat_tests, good)) date three) descriptor twelve) tag six
 
 pub written_is_read : (request : Request) (rest : List ℕ) → IsRequest request → MayFollow request rest
     → request_reading (command_of request) (request_data request ++ rest) ≡ Ok request
-written_is_read (SetPolling address Disabled) rest is may = let t : ltb 63 address ≡ false = grind (arith, nat_tests) in rw t refl
-written_is_read (SetPolling address Enabled) rest is may = let t : ltb 63 address ≡ false = grind (arith, nat_tests) in rw t refl
+written_is_read (SetPolling address mode) rest is may = grind (arith, nat_tests)
 written_is_read (ReadVariables []) rest is may = absurd (omega (arith, is.0))
-written_is_read (ReadVariables (code ∷ codes)) rest is may =
-    ap (λ xs. Ok (ReadVariables xs)) (take-codes (code ∷ codes) rest is.1 may)
+written_is_read (ReadVariables (code ∷ codes)) rest is may = ap (λ xs. Ok (ReadVariables xs)) (take-codes (code ∷ codes) rest is.1 may)
 written_is_read (IdentifyByTag tag) rest is may = needing-append 6 IdentifyByTag tag rest is
 written_is_read (WriteMessage message) rest is may = needing-append 24 WriteMessage message rest is
 written_is_read (WriteTag tag descriptor date) rest is may = grind (arith, common_steps, tag_reading-good, dates_are_decided-date)
 written_is_read (WriteAssembly assembly) rest is may = needing-append 3 WriteAssembly assembly rest is
 written_is_read (IdentifyByLongTag long_tag) rest is may = needing-append 32 IdentifyByLongTag long_tag rest is
 written_is_read (WriteLongTag long_tag) rest is may = needing-append 32 WriteLongTag long_tag rest is
-written_is_read (ResetChanged None) rest is may = rw may refl
-written_is_read (ResetChanged (Some counter)) rest is may = ap (λ n. Ok (ResetChanged (Some n))) (omega arith)
+written_is_read (ResetChanged counter) rest is may = grind arith
 written_is_read _ rest is may = refl
 
 -- nothing may follow any request

@@ -1,18 +1,18 @@
 -- The fields of the data of a well-made request are its parts.
+use Rattle.hart_commands.proofs.lemmas.Parts.{spelled}
 use Rattle.std.proofs.lemmas.Grind.{common_steps}
-use Rattle.std.proofs.Common.{◌≡◌, ℕ, ◌<◌, List, [], ◌∷◌, ◌++◌, length, Some, None, refl, arith}
+use Rattle.std.proofs.Common.{◌≡◌, ℕ, ◌<◌, List, [], ◌∷◌, length, Some, None, refl, arith}
 use Rattle.std.specs.Prelude.{codes}
 use Rattle.std.proofs.lemmas.List.{take_all}
 use Rattle.hart_commands.specs.declared.fields.FieldKind.{FieldKind}
 use Rattle.hart_commands.specs.declared.fields.FieldKind.TheVariants.{Bytes}
 use Rattle.hart_commands.specs.declared.fields.FieldSize.TheVariants.{AllBut}
 use Rattle.hart_commands.specs.declared.request.Request.{Request}
-use Rattle.hart_commands.specs.declared.request.Request.TheVariants.{SetPolling, ReadVariables, IdentifyByTag, WriteMessage, WriteTag}
+use Rattle.hart_commands.specs.declared.request.Request.TheVariants.{ReadVariables, IdentifyByTag, WriteMessage, WriteTag}
 use Rattle.hart_commands.specs.declared.request.Request.TheVariants.{WriteAssembly, IdentifyByLongTag, WriteLongTag, ResetChanged}
 use Rattle.hart_commands.specs.Fields.{field, field_bytes, fields_of, request_rows, rows}
 use Rattle.hart_commands.specs.Parts.{request_parts}
 use Rattle.hart_commands.specs.RequestData.{IsRequest, command_of, request_data}
-use Rattle.hart_commands.proofs.lemmas.Parts.{spell, by_spelling}
 use Rattle.hart_commands.proofs.lemmas.Test.{below}
 
 -- a row that takes all bytes that are left has them
@@ -23,23 +23,13 @@ all_left name kind bytes some = grind (arith, common_steps, below, take_all)
 pub parts_of_request : (request : Request) → IsRequest request
     → field_bytes (fields_of (request_rows (command_of request)) (request_data request)) ≡ request_parts request
 unfolding rows
-parts_of_request (SetPolling address mode) is = refl
 parts_of_request (ReadVariables list) is = all_left (codes "device variable codes") Bytes list is.0
-parts_of_request (IdentifyByTag tag) is =
-    by_spelling 6 (λ xs. field_bytes (fields_of (request_rows 11) xs) ≡ xs ∷ []) (λ xs. refl) tag is
-parts_of_request (WriteMessage message) is =
-    by_spelling 24 (λ xs. field_bytes (fields_of (request_rows 17) xs) ≡ xs ∷ []) (λ xs. refl) message is
-parts_of_request (WriteTag tag descriptor date) is =
-    by_spelling 6 (λ xs. field_bytes (fields_of (request_rows 18) (xs ++ descriptor ++ date)) ≡ xs ∷ descriptor ∷ date ∷ []) (λ xs.
-    by_spelling 12 (λ ys. field_bytes (fields_of (request_rows 18) (spell 6 xs ++ ys ++ date)) ≡ spell 6 xs ∷ ys ∷ date ∷ []) (λ ys.
-    by_spelling 3 (λ zs. field_bytes (fields_of (request_rows 18) (spell 6 xs ++ spell 12 ys ++ zs)) ≡ spell 6 xs ∷ spell 12 ys ∷ zs ∷ [])
-    (λ zs. refl) date is.2.0) descriptor is.1) tag is.0
-parts_of_request (WriteAssembly assembly) is =
-    by_spelling 3 (λ xs. field_bytes (fields_of (request_rows 19) xs) ≡ xs ∷ []) (λ xs. refl) assembly is
-parts_of_request (IdentifyByLongTag long_tag) is =
-    by_spelling 32 (λ xs. field_bytes (fields_of (request_rows 21) xs) ≡ xs ∷ []) (λ xs. refl) long_tag is
-parts_of_request (WriteLongTag long_tag) is =
-    by_spelling 32 (λ xs. field_bytes (fields_of (request_rows 22) xs) ≡ xs ∷ []) (λ xs. refl) long_tag is
+parts_of_request (IdentifyByTag tag) is = rw (← spelled 6 tag is) refl
+parts_of_request (WriteMessage message) is = rw (← spelled 24 message is) refl
+parts_of_request (WriteTag tag descriptor date) is = rw (← spelled 6 tag is.0, ← spelled 12 descriptor is.1, ← spelled 3 date is.2.0) refl
+parts_of_request (WriteAssembly assembly) is = rw (← spelled 3 assembly is) refl
+parts_of_request (IdentifyByLongTag long_tag) is = rw (← spelled 32 long_tag is) refl
+parts_of_request (WriteLongTag long_tag) is = rw (← spelled 32 long_tag is) refl
 parts_of_request (ResetChanged None) is = refl
 parts_of_request (ResetChanged (Some counter)) is = refl
 parts_of_request _ is = refl

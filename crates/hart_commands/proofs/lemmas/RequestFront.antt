@@ -1,7 +1,7 @@
 -- Data that are read as a request begin with those that it is written as, but for the mode that Command 6 may leave out.
 use Rattle.std.proofs.lemmas.Bool.Decides.{nat_tests}
 use Rattle.std.proofs.lemmas.Grind.{common_steps}
-use Rattle.std.proofs.Common.{◌≡◌, ℕ, ◌<◌, ◌≤◌, ◌⊎◌, inl, All, List, [], ◌++◌, take, drop, length, Ok}
+use Rattle.std.proofs.Common.{◌≡◌, ℕ, ◌<◌, ◌≤◌, ◌⊎◌, All, List, [], ◌++◌, take, drop, length, Ok}
 use Rattle.std.proofs.Common.{Option, Err, IfSome, refl, arith}
 use Rattle.std.proofs.Common.{append_assoc}
 use Rattle.std.specs.List.{AllByRecursion}
@@ -66,9 +66,7 @@ own : AllByRecursion BeginsOwn commands
 own = search (polling, codes, tag, reset)
 
 begins : (command : ℕ) (request : Asked) → Own command request → Begins command (asked request)
-begins command (Always request) none bytes fit = inl (rw none refl)
-begins command (Needing size request) each bytes fit = needed command size request each bytes fit
-begins command (AskedBy reading) all bytes fit = all bytes fit
+begins command request own bytes fit = grind (arith, common_steps, needed, own, fit)
 
 begun : (command : ℕ) (bytes : List ℕ) (request : Request) → All (λ byte. byte < 256) bytes → request_reading command bytes ≡ Ok request
     → (take (length (request_data request)) bytes ≡ request_data request) ⊎ IsAlone command bytes (request_data request)
@@ -111,4 +109,4 @@ fields command bytes request fit e fewer = go (request_data request) (alone comm
   where
     go : (written : List ℕ) → IsAlone command bytes written
         → fields_of (request_rows command) (take (length written) bytes) ≡ take 1 (fields_of (request_rows command) written)
-    go written is = rw (is.own, is.two, take_all 2 bytes (omega (arith, is.one)), is.first) (first_field written is.two)
+    go written is = grind (arith, take_all, first_field)
