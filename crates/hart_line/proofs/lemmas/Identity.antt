@@ -1,4 +1,5 @@
 -- The address in the identity of a device.
+use Rattle.std.proofs.lemmas.Grind.{common_steps}
 use Rattle.std.proofs.Common.{◌≡◌, ℕ, false, Some, arith}
 use Rattle.std.proofs.lemmas.Bool.Decides.{nat_tests}
 use Rattle.hart_values.specs.address.AddressBytes.{broadcast, is_broadcast}
@@ -22,7 +23,4 @@ not_broadcast numbers other = grind (arith, nat_tests)
 pub identity_gives_address : (parts : IdentityParts) (counter extended_device_status : ℕ) (reply : Reply) → AreIdentityParts parts
     → reply.code ≡ 0 → reply.content ≡ Identity (identity_content parts counter extended_device_status)
     → unique_in reply ≡ Some (Unique (own_numbers parts))
-identity_gives_address parts counter extended_device_status reply are zero content =
-    let address = address_is parts counter extended_device_status in
-    let other = not_broadcast (own_numbers parts) are.own_address in
-    grind (arith, nat_tests)
+identity_gives_address parts counter extended_device_status reply are zero content = grind (arith, common_steps, address_is, not_broadcast)

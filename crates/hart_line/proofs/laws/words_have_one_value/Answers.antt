@@ -1,9 +1,6 @@
+use Rattle.std.proofs.Common.{arith}
+use Rattle.std.proofs.lemmas.Grind.{common_steps}
 use Rattle.hart_line.proofs.laws.words_have_one_value.Goals as goal
 
 pub returns : goal.returns
-returns c = record {
-  who = λ word m n p q. cc;
-  address = λ word m n p q. cc;
-  command = λ word m n p q. cc;
-  payload = λ word xs ys p q. cc;
-}
+returns c = grind (arith, common_steps)

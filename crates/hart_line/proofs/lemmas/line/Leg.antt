@@ -1,4 +1,5 @@
 -- What arrives in a leg, what it brings the device, and what is spoken.
+use Rattle.std.proofs.lemmas.Grind.{common_steps}
 use Rattle.std.proofs.Common.{◌≡◌, ℕ, ◌≤◌, ap, subst, refl, arith, length-append, Option, None, Some, List, [], ◌∷◌, ◌++◌, length}
 use Rattle.std.proofs.Common.{replicate}
 use Rattle.hart_frame.specs.heard.Character.{Character, faultless}
@@ -44,12 +45,7 @@ IsReply identity chars answer = MatchOption answer ((request : GarbledRequest) �
 pub answered_among : (chars : List Character) (sent : Option FrameParts) (device : DeviceState) (process : Process)
     (answer : Option FrameParts) → ArrivesAmong chars sent None → IsReply device.identity chars answer
     → AnswersTo (ReachesAmong device.identity chars sent) device process answer device
-answered_among chars sent device process None a none = record {
-  brought = NoMessage;
-  is_brought = among_none device.identity chars sent NoMessage a none;
-  answer_is = refl;
-  after_is = refl;
-}
+answered_among chars sent device process None a none = grind (arith, common_steps, among_none)
 answered_among chars sent device process (Some reply) a is = record {
   brought = Garbled is.0;
   is_brought = among_none device.identity chars sent (Garbled is.0) a is.1;
@@ -117,9 +113,7 @@ speaks_sent party preambles sent old new enough speaks = grind arith
 pub says_request : (Silent : Type 0) (Sent : InHand → Type 0) (who : MasterId) (hand : Option InHand) (frame : Option FrameParts)
     (old new : List Spoken) → Sends who hand frame Silent Sent → Speaks (spoken_by (party_of who) master_preambles frame) old new
     → Speaks (sent_by who hand) old new × IsSent frame (sent_by who hand)
-says_request Silent Sent who hand frame old new sends speaks =
-    let said : spoken_by (party_of who) master_preambles frame ≡ sent_by who hand = grind arith in
-    (rw said at speaks, rw said at (speaks_sent (party_of who) master_preambles frame old new (omega arith) speaks))
+says_request Silent Sent who hand frame old new sends speaks = grind (arith, common_steps, speaks_sent)
 
 -- The device speaks its answer to what it was brought.
 pub said_back : (start : Start) (world : World) (brought : Brought) (answer : Option FrameParts) (preambles : ℕ)

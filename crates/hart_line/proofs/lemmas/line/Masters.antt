@@ -1,4 +1,5 @@
 -- What the masters of a line do is what the world says of their hands.
+use Rattle.std.proofs.lemmas.Grind.{common_steps}
 use Rattle.std.proofs.Common.{◌≡◌, ℕ, List, Option, Err, arith}
 use Rattle.hart_values.specs.declared.address.Address.{Address}
 use Rattle.hart_values.specs.declared.master_id.MasterId.{MasterId}
@@ -33,5 +34,4 @@ submits_more held place address request fault outcome more s = grind arith
 pub concludes_more : {Left Left' : Option InHand → Type 0} {who : MasterId} {retries : ℕ} {held : InHand} {returned : Option FrameParts}
     {outcomes outcomes' : List Outcome} → ((left : Option InHand) → Left left → Left' left)
     → Concludes who retries held returned outcomes outcomes' Left → Concludes who retries held returned outcomes outcomes' Left'
-concludes_more more c =
-    record { accepted = c.accepted; accepts = c.accepts; outcomes_are = c.outcomes_are; left = more _ c.left }
+concludes_more more c = grind (arith, common_steps)

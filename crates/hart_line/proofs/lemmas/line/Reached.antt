@@ -1,4 +1,6 @@
 -- How far a script has come.
+use Rattle.std.proofs.Common.{arith}
+use Rattle.std.proofs.lemmas.Grind.{common_steps}
 use Rattle.std.proofs.Common.{◌≡◌, ℕ, ◌+◌, ◌≤◌, ◌<◌, sym, refl, subst, List, [], length, take, get_or}
 use Rattle.std.proofs.lemmas.List.{take_all, take_more}
 use Rattle.std.proofs.lemmas.Option.{slice_get-get_or}
@@ -34,8 +36,7 @@ pub reached_more : (start : Start) (events : List LineEvent) (n : ℕ) (unused :
 reached_more start events n unused line line' here r s =
     record {
       world = s.next;
-      is_last = rw (take_more events n unused here)
-          (leads_more start (take n events) (get_or events n unused) (first_world start) r.world s.next r.is_last s.step);
+      is_last = grind (arith, common_steps, take_more, leads_more);
       stands = s.stands;
       marks = step_marks start r.world (get_or events n unused) s.next s.step r.marks;
     }
@@ -86,11 +87,9 @@ reached_first device process primary secondary outcomes_room spoken_room first o
 pub fault_at : (start : Start) (events : List LineEvent) (n : ℕ) (unused : LineEvent) (world : World) (leg : Leg) → n < length events
     → IsLast start (take n events) world → HasUndetected start world (get_or events n unused) leg
     → IsFault start events (Undetected n leg)
-fault_at start events n unused world leg here last undetected =
-    (world, get_or events n unused, last, slice_get-get_or events n unused here, undetected)
+fault_at start events n unused world leg here last undetected = grind (arith, common_steps, slice_get-get_or)
 
 -- What holds of the world that a script led to holds of each last world.
 pub of_last : (P : World → Type 0) {start : Start} {events : List LineEvent} {line : LineState} → (r : IsReached start events line)
     → P r.world → (world : World) → IsLast start events world → P world
-of_last P {start = start} {events = events} r holds world last =
-    subst P (leads_one start events (first_world start) r.world world r.is_last last) holds
+of_last P {start = start} {events = events} r holds world last = grind (arith, common_steps, leads_one)

@@ -1,10 +1,11 @@
 -- The room on the line, event by event.
-use Rattle.std.proofs.Common.{◌≡◌, ℕ, ◌+◌, ◌<◌, ◌≤◌, Bool, List, [], ◌∷◌, cond, refl, arith, count_by, drop, get_or, length}
+use Rattle.std.proofs.lemmas.Grind.{common_steps}
+use Rattle.std.proofs.Common.{◌≡◌, ℕ, ◌+◌, ◌<◌, ◌≤◌, Bool, List, [], ◌∷◌, cond, arith, count_by, drop, get_or, length}
 use Rattle.std.proofs.lemmas.List.{drop_more}
 use Rattle.std.proofs.lemmas.List.Sums.{sum_by-append}
 use Rattle.hart_line.specs.line.Line.{LineState}
 use Rattle.hart_line.specs.line.Room.{HasRoomFor, HasRoomForEach, LeavesRoom}
-use Rattle.hart_line.specs.world.Needs.{is_noise, is_submission, is_turn, most_spoken}
+use Rattle.hart_line.specs.world.Needs.{most_spoken}
 use Rattle.hart_line.specs.declared.event.LineEvent.{LineEvent}
 
 -- The first of some events is counted with the others.
@@ -19,42 +20,15 @@ two_spoken event = grind arith
 -- If there is room for the events that are left, there is room for those left after the next of them.
 pub room_for_others : (events : List LineEvent) (n : ℕ) (unused : LineEvent) (old new : LineState) → n < length events
     → HasRoomFor (drop n events) old → LeavesRoom (get_or events n unused) old new → HasRoomFor (drop (n + 1) events) new
-room_for_others events n unused old new here r leaves =
-    let event = get_or events n unused in
-    let rest = drop (n + 1) events in
-    let room : HasRoomFor (event ∷ rest) old = rw (drop_more events n unused here) at r in
-    record {
-      outcomes = rw leaves.outcomes_room (omega (arith, room.outcomes, leaves.outcomes, count_first is_submission event rest));
-      spoken = rw leaves.spoken_room (omega (
-        arith,
-        room.spoken,
-        leaves.spoken,
-        count_first is_turn event rest,
-        count_first is_noise event rest,
-      ));
-    }
+room_for_others events n unused old new here r leaves = grind (arith, common_steps, drop_more, count_first)
 
 -- If there is room for each of the events that are left, there is for the next of them.
 pub room_for_next : (events : List LineEvent) (n : ℕ) (unused : LineEvent) (line : LineState) → n < length events
     → HasRoomForEach (drop n events) line → HasRoomFor (get_or events n unused ∷ []) line
-room_for_next events n unused line here r =
-    let event = get_or events n unused in
-    let room : HasRoomForEach (event ∷ drop (n + 1) events) line = rw (drop_more events n unused here) at r in
-    record {
-      outcomes = omega (arith, room.outcomes, count_first is_submission event (drop (n + 1) events));
-      spoken = rw room.nothing_spoken (omega (arith, room.spoken, two_spoken event));
-    }
+room_for_next events n unused line here r = grind (arith, common_steps, drop_more, count_first, two_spoken)
 
 -- So there is for each of those left after it, once what was spoken in it is let go.
 pub room_for_each : (events : List LineEvent) (n : ℕ) (unused : LineEvent) (old new : LineState) → n < length events
     → HasRoomForEach (drop n events) old → LeavesRoom (get_or events n unused) old new
     → HasRoomForEach (drop (n + 1) events) (record new { spoken = [] })
-room_for_each events n unused old new here r leaves =
-    let event = get_or events n unused in
-    let rest = drop (n + 1) events in
-    let room : HasRoomForEach (event ∷ rest) old = rw (drop_more events n unused here) at r in
-    record {
-      outcomes = rw leaves.outcomes_room (omega (arith, room.outcomes, leaves.outcomes, count_first is_submission event rest));
-      nothing_spoken = refl;
-      spoken = rw leaves.spoken_room room.spoken;
-    }
+room_for_each events n unused old new here r leaves = grind (arith, common_steps, drop_more, count_first)

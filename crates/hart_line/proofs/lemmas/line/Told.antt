@@ -1,10 +1,10 @@
 -- What a line keeps of what was spoken may be noted and let go: its events lead on as they would from the whole.
+use Rattle.std.proofs.lemmas.Grind.{common_steps}
 use Rattle.std.proofs.Common.{◌≡◌, ℕ, ◌+◌, ◌<◌, ◌≤◌, arith, append-nil, get_or, length, refl, subst, take}
 use Rattle.std.proofs.Common.{List, [], ◌∷◌, ◌++◌, None, Option, Some}
 use Rattle.std.proofs.lemmas.List.{take_all, take_more}
 use Rattle.hart_values.specs.declared.address.Address.{Address}
 use Rattle.hart_values.specs.declared.master_id.MasterId.{MasterId}
-use Rattle.hart_values.specs.EachMaster.{of_master}
 use Rattle.hart_commands.specs.declared.reply.Reply.{Reply}
 use Rattle.hart_commands.specs.declared.request.Request.{Request}
 use Rattle.hart_device.specs.answer.Delivery.{Brought}
@@ -12,8 +12,8 @@ use Rattle.hart_master.specs.declared.fault.MasterFault.{MasterFault}
 use Rattle.hart_line.specs.line.Line.{LineState, Stands, Stepped}
 use Rattle.hart_line.specs.world.Faults.{HasUndetected, IsFault}
 use Rattle.hart_line.specs.world.Spoken.{AreSpoken, SpokenFrame}
-use Rattle.hart_line.specs.world.Step.{IsLast, Step, submission_fault, submitted, turned}
-use Rattle.hart_line.specs.world.World.{InHand, MarksWithin, Start, World, first_world}
+use Rattle.hart_line.specs.world.Step.{IsLast, Step, submitted, turned}
+use Rattle.hart_line.specs.world.World.{InHand, MarksWithin, Start, World}
 use Rattle.hart_line.specs.declared.event.LineEvent.{LineEvent}
 use Rattle.hart_line.specs.declared.event.LineEvent.TheVariants.{Noise, Protect, Restart, Submit, Turn}
 use Rattle.hart_line.specs.declared.fault.Leg.{Leg}
@@ -44,23 +44,10 @@ turned_on start world next who (Some held) brought accepted is = rw is refl
 
 step_on : (start : Start) (world next : World) (event : LineEvent) → Step start (with_spoken [] world) event next
     → Step start world event (with_spoken (world.spoken ++ next.spoken) next)
-step_on start world next (Submit who address request) is =
-    submitted_on world next who address request (submission_fault (of_master who world.hands) address request) is
-step_on start world next (Turn who up down) turn = record {
-  brought = turn.brought;
-  arrives = turn.arrives;
-  returned = turn.returned;
-  returns = turn.returns;
-  accepted = turn.accepted;
-  accepts = turn.accepts;
-  next_is = turned_on start world next who (of_master who world.hands) turn.brought turn.accepted turn.next_is;
-}
+step_on start world next (Submit who address request) is = grind (arith, common_steps, submitted_on)
+step_on start world next (Turn who up down) turn = grind (arith, common_steps, turned_on)
 step_on start world next (Protect on) is = rw (is, append-nil world.spoken) refl
-step_on start world next (Noise chars) noise = record {
-  brought = noise.brought;
-  arrives = noise.arrives;
-  next_is = rw noise.next_is refl;
-}
+step_on start world next (Noise chars) noise = grind (arith, common_steps)
 step_on start world next Restart is = rw (is, append-nil world.spoken) refl
 
 undetected_on : (start : Start) (world : World) (event : LineEvent) (leg : Leg) → HasUndetected start (with_spoken [] world) event leg
@@ -89,21 +76,7 @@ pub record IsTold (start : Start) (events : List LineEvent) (line : LineState) (
 -- Before a script nothing was spoken, and nothing noted.
 pub told_first : (start : Start) (line : LineState) (HasNoted : List Spoken → Type 0) → line.spoken ≡ [] → IsReached start [] line
     → HasNoted [] → IsTold start [] line HasNoted
-told_first start line HasNoted nothing r fresh = record {
-  world = r.world;
-  is_last = r.is_last;
-  stands = record {
-    device_is = r.stands.device_is;
-    masters_are = r.stands.masters_are;
-    outcomes_are = r.stands.outcomes_are;
-    spoken_are = rw nothing tt;
-    preambles_are = r.stands.preambles_are;
-  };
-  marks = r.marks;
-  spoken = [];
-  are_spoken = rw nothing at r.stands.spoken_are;
-  noted = fresh;
-}
+told_first start line HasNoted nothing r fresh = grind (arith, common_steps)
 
 -- One event more, of which what was spoken is noted too.
 pub told_more : (start : Start) (events : List LineEvent) (n : ℕ) (unused : LineEvent) (line stepped : LineState)
@@ -116,15 +89,8 @@ told_more start events n unused line stepped Old New here t s noted =
     let step = step_on start t.world s.next (get_or events n unused) s.step in
     record {
       world = next;
-      is_last = rw (take_more events n unused here)
-          (leads_more start (take n events) (get_or events n unused) (first_world start) t.world next t.is_last step);
-      stands = record {
-        device_is = s.stands.device_is;
-        masters_are = s.stands.masters_are;
-        outcomes_are = s.stands.outcomes_are;
-        spoken_are = tt;
-        preambles_are = s.stands.preambles_are;
-      };
+      is_last = grind (arith, common_steps, take_more, leads_more);
+      stands = grind (arith, common_steps);
       marks = step_marks start t.world (get_or events n unused) next step t.marks;
       spoken = t.spoken ++ stepped.spoken;
       are_spoken = AreSpoken-append t.world.spoken s.next.spoken t.spoken stepped.spoken t.are_spoken s.stands.spoken_are;
@@ -146,5 +112,4 @@ told_whole start events n line HasNoted all t = subst (λ es. IsTold start es li
 -- What holds of the world that a script led to holds of each last world.
 pub told_last : (P : World → Type 0) {start : Start} {events : List LineEvent} {line : LineState} {HasNoted : List Spoken → Type 0}
     → (t : IsTold start events line HasNoted) → P t.world → (world : World) → IsLast start events world → P world
-told_last P {start = start} {events = events} t holds world last =
-    subst P (leads_one start events (first_world start) t.world world t.is_last last) holds
+told_last P {start = start} {events = events} t holds world last = grind (arith, common_steps, leads_one)

@@ -1,4 +1,5 @@
 -- A turn of the line is a turn of the world.
+use Rattle.std.proofs.lemmas.Grind.{common_steps}
 use Rattle.std.proofs.Common.{◌≡◌, ◌&&◌, Bool, false, if◌then◌else◌, ◌∙◌, refl, Option, None, Some, List, ◌++◌}
 use Rattle.std.proofs.Common.{ℕ, ◌⊎◌, append_assoc, arith}
 use Rattle.std.specs.Option.{option_to_list}
@@ -56,8 +57,7 @@ pub replied_stands : (start : Start) (world : World) (heard : Heard) (answer : O
     → line.outcomes ≡ world.outcomes → line.response_preambles ≡ start.device.identity.response_preambles
     → Stands start (replied start world a.brought) line
 replied_stands start world heard answer line a held same preambles_are = record {
-  device_is = a.after_is
-      ∙ left_alone (state_of start.device world) a.brought (none_reaches start.device.identity heard a.brought a.arrives);
+  device_is = grind (arith, common_steps, left_alone, none_reaches);
   masters_are = held;
   outcomes_are = same;
   spoken_are = a.spoken_are;
@@ -98,29 +98,13 @@ pub turn_stands : (start : Start) (world : World) (who : MasterId) (up down : He
     → Stepped start world (Turn who up down) line
 turn_stands start world who up down None answer returned line within in_hand a returns ends preambles_are = record {
   next = replied start world a.brought;
-  step = record {
-    brought = a.brought;
-    arrives = rw in_hand a.arrives;
-    returned = returned;
-    returns = returns (sent_back start world a.brought) a.was_sent;
-    accepted = None;
-    accepts = rw in_hand refl;
-    next_is = rw in_hand refl;
-  };
+  step = grind (arith, common_steps);
   stands = replied_stands start world up answer line a ends.0 ends.1 preambles_are;
 }
 turn_stands start world who up down (Some held) answer returned line within in_hand a returns ends preambles_are =
     let next = turned start world who (Some held) a.brought ends.accepted in record {
       next = next;
-      step = record {
-        brought = a.brought;
-        arrives = rw in_hand a.arrives;
-        returned = returned;
-        returns = returns (sent_back start world a.brought) a.was_sent;
-        accepted = ends.accepted;
-        accepts = rw in_hand ends.accepts;
-        next_is = rw in_hand refl;
-      };
+      step = grind (arith, common_steps);
       stands = record {
         device_is = a.after_is ∙ state_after-effect (state_of start.device world) who held a.brought
             (reaches_cases start.device.identity up (Some (spoken_request who held)) a.brought a.arrives)

@@ -1,6 +1,7 @@
 -- Texts that are items end to end.
+use Rattle.std.proofs.lemmas.Grind.{common_steps}
 use Rattle.std.proofs.Common.{◌≡◌, ◌≢◌, ℕ, ◌+◌, ◌-◌, ◌<◌, ◌≤◌, Bool, true, false, List, [], ◌∷◌, ◌++◌, get_or, length, take, drop}
-use Rattle.std.proofs.Common.{None, Option, Some, refl, sym, ap, ◌∙◌, arith}
+use Rattle.std.proofs.Common.{None, Option, Some, refl, ap, ◌∙◌, arith}
 use Rattle.std.specs.Int.{bit_at}
 use Rattle.std.specs.Option.{option_map}
 use Rattle.std.specs.Prelude.{◌==◌, ◌&&◌}
@@ -18,8 +19,7 @@ use Rattle.hart_line.specs.script.Items.{Item, item_before, item_meaning, item_s
 set_bit : (faults bit : ℕ) → bit < 8 → bit_at faults bit ≡ 1 → bit_at faults 0 ≡ 0 → bit_at faults 2 ≡ 0 → bit_at faults 3 ≡ 0
     → bit_at faults 7 ≡ 0 → IsFaultBit bit
 set_bit faults bit small set zero two three seven =
-    let differs : (other : ℕ) → bit_at faults other ≡ 0 → bit ≢ other =
-    λ other clear same. omega (arith, set, clear, ap (λ k. bit_at faults k) same) in
+    let differs : (other : ℕ) → bit_at faults other ≡ 0 → bit ≢ other = grind (arith, common_steps) in
     grind (arith, differs 0 zero, differs 2 two, differs 3 three, differs 7 seven)
 
 -- what passes the test is fault bits
@@ -107,9 +107,7 @@ pub item_read : (text : List ℕ) (chars new : List Character) (rest : List ℕ)
 item_read text chars new rest char len reads lead pushed =
     let spelling = item_spelling lead.item in
     let long = ap (λ (xs : List ℕ). length xs) lead.begins.spelled ∙ length-append spelling lead.tail in
-    let tail : take (length rest - len) (drop len rest) ≡ lead.tail =
-    take_rest rest len ∙ ap (λ (n : ℕ). drop n rest) (sym lead.long)
-    ∙ ap (λ (xs : List ℕ). drop (length spelling) xs) lead.begins.spelled ∙ drop-append_seam spelling lead.tail in (
+    let tail : take (length rest - len) (drop len rest) ≡ lead.tail = grind (arith, common_steps, take_rest, drop-append_seam) in (
       omega (arith, item_spelling-length lead.item, lead.long),
       rw tail (omega (arith, lead.long)),
       rw (tail, pushed, ← lead.means)

@@ -1,6 +1,7 @@
 -- The first word of a line.
+use Rattle.std.proofs.lemmas.Grind.{common_steps}
 use Rattle.std.proofs.Common.{◌≡◌, ℕ, ◌+◌, ◌<◌, suc, Bool, true, false, cond, ltb, List, [], ◌∷◌, get_or, length, take, drop, Option}
-use Rattle.std.proofs.Common.{Some, None, unwrap_or, refl, ap, ◌∙◌, arith}
+use Rattle.std.proofs.Common.{Some, None, unwrap_or, refl, arith}
 use Rattle.std.specs.List.{filter, onto_first, position_or_len, slice_split}
 use Rattle.std.proofs.lemmas.Bool.Decides.{nat_tests}
 use Rattle.std.proofs.lemmas.List.Sums.{prefix_len-le-length}
@@ -19,12 +20,7 @@ record FirstPart (p : ℕ → Bool) (xs : List ℕ) : Type 0 where
 first_part-at : (p : ℕ → Bool) (x : ℕ) (xs : List ℕ) (passes : Bool) → p x ≡ passes → FirstPart p xs → FirstPart p (x ∷ xs)
 first_part-at p x xs true e before = record { others = slice_split p xs; split = rw e refl; rest = rw e (rw e refl) }
 first_part-at p x xs false e before =
-    let more : 1 + position_or_len p xs ≡ suc (position_or_len p xs) = omega arith in
-    record {
-      others = before.others;
-      split = rw e (rw more (ap (λ (zs : List (List ℕ)). onto_first x zs) before.split));
-      rest = rw e (rw more before.rest);
-    }
+    let more : 1 + position_or_len p xs ≡ suc (position_or_len p xs) = omega arith in grind (arith, common_steps, onto_first)
 
 first_part : (p : ℕ → Bool) (xs : List ℕ) → FirstPart p xs
 first_part p [] = record { others = []; split = refl; rest = refl }
@@ -44,8 +40,4 @@ pub word_first : (line word tail : List ℕ) (len : ℕ) → 0 < length line →
     → len ≡ position_or_len is_blank line → length word ≡ len → word ≡ take len line → tail ≡ drop len line
     → words_of line ≡ word ∷ words_of tail
 word_first line word tail len some no_blank counted long before after =
-    let part = first_part is_blank line in
-    let begins = first_byte line some no_blank in
-    let split : slice_split is_blank line ≡ word ∷ part.others = rw (before, counted) part.split in
-    let more : filter has_bytes part.others ≡ words_of tail = rw (after, counted) part.rest in
-    ap (λ ws. filter has_bytes ws) split ∙ kept word part.others (omega arith) ∙ ap (λ ws. word ∷ ws) more
+    let part = first_part is_blank line in grind (arith, common_steps, first_byte, slice_split, kept)

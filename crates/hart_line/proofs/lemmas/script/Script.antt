@@ -1,6 +1,7 @@
 -- Scripts: what the lines of a text say, line by line.
-use Rattle.std.proofs.Common.{◌≡◌, ℕ, ◌+◌, ◌<◌, suc, Bool, false, List, [], ◌∷◌, ◌++◌, get_or, length, Option, Some, Ok}
-use Rattle.std.proofs.Common.{Err, sym, ap, ◌∙◌, drop, subst, take, arith}
+use Rattle.std.proofs.lemmas.Grind.{common_steps}
+use Rattle.std.proofs.Common.{◌≡◌, ℕ, ◌+◌, ◌<◌, suc, Bool, false, List, [], ◌∷◌, ◌++◌, get_or, length, Option, Ok}
+use Rattle.std.proofs.Common.{Err, ap, drop, take, arith}
 use Rattle.std.specs.Prelude.{IsTrue, ◌==◌}
 use Rattle.std.specs.List.{position_from, slice_split}
 use Rattle.std.specs.Option.{option_or, option_to_list}
@@ -10,7 +11,7 @@ use Rattle.std.proofs.lemmas.List.{get_or-map, length-map, length-take-le, take-
 use Rattle.std.proofs.lemmas.List.Elements.{filter_map-append}
 use Rattle.std.proofs.Math.Seq.{drop-cons}
 use Rattle.hart_line.specs.script.Lines.{lines_of, words_of}
-use Rattle.hart_line.specs.script.Rows.{AreEvents, event_of, first_bad_line, HasFirstBadLine, is_bad_line, IsScript}
+use Rattle.hart_line.specs.script.Rows.{AreEvents, event_of, HasFirstBadLine, is_bad_line, IsScript}
 use Rattle.hart_line.specs.script.Rows.{IsScriptFault, lines_in_words, SaysLine}
 use Rattle.hart_line.specs.declared.event.LineEvent.{LineEvent}
 use Rattle.hart_line.specs.declared.fault.LineFault.{LineFault}
@@ -41,12 +42,7 @@ pub stands_at : (text : List ℕ) (n : ℕ) (part line : List ℕ) → n < lengt
 stands_at text n part line short is stripped =
     let long = length-map (lines_of text) words_of in
     let parts = length-map (parts_of text) strip_carriage_return in
-    let here : get_or (lines_of text) n line ≡ line = get_or-map strip_carriage_return (parts_of text) n part line short
-    ∙ ap strip_carriage_return (sym is) ∙ sym stripped in
-    record {
-      within = omega (arith, long, parts, short);
-      is = get_or-map words_of (lines_of text) n line (words_of line) (omega (arith, parts, short)) ∙ ap words_of here;
-    }
+    let here : get_or (lines_of text) n line ≡ line = grind (arith, common_steps, get_or-map) in grind (arith, common_steps, get_or-map)
 
 -- one line more
 AreEvents-push : (lines : List (List (List ℕ))) (events : List LineEvent) (words : List (List ℕ)) (said : Option LineEvent)
@@ -67,10 +63,7 @@ AreEvents-more text n m number words events new said stands more before says pus
 -- a whole text
 pub whole_script : (text : List ℕ) (n : ℕ) (events : List LineEvent) → n ≡ length (parts_of text)
     → AreEvents (take n (lines_in_words text)) events → IsScript text events
-whole_script text n events all before =
-    let lines = length-map (lines_of text) words_of in
-    let parts = length-map (parts_of text) strip_carriage_return in
-    subst (λ ls. AreEvents ls events) (take_all n (lines_in_words text) (omega (arith, lines, parts, all))) before
+whole_script text n events all before = grind (arith, common_steps, length-map, take_all)
 
 -- the first bad line
 first_bad : (text : List ℕ) (n number : ℕ) (words : List (List ℕ)) (events : List LineEvent) → StandsAt text n words → number ≡ n + 1
@@ -78,11 +71,7 @@ first_bad : (text : List ℕ) (n number : ℕ) (words : List (List ℕ)) (events
 first_bad text n number words events stands counted before bad =
     let lines = lines_in_words text in
     let cut : lines ≡ take n lines ++ words ∷ drop (suc n) lines =
-    sym (take-append-drop n lines) ∙ ap (λ ls. take n lines ++ ls) (drop-cons lines n words stands.within)
-    ∙ ap (λ ws. take n lines ++ ws ∷ drop (suc n) lines) stands.is in
-    let place : 1 + length (take n lines) ≡ number = omega (arith, length-take-le n lines, stands.within) in
-    ap (λ ls. first_bad_line ls) cut ∙ position_from-append is_bad_line 1 (take n lines) (words ∷ drop (suc n) lines)
-    ∙ rw (before.0, bad) (ap Some place)
+    grind (arith, common_steps, take-append-drop, drop-cons) in grind (arith, common_steps, length-take-le, position_from-append)
 
 -- the fault of a line is that of its text
 pub line_fault : (text : List ℕ) (n number : ℕ) (words : List (List ℕ)) (events : List LineEvent) (fault : LineFault)

@@ -1,5 +1,6 @@
 -- Words of messages to send.
-use Rattle.std.proofs.Common.{◌≡◌, ℕ, ◌<◌, ◌≤◌, ◌^◌, true, false, List, [], ◌∷◌, get_or, length, None, Result, refl, arith}
+use Rattle.std.proofs.lemmas.Grind.{common_steps}
+use Rattle.std.proofs.Common.{◌≡◌, ℕ, ◌<◌, ◌≤◌, ◌^◌, true, false, List, [], ◌∷◌, get_or, length, None, Result, arith}
 use Rattle.std.specs.List.{starts_with}
 use Rattle.std.specs.Prelude.{nat_eq}
 use Rattle.std.specs.Result.{OkIff, result_ok}
@@ -20,8 +21,7 @@ digits_tell = numerals_by_value (λ ds. all_ascii_digits ds ≡ true) tells_all_
 pub decimal_of-no_text : (most_digits : ℕ) (word : List ℕ) → (IsUtf8 word → ⊥) → None ≡ decimal_of most_digits 255 word
 decimal_of-no_text most_digits word no_text =
     let no_digits : all_ascii_digits word ≡ false = false_from_ne_true (all_ascii_digits word)
-    (λ digits. no_text (IsUtf8-from_ascii word (IsAscii-from_digits word (digits_tell.to word digits)))) in
-    rw no_digits refl
+    (λ digits. no_text (IsUtf8-from_ascii word (IsAscii-from_digits word (digits_tell.to word digits)))) in grind (arith, common_steps)
 
 -- what reads just the digits of a word reads its number in decimal
 decimal_of-ok : {E : Type 0} (most_digits : ℕ) (word : List ℕ) (read : Result ℕ E) → length word ≤ most_digits
@@ -36,5 +36,4 @@ no_plus word none plus = grind arith
 -- what `parse` reads of a word without a sign is its number in decimal
 pub decimal_of-parsed : {E : Type 0} (most_digits : ℕ) (word : List ℕ) (read : Result ℕ E) → ParsesUnsigned 8 10 word read
     → length word ≤ most_digits → starts_with nat_eq word (43 ∷ []) ≡ false → result_ok read ≡ decimal_of most_digits 255 word
-decimal_of-parsed most_digits word read parses short plain =
-    decimal_of-ok most_digits word read short (parse_plain digits_tell 8 word read parses (no_plus word plain))
+decimal_of-parsed most_digits word read parses short plain = grind (arith, common_steps, decimal_of-ok, parse_plain, digits_tell, no_plus)

@@ -1,11 +1,12 @@
 -- Each accepted reply was accepted in the turn of the last sending.
-use Rattle.std.proofs.Common.{◌≡◌, ℕ, ◌+◌, ap, ◌∙◌, sym, subst, arith, ◌≤◌, slice_index, Option, None, Some}
+use Rattle.std.proofs.lemmas.Grind.{common_steps}
+use Rattle.std.proofs.Common.{◌≡◌, ℕ, ◌+◌, ap, ◌∙◌, sym, arith, slice_index, Option, None, Some}
 use Rattle.std.proofs.Common.{List, [], ◌∷◌, ◌++◌, slice_set, ◌⊎◌, inl, inr}
 use Rattle.std.specs.List.{slice_get}
 use Rattle.hart_values.specs.declared.master_id.MasterId.{MasterId}
 use Rattle.hart_frame.specs.wire.FrameParts.{FrameParts}
 use Rattle.hart_commands.specs.declared.reply.Reply.{Reply}
-use Rattle.hart_device.specs.answer.Answer.{answer_of, effect_of}
+use Rattle.hart_device.specs.answer.Answer.{answer_of}
 use Rattle.hart_device.specs.answer.Delivery.{Brought, Garbled, OneFrame, answer_to}
 use Rattle.hart_device.specs.Device.{DeviceState}
 use Rattle.hart_device.specs.declared.process.Process.{Process}
@@ -14,7 +15,7 @@ use Rattle.hart_master.proofs.lemmas.Laws.{communication_faults_are_no_reply-fra
 use Rattle.hart_line.specs.world.Damage.{Arrives}
 use Rattle.hart_line.specs.world.Promises.{AnswersLastSending, AnswersLastSendingFrom, IsStepOf, submissions_of}
 use Rattle.hart_line.specs.world.Spoken.{frame_of, spoken_by}
-use Rattle.hart_line.specs.world.Step.{Accepts, IsLast, IsTurn, sent_back, effect_on, executions_after, hand_left, spoken_request}
+use Rattle.hart_line.specs.world.Step.{Accepts, IsLast, IsTurn, sent_back, hand_left, spoken_request}
 use Rattle.hart_line.specs.world.Step.{outcome_of}
 use Rattle.hart_line.specs.world.World.{InHand, Start, World, first_world, state_of}
 use Rattle.hart_line.specs.declared.event.Heard.{Heard}
@@ -64,9 +65,7 @@ answers_sent : (state : DeviceState) (process : Process) (sent : FrameParts) (br
     → (who : MasterId) (held : InHand) (reply : Reply) → IsReplyTo who held.address held.request frame reply
     → AnswersSent state process sent brought frame
 answers_sent state process sent (Garbled request) frame known answered who held reply is_reply =
-    let Faulty : FrameParts → Type 0 = λ f. 128 ≤ slice_index f.payload 0 in
-    absurd (communication_faults_are_no_reply-frame who held.address held.request frame reply
-    (subst Faulty (some_one answered) (omega arith)) is_reply)
+    grind (arith, common_steps, slice_index, communication_faults_are_no_reply-frame, some_one)
 answers_sent state process sent brought frame known answered who held reply is_reply = grind arith
 
 returned_answers : (start : Start) (world : World) (down : Heard) (sent : FrameParts) (brought : Brought)
@@ -114,9 +113,7 @@ sending_answered start events world next who up down turn s here number reply se
             answered = sent.answered;
             returned = back.came;
             is_reply = back.is_reply;
-            executions = ap (λ (w : World). w.executions) s.next_is
-                ∙ ap (λ f. executions_after (effect_on state f) held.submission world.executions) sent.arrived_is
-                ∙ ap (λ n. executions_after (effect_of state (spoken_request who held).frame) n world.executions) (sym new.0);
+            executions = grind (arith, common_steps);
             reached = is;
             left = rw s.next_is (of_master-same who _ world.hands ∙ ap (hand_left held) new.1);
           }))

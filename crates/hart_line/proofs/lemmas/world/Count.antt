@@ -12,7 +12,7 @@ use Rattle.hart_line.specs.world.Step.{IsLast, effect_on, executions_after, outc
 use Rattle.hart_line.specs.world.World.{Execution, InHand, Start, World, first_world, state_of}
 use Rattle.hart_line.specs.declared.event.LineEvent.{LineEvent}
 use Rattle.hart_line.specs.declared.line.report.Outcome.{Outcome}
-use Rattle.hart_line.specs.declared.line.report.Outcome.TheVariants.{Unfinished, Refused}
+use Rattle.hart_line.specs.declared.line.report.Outcome.TheVariants.{Unfinished}
 use Rattle.hart_line.proofs.lemmas.world.Basics.{slice_get-append, slice_get-set_other, slice_get-set_same}
 use Rattle.hart_line.proofs.lemmas.world.Steps.{by_cases, to_last}
 use Rattle.hart_line.proofs.lemmas.world.Submitted.{held_in}
@@ -23,8 +23,7 @@ IsCounted world = (number : ℕ) → times_executed number world.executions ≤ 
 times_executed-more : (effect : Effect) (own number : ℕ) (executions : List Execution)
     → times_executed number (executions_after effect own executions) ≤ times_executed number executions + (if own == number then 1 else 0)
 times_executed-more effect own number [] = grind (arith, common_steps)
-times_executed-more effect own number (e ∷ es) =
-    let rest = times_executed-more effect own number es in grind (arith, common_steps, rest)
+times_executed-more effect own number (e ∷ es) = grind (arith, common_steps, times_executed-more effect own number es)
 
 -- One more outcome, which was never sent.
 sendings-append : (outcomes : List Outcome) (outcome : Outcome) (number : ℕ)
@@ -45,10 +44,8 @@ counts_by b hand outcomes outcome number before after same there sent old more =
 step_counted : (start : Start) (events : List LineEvent) (world next : World) (event : LineEvent)
     → IsStepOf start (first_world start) events world event next → IsCounted world → IsCounted next
 step_counted start events world next event here c = by_cases start world (λ event next. IsCounted next) (record {
-  submits = λ who address request number.
-      let old = c number in let more = sendings-append world.outcomes (Unfinished 0) number in omega arith;
-  refuses = λ who address request fault number.
-      let old = c number in let more = sendings-append world.outcomes (Refused fault) number in omega arith;
+  submits = grind (arith, common_steps, sendings-append);
+  refuses = grind (arith, common_steps, sendings-append);
   sends = λ who up down next turn s. rw s.next_is (λ number. counts_by (s.held.submission == number) s.held world.outcomes _ number
       (times_executed number world.executions) _ refl (held_in start events here who s.held s.in_hand).unfinished
       (sendings_in-outcome _ (s.held.sendings + 1) turn.accepted) (c number)

@@ -1,5 +1,6 @@
 -- Detectable damage is detected, and a script of which all damage is detected has a last world.
-use Rattle.std.proofs.Common.{◌≡◌, ℕ, ◌≤◌, refl, subst, arith, Option, None, Some, List, [], ◌∷◌, length, take, inl}
+use Rattle.std.proofs.lemmas.Grind.{common_steps}
+use Rattle.std.proofs.Common.{◌≡◌, ℕ, ◌≤◌, refl, subst, arith, Option, None, Some, List, [], ◌∷◌, length, inl}
 use Rattle.std.proofs.Common.{inr}
 use Rattle.hart_values.specs.declared.master_id.MasterId.{MasterId}
 use Rattle.hart_frame.specs.heard.Character.{Character, faultless}
@@ -8,7 +9,7 @@ use Rattle.hart_frame.specs.heard.Frames.{AreFrames}
 use Rattle.hart_frame.specs.declared.heard.found.Found.{Found}
 use Rattle.hart_values.specs.EachMaster.{of_master}
 use Rattle.hart_commands.specs.declared.reply.Reply.{Reply}
-use Rattle.hart_device.specs.answer.Delivery.{BringsBy, Brought, answer_to}
+use Rattle.hart_device.specs.answer.Delivery.{BringsBy, Brought}
 use Rattle.hart_device.specs.declared.identity_parts.IdentityParts.{IdentityParts}
 use Rattle.hart_device.proofs.lemmas.Laws.{deliveries_bring_one-brings}
 use Rattle.hart_frame.proofs.lemmas.Laws.{damaged_messages_have_no_other_frame-check, damaged_messages_have_no_other_frame-marked}
@@ -18,8 +19,8 @@ use Rattle.hart_master.proofs.lemmas.Laws.{replies_are_decided-decided}
 use Rattle.hart_line.specs.world.Damage.{Arrives, IsDetectable, IsDetected, IsUndetected, Reaches}
 use Rattle.hart_line.specs.world.Faults.{AreAllDetected, HasDetectable, HasUndetected, IsFault, IsNotDetectable, LegsAreDetected}
 use Rattle.hart_line.specs.world.Spoken.{SpokenFrame, frame_of, spoken_by}
-use Rattle.hart_line.specs.world.Step.{Accepts, LeadsTo, Step, sent_back, sent_by}
-use Rattle.hart_line.specs.world.World.{InHand, Start, World, first_world, state_of}
+use Rattle.hart_line.specs.world.Step.{Accepts, LeadsTo, Step, sent_by}
+use Rattle.hart_line.specs.world.World.{InHand, Start, World}
 use Rattle.hart_line.specs.declared.event.Heard.{Heard}
 use Rattle.hart_line.specs.declared.event.Heard.TheVariants.{Clean, Lost, Chars}
 use Rattle.hart_line.specs.declared.event.LineEvent.{LineEvent}
@@ -40,9 +41,7 @@ IsLong (Some said) = 2 ≤ said.preambles
 -- Characters whose frames are detected damage are no undetected damage.
 not_undetected : {heard : Heard} {sent : Option SpokenFrame} (chars : List Character) (frames : List Found) (arrived : Option FrameParts)
     → (u : IsUndetected heard sent) → u.chars ≡ chars → AreFrames chars 0 frames → IsDetected (frame_of sent) frames arrived → ⊥
-not_undetected {sent = sent} chars frames arrived u is are detected =
-    let same = frames_are_unambiguous-one_list chars 0 frames u.among.frames are (rw is at u.among.are_frames) in
-    u.among.not_detected arrived (subst (λ fs. IsDetected (frame_of sent) fs arrived) same detected)
+not_undetected {sent = sent} chars frames arrived u is are detected = grind (arith, common_steps, frames_are_unambiguous-one_list)
 
 heard_detected : (heard : Heard) (sent : Option SpokenFrame) → IsLong sent → IsDetectable heard sent → IsUndetected heard sent → ⊥
 heard_detected Clean None long d u = not_undetected [] [] None u u.are_heard messages_have_their_frame_alone-nothing refl
@@ -69,16 +68,12 @@ leg_detected : (start : Start) (world : World) (event : LineEvent) (leg : Leg)
 leg_detected start world (Turn who up down) legs.Up enough d u = heard_detected up _ (grind arith) d u
 leg_detected start world (Turn who up down) legs.Down enough d u =
     let same = Reaches-one start.device.identity up (sent_by who (of_master who world.hands)) d.0 u.0 d.1 u.1 in
-    heard_detected down (sent_back start world u.0)
-    (frame_long _ _ (answer_to (state_of start.device world) start.process u.0) enough) (rw same at d.2) u.2
+    grind (arith, common_steps, heard_detected, frame_long)
 leg_detected start world event leg enough d u = d
 
 pub fault_not_detectable : (start : Start) (events : List LineEvent) (fault : LineFault)
     → 5 ≤ start.device.identity.response_preambles → IsFault start events fault → IsNotDetectable start events fault
-fault_not_detectable start events (Undetected number leg) enough f = λ world event last is d.
-    let reached : f.0 ≡ world = leads_one start (take number events) (first_world start) f.0 world f.2 last in
-    let same : f.1 ≡ event = cc (f.3, is) in
-    leg_detected start world event leg enough d (rw (same, reached) at f.4)
+fault_not_detectable start events (Undetected number leg) enough f = grind (arith, common_steps, leads_one, leg_detected)
 fault_not_detectable start events fault enough f = tt
 
 -- SCRIPTS WHOSE DAMAGE IS DETECTED
@@ -132,5 +127,4 @@ pub leads_exists : (start : Start) (world : World) (events : List LineEvent) →
 leads_exists start world [] detected = (world, refl)
 leads_exists start world (event ∷ events) detected =
     let step = step_exists start world event detected.0 in
-    let rest = leads_exists start step.0 events (detected.1 step.0 step.1) in
-    (rest.0, (step.0, step.1, rest.1))
+    grind (arith, common_steps, leads_exists start step.0 events (detected.1 step.0 step.1))

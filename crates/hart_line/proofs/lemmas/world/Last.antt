@@ -1,4 +1,5 @@
 -- The registers of all executions are those of the last ones.
+use Rattle.std.proofs.lemmas.Grind.{common_steps}
 use Rattle.std.proofs.Common.{◌≡◌, ℕ, ◌==◌, ◌||◌, suc, ◌∙◌, sym, refl, arith, Ok, Some, None, Bool, true, false, List}
 use Rattle.std.proofs.Common.{[], ◌∷◌, ◌++◌, if◌then◌else◌, ◌⊎◌, inl, inr}
 use Rattle.std.specs.List.{AllByRecursion, Contains, slice_get}
@@ -43,8 +44,7 @@ arrived_executes state who held requests (Garbled request) overwrite there readi
 arrived_executes state who held requests (OneFrame frame) overwrite there reading (inl none) is = cc
 arrived_executes state who held requests (OneFrame frame) overwrite there reading (inr sent) is =
     let asked = writes_execute_their_overwrite-only state (spoken_request who held).frame overwrite (rw (some_one sent) at is) in
-    let same : asked.2 ≡ held.request = cc (asked.3, reading) in
-    record { request = held.request; submitted_as = there; overwrites = rw (← same) asked.4 }
+    grind (arith, common_steps)
 
 -- ALL EXECUTIONS OF A SCRIPT ARE WRITES OF THEIR SUBMISSIONS
 AllByRecursion-append : {A : Type 0} (P : A → Type 0) (xs : List A) (x : A) → AllByRecursion P xs → P x → AllByRecursion P (xs ++ x ∷ [])
@@ -54,8 +54,7 @@ AllByRecursion-append P (y ∷ xs) x all p = (all.0, AllByRecursion-append P xs 
 effect_writes : (effect : Effect) (number : ℕ) (requests : List Request) (executions : List Execution)
     → ((overwrite : Overwrite) → effect ≡ Executes overwrite → IsWriteOf requests (record { submission = number; overwrite = overwrite }))
     → AllByRecursion (IsWriteOf requests) executions → AllByRecursion (IsWriteOf requests) (executions_after effect number executions)
-effect_writes (Executes overwrite) number requests executions writes all =
-    AllByRecursion-append (IsWriteOf requests) executions _ all (writes overwrite refl)
+effect_writes (Executes overwrite) number requests executions writes all = grind (arith, common_steps, AllByRecursion-append)
 effect_writes effect number requests executions writes all = all
 
 are_writes : (start : Start) (events : List LineEvent) → AreWellMade events → (last : World) → IsLast start events last
@@ -85,8 +84,7 @@ contains_by_head : (requests : List Request) (execution e : Execution) (later : 
     → (e.submission == execution.submission) ≡ b → IsWriteOf requests execution → IsWriteOf requests e
     → (has_execution_of execution.submission later ≡ true → Contains (overwrites_of later) execution.overwrite)
     → (b || has_execution_of execution.submission later) ≡ true → Contains (overwrites_of (e ∷ later)) execution.overwrite
-contains_by_head requests execution e later true same write head tail executed =
-    let one = same_overwrite requests e execution (eqb-true e.submission execution.submission same) head write in (0, omega arith, cc)
+contains_by_head requests execution e later true same write head tail executed = grind (arith, common_steps, same_overwrite, eqb-true)
 contains_by_head requests execution e later false same write head tail executed =
     let there = tail executed in (suc there.0, omega (arith, there.1), there.2)
 
@@ -103,8 +101,7 @@ last_by_submission : (e : Execution) (later : List Execution) (initial : Content
     → ((c : Contents) → registers_of (overwrites_of later) c ≡ registers_of (overwrites_of (last_executions later)) c)
     → registers_of (overwrites_of (e ∷ later)) initial
     ≡ registers_of (overwrites_of (if b then last_executions later else e ∷ last_executions later)) initial
-last_by_submission e later initial true there same =
-    registers_of_lists-again e.overwrite (overwrites_of later) initial (there refl) ∙ same initial
+last_by_submission e later initial true there same = grind (arith, common_steps, registers_of_lists-again)
 last_by_submission e later initial false there same =
     registers_of_lists-first e.overwrite (overwrites_of later) initial ∙ same (overwritten e.overwrite initial)
     ∙ sym (registers_of_lists-first e.overwrite (overwrites_of (last_executions later)) initial)
@@ -120,5 +117,4 @@ registers_of-last requests (e ∷ later) all initial =
 -- THE HEADLINE
 pub registers_last : (start : Start) (events : List LineEvent) (last : World) → IsLast start events last → AreWellMade events
     → (state_of start.device last).contents ≡ registers_of (overwrites_of (last_executions last.executions)) start.device.contents
-registers_last start events last run made =
-    registers_of-last (requests_of events) last.executions (are_writes start events made last run) start.device.contents
+registers_last start events last run made = grind (arith, common_steps, registers_of-last, are_writes)

@@ -1,4 +1,5 @@
 -- A script leads to one world, and has one fault at most.
+use Rattle.std.proofs.lemmas.Grind.{common_steps}
 use Rattle.std.proofs.Common.{◌≡◌, ℕ, ◌<◌, ap, ◌∙◌, sym, subst, arith, Option, None, Some, List, [], ◌∷◌, ◌++◌, zero, suc, take, drop}
 use Rattle.std.proofs.Common.{length, inl, inr}
 use Rattle.std.specs.List.{slice_get}
@@ -33,8 +34,7 @@ use Rattle.hart_line.proofs.lemmas.world.Steps.{leads_between}
 AreHeard-one : (heard : Heard) (sent : Option SpokenFrame) (a b : List Character) → AreHeard heard sent a
     → AreHeard heard sent b → a ≡ b
 AreHeard-one Clean (Some said) a b x y =
-    let body = bodies_are_unambiguous-one_body said.frame x.1.body y.1.body x.1.is_body y.1.is_body in
-    let bytes : x.0 ≡ y.0 = x.1.parts ∙ rw body (sym y.1.parts) in x.2 ∙ rw bytes (sym y.2)
+    let body = bodies_are_unambiguous-one_body said.frame x.1.body y.1.body x.1.is_body y.1.is_body in grind (arith, common_steps)
 AreHeard-one heard sent a b x y = grind arith
 
 pub Arrives-one : (heard : Heard) (sent : Option SpokenFrame) (a b : Option FrameParts) → Arrives heard sent a
@@ -94,9 +94,7 @@ leads_one start (event ∷ events) world a b s t =
 -- So from a world that some events lead to it goes on to its last one.
 pub leads_on : (start : Start) (prefix suffix : List LineEvent) (from world last : World) → LeadsTo start from (prefix ++ suffix) last
     → LeadsTo start from prefix world → LeadsTo start world suffix last
-leads_on start prefix suffix from world last run led =
-    let between = leads_between start from prefix suffix last run in
-    subst (λ w. LeadsTo start w suffix last) (leads_one start prefix from between.world world between.before led) between.after
+leads_on start prefix suffix from world last run led = grind (arith, common_steps, leads_between, leads_one)
 
 -- FAULTS
 -- An event that leads on has no undetected damage, and no other has it in two legs.
@@ -121,8 +119,7 @@ undetected_one start world event leg another u v = grind arith
 past_detected : (start : Start) (prefix : List LineEvent) (event : LineEvent) (suffix : List LineEvent) (from world last : World)
     (leg : Leg) → LeadsTo start from (prefix ++ event ∷ suffix) last → LeadsTo start from prefix world
     → HasUndetected start world event leg → ⊥
-past_detected start prefix event suffix from world last leg run led =
-    let on = leads_on start prefix (event ∷ suffix) from world last run led in step_detected start world event on.0 leg on.1
+past_detected start prefix event suffix from world last leg run led = grind (arith, common_steps, leads_on, step_detected)
 
 take-past : {A : Type 0} (number other : ℕ) (xs : List A) (x : A) → slice_get xs number ≡ Some x → number < other
     → take other xs ≡ take number xs ++ x ∷ drop (suc number) (take other xs)
@@ -149,11 +146,7 @@ pub fault_one : (start : Start) (events : List LineEvent) (number other : ℕ) (
     → (number ≡ other) × (leg ≡ another)
 fault_one start events number other leg another f g = elim (leb_tells number other) [
   | inl most ↦ elim (leb_tells other number) [
-    | inl least ↦ (
-        let same : number ≡ other = omega (arith, most.1, least.1) in
-        let world : f.0 ≡ g.0 = leads_one start (take other events) (first_world start) f.0 g.0 (rw same at f.2) g.2 in
-        let event : f.1 ≡ g.1 = some_one (sym f.3 ∙ ap (slice_get events) same ∙ g.3) in
-        (same, undetected_one start g.0 g.1 leg another (rw (world, event) at f.4) g.4))
+    | inl least ↦ grind (arith, common_steps, leads_one, some_one, undetected_one)
     | inr before ↦ absurd (fault_before start events number other leg g.0 before.1 f g.2)
   ]
   | inr after ↦ absurd (fault_before start events other number another f.0 after.1 g f.2)

@@ -1,5 +1,6 @@
 -- What holds since a master's last reset, and after a refused command.
-use Rattle.std.proofs.Common.{◌≡◌, ◌≢◌, ℕ, ◌+◌, ◌%◌, ◌≤◌, nat_lt, ap, ◌∙◌, sym, refl, subst, arith, Option, Some, IfSome, Ok, false}
+use Rattle.std.proofs.lemmas.Grind.{common_steps}
+use Rattle.std.proofs.Common.{◌≡◌, ◌≢◌, ℕ, ◌≤◌, nat_lt, ap, ◌∙◌, sym, refl, subst, arith, Option, Some, IfSome, Ok, false}
 use Rattle.std.proofs.Common.{List, [], ◌∷◌, ◌++◌, length, append_assoc, append-nil, ◌⊎◌, inl, inr, Bool, if◌then◌else◌}
 use Rattle.std.proofs.lemmas.List.{length-append}
 use Rattle.std.proofs.lemmas.Bool.{ltb-false}
@@ -33,22 +34,14 @@ pub record Grows (old new : List Execution) : Type 0 where
   pub is : new ≡ old ++ more
 
 effect_grows : (effect : Effect) (number : ℕ) (old now : List Execution) → Grows old now → Grows old (executions_after effect number now)
-effect_grows (Executes overwrite) number old now g = record {
-  more = g.more ++ record { submission = number; overwrite = overwrite } ∷ [];
-  is = grind (arith, append_assoc);
-}
+effect_grows (Executes overwrite) number old now g = grind (arith, common_steps, append_assoc)
 effect_grows effect number old now g = g
 
 leads_grows : (start : Start) (events : List LineEvent) (world last : World) → LeadsTo start world events last
     → Grows world.executions last.executions
 leads_grows start events world last = to_last start world events (λ now later. Grows world.executions now.executions)
-    (λ before next event here g. by_cases start before (λ event next. Grows world.executions next.executions) (record {
-      submits = λ who address request. g;
-      refuses = λ who address request fault. g;
-      sends = λ who up down next turn s. rw s.next_is
-          (effect_grows (effect_on (state_of start.device before) turn.brought) s.held.submission world.executions before.executions g);
-      others = λ event protected cold_start spoken same. g;
-    }) event next here.step) (record { more = []; is = sym (append-nil world.executions) }) last
+    (λ before next event here g. by_cases start before (λ event next. Grows world.executions next.executions) (
+    grind (arith, common_steps, effect_grows)) event next here.step) (record { more = []; is = sym (append-nil world.executions) }) last
 
 -- MARKS STAY WHERE THERE IS NO RESET
 marks_kept : (effect : Effect) (id who : MasterId) (count : ℕ) (marks : EachMaster (Option ℕ)) → (id ≡ who → effect ≢ Resets)
@@ -122,18 +115,15 @@ pub unseen : (start : Start) (events : List LineEvent) (last : World) → IsLast
     × ((state_of start.device last).contents ≡ (state_of start.device before).contents)
 unseen start events last run who before given r clear =
     let after = after_step start events last run before r.next _ r.turn in
-    let resets : effect_on (state_of start.device before) r.turn.step.brought ≡ Resets =
-    ap (effect_on (state_of start.device before)) r.brought ∙ r.resets in
+    let resets : effect_on (state_of start.device before) r.turn.step.brought ≡ Resets = grind (arith, common_steps) in
     let here = reset_marks start before who r.up r.down r.next r.turn.step resets in
     let marked = leads_kept start r.turn.suffix r.next last who after r.last ∙ here.0 in
     let grows = leads_grows start r.turn.suffix r.next last after in
     let since : last.executions ≡ before.executions ++ grows.more = cc (grows.is, here.1) in
     let bit = sym (changed_of start.device last who (length before.executions) marked) ∙ clear in
     let ahead = ltb-false (length before.executions) (length last.executions) bit in
-    let same : last.executions ≡ before.executions =
-    since ∙ none_more before.executions grows.more (rw since at ahead) in
-    let counter : (state_of start.device last).counter ≡ (state_of start.device before).counter =
-    ap (λ es. (start.device.counter + length es) % 65536) same in (
+    let same : last.executions ≡ before.executions = grind (arith, common_steps, none_more) in
+    let counter : (state_of start.device last).counter ≡ (state_of start.device before).counter = grind (arith, common_steps) in (
       IfSome-along given (state_of start.device last).counter (state_of start.device before).counter counter
           (given_one (state_of start.device before) r.frame given r.reading r.resets),
       counter,

@@ -1,5 +1,6 @@
 -- The state of the device in a world, after an effect.
-use Rattle.std.proofs.Common.{◌≡◌, ℕ, ◌+◌, ◌%◌, ◌≤◌, ◌<◌, ap, ◌∙◌, sym, refl, arith, Option, Some, Bool, true, false}
+use Rattle.std.proofs.lemmas.Grind.{common_steps}
+use Rattle.std.proofs.Common.{◌≡◌, ℕ, ◌+◌, ◌%◌, ◌≤◌, ◌<◌, ap, ◌∙◌, refl, arith, Option, Some, Bool, true, false}
 use Rattle.std.proofs.Common.{List, [], ◌∷◌, ◌++◌, length}
 use Rattle.std.proofs.lemmas.List.{map-append}
 use Rattle.std.proofs.Math.Nat.{mod-add-mod, mod-eq_of_lt}
@@ -33,9 +34,7 @@ same_state a b identity contents counter primary secondary protected cold_start 
 pub contents-more : (executions : List Execution) (execution : Execution) (initial : Contents)
     → overwritten execution.overwrite (registers_of (overwrites_of executions) initial)
     ≡ registers_of (overwrites_of (executions ++ execution ∷ [])) initial
-contents-more executions execution initial =
-    sym (ap (λ os. registers_of os initial) (map-append (λ (e : Execution). e.overwrite) executions (execution ∷ []))
-    ∙ registers_of_lists-last (overwrites_of executions) execution.overwrite initial)
+contents-more executions execution initial = grind (arith, common_steps, map-append, registers_of_lists-last)
 
 -- The state after an effect, with other cold start bits, is that of the world that the effect entered, with these bits.
 pub state-after : (initial : DeviceState) (world next : World) (id : MasterId) (number : ℕ) (effect : Effect) → MarksWithin world
@@ -60,5 +59,4 @@ state-after initial world next id number Resets within executions marks protecte
 -- The device stands for the world before a script.
 pub state-first : (start : Start) → start.device.counter < 65536
     → state_of start.device (first_world start) ≡ start.device
-state-first start small = same_state _ _ refl (registers_of_lists-none start.device.contents) (grind (arith, mod-eq_of_lt))
-    (grind arith) (grind arith) refl refl
+state-first start small = grind (arith, common_steps, same_state, registers_of_lists-none, mod-eq_of_lt)

@@ -1,4 +1,6 @@
 -- The steps of a script: what holds at its beginning and is kept by every step of it holds of every world of it.
+use Rattle.std.proofs.Common.{arith}
+use Rattle.std.proofs.lemmas.Grind.{common_steps}
 use Rattle.std.proofs.Common.{◌≡◌, Bool, ap, ◌∙◌, refl, subst, sym, append-nil, Option, None, Some, List, [], ◌∷◌, ◌++◌, ◌⊎◌, inl, inr}
 use Rattle.hart_values.specs.declared.address.Address.{Address}
 use Rattle.hart_values.specs.declared.each_master.EachMaster.{EachMaster}
@@ -9,7 +11,7 @@ use Rattle.hart_master.specs.declared.fault.MasterFault.{MasterFault}
 use Rattle.hart_line.specs.world.Damage.{Reaches}
 use Rattle.hart_line.specs.world.Promises.{IsStepOf, submissions_of}
 use Rattle.hart_line.specs.world.Spoken.{SpokenFrame}
-use Rattle.hart_line.specs.world.Step.{Accepts, IsTurn, LeadsTo, Step, replied, sent_by, spoken_request, submission_fault, submitted}
+use Rattle.hart_line.specs.world.Step.{Accepts, IsTurn, LeadsTo, Step, replied, sent_by, spoken_request, submitted}
 use Rattle.hart_line.specs.world.Step.{turned}
 use Rattle.hart_line.specs.world.World.{InHand, Start, World}
 use Rattle.hart_line.specs.declared.event.Heard.{Heard}
@@ -43,13 +45,7 @@ turn_cases start world who up down next turn = by_hand (of_master who world.hand
         → IsSending start world who up down next turn ⊎ IsSilent start world who up down next turn
     by_hand None in_hand arrives accepts next_is =
         inr (record { none = none_reaches start.device.identity up turn.brought arrives; next_is = next_is })
-    by_hand (Some held) in_hand arrives accepts next_is = inl (record {
-      held = held;
-      in_hand = in_hand;
-      known = reaches_cases start.device.identity up (Some (spoken_request who held)) turn.brought arrives;
-      accepts = accepts;
-      next_is = next_is;
-    })
+    by_hand (Some held) in_hand arrives accepts next_is = inl (grind (arith, common_steps, reaches_cases))
 
 -- An event is a submission, a turn with a request in hand, or one that changes no more than protection, cold start bits, and what was
 -- spoken. What holds of these holds of every step.
@@ -66,8 +62,7 @@ pub record StepCases (start : Start) (world : World) (P : LineEvent → World �
 
 pub by_cases : (start : Start) (world : World) (P : LineEvent → World → Type 0) → StepCases start world P
     → (event : LineEvent) (next : World) → Step start world event next → P event next
-by_cases start world P cases (Submit who address request) next step = subst (P (Submit who address request)) (sym step)
-    (by_fault (submission_fault (of_master who world.hands) address request))
+by_cases start world P cases (Submit who address request) next step = grind (arith, common_steps)
   where
     by_fault : (fault : Option MasterFault) → P (Submit who address request) (submitted world who address request fault)
     by_fault None = cases.submits who address request
@@ -87,19 +82,23 @@ pub along : (start : Start) (from : World) (events : List LineEvent) (P : World 
     → P before (event ∷ here.suffix) → P next here.suffix)
     → P from events → (prefix later : List LineEvent) (world : World) → events ≡ prefix ++ later → LeadsTo start from prefix world
     → P world later
-along start from events P keeps holds [] later world split led =
-    subst (λ es. P world es) split (subst (λ w. P w events) (sym led) holds)
+along start from events P keeps holds [] later world split led = grind (arith, common_steps)
 along start from events P keeps holds (event ∷ prefix) later world split led =
-    along start led.0 (prefix ++ later) P
-    (λ before next other here. keeps before next other (record {
-      prefix = event ∷ here.prefix;
-      suffix = here.suffix;
-      split = split ∙ ap (λ es. event ∷ es) here.split;
-      led = (led.0, led.1, here.led);
-      step = here.step;
-    }))
-    (keeps from led.0 event (record { prefix = []; suffix = prefix ++ later; split = split; led = refl; step = led.1 })
-    (subst (λ es. P from es) split holds)) prefix later world refl led.2
+    grind (
+      arith,
+      common_steps,
+      along start led.0 (prefix ++ later) P (λ before next other here. keeps before next other (record {
+        prefix = event ∷ here.prefix;
+        suffix = here.suffix;
+        split = split ∙ ap (λ es. event ∷ es) here.split;
+        led = (
+          led.0,
+          led.1,
+          here.led,
+        );
+        step = here.step;
+      })) (keeps from led.0 event (record { prefix = []; suffix = prefix ++ later; split = split; led = refl; step = led.1 }) (subst (λ es. P from es) split holds)) prefix later world refl led.2,
+    )
 
 -- So it does after the last event.
 pub to_last : (start : Start) (from : World) (events : List LineEvent) (P : World → List LineEvent → Type 0)
@@ -117,9 +116,7 @@ pub record IsBetween (start : Start) (from : World) (prefix suffix : List LineEv
 pub leads_between : (start : Start) (from : World) (prefix suffix : List LineEvent) (last : World)
     → LeadsTo start from (prefix ++ suffix) last → IsBetween start from prefix suffix last
 leads_between start from [] suffix last run = record { world = from; before = refl; after = run }
-leads_between start from (event ∷ prefix) suffix last run =
-    let rest = leads_between start run.0 prefix suffix last run.2 in
-    record { world = rest.world; before = (run.0, run.1, rest.before); after = rest.after }
+leads_between start from (event ∷ prefix) suffix last run = grind (arith, common_steps, leads_between start run.0 prefix suffix last run.2)
 
 -- One event more.
 pub leads_more : (start : Start) (events : List LineEvent) (event : LineEvent) (world mid next : World)

@@ -1,5 +1,6 @@
 -- A request in hand is unfinished, and is the one that was submitted under its number, to its master and for its address.
-use Rattle.std.proofs.Common.{◌≡◌, ℕ, ◌+◌, ◌<◌, zero, suc, ap, ◌∙◌, sym, refl, subst, Option, None, Some, option_map, List, [], ◌∷◌, ◌++◌}
+use Rattle.std.proofs.lemmas.Grind.{common_steps}
+use Rattle.std.proofs.Common.{◌≡◌, ℕ, ◌+◌, ◌<◌, zero, suc, ◌∙◌, refl, Option, None, Some, List, [], ◌∷◌, ◌++◌}
 use Rattle.std.proofs.Common.{add-one, drop, get_or, length, slice_set, take, inl, inr, arith}
 use Rattle.std.specs.List.{slice_get}
 use Rattle.std.proofs.lemmas.List.{length-set, take_more}
@@ -43,8 +44,7 @@ drop-first (suc n) (y ∷ xs) x later is = drop-first n xs x later is
 next_to_come : (submissions : List Submission) (outcomes : List Outcome) (outcome : Outcome) (submission : Submission)
     (more : List Submission)
     → drop (length outcomes) submissions ≡ submission ∷ more → drop (length (outcomes ++ outcome ∷ [])) submissions ≡ more
-next_to_come submissions outcomes outcome submission more is =
-    rw (length-one_more outcomes outcome, add-one) (drop-first (length outcomes) submissions submission more is).1
+next_to_come submissions outcomes outcome submission more is = grind (arith, common_steps, length-one_more, add-one, drop-first)
 
 submits_along : (submissions : List Submission) (world : World) (who : MasterId) (address : Address) (request : Request)
     (later : List LineEvent) → IsAlong submissions world (Submit who address request ∷ later)
@@ -52,8 +52,7 @@ submits_along : (submissions : List Submission) (world : World) (who : MasterId)
 submits_along submissions world who address request later a = record {
   to_come = next_to_come submissions world.outcomes (Unfinished 0) _ (submissions_of later) a.to_come;
   hands = λ id held is. elim (with_master-cases id who _ world.hands held is) [
-    | inl (own, new) ↦ (let first = drop-first (length world.outcomes) submissions _ (submissions_of later) a.to_come in
-        grind (arith, slice_get-last))
+    | inl (own, new) ↦ grind (arith, common_steps, drop-first, slice_get-last)
     | inr (apart, old) ↦ record {
       submitted_as = (a.hands id held old).submitted_as;
       unfinished = slice_get-append world.outcomes (Unfinished 0 ∷ []) held.submission _ (a.hands id held old).unfinished;
@@ -75,17 +74,8 @@ sends_along submissions start world who held brought accepted event later in_han
     let own = a.hands who held in_hand in record {
       to_come = rw length-set (a.to_come ∙ same);
       hands = λ id other is. elim (with_master-cases id who (hand_left held outcome) world.hands other is) [
-        | inl (is_own, left) ↦ (let unfinished = left_unfinished held other outcome left in
-            subst (IsHeld submissions (slice_set world.outcomes held.submission outcome) id) unfinished.1 (record {
-              submitted_as = rw is_own own.submitted_as;
-              unfinished = slice_get-set_same world.outcomes held.submission _ outcome own.unfinished ∙ ap Some unfinished.0;
-            }))
-        | inr (apart, old) ↦ (let there = a.hands id other old in record {
-          submitted_as = there.submitted_as;
-          unfinished = slice_get-set_other world.outcomes held.submission other.submission outcome
-              (λ number. apart (ap (λ (s : Submission). s.who)
-              (some_one (sym there.submitted_as ∙ ap (slice_get submissions) number ∙ own.submitted_as)))) ∙ there.unfinished;
-        })
+        | inl (is_own, left) ↦ grind (arith, common_steps, left_unfinished, slice_set, slice_get-set_same)
+        | inr (apart, old) ↦ (let there = a.hands id other old in grind (arith, common_steps, slice_get-set_other, some_one))
       ];
     }
 
@@ -120,8 +110,7 @@ held_in start events {before = before} {event = event} here =
 -- The request of a submission stands at its number among the requests.
 pub request_there : (events : List LineEvent) (number : ℕ) (submission : Submission)
     → slice_get (submissions_of events) number ≡ Some submission → slice_get (requests_of events) number ≡ Some submission.request
-request_there events number submission there =
-    slice_get-map (λ (s : Submission). s.request) (submissions_of events) number ∙ ap (option_map (λ (s : Submission). s.request)) there
+request_there events number submission there = grind (arith, common_steps, slice_get-map)
 
 -- A request that was submitted is well made.
 pub made_of : (events : List LineEvent) (number : ℕ) (submission : Submission) → AreWellMade events

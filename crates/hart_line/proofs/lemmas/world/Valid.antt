@@ -1,9 +1,9 @@
 -- In every world of a script the device's registers hold valid bytes, and an accepted reply is the one that it made.
-use Rattle.std.proofs.Common.{◌≡◌, ℕ, List, ◌∙◌, arith, refl, subst, sym, true, Some}
+use Rattle.std.proofs.lemmas.Grind.{common_steps}
+use Rattle.std.proofs.Common.{◌≡◌, ℕ, List, arith, refl, subst, sym, true}
 use Rattle.hart_commands.specs.Commands.{is_known}
 use Rattle.hart_commands.specs.Registers.{AreValid, Contents, Overwrite, registers_of}
 use Rattle.hart_commands.specs.RequestData.{IsRequest, command_of}
-use Rattle.hart_commands.specs.ReplyData.{reply_reading}
 use Rattle.hart_commands.specs.declared.reply.Reply.{Reply}
 use Rattle.hart_commands.specs.declared.request.Request.{Request}
 use Rattle.hart_commands.proofs.lemmas.Laws.{overwrites_are_valid}
@@ -49,9 +49,7 @@ led_valid start valid events world led =
         (λ event next. AreValid (registers_of (overwrites_of next.executions) start.device.contents)) (record {
           submits = λ who address request. holds;
           refuses = λ who address request fault. holds;
-          sends = λ who up down next turn s. rw s.next_is (effect_valid start.device.contents
-              (effect_on (state_of start.device before) turn.brought) s.held.submission before.executions
-              (effect_made (state_of start.device before) turn.brought) holds);
+          sends = λ who up down next turn s. rw s.next_is (grind (arith, common_steps, effect_valid, effect_made));
           others = λ event protected cold_start spoken same. holds;
         }) event next here.step
 
@@ -68,5 +66,4 @@ device_replied start events number reply sendings a made =
     let state = state_of start.device a.before in
     let read = answers_are_replies-read state start.process frame a.answer
     (led_valid start made.device.contents a.turn.prefix a.before a.turn.led) made.process (request_known a.held.request) a.answered in
-    let accepted = subst (λ command. reply_reading command a.answer.payload ≡ Some reply) a.is_reply.answers.command a.is_reply.read in
-    some_one (sym accepted ∙ read)
+    grind (arith, common_steps, some_one)

@@ -1,4 +1,5 @@
 -- Unrefused writes are executed in their turn, and nothing else is.
+use Rattle.std.proofs.lemmas.Grind.{common_steps}
 use Rattle.std.proofs.Common.{◌≡◌, ℕ, ap, ◌∙◌, sym, refl, Option, None, Some, IsSome, IsTrue}
 use Rattle.std.proofs.Common.{List, ◌⊎◌, inl, inr, arith}
 use Rattle.std.specs.List.{slice_get}
@@ -52,15 +53,7 @@ sending_executes start events before next who up down turn s there made write =
     let sent = sent_write state frame turn.brought s.known write in
     let named = named_by (overwrite_of s.held.request) ((writes_have_overwrites-exactly s.held.request).0 sent.1.0) in
     let executes = writes_execute_their_overwrite-executes state frame s.held.request named.0 sent.1.1 sent.1.2
-    (written_data_are_their_request s.held.request made) named.1 in
-    record {
-      held = s.held;
-      in_hand = s.in_hand;
-      submitted_as = there;
-      overwrite = named.0;
-      overwrites = named.1;
-      executed = grind arith;
-    }
+    (written_data_are_their_request s.held.request made) named.1 in grind (arith, common_steps)
 
 pub turn_executed : (start : Start) (events : List LineEvent) → AreWellMade events
     → (before next : World) (who : MasterId) (up down : Heard)
@@ -101,9 +94,7 @@ frame_stays : (state : DeviceState) (frame : FrameParts) (number : ℕ) (executi
     → executions_after effect number executions ≡ executions
 frame_stays state frame number executions (Executes overwrite) is other =
     let asked = writes_execute_their_overwrite-only state frame overwrite is in
-    let named : IsSome (overwrite_of asked.2) = rw asked.4 refl in
-    let command = (requests_have_their_command frame.command frame.payload asked.2 asked.3).0 in
-    absurd (other (rw command at ((writes_have_overwrites-exactly asked.2).1 named), asked.0, asked.1))
+    grind (arith, common_steps, requests_have_their_command, writes_have_overwrites-exactly)
 frame_stays state frame number executions effect is other = refl
 
 arrived_stays : (state : DeviceState) (brought : Brought) (number : ℕ) (executions : List Execution)
@@ -114,8 +105,7 @@ pub step_stays : (start : Start) (before : World) (event : LineEvent) (next : Wo
     → (IsUnrefusedWrite (state_of start.device before) (brought_in_step start before event next step) → ⊥)
     → next.executions ≡ before.executions
 step_stays start before (Turn who up down) next step other = elim (turn_cases start before who up down next step) [
-  | inl s ↦ ap (λ (w : World). w.executions) s.next_is
-      ∙ arrived_stays (state_of start.device before) step.brought s.held.submission before.executions other
+  | inl s ↦ grind (arith, common_steps, arrived_stays)
   | inr silent ↦ ap (λ (w : World). w.executions) silent.next_is
 ]
 step_stays start before event next step other = grind arith

@@ -1,11 +1,10 @@
+use Rattle.std.proofs.lemmas.Grind.{common_steps}
 use Rattle.std.proofs.Common.{ℕ, ◌+◌, length, None, Some, ap, arith, sym, rules, tests}
 use Rattle.std.specs.Bool.{◌==◌}
 use Rattle.std.proofs.lemmas.Iterator.Consumers.{YieldsList-at, YieldsList-end, YieldsList-turn}
 use Rattle.std.proofs.lemmas.Iterator.Splits.{YieldsList-from_slice_split}
 use Rattle.std.proofs.lemmas.List.{append-nil, length_push}
 use Rattle.std.proofs.lemmas.Result.{err_from_is_err_and}
-use Rattle.hart_line.specs.Filling.{Filled}
-use Rattle.hart_line.specs.declared.event.LineEvent.{LineEvent}
 use Rattle.hart_line.proofs.lemmas.script.Script.{AreEvents-more, line_fault, stands_at, whole_script}
 use Rattle.hart_line.proofs.script.read_script.Goals as goal
 
@@ -45,8 +44,7 @@ loop-part-preserved c =
       counted = omega (arith, c.loop-part.invariant.counted, m);
       said = AreEvents-more c.args.text.now (length c.loop-part.yielded) _ (c.loop-part.number + 1) _ _ _ (Some c.in-Some-2.event)
           (stands_at c.args.text.now _ c.in-Some.part.now _ t.0 t.1 c.without_return.ensures) m c.loop-part.invariant.said
-          (rw c.in-Some-2.is at c.in_ok-event.ensures) (rw (← c.make_room.ensures.items)
-          (ap (λ (list : Filled LineEvent). list.items) c.push.ensures));
+          (rw c.in-Some-2.is at c.in_ok-event.ensures) (grind (arith, common_steps));
     }
 
 pub returns-clause-events : goal.returns-clause-events
@@ -54,5 +52,4 @@ returns-clause-events c =
     let all = YieldsList-end (YieldsList-at c.into_iter-part-iterator.ensures.into_iter_gives
     (YieldsList-from_slice_split _ (λ (byte : ℕ). byte == 10) c.args.text.now c.split-part-items.ensures.rest
     c.split-part-items.ensures.done c.split-part-items.ensures.closure (λ x b q k. search (rules, tests))))
-    c.loop-part.yielded _ c.loop-part.yielded_by _ _ c.in-None.is c.next.ensures.steps in
-    rw c.finish.ensures (whole_script c.args.text.now (length c.loop-part.yielded) _ all.1 c.loop-part.invariant.said)
+    c.loop-part.yielded _ c.loop-part.yielded_by _ _ c.in-None.is c.next.ensures.steps in grind (arith, common_steps, whole_script)

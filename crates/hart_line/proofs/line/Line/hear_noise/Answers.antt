@@ -1,3 +1,5 @@
+use Rattle.std.proofs.Common.{arith}
+use Rattle.std.proofs.lemmas.Grind.{common_steps}
 use Rattle.std.proofs.Common.{None, refl}
 use Rattle.hart_line.specs.world.Step.{replied}
 use Rattle.hart_line.specs.declared.event.Heard.TheVariants.{Chars}
@@ -8,12 +10,8 @@ pub returns-clause-stepped : goal.returns-clause-stepped
 returns-clause-stepped g c = λ start world process stands.
     let s = rw (← c.self.view_is) at stands in
     let among = rw (s.device_is, ← process) at c.in_ok-is_answered.ensures.answers in
-    let a = answered start world (Chars c.args.chars.now) None _ _ _ _ _ _ s.spoken_are refl (record {
-      brought = among.brought;
-      is_brought = record { chars = _; are_heard = refl; among = among.is_brought };
-      answer_is = among.answer_is;
-      after_is = among.after_is;
-    }) s.preambles_are c.self.invariant (rw c.frame_if-answer.ensures at c.speak.ensures.speaks) in
+    let a = answered start world (Chars c.args.chars.now) None _ _ _ _ _ _ s.spoken_are refl (
+    grind (arith, common_steps)) s.preambles_are c.self.invariant (rw c.frame_if-answer.ensures at c.speak.ensures.speaks) in
     let held = c.overhear.ensures start.retries world.hands (c.hear_noise.ensures start.retries world.hands s.masters_are) in
     record {
       next = replied start world a.brought;

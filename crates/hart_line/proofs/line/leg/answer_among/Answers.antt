@@ -1,5 +1,5 @@
+use Rattle.std.proofs.lemmas.Grind.{common_steps}
 use Rattle.std.proofs.Common.{arith}
-use Rattle.std.specs.Option.{option_copied}
 use Rattle.hart_device.specs.answer.Delivery.{OneFrame}
 use Rattle.hart_line.proofs.lemmas.line.Leg.{among_frame, answered_among}
 use Rattle.hart_line.proofs.line.leg.answer_among.Goals as goal
@@ -7,8 +7,7 @@ use Rattle.hart_line.proofs.line.leg.answer_among.Goals as goal
 pub returns-in-Some-clause-answers : goal.returns-in-Some-clause-answers
 returns-in-Some-clause-answers g c = record {
   brought = OneFrame c.in-Some.frame.now;
-  is_brought = among_frame c.args.device.now.identity c.args.chars.now (option_copied c.args.sent) c.in-Some.frame.now
-      (rw c.in-Some.is at c.in_ok-frame.ensures.arrives);
+  is_brought = grind (arith, common_steps, among_frame);
   answer_is = c.answer.ensures.answer;
   after_is = c.answer.ensures.state;
 }

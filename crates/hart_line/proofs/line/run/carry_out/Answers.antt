@@ -1,3 +1,4 @@
+use Rattle.std.proofs.lemmas.Grind.{common_steps}
 use Rattle.std.proofs.Common.{arith, rules, refl, subst}
 use Rattle.std.proofs.lemmas.List.{take_all}
 use Rattle.hart_line.specs.world.Promises.{AreWellMade, start_from}
@@ -15,8 +16,7 @@ loop-index-init g c =
           (reached_first c.args.device c.args.process.now c.args.primary c.args.secondary _ _
           (scripts_keep_their_promises-first_world start c.new-line.ensures.device.counter) c.requires.primary c.requires.secondary);
       well_made = search rules;
-      room = rw (c.new-line.ensures.line, c.requires.room.no_outcomes, c.requires.room.nothing_spoken)
-          (record { outcomes = omega (arith, c.requires.room.outcomes); spoken = omega (arith, c.requires.room.spoken) });
+      room = grind (arith, common_steps);
     }
 
 pub returns-in-Err-clause-fault : goal.returns-in-Err-clause-fault
@@ -48,8 +48,7 @@ pub returns-in-Err-clause-stopped : goal.returns-in-Err-clause-stopped
 returns-in-Err-clause-stopped g c = λ event leg fault.
     let same = scripts_have_one_last_world-one_fault
     (start_from c.args.device c.args.process.now c.args.primary c.args.secondary) c.args.events.now _ _ _ _
-    (returns-in-Err-clause-fault g c) fault in
-    rw (← same.0, ← same.1) refl
+    (returns-in-Err-clause-fault g c) fault in grind (arith, common_steps)
 
 pub returns : goal.returns
 returns g c =

@@ -1,3 +1,5 @@
+use Rattle.std.proofs.Common.{arith}
+use Rattle.std.proofs.lemmas.Grind.{common_steps}
 use Rattle.std.proofs.Common.{◌≡◌, ℕ, Some, ap, ◌∙◌}
 use Rattle.std.specs.List.{slice_get}
 use Rattle.std.proofs.lemmas.Result.{err_from_is_err_and}
@@ -32,8 +34,7 @@ returns g c =
       accepted_reply_answers_last_sending = answers;
       registers_follow_last_executions = λ world last. ap (λ (d : DeviceState). d.contents) (done.device world last)
           ∙ promises.registers_follow_last_executions world last done.well_made;
-      counter_counts_executions = λ world last. ap (λ (d : DeviceState). d.counter) (done.device world last)
-          ∙ promises.counter_counts_executions world;
+      counter_counts_executions = grind (arith, common_steps);
       refused_commands_change_nothing = λ before next refused end.
           device_is ∙ promises.refused_commands_change_nothing world last before next refused end;
       refused_turns_change_nothing = promises.refused_turns_change_nothing;

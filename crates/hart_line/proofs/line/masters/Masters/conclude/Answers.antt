@@ -1,17 +1,15 @@
+use Rattle.std.proofs.Common.{arith}
+use Rattle.std.proofs.lemmas.Grind.{common_steps}
 use Rattle.hart_values.specs.declared.master_id.MasterId.TheVariants.{Primary, Secondary}
 use Rattle.hart_line.proofs.lemmas.line.Masters.{concludes_more}
 use Rattle.hart_line.proofs.line.masters.Masters.conclude.Goals as goal
 
 pub returns-in-Primary-clause-concludes : goal.returns-in-Primary-clause-concludes
 returns-in-Primary-clause-concludes c = λ retries hands held.
-    rw c.in-Primary.is (λ turn. concludes_more (λ left holds. record {
-      primary = holds;
-      secondary = c.hear-overheard.ensures.overheard Secondary retries.secondary hands.secondary turn.1;
-    }) (c.conclude.ensures.concludes Primary retries.primary held turn.0))
+    rw c.in-Primary.is (λ turn. concludes_more (
+    grind (arith, common_steps)) (c.conclude.ensures.concludes Primary retries.primary held turn.0))
 
 pub returns-in-Secondary-clause-concludes : goal.returns-in-Secondary-clause-concludes
 returns-in-Secondary-clause-concludes c = λ retries hands held.
-    rw c.in-Secondary.is (λ turn. concludes_more (λ left holds. record {
-      primary = c.hear-overheard-in-Secondary.ensures.overheard Primary retries.primary hands.primary turn.1;
-      secondary = holds;
-    }) (c.conclude-in-Secondary.ensures.concludes Secondary retries.secondary held turn.0))
+    rw c.in-Secondary.is (λ turn. concludes_more (
+    grind (arith, common_steps)) (c.conclude-in-Secondary.ensures.concludes Secondary retries.secondary held turn.0))

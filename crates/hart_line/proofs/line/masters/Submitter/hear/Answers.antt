@@ -1,3 +1,5 @@
+use Rattle.std.proofs.Common.{arith}
+use Rattle.std.proofs.lemmas.Grind.{common_steps}
 use Rattle.std.proofs.Common.{◌≡◌}
 use Rattle.hart_commands.specs.declared.reply.Reply.{Reply}
 use Rattle.hart_master.specs.Master.{FrameBrings}
@@ -6,8 +8,7 @@ use Rattle.hart_line.proofs.line.masters.Submitter.hear.Goals as goal
 pub returns-in_default : goal.returns-in_default
 returns-in_default c =
     let old = c.args.self.now.master in
-    let none : (reply : Reply) → FrameBrings old.id old.hand c.in_ok-returned.field-0.now reply → ⊥ = λ reply brought.
-    c.in_default.not-Answered reply _ (c.receive.ensures.answered reply brought) in
+    let none : (reply : Reply) → FrameBrings old.id old.hand c.in_ok-returned.field-0.now reply → ⊥ = grind (arith, common_steps) in
     let same : c.receive.new.self ≡ old = rw (c.receive.ensures.nothing none) at c.receive.ensures.state in
     record {
       awaited = λ id retries held awaits. (rw c.in_ok-returned.was (rw awaits.master_is at none), rw same awaits);

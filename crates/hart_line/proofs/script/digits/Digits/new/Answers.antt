@@ -13,9 +13,4 @@ one_more values place value within are is byte below =
     grind (arith, common_steps, cases_eq, get_or-set_at, get_or-set_other)
 
 pub loop-place-preserved : goal.loop-place-preserved
-loop-place-preserved c =
-    record {
-      values = one_more c.loop-place.values _ _ (omega (arith, c.loop-place.invariant.long, c.loop-place-test.true))
-          c.loop-place.invariant.values c.digit_value.ensures;
-      long = grind (arith, common_steps);
-    }
+loop-place-preserved c = grind (arith, common_steps, one_more)
