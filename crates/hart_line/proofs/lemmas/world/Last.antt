@@ -17,9 +17,9 @@ use Rattle.hart_line.specs.world.Promises.{AreWellMade, IsStepOf, requests_of}
 use Rattle.hart_line.specs.world.Step.{IsLast, effect_on, executions_after, spoken_request}
 use Rattle.hart_line.specs.world.World.{Execution, InHand, Start, World, first_world, overwrites_of, state_of}
 use Rattle.hart_line.specs.declared.event.LineEvent.{LineEvent}
-use Rattle.hart_line.proofs.lemmas.world.Arrival.{frame_in}
+use Rattle.hart_line.proofs.lemmas.world.Arrival.{frame_in, no_effect}
 use Rattle.hart_line.proofs.lemmas.world.Basics.{some_one}
-use Rattle.hart_line.proofs.lemmas.world.Steps.{by_cases, to_last}
+use Rattle.hart_line.proofs.lemmas.world.Steps.{entered, to_last}
 use Rattle.hart_line.proofs.lemmas.world.Submitted.{held_in, made_of, request_there}
 
 -- THE WRITE OF AN EXECUTION
@@ -36,15 +36,12 @@ same_overwrite requests a b same x y = cc
 arrived_executes : (state : DeviceState) (who : MasterId) (held : InHand) (requests : List Request)
     (brought : Brought) (overwrite : Overwrite) → slice_get requests held.submission ≡ Some held.request
     → reading_of (spoken_request who held).frame ≡ Ok held.request
-    → (frame_in brought ≡ None) ⊎ (frame_in brought ≡ Some (spoken_request who held).frame)
-    → effect_on state brought ≡ Executes overwrite
+    → frame_in brought ≡ Some (spoken_request who held).frame → effect_on state brought ≡ Executes overwrite
     → IsWriteOf requests (record { submission = held.submission; overwrite = overwrite })
-arrived_executes state who held requests NoMessage overwrite there reading known is = cc
-arrived_executes state who held requests (Garbled request) overwrite there reading known is = cc
-arrived_executes state who held requests (OneFrame frame) overwrite there reading (inl none) is = cc
-arrived_executes state who held requests (OneFrame frame) overwrite there reading (inr sent) is =
+arrived_executes state who held requests (OneFrame frame) overwrite there reading sent is =
     let asked = writes_execute_their_overwrite-only state (spoken_request who held).frame overwrite (rw (some_one sent) at is) in
     grind (arith, common_steps)
+arrived_executes state who held requests brought overwrite there reading sent is = cc
 
 -- ALL EXECUTIONS OF A SCRIPT ARE WRITES OF THEIR SUBMISSIONS
 AllByRecursion-append : {A : Type 0} (P : A → Type 0) (xs : List A) (x : A) → AllByRecursion P xs → P x → AllByRecursion P (xs ++ x ∷ [])
@@ -66,17 +63,16 @@ are_writes start events made = to_last start (first_world start) events (λ worl
 
     step_writes : (before next : World) (event : LineEvent) → IsStepOf start (first_world start) events before event next
         → AreWrites before → AreWrites next
-    step_writes before next event here all = by_cases start before (λ event next. AreWrites next) (record {
-      submits = λ who address request. all;
-      refuses = λ who address request fault. all;
-      sends = λ who up down next turn s. rw s.next_is
-          (let there = (held_in start events here who s.held s.in_hand).submitted_as in
-          effect_writes (effect_on (state_of start.device before) turn.brought) s.held.submission (requests_of events) before.executions
-          (λ overwrite is. arrived_executes (state_of start.device before) who s.held (requests_of events) turn.brought overwrite
-          (request_there events s.held.submission _ there)
-          (written_data_are_their_request s.held.request (made_of events s.held.submission _ made there)) s.known is) all);
-      others = λ event protected cold_start spoken same. all;
-    }) event next here.step
+    step_writes before next event here all =
+        let e = entered start before event next here.step in
+        rw e.executions (effect_writes _ e.number (requests_of events) before.executions (λ overwrite is.
+        elim e.known [
+          | inl none ↦ (let quiet = no_effect (state_of start.device before) e.brought none in cc)
+          | inr (held, in_hand, own, sent) ↦ (let there = (held_in start events here e.who held in_hand).submitted_as in
+              rw (← own) (arrived_executes (state_of start.device before) e.who held (requests_of events) e.brought overwrite
+              (request_there events held.submission _ there)
+              (written_data_are_their_request held.request (made_of events held.submission _ made there)) sent is))
+        ]) all)
 
 -- LAST EXECUTIONS
 -- A later execution of the submission has the same overwrite.

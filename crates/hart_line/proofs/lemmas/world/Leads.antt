@@ -1,5 +1,6 @@
 -- A script leads to one world, and has one fault at most.
 use Rattle.std.proofs.lemmas.Grind.{common_steps}
+use Rattle.std.proofs.Common.{append-nil}
 use Rattle.std.proofs.Common.{◌≡◌, ℕ, ◌<◌, ap, ◌∙◌, sym, subst, arith, Option, None, Some, List, [], ◌∷◌, ◌++◌, zero, suc, take, drop}
 use Rattle.std.proofs.Common.{length, inl, inr}
 use Rattle.std.specs.List.{slice_get}
@@ -29,7 +30,6 @@ use Rattle.hart_line.specs.declared.fault.Leg.TheVariants as legs
 use Rattle.hart_line.specs.world.Faults.{HasUndetected, IsFault}
 use Rattle.hart_line.specs.declared.fault.LineFault.TheVariants.{Undetected}
 use Rattle.hart_line.proofs.lemmas.world.Basics.{some_one}
-use Rattle.hart_line.proofs.lemmas.world.Steps.{leads_between}
 
 AreHeard-one : (heard : Heard) (sent : Option SpokenFrame) (a b : List Character) → AreHeard heard sent a
     → AreHeard heard sent b → a ≡ b
@@ -82,19 +82,18 @@ step_one start world (Noise chars) a b s t =
     let same = Reaches-one start.device.identity (Chars chars) None s.brought t.brought s.arrives t.arrives in cc
 step_one start world event a b s t = s ∙ sym t
 
--- A script leads to one world.
+-- From a world that some events lead to a script goes on to its last one.
+pub leads_on : (start : Start) (prefix suffix : List LineEvent) (from world last : World) → LeadsTo start from (prefix ++ suffix) last
+    → LeadsTo start from prefix world → LeadsTo start world suffix last
+leads_on start [] suffix from world last run led = rw led run
+leads_on start (event ∷ prefix) suffix from world last run led =
+    leads_on start prefix suffix led.0 world last (rw (step_one start from event run.0 led.0 run.1 led.1) at run.2) led.2
+
+-- So a script leads to one world.
 pub leads_one : (start : Start) (events : List LineEvent) (world a b : World)
     → LeadsTo start world events a → LeadsTo start world events b
     → a ≡ b
-leads_one start [] world a b s t = s ∙ sym t
-leads_one start (event ∷ events) world a b s t =
-    leads_one start events t.0 a b
-    (subst (λ w. LeadsTo start w events a) (step_one start world event s.0 t.0 s.1 t.1) s.2) t.2
-
--- So from a world that some events lead to it goes on to its last one.
-pub leads_on : (start : Start) (prefix suffix : List LineEvent) (from world last : World) → LeadsTo start from (prefix ++ suffix) last
-    → LeadsTo start from prefix world → LeadsTo start world suffix last
-leads_on start prefix suffix from world last run led = grind (arith, common_steps, leads_between, leads_one)
+leads_one start events world a b s t = leads_on start events [] world b a (rw append-nil s) t
 
 -- FAULTS
 -- An event that leads on has no undetected damage, and no other has it in two legs.

@@ -1,4 +1,5 @@
 -- No mark is greater than the number of executions.
+use Rattle.std.proofs.lemmas.Grind.{common_steps}
 use Rattle.std.proofs.Common.{◌≡◌, ℕ, ◌≤◌, arith, List, length, Option, Some}
 use Rattle.std.proofs.lemmas.List.{length-append}
 use Rattle.hart_values.specs.declared.each_master.EachMaster.{EachMaster}
@@ -9,7 +10,7 @@ use Rattle.hart_line.specs.world.Step.{Step, effect_on, executions_after, marks_
 use Rattle.hart_line.specs.world.World.{Execution, MarksWithin, Start, World, first_world, state_of}
 use Rattle.hart_line.specs.declared.event.LineEvent.{LineEvent}
 use Rattle.hart_line.proofs.lemmas.world.Basics.{nothing_first, with_master-cases}
-use Rattle.hart_line.proofs.lemmas.world.Steps.{by_cases}
+use Rattle.hart_line.proofs.lemmas.world.Steps.{entered}
 
 effect_marks : (effect : Effect) (who : MasterId) (number : ℕ) (executions : List Execution) (marks : EachMaster (Option ℕ))
     → ((id : MasterId) (mark : ℕ) → of_master id marks ≡ Some mark → mark ≤ length executions)
@@ -19,13 +20,8 @@ effect_marks effect who number executions marks within id mark is = grind (arith
 
 pub step_marks : (start : Start) (world : World) (event : LineEvent) (next : World) → Step start world event next → MarksWithin world
     → MarksWithin next
-step_marks start world event next step within = by_cases start world (λ event next. MarksWithin next) (record {
-  submits = λ who address request. within;
-  refuses = λ who address request fault. within;
-  sends = λ who up down next turn s. rw s.next_is (effect_marks (effect_on (state_of start.device world) turn.brought) who
-      s.held.submission world.executions world.marks within);
-  others = λ event protected cold_start spoken same. within;
-}) event next step
+step_marks start world event next step within =
+    let e = entered start world event next step in grind (arith, common_steps, effect_marks)
 
 pub first_marks : (start : Start) → MarksWithin (first_world start)
 first_marks start = λ id mark is. nothing_first id is

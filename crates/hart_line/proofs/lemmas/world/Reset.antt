@@ -26,7 +26,7 @@ use Rattle.hart_line.specs.declared.event.LineEvent.TheVariants.{Turn}
 use Rattle.hart_line.proofs.lemmas.world.Arrival.{no_effect}
 use Rattle.hart_line.proofs.lemmas.world.Basics.{of_master-same}
 use Rattle.hart_line.proofs.lemmas.world.Leads.{leads_on, step_one}
-use Rattle.hart_line.proofs.lemmas.world.Steps.{by_cases, to_last, turn_cases}
+use Rattle.hart_line.proofs.lemmas.world.Steps.{entered, to_last, turn_cases}
 
 -- EXECUTIONS GROW
 pub record Grows (old new : List Execution) : Type 0 where
@@ -40,8 +40,8 @@ effect_grows effect number old now g = g
 leads_grows : (start : Start) (events : List LineEvent) (world last : World) → LeadsTo start world events last
     → Grows world.executions last.executions
 leads_grows start events world last = to_last start world events (λ now later. Grows world.executions now.executions)
-    (λ before next event here g. by_cases start before (λ event next. Grows world.executions next.executions) (
-    grind (arith, common_steps, effect_grows)) event next here.step) (record { more = []; is = sym (append-nil world.executions) }) last
+    (λ before next event here g. let e = entered start before event next here.step in grind (arith, common_steps, effect_grows))
+    (record { more = []; is = sym (append-nil world.executions) }) last
 
 -- MARKS STAY WHERE THERE IS NO RESET
 marks_kept : (effect : Effect) (id who : MasterId) (count : ℕ) (marks : EachMaster (Option ℕ)) → (id ≡ who → effect ≢ Resets)
@@ -50,30 +50,18 @@ marks_kept effect id who count marks apart = grind arith
 
 leads_kept : (start : Start) (events : List LineEvent) (world last : World) (id : MasterId) → LeadsTo start world events last
     → HasNoReset start world events id → of_master id last.marks ≡ of_master id world.marks
-leads_kept start events world last id run none = to_last start world events (λ now later. of_master id now.marks ≡ of_master id world.marks)
-    (λ before next event here kept. by_cases start before (λ event next. IsStepOf start world events before event next
-    → of_master id next.marks ≡ of_master id world.marks) (record {
-      submits = λ who address request here. kept;
-      refuses = λ who address request fault here. kept;
-      sends = λ who up down next turn s here. rw s.next_is
-          (marks_kept (effect_on (state_of start.device before) turn.brought) id who (length before.executions) before.marks
-          (apart before who up down next turn here) ∙ kept);
-      others = λ event protected cold_start spoken same here. kept;
-    }) event next here.step here) refl last run
+leads_kept start events world last id run none =
+    to_last start world events (λ now later. of_master id now.marks ≡ of_master id world.marks) kept refl last run
   where
-    apart : (before : World) (who : MasterId) (up down : Heard) (next : World) (turn : IsTurn start before who up down next)
-        → IsStepOf start world events before (Turn who up down) next → id ≡ who
-        → effect_on (state_of start.device before) turn.brought ≢ Resets
-    apart before who up down next turn here own =
-        let Quiet : MasterId → Type 0 = λ m. (t : IsTurn start before m up down next)
-        → IsStepOf start world events before (Turn m up down) next → effect_on (state_of start.device before) t.brought ≢ Resets in
-        subst Quiet own (λ t there. none before next up down (record {
-          prefix = there.prefix;
-          suffix = there.suffix;
-          split = there.split;
-          led = there.led;
-          step = t;
-        })) turn here
+    kept : (before next : World) (event : LineEvent) → IsStepOf start world events before event next
+        → of_master id before.marks ≡ of_master id world.marks → of_master id next.marks ≡ of_master id world.marks
+    kept before next (Turn who up down) here same = elim (turn_cases start before who up down next here.step) [
+      | inl s ↦ (let quiet = λ (own : id ≡ who). subst (λ m. (turn : IsStepOf start world events before (Turn m up down) next)
+          → effect_on (state_of start.device before) turn.step.brought ≢ Resets) own (none before next up down) here in
+          grind (arith, common_steps, marks_kept))
+      | inr silent ↦ rw silent.next_is same
+    ]
+    kept before next event here same = grind arith
 
 -- A RESET
 reset_marks : (start : Start) (world : World) (who : MasterId) (up down : Heard) (next : World) (step : IsTurn start world who up down next)

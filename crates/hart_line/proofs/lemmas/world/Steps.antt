@@ -13,6 +13,12 @@ use Rattle.hart_line.specs.world.Promises.{IsStepOf, submissions_of}
 use Rattle.hart_line.specs.world.Spoken.{SpokenFrame}
 use Rattle.hart_line.specs.world.Step.{Accepts, IsTurn, LeadsTo, Step, replied, sent_by, spoken_request, submitted}
 use Rattle.hart_line.specs.world.Step.{turned}
+use Rattle.hart_device.specs.answer.Delivery.{Brought, NoMessage}
+use Rattle.hart_line.specs.world.Step.{effect_on, executions_after, marks_after}
+use Rattle.hart_line.specs.world.World.{state_of}
+use Rattle.hart_values.specs.declared.master_id.MasterId.TheVariants.{Primary}
+use Rattle.hart_line.proofs.lemmas.world.Arrival.{no_effect}
+use Rattle.std.proofs.Common.{ℕ, length}
 use Rattle.hart_line.specs.world.World.{InHand, Start, World}
 use Rattle.hart_line.specs.declared.event.Heard.{Heard}
 use Rattle.hart_line.specs.declared.event.LineEvent.{LineEvent}
@@ -75,6 +81,46 @@ by_cases start world P cases (Protect on) next step = rw step (cases.others (Pro
 by_cases start world P cases (Noise chars) next step = rw step.next_is (cases.others (Noise chars) _ _ _ (λ later. refl))
 by_cases start world P cases Restart next step = rw step (cases.others Restart _ _ _ (λ later. refl))
 
+-- A step enters into the executions and the marks the effect of what it brought the device, which is no frame but that of a request
+-- in hand.
+pub record IsEntered (start : Start) (world next : World) : Type 0 where
+  pub who : MasterId
+  pub number : ℕ
+  pub brought : Brought
+  pub known : (frame_in brought ≡ None) ⊎ (held : InHand) × (of_master who world.hands ≡ Some held) × (held.submission ≡ number)
+      × (frame_in brought ≡ Some (spoken_request who held).frame)
+  pub executions : next.executions ≡ executions_after (effect_on (state_of start.device world) brought) number world.executions
+  pub marks : next.marks ≡ marks_after (effect_on (state_of start.device world) brought) who (length world.executions) world.marks
+
+pub entered : (start : Start) (world : World) (event : LineEvent) (next : World) → Step start world event next
+    → IsEntered start world next
+entered start world (Turn who up down) next step = elim (turn_cases start world who up down next step) [
+  | inl s ↦ record {
+    who = who;
+    number = s.held.submission;
+    brought = step.brought;
+    known = grind arith;
+    executions = rw s.next_is refl;
+    marks = rw s.next_is refl;
+  }
+  | inr silent ↦ record {
+    who = who;
+    number = 0;
+    brought = step.brought;
+    known = inl silent.none;
+    executions = grind (arith, silent.next_is, no_effect);
+    marks = grind (arith, silent.next_is, no_effect);
+  }
+]
+entered start world event next step = record {
+  who = Primary;
+  number = 0;
+  brought = NoMessage;
+  known = inl refl;
+  executions = grind arith;
+  marks = grind arith;
+}
+
 -- EVERY STEP
 -- What holds before all events and is kept by each step holds of each world of these events and of the events that are left there.
 pub along : (start : Start) (from : World) (events : List LineEvent) (P : World → List LineEvent → Type 0)
@@ -106,17 +152,6 @@ pub to_last : (start : Start) (from : World) (events : List LineEvent) (P : Worl
     → P before (event ∷ here.suffix) → P next here.suffix)
     → P from events → (last : World) → LeadsTo start from events last → P last []
 to_last start from events P keeps holds last = along start from events P keeps holds events [] last (sym (append-nil events))
-
--- Events that lead on lead to a world between any two of them.
-pub record IsBetween (start : Start) (from : World) (prefix suffix : List LineEvent) (last : World) : Type 0 where
-  pub world : World
-  pub before : LeadsTo start from prefix world
-  pub after : LeadsTo start world suffix last
-
-pub leads_between : (start : Start) (from : World) (prefix suffix : List LineEvent) (last : World)
-    → LeadsTo start from (prefix ++ suffix) last → IsBetween start from prefix suffix last
-leads_between start from [] suffix last run = record { world = from; before = refl; after = run }
-leads_between start from (event ∷ prefix) suffix last run = grind (arith, common_steps, leads_between start run.0 prefix suffix last run.2)
 
 -- One event more.
 pub leads_more : (start : Start) (events : List LineEvent) (event : LineEvent) (world mid next : World)

@@ -17,7 +17,7 @@ use Rattle.hart_line.specs.world.World.{Execution, Start, World, first_world, ov
 use Rattle.hart_line.specs.declared.event.LineEvent.{LineEvent}
 use Rattle.hart_line.proofs.lemmas.world.Basics.{some_one}
 use Rattle.hart_line.proofs.lemmas.world.State.{contents-more}
-use Rattle.hart_line.proofs.lemmas.world.Steps.{by_cases, to_last}
+use Rattle.hart_line.proofs.lemmas.world.Steps.{entered, to_last}
 
 -- An effect leaves valid bytes valid, as what is executed is a well-made request.
 effect_made : (state : DeviceState) (brought : Brought) (overwrite : Overwrite) → effect_on state brought ≡ Executes overwrite
@@ -40,18 +40,9 @@ effect_valid initial Resets number executions made valid = valid
 led_valid : (start : Start) → AreValid start.device.contents → (events : List LineEvent) (world : World)
     → LeadsTo start (first_world start) events world → AreValid (state_of start.device world).contents
 led_valid start valid events world led =
-    to_last start (first_world start) events (λ world later. AreValid (state_of start.device world).contents) kept
+    to_last start (first_world start) events (λ world later. AreValid (state_of start.device world).contents) (λ before next event here holds.
+    let e = entered start before event next here.step in grind (arith, common_steps, effect_valid, effect_made))
     (subst AreValid (sym (registers_of_lists-none start.device.contents)) valid) world led
-  where
-    kept : (before next : World) (event : LineEvent) → IsStepOf start (first_world start) events before event next
-        → AreValid (state_of start.device before).contents → AreValid (state_of start.device next).contents
-    kept before next event here holds = by_cases start before
-        (λ event next. AreValid (registers_of (overwrites_of next.executions) start.device.contents)) (record {
-          submits = λ who address request. holds;
-          refuses = λ who address request fault. holds;
-          sends = λ who up down next turn s. rw s.next_is (grind (arith, common_steps, effect_valid, effect_made));
-          others = λ event protected cold_start spoken same. holds;
-        }) event next here.step
 
 -- Each request has a command of the table.
 request_known : (request : Request) → is_known (command_of request) ≡ true
