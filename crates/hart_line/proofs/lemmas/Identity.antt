@@ -12,15 +12,7 @@ use Rattle.hart_device.specs.declared.identity_parts.IdentityParts.{IdentityPart
 use Rattle.hart_master.specs.Unique.{address_of, unique_in}
 
 -- an identity has the address of its device
-address_is : (parts : IdentityParts) (counter extended_device_status : ℕ)
-    → address_of (identity_content parts counter extended_device_status) ≡ Unique (own_numbers parts)
-address_is parts counter extended_device_status = grind arith
-
--- the broadcast address alone is one
-not_broadcast : (numbers : DeviceNumbers) → (Unique numbers ≡ broadcast → ⊥) → is_broadcast (Unique numbers) ≡ false
-not_broadcast numbers other = grind (arith, nat_tests)
-
 pub identity_gives_address : (parts : IdentityParts) (counter extended_device_status : ℕ) (reply : Reply) → AreIdentityParts parts
     → reply.code ≡ 0 → reply.content ≡ Identity (identity_content parts counter extended_device_status)
     → unique_in reply ≡ Some (Unique (own_numbers parts))
-identity_gives_address parts counter extended_device_status reply are zero content = grind (arith, common_steps, address_is, not_broadcast)
+identity_gives_address parts counter extended_device_status reply are zero content = grind (arith, common_steps, nat_tests)

@@ -14,23 +14,10 @@ use Rattle.hart_line.specs.world.World.{Start, World}
 use Rattle.hart_line.specs.declared.line.masters.Masters.{Masters}
 use Rattle.hart_line.specs.declared.line.report.Outcome.{Outcome}
 
-with_master-own : {A : Type 0} (who : MasterId) (each : EachMaster A) → with_master who (of_master who each) each ≡ each
-with_master-own who each = grind arith
-
 pub submitted_stands : (start : Start) (world : World) (who : MasterId) (address : Address) (request : Request)
     (fault : Option MasterFault) (outcome : Outcome) (line : LineState) (masters : Masters) → Stands start world line
     → Submits (of_master who world.hands) (length line.outcomes) address request fault outcome
     (λ left. AreHeld start.retries (with_master who left world.hands) masters)
     → Stands start (submitted world who address request fault)
     (record line { masters = masters; outcomes = line.outcomes ++ outcome ∷ [] })
-submitted_stands start world who address request fault outcome line masters s submits = grind (arith, with_master-own)
-
-pub protected_stands : (start : Start) (world : World) (on : Bool) (line : LineState) (device : DeviceState) → Stands start world line
-    → device ≡ record line.device { protected = on }
-    → Stands start (record world { protected = on }) (record line { device = device })
-protected_stands start world on line device s is = grind arith
-
-pub restarted_stands : (start : Start) (world : World) (line : LineState) (device : DeviceState) → Stands start world line
-    → device ≡ restarted line.device
-    → Stands start (record world { cold_start = for_both true }) (record line { device = device })
-restarted_stands start world line device s is = grind arith
+submitted_stands start world who address request fault outcome line masters s submits = grind (arith)

@@ -70,12 +70,8 @@ nothing_reaches identity heard said are = record {
   among = record { frame = None; arrives = nothing_arrives (frame_of said); brings = nothing_garbled identity };
 }
 
--- With nothing sent a clean leg brings nothing.
-pub silence_reaches : (identity : IdentityParts) (said : Option SpokenFrame) → IsSent None said → Reaches identity Clean said NoMessage
-silence_reaches identity said is = grind (arith, nothing_reaches)
-
 -- Otherwise the frame that was sent arrives in it, and is brought.
-message_arrives : (said : SpokenFrame) → IsSpeakable (Some said) → Arrives Clean (Some said) (Some said.frame)
+pub message_arrives : (said : SpokenFrame) → IsSpeakable (Some said) → Arrives Clean (Some said) (Some said.frame)
 message_arrives said is =
     let bytes = replicate said.preambles 255 ++ is.1 in
     let is_message : IsMessage said.frame said.preambles bytes = record { body = is.1; is_body = is.2; parts = refl } in
@@ -88,9 +84,6 @@ message_arrives said is =
         detected = (refl, refl);
       };
     }
-
-pub clean_arrives : (sent : Option FrameParts) (said : Option SpokenFrame) → IsSent sent said → Arrives Clean said sent
-clean_arrives sent said is = grind (arith, message_arrives, nothing_arrives)
 
 pub clean_reaches : (identity : IdentityParts) (frame : FrameParts) (said : Option SpokenFrame)
     → IsSent (Some frame) said → Reaches identity Clean said (OneFrame frame)

@@ -13,10 +13,6 @@ count_first : (p : LineEvent → Bool) (event : LineEvent) (events : List LineEv
     → count_by p (event ∷ events) ≡ count_by p (event ∷ []) + count_by p events
 count_first p event events = sum_by-append (λ event. cond (p event) 1 0) (event ∷ []) events
 
--- In an event at most two frames are spoken.
-two_spoken : (event : LineEvent) → most_spoken (event ∷ []) ≤ 2
-two_spoken event = grind arith
-
 -- If there is room for the events that are left, there is room for those left after the next of them.
 pub room_for_others : (events : List LineEvent) (n : ℕ) (unused : LineEvent) (old new : LineState) → n < length events
     → HasRoomFor (drop n events) old → LeavesRoom (get_or events n unused) old new → HasRoomFor (drop (n + 1) events) new
@@ -25,7 +21,7 @@ room_for_others events n unused old new here r leaves = grind (arith, common_ste
 -- If there is room for each of the events that are left, there is for the next of them.
 pub room_for_next : (events : List LineEvent) (n : ℕ) (unused : LineEvent) (line : LineState) → n < length events
     → HasRoomForEach (drop n events) line → HasRoomFor (get_or events n unused ∷ []) line
-room_for_next events n unused line here r = grind (arith, common_steps, drop_more, count_first, two_spoken)
+room_for_next events n unused line here r = grind (arith, common_steps, drop_more, count_first)
 
 -- So there is for each of those left after it, once what was spoken in it is let go.
 pub room_for_each : (events : List LineEvent) (n : ℕ) (unused : LineEvent) (old new : LineState) → n < length events

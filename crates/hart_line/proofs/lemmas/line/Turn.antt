@@ -21,7 +21,7 @@ use Rattle.hart_line.specs.declared.event.LineEvent.TheVariants.{Turn}
 use Rattle.hart_line.specs.declared.line.report.Party.TheVariants as parties
 use Rattle.hart_line.specs.declared.line.report.Spoken.{Spoken}
 use Rattle.hart_line.proofs.lemmas.line.Leg.{said_back, speaks_sent}
-use Rattle.hart_line.proofs.lemmas.world.Arrival.{AreSpoken-more, frame_in, left_alone, none_reaches, reaches_cases}
+use Rattle.hart_line.proofs.lemmas.world.Arrival.{AreSpoken-more, frame_in, none_reaches, reaches_cases}
 use Rattle.hart_line.proofs.lemmas.world.State.{state-after}
 
 -- What the device answered to what this leg brought it was spoken after what was said in it.
@@ -57,7 +57,7 @@ pub replied_stands : (start : Start) (world : World) (heard : Heard) (answer : O
     → line.outcomes ≡ world.outcomes → line.response_preambles ≡ start.device.identity.response_preambles
     → Stands start (replied start world a.brought) line
 replied_stands start world heard answer line a held same preambles_are = record {
-  device_is = grind (arith, common_steps, left_alone, none_reaches);
+  device_is = grind (arith, common_steps, none_reaches);
   masters_are = held;
   outcomes_are = same;
   spoken_are = a.spoken_are;
@@ -65,16 +65,12 @@ replied_stands start world heard answer line a held same preambles_are = record 
 }
 
 -- What an answer leaves is what its command leaves, but for the cold start bit of its master; silence leaves all.
-reply_leaves : (id : MasterId) (effect : Effect) (state : DeviceState)
-    → after_reply id (after id effect state) ≡ record (after id effect state) { cold_start = with_master id false state.cold_start }
-reply_leaves id effect state = grind arith
-
 answer_leaves : (answered zero : Bool) (asked : Effect) (id : MasterId) (state : DeviceState)
     → (if answered then after_reply id (after id (if answered && zero then asked else Nothing) state) else state)
     ≡ record (after id (if answered && zero then asked else Nothing) state) {
       cold_start = if answered then with_master id false state.cold_start else state.cold_start;
     }
-answer_leaves answered zero asked id state = grind (arith, reply_leaves)
+answer_leaves answered zero asked id state = grind (arith)
 
 state_after-effect : (state : DeviceState) (id : MasterId) (held : InHand) (brought : Brought)
     → (frame_in brought ≡ None) ⊎ (frame_in brought ≡ Some (spoken_request id held).frame)

@@ -127,10 +127,6 @@ pub all_items : (text : List ℕ) (chars : List Character) (rest : List ℕ) →
 unfolding items_of
 all_items text chars rest ended reads = grind (arith, append-nil)
 
--- a word with a byte has the characters of its items
-pub word_items : (word : List ℕ) → (length word ≡ 0 → ⊥) → items_word_of word ≡ items_of word
-word_items word some = grind arith
-
 -- an item without fault bits begins a text
 pub begins_as_plain : (text : List ℕ) (char : Character) (byte : ℕ) → 2 ≤ length text → AreDigits (get_or text 0 0) (get_or text 1 0)
     → byte ≡ byte_of (get_or text 0 0) (get_or text 1 0) → (get_or text 2 0 ≡ 33 → ⊥) → char ≡ record { byte = byte; faults = 0 }

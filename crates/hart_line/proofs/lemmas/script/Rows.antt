@@ -16,13 +16,8 @@ pub named_in-other : {T : Type 0} (word : List ℕ) (rows : List (List ℕ × T)
 named_in-other word [] other = refl
 named_in-other word (row ∷ rows) other = grind (arith, named_in-other word rows, bytes_eq-Decides)
 
--- what one of some words needs room for, they need
-needed_by_words : (words : List (List ℕ)) (k : ℕ) (word : List ℕ) (items : ℕ) → k < length words → get_or words k word ≡ word
-    → IsNeededByWords (word ∷ []) items → IsNeededByWords words items
-needed_by_words words k word items short here need = grind arith
-
 -- a line has the fault of a leg
 pub leg_fault : (words : List (List ℕ)) (k : ℕ) (word : List ℕ) (fault : RowFault) (said : Option LineEvent)
     → k < length words → get_or words k word ≡ word → (leg_of word ≡ None → said ≡ None)
     → ReadsWords (word ∷ []) (leg_of word) (Err fault) → ReadsWords words said (Err fault)
-leg_fault words k word fault said short here none reads = grind (arith, needed_by_words)
+leg_fault words k word fault said short here none reads = grind (arith)

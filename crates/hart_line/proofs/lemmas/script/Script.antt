@@ -60,11 +60,6 @@ AreEvents-more text n m number words events new said stands more before says pus
     let good = good_line number words said says in
     rw (cut, pushed) (AreEvents-push (take n lines) events words said before good.0 good.1)
 
--- a whole text
-pub whole_script : (text : List ℕ) (n : ℕ) (events : List LineEvent) → n ≡ length (parts_of text)
-    → AreEvents (take n (lines_in_words text)) events → IsScript text events
-whole_script text n events all before = grind (arith, common_steps, length-map, take_all)
-
 -- the first bad line
 first_bad : (text : List ℕ) (n number : ℕ) (words : List (List ℕ)) (events : List LineEvent) → StandsAt text n words → number ≡ n + 1
     → AreEvents (take n (lines_in_words text)) events → IsTrue (is_bad_line words) → HasFirstBadLine text number

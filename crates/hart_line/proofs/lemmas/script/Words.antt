@@ -23,17 +23,7 @@ decimal_of-no_text most_digits word no_text =
     let no_digits : all_ascii_digits word ≡ false = false_from_ne_true (all_ascii_digits word)
     (λ digits. no_text (IsUtf8-from_ascii word (IsAscii-from_digits word (digits_tell.to word digits)))) in grind (arith, common_steps)
 
--- what reads just the digits of a word reads its number in decimal
-decimal_of-ok : {E : Type 0} (most_digits : ℕ) (word : List ℕ) (read : Result ℕ E) → length word ≤ most_digits
-    → OkIff read ((all_ascii_digits word ≡ true) × (0 < length word) × (digits_value 10 word < 2 ^ 8)) (digits_value 10 word)
-    → result_ok read ≡ decimal_of most_digits 255 word
-decimal_of-ok most_digits word read short is = grind (arith, nat_tests)
-
--- a word that begins with no plus sign has none as its first byte
-no_plus : (word : List ℕ) → starts_with nat_eq word (43 ∷ []) ≡ false → get_or word 0 0 ≡ 43 → ⊥
-no_plus word none plus = grind arith
-
 -- what `parse` reads of a word without a sign is its number in decimal
 pub decimal_of-parsed : {E : Type 0} (most_digits : ℕ) (word : List ℕ) (read : Result ℕ E) → ParsesUnsigned 8 10 word read
     → length word ≤ most_digits → starts_with nat_eq word (43 ∷ []) ≡ false → result_ok read ≡ decimal_of most_digits 255 word
-decimal_of-parsed most_digits word read parses short plain = grind (arith, common_steps, decimal_of-ok, parse_plain, digits_tell, no_plus)
+decimal_of-parsed most_digits word read parses short plain = grind (arith, common_steps, nat_tests, parse_plain, digits_tell)

@@ -12,6 +12,13 @@ use Rattle.hart_device.specs.Device.{DeviceState}
 use Rattle.hart_device.specs.declared.process.Process.{Process}
 use Rattle.hart_master.specs.Acceptance.{IsReplyTo}
 use Rattle.hart_master.proofs.lemmas.Laws.{communication_faults_are_no_reply-frame}
+use Rattle.hart_values.specs.declared.address.Address.{Address}
+use Rattle.hart_commands.specs.declared.request.Request.{Request}
+use Rattle.hart_master.specs.declared.fault.MasterFault.{MasterFault}
+use Rattle.hart_line.specs.world.Step.{submitted}
+use Rattle.hart_device.specs.answer.Delivery.{NoMessage}
+use Rattle.std.proofs.Common.{refl}
+use Rattle.hart_line.specs.declared.event.LineEvent.TheVariants.{Submit}
 use Rattle.hart_line.specs.world.Damage.{Arrives}
 use Rattle.hart_line.specs.world.Promises.{AnswersLastSending, AnswersLastSendingFrom, IsStepOf, submissions_of}
 use Rattle.hart_line.specs.world.Spoken.{frame_of, spoken_by}
@@ -24,9 +31,9 @@ use Rattle.hart_line.specs.declared.event.LineEvent.TheVariants.{Turn}
 use Rattle.hart_line.specs.declared.line.report.Outcome.{Outcome}
 use Rattle.hart_line.specs.declared.line.report.Outcome.TheVariants.{Answered}
 use Rattle.hart_line.specs.declared.line.report.Party.{Party}
-use Rattle.hart_line.proofs.lemmas.world.Arrival.{arrives_cases, frame_in}
+use Rattle.hart_line.proofs.lemmas.world.Arrival.{frame_in}
 use Rattle.hart_line.proofs.lemmas.world.Basics.{of_master-same, slice_get-cases, some_one}
-use Rattle.hart_line.proofs.lemmas.world.Steps.{IsSending, by_cases, to_last}
+use Rattle.hart_line.proofs.lemmas.world.Steps.{IsSending, to_last, turn_cases}
 use Rattle.hart_line.proofs.lemmas.world.Submitted.{held_in}
 use Rattle.hart_line.proofs.lemmas.world.Valid.{device_replied}
 
@@ -36,95 +43,72 @@ slice_set-cases : {A : Type 0} (xs : List A) (k : ℕ) (y : A) (n : ℕ) (x : A)
 slice_set-cases [] k y n x is = inl is
 slice_set-cases (z ∷ xs) k y n x is = grind (arith, slice_set-cases xs)
 
--- A reply that is the outcome was accepted.
-outcome_answered : (retries s : ℕ) (accepted : Option Reply) (reply : Reply) (sendings : ℕ)
-    → outcome_of retries s accepted ≡ Answered reply sendings → (accepted ≡ Some reply) × (sendings ≡ s)
-outcome_answered retries s accepted reply sendings is = grind arith
-
--- What was accepted came back, and is a reply.
-pub record CameBack (who : MasterId) (held : InHand) (returned : Option FrameParts) (reply : Reply) : Type 0 where
+-- A reply that is the outcome of a turn was accepted in it: it came back, and is the device's answer to what was sent.
+pub record AnswersSent (state : DeviceState) (process : Process) (who : MasterId) (held : InHand) (brought : Brought)
+    (returned : Option FrameParts) (reply : Reply) (sendings : ℕ) : Type 0 where
+  pub arrived_is : brought ≡ OneFrame (spoken_request who held).frame
   pub frame : FrameParts
+  pub answered : answer_of state process (spoken_request who held).frame ≡ Some frame
   pub came : returned ≡ Some frame
   pub is_reply : IsReplyTo who held.address held.request frame reply
+  pub sent : sendings ≡ held.sendings + 1
 
-came_back : (who : MasterId) (held : InHand) (returned : Option FrameParts) (reply : Reply)
-    → Accepts who (Some held) returned (Some reply) → CameBack who held returned reply
-came_back who held returned reply accepts = grind arith
-
--- A frame that came back is the answer to what was sent.
-frame_of-by : (party : Party) (preambles : ℕ) (frame : Option FrameParts) → frame_of (spoken_by party preambles frame) ≡ frame
-frame_of-by party preambles frame = grind arith
-
-pub record AnswersSent (state : DeviceState) (process : Process) (sent : FrameParts) (brought : Brought) (frame : FrameParts)
-    : Type 0 where
-  pub arrived_is : brought ≡ OneFrame sent
-  pub answered : answer_of state process sent ≡ Some frame
-
-answers_sent : (state : DeviceState) (process : Process) (sent : FrameParts) (brought : Brought) (frame : FrameParts)
-    → (frame_in brought ≡ None) ⊎ (frame_in brought ≡ Some sent) → answer_to state process brought ≡ Some frame
-    → (who : MasterId) (held : InHand) (reply : Reply) → IsReplyTo who held.address held.request frame reply
-    → AnswersSent state process sent brought frame
-answers_sent state process sent (Garbled request) frame known answered who held reply is_reply =
+answers_sent : (state : DeviceState) (process : Process) (who : MasterId) (held : InHand) (brought : Brought)
+    (returned : Option FrameParts) (accepted : Option Reply) (retries : ℕ) (reply : Reply) (sendings : ℕ)
+    → (frame_in brought ≡ None) ⊎ (frame_in brought ≡ Some (spoken_request who held).frame)
+    → (returned ≡ None) ⊎ (returned ≡ answer_to state process brought) → Accepts who (Some held) returned accepted
+    → outcome_of retries (held.sendings + 1) accepted ≡ Answered reply sendings
+    → AnswersSent state process who held brought returned reply sendings
+answers_sent state process who held brought None accepted retries reply sendings known back accepts is = grind arith
+answers_sent state process who held brought returned None retries reply sendings known back accepts is = grind arith
+answers_sent state process who held (Garbled request) (Some frame) (Some accepted) retries reply sendings known back accepts is =
     grind (arith, common_steps, slice_index, communication_faults_are_no_reply-frame, some_one)
-answers_sent state process sent brought frame known answered who held reply is_reply = grind arith
+answers_sent state process who held brought (Some frame) (Some accepted) retries reply sendings known back accepts is = grind arith
 
-returned_answers : (start : Start) (world : World) (down : Heard) (sent : FrameParts) (brought : Brought)
-    (returned : Option FrameParts) (frame : FrameParts)
-    → (frame_in brought ≡ None) ⊎ (frame_in brought ≡ Some sent) → Arrives down (sent_back start world brought) returned
-    → returned ≡ Some frame
-    → (who : MasterId) (held : InHand) (reply : Reply) → IsReplyTo who held.address held.request frame reply
-    → AnswersSent (state_of start.device world) start.process sent brought frame
-returned_answers start world down sent brought returned frame known back came who held reply is_reply =
-    elim (arrives_cases down (sent_back start world brought) returned back) [
-      | inl none ↦ absurd (cc (none, came))
-      | inr is ↦ answers_sent (state_of start.device world) start.process sent brought frame known
-          (sym (is ∙ frame_of-by _ _ (answer_to (state_of start.device world) start.process brought)) ∙ came) who held reply is_reply
-    ]
+came_back : (party : Party) (preambles : ℕ) (down : Heard) (answer returned : Option FrameParts)
+    → Arrives down (spoken_by party preambles answer) returned → (returned ≡ None) ⊎ (returned ≡ answer)
+came_back party preambles down answer returned back = grind arith
 
 sending_answered : (start : Start) (events : List LineEvent) (world next : World) (who : MasterId) (up down : Heard)
-    (turn : IsTurn start world who up down next) → IsSending start world who up down next turn
-    → IsStepOf start (first_world start) events world (Turn who up down) next
+    (here : IsStepOf start (first_world start) events world (Turn who up down) next) → IsSending start world who up down next here.step
     → (number : ℕ) (reply : Reply) (sendings : ℕ) → slice_get next.outcomes number ≡ Some (Answered reply sendings)
     → (slice_get world.outcomes number ≡ Some (Answered reply sendings))
     ⊎ AnswersLastSendingFrom start (first_world start) events number reply sendings
-sending_answered start events world next who up down turn s here number reply sendings is =
-    let held = s.held in
-    elim (slice_set-cases world.outcomes held.submission _ number _ (rw s.next_is at is)) [
+sending_answered start events world next who up down here s number reply sendings is =
+    elim (slice_set-cases world.outcomes s.held.submission _ number _ (rw s.next_is at is)) [
       | inl old ↦ inl old
       | inr new ↦ (
-          let outcome = outcome_answered _ (held.sendings + 1) turn.accepted reply sendings new.1 in
-          let state = state_of start.device world in
-          let back = came_back who held turn.returned reply (rw outcome.0 at s.accepts) in
-          let sent = returned_answers start world down (spoken_request who held).frame turn.brought turn.returned back.frame
-          s.known turn.returns back.came who held reply back.is_reply in
+          let back = came_back _ _ down _ _ here.step.returns in
+          let sent = answers_sent (state_of start.device world) start.process who s.held here.step.brought here.step.returned
+          here.step.accepted _ reply sendings s.known back s.accepts new.1 in
           inr (record {
             before = world;
             next = next;
             who = who;
             up = up;
             down = down;
-            turn = record { prefix = here.prefix; suffix = here.suffix; split = here.split; led = here.led; step = turn };
-            held = held;
+            turn = here;
+            held = s.held;
             in_hand = s.in_hand;
             of_submission = sym new.0;
-            sent = outcome.1;
+            sent = sent.sent;
             brought = sent.arrived_is;
-            answer = back.frame;
+            answer = sent.frame;
             answered = sent.answered;
-            returned = back.came;
-            is_reply = back.is_reply;
+            returned = sent.came;
+            is_reply = sent.is_reply;
             executions = grind (arith, common_steps);
             reached = is;
-            left = rw s.next_is (of_master-same who _ world.hands ∙ ap (hand_left held) new.1);
+            left = rw s.next_is (of_master-same who _ world.hands ∙ ap (hand_left s.held) new.1);
           }))
     ]
 
 -- A submission answers nothing.
-not_answered : (outcomes : List Outcome) (outcome : Outcome) (number : ℕ) (reply : Reply) (sendings : ℕ)
-    → (outcome ≡ Answered reply sendings → ⊥)
-    → slice_get (outcomes ++ outcome ∷ []) number ≡ Some (Answered reply sendings)
-    → slice_get outcomes number ≡ Some (Answered reply sendings)
-not_answered outcomes outcome number reply sendings none is = grind (arith, slice_get-cases)
+not_answered : (world : World) (who : MasterId) (address : Address) (request : Request) (fault : Option MasterFault) (number : ℕ)
+    (reply : Reply) (sendings : ℕ)
+    → slice_get (submitted world who address request fault).outcomes number ≡ Some (Answered reply sendings)
+    → slice_get world.outcomes number ≡ Some (Answered reply sendings)
+not_answered world who address request fault number reply sendings is = grind (arith, slice_get-cases)
 
 -- The request that was answered is the one that was submitted.
 as_submitted : (start : Start) (events : List LineEvent) (number : ℕ) (reply : Reply) (sendings : ℕ)
@@ -149,16 +133,13 @@ answered_last start events last run number reply sendings is = as_submitted star
 
     step_known : (before next : World) (event : LineEvent) (here : IsStepOf start (first_world start) events before event next)
         → Known before (event ∷ here.suffix) → Known next here.suffix
-    step_known before next event here known = by_cases start before
-        (λ event next. IsStepOf start (first_world start) events before event next
-        → slice_get next.outcomes number ≡ Some (Answered reply sendings)
-        → AnswersLastSendingFrom start (first_world start) events number reply sendings) (record {
-          submits = λ who address request here is. known (not_answered before.outcomes _ number reply sendings (λ same. cc) is);
-          refuses = λ who address request fault here is. known (not_answered before.outcomes _ number reply sendings (λ same. cc) is);
-          sends = λ who up down next turn s here is.
-              elim (sending_answered start events before next who up down turn s here number reply sendings is) [
-                | inl old ↦ known old
-                | inr answered ↦ answered
-              ];
-          others = λ event protected cold_start spoken same here is. known is;
-        }) event next here.step here
+    step_known before next (Submit who address request) here known is =
+        known (not_answered before who address request _ number reply sendings (rw here.step at is))
+    step_known before next (Turn who up down) here known is = elim (turn_cases start before who up down next here.step) [
+      | inl s ↦ elim (sending_answered start events before next who up down here s number reply sendings is) [
+        | inl old ↦ known old
+        | inr answered ↦ answered
+      ]
+      | inr silent ↦ known (rw silent.next_is at is)
+    ]
+    step_known before next event here known is = grind (arith, common_steps)

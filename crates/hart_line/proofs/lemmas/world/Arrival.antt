@@ -12,11 +12,6 @@ use Rattle.hart_line.specs.world.Spoken.{AreSpoken, IsSpoken, SpokenFrame, Speak
 use Rattle.hart_line.specs.declared.event.Heard.{Heard}
 use Rattle.hart_line.specs.declared.line.report.Spoken.{Spoken}
 
--- What arrives is nothing, or what was sent.
-pub arrives_cases : (heard : Heard) (sent : Option SpokenFrame) (arrived : Option FrameParts) → Arrives heard sent arrived
-    → (arrived ≡ None) ⊎ (arrived ≡ frame_of sent)
-arrives_cases heard sent arrived a = grind arith
-
 -- A frame that is brought to the device is the one that was sent.
 abbrev pub frame_in : Brought → Option FrameParts
 frame_in (OneFrame frame) = Some frame
@@ -32,12 +27,9 @@ pub none_reaches : (identity : IdentityParts) (heard : Heard) (brought : Brought
     → frame_in brought ≡ None
 none_reaches identity heard brought r = grind (arith, reaches_cases)
 
--- What is no frame has no effect, and leaves the device as it was.
+-- What is no frame has no effect.
 pub no_effect : (state : DeviceState) (brought : Brought) → frame_in brought ≡ None → effect_on state brought ≡ Nothing
 no_effect state brought none = grind arith
-
-pub left_alone : (state : DeviceState) (brought : Brought) → frame_in brought ≡ None → state_after_delivery state brought ≡ state
-left_alone state brought none = grind arith
 
 -- Messages are spoken one after another.
 AreSpoken-push : (frames : List SpokenFrame) (said : SpokenFrame) (list : List Spoken) (spoken : Spoken)

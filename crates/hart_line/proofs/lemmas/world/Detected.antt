@@ -60,15 +60,12 @@ heard_detected (Chars chars) (Some said) long (inl marked) u =
 heard_detected (Chars chars) (Some said) long (inr check) u =
     not_undetected chars [] None u u.are_heard (damaged_messages_have_no_other_frame-check said.frame said.preambles chars check) refl
 
-frame_long : (party : Party) (preambles : ℕ) (frame : Option FrameParts) → 5 ≤ preambles → IsLong (spoken_by party preambles frame)
-frame_long party preambles frame enough = grind arith
-
 leg_detected : (start : Start) (world : World) (event : LineEvent) (leg : Leg)
     → 5 ≤ start.device.identity.response_preambles → HasDetectable start world event leg → HasUndetected start world event leg → ⊥
 leg_detected start world (Turn who up down) legs.Up enough d u = heard_detected up _ (grind arith) d u
 leg_detected start world (Turn who up down) legs.Down enough d u =
     let same = Reaches-one start.device.identity up (sent_by who (of_master who world.hands)) d.0 u.0 d.1 u.1 in
-    grind (arith, common_steps, heard_detected, frame_long)
+    grind (arith, common_steps, heard_detected)
 leg_detected start world event leg enough d u = d
 
 pub fault_not_detectable : (start : Start) (events : List LineEvent) (fault : LineFault)

@@ -19,9 +19,6 @@ is_changed-more : (initially : Bool) (mark : Option ℕ) (count : ℕ) → ((m :
     → true ≡ is_changed initially mark (count + 1)
 is_changed-more initially mark count within = grind (arith, nat_tests)
 
-is_changed-now : (initially : Bool) (count : ℕ) → false ≡ is_changed initially (Some count) count
-is_changed-now initially count = grind (arith, nat_tests)
-
 counted : (counter count : ℕ) → ((counter + count) % 65536 + 1) % 65536 ≡ (counter + (count + 1)) % 65536
 counted counter count = mod-add-mod (counter + count) 65536 1 ∙ ap (λ n. n % 65536) (omega arith)
 
@@ -53,7 +50,7 @@ state-after initial world next id number (Executes overwrite) within executions 
     (rw more (is_changed-more initial.changed.secondary world.marks.secondary (length world.executions) (within Secondary)))
     refl refl)
 state-after initial world next id number Resets within executions marks protected =
-    grind (arith, same_state, is_changed-now)
+    grind (arith, same_state, nat_tests)
 
 -- THE FIRST WORLD
 -- The device stands for the world before a script.

@@ -60,11 +60,7 @@ submits_along submissions world who address request later a = record {
   ];
 }
 
--- What stays in hand after a turn is unfinished, and is the same but for its sendings.
-left_unfinished : (held left : InHand) (outcome : Outcome) → hand_left held outcome ≡ Some left
-    → (outcome ≡ Unfinished left.sendings) × (record held { sendings = left.sendings } ≡ left)
-left_unfinished held left outcome is = grind arith
-
+-- What stays in hand after a turn is unfinished, and is the same but for its sendings; every other stays as it was.
 sends_along : (submissions : List Submission) (start : Start) (world : World) (who : MasterId) (held : InHand)
     (brought : Brought) (accepted : Option Reply) (event : LineEvent) (later : List LineEvent) → of_master who world.hands ≡ Some held
     → submissions_of (event ∷ later) ≡ submissions_of later → IsAlong submissions world (event ∷ later)
@@ -74,7 +70,7 @@ sends_along submissions start world who held brought accepted event later in_han
     let own = a.hands who held in_hand in record {
       to_come = rw length-set (a.to_come ∙ same);
       hands = λ id other is. elim (with_master-cases id who (hand_left held outcome) world.hands other is) [
-        | inl (is_own, left) ↦ grind (arith, common_steps, left_unfinished, slice_set, slice_get-set_same)
+        | inl (is_own, left) ↦ grind (arith, common_steps, slice_set, slice_get-set_same)
         | inr (apart, old) ↦ (let there = a.hands id other old in grind (arith, common_steps, slice_get-set_other, some_one))
       ];
     }

@@ -97,15 +97,11 @@ frame_stays state frame number executions (Executes overwrite) is other =
     grind (arith, common_steps, requests_have_their_command, writes_have_overwrites-exactly)
 frame_stays state frame number executions effect is other = refl
 
-arrived_stays : (state : DeviceState) (brought : Brought) (number : ℕ) (executions : List Execution)
-    → (IsUnrefusedWrite state brought → ⊥) → executions_after (effect_on state brought) number executions ≡ executions
-arrived_stays state brought number executions other = grind (arith, frame_stays)
-
 pub step_stays : (start : Start) (before : World) (event : LineEvent) (next : World) (step : Step start before event next)
     → (IsUnrefusedWrite (state_of start.device before) (brought_in_step start before event next step) → ⊥)
     → next.executions ≡ before.executions
 step_stays start before (Turn who up down) next step other = elim (turn_cases start before who up down next step) [
-  | inl s ↦ grind (arith, common_steps, arrived_stays)
+  | inl s ↦ grind (arith, common_steps, frame_stays)
   | inr silent ↦ ap (λ (w : World). w.executions) silent.next_is
 ]
 step_stays start before event next step other = grind arith

@@ -1,3 +1,5 @@
+use Rattle.std.proofs.lemmas.List.{take_all}
+use Rattle.std.proofs.lemmas.List.{length-map}
 use Rattle.std.proofs.lemmas.Grind.{common_steps}
 use Rattle.std.proofs.Common.{ℕ, ◌+◌, length, None, Some, ap, arith, sym, rules, tests}
 use Rattle.std.specs.Bool.{◌==◌}
@@ -5,7 +7,7 @@ use Rattle.std.proofs.lemmas.Iterator.Consumers.{YieldsList-at, YieldsList-end, 
 use Rattle.std.proofs.lemmas.Iterator.Splits.{YieldsList-from_slice_split}
 use Rattle.std.proofs.lemmas.List.{append-nil, length_push}
 use Rattle.std.proofs.lemmas.Result.{err_from_is_err_and}
-use Rattle.hart_line.proofs.lemmas.script.Script.{AreEvents-more, line_fault, stands_at, whole_script}
+use Rattle.hart_line.proofs.lemmas.script.Script.{AreEvents-more, line_fault, stands_at}
 use Rattle.hart_line.proofs.script.read_script.Goals as goal
 
 pub returns-in_err-event-clause-fault : goal.returns-in_err-event-clause-fault
@@ -52,4 +54,5 @@ returns-clause-events c =
     let all = YieldsList-end (YieldsList-at c.into_iter-part-iterator.ensures.into_iter_gives
     (YieldsList-from_slice_split _ (λ (byte : ℕ). byte == 10) c.args.text.now c.split-part-items.ensures.rest
     c.split-part-items.ensures.done c.split-part-items.ensures.closure (λ x b q k. search (rules, tests))))
-    c.loop-part.yielded _ c.loop-part.yielded_by _ _ c.in-None.is c.next.ensures.steps in grind (arith, common_steps, whole_script)
+    c.loop-part.yielded _ c.loop-part.yielded_by _ _ c.in-None.is c.next.ensures.steps in grind (arith, common_steps, length-map,
+        take_all)

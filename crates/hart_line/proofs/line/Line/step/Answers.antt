@@ -1,12 +1,11 @@
 use Rattle.std.proofs.Common.{arith}
 use Rattle.std.proofs.lemmas.Grind.{common_steps}
-use Rattle.hart_line.proofs.lemmas.line.Event.{protected_stands, restarted_stands}
 use Rattle.hart_line.proofs.line.Line.step.Goals as goal
 
 pub returns-in-Protect-clause-stepped : goal.returns-in-Protect-clause-stepped
 returns-in-Protect-clause-stepped g c = λ start world process within stands. rw c.in-Protect.is (
-    grind (arith, common_steps, protected_stands))
+    grind (arith, common_steps))
 
 pub returns-in-Restart-clause-stepped : goal.returns-in-Restart-clause-stepped
 returns-in-Restart-clause-stepped g c = λ start world process within stands. rw c.in-Restart.is (
-    grind (arith, common_steps, restarted_stands))
+    grind (arith, common_steps))

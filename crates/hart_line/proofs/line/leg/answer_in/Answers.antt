@@ -1,6 +1,6 @@
 use Rattle.std.proofs.Common.{arith}
 use Rattle.hart_device.specs.answer.Delivery.{OneFrame}
-use Rattle.hart_line.proofs.lemmas.line.Leg.{clean_reaches, nothing_reaches, silence_reaches}
+use Rattle.hart_line.proofs.lemmas.line.Leg.{clean_reaches, nothing_reaches}
 use Rattle.hart_line.proofs.line.leg.answer_in.Goals as goal
 
 pub returns-in-Some-clause-answers : goal.returns-in-Some-clause-answers
@@ -12,7 +12,7 @@ returns-in-Some-clause-answers g c = λ said is. rw c.in-Clean.is (record {
 })
 
 pub returns-in-None-clause-answers : goal.returns-in-None-clause-answers
-returns-in-None-clause-answers g c = grind (arith, silence_reaches)
+returns-in-None-clause-answers g c = grind (arith, nothing_reaches)
 
 pub returns-in-Lost-clause-answers : goal.returns-in-Lost-clause-answers
 returns-in-Lost-clause-answers g c = grind (arith, nothing_reaches)

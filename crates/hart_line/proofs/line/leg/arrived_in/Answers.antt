@@ -1,9 +1,10 @@
+use Rattle.hart_line.proofs.lemmas.line.Leg.{message_arrives}
 use Rattle.std.proofs.Common.{arith}
-use Rattle.hart_line.proofs.lemmas.line.Leg.{clean_arrives, nothing_arrives}
+use Rattle.hart_line.proofs.lemmas.line.Leg.{nothing_arrives}
 use Rattle.hart_line.proofs.line.leg.arrived_in.Goals as goal
 
 pub returns-in-Clean-clause-arrives : goal.returns-in-Clean-clause-arrives
-returns-in-Clean-clause-arrives c = grind (arith, clean_arrives)
+returns-in-Clean-clause-arrives c = grind (arith, message_arrives, nothing_arrives)
 
 pub returns-in-Lost-clause-arrives : goal.returns-in-Lost-clause-arrives
 returns-in-Lost-clause-arrives c = grind (arith, nothing_arrives)
