@@ -1,5 +1,5 @@
 -- How far a script has come.
-use Rattle.std.proofs.Common.{arith}
+use Rattle.std.proofs.Common.{◌∷◌, arith}
 use Rattle.std.proofs.lemmas.Grind.{common_steps}
 use Rattle.std.proofs.Common.{◌≡◌, ℕ, ◌+◌, ◌≤◌, ◌<◌, sym, refl, subst, List, [], length, take, get_or}
 use Rattle.std.proofs.lemmas.List.{take_all, take_more}
@@ -13,6 +13,9 @@ use Rattle.hart_line.specs.world.Faults.{HasUndetected, IsFault}
 use Rattle.hart_line.specs.line.Line.{LineState, Stands, Stepped}
 use Rattle.hart_line.specs.world.Promises.{start_from}
 use Rattle.hart_line.specs.world.Step.{IsLast}
+use Rattle.hart_line.specs.world.Promises.{AreWellMade}
+use Rattle.std.proofs.Common.{rules}
+use Rattle.hart_line.proofs.lemmas.world.Submitted.{made_more}
 use Rattle.hart_line.specs.world.World.{MarksWithin, Start, World, first_world, state_of}
 use Rattle.hart_line.specs.declared.event.LineEvent.{LineEvent}
 use Rattle.hart_line.specs.declared.line.report.Outcome.{Outcome}
@@ -23,34 +26,30 @@ use Rattle.hart_line.proofs.lemmas.world.Leads.{leads_one}
 use Rattle.hart_line.proofs.lemmas.world.Steps.{leads_more}
 use Rattle.hart_line.proofs.lemmas.world.Marks.{first_marks, step_marks}
 
--- The line stands for a world that the events lead to.
+-- The line stands for a world that the events, which are well made, lead to.
 pub record IsReached (start : Start) (events : List LineEvent) (line : LineState) : Type 0 where
   pub world : World
   pub is_last : IsLast start events world
   pub stands : Stands start world line
   pub marks : MarksWithin world
+  pub well_made : AreWellMade events
 
 pub reached_more : (start : Start) (events : List LineEvent) (n : ℕ) (unused : LineEvent) (line line' : LineState) → n < length events
     → (r : IsReached start (take n events) line) → Stepped start r.world (get_or events n unused) line'
-    → IsReached start (take (n + 1) events) line'
-reached_more start events n unused line line' here r s =
+    → AreWellMade (get_or events n unused ∷ []) → IsReached start (take (n + 1) events) line'
+reached_more start events n unused line line' here r s made =
     record {
       world = s.next;
       is_last = grind (arith, common_steps, take_more, leads_more);
       stands = s.stands;
       marks = step_marks start r.world (get_or events n unused) s.next s.step r.marks;
+      well_made = made_more events n unused here r.well_made made;
     }
 
 -- After the last event the whole script was carried out.
 pub reached_whole : (start : Start) (events : List LineEvent) (n : ℕ) (line : LineState) → length events ≤ n
     → IsReached start (take n events) line → IsReached start events line
 reached_whole start events n line all r = subst (λ es. IsReached start es line) (take_all n events all) r
-
--- So it is for what is reported of the line.
-pub reached_report : {start : Start} {events : List LineEvent} {line : LineState} (device : DeviceState) (outcomes : List Outcome)
-    (spoken : List Spoken) → device ≡ line.device → outcomes ≡ line.outcomes → spoken ≡ line.spoken → IsReached start events line
-    → IsReached start events (record line { device = device; outcomes = outcomes; spoken = spoken })
-reached_report device outcomes spoken one two three r = rw (one, two, three) r
 
 pub reached_first : (device : DeviceState) (process : Process) (primary secondary : MasterState) (outcomes_room spoken_room : ℕ)
     → state_of device (first_world (start_from device process primary secondary)) ≡ device
@@ -81,6 +80,7 @@ reached_first device process primary secondary outcomes_room spoken_room first o
     preambles_are = refl;
   };
   marks = first_marks (start_from device process primary secondary);
+  well_made = search rules;
 }
 
 -- The event at which a script stops.

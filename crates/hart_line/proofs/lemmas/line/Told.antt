@@ -50,7 +50,7 @@ step_on start world next (Protect on) is = rw (is, append-nil world.spoken) refl
 step_on start world next (Noise chars) noise = grind (arith, common_steps)
 step_on start world next Restart is = rw (is, append-nil world.spoken) refl
 
-undetected_on : (start : Start) (world : World) (event : LineEvent) (leg : Leg) → HasUndetected start (with_spoken [] world) event leg
+pub undetected_on : (start : Start) (world : World) (event : LineEvent) (leg : Leg) → HasUndetected start (with_spoken [] world) event leg
     → HasUndetected start world event leg
 undetected_on start world event leg undetected = grind arith
 
@@ -62,54 +62,18 @@ AreSpoken-append [] more (spoken ∷ list) others are next = absurd are
 AreSpoken-append (said ∷ frames) more [] others are next = absurd are
 AreSpoken-append (said ∷ frames) more (spoken ∷ list) others are next = (are.0, AreSpoken-append frames more list others are.1 next)
 
--- HOW FAR A SCRIPT HAS COME
--- The events lead to a world; the line stands for it but for what was spoken in it, and that was noted.
-pub record IsTold (start : Start) (events : List LineEvent) (line : LineState) (HasNoted : List Spoken → Type 0) : Type 0 where
-  pub world : World
-  pub is_last : IsLast start events world
-  pub stands : Stands start (with_spoken [] world) line
-  pub marks : MarksWithin world
-  pub spoken : List Spoken
-  pub are_spoken : AreSpoken world.spoken spoken
-  pub noted : HasNoted spoken
+-- A LINE THAT WAS NOTED
+-- A line that keeps nothing of what was noted stands for the world without what was spoken.
+pub noted_stands : (start : Start) (world : World) (line : LineState) (noted : List Spoken) → line.spoken ≡ []
+    → Stands start world (record line { spoken = noted }) → Stands start (with_spoken [] world) line
+noted_stands start world line noted nothing s = grind (arith, common_steps)
 
--- Before a script nothing was spoken, and nothing noted.
-pub told_first : (start : Start) (line : LineState) (HasNoted : List Spoken → Type 0) → line.spoken ≡ [] → IsReached start [] line
-    → HasNoted [] → IsTold start [] line HasNoted
-told_first start line HasNoted nothing r fresh = grind (arith, common_steps)
-
--- One event more, of which what was spoken is noted too.
-pub told_more : (start : Start) (events : List LineEvent) (n : ℕ) (unused : LineEvent) (line stepped : LineState)
-    (Old New : List Spoken → Type 0) → n < length events → (t : IsTold start (take n events) line Old)
-    → Stepped start (with_spoken [] t.world) (get_or events n unused) stepped
-    → ((spoken : List Spoken) → Old spoken → New (spoken ++ stepped.spoken))
-    → IsTold start (take (n + 1) events) (record stepped { spoken = [] }) New
-told_more start events n unused line stepped Old New here t s noted =
-    let next = with_spoken (t.world.spoken ++ s.next.spoken) s.next in
-    let step = step_on start t.world s.next (get_or events n unused) s.step in
-    record {
-      world = next;
-      is_last = grind (arith, common_steps, take_more, leads_more);
-      stands = grind (arith, common_steps);
-      marks = step_marks start t.world (get_or events n unused) next step t.marks;
-      spoken = t.spoken ++ stepped.spoken;
-      are_spoken = AreSpoken-append t.world.spoken s.next.spoken t.spoken stepped.spoken t.are_spoken s.stands.spoken_are;
-      noted = noted t.spoken t.noted;
-    }
-
--- The event at which a script stops.
-pub told_fault : (start : Start) (events : List LineEvent) (n : ℕ) (unused : LineEvent) (world : World) (leg : Leg) → n < length events
-    → IsLast start (take n events) world → HasUndetected start (with_spoken [] world) (get_or events n unused) leg
-    → IsFault start events (Undetected n leg)
-told_fault start events n unused world leg here last undetected =
-    fault_at start events n unused world leg here last (undetected_on start world (get_or events n unused) leg undetected)
-
--- After the last event the whole script was carried out.
-pub told_whole : (start : Start) (events : List LineEvent) (n : ℕ) (line : LineState) (HasNoted : List Spoken → Type 0)
-    → length events ≤ n → IsTold start (take n events) line HasNoted → IsTold start events line HasNoted
-told_whole start events n line HasNoted all t = subst (λ es. IsTold start es line HasNoted) (take_all n events all) t
-
--- What holds of the world that a script led to holds of each last world.
-pub told_last : (P : World → Type 0) {start : Start} {events : List LineEvent} {line : LineState} {HasNoted : List Spoken → Type 0}
-    → (t : IsTold start events line HasNoted) → P t.world → (world : World) → IsLast start events world → P world
-told_last P {start = start} {events = events} t holds world last = grind (arith, common_steps, leads_one)
+-- Where that leads to a next world by an event, so does the world, and the line stands for it with what was noted before.
+pub stepped_on : (start : Start) (world : World) (event : LineEvent) (line : LineState) (noted : List Spoken)
+    → AreSpoken world.spoken noted → Stepped start (with_spoken [] world) event line
+    → Stepped start world event (record line { spoken = noted ++ line.spoken })
+stepped_on start world event line noted are s = record {
+  next = with_spoken (world.spoken ++ s.next.spoken) s.next;
+  step = step_on start world s.next event s.step;
+  stands = grind (arith, common_steps, AreSpoken-append);
+}

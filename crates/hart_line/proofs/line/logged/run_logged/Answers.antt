@@ -2,9 +2,9 @@ use Rattle.std.proofs.Common.{◌∙◌, [], ap, arith, refl, rules, subst}
 use Rattle.std.proofs.lemmas.List.{take_all}
 use Rattle.hart_device.specs.Device.{DeviceState}
 use Rattle.hart_line.specs.world.Promises.{AreWellMade, start_from}
-use Rattle.hart_line.proofs.lemmas.line.Reached.{reached_first}
+use Rattle.hart_line.proofs.lemmas.line.Reached.{fault_at, of_last, reached_first, reached_more, reached_whole}
 use Rattle.hart_line.proofs.lemmas.line.Room.{room_for_each, room_for_next}
-use Rattle.hart_line.proofs.lemmas.line.Told.{told_fault, told_first, told_last, told_more, told_whole, with_spoken}
+use Rattle.hart_line.proofs.lemmas.line.Told.{noted_stands, stepped_on, undetected_on, with_spoken}
 use Rattle.hart_line.proofs.lemmas.Laws.{scripts_keep_their_promises-first_world, scripts_keep_their_promises-kept}
 use Rattle.hart_line.proofs.lemmas.world.Submitted.{made_more}
 use Rattle.hart_line.proofs.line.logged.run_logged.Goals as goal
@@ -14,9 +14,8 @@ loop-index-init g c =
     let start = start_from c.args.device c.args.process.now c.args.primary c.args.secondary in
     let first = scripts_keep_their_promises-first_world start c.new-line.ensures.device.counter in
     rw (c.new-line.ensures.line, c.in_ok-room.ensures.outcomes, c.in_ok-room.ensures.spoken) (record {
-      told = told_first start _ _ refl (reached_first c.args.device c.args.process.now c.args.primary c.args.secondary _ _
-          first c.requires.primary c.requires.secondary) c.requires.fresh;
-      well_made = search rules;
+      told = ([], c.requires.fresh, reached_first c.args.device c.args.process.now c.args.primary c.args.secondary _ _ first
+          c.requires.primary c.requires.secondary);
       room = record { outcomes = omega arith; nothing_spoken = refl; spoken = omega arith };
     })
 
@@ -29,10 +28,11 @@ step-requires g c = record {
 pub returns-in-Err-clause-fault : goal.returns-in-Err-clause-fault
 returns-in-Err-clause-fault g c =
     let start = start_from c.args.device c.args.process.now c.args.primary c.args.secondary in
-    let told = c.loop-index.invariant.told in
-    rw (c.from.ensures, c.at.ensures) (told_fault start c.args.events.now c.loop-index.index _ told.world c.in-Err.damage.leg
-    c.loop-index-test.true told.is_last
-    (rw c.index-events-index.is at (c.in-Err.ensures.stopped start (with_spoken [] told.world) refl told.stands)))
+    let (noted, has, reached) = c.loop-index.invariant.told in
+    let stands = noted_stands start reached.world _ noted c.loop-index.invariant.room.nothing_spoken reached.stands in
+    rw (c.from.ensures, c.at.ensures) (fault_at start c.args.events.now c.loop-index.index _ reached.world c.in-Err.damage.leg
+    c.loop-index-test.true reached.is_last (undetected_on start reached.world _ _
+    (rw c.index-events-index.is at (c.in-Err.ensures.stopped start (with_spoken [] reached.world) refl stands))))
 
 pub returns-in-Err-clause-detectable_damage_is_detected : goal.returns-in-Err-clause-detectable_damage_is_detected
 returns-in-Err-clause-detectable_damage_is_detected g c =
@@ -43,13 +43,13 @@ returns-in-Err-clause-detectable_damage_is_detected g c =
 pub loop-index-preserved : goal.loop-index-preserved
 loop-index-preserved g c =
     let start = start_from c.args.device c.args.process.now c.args.primary c.args.secondary in
-    let told = c.loop-index.invariant.told in
-    let events = c.args.events.now in record {
-      told = rw c.tell.ensures.line (told_more start events c.loop-index.index _ _ _ _ _ c.loop-index-test.true told
-          (rw c.index-events-index.is at (c.in_default.ensures.stepped start (with_spoken [] told.world) refl told.marks told.stands))
-          c.tell.ensures.noted);
-      well_made = made_more c.args.events.now c.loop-index.index _ c.loop-index-test.true c.loop-index.invariant.well_made
-          (rw c.index-events-index.is at c.in_default.ensures.well_made);
+    let (noted, has, reached) = c.loop-index.invariant.told in
+    let events = c.args.events.now in
+    let stands = noted_stands start reached.world _ noted c.loop-index.invariant.room.nothing_spoken reached.stands in record {
+      told = rw c.tell.ensures.line (_, c.tell.ensures.noted noted has, reached_more start events c.loop-index.index _ _ _
+          c.loop-index-test.true reached (stepped_on start reached.world _ _ noted reached.stands.spoken_are
+          (rw c.index-events-index.is at (c.in_default.ensures.stepped start (with_spoken [] reached.world) refl reached.marks stands)))
+          (rw c.index-events-index.is at c.in_default.ensures.well_made));
       room = rw c.tell.ensures.line (room_for_each events c.loop-index.index _ _ _ c.loop-index-test.true c.loop-index.invariant.room
           (rw c.index-events-index.is at c.in_default.ensures.room));
     }
@@ -57,15 +57,15 @@ loop-index-preserved g c =
 pub returns : goal.returns
 returns g c =
     let start = start_from c.args.device c.args.process.now c.args.primary c.args.secondary in
-    let told = told_whole start c.args.events.now _ _ _ (omega (arith, c.loop-index-test.false)) c.loop-index.invariant.told in
+    let (noted, has, told) = c.loop-index.invariant.told in
+    let reached = reached_whole start c.args.events.now _ _ (omega (arith, c.loop-index-test.false)) told in
     record {
-      world = (told.world, told.is_last);
-      device = told_last _ told (c.into_ending.ensures.device ∙ told.stands.device_is);
-      outcomes = told_last _ told (c.into_ending.ensures.outcomes ∙ told.stands.outcomes_are);
-      noted = told_last _ told (told.spoken, told.are_spoken, told.noted);
-      identity = ap (λ (d : DeviceState). d.identity) (c.into_ending.ensures.device ∙ told.stands.device_is);
-      well_made = subst AreWellMade (take_all c.loop-index.index c.args.events.now (omega (arith, c.loop-index-test.false)))
-          c.loop-index.invariant.well_made;
+      world = (reached.world, reached.is_last);
+      device = of_last _ reached (c.into_ending.ensures.device ∙ reached.stands.device_is);
+      outcomes = of_last _ reached (c.into_ending.ensures.outcomes ∙ reached.stands.outcomes_are);
+      noted = of_last _ reached (noted, reached.stands.spoken_are, has);
+      identity = ap (λ (d : DeviceState). d.identity) (c.into_ending.ensures.device ∙ reached.stands.device_is);
+      well_made = reached.well_made;
       promises = scripts_keep_their_promises-kept start c.args.events.now;
       fault = tt;
       detectable_damage_is_detected = tt;

@@ -1,8 +1,8 @@
 use Rattle.std.proofs.lemmas.Grind.{common_steps}
-use Rattle.std.proofs.Common.{arith, rules, refl, subst}
+use Rattle.std.proofs.Common.{◌∙◌, arith, rules, refl, subst}
 use Rattle.std.proofs.lemmas.List.{take_all}
 use Rattle.hart_line.specs.world.Promises.{AreWellMade, start_from}
-use Rattle.hart_line.proofs.lemmas.line.Reached.{fault_at, of_last, reached_first, reached_more, reached_report, reached_whole}
+use Rattle.hart_line.proofs.lemmas.line.Reached.{fault_at, of_last, reached_first, reached_more, reached_whole}
 use Rattle.hart_line.proofs.lemmas.line.Room.{room_for_others}
 use Rattle.hart_line.proofs.lemmas.Laws.{scripts_have_one_last_world-no_fault, scripts_have_one_last_world-one_fault}
 use Rattle.hart_line.proofs.lemmas.Laws.{scripts_keep_their_promises-first_world}
@@ -15,7 +15,6 @@ loop-index-init g c =
       reached = rw (c.new-line.ensures.line, c.requires.room.no_outcomes, c.requires.room.nothing_spoken)
           (reached_first c.args.device c.args.process.now c.args.primary c.args.secondary _ _
           (scripts_keep_their_promises-first_world start c.new-line.ensures.device.counter) c.requires.primary c.requires.secondary);
-      well_made = search rules;
       room = grind (arith, common_steps);
     }
 
@@ -32,8 +31,7 @@ loop-index-preserved g c =
     let start = start_from c.args.device c.args.process.now c.args.primary c.args.secondary in
     let reached = c.loop-index.invariant.reached in record {
       reached = reached_more start c.args.events.now c.loop-index.index _ _ _ c.loop-index-test.true reached
-          (rw c.index-events-index.is at (c.in_default.ensures.stepped start reached.world refl reached.marks reached.stands));
-      well_made = made_more c.args.events.now c.loop-index.index _ c.loop-index-test.true c.loop-index.invariant.well_made
+          (rw c.index-events-index.is at (c.in_default.ensures.stepped start reached.world refl reached.marks reached.stands))
           (rw c.index-events-index.is at c.in_default.ensures.well_made);
       room = room_for_others c.args.events.now c.loop-index.index _ _ _ c.loop-index-test.true c.loop-index.invariant.room
           (rw c.index-events-index.is at c.in_default.ensures.room);
@@ -55,16 +53,14 @@ returns g c =
     let start = start_from c.args.device c.args.process.now c.args.primary c.args.secondary in
     let events = c.args.events.now in
     let report = c.into_report.ensures in
-    let reached = reached_report {start = start} {events = events} _ _ _ report.device report.outcomes report.spoken
-    (reached_whole _ _ _ _ (omega (arith, c.loop-index-test.false)) c.loop-index.invariant.reached) in
+    let reached = reached_whole start events _ _ (omega (arith, c.loop-index-test.false)) c.loop-index.invariant.reached in
     record {
       world = (reached.world, reached.is_last);
-      device = of_last _ reached reached.stands.device_is;
-      outcomes = of_last _ reached reached.stands.outcomes_are;
-      spoken = of_last _ reached reached.stands.spoken_are;
+      device = of_last _ reached (report.device ∙ reached.stands.device_is);
+      outcomes = of_last _ reached (report.outcomes ∙ reached.stands.outcomes_are);
+      spoken = of_last _ reached (rw report.spoken reached.stands.spoken_are);
       well_made_device = c.new-line.ensures.device;
-      well_made = subst AreWellMade (take_all c.loop-index.index events (omega (arith, c.loop-index-test.false)))
-          c.loop-index.invariant.well_made;
+      well_made = reached.well_made;
       reported = λ world last. refl;
       stopped = λ event leg fault. absurd (scripts_have_one_last_world-no_fault start events reached.world event leg reached.is_last fault);
       fault = tt;

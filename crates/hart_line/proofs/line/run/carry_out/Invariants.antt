@@ -7,6 +7,5 @@ use Rattle.hart_line.proofs.line.run.carry_out.Given as goal
 abbrev pub invariant-loop-index : goal.invariant-loop-index
 invariant-loop-index g l = record {
   reached : IsReached (start_from l.fn.device l.process l.fn.primary l.fn.secondary) (take l.index l.events) l.line;
-  well_made : AreWellMade (take l.index l.events);
   room : HasRoomFor (drop l.index l.events) l.line;
 }
