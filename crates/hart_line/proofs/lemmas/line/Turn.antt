@@ -8,6 +8,7 @@ use Rattle.hart_frame.specs.wire.FrameParts.{FrameParts}
 use Rattle.hart_values.specs.EachMaster.{of_master, with_master}
 use Rattle.hart_device.specs.Device.{DeviceState, Effect, Nothing, after, after_reply}
 use Rattle.hart_device.specs.answer.Delivery.{Brought, state_after_delivery}
+use Rattle.hart_device.specs.declared.process.Process.{Process}
 use Rattle.hart_line.specs.world.Damage.{Arrives, Reaches}
 use Rattle.hart_frame.specs.wire.Message.{IsPreambleCount}
 use Rattle.hart_line.specs.line.Leg.{AnswersTo, IsSent}
@@ -34,21 +35,21 @@ pub record IsAnswered (start : Start) (world : World) (heard : Heard) (said : Op
   pub spoken_are : AreSpoken (world.spoken ++ (option_to_list said ++ option_to_list (sent_back start world brought))) spoken
 
 pub answered : (start : Start) (world : World) (heard : Heard) (said : Option SpokenFrame) (answer : Option FrameParts)
-    (after : DeviceState) (preambles : ℕ) (old mid new : List Spoken) → AreSpoken world.spoken old → Speaks said old mid
-    → AnswersTo (Reaches start.device.identity heard said) (state_of start.device world) start.process answer after
-    → preambles ≡ start.device.identity.response_preambles → IsPreambleCount preambles
-    → Speaks (spoken_by parties.Device preambles answer) mid new
-    → IsAnswered start world heard said answer after new
-answered start world heard said answer after preambles old mid new are says a preambles_are count replies =
-    let back = said_back start world a.brought answer preambles a.answer_is preambles_are in
+    (process : Process) (line : LineState) (after : DeviceState) (mid new : List Spoken) → Stands start world line
+    → start.process ≡ process → Speaks said line.spoken mid
+    → AnswersTo (Reaches line.device.identity heard said) line.device process answer after → IsPreambleCount line.response_preambles
+    → Speaks (spoken_by parties.Device line.response_preambles answer) mid new → IsAnswered start world heard said answer after new
+answered start world heard said answer process line after mid new s same says given count replies =
+    let a = rw (s.device_is, ← same) at given in
+    let back = said_back start world a.brought answer line.response_preambles a.answer_is s.preambles_are in
     record {
       brought = a.brought;
       arrives = a.is_brought;
       after_is = a.after_is;
-      was_sent = rw back at (speaks_sent parties.Device preambles answer mid new (omega (arith, count.0)) replies);
+      was_sent = rw back at (speaks_sent parties.Device line.response_preambles answer mid new (omega (arith, count.0)) replies);
       spoken_are = rw (← append_assoc world.spoken (option_to_list said) (option_to_list (sent_back start world a.brought)))
           (AreSpoken-more (world.spoken ++ option_to_list said) (sent_back start world a.brought) mid new
-          (AreSpoken-more world.spoken said old mid are says) (rw back at replies));
+          (AreSpoken-more world.spoken said line.spoken mid s.spoken_are says) (rw back at replies));
     }
 
 -- If nothing was said, as in noise, the line stands for the world in which the device has replied to what it was brought.

@@ -9,9 +9,8 @@ use Rattle.hart_line.proofs.line.Line.hear_noise.Goals as goal
 pub returns-clause-stepped : goal.returns-clause-stepped
 returns-clause-stepped g c = λ start world process stands.
     let s = rw (← c.self.view_is) at stands in
-    let among = rw (s.device_is, ← process) at c.in_ok-is_answered.ensures.answers in
-    let a = answered start world (Chars c.args.chars.now) None _ _ _ _ _ _ s.spoken_are refl (
-    grind (arith, common_steps)) s.preambles_are c.self.invariant (rw c.frame_if-answer.ensures at c.speak.ensures.speaks) in
+    let a = answered start world (Chars c.args.chars.now) None _ _ _ _ _ _ s process refl (
+    grind (arith, common_steps)) c.self.invariant (rw c.frame_if-answer.ensures at c.speak.ensures.speaks) in
     let held = c.overhear.ensures start.retries world.hands (c.hear_noise.ensures start.retries world.hands s.masters_are) in
     record {
       next = replied start world a.brought;
