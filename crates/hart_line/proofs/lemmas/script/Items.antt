@@ -50,14 +50,10 @@ valid item test = grind (arith, and_both, fault_bits)
 pub items_of-item : (text : List ℕ) (item : Item) (tail : List ℕ) → BeginsWithItem text item tail
     → items_of text ≡ option_map (λ more. item_meaning item ∷ more) (items_of tail)
 unfolding items_of
-items_of-item text (Plain high low) [] begins = rw (begins.spelled, valid_tested (Plain high low) begins.valid) refl
-items_of-item text (Plain high low) (a ∷ []) begins = rw (begins.spelled, valid_tested (Plain high low) begins.valid) refl
-items_of-item text (Plain high low) (a ∷ b ∷ []) begins = rw (begins.spelled, valid_tested (Plain high low) begins.valid) refl
 items_of-item text (Plain high low) (a ∷ b ∷ c ∷ rest) begins =
     let no_mark : (a == 33) ≡ false = grind (arith, nat_tests, begins.ends) in
     rw (begins.spelled, no_mark, valid_tested (Plain high low) begins.valid) refl
-items_of-item text (Faulty high low fault_high fault_low) tail begins =
-    rw (begins.spelled, valid_tested (Faulty high low fault_high fault_low) begins.valid) refl
+items_of-item text item tail begins = rw (begins.spelled, valid_tested item begins.valid) refl
 
 -- an item that would begin a text in which none does is not valid
 invalid : (text : List ℕ) (item : Item) (tail : List ℕ) (chars : Option (List Character)) → NoItemBegins text
@@ -131,8 +127,6 @@ all_items text chars rest ended reads = grind (arith, append-nil)
 pub begins_as_plain : (text : List ℕ) (char : Character) (byte : ℕ) → 2 ≤ length text → AreDigits (get_or text 0 0) (get_or text 1 0)
     → byte ≡ byte_of (get_or text 0 0) (get_or text 1 0) → (get_or text 2 0 ≡ 33 → ⊥) → char ≡ record { byte = byte; faults = 0 }
     → BeginsAsItem text char 2
-begins_as_plain [] char byte some d b n e = absurd (omega arith)
-begins_as_plain (x ∷ []) char byte some d b n e = absurd (omega arith)
 begins_as_plain (x ∷ y ∷ tail) char byte some d b n e = record {
   item = Plain x y;
   tail = tail;
@@ -140,3 +134,4 @@ begins_as_plain (x ∷ y ∷ tail) char byte some d b n e = record {
   long = refl;
   means = cc;
 }
+begins_as_plain text char byte some d b n e = absurd (omega arith)

@@ -3,7 +3,7 @@ use Rattle.std.proofs.lemmas.Grind.{common_steps}
 use Rattle.std.proofs.Common.{◌≡◌, ◌≢◌, ℕ, ◌≤◌, nat_lt, ap, ◌∙◌, sym, refl, subst, arith, Option, Some, IfSome, Ok, false}
 use Rattle.std.proofs.Common.{List, [], ◌∷◌, ◌++◌, length, append_assoc, append-nil, ◌⊎◌, inl, inr, Bool, if◌then◌else◌}
 use Rattle.std.proofs.lemmas.List.{length-append}
-use Rattle.std.proofs.lemmas.Bool.{ltb-false}
+use Rattle.std.proofs.lemmas.Bool.Decides.{nat_tests}
 use Rattle.hart_values.specs.declared.master_id.MasterId.{MasterId}
 use Rattle.hart_frame.specs.wire.FrameParts.{FrameParts}
 use Rattle.hart_values.specs.EachMaster.{of_master, with_master}
@@ -72,20 +72,13 @@ reset_marks start world who up down next step resets = elim (turn_cases start wo
   | inr silent ↦ (let quiet = no_effect (state_of start.device world) step.brought silent.none in cc)
 ]
 
-changed_of : (initial : DeviceState) (world : World) (who : MasterId) (mark : ℕ) → of_master who world.marks ≡ Some mark
-    → of_master who (state_of initial world).changed ≡ nat_lt mark (length world.executions)
-changed_of initial world who mark is = grind arith
-
-none_more : (old more : List Execution) → length (old ++ more) ≤ length old → old ++ more ≡ old
+none_more : (old more : List Execution) → nat_lt (length old) (length (old ++ more)) ≡ false → old ++ more ≡ old
 none_more old [] same = append-nil old
-none_more old (e ∷ more) same = absurd (omega (arith, length-append old (e ∷ more)))
+none_more old (e ∷ more) same = grind (arith, nat_tests, length-append)
 
-IfSome-along : (given : Option ℕ) (a b : ℕ) → a ≡ b → IfSome given (λ counter. counter ≡ b) → IfSome given (λ counter. a ≡ counter)
-IfSome-along given a b same h = grind arith
-
-given_one : (state : DeviceState) (frame : FrameParts) (given : Option ℕ) → reading_of frame ≡ Ok (ResetChanged given)
-    → effect_of state frame ≡ Resets → IfSome given (λ n. n ≡ state.counter)
-given_one state frame given is resets = grind (arith, resets_name_this_counter-only)
+given_one : (state : DeviceState) (frame : FrameParts) (given : Option ℕ) (counter : ℕ) → reading_of frame ≡ Ok (ResetChanged given)
+    → effect_of state frame ≡ Resets → counter ≡ state.counter → IfSome given (λ n. counter ≡ n)
+given_one state frame given counter is resets same = grind (arith, resets_name_this_counter-only)
 
 -- After a step of a script its last world is one that the events after it lead to.
 after_step : (start : Start) (events : List LineEvent) (last : World) → IsLast start events last → (before next : World) (event : LineEvent)
@@ -108,12 +101,10 @@ unseen start events last run who before given r clear =
     let marked = leads_kept start r.turn.suffix r.next last who after r.last ∙ here.0 in
     let grows = leads_grows start r.turn.suffix r.next last after in
     let since : last.executions ≡ before.executions ++ grows.more = cc (grows.is, here.1) in
-    let bit = sym (changed_of start.device last who (length before.executions) marked) ∙ clear in
-    let ahead = ltb-false (length before.executions) (length last.executions) bit in
+    let bit : nat_lt (length before.executions) (length last.executions) ≡ false = grind arith in
     let same : last.executions ≡ before.executions = grind (arith, common_steps, none_more) in
     let counter : (state_of start.device last).counter ≡ (state_of start.device before).counter = grind (arith, common_steps) in (
-      IfSome-along given (state_of start.device last).counter (state_of start.device before).counter counter
-          (given_one (state_of start.device before) r.frame given r.reading r.resets),
+      given_one (state_of start.device before) r.frame given _ r.reading r.resets counter,
       counter,
       ap (λ es. registers_of (overwrites_of es) start.device.contents) same,
     )

@@ -43,26 +43,29 @@ sent_write : (state : DeviceState) (sent : FrameParts) (brought : Brought) → (
     → IsUnrefusedWrite state brought → (brought ≡ OneFrame sent) × IsUnrefusedWrite state (OneFrame sent)
 sent_write state sent brought known write = grind arith
 
-sending_executes : (start : Start) (events : List LineEvent) (before next : World) (who : MasterId) (up down : Heard)
-    (turn : IsTurn start before who up down next) (s : IsSending start before who up down next turn)
-    → slice_get (submissions_of events) s.held.submission ≡ Some (submission_in who s.held) → IsRequest s.held.request
-    → IsUnrefusedWrite (state_of start.device before) turn.brought → IsExecutedFromHand start events who before next
-sending_executes start events before next who up down turn s there made write =
-    let state = state_of start.device before in
-    let frame = (spoken_request who s.held).frame in
-    let sent = sent_write state frame turn.brought s.known write in
-    let named = named_by (overwrite_of s.held.request) ((writes_have_overwrites-exactly s.held.request).0 sent.1.0) in
-    let executes = writes_execute_their_overwrite-executes state frame s.held.request named.0 sent.1.1 sent.1.2
-    (written_data_are_their_request s.held.request made) named.1 in grind (arith, common_steps)
-
 pub turn_executed : (start : Start) (events : List LineEvent) → AreWellMade events
     → (before next : World) (who : MasterId) (up down : Heard)
     (here : IsStepOf start (first_world start) events before (Turn who up down) next)
     → IsUnrefusedWrite (state_of start.device before) here.step.brought → IsExecutedFromHand start events who before next
 turn_executed start events made before next who up down here write =
     elim (turn_cases start before who up down next here.step) [
-      | inl s ↦ (let there = (held_in start events here who s.held s.in_hand).submitted_as in
-          sending_executes start events before next who up down here.step s there (made_of events s.held.submission _ made there) write)
+      | inl s ↦ (
+          let state = state_of start.device before in
+          let frame = (spoken_request who s.held).frame in
+          let there = (held_in start events here who s.held s.in_hand).submitted_as in
+          let sent = sent_write state frame here.step.brought s.known write in
+          let named = named_by (overwrite_of s.held.request) ((writes_have_overwrites-exactly s.held.request).0 sent.1.0) in
+          let executes = writes_execute_their_overwrite-executes state frame s.held.request named.0 sent.1.1 sent.1.2
+          (written_data_are_their_request s.held.request (made_of events s.held.submission _ made there)) named.1 in
+          record {
+            held = s.held;
+            in_hand = s.in_hand;
+            submitted_as = there;
+            overwrite = named.0;
+            overwrites = named.1;
+            executed = rw s.next_is (ap (λ effect. executions_after effect s.held.submission before.executions)
+                (ap (effect_on state) sent.0 ∙ executes));
+          })
       | inr silent ↦ (let none = silent.none in absurd (grind arith))
     ]
 

@@ -10,11 +10,6 @@ begins_as_faulty : (text : List ℕ) (char : Character) (byte faults : ℕ) → 
     → byte ≡ byte_of (get_or text 0 0) (get_or text 1 0) → get_or text 2 0 ≡ 33 → AreDigits (get_or text 3 0) (get_or text 4 0)
     → faults ≡ byte_of (get_or text 3 0) (get_or text 4 0) → faults ≢ 0 → AreFaultBits faults
     → char ≡ record { byte = byte; faults = faults } → BeginsAsItem text char 5
-begins_as_faulty [] char byte faults some d b n f g z a e = absurd (omega arith)
-begins_as_faulty (x ∷ []) char byte faults some d b n f g z a e = absurd (omega arith)
-begins_as_faulty (x ∷ y ∷ []) char byte faults some d b n f g z a e = absurd (omega arith)
-begins_as_faulty (x ∷ y ∷ m ∷ []) char byte faults some d b n f g z a e = absurd (omega arith)
-begins_as_faulty (x ∷ y ∷ m ∷ v ∷ []) char byte faults some d b n f g z a e = absurd (omega arith)
 begins_as_faulty (x ∷ y ∷ m ∷ v ∷ w ∷ text) char byte faults some d b n f g z a e = record {
   item = Faulty x y v w;
   tail = text;
@@ -22,6 +17,7 @@ begins_as_faulty (x ∷ y ∷ m ∷ v ∷ w ∷ text) char byte faults some d b 
   long = refl;
   means = cc;
 }
+begins_as_faulty text char byte faults some d b n f g z a e = absurd (omega arith)
 
 -- no item begins if a `!` stands after two digits, and no fault bits after it
 no_item_begins : (text : List ℕ) → get_or text 2 0 ≡ 33
