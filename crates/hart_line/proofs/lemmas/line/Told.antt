@@ -1,4 +1,5 @@
 -- What a line keeps of what was spoken may be noted and let go: its events lead on as they would from the whole.
+use Rattle.hart_line.proofs.lemmas.world.Arrival.{AreSpoken-append}
 use Rattle.std.proofs.lemmas.Grind.{common_steps}
 use Rattle.std.proofs.Common.{◌≡◌, ℕ, ◌+◌, ◌<◌, ◌≤◌, arith, append-nil, get_or, length, refl, subst, take}
 use Rattle.std.proofs.Common.{List, [], ◌∷◌, ◌++◌, None, Option, Some}
@@ -53,14 +54,6 @@ step_on start world next Restart is = rw (is, append-nil world.spoken) refl
 pub undetected_on : (start : Start) (world : World) (event : LineEvent) (leg : Leg) → HasUndetected start (with_spoken [] world) event leg
     → HasUndetected start world event leg
 undetected_on start world event leg undetected = grind arith
-
--- Frames that are spoken after others are put down after those.
-AreSpoken-append : (frames more : List SpokenFrame) (list others : List Spoken) → AreSpoken frames list → AreSpoken more others
-    → AreSpoken (frames ++ more) (list ++ others)
-AreSpoken-append [] more [] others are next = next
-AreSpoken-append [] more (spoken ∷ list) others are next = absurd are
-AreSpoken-append (said ∷ frames) more [] others are next = absurd are
-AreSpoken-append (said ∷ frames) more (spoken ∷ list) others are next = (are.0, AreSpoken-append frames more list others are.1 next)
 
 -- A LINE THAT WAS NOTED
 -- A line that keeps nothing of what was noted stands for the world without what was spoken.

@@ -31,12 +31,13 @@ none_reaches identity heard brought r = grind (arith, reaches_cases)
 pub no_effect : (state : DeviceState) (brought : Brought) → frame_in brought ≡ None → effect_on state brought ≡ Nothing
 no_effect state brought none = grind arith
 
--- Messages are spoken one after another.
-AreSpoken-push : (frames : List SpokenFrame) (said : SpokenFrame) (list : List Spoken) (spoken : Spoken)
-    → AreSpoken frames list → IsSpoken said spoken → AreSpoken (frames ++ said ∷ []) (list ++ spoken ∷ [])
-AreSpoken-push [] said list spoken are is = grind arith
-AreSpoken-push (m ∷ frames) said list spoken are is = grind (arith, AreSpoken-push frames)
+-- Frames that are spoken after others are put down after those.
+pub AreSpoken-append : (frames more : List SpokenFrame) (list others : List Spoken) → AreSpoken frames list → AreSpoken more others
+    → AreSpoken (frames ++ more) (list ++ others)
+AreSpoken-append [] more [] others are next = next
+AreSpoken-append (said ∷ frames) more (spoken ∷ list) others are next = (are.0, AreSpoken-append frames more list others are.1 next)
+AreSpoken-append frames more list others are next = absurd are
 
 pub AreSpoken-more : (frames : List SpokenFrame) (said : Option SpokenFrame) (old new : List Spoken)
     → AreSpoken frames old → Speaks said old new → AreSpoken (frames ++ option_to_list said) new
-AreSpoken-more frames said old new are speaks = grind (arith, append-nil, AreSpoken-push)
+AreSpoken-more frames said old new are speaks = grind (arith, append-nil, AreSpoken-append)

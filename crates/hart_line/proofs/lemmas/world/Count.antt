@@ -33,12 +33,11 @@ sendings-append outcomes outcome number = grind (arith, slice_get-append)
 sendings_in-outcome : (retries s : ℕ) (accepted : Option Reply) → sendings_in (Some (outcome_of retries s accepted)) ≡ s
 sendings_in-outcome retries s accepted = grind arith
 
-counts_by : (b : Bool) (hand : InHand) (outcomes : List Outcome) (outcome : Outcome) (number before after : ℕ)
-    → (hand.submission == number) ≡ b
+counts_by : (hand : InHand) (outcomes : List Outcome) (outcome : Outcome) (number before after : ℕ)
     → slice_get outcomes hand.submission ≡ Some (Unfinished hand.sendings) → sendings_in (Some outcome) ≡ hand.sendings + 1
-    → before ≤ sendings_in (slice_get outcomes number) → after ≤ before + (if b then 1 else 0)
+    → before ≤ sendings_in (slice_get outcomes number) → after ≤ before + (if hand.submission == number then 1 else 0)
     → after ≤ sendings_in (slice_get (slice_set outcomes hand.submission outcome) number)
-counts_by b hand outcomes outcome number before after same there sent old more =
+counts_by hand outcomes outcome number before after there sent old more =
     grind (arith, nat_tests, slice_get-set_same, slice_get-set_other)
 
 step_counted : (start : Start) (events : List LineEvent) (world next : World) (event : LineEvent)
@@ -46,8 +45,8 @@ step_counted : (start : Start) (events : List LineEvent) (world next : World) (e
 step_counted start events world next event here c = by_cases start world (λ event next. IsCounted next) (record {
   submits = grind (arith, common_steps, sendings-append);
   refuses = grind (arith, common_steps, sendings-append);
-  sends = λ who up down next turn s. rw s.next_is (λ number. counts_by (s.held.submission == number) s.held world.outcomes _ number
-      (times_executed number world.executions) _ refl (held_in start events here who s.held s.in_hand).unfinished
+  sends = λ who up down next turn s. rw s.next_is (λ number. counts_by s.held world.outcomes _ number
+      (times_executed number world.executions) _ (held_in start events here who s.held s.in_hand).unfinished
       (sendings_in-outcome _ (s.held.sendings + 1) turn.accepted) (c number)
       (times_executed-more (effect_on (state_of start.device world) turn.brought) s.held.submission number world.executions));
   others = λ event protected cold_start spoken same. c;

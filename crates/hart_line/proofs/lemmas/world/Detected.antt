@@ -74,17 +74,13 @@ fault_not_detectable start events (Undetected number leg) enough f = grind (arit
 fault_not_detectable start events fault enough f = tt
 
 -- SCRIPTS WHOSE DAMAGE IS DETECTED
-pub record Accepted (who : MasterId) (hand : Option InHand) (returned : Option FrameParts) : Type 0 where
-  pub accepted : Option Reply
-  pub accepts : Accepts who hand returned accepted
-
-accepted_of : (who : MasterId) (hand : Option InHand) (returned : Option FrameParts) → Accepted who hand returned
-accepted_of who None returned = record { accepted = None; accepts = refl }
-accepted_of who (Some held) None = record { accepted = None; accepts = refl }
+accepted_of : (who : MasterId) (hand : Option InHand) (returned : Option FrameParts)
+    → (accepted : Option Reply) × Accepts who hand returned accepted
 accepted_of who (Some held) (Some frame) = elim (replies_are_decided-decided who held.address held.request frame) [
-  | inl reply ↦ record { accepted = Some reply.0; accepts = reply.1 }
-  | inr none ↦ record { accepted = None; accepts = none }
+  | inl reply ↦ (Some reply.0, reply.1)
+  | inr none ↦ (None, none)
 ]
+accepted_of who hand returned = (None, grind arith)
 
 -- A leg whose damage is detected brings the device one thing.
 reaches_one : (identity : IdentityParts) (heard : Heard) (sent : Option SpokenFrame) (brought : Option FrameParts)
@@ -109,8 +105,8 @@ step_exists start world (Turn who up down) detected =
         arrives = brought.1;
         returned = back.0;
         returns = back.1;
-        accepted = a.accepted;
-        accepts = a.accepts;
+        accepted = a.0;
+        accepts = a.1;
         next_is = refl;
       },
     )

@@ -29,10 +29,6 @@ pub record IsWriteOf (requests : List Request) (execution : Execution) : Type 0 
   pub submitted_as : slice_get requests execution.submission ≡ Some request
   pub overwrites : overwrite_of request ≡ Some execution.overwrite
 
-same_overwrite : (requests : List Request) (a b : Execution) → a.submission ≡ b.submission → IsWriteOf requests a → IsWriteOf requests b
-    → a.overwrite ≡ b.overwrite
-same_overwrite requests a b same x y = cc
-
 arrived_executes : (state : DeviceState) (who : MasterId) (held : InHand) (requests : List Request)
     (brought : Brought) (overwrite : Overwrite) → slice_get requests held.submission ≡ Some held.request
     → reading_of (spoken_request who held).frame ≡ Ok held.request
@@ -80,7 +76,7 @@ contains_by_head : (requests : List Request) (execution e : Execution) (later : 
     → (e.submission == execution.submission) ≡ b → IsWriteOf requests execution → IsWriteOf requests e
     → (has_execution_of execution.submission later ≡ true → Contains (overwrites_of later) execution.overwrite)
     → (b || has_execution_of execution.submission later) ≡ true → Contains (overwrites_of (e ∷ later)) execution.overwrite
-contains_by_head requests execution e later true same write head tail executed = grind (arith, common_steps, same_overwrite, eqb-true)
+contains_by_head requests execution e later true same write head tail executed = grind (arith, common_steps, eqb-true)
 contains_by_head requests execution e later false same write head tail executed =
     let there = tail executed in (suc there.0, omega (arith, there.1), there.2)
 

@@ -39,7 +39,6 @@ pub state-after : (initial : DeviceState) (world next : World) (id : MasterId) (
     → next.marks ≡ marks_after effect id (length world.executions) world.marks
     → next.protected ≡ world.protected
     → record (after id effect (state_of initial world)) { cold_start = next.cold_start } ≡ state_of initial next
-state-after initial world next id number Nothing within executions marks protected = rw (executions, marks, protected) refl
 state-after initial world next id number (Executes overwrite) within executions marks protected =
     let entry : Execution = record { submission = number; overwrite = overwrite } in
     let more = length-one_more world.executions entry in
@@ -49,7 +48,7 @@ state-after initial world next id number (Executes overwrite) within executions 
     (rw more (is_changed-more initial.changed.primary world.marks.primary (length world.executions) (within Primary)))
     (rw more (is_changed-more initial.changed.secondary world.marks.secondary (length world.executions) (within Secondary)))
     refl refl)
-state-after initial world next id number Resets within executions marks protected =
+state-after initial world next id number effect within executions marks protected =
     grind (arith, same_state, nat_tests)
 
 -- THE FIRST WORLD

@@ -130,21 +130,15 @@ pub along : (start : Start) (from : World) (events : List LineEvent) (P : World 
     → P world later
 along start from events P keeps holds [] later world split led = grind (arith, common_steps)
 along start from events P keeps holds (event ∷ prefix) later world split led =
-    grind (
-      arith,
-      common_steps,
-      along start led.0 (prefix ++ later) P (λ before next other here. keeps before next other (record {
-        prefix = event ∷ here.prefix;
-        suffix = here.suffix;
-        split = split ∙ ap (λ es. event ∷ es) here.split;
-        led = (
-          led.0,
-          led.1,
-          here.led,
-        );
-        step = here.step;
-      })) (keeps from led.0 event (record { prefix = []; suffix = prefix ++ later; split = split; led = refl; step = led.1 }) (subst (λ es. P from es) split holds)) prefix later world refl led.2,
-    )
+    let first : IsStepOf start from events from event led.0 =
+    record { prefix = []; suffix = prefix ++ later; split = split; led = refl; step = led.1 } in
+    along start led.0 (prefix ++ later) P (λ before next other here. keeps before next other (record {
+      prefix = event ∷ here.prefix;
+      suffix = here.suffix;
+      split = split ∙ ap (λ es. event ∷ es) here.split;
+      led = (led.0, led.1, here.led);
+      step = here.step;
+    })) (keeps from led.0 event first (subst (λ es. P from es) split holds)) prefix later world refl led.2
 
 -- So it does after the last event.
 pub to_last : (start : Start) (from : World) (events : List LineEvent) (P : World → List LineEvent → Type 0)

@@ -53,10 +53,7 @@ submits_along submissions world who address request later a = record {
   to_come = next_to_come submissions world.outcomes (Unfinished 0) _ (submissions_of later) a.to_come;
   hands = λ id held is. elim (with_master-cases id who _ world.hands held is) [
     | inl (own, new) ↦ grind (arith, common_steps, drop-first, slice_get-last)
-    | inr (apart, old) ↦ record {
-      submitted_as = (a.hands id held old).submitted_as;
-      unfinished = slice_get-append world.outcomes (Unfinished 0 ∷ []) held.submission _ (a.hands id held old).unfinished;
-    }
+    | inr (apart, old) ↦ (let there = a.hands id held old in grind (arith, common_steps, slice_get-append))
   ];
 }
 
@@ -83,10 +80,7 @@ step_along submissions start world =
       submits = submits_along submissions world;
       refuses = λ who address request fault later a. record {
         to_come = next_to_come submissions world.outcomes (Refused fault) _ (submissions_of later) a.to_come;
-        hands = λ id held is. record {
-          submitted_as = (a.hands id held is).submitted_as;
-          unfinished = slice_get-append world.outcomes (Refused fault ∷ []) held.submission _ (a.hands id held is).unfinished;
-        };
+        hands = λ id held is. let there = a.hands id held is in grind (arith, common_steps, slice_get-append);
       };
       sends = λ who up down next turn s later a. rw s.next_is
           (sends_along submissions start world who s.held turn.brought turn.accepted (Turn who up down) later s.in_hand refl a);

@@ -22,19 +22,16 @@ use Rattle.hart_line.proofs.lemmas.world.Steps.{entered, to_last}
 -- An effect leaves valid bytes valid, as what is executed is a well-made request.
 effect_made : (state : DeviceState) (brought : Brought) (overwrite : Overwrite) → effect_on state brought ≡ Executes overwrite
     → IsRequest overwrite
-effect_made state (OneFrame frame) overwrite is = writes_execute_their_overwrite-well_made state frame overwrite is
-effect_made state (Garbled request) overwrite is = cc
-effect_made state NoMessage overwrite is = cc
+effect_made state brought overwrite is = grind (arith, writes_execute_their_overwrite-well_made)
 
 effect_valid : (initial : Contents) (effect : Effect) (number : ℕ) (executions : List Execution)
     → ((overwrite : Overwrite) → effect ≡ Executes overwrite → IsRequest overwrite)
     → AreValid (registers_of (overwrites_of executions) initial)
     → AreValid (registers_of (overwrites_of (executions_after effect number executions)) initial)
-effect_valid initial Nothing number executions made valid = valid
 effect_valid initial (Executes overwrite) number executions made valid =
     subst AreValid (contents-more executions (record { submission = number; overwrite = overwrite }) initial)
     (overwrites_are_valid overwrite (registers_of (overwrites_of executions) initial) (made overwrite refl) valid)
-effect_valid initial Resets number executions made valid = valid
+effect_valid initial effect number executions made valid = valid
 
 -- So the bytes are valid in every world that events lead to.
 led_valid : (start : Start) → AreValid start.device.contents → (events : List LineEvent) (world : World)
@@ -44,10 +41,6 @@ led_valid start valid events world led =
     let e = entered start before event next here.step in grind (arith, common_steps, effect_valid, effect_made))
     (subst AreValid (sym (registers_of_lists-none start.device.contents)) valid) world led
 
--- Each request has a command of the table.
-request_known : (request : Request) → is_known (command_of request) ≡ true
-request_known request = grind arith
-
 -- The reply that is accepted of the device's answer is the one that the device made.
 pub device_replied : (start : Start) (events : List LineEvent) (number : ℕ) (reply : Reply) (sendings : ℕ)
     → (a : AnswersLastSendingFrom start (first_world start) events number reply sendings) → IsWellMadeStart start
@@ -56,5 +49,5 @@ device_replied start events number reply sendings a made =
     let frame = (spoken_request a.who a.held).frame in
     let state = state_of start.device a.before in
     let read = answers_are_replies-read state start.process frame a.answer
-    (led_valid start made.device.contents a.turn.prefix a.before a.turn.led) made.process (request_known a.held.request) a.answered in
+    (led_valid start made.device.contents a.turn.prefix a.before a.turn.led) made.process (grind arith) a.answered in
     grind (arith, common_steps, some_one)
