@@ -34,22 +34,19 @@ with_spoken spoken world = record world { spoken = spoken }
 submitted_on : (world next : World) (who : MasterId) (address : Address) (request : Request) (fault : Option MasterFault)
     → next ≡ submitted (with_spoken [] world) who address request fault
     → with_spoken (world.spoken ++ next.spoken) next ≡ submitted world who address request fault
-submitted_on world next who address request None is = rw (is, append-nil world.spoken) refl
-submitted_on world next who address request (Some fault) is = rw (is, append-nil world.spoken) refl
+submitted_on world next who address request fault is = grind (arith, common_steps, append-nil)
 
 turned_on : (start : Start) (world next : World) (who : MasterId) (hand : Option InHand) (brought : Brought) (accepted : Option Reply)
     → next ≡ turned start (with_spoken [] world) who hand brought accepted
     → with_spoken (world.spoken ++ next.spoken) next ≡ turned start world who hand brought accepted
-turned_on start world next who None brought accepted is = rw is refl
-turned_on start world next who (Some held) brought accepted is = rw is refl
+turned_on start world next who hand brought accepted is = grind (arith, common_steps)
 
 step_on : (start : Start) (world next : World) (event : LineEvent) → Step start (with_spoken [] world) event next
     → Step start world event (with_spoken (world.spoken ++ next.spoken) next)
 step_on start world next (Submit who address request) is = grind (arith, common_steps, submitted_on)
 step_on start world next (Turn who up down) turn = grind (arith, common_steps, turned_on)
-step_on start world next (Protect on) is = rw (is, append-nil world.spoken) refl
 step_on start world next (Noise chars) noise = grind (arith, common_steps)
-step_on start world next Restart is = rw (is, append-nil world.spoken) refl
+step_on start world next event is = rw (is, append-nil world.spoken) refl
 
 pub undetected_on : (start : Start) (world : World) (event : LineEvent) (leg : Leg) → HasUndetected start (with_spoken [] world) event leg
     → HasUndetected start world event leg

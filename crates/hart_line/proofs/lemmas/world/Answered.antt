@@ -135,6 +135,6 @@ answered_last start events last run number reply sendings is =
         | inl old ↦ known old
         | inr answered ↦ answered
       ]
-      | inr silent ↦ known (rw silent.next_is at is)
+      | inr silent ↦ known (rw silent.1 at is)
     ]
     step_known before next event here known is = grind (arith, common_steps)

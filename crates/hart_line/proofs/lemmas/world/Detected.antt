@@ -44,12 +44,10 @@ not_undetected : {heard : Heard} {sent : Option SpokenFrame} (chars : List Chara
 not_undetected {sent = sent} chars frames arrived u is are detected = grind (arith, common_steps, frames_are_unambiguous-one_list)
 
 heard_detected : (heard : Heard) (sent : Option SpokenFrame) → IsLong sent → IsDetectable heard sent → IsUndetected heard sent → ⊥
-heard_detected Clean None long d u = not_undetected [] [] None u u.are_heard messages_have_their_frame_alone-nothing refl
 heard_detected Clean (Some said) long d u =
     not_undetected (faultless u.are_heard.0) (record { start = said.preambles; stop = length u.are_heard.0; frame = said.frame } ∷ [])
     (Some said.frame) u u.are_heard.2 (messages_have_their_frame_alone-message said.frame said.preambles u.are_heard.0 long u.are_heard.1)
     (refl, refl)
-heard_detected Lost sent long d u = not_undetected [] [] None u u.are_heard messages_have_their_frame_alone-nothing refl
 heard_detected (Chars chars) None long d u = d
 heard_detected (Chars chars) (Some said) long (inl marked) u =
     elim (damaged_messages_have_no_other_frame-marked said.frame said.preambles chars marked) [
@@ -59,6 +57,7 @@ heard_detected (Chars chars) (Some said) long (inl marked) u =
     ]
 heard_detected (Chars chars) (Some said) long (inr check) u =
     not_undetected chars [] None u u.are_heard (damaged_messages_have_no_other_frame-check said.frame said.preambles chars check) refl
+heard_detected heard sent long d u = not_undetected [] [] None u u.are_heard messages_have_their_frame_alone-nothing refl
 
 leg_detected : (start : Start) (world : World) (event : LineEvent) (leg : Leg)
     → 5 ≤ start.device.identity.response_preambles → HasDetectable start world event leg → HasUndetected start world event leg → ⊥

@@ -61,7 +61,7 @@ arrives_detected heard sent arrived a u = grind (arith, AreHeard-one, frames_are
 reaches_detected : (identity : IdentityParts) (heard : Heard) (sent : Option SpokenFrame) (brought : Brought)
     → Reaches identity heard sent brought → IsUndetected heard sent → ⊥
 reaches_detected identity heard sent brought r u =
-    arrives_detected heard sent r.among.frame (record { chars = r.chars; are_heard = r.are_heard; among = r.among.arrives }) u
+    grind (arith, AreHeard-one, frames_are_unambiguous-one_list)
 
 Accepts-one : (who : MasterId) (hand : Option InHand) (returned : Option FrameParts) (a b : Option Reply)
     → Accepts who hand returned a → Accepts who hand returned b → a ≡ b
@@ -114,25 +114,19 @@ undetected_one start world (Turn who up down) legs.Up legs.Down u v = absurd (re
 undetected_one start world (Turn who up down) legs.Down legs.Up u v = absurd (reaches_detected start.device.identity up _ u.0 u.1 v)
 undetected_one start world event leg another u v = grind arith
 
--- Events that lead on past one have no undetected damage in it.
-past_detected : (start : Start) (prefix : List LineEvent) (event : LineEvent) (suffix : List LineEvent) (from world last : World)
-    (leg : Leg) → LeadsTo start from (prefix ++ event ∷ suffix) last → LeadsTo start from prefix world
-    → HasUndetected start world event leg → ⊥
-past_detected start prefix event suffix from world last leg run led = grind (arith, common_steps, leads_on, step_detected)
-
 take-past : {A : Type 0} (number other : ℕ) (xs : List A) (x : A) → slice_get xs number ≡ Some x → number < other
     → take other xs ≡ take number xs ++ x ∷ drop (suc number) (take other xs)
-take-past number zero xs x is before = absurd (omega arith)
-take-past number (suc other) [] x is before = cc
 take-past zero (suc other) (y ∷ xs) x is before = ap (λ z. z ∷ take other xs) (some_one is)
 take-past (suc number) (suc other) (y ∷ xs) x is before = ap (λ zs. y ∷ zs) (take-past number other xs x is (omega arith))
+take-past number other xs x is before = absurd (grind arith)
 
 -- A fault comes after no other.
 fault_before : (start : Start) (events : List LineEvent) (number other : ℕ) (leg : Leg) (world : World) → number < other
     → IsFault start events (Undetected number leg) → IsLast start (take other events) world → ⊥
 fault_before start events number other leg world before f run =
-    past_detected start (take number events) f.1 (drop (suc number) (take other events)) (first_world start) f.0 world leg
-    (rw (take-past number other events f.1 f.3 before) at run) f.2 f.4
+    let on = leads_on start (take number events) (f.1 ∷ drop (suc number) (take other events)) (first_world start) f.0 world
+    (rw (take-past number other events f.1 f.3 before) at run) f.2 in
+    step_detected start f.0 f.1 on.0 leg on.1 f.4
 
 pub no_fault : (start : Start) (events : List LineEvent) (last : World) (number : ℕ) (leg : Leg)
     → IsLast start events last → IsFault start events (Undetected number leg) → ⊥
@@ -143,10 +137,7 @@ no_fault start events last number leg run f =
 pub fault_one : (start : Start) (events : List LineEvent) (number other : ℕ) (leg another : Leg)
     → IsFault start events (Undetected number leg) → IsFault start events (Undetected other another)
     → (number ≡ other) × (leg ≡ another)
-fault_one start events number other leg another f g = elim (leb_tells number other) [
-  | inl most ↦ elim (leb_tells other number) [
-    | inl least ↦ grind (arith, common_steps, leads_one, some_one, undetected_one)
-    | inr before ↦ absurd (fault_before start events number other leg g.0 before.1 f g.2)
-  ]
-  | inr after ↦ absurd (fault_before start events other number another f.0 after.1 g f.2)
-]
+fault_one start events number other leg another f g =
+    let early = λ (h : number < other). fault_before start events number other leg g.0 h f g.2 in
+    let late = λ (h : other < number). fault_before start events other number another f.0 h g f.2 in
+    grind (arith, common_steps, leads_one, some_one, undetected_one)

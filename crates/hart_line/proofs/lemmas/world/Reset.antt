@@ -59,7 +59,7 @@ leads_kept start events world last id run none =
       | inl s ↦ (let quiet = λ (own : id ≡ who). subst (λ m. (turn : IsStepOf start world events before (Turn m up down) next)
           → effect_on (state_of start.device before) turn.step.brought ≢ Resets) own (none before next up down) here in
           grind (arith, common_steps, marks_kept))
-      | inr silent ↦ rw silent.next_is same
+      | inr silent ↦ rw silent.1 same
     ]
     kept before next event here same = grind arith
 
@@ -69,7 +69,7 @@ reset_marks : (start : Start) (world : World) (who : MasterId) (up down : Heard)
     → (of_master who next.marks ≡ Some (length world.executions)) × (next.executions ≡ world.executions)
 reset_marks start world who up down next step resets = elim (turn_cases start world who up down next step) [
   | inl s ↦ rw (s.next_is, resets) (of_master-same who _ world.marks, refl)
-  | inr silent ↦ (let quiet = no_effect (state_of start.device world) step.brought silent.none in cc)
+  | inr silent ↦ (let quiet = no_effect (state_of start.device world) step.brought silent.0 in cc)
 ]
 
 none_more : (old more : List Execution) → nat_lt (length old) (length (old ++ more)) ≡ false → old ++ more ≡ old

@@ -36,21 +36,16 @@ pub record IsSending (start : Start) (world : World) (who : MasterId) (up down :
   pub next_is : next ≡ turned start world who (Some held) turn.brought turn.accepted
 
 -- A turn without one brings the device no frame, and it replies to that alone.
-pub record IsSilent (start : Start) (world : World) (who : MasterId) (up down : Heard) (next : World)
-    (turn : IsTurn start world who up down next) : Type 0 where
-  pub none : frame_in turn.brought ≡ None
-  pub next_is : next ≡ replied start world turn.brought
-
 pub turn_cases : (start : Start) (world : World) (who : MasterId) (up down : Heard) (next : World)
     (turn : IsTurn start world who up down next)
-    → IsSending start world who up down next turn ⊎ IsSilent start world who up down next turn
+    → IsSending start world who up down next turn ⊎ (frame_in turn.brought ≡ None) × (next ≡ replied start world turn.brought)
 turn_cases start world who up down next turn = by_hand (of_master who world.hands) refl turn.arrives turn.accepts turn.next_is
   where
     by_hand : (hand : Option InHand) → of_master who world.hands ≡ hand → Reaches start.device.identity up (sent_by who hand) turn.brought
         → Accepts who hand turn.returned turn.accepted → next ≡ turned start world who hand turn.brought turn.accepted
-        → IsSending start world who up down next turn ⊎ IsSilent start world who up down next turn
+        → IsSending start world who up down next turn ⊎ (frame_in turn.brought ≡ None) × (next ≡ replied start world turn.brought)
     by_hand None in_hand arrives accepts next_is =
-        inr (record { none = none_reaches start.device.identity up turn.brought arrives; next_is = next_is })
+        inr (none_reaches start.device.identity up turn.brought arrives, next_is)
     by_hand (Some held) in_hand arrives accepts next_is = inl (grind (arith, common_steps, reaches_cases))
 
 -- An event is a submission, a turn with a request in hand, or one that changes no more than protection, cold start bits, and what was
@@ -75,7 +70,7 @@ by_cases start world P cases (Submit who address request) next step = grind (ari
     by_fault (Some fault) = cases.refuses who address request fault
 by_cases start world P cases (Turn who up down) next step = elim (turn_cases start world who up down next step) [
   | inl sending ↦ cases.sends who up down next step sending
-  | inr silent ↦ rw silent.next_is (cases.others (Turn who up down) _ _ _ (λ later. refl))
+  | inr silent ↦ rw silent.1 (cases.others (Turn who up down) _ _ _ (λ later. refl))
 ]
 by_cases start world P cases (Protect on) next step = rw step (cases.others (Protect on) _ _ _ (λ later. refl))
 by_cases start world P cases (Noise chars) next step = rw step.next_is (cases.others (Noise chars) _ _ _ (λ later. refl))
@@ -107,9 +102,9 @@ entered start world (Turn who up down) next step = elim (turn_cases start world 
     who = who;
     number = 0;
     brought = step.brought;
-    known = inl silent.none;
-    executions = grind (arith, silent.next_is, no_effect);
-    marks = grind (arith, silent.next_is, no_effect);
+    known = inl silent.0;
+    executions = grind (arith, silent.1, no_effect);
+    marks = grind (arith, silent.1, no_effect);
   }
 ]
 entered start world event next step = record {

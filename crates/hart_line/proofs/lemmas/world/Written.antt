@@ -66,7 +66,7 @@ turn_executed start events made before next who up down here write =
             executed = rw s.next_is (ap (λ effect. executions_after effect s.held.submission before.executions)
                 (ap (effect_on state) sent.0 ∙ executes));
           })
-      | inr silent ↦ (let none = silent.none in absurd (grind arith))
+      | inr silent ↦ (let none = silent.0 in absurd (grind arith))
     ]
 
 -- AN ACCEPTED REPLY
@@ -105,6 +105,6 @@ pub step_stays : (start : Start) (before : World) (event : LineEvent) (next : Wo
     → next.executions ≡ before.executions
 step_stays start before (Turn who up down) next step other = elim (turn_cases start before who up down next step) [
   | inl s ↦ grind (arith, common_steps, frame_stays)
-  | inr silent ↦ ap (λ (w : World). w.executions) silent.next_is
+  | inr silent ↦ ap (λ (w : World). w.executions) silent.1
 ]
 step_stays start before event next step other = grind arith
