@@ -1,4 +1,7 @@
 -- The registers of all executions are those of the last ones.
+use Rattle.std.proofs.Common.{inl, inr}
+use Rattle.std.proofs.lemmas.Bool.Decides.{nat_tests}
+use Rattle.std.proofs.lemmas.Bool.{cases_eq}
 use Rattle.std.proofs.lemmas.Grind.{common_steps}
 use Rattle.std.proofs.Common.{◌≡◌, ℕ, ◌==◌, ◌||◌, suc, ◌∙◌, sym, refl, arith, Ok, Some, None, Bool, true, false, List}
 use Rattle.std.proofs.Common.{[], ◌∷◌, ◌++◌, if◌then◌else◌, ◌⊎◌, inl, inr}
@@ -72,21 +75,16 @@ are_writes start events made = to_last start (first_world start) events (λ worl
 
 -- LAST EXECUTIONS
 -- A later execution of the submission has the same overwrite.
-contains_by_head : (requests : List Request) (execution e : Execution) (later : List Execution) (b : Bool)
-    → (e.submission == execution.submission) ≡ b → IsWriteOf requests execution → IsWriteOf requests e
-    → (has_execution_of execution.submission later ≡ true → Contains (overwrites_of later) execution.overwrite)
-    → (b || has_execution_of execution.submission later) ≡ true → Contains (overwrites_of (e ∷ later)) execution.overwrite
-contains_by_head requests execution e later true same write head tail executed = grind (arith, common_steps, eqb-true)
-contains_by_head requests execution e later false same write head tail executed =
-    let there = tail executed in (suc there.0, omega (arith, there.1), there.2)
-
 contains_again : (requests : List Request) (execution : Execution) (later : List Execution)
     → IsWriteOf requests execution → AllByRecursion (IsWriteOf requests) later
     → has_execution_of execution.submission later ≡ true → Contains (overwrites_of later) execution.overwrite
 contains_again requests execution [] write all executed = cc
-contains_again requests execution (e ∷ later) write all executed =
-    contains_by_head requests execution e later (e.submission == execution.submission) refl write all.0
-    (contains_again requests execution later write all.1) executed
+contains_again requests execution (e ∷ later) write all executed = elim (cases_eq e.submission execution.submission) [
+  | inl same ↦ (0, grind arith, grind arith)
+  | inr apart ↦ (
+      let there = contains_again requests execution later write all.1 (grind (arith, nat_tests)) in
+      (suc there.0, omega (arith, there.1), there.2))
+]
 
 last_by_submission : (e : Execution) (later : List Execution) (initial : Contents) (b : Bool)
     → (b ≡ true → Contains (overwrites_of later) e.overwrite)

@@ -108,7 +108,7 @@ step_detected start world (Noise chars) next legs.Noise step undetected =
     reaches_detected start.device.identity (Chars chars) None step.brought step.arrives undetected
 step_detected start world event next leg step undetected = undetected
 
-undetected_one : (start : Start) (world : World) (event : LineEvent) (leg another : Leg)
+pub undetected_one : (start : Start) (world : World) (event : LineEvent) (leg another : Leg)
     → HasUndetected start world event leg → HasUndetected start world event another → leg ≡ another
 undetected_one start world (Turn who up down) legs.Up legs.Down u v = absurd (reaches_detected start.device.identity up _ v.0 v.1 u)
 undetected_one start world (Turn who up down) legs.Down legs.Up u v = absurd (reaches_detected start.device.identity up _ u.0 u.1 v)
@@ -121,23 +121,9 @@ take-past (suc number) (suc other) (y ∷ xs) x is before = ap (λ zs. y ∷ zs)
 take-past number other xs x is before = absurd (grind arith)
 
 -- A fault comes after no other.
-fault_before : (start : Start) (events : List LineEvent) (number other : ℕ) (leg : Leg) (world : World) → number < other
+pub fault_before : (start : Start) (events : List LineEvent) (number other : ℕ) (leg : Leg) (world : World) → number < other
     → IsFault start events (Undetected number leg) → IsLast start (take other events) world → ⊥
 fault_before start events number other leg world before f run =
     let on = leads_on start (take number events) (f.1 ∷ drop (suc number) (take other events)) (first_world start) f.0 world
     (rw (take-past number other events f.1 f.3 before) at run) f.2 in
     step_detected start f.0 f.1 on.0 leg on.1 f.4
-
-pub no_fault : (start : Start) (events : List LineEvent) (last : World) (number : ℕ) (leg : Leg)
-    → IsLast start events last → IsFault start events (Undetected number leg) → ⊥
-no_fault start events last number leg run f =
-    let within = slice_get_within events number f.1 f.3 in
-    fault_before start events number (length events) leg last within f (rw (take_all (length events) events (omega arith)) run)
-
-pub fault_one : (start : Start) (events : List LineEvent) (number other : ℕ) (leg another : Leg)
-    → IsFault start events (Undetected number leg) → IsFault start events (Undetected other another)
-    → (number ≡ other) × (leg ≡ another)
-fault_one start events number other leg another f g =
-    let early = λ (h : number < other). fault_before start events number other leg g.0 h f g.2 in
-    let late = λ (h : other < number). fault_before start events other number another f.0 h g f.2 in
-    grind (arith, common_steps, leads_one, some_one, undetected_one)

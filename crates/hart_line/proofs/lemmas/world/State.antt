@@ -51,8 +51,3 @@ state-after initial world next id number (Executes overwrite) within executions 
 state-after initial world next id number effect within executions marks protected =
     grind (arith, same_state, nat_tests)
 
--- THE FIRST WORLD
--- The device stands for the world before a script.
-pub state-first : (start : Start) → start.device.counter < 65536
-    → state_of start.device (first_world start) ≡ start.device
-state-first start small = grind (arith, common_steps, same_state, registers_of_lists-none, mod-eq_of_lt)

@@ -19,12 +19,6 @@ loop-index-init g c =
       room = record { outcomes = omega arith; nothing_spoken = refl; spoken = omega arith };
     })
 
-pub step-requires : goal.step-requires
-step-requires g c = record {
-  room = rw c.index-events-index.is
-      (room_for_next c.args.events.now c.loop-index.index _ _ c.loop-index-test.true c.loop-index.invariant.room);
-}
-
 pub returns-in-Err-clause-fault : goal.returns-in-Err-clause-fault
 returns-in-Err-clause-fault g c =
     let start = start_from c.args.device c.args.process.now c.args.primary c.args.secondary in
