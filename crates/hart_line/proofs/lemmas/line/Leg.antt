@@ -55,9 +55,6 @@ answered_among chars sent device process (Some reply) a is = record {
 
 -- WHAT A LEG BRINGS
 -- In no characters there is no garbled request, so they bring nothing.
-nothing_garbled : (identity : IdentityParts) (request : GarbledRequest) → HasGarbled identity [] request → ⊥
-nothing_garbled identity request has = grind (arith, length-append)
-
 pub nothing_arrives : (sent : Option FrameParts) → ArrivesAmong [] sent None
 nothing_arrives sent = record { frames = []; are_frames = messages_have_their_frame_alone-nothing; detected = refl }
 
@@ -67,7 +64,7 @@ unfolding nothing_arrives
 nothing_reaches identity heard said are = record {
   chars = [];
   are_heard = are;
-  among = record { frame = None; arrives = nothing_arrives (frame_of said); brings = nothing_garbled identity };
+  among = record { frame = None; arrives = nothing_arrives (frame_of said); brings = grind (arith, length-append) };
 }
 
 -- Otherwise the frame that was sent arrives in it, and is brought.
@@ -108,9 +105,3 @@ pub says_request : (Silent : Type 0) (Sent : InHand → Type 0) (who : MasterId)
     → Speaks (sent_by who hand) old new × IsSent frame (sent_by who hand)
 says_request Silent Sent who hand frame old new sends speaks = grind (arith, common_steps, speaks_sent)
 
--- The device speaks its answer to what it was brought.
-pub said_back : (start : Start) (world : World) (brought : Brought) (answer : Option FrameParts) (preambles : ℕ)
-    → answer ≡ answer_to (state_of start.device world) start.process brought
-    → preambles ≡ start.device.identity.response_preambles
-    → spoken_by parties.Device preambles answer ≡ sent_back start world brought
-said_back start world brought answer preambles answer_is preambles_are = rw (preambles_are, answer_is) refl

@@ -21,7 +21,7 @@ use Rattle.hart_line.specs.declared.event.Heard.{Heard}
 use Rattle.hart_line.specs.declared.event.LineEvent.TheVariants.{Turn}
 use Rattle.hart_line.specs.declared.line.report.Party.TheVariants as parties
 use Rattle.hart_line.specs.declared.line.report.Spoken.{Spoken}
-use Rattle.hart_line.proofs.lemmas.line.Leg.{said_back, speaks_sent}
+use Rattle.hart_line.proofs.lemmas.line.Leg.{speaks_sent}
 use Rattle.hart_line.proofs.lemmas.world.Arrival.{AreSpoken-more, frame_in, none_reaches, reaches_cases}
 use Rattle.hart_line.proofs.lemmas.world.State.{state-after}
 
@@ -41,7 +41,8 @@ pub answered : (start : Start) (world : World) (heard : Heard) (said : Option Sp
     → Speaks (spoken_by parties.Device line.response_preambles answer) mid new → IsAnswered start world heard said answer after new
 answered start world heard said answer process line after mid new s same says given count replies =
     let a = rw (s.device_is, ← same) at given in
-    let back = said_back start world a.brought answer line.response_preambles a.answer_is s.preambles_are in
+    let back : spoken_by parties.Device line.response_preambles answer ≡ sent_back start world a.brought =
+    rw (s.preambles_are, a.answer_is) refl in
     record {
       brought = a.brought;
       arrives = a.is_brought;

@@ -30,9 +30,6 @@ sendings-append : (outcomes : List Outcome) (outcome : Outcome) (number : ℕ)
     → sendings_in (slice_get outcomes number) ≤ sendings_in (slice_get (outcomes ++ outcome ∷ []) number)
 sendings-append outcomes outcome number = grind (arith, slice_get-append)
 
-sendings_in-outcome : (retries s : ℕ) (accepted : Option Reply) → sendings_in (Some (outcome_of retries s accepted)) ≡ s
-sendings_in-outcome retries s accepted = grind arith
-
 counts_by : (hand : InHand) (outcomes : List Outcome) (outcome : Outcome) (number before after : ℕ)
     → slice_get outcomes hand.submission ≡ Some (Unfinished hand.sendings) → sendings_in (Some outcome) ≡ hand.sendings + 1
     → before ≤ sendings_in (slice_get outcomes number) → after ≤ before + (if hand.submission == number then 1 else 0)
@@ -47,7 +44,7 @@ step_counted start events world next event here c = by_cases start world (λ eve
   refuses = grind (arith, common_steps, sendings-append);
   sends = λ who up down next turn s. rw s.next_is (λ number. counts_by s.held world.outcomes _ number
       (times_executed number world.executions) _ (held_in start events here who s.held s.in_hand).unfinished
-      (sendings_in-outcome _ (s.held.sendings + 1) turn.accepted) (c number)
+      (grind arith) (c number)
       (times_executed-more (effect_on (state_of start.device world) turn.brought) s.held.submission number world.executions));
   others = λ event protected cold_start spoken same. c;
 }) event next here.step

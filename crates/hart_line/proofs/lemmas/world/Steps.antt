@@ -63,11 +63,8 @@ pub record StepCases (start : Start) (world : World) (P : LineEvent → World �
 
 pub by_cases : (start : Start) (world : World) (P : LineEvent → World → Type 0) → StepCases start world P
     → (event : LineEvent) (next : World) → Step start world event next → P event next
-by_cases start world P cases (Submit who address request) next step = grind (arith, common_steps)
-  where
-    by_fault : (fault : Option MasterFault) → P (Submit who address request) (submitted world who address request fault)
-    by_fault None = cases.submits who address request
-    by_fault (Some fault) = cases.refuses who address request fault
+by_cases start world P cases (Submit who address request) next step =
+    grind (arith, common_steps, cases.submits who address request, cases.refuses who address request)
 by_cases start world P cases (Turn who up down) next step = elim (turn_cases start world who up down next step) [
   | inl sending ↦ cases.sends who up down next step sending
   | inr silent ↦ rw silent.1 (cases.others (Turn who up down) _ _ _ (λ later. refl))

@@ -20,18 +20,14 @@ returns g c =
     let world = done.world.0 in
     let last = done.world.1 in
     let device_is = done.device world last in
-    let answers : (number : ℕ) (reply : Reply) (sendings : ℕ)
-    → slice_get c.in_ok-carry_out.field-0.outcomes number ≡ Some (Answered reply sendings)
-    → AnswersLastSending start events number reply sendings =
-    λ number reply sendings is. promises.accepted_reply_answers_last_sending world last
-    number reply sendings (rw (done.outcomes world last) at is) in
     record {
       world = done.world;
       device = done.device;
       outcomes = done.outcomes;
       spoken = done.spoken;
       identity = ap (λ (d : DeviceState). d.identity) device_is;
-      accepted_reply_answers_last_sending = answers;
+      accepted_reply_answers_last_sending = λ number reply sendings is.
+          promises.accepted_reply_answers_last_sending world last number reply sendings (rw (done.outcomes world last) at is);
       registers_follow_last_executions = λ world last. ap (λ (d : DeviceState). d.contents) (done.device world last)
           ∙ promises.registers_follow_last_executions world last done.well_made;
       counter_counts_executions = grind (arith, common_steps);
@@ -41,8 +37,8 @@ returns g c =
       unrefused_writes_are_executed = promises.unrefused_writes_are_executed done.well_made;
       nothing_else_is_executed = promises.nothing_else_is_executed;
       executed_in_its_turn = λ number request reply sendings submitted write is.
-          promises.executed_in_its_turn done.well_made number request reply sendings (answers number reply sendings is)
-          submitted write;
+          promises.executed_in_its_turn done.well_made number request reply sendings (promises.accepted_reply_answers_last_sending
+          world last number reply sendings (rw (done.outcomes world last) at is)) submitted write;
       at_most_once_a_sending = λ world last number.
           rw (done.outcomes world last) (promises.at_most_once_a_sending world last number);
       no_change_unseen = λ who before given reset. rw device_is (promises.no_change_unseen world last who before given reset);
