@@ -18,11 +18,6 @@ pub room_for_others : (events : List LineEvent) (n : ℕ) (unused : LineEvent) (
     → HasRoomFor (drop n events) old → LeavesRoom (get_or events n unused) old new → HasRoomFor (drop (n + 1) events) new
 room_for_others events n unused old new here r leaves = grind (arith, common_steps, drop_more, count_first)
 
--- If there is room for each of the events that are left, there is for the next of them.
-pub room_for_next : (events : List LineEvent) (n : ℕ) (unused : LineEvent) (line : LineState) → n < length events
-    → HasRoomForEach (drop n events) line → HasRoomFor (get_or events n unused ∷ []) line
-room_for_next events n unused line here r = grind (arith, common_steps, drop_more, count_first)
-
 -- So there is for each of those left after it, once what was spoken in it is let go.
 pub room_for_each : (events : List LineEvent) (n : ℕ) (unused : LineEvent) (old new : LineState) → n < length events
     → HasRoomForEach (drop n events) old → LeavesRoom (get_or events n unused) old new

@@ -22,11 +22,6 @@ position_from-append : {X : Type 0} (p : X → Bool) (i : ℕ) (xs ys : List X)
 position_from-append p i [] ys = ap (λ (k : ℕ). position_from p k ys) (omega arith)
 position_from-append p i (x ∷ xs) ys = grind (arith, position_from-append p (i + 1) xs ys)
 
--- a line that is skipped or says an event is not bad, and says that event
-good_line : (number : ℕ) (words : List (List ℕ)) (said : Option LineEvent) → SaysLine number words (Ok said)
-    → (is_bad_line words ≡ false) × (event_of words ≡ said)
-good_line number words said says = grind (arith, nat_tests)
-
 -- the line of a part of a text, in words, stands at its place
 pub record StandsAt (text : List ℕ) (n : ℕ) (words : List (List ℕ)) : Type 0 where
   pub within : n < length (lines_in_words text)
@@ -44,12 +39,6 @@ stands_at text n part line short is stripped =
     let parts = length-map (parts_of text) strip_carriage_return in
     let here : get_or (lines_of text) n line ≡ line = grind (arith, common_steps, get_or-map) in grind (arith, common_steps, get_or-map)
 
--- one line more
-AreEvents-push : (lines : List (List (List ℕ))) (events : List LineEvent) (words : List (List ℕ)) (said : Option LineEvent)
-    → AreEvents lines events → is_bad_line words ≡ false → event_of words ≡ said
-    → AreEvents (lines ++ words ∷ []) (events ++ option_to_list said)
-AreEvents-push lines events words said before good says = grind (arith, position_from-append, filter_map-append)
-
 -- one line of a text more
 pub AreEvents-more : (text : List ℕ) (n m number : ℕ) (words : List (List ℕ)) (events new : List LineEvent) (said : Option LineEvent)
     → StandsAt text n words → m ≡ n + 1 → AreEvents (take n (lines_in_words text)) events → SaysLine number words (Ok said)
@@ -57,8 +46,7 @@ pub AreEvents-more : (text : List ℕ) (n m number : ℕ) (words : List (List �
 AreEvents-more text n m number words events new said stands more before says pushed =
     let lines = lines_in_words text in
     let cut : take m lines ≡ take n lines ++ words ∷ [] = grind (arith, take_more, stands.within, stands.is) in
-    let good = good_line number words said says in
-    rw (cut, pushed) (AreEvents-push (take n lines) events words said before good.0 good.1)
+    rw (cut, pushed) (grind (arith, nat_tests, position_from-append, filter_map-append))
 
 -- the first bad line
 first_bad : (text : List ℕ) (n number : ℕ) (words : List (List ℕ)) (events : List LineEvent) → StandsAt text n words → number ≡ n + 1

@@ -32,7 +32,7 @@ use Rattle.hart_line.specs.declared.line.report.Outcome.{Outcome}
 use Rattle.hart_line.specs.declared.line.report.Outcome.TheVariants.{Answered}
 use Rattle.hart_line.specs.declared.line.report.Party.{Party}
 use Rattle.hart_line.proofs.lemmas.world.Arrival.{frame_in}
-use Rattle.hart_line.proofs.lemmas.world.Basics.{of_master-same, slice_get-cases, some_one}
+use Rattle.hart_line.proofs.lemmas.world.Basics.{slice_get-cases, some_one}
 use Rattle.hart_line.proofs.lemmas.world.Steps.{IsSending, to_last, turn_cases}
 use Rattle.hart_line.proofs.lemmas.world.Submitted.{held_in}
 use Rattle.hart_line.proofs.lemmas.world.Valid.{device_replied}
@@ -99,7 +99,7 @@ sending_answered start events world next who up down here s number reply sending
             is_reply = sent.is_reply;
             executions = grind (arith, common_steps);
             reached = is;
-            left = rw s.next_is (of_master-same who _ world.hands ∙ ap (hand_left s.held) new.1);
+            left = grind (arith, s.next_is, new.1);
           }))
     ]
 
@@ -111,16 +111,21 @@ not_answered : (world : World) (who : MasterId) (address : Address) (request : R
 not_answered world who address request fault number reply sendings is = grind (arith, slice_get-cases)
 
 -- The request that was answered is the one that was submitted.
+as_submitted : (start : Start) (events : List LineEvent) (number : ℕ) (reply : Reply) (sendings : ℕ)
+    → AnswersLastSendingFrom start (first_world start) events number reply sendings
+    → AnswersLastSending start events number reply sendings
+as_submitted start events number reply sendings a = record {
+  last_turn = a;
+  submitted_as = ap (slice_get (submissions_of events)) (sym a.of_submission)
+      ∙ (held_in start events a.turn a.who a.held a.in_hand).submitted_as;
+  reply_is = device_replied start events number reply sendings a;
+}
+
 pub answered_last : (start : Start) (events : List LineEvent) (last : World) → IsLast start events last
     → (number : ℕ) (reply : Reply) (sendings : ℕ) → slice_get last.outcomes number ≡ Some (Answered reply sendings)
     → AnswersLastSending start events number reply sendings
-answered_last start events last run number reply sendings is =
-    let a = to_last start (first_world start) events Known step_known (λ none. cc) last run is in record {
-      last_turn = a;
-      submitted_as = ap (slice_get (submissions_of events)) (sym a.of_submission)
-          ∙ (held_in start events a.turn a.who a.held a.in_hand).submitted_as;
-      reply_is = device_replied start events number reply sendings a;
-    }
+answered_last start events last run number reply sendings is = as_submitted start events number reply sendings
+    (to_last start (first_world start) events Known step_known (λ none. cc) last run is)
   where
     Known : World → List LineEvent → Type 0
     Known world later = slice_get world.outcomes number ≡ Some (Answered reply sendings)

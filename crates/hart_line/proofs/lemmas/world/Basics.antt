@@ -12,16 +12,9 @@ pub some_one : {A : Type 0} {x y : A} → Some x ≡ Some y → x ≡ y
 some_one is = cc
 
 -- A master has what it was given, and the other one what it had.
-pub of_master-same : {A : Type 0} (id : MasterId) (a : A) (each : EachMaster A) → of_master id (with_master id a each) ≡ a
-of_master-same id a each = grind arith
-
 pub with_master-cases : {A : Type 0} (id who : MasterId) (a : Option A) (each : EachMaster (Option A)) (x : A)
     → of_master id (with_master who a each) ≡ Some x → ((id ≡ who) × (a ≡ Some x)) ⊎ ((id ≢ who) × (of_master id each ≡ Some x))
 with_master-cases id who a each x is = grind arith
-
--- Neither master has anything before a script.
-pub nothing_first : {A B : Type 0} {x : A} (id : MasterId) → of_master id (record { primary = None; secondary = None }) ≡ Some x → B
-nothing_first id is = grind arith
 
 -- What is in a list with one more.
 pub length-one_more : {A : Type 0} (xs : List A) (x : A) → length (xs ++ x ∷ []) ≡ length xs + 1

@@ -92,7 +92,6 @@ reaches_one identity heard sent brought a =
 
 step_exists : (start : Start) (world : World) (event : LineEvent) → LegsAreDetected start world event
     → (next : World) × Step start world event next
-step_exists start world (Submit who address request) detected = (_, refl)
 step_exists start world (Turn who up down) detected =
     let hand = of_master who world.hands in
     let brought = reaches_one start.device.identity up (sent_by who hand) detected.0 detected.1 in

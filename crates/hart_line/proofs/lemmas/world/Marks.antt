@@ -9,7 +9,7 @@ use Rattle.hart_device.specs.Device.{Effect}
 use Rattle.hart_line.specs.world.Step.{Step, effect_on, executions_after, marks_after}
 use Rattle.hart_line.specs.world.World.{Execution, MarksWithin, Start, World, first_world, state_of}
 use Rattle.hart_line.specs.declared.event.LineEvent.{LineEvent}
-use Rattle.hart_line.proofs.lemmas.world.Basics.{nothing_first, with_master-cases}
+use Rattle.hart_line.proofs.lemmas.world.Basics.{with_master-cases}
 use Rattle.hart_line.proofs.lemmas.world.Steps.{entered}
 
 effect_marks : (effect : Effect) (who : MasterId) (number : ℕ) (executions : List Execution) (marks : EachMaster (Option ℕ))
@@ -24,4 +24,4 @@ step_marks start world event next step within =
     let e = entered start world event next step in grind (arith, common_steps, effect_marks)
 
 pub first_marks : (start : Start) → MarksWithin (first_world start)
-first_marks start = λ id mark is. nothing_first id is
+first_marks start = λ id mark is. grind arith

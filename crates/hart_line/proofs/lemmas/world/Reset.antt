@@ -24,7 +24,6 @@ use Rattle.hart_line.specs.declared.event.Heard.{Heard}
 use Rattle.hart_line.specs.declared.event.LineEvent.{LineEvent}
 use Rattle.hart_line.specs.declared.event.LineEvent.TheVariants.{Turn}
 use Rattle.hart_line.proofs.lemmas.world.Arrival.{no_effect}
-use Rattle.hart_line.proofs.lemmas.world.Basics.{of_master-same}
 use Rattle.hart_line.proofs.lemmas.world.Leads.{leads_on, step_one}
 use Rattle.hart_line.proofs.lemmas.world.Steps.{entered, to_last, turn_cases}
 
@@ -68,7 +67,7 @@ reset_marks : (start : Start) (world : World) (who : MasterId) (up down : Heard)
     → effect_on (state_of start.device world) step.brought ≡ Resets
     → (of_master who next.marks ≡ Some (length world.executions)) × (next.executions ≡ world.executions)
 reset_marks start world who up down next step resets = elim (turn_cases start world who up down next step) [
-  | inl s ↦ rw (s.next_is, resets) (of_master-same who _ world.marks, refl)
+  | inl s ↦ rw (s.next_is, resets) (grind arith, refl)
   | inr silent ↦ (let quiet = no_effect (state_of start.device world) step.brought silent.0 in cc)
 ]
 

@@ -41,10 +41,10 @@ pub state-after : (initial : DeviceState) (world next : World) (id : MasterId) (
     → record (after id effect (state_of initial world)) { cold_start = next.cold_start } ≡ state_of initial next
 state-after initial world next id number (Executes overwrite) within executions marks protected =
     let entry : Execution = record { submission = number; overwrite = overwrite } in
-    let more = length-one_more world.executions entry in
+    let more : length (world.executions ++ entry ∷ []) ≡ length world.executions + 1 = grind (arith, common_steps) in
     rw (executions, marks, protected) (same_state _ _ refl
     (contents-more world.executions entry initial.contents)
-    (rw more (counted initial.counter (length world.executions)))
+    (rw more (mod-add-mod (initial.counter + length world.executions) 65536 1 ∙ ap (λ n. n % 65536) (omega arith)))
     (rw more (is_changed-more initial.changed.primary world.marks.primary (length world.executions) (within Primary)))
     (rw more (is_changed-more initial.changed.secondary world.marks.secondary (length world.executions) (within Secondary)))
     refl refl)

@@ -1,4 +1,5 @@
 -- A request in hand is unfinished, and is the one that was submitted under its number, to its master and for its address.
+use Rattle.hart_line.proofs.lemmas.world.Basics.{length-one_more}
 use Rattle.std.proofs.lemmas.Grind.{common_steps}
 use Rattle.std.proofs.Common.{◌≡◌, ℕ, ◌+◌, ◌<◌, zero, suc, ◌∙◌, refl, Option, None, Some, List, [], ◌∷◌, ◌++◌}
 use Rattle.std.proofs.Common.{add-one, drop, get_or, length, slice_set, take, inl, inr, arith}
@@ -20,7 +21,7 @@ use Rattle.hart_line.specs.declared.event.LineEvent.{LineEvent}
 use Rattle.hart_line.specs.declared.event.LineEvent.TheVariants.{Submit, Turn}
 use Rattle.hart_line.specs.declared.line.report.Outcome.{Outcome}
 use Rattle.hart_line.specs.declared.line.report.Outcome.TheVariants.{Unfinished, Refused}
-use Rattle.hart_line.proofs.lemmas.world.Basics.{length-one_more, nothing_first, slice_get-append, slice_get-last, slice_get-set_other}
+use Rattle.hart_line.proofs.lemmas.world.Basics.{slice_get-append, slice_get-last, slice_get-set_other}
 use Rattle.hart_line.proofs.lemmas.world.Basics.{slice_get-set_same, some_one, with_master-cases}
 use Rattle.hart_line.proofs.lemmas.world.Steps.{along, by_cases}
 
@@ -94,7 +95,7 @@ pub held_in : (start : Start) (events : List LineEvent) {before next : World} {e
 held_in start events {before = before} {event = event} here =
     (along start (first_world start) events (IsAlong (submissions_of events))
     (λ before next event here. step_along (submissions_of events) start before event next here.step here.suffix)
-    (record { to_come = refl; hands = λ id held is. nothing_first id is })
+    (record { to_come = refl; hands = λ id held is. grind arith })
     here.prefix (event ∷ here.suffix) before here.split here.led).hands
 
 -- The request of a submission stands at its number among the requests.

@@ -3,7 +3,7 @@ use Rattle.std.proofs.lemmas.List.{take_all}
 use Rattle.hart_device.specs.Device.{DeviceState}
 use Rattle.hart_line.specs.world.Promises.{AreWellMade, start_from}
 use Rattle.hart_line.proofs.lemmas.line.Reached.{fault_at, of_last, reached_first, reached_more, reached_whole}
-use Rattle.hart_line.proofs.lemmas.line.Room.{room_for_each, room_for_next}
+use Rattle.hart_line.proofs.lemmas.line.Room.{room_for_each}
 use Rattle.hart_line.proofs.lemmas.line.Told.{noted_stands, stepped_on, undetected_on, with_spoken}
 use Rattle.hart_line.proofs.lemmas.Laws.{scripts_keep_their_promises-first_world, scripts_keep_their_promises-kept}
 use Rattle.hart_line.proofs.lemmas.world.Submitted.{made_more}
