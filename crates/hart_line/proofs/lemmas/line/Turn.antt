@@ -58,13 +58,7 @@ pub replied_stands : (start : Start) (world : World) (heard : Heard) (answer : O
     → (a : IsAnswered start world heard None answer line.device line.spoken) → AreHeld start.retries world.hands line.masters
     → line.outcomes ≡ world.outcomes → line.response_preambles ≡ start.device.identity.response_preambles
     → Stands start (replied start world a.brought) line
-replied_stands start world heard answer line a held same preambles_are = record {
-  device_is = grind (arith, common_steps, none_reaches);
-  masters_are = held;
-  outcomes_are = same;
-  spoken_are = a.spoken_are;
-  preambles_are = preambles_are;
-}
+replied_stands start world heard answer line a held same preambles_are = grind (arith, common_steps, none_reaches)
 
 -- What an answer leaves is what its command leaves, but for the cold start bit of its master; silence leaves all.
 answer_leaves : (answered zero : Bool) (asked : Effect) (id : MasterId) (state : DeviceState)

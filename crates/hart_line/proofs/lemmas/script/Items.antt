@@ -69,12 +69,12 @@ pub items_of-none : (byte : ℕ) (text : List ℕ) → NoItemBegins (byte ∷ te
 unfolding items_of
 items_of-none byte [] none = refl
 items_of-none byte (low ∷ []) none = invalid _ (Plain byte low) [] (Some []) none refl tt
-items_of-none byte (low ∷ a ∷ []) none = before_none (Plain byte low)
+items_of-none byte (low ∷ a ∷ []) none = grind arith
 items_of-none byte (low ∷ a ∷ b ∷ rest) none = at_mark rest (a == 33) refl none
   where
     at_mark : (more : List ℕ) (mark : Bool) → (a == 33) ≡ mark → NoItemBegins (byte ∷ low ∷ a ∷ b ∷ more)
         → items_of (byte ∷ low ∷ a ∷ b ∷ more) ≡ None
-    at_mark [] true is nowhere = rw (eqb-true a 33 is) (before_none (Plain byte low))
+    at_mark [] true is nowhere = rw (eqb-true a 33 is) (grind arith)
     at_mark [] false is nowhere =
         invalid _ (Plain byte low) (a ∷ b ∷ []) (items_of (a ∷ b ∷ [])) nowhere refl (eqb-false a 33 is)
     at_mark (c ∷ more) true is nowhere =

@@ -57,15 +57,7 @@ turn_executed start events made before next who up down here write =
           let named = named_by (overwrite_of s.held.request) ((writes_have_overwrites-exactly s.held.request).0 sent.1.0) in
           let executes = writes_execute_their_overwrite-executes state frame s.held.request named.0 sent.1.1 sent.1.2
           (written_data_are_their_request s.held.request (made_of events s.held.submission _ made there)) named.1 in
-          record {
-            held = s.held;
-            in_hand = s.in_hand;
-            submitted_as = there;
-            overwrite = named.0;
-            overwrites = named.1;
-            executed = rw s.next_is (ap (λ effect. executions_after effect s.held.submission before.executions)
-                (ap (effect_on state) sent.0 ∙ executes));
-          })
+          grind (arith, common_steps))
       | inr silent ↦ (let none = silent.0 in absurd (grind arith))
     ]
 
