@@ -32,8 +32,7 @@ kept part others some = grind arith
 
 -- a line that begins with no blank begins with a byte of its first word
 first_byte : (line : List ℕ) → 0 < length line → is_blank (get_or line 0 0) ≡ false → 0 < position_or_len is_blank line
-first_byte [] some no_blank = absurd (omega arith)
-first_byte (x ∷ line) some no_blank = grind arith
+first_byte line some no_blank = grind (arith, common_steps)
 
 -- the first word of a line that begins with no blank, and the words after it
 pub word_first : (line word tail : List ℕ) (len : ℕ) → 0 < length line → is_blank (get_or line 0 0) ≡ false

@@ -1,4 +1,4 @@
-use Rattle.std.proofs.Common.{◌≡◌, ℕ, Bool, true, false, if◌then◌else◌, [], ◌∷◌, refl}
+use Rattle.std.proofs.Common.{arith, ◌≡◌, ℕ, Bool, true, false, if◌then◌else◌, [], ◌∷◌, refl}
 use Rattle.hex.specs.Hex.{is_hex_digit}
 use Rattle.hart_line.specs.script.Items.{hex_value, NoItemBegins, Plain}
 use Rattle.hart_line.specs.script.Digits.{value_of_digit}
@@ -12,8 +12,8 @@ by_test false x y none = refl
 -- a byte that is no item after a 0 is no digit
 no_digit : (byte : ℕ) → NoItemBegins (48 ∷ byte ∷ []) → 255 ≡ value_of_digit byte
 no_digit byte none =
-    by_test (is_hex_digit byte) (hex_value byte) 255
-    (λ is. none (Plain 48 byte) [] (record { valid = (refl, is); spelled = refl; ends = tt }))
+    let refused : is_hex_digit byte ≡ true → ⊥ =
+    λ is. none (Plain 48 byte) [] (record { valid = (refl, is); spelled = refl; ends = tt }) in grind arith
 
 pub returns-in-None : goal.returns-in-None
 returns-in-None c = no_digit c.args.byte c.in-None.ensures
