@@ -43,10 +43,7 @@ turned_on start world next who hand brought accepted is = grind (arith, common_s
 
 step_on : (start : Start) (world next : World) (event : LineEvent) → Step start (with_spoken [] world) event next
     → Step start world event (with_spoken (world.spoken ++ next.spoken) next)
-step_on start world next (Submit who address request) is = grind (arith, common_steps, submitted_on)
-step_on start world next (Turn who up down) turn = grind (arith, common_steps, turned_on)
-step_on start world next (Noise chars) noise = grind (arith, common_steps)
-step_on start world next event is = rw (is, append-nil world.spoken) refl
+step_on start world next event is = grind (arith, common_steps, append-nil, submitted_on, turned_on)
 
 pub undetected_on : (start : Start) (world : World) (event : LineEvent) (leg : Leg) → HasUndetected start (with_spoken [] world) event leg
     → HasUndetected start world event leg

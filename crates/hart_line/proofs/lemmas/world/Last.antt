@@ -50,8 +50,7 @@ AllByRecursion-append P (y ∷ xs) x all p = (all.0, AllByRecursion-append P xs 
 effect_writes : (effect : Effect) (number : ℕ) (requests : List Request) (executions : List Execution)
     → ((overwrite : Overwrite) → effect ≡ Executes overwrite → IsWriteOf requests (record { submission = number; overwrite = overwrite }))
     → AllByRecursion (IsWriteOf requests) executions → AllByRecursion (IsWriteOf requests) (executions_after effect number executions)
-effect_writes (Executes overwrite) number requests executions writes all = grind (arith, common_steps, AllByRecursion-append)
-effect_writes effect number requests executions writes all = all
+effect_writes effect number requests executions writes all = grind (arith, common_steps, AllByRecursion-append)
 
 are_writes : (start : Start) (events : List LineEvent) → AreWellMade events → (last : World) → IsLast start events last
     → AllByRecursion (IsWriteOf (requests_of events)) last.executions

@@ -33,8 +33,7 @@ pub record Grows (old new : List Execution) : Type 0 where
   pub is : new ≡ old ++ more
 
 effect_grows : (effect : Effect) (number : ℕ) (old now : List Execution) → Grows old now → Grows old (executions_after effect number now)
-effect_grows (Executes overwrite) number old now g = grind (arith, common_steps, append_assoc)
-effect_grows effect number old now g = g
+effect_grows effect number old now g = grind (arith, common_steps, append_assoc)
 
 leads_grows : (start : Start) (events : List LineEvent) (world last : World) → LeadsTo start world events last
     → Grows world.executions last.executions

@@ -4,11 +4,6 @@ use Rattle.hart_line.specs.script.Items.{hex_value, NoItemBegins, Plain}
 use Rattle.hart_line.specs.script.Digits.{value_of_digit}
 use Rattle.hart_line.proofs.script.digits.digit_value.Goals as goal
 
--- what a test refuses has the other value
-by_test : (test : Bool) (x y : ℕ) → (test ≡ true → ⊥) → y ≡ (if test then x else y)
-by_test true x y none = absurd (none refl)
-by_test false x y none = refl
-
 -- a byte that is no item after a 0 is no digit
 no_digit : (byte : ℕ) → NoItemBegins (48 ∷ byte ∷ []) → 255 ≡ value_of_digit byte
 no_digit byte none =
