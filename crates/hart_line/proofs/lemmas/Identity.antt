@@ -1,15 +1,13 @@
 -- The address in the identity of a device.
 use Rattle.std.proofs.lemmas.Grind.{common_steps}
-use Rattle.std.proofs.Common.{◌≡◌, ℕ, false, Some, arith}
+use Rattle.std.proofs.Common.{◌≡◌, ℕ, Some, arith}
 use Rattle.std.proofs.lemmas.Bool.Decides.{nat_tests}
-use Rattle.hart_values.specs.address.AddressBytes.{broadcast, is_broadcast}
-use Rattle.hart_values.specs.address.DeviceNumbers.{DeviceNumbers}
 use Rattle.hart_values.specs.declared.address.Address.TheVariants.{Unique}
 use Rattle.hart_commands.specs.declared.content.ReplyContent.TheVariants.{Identity}
 use Rattle.hart_commands.specs.declared.reply.Reply.{Reply}
 use Rattle.hart_device.specs.Identity.{AreIdentityParts, identity_content, own_numbers}
 use Rattle.hart_device.specs.declared.identity_parts.IdentityParts.{IdentityParts}
-use Rattle.hart_master.specs.Unique.{address_of, unique_in}
+use Rattle.hart_master.specs.Unique.{unique_in}
 
 -- an identity has the address of its device
 pub identity_gives_address : (parts : IdentityParts) (counter extended_device_status : ℕ) (reply : Reply) → AreIdentityParts parts

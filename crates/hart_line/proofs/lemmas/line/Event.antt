@@ -1,11 +1,9 @@
 -- A submission, the switch of protection and a restart on the line are those of the world.
-use Rattle.std.proofs.Common.{◌≡◌, true, Option, [], ◌∷◌, ◌++◌, Bool, length, arith}
+use Rattle.std.proofs.Common.{Option, [], ◌∷◌, ◌++◌, length, arith}
 use Rattle.hart_values.specs.declared.address.Address.{Address}
 use Rattle.hart_values.specs.declared.master_id.MasterId.{MasterId}
-use Rattle.hart_values.specs.declared.each_master.EachMaster.{EachMaster}
 use Rattle.hart_values.specs.EachMaster.{of_master, with_master}
 use Rattle.hart_commands.specs.declared.request.Request.{Request}
-use Rattle.hart_device.specs.Device.{DeviceState, for_both, restarted}
 use Rattle.hart_master.specs.declared.fault.MasterFault.{MasterFault}
 use Rattle.hart_line.specs.line.Line.{LineState, Stands}
 use Rattle.hart_line.specs.line.Masters.{AreHeld, Submits}

@@ -8,7 +8,7 @@ use Rattle.hart_frame.specs.wire.Message.{IsMessage}
 use Rattle.hart_frame.proofs.lemmas.Laws.{messages_have_their_frame_alone-message, messages_have_their_frame_alone-nothing}
 use Rattle.std.specs.Option.{MatchOption}
 use Rattle.hart_values.specs.declared.master_id.MasterId.{MasterId}
-use Rattle.hart_device.specs.answer.Delivery.{Brought, BringsBy, Garbled, NoMessage, OneFrame, answer_to}
+use Rattle.hart_device.specs.answer.Delivery.{Brought, BringsBy, Garbled, NoMessage, OneFrame}
 use Rattle.hart_device.specs.Device.{DeviceState}
 use Rattle.hart_device.specs.answer.Garbled.{HasGarbled, garbled_reply}
 use Rattle.hart_device.specs.declared.answer.garbled.GarbledRequest.{GarbledRequest}
@@ -18,12 +18,11 @@ use Rattle.hart_line.specs.world.Damage.{AreHeard, Arrives, ArrivesAmong, Reache
 use Rattle.hart_line.specs.line.Leg.{AnswersTo, IsSent, IsSpeakable}
 use Rattle.hart_line.specs.line.Masters.{Sends}
 use Rattle.hart_line.specs.world.Spoken.{SpokenFrame, Speaks, frame_of, master_preambles, party_of, spoken_by}
-use Rattle.hart_line.specs.world.Step.{sent_back, sent_by}
-use Rattle.hart_line.specs.world.World.{InHand, Start, World, state_of}
+use Rattle.hart_line.specs.world.Step.{sent_by}
+use Rattle.hart_line.specs.world.World.{InHand}
 use Rattle.hart_line.specs.declared.event.Heard.{Heard}
 use Rattle.hart_line.specs.declared.event.Heard.TheVariants.{Clean}
 use Rattle.hart_line.specs.declared.line.report.Party.{Party}
-use Rattle.hart_line.specs.declared.line.report.Party.TheVariants as parties
 use Rattle.hart_line.specs.declared.line.report.Spoken.{Spoken}
 
 -- WHAT CHARACTERS BRING
@@ -104,4 +103,3 @@ pub says_request : (Silent : Type 0) (Sent : InHand → Type 0) (who : MasterId)
     (old new : List Spoken) → Sends who hand frame Silent Sent → Speaks (spoken_by (party_of who) master_preambles frame) old new
     → Speaks (sent_by who hand) old new × IsSent frame (sent_by who hand)
 says_request Silent Sent who hand frame old new sends speaks = grind (arith, common_steps, speaks_sent)
-

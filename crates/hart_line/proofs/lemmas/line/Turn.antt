@@ -1,7 +1,7 @@
 -- A turn of the line is a turn of the world.
 use Rattle.std.proofs.lemmas.Grind.{common_steps}
 use Rattle.std.proofs.Common.{◌≡◌, ◌&&◌, Bool, false, if◌then◌else◌, ◌∙◌, refl, Option, None, Some, List, ◌++◌}
-use Rattle.std.proofs.Common.{ℕ, ◌⊎◌, append_assoc, arith}
+use Rattle.std.proofs.Common.{◌⊎◌, append_assoc, arith}
 use Rattle.std.specs.Option.{option_to_list}
 use Rattle.hart_values.specs.declared.master_id.MasterId.{MasterId}
 use Rattle.hart_frame.specs.wire.FrameParts.{FrameParts}

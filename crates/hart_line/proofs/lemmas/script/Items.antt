@@ -13,7 +13,7 @@ use Rattle.std.proofs.Math.Seq.{drop-append_seam}
 use Rattle.hart_frame.specs.heard.Character.{AreFaultBits, Character, IsFaultBit}
 use Rattle.hart_line.specs.script.Items.{AreDigits, are_some_fault_bits, BeginsAsItem, BeginsWithItem, byte_of, EndsBefore, Faulty}
 use Rattle.hart_line.specs.script.Items.{is_valid_item, IsValidItem}
-use Rattle.hart_line.specs.script.Items.{Item, item_before, item_meaning, item_spelling, items_of, items_word_of, NoItemBegins, Plain}
+use Rattle.hart_line.specs.script.Items.{Item, item_before, item_meaning, item_spelling, items_of, NoItemBegins, Plain}
 
 -- a bit that is set is none of those that are not
 set_bit : (faults bit : ℕ) → bit < 8 → bit_at faults bit ≡ 1 → bit_at faults 0 ≡ 0 → bit_at faults 2 ≡ 0 → bit_at faults 3 ≡ 0
@@ -59,10 +59,6 @@ items_of-item text item tail begins = rw (begins.spelled, valid_tested item begi
 invalid : (text : List ℕ) (item : Item) (tail : List ℕ) (chars : Option (List Character)) → NoItemBegins text
     → text ≡ item_spelling item ++ tail → EndsBefore tail item → item_before item chars ≡ None
 invalid text item tail chars none spelled ends = grind (arith, valid)
-
--- an item before no characters gives none
-before_none : (item : Item) → item_before item None ≡ None
-before_none item = grind arith
 
 -- a text of a byte at least in which no item begins is not items end to end
 pub items_of-none : (byte : ℕ) (text : List ℕ) → NoItemBegins (byte ∷ text) → items_of (byte ∷ text) ≡ None

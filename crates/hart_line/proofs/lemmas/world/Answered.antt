@@ -1,7 +1,7 @@
 -- Each accepted reply was accepted in the turn of the last sending.
 use Rattle.std.proofs.lemmas.Grind.{common_steps}
 use Rattle.std.proofs.Common.{◌≡◌, ℕ, ◌+◌, ap, ◌∙◌, sym, arith, slice_index, Option, None, Some}
-use Rattle.std.proofs.Common.{List, [], ◌∷◌, ◌++◌, slice_set, ◌⊎◌, inl, inr}
+use Rattle.std.proofs.Common.{List, [], ◌∷◌, slice_set, ◌⊎◌, inl, inr}
 use Rattle.std.specs.List.{slice_get}
 use Rattle.hart_values.specs.declared.master_id.MasterId.{MasterId}
 use Rattle.hart_frame.specs.wire.FrameParts.{FrameParts}
@@ -16,19 +16,16 @@ use Rattle.hart_values.specs.declared.address.Address.{Address}
 use Rattle.hart_commands.specs.declared.request.Request.{Request}
 use Rattle.hart_master.specs.declared.fault.MasterFault.{MasterFault}
 use Rattle.hart_line.specs.world.Step.{submitted}
-use Rattle.hart_device.specs.answer.Delivery.{NoMessage}
-use Rattle.std.proofs.Common.{refl}
 use Rattle.hart_line.specs.declared.event.LineEvent.TheVariants.{Submit}
 use Rattle.hart_line.specs.world.Damage.{Arrives}
 use Rattle.hart_line.specs.world.Promises.{AnswersLastSending, AnswersLastSendingFrom, IsStepOf, submissions_of}
-use Rattle.hart_line.specs.world.Spoken.{frame_of, spoken_by}
-use Rattle.hart_line.specs.world.Step.{Accepts, IsLast, IsTurn, sent_back, hand_left, spoken_request}
+use Rattle.hart_line.specs.world.Spoken.{spoken_by}
+use Rattle.hart_line.specs.world.Step.{Accepts, IsLast, spoken_request}
 use Rattle.hart_line.specs.world.Step.{outcome_of}
 use Rattle.hart_line.specs.world.World.{InHand, Start, World, first_world, state_of}
 use Rattle.hart_line.specs.declared.event.Heard.{Heard}
 use Rattle.hart_line.specs.declared.event.LineEvent.{LineEvent}
 use Rattle.hart_line.specs.declared.event.LineEvent.TheVariants.{Turn}
-use Rattle.hart_line.specs.declared.line.report.Outcome.{Outcome}
 use Rattle.hart_line.specs.declared.line.report.Outcome.TheVariants.{Answered}
 use Rattle.hart_line.specs.declared.line.report.Party.{Party}
 use Rattle.hart_line.proofs.lemmas.world.Arrival.{frame_in}

@@ -3,12 +3,12 @@ use Rattle.std.proofs.Common.{◌≡◌, Option, None, Some, List, [], ◌∷◌
 use Rattle.std.proofs.Common.{append-nil, arith}
 use Rattle.std.specs.Option.{option_to_list}
 use Rattle.hart_frame.specs.wire.FrameParts.{FrameParts}
-use Rattle.hart_device.specs.answer.Delivery.{Brought, Garbled, NoMessage, OneFrame, state_after_delivery}
+use Rattle.hart_device.specs.answer.Delivery.{Brought, Garbled, NoMessage, OneFrame}
 use Rattle.hart_device.specs.Device.{DeviceState, Nothing}
 use Rattle.hart_device.specs.declared.identity_parts.IdentityParts.{IdentityParts}
-use Rattle.hart_line.specs.world.Damage.{Arrives, Reaches}
+use Rattle.hart_line.specs.world.Damage.{Reaches}
 use Rattle.hart_line.specs.world.Step.{effect_on}
-use Rattle.hart_line.specs.world.Spoken.{AreSpoken, IsSpoken, SpokenFrame, Speaks, frame_of}
+use Rattle.hart_line.specs.world.Spoken.{AreSpoken, SpokenFrame, Speaks, frame_of}
 use Rattle.hart_line.specs.declared.event.Heard.{Heard}
 use Rattle.hart_line.specs.declared.line.report.Spoken.{Spoken}
 

@@ -1,5 +1,5 @@
 -- What an option and a list hold, and what one of two masters has.
-use Rattle.std.proofs.Common.{◌≡◌, ◌≢◌, ℕ, ◌+◌, arith, Option, None, Some, refl, List}
+use Rattle.std.proofs.Common.{◌≡◌, ◌≢◌, ℕ, ◌+◌, arith, Option, Some, refl, List}
 use Rattle.std.proofs.Common.{[], ◌∷◌, ◌++◌, length, slice_set, ◌⊎◌}
 use Rattle.std.specs.List.{slice_get}
 use Rattle.std.proofs.lemmas.Grind.{common_steps}

@@ -1,14 +1,13 @@
 -- A submission is executed at most as often as it is sent.
-use Rattle.std.proofs.Common.{◌≡◌, ℕ, ◌+◌, ◌≤◌, ◌==◌, refl, arith, Option, Some, Bool}
+use Rattle.std.proofs.Common.{◌≡◌, ℕ, ◌+◌, ◌≤◌, ◌==◌, arith, Some}
 use Rattle.std.proofs.Common.{List, [], ◌∷◌, ◌++◌, slice_set, if◌then◌else◌}
 use Rattle.std.specs.List.{slice_get}
 use Rattle.std.proofs.lemmas.Bool.Decides.{nat_tests}
 use Rattle.std.proofs.lemmas.Grind.{common_steps}
-use Rattle.hart_commands.specs.declared.reply.Reply.{Reply}
 use Rattle.hart_device.specs.Device.{Effect}
 use Rattle.hart_line.specs.world.Executions.{times_executed}
 use Rattle.hart_line.specs.world.Promises.{IsStepOf, sendings_in}
-use Rattle.hart_line.specs.world.Step.{IsLast, effect_on, executions_after, outcome_of}
+use Rattle.hart_line.specs.world.Step.{IsLast, effect_on, executions_after}
 use Rattle.hart_line.specs.world.World.{Execution, InHand, Start, World, first_world, state_of}
 use Rattle.hart_line.specs.declared.event.LineEvent.{LineEvent}
 use Rattle.hart_line.specs.declared.line.report.Outcome.{Outcome}

@@ -1,6 +1,6 @@
 -- Detectable damage is detected, and a script of which all damage is detected has a last world.
 use Rattle.std.proofs.lemmas.Grind.{common_steps}
-use Rattle.std.proofs.Common.{◌≡◌, ℕ, ◌≤◌, refl, subst, arith, Option, None, Some, List, [], ◌∷◌, length, inl}
+use Rattle.std.proofs.Common.{◌≡◌, ◌≤◌, refl, subst, arith, Option, None, Some, List, [], ◌∷◌, length, inl}
 use Rattle.std.proofs.Common.{inr}
 use Rattle.hart_values.specs.declared.master_id.MasterId.{MasterId}
 use Rattle.hart_frame.specs.heard.Character.{Character, faultless}
@@ -18,18 +18,17 @@ use Rattle.hart_frame.proofs.lemmas.Laws.{messages_have_their_frame_alone-nothin
 use Rattle.hart_master.proofs.lemmas.Laws.{replies_are_decided-decided}
 use Rattle.hart_line.specs.world.Damage.{Arrives, IsDetectable, IsDetected, IsUndetected, Reaches}
 use Rattle.hart_line.specs.world.Faults.{AreAllDetected, HasDetectable, HasUndetected, IsFault, IsNotDetectable, LegsAreDetected}
-use Rattle.hart_line.specs.world.Spoken.{SpokenFrame, frame_of, spoken_by}
+use Rattle.hart_line.specs.world.Spoken.{SpokenFrame, frame_of}
 use Rattle.hart_line.specs.world.Step.{Accepts, LeadsTo, Step, sent_by}
 use Rattle.hart_line.specs.world.World.{InHand, Start, World}
 use Rattle.hart_line.specs.declared.event.Heard.{Heard}
-use Rattle.hart_line.specs.declared.event.Heard.TheVariants.{Clean, Lost, Chars}
+use Rattle.hart_line.specs.declared.event.Heard.TheVariants.{Clean, Chars}
 use Rattle.hart_line.specs.declared.event.LineEvent.{LineEvent}
-use Rattle.hart_line.specs.declared.event.LineEvent.TheVariants.{Submit, Turn, Noise}
+use Rattle.hart_line.specs.declared.event.LineEvent.TheVariants.{Turn, Noise}
 use Rattle.hart_line.specs.declared.fault.Leg.{Leg}
 use Rattle.hart_line.specs.declared.fault.Leg.TheVariants as legs
 use Rattle.hart_line.specs.declared.fault.LineFault.{LineFault}
 use Rattle.hart_line.specs.declared.fault.LineFault.TheVariants.{Undetected}
-use Rattle.hart_line.specs.declared.line.report.Party.{Party}
 use Rattle.hart_line.proofs.lemmas.world.Leads.{Reaches-one, leads_one}
 
 -- DETECTABLE DAMAGE

@@ -1,6 +1,6 @@
 -- What holds since a master's last reset, and after a refused command.
 use Rattle.std.proofs.lemmas.Grind.{common_steps}
-use Rattle.std.proofs.Common.{◌≡◌, ◌≢◌, ℕ, ◌≤◌, nat_lt, ap, ◌∙◌, sym, refl, subst, arith, Option, Some, IfSome, Ok, false}
+use Rattle.std.proofs.Common.{◌≡◌, ◌≢◌, ℕ, nat_lt, ap, ◌∙◌, sym, refl, subst, arith, Option, Some, IfSome, Ok, false}
 use Rattle.std.proofs.Common.{List, [], ◌∷◌, ◌++◌, length, append_assoc, append-nil, ◌⊎◌, inl, inr, Bool, if◌then◌else◌}
 use Rattle.std.proofs.lemmas.List.{length-append}
 use Rattle.std.proofs.lemmas.Bool.Decides.{nat_tests}
@@ -13,7 +13,7 @@ use Rattle.hart_commands.specs.declared.reply.Reply.{Reply}
 use Rattle.hart_commands.specs.declared.request.Request.TheVariants.{ResetChanged}
 use Rattle.hart_device.specs.answer.Answer.{after_refusal, code_of, effect_of, is_answered, reading_of}
 use Rattle.hart_device.specs.answer.Delivery.{Brought}
-use Rattle.hart_device.specs.Device.{DeviceState, Effect, Nothing, Executes, Resets}
+use Rattle.hart_device.specs.Device.{DeviceState, Effect, Nothing, Resets}
 use Rattle.hart_device.proofs.lemmas.Laws.{refused_commands_change_nothing-refused, refused_commands_change_nothing-silent}
 use Rattle.hart_device.proofs.lemmas.Laws.{resets_name_this_counter-only}
 use Rattle.hart_line.specs.world.Promises.{HasNoReset, IsLastReset, IsRefusedByDevice, IsStepOf}

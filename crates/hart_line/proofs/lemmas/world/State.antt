@@ -1,17 +1,16 @@
 -- The state of the device in a world, after an effect.
 use Rattle.std.proofs.lemmas.Grind.{common_steps}
-use Rattle.std.proofs.Common.{◌≡◌, ℕ, ◌+◌, ◌%◌, ◌≤◌, ◌<◌, ap, ◌∙◌, refl, arith, Option, Some, Bool, true, false}
+use Rattle.std.proofs.Common.{◌≡◌, ℕ, ◌+◌, ◌%◌, ◌≤◌, ap, ◌∙◌, refl, arith, Option, Some, Bool, true}
 use Rattle.std.proofs.Common.{List, [], ◌∷◌, ◌++◌, length}
 use Rattle.std.proofs.lemmas.List.{map-append}
-use Rattle.std.proofs.Math.Nat.{mod-add-mod, mod-eq_of_lt}
+use Rattle.std.proofs.Math.Nat.{mod-add-mod}
 use Rattle.std.proofs.lemmas.Bool.Decides.{nat_tests}
 use Rattle.hart_values.specs.declared.master_id.MasterId.{MasterId}
 use Rattle.hart_values.specs.declared.master_id.MasterId.TheVariants.{Primary, Secondary}
 use Rattle.hart_commands.specs.Registers.{Contents, registers_of, overwritten}
-use Rattle.hart_device.specs.Device.{DeviceState, Effect, Nothing, Executes, Resets, after}
-use Rattle.hart_device.proofs.lemmas.Laws.{registers_of_lists-last, registers_of_lists-none}
-use Rattle.hart_line.proofs.lemmas.world.Basics.{length-one_more}
-use Rattle.hart_line.specs.world.World.{World, Execution, Start, first_world, state_of, overwrites_of, is_changed, MarksWithin}
+use Rattle.hart_device.specs.Device.{DeviceState, Effect, Executes, after}
+use Rattle.hart_device.proofs.lemmas.Laws.{registers_of_lists-last}
+use Rattle.hart_line.specs.world.World.{World, Execution, state_of, overwrites_of, is_changed, MarksWithin}
 use Rattle.hart_line.specs.world.Step.{executions_after, marks_after}
 
 -- A mark lies before one execution more.
@@ -50,4 +49,3 @@ state-after initial world next id number (Executes overwrite) within executions 
     refl refl)
 state-after initial world next id number effect within executions marks protected =
     grind (arith, same_state, nat_tests)
-

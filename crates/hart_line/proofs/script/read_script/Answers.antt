@@ -54,5 +54,9 @@ returns-clause-events c =
     let all = YieldsList-end (YieldsList-at c.into_iter-part-iterator.ensures.into_iter_gives
     (YieldsList-from_slice_split _ (λ (byte : ℕ). byte == 10) c.args.text.now c.split-part-items.ensures.rest
     c.split-part-items.ensures.done c.split-part-items.ensures.closure (λ x b q k. search (rules, tests))))
-    c.loop-part.yielded _ c.loop-part.yielded_by _ _ c.in-None.is c.next.ensures.steps in grind (arith, common_steps, length-map,
-        take_all)
+    c.loop-part.yielded _ c.loop-part.yielded_by _ _ c.in-None.is c.next.ensures.steps in grind (
+      arith,
+      common_steps,
+      length-map,
+      take_all,
+    )

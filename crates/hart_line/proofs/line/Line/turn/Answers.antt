@@ -1,7 +1,6 @@
 use Rattle.std.proofs.Common.{refl}
 use Rattle.std.proofs.lemmas.Result.{err_from_is_err_and}
-use Rattle.hart_values.specs.EachMaster.{of_master}
-use Rattle.hart_line.specs.world.Step.{sent_back, sent_by}
+use Rattle.hart_line.specs.world.Step.{sent_back}
 use Rattle.hart_line.proofs.lemmas.line.Leg.{says_request}
 use Rattle.hart_line.proofs.lemmas.line.Turn.{answered, turn_stands}
 use Rattle.hart_line.proofs.line.Line.turn.Goals as goal

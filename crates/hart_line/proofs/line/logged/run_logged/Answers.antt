@@ -1,12 +1,10 @@
-use Rattle.std.proofs.Common.{◌∙◌, [], ap, arith, refl, rules, subst}
-use Rattle.std.proofs.lemmas.List.{take_all}
+use Rattle.std.proofs.Common.{◌∙◌, [], ap, arith, refl}
 use Rattle.hart_device.specs.Device.{DeviceState}
-use Rattle.hart_line.specs.world.Promises.{AreWellMade, start_from}
+use Rattle.hart_line.specs.world.Promises.{start_from}
 use Rattle.hart_line.proofs.lemmas.line.Reached.{fault_at, of_last, reached_first, reached_more, reached_whole}
 use Rattle.hart_line.proofs.lemmas.line.Room.{room_for_each}
 use Rattle.hart_line.proofs.lemmas.line.Told.{noted_stands, stepped_on, undetected_on, with_spoken}
 use Rattle.hart_line.proofs.lemmas.Laws.{scripts_keep_their_promises-first_world, scripts_keep_their_promises-kept}
-use Rattle.hart_line.proofs.lemmas.world.Submitted.{made_more}
 use Rattle.hart_line.proofs.line.logged.run_logged.Goals as goal
 
 pub loop-index-init : goal.loop-index-init
@@ -14,8 +12,12 @@ loop-index-init g c =
     let start = start_from c.args.device c.args.process.now c.args.primary c.args.secondary in
     let first = scripts_keep_their_promises-first_world start c.new-line.ensures.device.counter in
     rw (c.new-line.ensures.line, c.in_ok-room.ensures.outcomes, c.in_ok-room.ensures.spoken) (record {
-      told = ([], c.requires.fresh, reached_first c.args.device c.args.process.now c.args.primary c.args.secondary _ _ first
-          c.requires.primary c.requires.secondary);
+      told = (
+        [],
+        c.requires.fresh,
+        reached_first c.args.device c.args.process.now c.args.primary c.args.secondary _ _ first
+            c.requires.primary c.requires.secondary,
+      );
       room = record { outcomes = omega arith; nothing_spoken = refl; spoken = omega arith };
     })
 
@@ -40,10 +42,14 @@ loop-index-preserved g c =
     let (noted, has, reached) = c.loop-index.invariant.told in
     let events = c.args.events.now in
     let stands = noted_stands start reached.world _ noted c.loop-index.invariant.room.nothing_spoken reached.stands in record {
-      told = rw c.tell.ensures.line (_, c.tell.ensures.noted noted has, reached_more start events c.loop-index.index _ _ _
-          c.loop-index-test.true reached (stepped_on start reached.world _ _ noted reached.stands.spoken_are
-          (rw c.index-events-index.is at (c.in_default.ensures.stepped start (with_spoken [] reached.world) refl reached.marks stands)))
-          (rw c.index-events-index.is at c.in_default.ensures.well_made));
+      told = rw c.tell.ensures.line (
+        _,
+        c.tell.ensures.noted noted has,
+        reached_more start events c.loop-index.index _ _ _
+            c.loop-index-test.true reached (stepped_on start reached.world _ _ noted reached.stands.spoken_are
+            (rw c.index-events-index.is at (c.in_default.ensures.stepped start (with_spoken [] reached.world) refl reached.marks stands)))
+            (rw c.index-events-index.is at c.in_default.ensures.well_made),
+      );
       room = rw c.tell.ensures.line (room_for_each events c.loop-index.index _ _ _ c.loop-index-test.true c.loop-index.invariant.room
           (rw c.index-events-index.is at c.in_default.ensures.room));
     }

@@ -1,6 +1,6 @@
 use Rattle.std.proofs.Common.{drop, take}
 use Rattle.hart_line.specs.line.Room.{HasRoomFor}
-use Rattle.hart_line.specs.world.Promises.{AreWellMade, start_from}
+use Rattle.hart_line.specs.world.Promises.{start_from}
 use Rattle.hart_line.proofs.lemmas.line.Reached.{IsReached}
 use Rattle.hart_line.proofs.line.run.carry_out.Given as goal
 

@@ -1,6 +1,6 @@
-use Rattle.std.proofs.Common.{arith, ◌≡◌, ℕ, Bool, true, false, if◌then◌else◌, [], ◌∷◌, refl}
+use Rattle.std.proofs.Common.{arith, ◌≡◌, ℕ, true, [], ◌∷◌, refl}
 use Rattle.hex.specs.Hex.{is_hex_digit}
-use Rattle.hart_line.specs.script.Items.{hex_value, NoItemBegins, Plain}
+use Rattle.hart_line.specs.script.Items.{NoItemBegins, Plain}
 use Rattle.hart_line.specs.script.Digits.{value_of_digit}
 use Rattle.hart_line.proofs.script.digits.digit_value.Goals as goal
 

@@ -1,4 +1,4 @@
-use Rattle.std.proofs.Common.{◌≡◌, ◌≢◌, ◌≤◌, ℕ, List, length, [], ◌∷◌, get_or, refl, sym, ◌∙◌, subst, arith}
+use Rattle.std.proofs.Common.{◌≡◌, ◌≢◌, ◌≤◌, ℕ, List, length, ◌∷◌, get_or, refl, sym, ◌∙◌, subst, arith}
 use Rattle.std.proofs.lemmas.Bool.{iff_false}
 use Rattle.hart_frame.specs.heard.Character.{AreFaultBits, Character}
 use Rattle.hart_line.specs.script.Items.{AreDigits, BeginsAsItem, byte_of, Faulty, NoItemBegins}
