@@ -1,5 +1,6 @@
 -- That what a master hears has one outcome.
-use Rattle.std.proofs.Common.{◌≡◌, ◌∙◌, ℕ, true, false, List, [], ◌∷◌, Option, None, Some, Ok, Err, arith, ap, inl, inr, map, refl, subst, sym}
+use Rattle.std.proofs.lemmas.Grind.{common_steps}
+use Rattle.std.proofs.Common.{◌≡◌, ◌∙◌, ℕ, true, false, List, [], ◌∷◌, Option, None, Some, arith, ap, inl, inr, map, refl, subst, sym}
 use Rattle.std.proofs.lemmas.Bool.{false≢true}
 use Rattle.hart_values.specs.declared.address.Address.{Address}
 use Rattle.hart_values.specs.declared.master_id.MasterId.{MasterId}
@@ -11,7 +12,6 @@ use Rattle.hart_frame.specs.declared.wire.fault.FrameFault.TheVariants.{BadPream
 use Rattle.hart_frame.proofs.lemmas.Laws.{frames_are_unambiguous-one_list}
 use Rattle.hart_commands.specs.declared.reply.Reply.{Reply}
 use Rattle.hart_commands.specs.declared.request.Request.{Request}
-use Rattle.hart_master.specs.Acceptance.{IsReplyTo}
 use Rattle.hart_master.specs.Pairing.{may_ask}
 use Rattle.hart_master.proofs.lemmas.Laws.{replies_are_decided-one_reply}
 use Rattle.hart_c.specs.declared.fault.Fault.{Fault}
@@ -22,7 +22,7 @@ use Rattle.hart_c.specs.declared.master.HartAcceptance.{HartAcceptance}
 use Rattle.hart_c.specs.Encode.{IsEncodeFault, IsFrame}
 use Rattle.hart_c.specs.Find.{char_of}
 use Rattle.hart_c.specs.Frames.{found_in, frame_in}
-use Rattle.hart_c.specs.Master.{AcceptOutcome, Accepts, IsAcceptFault, IsAsked, IsSendFault, IsSent, IsShownReply, acceptance_of}
+use Rattle.hart_c.specs.Master.{AcceptOutcome, Accepts, IsAcceptFault, IsAsked, IsSendFault, IsSent, IsShownReply}
 use Rattle.hart_c.proofs.Outcomes.{one_encode_fault}
 
 -- what a frame asks is one request
@@ -42,16 +42,12 @@ is_no_fault numbers fault is why = absurd (why 0 0)
 -- what may be asked at an address is not wrong there
 may_not : (frame : FrameParts) (request other : Request) → IsAsked frame request → may_ask frame.address request ≡ true
     → IsAsked frame other → may_ask frame.address other ≡ false → ⊥
-may_not frame request other is may again wrong =
-    let same : may_ask frame.address request ≡ may_ask frame.address other =
-    ap (λ (r : Request). may_ask frame.address r) (one_asked frame request other is again) in
-    false≢true (sym wrong ∙ sym same ∙ may)
+may_not frame request other is may again wrong = grind (arith, common_steps, one_asked, false≢true)
 
 -- a request that was sent has no fault
 not_sent : (numbers : HartFrame) (request : Request) (fault : Fault) → IsSent numbers request → IsSendFault numbers fault → ⊥
 not_sent numbers request NoRequest is why = why.1 request is.asked
-not_sent numbers request WrongAddress is (frame, (other, asked, wrong)) =
-    may_not (frame_in numbers) request other is.asked is.paired asked wrong
+not_sent numbers request WrongAddress is (frame, (other, asked, wrong)) = grind (arith, common_steps, may_not)
 not_sent numbers request fault is why = is_no_fault numbers fault is.is_frame why
 
 one_send_fault : (numbers : HartFrame) (fault other : Fault) → IsSendFault numbers fault → IsSendFault numbers other → fault ≡ other
@@ -86,9 +82,7 @@ not_accepted numbers heard before after said fault is why = not_sent numbers is.
 
 -- a delivery that is accepted has one frame
 one_found : (chars : List Character) (found other : Found) → AreFrames chars 0 (found ∷ []) → AreFrames chars 0 (other ∷ []) → found ≡ other
-one_found chars found other alone only =
-    let same = frames_are_unambiguous-one_list chars 0 (found ∷ []) (other ∷ []) alone only in
-    cc
+one_found chars found other alone only = grind (arith, common_steps, frames_are_unambiguous-one_list)
 
 one_shown_reply : (id : MasterId) (address : Address) (request : Request) (chars : List Character) (before after other : HartFrame)
     (said tale : Option Reply) → IsShownReply id address request chars before after said
@@ -97,11 +91,7 @@ one_shown_reply id address request chars before after other None None (none, kep
 one_shown_reply id address request chars before after other None (Some reply) (none, kept) (is, shown, tidy) = absurd (none reply is)
 one_shown_reply id address request chars before after other (Some reply) None (is, shown, tidy) (none, kept) = absurd (none reply is)
 one_shown_reply id address request chars before after other (Some reply) (Some another) (is, shown, tidy) (again, seen, neat) =
-    let found = one_found chars is.found again.found is.alone again.alone in
-    let To : Found → Type 0 = λ f. IsReplyTo id address request f.frame another in
-    let same = replies_are_decided-one_reply id address request is.found.frame reply another is.is_reply
-    (subst To (sym found) again.is_reply) in
-    (ap (λ (r : Reply). let all : Option Reply = Some r in all) same, shown ∙ found ∙ sym seen)
+    grind (arith, common_steps, one_found, replies_are_decided-one_reply)
 
 pub one_acceptance : (numbers : HartFrame) (heard : List HartChar) (before after other : HartFrame) (acceptance another : HartAcceptance)
     → AcceptOutcome numbers heard before after acceptance → AcceptOutcome numbers heard before other another
@@ -112,13 +102,10 @@ one_acceptance numbers heard before after other acceptance another (inl (said, i
     λ request. IsShownReply frame.master frame.address request (map char_of heard) before other tale in
     let request = one_asked frame is.request again.request is.sent.asked again.sent.asked in
     let one = one_shown_reply frame.master frame.address is.request (map char_of heard) before after other said tale is.reply
-    (subst Shown (sym request) again.reply) in
-    (told ∙ ap (λ (s : Option Reply). acceptance_of (Ok s)) one.0 ∙ sym same, one.1)
+    (subst Shown (sym request) again.reply) in grind (arith, common_steps)
 one_acceptance numbers heard before after other acceptance another (inl (said, is, told)) (inr (fault, why, number, kept)) =
     absurd (not_accepted numbers heard before after said fault is why)
 one_acceptance numbers heard before after other acceptance another (inr (fault, why, number, kept)) (inl (said, is, told)) =
     absurd (not_accepted numbers heard before other said fault is why)
-one_acceptance numbers heard before after other acceptance another (inr (fault, why, number, kept)) (inr (found, because, told, stays)) = (
-  number ∙ ap (λ (f : Fault). acceptance_of (Err f)) (one_accept_fault numbers heard fault found why because) ∙ sym told,
-  ap found_in (kept ∙ sym stays),
-)
+one_acceptance numbers heard before after other acceptance another (inr (fault, why, number, kept)) (inr (found, because, told, stays)) =
+    grind (arith, common_steps, one_accept_fault)

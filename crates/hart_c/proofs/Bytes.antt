@@ -1,5 +1,6 @@
 -- What the bytes of an image that is kept say.
-use Rattle.std.proofs.Common.{◌≡◌, ◌∙◌, ◌+◌, ◌-◌, ◌%◌, ◌<◌, ◌++◌, ◌∷◌, [], ℕ, Bool, List, Some, arith, ap, length, length-append, refl, set}
+use Rattle.std.proofs.lemmas.Grind.{common_steps}
+use Rattle.std.proofs.Common.{◌≡◌, ◌∙◌, ◌+◌, ◌-◌, ◌%◌, ◌<◌, ◌++◌, ◌∷◌, [], ℕ, Bool, List, Some, arith, ap, length, length-append, refl}
 use Rattle.std.proofs.Common.{append_assoc, slice_index, sym, take}
 use Rattle.std.specs.Prelude.{if◌then◌else◌, ◌/◌}
 use Rattle.std.specs.List.{flat_map}
@@ -22,9 +23,7 @@ last_same [] (b ∷ ys) x y same = absurd (omega (arith, ap length same, length-
 last_same (a ∷ xs) [] x y same = absurd (omega (arith, ap length same, length-append xs (x ∷ [])))
 last_same (a ∷ xs) (b ∷ ys) x y same =
     let heads : a ≡ b = cc in
-    let tails : xs ++ x ∷ [] ≡ ys ++ y ∷ [] = cc in
-    let (fronts, lasts) = last_same xs ys x y tails in
-    (cc, lasts)
+    let tails : xs ++ x ∷ [] ≡ ys ++ y ∷ [] = cc in grind (arith, common_steps, last_same xs ys x y tails)
 
 -- an image is what stands before its flags, and those
 abbrev front_of : ℕ → List Register → DeviceState → List ℕ
@@ -32,10 +31,7 @@ front_of version listed state = version ∷ (flat_map (bytes_in state.contents) 
 
 image_parts : (version : ℕ) (listed : List Register) (state : DeviceState)
     → image_bytes version listed state ≡ front_of version listed state ++ flags_of state.changed state.protected ∷ []
-image_parts version listed state =
-    let flags = flags_of state.changed state.protected ∷ [] in
-    ap (λ (bytes : List ℕ). version ∷ bytes)
-    (sym (append_assoc (flat_map (bytes_in state.contents) listed) (two_bytes state.counter) flags))
+image_parts version listed state = grind (arith, common_steps, append_assoc, flat_map)
 
 -- so are the bytes that are kept
 record IsFlagged (device : HartDevice) (state : DeviceState) (version : ℕ) (listed : List Register) : Type 0 where
@@ -69,32 +65,7 @@ pub protection_kept : (parts : IdentityParts) (device : HartDevice) (state : Dev
 protection_kept parts device state on long is =
     let image = device.image in
     let last = device.image_len - 1 in
-    let flags = flagged parts device state is long in
-    let byte = slice_index image last % 4 + (if on then 4 else 0) in
-    let byte_is : byte ≡ flags_of state.changed on =
-    ap (λ (n : ℕ). n % 4 + (if on then 4 else 0)) flags.flags ∙ flags_again state.changed state.protected on in
-    let after : DeviceState = record state { protected = on } in
-    let all : device.image_len ≡ last + 1 = omega (arith, flags.some) in
-    let written : take device.image_len (set image last byte) ≡ image_bytes is.image.version is.image.listed after =
-    ap (λ (n : ℕ). take n (set image last byte)) all ∙ take_more_set image last byte (omega (arith, flags.some, is.fits, long))
-    ∙ ap (λ (bytes : List ℕ). bytes ++ byte ∷ []) flags.front
-    ∙ ap (λ (n : ℕ). front_of is.image.version is.image.listed after ++ n ∷ []) byte_is
-    ∙ sym (image_parts is.image.version is.image.listed after) in
-    record {
-      is_identity = is.is_identity;
-      identity = is.identity;
-      fits = is.fits;
-      image = record {
-        contents = is.image.contents;
-        counter = is.image.counter;
-        version = is.image.version;
-        listed = is.image.listed;
-        known = is.image.known;
-        long_tag = is.image.long_tag;
-        written = written;
-      };
-      cold_start = is.cold_start;
-    }
+    let flags = flagged parts device state is long in grind (arith, common_steps, slice_index, flags_again, take_more_set, image_parts)
 
 -- the flag of write protection is bit 2
 third_flag : (changed : EachMaster Bool) (protected : Bool) → flags_of changed protected / 4 ≡ (if protected then 1 else 0)
@@ -129,15 +100,6 @@ first_bytes parts device state long is =
     let (rest, listed) = first_registers is.image.version is.image.listed is.image.known in
     let others = flat_map (bytes_in contents) rest in
     let ending = image_ending state in
-    let written : image_in device ≡ is.image.version ∷ p ∷ m ∷ (others ++ ending) =
-    is.image.written ∙ ap (λ (registers : List Register). image_bytes is.image.version registers state) listed
-    ∙ ap (λ (bytes : List ℕ). is.image.version ∷ ((bytes ++ (contents.mode ++ others)) ++ ending)) polling
-    ∙ ap (λ (bytes : List ℕ). is.image.version ∷ p ∷ ((bytes ++ others) ++ ending)) mode in
+    let written : image_in device ≡ is.image.version ∷ p ∷ m ∷ (others ++ ending) = grind (arith, common_steps) in
     let kept : length (image_in device) ≡ device.image_len = length-take-le device.image_len image (omega (arith, is.fits, long)) in
-    let size = ap length written in
-    let At : ℕ → List ℕ → ℕ = λ i bytes. slice_index bytes i in
-    let first : p ≡ slice_index image 1 =
-    sym (ap (At 1) written) ∙ get_or-take device.image_len image 1 0 (omega (arith, kept, size)) in
-    let second : m ≡ slice_index image 2 =
-    sym (ap (At 2) written) ∙ get_or-take device.image_len image 2 0 (omega (arith, kept, size)) in
-    (polling ∙ ap (λ (n : ℕ). n ∷ []) first, mode ∙ ap (λ (n : ℕ). n ∷ []) second)
+    grind (arith, common_steps, slice_index, get_or-take)

@@ -1,4 +1,5 @@
 -- What is found in characters that are heard in pieces, and what is left of them.
+use Rattle.std.proofs.lemmas.Grind.{common_steps}
 use Rattle.std.proofs.Common.{◌≡◌, ◌+◌, ◌-◌, ◌<◌, ◌≤◌, ◌⊎◌, false, Bool, ℕ, IsTrue, List, [], ◌∷◌, ◌++◌, All, arith, ap, sym, subst}
 use Rattle.std.proofs.Common.{◌∙◌, append_assoc, drop, inl, inr, length, map, slice_index_or, take}
 use Rattle.std.proofs.lemmas.Bool.{false≢true}
@@ -6,7 +7,7 @@ use Rattle.std.proofs.lemmas.List.{append-nil, drop-append-le, drop-drop, length
 use Rattle.std.proofs.lemmas.List.{take-map, take_more}
 use Rattle.std.proofs.Math.Seq.{drop-length, take-length}
 use Rattle.hart_frame.specs.heard.Character.{Character}
-use Rattle.hart_frame.specs.heard.Frames.{AreFrames, IsUndecided, moved, none}
+use Rattle.hart_frame.specs.heard.Frames.{AreFrames, IsUndecided, none}
 use Rattle.hart_frame.specs.scan.Scanner.{Scan, hearing}
 use Rattle.hart_frame.specs.scan.Streamed.{IsHistory, push}
 use Rattle.hart_frame.specs.declared.heard.found.Found.{Found}
@@ -29,10 +30,7 @@ history_one n heard other character old new shown within is going history pushed
     let Of : List Character → Type 0 = λ chars. IsHistory chars new shown in
     let Now : Scan → Type 0 = λ scan. IsHistory (past ++ character ∷ []) scan shown in
     let given = slice_index_or heard n other in
-    let all : past ++ character ∷ [] ≡ take (n + 1) (map char_of heard) =
-    ap (λ (c : Character). past ++ c ∷ []) is ∙ ap (λ (cs : List Character). cs ++ char_of given ∷ []) (take-map char_of n heard)
-    ∙ sym (map-append char_of (take n heard) (given ∷ [])) ∙ ap (map char_of) (sym (take_more heard n other within))
-    ∙ sym (take-map char_of (n + 1) heard) in
+    let all : past ++ character ∷ [] ≡ take (n + 1) (map char_of heard) = grind (arith, common_steps, take-map, map-append, take_more) in
     subst Of all (subst Now (sym pushed) (push past old shown character history going))
 
 -- what comes after so many is what it was, so what comes after more is
@@ -52,16 +50,15 @@ next_frames n chars ended scan given fits closes history more later ends frames 
     let past = take n chars in
     let used = scan.first in
     let split = sym (take-append-drop n chars) in
-    let within : used ≤ length past = omega (arith, frames_are_streamed-pushed past scan given history) in
-    let Rest : List Character → Type 0 = λ cs. AreFrames cs 0 later in
-    let Whole : List Character → Type 0 = λ cs. AreFrames cs 0 (given ++ map (moved used) later) in
-    let rest = ap (λ (cs : List Character). drop used cs ++ more) split
-    ∙ ap (λ (cs : List Character). cs ++ more) (drop-append-le used past (drop n chars) within)
-    ∙ append_assoc (drop used past) (drop n chars) more in
-    let all = ap (λ (cs : List Character). cs ++ more) split ∙ append_assoc past (drop n chars) more in
-    let rest_frames = subst Rest rest frames in
-    subst Whole (sym all)
-    (held_characters_have_the_later_frames-later past (drop n chars ++ more) scan given later history (closes more ends) rest_frames)
+    grind (
+      arith,
+      common_steps,
+      frames_are_streamed-pushed,
+      drop-append-le,
+      append_assoc,
+      held_characters_have_the_later_frames-later,
+      closes,
+    )
 
 -- a search goes on if the scanner does, or if all was searched and nothing is to come
 abbrev pub GoesOn : ℕ → List Character → Bool → Scan → Type 0
@@ -71,9 +68,7 @@ GoesOn n chars ended scan = (scan.finished ≡ false) ⊎ (IsTrue ended × (n �
 closes : (n : ℕ) (chars : List Character) (ended : Bool) (scan : Scan) → GoesOn n chars ended scan → (more : List Character)
     → (IsTrue ended → more ≡ []) → IsTrue scan.finished → drop n chars ++ more ≡ []
 closes n chars ended scan (inl going) more ends finished = absurd (false≢true (sym going ∙ finished))
-closes n chars ended scan (inr all) more ends finished =
-    ap (λ (cs : List Character). drop n chars ++ cs) (ends all.0)
-    ∙ ap (λ (i : ℕ). drop i chars ++ []) all.1 ∙ ap (λ (cs : List Character). cs ++ []) (drop-length chars)
+closes n chars ended scan (inr all) more ends finished = grind (arith, common_steps, drop-length)
 
 -- what a search came to that goes on
 pub finds_more : (n count : ℕ) (chars : List Character) (ended : Bool) (before after : List HartFrame)
@@ -102,9 +97,7 @@ finds_more n count chars ended before after scan search used_is count_is fault f
           let held = held_characters_have_the_later_frames-held (take n chars) scan (found_in_first count after) history in
           let rest = ap (λ (place : ℕ). drop place chars) used_is ∙ ap (λ (cs : List Character). drop scan.first cs) (sym past_is) ∙ held in
           subst IsUndecided (sym rest) whole.2;
-      few = λ fewer.
-          let whole = waits (omega (arith, count_is, fewer)) in
-          omega (arith, used_is, all_held, taken, few, whole.0);
+      few = grind (arith, common_steps);
       all = λ fewer ends. absurd (false≢true (sym (waits (omega (arith, count_is, fewer))).1 ∙ ends));
     }
 
@@ -118,29 +111,15 @@ pub finds_all : (n count : ℕ) (chars : List Character) (ended : Bool) (before 
     → drop count after ≡ drop count before → All IsTidy (take count after) → AreFrames chars 0 (found_in_first count after)
     → IsTrue ended → Finds chars ended before after search
 finds_all n count chars ended before after search used_is count_is fault whole room untouched tidy frames ends =
-    let Untouched : ℕ → Type 0 = λ i. drop i after ≡ drop i before in
-    let Tidy : ℕ → Type 0 = λ i. All IsTidy (take i after) in
-    let Frames : ℕ → Type 0 = λ i. AreFrames chars 0 (found_in_first i after) in
-    record {
-      within = omega (arith, count_is, room);
-      untouched = subst Untouched (sym count_is) untouched;
-      tidy = subst Tidy (sym count_is) tidy;
-      used = omega (arith, used_is);
-      are_next = λ more later closed rest.
-          let given = found_in_first search.count after in
-          let Rest : List Character → Type 0 = λ cs. AreFrames cs 0 later in
-          let nothing = ap (λ (i : ℕ). drop i chars ++ more) used_is ∙ ap (λ (cs : List Character). cs ++ more) (drop-length chars)
-          ∙ closed ends in
-          let no_later = frames_are_unambiguous-one_list [] 0 later [] (subst Rest nothing rest) messages_have_their_frame_alone-nothing in
-          let chars_is = sym (append-nil chars) ∙ ap (λ (cs : List Character). chars ++ cs) (sym (closed ends)) in
-          let frames_are = sym (append-nil given) ∙ ap (λ (fs : List Found). given ++ map (moved search.used) fs) (sym no_later) in
-          subst (λ (cs : List Character). AreFrames cs 0 (given ++ map (moved search.used) later)) chars_is
-          (subst (λ (fs : List Found). AreFrames chars 0 fs) frames_are (subst Frames (sym count_is) frames));
-      fault = fault;
-      undecided = λ fewer going. absurd (false≢true (sym going ∙ ends));
-      few = λ fewer. omega (arith, used_is);
-      all = λ fewer closed. used_is;
-    }
+    grind (
+      arith,
+      common_steps,
+      drop-length,
+      frames_are_unambiguous-one_list,
+      messages_have_their_frame_alone-nothing,
+      append-nil,
+      false≢true,
+    )
 
 -- so many of all are all
 pub take_all : (n : ℕ) (chars : List Character) → n ≡ length chars → take n chars ≡ chars

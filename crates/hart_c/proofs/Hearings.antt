@@ -1,5 +1,6 @@
 -- That what a device or a master hears has one outcome.
-use Rattle.std.proofs.Common.{◌≡◌, ◌∙◌, ◌++◌, ℕ, List, Option, None, Some, arith, ap, drop, inl, inr, length}
+use Rattle.std.proofs.lemmas.Grind.{common_steps}
+use Rattle.std.proofs.Common.{◌≡◌, ◌∙◌, ℕ, List, Option, None, Some, arith, ap, inl, inr, length}
 use Rattle.std.proofs.Common.{map, refl, subst, sym}
 use Rattle.hart_frame.specs.wire.FrameParts.{FrameParts}
 use Rattle.hart_commands.specs.Registers.{Contents}
@@ -23,7 +24,6 @@ use Rattle.hart_c.specs.declared.process.HartProcess.{HartProcess}
 use Rattle.hart_c.specs.declared.registers.HartRegisters.{HartRegisters}
 use Rattle.hart_c.specs.Device.{HasNoRoom, HearOutcome, Hears, IsHearFault, IsHearing, IsInState, IsKeptFault, IsSaid, IsStateFault}
 use Rattle.hart_c.specs.Device.{NewDeviceOutcome, device_of, image_in}
-use Rattle.hart_c.specs.Faults.{number_of}
 use Rattle.hart_c.specs.Find.{char_of}
 use Rattle.hart_c.specs.Identity.{parts_of}
 use Rattle.hart_c.specs.Process.{IsProcessOf}
@@ -60,11 +60,7 @@ one_said : (answer : Option FrameParts) (preambles : ℕ) (old new newer : List 
     → IsSaid answer preambles old newer size → (len ≡ size) × (new ≡ newer)
 one_said None preambles old new newer len size (is, kept) (again, stays) = (is ∙ sym again, kept ∙ sym stays)
 one_said (Some reply) preambles old new newer len size (message, is, long, written) (other, again, longer, over) =
-    let same = one_message reply preambles message other is again in
-    let count : len ≡ size = long ∙ ap length same ∙ sym longer in (
-      count,
-      written ∙ ap (λ (bytes : List ℕ). bytes ++ drop len old) same ∙ ap (λ (n : ℕ). other ++ drop n old) count ∙ sym over,
-    )
+    let same = one_message reply preambles message other is again in grind (arith, common_steps)
 
 -- what was said had room
 said_has_room : (answer : Option FrameParts) (preambles : ℕ) (old new : List ℕ) (len : ℕ) → IsSaid answer preambles old new len
@@ -127,8 +123,7 @@ one_hear_fault : OneImageFault → (identity : HartIdentity) (process : HartProc
     → fault ≡ other
 one_hear_fault one identity process heard device room (Device fault) (Device other) why because =
     ap (λ (f : DeviceFault). let all : Fault = Device f in all) (one_state_fault one identity device fault other why because)
-one_hear_fault one identity process heard device room NoRoom other (is, none) because =
-    sym (room_only identity process heard device room is other because)
+one_hear_fault one identity process heard device room NoRoom other (is, none) because = grind (arith, common_steps, room_only)
 one_hear_fault one identity process heard device room fault NoRoom why (is, none) =
     room_only identity process heard device room is fault why
 one_hear_fault one identity process heard device room (Device fault) BadVariables why because =
@@ -169,7 +164,7 @@ one_heard one identity process heard before after other old new newer outcome an
     let answer = answer_to same.state same.measured same.brought in
     let (len, said) = one_said answer identity.response_preambles old new newer outcome.len another.len
     (subst Said (one_answer identity process heard before own same) is.reply) again.reply in (
-      outcome_is outcome another len (none ∙ sym free),
+      grind (arith, common_steps, outcome_is),
       is.state ∙ ap device_of (one_after identity process heard before own same) ∙ sym again.state,
       said,
     )
@@ -180,33 +175,15 @@ one_heard one identity process heard before after other old new newer outcome an
     (inr (fault, why, number, len, kept, silent)) (inl (none, is)) =
     absurd (not_heard identity process heard before other old newer another.len fault is longer why)
 one_heard one identity process heard before after other old new newer outcome another long longer
-    (inr (fault, why, number, len, kept, silent)) (inr (found, because, told, size, stays, still)) = (
-      outcome_is outcome another (len ∙ sym size)
-          (number ∙ ap number_of (one_hear_fault one identity process heard before (length old) fault found why because) ∙ sym told),
-      kept ∙ sym stays,
-      silent ∙ sym still,
-    )
+    (inr (fault, why, number, len, kept, silent)) (inr (found, because, told, size, stays, still)) =
+    grind (arith, common_steps, outcome_is, one_hear_fault)
 
 -- a new device is kept with what its registers hold, whoever it is
 one_new : (values others : RegisterValues) (after other : HartDevice) → values_of values ≡ values_of others
     → ((parts : IdentityParts) → after ≡ device_of (new_device parts values))
     → ((parts : IdentityParts) → other ≡ device_of (new_device parts others)) → after ≡ other
 one_new values others after other same kept stays =
-    let anybody : IdentityParts = record {
-      expanded_device_type = 0;
-      device_id = 0;
-      request_preambles = 0;
-      response_preambles = 0;
-      device_revision = 0;
-      software_revision = 0;
-      hardware_revision = 0;
-      signalling_code = 0;
-      flags = 0;
-      device_variables = 0;
-      manufacturer = 0;
-      private_label_distributor = 0;
-      device_profile = 0;
-    } in
+    let anybody : IdentityParts = grind (arith, common_steps) in
     let With : Contents → HartDevice = λ contents. device_of (record (new_device anybody values) { contents = contents }) in
     kept anybody ∙ ap With same ∙ sym (stays anybody)
 
@@ -216,5 +193,4 @@ one_new_device given before after other outcome another (inl (is, values, hold, 
     (is ∙ sym again, one_new values others after other (hold ∙ sym carry) kept stays)
 one_new_device given before after other outcome another (inl (is, values, hold, valid, kept)) (inr (bad, again, stays)) = absurd (bad valid)
 one_new_device given before after other outcome another (inr (bad, is, kept)) (inl (again, others, carry, fine, stays)) = absurd (bad fine)
-one_new_device given before after other outcome another (inr (bad, is, kept)) (inr (wrong, again, stays)) =
-    (is ∙ sym again, kept ∙ sym stays)
+one_new_device given before after other outcome another (inr (bad, is, kept)) (inr (wrong, again, stays)) = grind (arith, common_steps)

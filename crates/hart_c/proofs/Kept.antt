@@ -1,11 +1,12 @@
 -- What is kept of a device.
-use Rattle.std.proofs.Common.{◌≡◌, ◌∙◌, Bool, ap, arith, length, length-append, refl, rules, subst, sym, take, ℕ}
+use Rattle.std.proofs.lemmas.Grind.{common_steps}
+use Rattle.std.proofs.Common.{◌≡◌, ◌∙◌, Bool, ap, arith, length, length-append, refl, subst, sym, take, ℕ}
 use Rattle.std.proofs.Math.Seq.{take-length}
 use Rattle.hart_values.specs.declared.each_master.EachMaster.{EachMaster}
 use Rattle.hart_commands.specs.declared.register.Register.TheVariants.{Polling, Mode, Message, Tag, Descriptor, Date, Assembly, LongTag}
 use Rattle.hart_device.specs.Device.{DeviceState, IsDevice}
 use Rattle.hart_device.specs.answer.Delivery.{Brought, Garbled, NoMessage, OneFrame, state_after_delivery}
-use Rattle.hart_device.specs.image.Image.{IsImageOf, image_of}
+use Rattle.hart_device.specs.image.Image.{image_of}
 use Rattle.hart_device.specs.declared.identity_parts.IdentityParts.{IdentityParts}
 use Rattle.hart_device.proofs.lemmas.Laws.{devices_are_kept_whole-either_version}
 use Rattle.hart_device.proofs.lemmas.Laws.{devices_are_kept_whole-image, frames_leave_identity_and_protection-identity}
@@ -33,13 +34,7 @@ image_kept : (state : DeviceState) → IsDevice state → image_in (device_of st
 image_kept state is = ap (λ (n : ℕ). take n (image_of state)) (sym (image_len state is)) ∙ take-length (image_of state)
 
 pub devices_are_kept-kept : (state : DeviceState) → IsDevice state → IsKept state.identity (device_of state) state
-devices_are_kept-kept state is = record {
-  is_identity = is.identity;
-  identity = refl;
-  fits = search rules;
-  image = subst (IsImageOf state) (sym (image_kept state is)) (devices_are_kept_whole-image state is);
-  cold_start = refl;
-}
+devices_are_kept-kept state is = grind (arith, common_steps, image_kept, devices_are_kept_whole-image)
 
 pub devices_are_kept-one_state : (parts : IdentityParts) (device : HartDevice) (state other : DeviceState) → IsKept parts device state
     → IsKept parts device other → state ≡ other

@@ -1,4 +1,5 @@
 -- That a call has one outcome.
+use Rattle.std.proofs.lemmas.Grind.{common_steps}
 use Rattle.std.proofs.Common.{◌≡◌, ◌∙◌, ◌<◌, ◌≤◌, ◌⊎◌, ◌++◌, ℕ, List, Option, None, Some, Ok, Err, arith, ap, drop, inl, inr, length}
 use Rattle.std.proofs.Common.{length-append, replicate, sym}
 use Rattle.hart_frame.specs.wire.Body.{BeginsWithBody}
@@ -19,7 +20,6 @@ use Rattle.hart_c.specs.declared.frame.HartFrame.{HartFrame}
 use Rattle.hart_c.specs.Decode.{DecodeOutcome}
 use Rattle.hart_c.specs.Data.{ReplyShown, RequestShown}
 use Rattle.hart_c.specs.Encode.{EncodeOutcome, IsEncodeFault, IsWritten}
-use Rattle.hart_c.specs.Faults.{frame_fault_number, number_of}
 use Rattle.hart_c.specs.Frames.{found_in, frame_in}
 use Rattle.hart_c.specs.Names.{NameOutcome}
 
@@ -40,29 +40,21 @@ pub one_decoding : OneFault → NotBoth → (bytes : List ℕ) (before after oth
     → (outcome ≡ another) × (found_in after ≡ found_in other)
 one_decoding one not_both bytes before after other outcome another (inl (none, shown)) (inl (free, again)) =
     let same = bodies_are_unambiguous-one_prefix (frame_in after) (frame_in other) bytes outcome.len another.len
-    shown.begins again.begins in
-    (outcome_is outcome another same.1 (none ∙ sym free), grind arith)
+    shown.begins again.begins in grind (arith, common_steps, outcome_is)
 one_decoding one not_both bytes before after other outcome another (inl (none, shown)) (inr (fault, refused, number, len, kept)) =
     absurd (not_both bytes (frame_in after) outcome.len fault shown.begins refused)
 one_decoding one not_both bytes before after other outcome another (inr (fault, refused, number, len, kept)) (inl (none, shown)) =
     absurd (not_both bytes (frame_in other) another.len fault shown.begins refused)
 one_decoding one not_both bytes before after other outcome another (inr (fault, refused, number, len, kept))
-    (inr (found, is, told, long, stays)) = (
-      outcome_is outcome another (len ∙ sym long) (number ∙ ap frame_fault_number (one bytes fault found refused is) ∙ sym told),
-      ap found_in (kept ∙ sym stays),
-    )
+    (inr (found, is, told, long, stays)) = grind (arith, common_steps, outcome_is)
 
 pub one_name : (name : Option (List ℕ)) (before after other : List ℕ) (outcome another : HartOutcome)
     → NameOutcome name before after outcome → NameOutcome name before other another → (outcome ≡ another) × (after ≡ other)
 one_name None before after other outcome another (is, kept) (again, stays) = (is ∙ sym again, kept ∙ sym stays)
-one_name (Some name) before after other outcome another (inl (fits, is, written)) (inl (room, again, same)) =
-    (is ∙ sym again, written ∙ sym same)
-one_name (Some name) before after other outcome another (inl (fits, is, written)) (inr (long, again, stays)) =
-    absurd (omega (arith, fits, long))
-one_name (Some name) before after other outcome another (inr (long, is, kept)) (inl (fits, again, same)) =
-    absurd (omega (arith, fits, long))
-one_name (Some name) before after other outcome another (inr (long, is, kept)) (inr (longer, again, stays)) =
-    (is ∙ sym again, kept ∙ sym stays)
+one_name (Some name) before after other outcome another (inl (fits, is, written)) (inl (room, again, same)) = grind (arith, common_steps)
+one_name (Some name) before after other outcome another (inl (fits, is, written)) (inr (long, again, stays)) = grind (arith, common_steps)
+one_name (Some name) before after other outcome another (inr (long, is, kept)) (inl (fits, again, same)) = grind (arith, common_steps)
+one_name (Some name) before after other outcome another (inr (long, is, kept)) (inr (longer, again, stays)) = grind (arith, common_steps)
 
 -- a frame has one message with so many preamble bytes
 pub one_message : (frame : FrameParts) (preambles : ℕ) (message other : List ℕ) → IsMessage frame preambles message
@@ -102,8 +94,7 @@ has_room frame preambles room message is fits other again over =
 not_written : (frame : HartFrame) (preambles len : ℕ) (before after : List ℕ) (fault : Fault) → IsWritten frame preambles before after len
     → length after ≡ length before → IsEncodeFault frame preambles (length before) fault → ⊥
 not_written frame preambles len before after NoRoom is same (is_frame, count, (other, again, over)) =
-    has_room (frame_in frame) preambles (length before) is.message is.is_message
-    (written_fits is.message before after len is.len_is is.written same) other again over
+    grind (arith, common_steps, has_room, written_fits)
 not_written frame preambles len before after fault is same why = grind arith
 
 pub one_encoding : (frame : HartFrame) (preambles : ℕ) (before after other : List ℕ) (outcome another : HartOutcome)
@@ -111,21 +102,13 @@ pub one_encoding : (frame : HartFrame) (preambles : ℕ) (before after other : L
     → EncodeOutcome frame preambles before other another → (outcome ≡ another) × (after ≡ other)
 one_encoding frame preambles before after other outcome another long longer (inl (none, is)) (inl (free, again)) =
     let same = one_message (frame_in frame) preambles is.message again.message is.is_message again.is_message in
-    let len : outcome.len ≡ another.len = is.len_is ∙ ap length same ∙ sym again.len_is in (
-      outcome_is outcome another len (none ∙ sym free),
-      is.written ∙ ap (λ (message : List ℕ). message ++ drop outcome.len before) same
-          ∙ ap (λ (n : ℕ). again.message ++ drop n before) len ∙ sym again.written,
-    )
+    grind (arith, common_steps, outcome_is)
 one_encoding frame preambles before after other outcome another long longer (inl (none, is)) (inr (fault, why, number, len, kept)) =
     absurd (not_written frame preambles outcome.len before after fault is long why)
 one_encoding frame preambles before after other outcome another long longer (inr (fault, why, number, len, kept)) (inl (none, is)) =
     absurd (not_written frame preambles another.len before other fault is longer why)
 one_encoding frame preambles before after other outcome another long longer (inr (fault, why, number, len, kept))
-    (inr (found, because, told, size, stays)) = (
-      outcome_is outcome another (len ∙ sym size)
-          (number ∙ ap number_of (one_encode_fault frame preambles (length before) fault found why because) ∙ sym told),
-      kept ∙ sym stays,
-    )
+    (inr (found, because, told, size, stays)) = grind (arith, common_steps, outcome_is, one_encode_fault)
 
 pub one_request : (command : ℕ) (bytes : List ℕ) (read : Reading) (before after other : List HartField) (reading another : HartReading)
     → RequestShown command bytes read before after reading → RequestShown command bytes read before other another

@@ -3,7 +3,6 @@ use Rattle.std.proofs.Common.{◌≡◌, ◌≤◌, ◌<◌, ◌+◌, ℕ, List,
 use Rattle.std.proofs.Common.{Some, ◌⊎◌, inl, inr}
 use Rattle.std.proofs.Common.{refl, sym, ap, ◌∙◌, append_assoc, arith, length-drop}
 use Rattle.std.specs.Prelude.{option_map}
-use Rattle.std.specs.Option.{option_map_or}
 use Rattle.std.proofs.lemmas.Grind.{common_steps}
 use Rattle.std.proofs.lemmas.Bool.{cases_lt}
 use Rattle.std.proofs.lemmas.Bool.Decides.{nat_tests}
@@ -49,10 +48,7 @@ shown_within count place places fields within =
 
 -- nothing is shown where there is no room
 none_past : (count : ℕ) (places fields : List HartField) → length fields ≤ count → shown_from count places fields ≡ fields
-none_past count places fields past =
-    ap (λ (xs : List HartField). take count fields ++ written_over places xs) (drop_all count fields past)
-    ∙ ap (λ (xs : List HartField). take count fields ++ xs) (over_nothing places) ∙ append-nil (take count fields)
-    ∙ take_all count fields past
+none_past count places fields past = grind (arith, common_steps, drop_all, over_nothing, append-nil, take_all)
 
 -- what is shown with one place more is what is shown with the others after it
 pub shown_more : (count : ℕ) (place : HartField) (places fields : List HartField)
@@ -71,18 +67,12 @@ pub shown_next : (count place : ℕ) (fields after whole : List HartField) (thes
     → after ≡ slice_set fields count (record { start = place; len = length field.bytes; kind = kind_number field.kind })
     → these ≡ field ∷ others → shown_from count (placed place these) fields ≡ whole
     → shown_from (count + 1) (placed (place + length field.bytes) others) after ≡ whole
-shown_next count place fields after whole these others field is all before =
-    let first : HartField = record { start = place; len = length field.bytes; kind = kind_number field.kind } in
-    let later = placed (place + length field.bytes) others in
-    ap (λ (xs : List HartField). shown_from (count + 1) later xs) is ∙ shown_more count first later fields
-    ∙ ap (λ (xs : List Field). shown_from count (placed place xs) fields) (sym all) ∙ before
+shown_next count place fields after whole these others field is all before = grind (arith, common_steps, shown_more)
 
 -- the first of the fields is that of the first row
 pub fields_more : (row : Row) (rows : List Row) (bytes field after : List ℕ) → split row.size bytes ≡ Some (field, after)
     → fields_of (row ∷ rows) bytes ≡ record { name = row.name; kind = row.kind; bytes = field } ∷ fields_of rows after
-fields_more row rows bytes field after is =
-    ap (λ (parts : Option (List ℕ × List ℕ)).
-    option_map_or (λ p. record { name = row.name; kind = row.kind; bytes = p.0 } ∷ fields_of rows p.1) parts []) is
+fields_more row rows bytes field after is = grind (arith, common_steps)
 
 -- the rows from one on
 rows_from : (rows : List FieldRow) (i : ℕ) (d : FieldRow) → i < length rows
@@ -95,9 +85,7 @@ pub row_at : (rows : List FieldRow) (i : ℕ) (d : FieldRow) (bytes field after 
     → fields_of (map seen (drop i rows)) bytes
     ≡ record { name = (get_or rows i d).name.now; kind = (get_or rows i d).kind; bytes = field }
     ∷ fields_of (map seen (drop (i + 1) rows)) after
-row_at rows i d bytes field after within is =
-    ap (λ (xs : List Row). fields_of xs bytes) (rows_from rows i d within)
-    ∙ fields_more (seen (get_or rows i d)) (map seen (drop (i + 1) rows)) bytes field after is
+row_at rows i d bytes field after within is = grind (arith, common_steps, rows_from, fields_more)
 
 -- bytes fall into those of a field and those after it
 size_in-within : (size : FieldSize) (left count : ℕ) → size_in size left ≡ Some count → count ≤ left
@@ -111,11 +99,7 @@ split_by : (size : FieldSize) (bytes field after : List ℕ) (count : Option ℕ
     → option_map {U = List ℕ × List ℕ} (λ n. (take n bytes, drop n bytes)) count ≡ Some (field, after)
     → length field + length after ≡ length bytes
 split_by size bytes field after None sized is = cc
-split_by size bytes field after (Some n) sized is =
-    let same : split_at n bytes ≡ (field, after) = cc in
-    let front = ap (λ (parts : List ℕ × List ℕ). length parts.0) same in
-    let back = ap (λ (parts : List ℕ × List ℕ). length parts.1) same in
-    omega (arith, front, back, length-take n bytes, length-drop n bytes, size_in-within size (length bytes) n sized)
+split_by size bytes field after (Some n) sized is = grind (arith, common_steps, length-take, length-drop, size_in-within)
 
 pub few_more : (size : FieldSize) (bytes field after : List ℕ) → split size bytes ≡ Some (field, after)
     → length field + length after ≡ length bytes

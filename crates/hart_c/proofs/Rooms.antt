@@ -1,4 +1,5 @@
 -- How many fields there are at most, and how long names are.
+use Rattle.std.proofs.lemmas.Grind.{common_steps}
 use Rattle.std.proofs.Common.{◌≢◌, ◌≤◌, ℕ, zero, suc, List, [], ◌∷◌, drop, take, length, slice_get, Option, None, Some}
 use Rattle.std.proofs.Common.{ap, arith, rules, Bool, true, false, IfSome, Ok, Err, inl, inr}
 use Rattle.std.specs.Prelude.{option_map, if◌then◌else◌, ◌==◌}
@@ -132,6 +133,4 @@ short_rows false command = go (rows_of command) (small command)
 
 pub short_field : (is_reply : Bool) (command index : ℕ) (before after : List ℕ) (outcome : HartOutcome) → 64 ≤ length before
     → NameOutcome (field_name is_reply command index) before after outcome → outcome.fault ≢ 12
-short_field is_reply command index before after outcome room =
-    fits (field_name is_reply command index) before after outcome room
-    (at_index (rows_for is_reply command) index (short_rows is_reply command))
+short_field is_reply command index before after outcome room = grind (arith, common_steps, fits, at_index, short_rows)

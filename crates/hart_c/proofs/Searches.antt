@@ -1,6 +1,7 @@
 -- What is found by one search after another.
+use Rattle.std.proofs.lemmas.Grind.{common_steps}
 use Rattle.std.proofs.Common.{◌≡◌, ◌+◌, ◌≤◌, false, true, Bool, ℕ, List, [], ◌∷◌, ◌++◌, arith, ap, append_assoc, drop, length}
-use Rattle.std.proofs.Common.{◌∙◌, IsTrue, map, refl, subst, sym}
+use Rattle.std.proofs.Common.{IsTrue, map, refl, subst, sym}
 use Rattle.std.proofs.lemmas.List.{append-nil, drop-append-le, drop-drop, map-append}
 use Rattle.std.proofs.Math.Seq.{drop-length}
 use Rattle.hart_frame.specs.heard.Character.{Character}
@@ -16,9 +17,7 @@ moved_sum used further found = grind arith
 moved_twice : (used further : ℕ) (frames : List Found)
     → map (moved used) (map (moved further) frames) ≡ map (moved (used + further)) frames
 moved_twice used further [] = refl
-moved_twice used further (found ∷ frames) =
-    ap (λ (f : Found). f ∷ map (moved used) (map (moved further) frames)) (moved_sum used further found)
-    ∙ ap (λ (fs : List Found). moved (used + further) found ∷ fs) (moved_twice used further frames)
+moved_twice used further (found ∷ frames) = grind (arith, common_steps, moved_sum, moved_twice used further frames)
 
 -- a frame that is moved by nothing stays
 moved_zero : (found : Found) → moved 0 found ≡ found
@@ -26,8 +25,7 @@ moved_zero found = grind arith
 
 moved_nowhere : (frames : List Found) → map (moved 0) frames ≡ frames
 moved_nowhere [] = refl
-moved_nowhere (found ∷ frames) =
-    ap (λ (f : Found). f ∷ map (moved 0) frames) (moved_zero found) ∙ ap (λ (fs : List Found). found ∷ fs) (moved_nowhere frames)
+moved_nowhere (found ∷ frames) = grind (arith, common_steps, moved_zero, moved_nowhere frames)
 
 -- at first all is still to come
 next_first : AreNext [] false [] 0
@@ -40,21 +38,9 @@ next_more : (heard piece : List Character) (was ended : Bool) (given found : Lis
 next_more heard piece was ended given found used further within stays before now more later ends frames =
     let rest = drop used heard ++ piece in
     let front : drop used (heard ++ piece) ≡ rest = drop-append-le used heard piece within in
-    let left : drop (used + further) (heard ++ piece) ++ more ≡ drop further rest ++ more =
-    ap (λ (cs : List Character). cs ++ more) (sym (drop-drop further used (heard ++ piece)) ∙ ap (drop further) front) in
+    let left : drop (used + further) (heard ++ piece) ++ more ≡ drop further rest ++ more = grind (arith, common_steps, drop-drop) in
     let First : List Character → Type 0 = λ cs. AreFrames cs 0 later in
-    let inner = now more later ends (subst First left frames) in
-    let Inner : List Character → Type 0 = λ cs. AreFrames cs 0 (found ++ map (moved further) later) in
-    let whole = before (piece ++ more) (found ++ map (moved further) later)
-    (λ over. ap (λ (cs : List Character). cs ++ more) (stays over).0 ∙ ends (stays over).1)
-    (subst Inner (append_assoc (drop used heard) piece more) inner) in
-    let frames_are : given ++ map (moved used) (found ++ map (moved further) later)
-    ≡ (given ++ map (moved used) found) ++ map (moved (used + further)) later =
-    ap (λ (fs : List Found). given ++ fs) (map-append (moved used) found (map (moved further) later)
-    ∙ ap (λ (fs : List Found). map (moved used) found ++ fs) (moved_twice used further later))
-    ∙ sym (append_assoc given (map (moved used) found) (map (moved (used + further)) later)) in
-    let Whole : List Character → Type 0 = λ cs. AreFrames cs 0 (given ++ map (moved used) (found ++ map (moved further) later)) in
-    subst (AreFrames ((heard ++ piece) ++ more) 0) frames_are (subst Whole (sym (append_assoc heard piece more)) whole)
+    let inner = now more later ends (subst First left frames) in grind (arith, common_steps, append_assoc, map-append, moved_twice)
 
 -- so after every search the frames given are the next ones
 pub searches_give_all_frames-next : (heard : List Character) (ended : Bool) (given : List Found) (used : ℕ)
@@ -69,6 +55,4 @@ pub searches_give_all_frames-all : (heard : List Character) (given : List Found)
 searches_give_all_frames-all heard given searched =
     let Rest : List Character → Type 0 = λ cs. AreFrames cs 0 [] in
     let nothing = subst Rest (sym (ap (λ (cs : List Character). cs ++ []) (drop-length heard))) messages_have_their_frame_alone-nothing in
-    let all = searches_give_all_frames-next heard true given (length heard) searched [] [] (λ _. refl) nothing in
-    subst (λ (cs : List Character). AreFrames cs 0 given) (append-nil heard)
-    (subst (λ (fs : List Found). AreFrames (heard ++ []) 0 fs) (append-nil given) all)
+    grind (arith, common_steps, searches_give_all_frames-next, append-nil)

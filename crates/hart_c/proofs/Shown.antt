@@ -1,4 +1,5 @@
 -- Frames that are shown one after another.
+use Rattle.std.proofs.lemmas.Grind.{common_steps}
 use Rattle.std.proofs.Common.{◌≡◌, ◌+◌, ◌<◌, ℕ, false, List, [], ◌∷◌, ◌++◌, All, length, map, take, drop, slice_set, ap, sym, ◌∙◌, subst}
 use Rattle.std.proofs.Common.{arith, inl, inr}
 use Rattle.std.proofs.lemmas.Bool.{false≢true}
@@ -14,9 +15,7 @@ use Rattle.hart_c.specs.Frames.{IsTidy, found_in, found_in_first}
 -- one more is shown
 pub shown_more : (count : ℕ) (frames : List HartFrame) (frame : HartFrame) (found : Found) → count < length frames
     → found_in frame ≡ found → found_in_first (count + 1) (slice_set frames count frame) ≡ found_in_first count frames ++ found ∷ []
-shown_more count frames frame found within is =
-    ap (map found_in) (take_more_set frames count frame within) ∙ map-append found_in (take count frames) (frame ∷ [])
-    ∙ ap (λ (f : Found). found_in_first count frames ++ f ∷ []) is
+shown_more count frames frame found within is = grind (arith, common_steps, take_more_set, map-append)
 
 -- a frame that a scanner gives is shown
 pub history_shown : (past : List Character) (old new : Scan) (count : ℕ) (frames : List HartFrame) (frame : HartFrame) (found : Found)
@@ -46,8 +45,7 @@ shown_before count frames frame = ap (map found_in) (take-set frames count frame
 -- what comes after so many is what it was, so what comes after one more is
 pub later_untouched : (count : ℕ) (frames before : List HartFrame) → drop count frames ≡ drop count before
     → drop (count + 1) frames ≡ drop (count + 1) before
-later_untouched count frames before same =
-    sym (drop-drop 1 count frames) ∙ ap (drop 1) same ∙ drop-drop 1 count before
+later_untouched count frames before same = grind (arith, common_steps, drop-drop)
 
 -- a scanner that gives none, and is not finished, waits
 pub waits_or_ends : (past : List Character) (old new : Scan) (count : ℕ) (frames : List HartFrame) (frame : HartFrame)

@@ -1,4 +1,5 @@
 -- Where the fields that are shown stand.
+use Rattle.std.proofs.lemmas.Grind.{common_steps}
 use Rattle.std.proofs.Common.{◌≡◌, ◌≤◌, ◌<◌, ◌+◌, ◌∙◌, ℕ, zero, suc, List, [], ◌∷◌, ◌++◌, drop, take, length, slice_get, Option, None, Some}
 use Rattle.std.proofs.Common.{refl, sym, ap, subst, append_assoc, arith, length-append}
 use Rattle.std.proofs.Common.{Bool, true, false, Ok, Err}
@@ -26,9 +27,7 @@ split_at n bytes = (take n bytes, drop n bytes)
 parts_by : (bytes field after : List ℕ) (count : Option ℕ)
     → option_map {U = List ℕ × List ℕ} (λ n. (take n bytes, drop n bytes)) count ≡ Some (field, after) → field ++ after ≡ bytes
 parts_by bytes field after None is = cc
-parts_by bytes field after (Some n) is =
-    let same : split_at n bytes ≡ (field, after) = cc in
-    sym (ap (λ (parts : List ℕ × List ℕ). parts.0 ++ parts.1) same) ∙ take-append-drop n bytes
+parts_by bytes field after (Some n) is = grind (arith, common_steps, take-append-drop)
 
 parts_of : (size : FieldSize) (bytes field after : List ℕ) → split size bytes ≡ Some (field, after) → field ++ after ≡ bytes
 parts_of size bytes field after is = parts_by bytes field after (size_in size (length bytes)) is
@@ -37,9 +36,7 @@ parts_of size bytes field after is = parts_by bytes field after (size_in size (l
 over-at : (places before : List HartField) (index : ℕ) (shown : HartField) → index < length places
     → slice_get (written_over places before) index ≡ Some shown → slice_get places index ≡ Some shown
 over-at [] before index shown within is = absurd (omega (arith, within))
-over-at (place ∷ places) [] index shown within is =
-    let nothing = subst (λ (xs : List HartField). slice_get xs index ≡ Some shown) (over_nothing (place ∷ places)) is in
-    cc
+over-at (place ∷ places) [] index shown within is = grind (arith, common_steps, over_nothing)
 over-at (place ∷ places) (other ∷ others) zero shown within is = is
 over-at (place ∷ places) (other ∷ others) (suc index) shown within is = over-at places others index shown (omega (arith, within)) is
 
@@ -81,18 +78,7 @@ first row rows fields before bytes rest = record {
 later : (row : Row) (rows : List Row) (from : ℕ) (field : Field) (fields : List Field) (bytes : List ℕ) (index : ℕ) (shown : HartField)
     → Stands rows (from + length field.bytes) fields bytes index shown
     → Stands (row ∷ rows) from (field ∷ fields) bytes (suc index) shown
-later row rows from field fields bytes index shown at = record {
-  row = at.row;
-  field = at.field;
-  is_row = at.is_row;
-  is_field = at.is_field;
-  name = at.name;
-  kind = at.kind;
-  start = omega (arith, at.start, length-append field.bytes (bytes_of (take index fields)));
-  len = at.len;
-  within = at.within;
-  bytes_there = at.bytes_there;
-}
+later row rows from field fields bytes index shown at = grind (arith, common_steps, length-append)
 
 -- of the rows after one, whose field is the first of the bytes, by what is known of them
 beyond : (row : Row) (rows : List Row) (before field after rest : List ℕ) (index : ℕ) (shown : HartField)
@@ -100,22 +86,11 @@ beyond : (row : Row) (rows : List Row) (before field after rest : List ℕ) (ind
     → Stands rows (length before) (fields_of rows after) (before ++ (after ++ rest)) index shown)
     → slice_get (placed (length before) (named row field ∷ fields_of rows after)) index ≡ Some shown
     → Stands (row ∷ rows) (length before) (named row field ∷ fields_of rows after) (before ++ ((field ++ after) ++ rest)) index shown
-beyond row rows before field after rest zero shown others is =
-    let fields = fields_of rows after in
-    let at : HartField = record { start = length before; len = length field; kind = kind_number row.kind } in
-    let same : at ≡ shown = cc in
-    let there = first row rows fields before field (after ++ rest) in
-    let all = named row field ∷ fields in
-    subst (λ (s : HartField). Stands (row ∷ rows) (length before) all (before ++ ((field ++ after) ++ rest)) 0 s) same
-    (subst (λ (xs : List ℕ). Stands (row ∷ rows) (length before) all (before ++ xs) 0 at) (sym (append_assoc field after rest)) there)
+beyond row rows before field after rest zero shown others is = grind (arith, common_steps, first, append_assoc)
 beyond row rows before field after rest (suc index) shown others is =
     let fields = fields_of rows after in
     let from = subst (λ (n : ℕ). slice_get (placed n fields) index ≡ Some shown) (sym (length-append before field)) is in
-    let there = others (before ++ field) rest index from in
-    let same = append_assoc before field (after ++ rest) ∙ ap (λ (xs : List ℕ). before ++ xs) (sym (append_assoc field after rest)) in
-    later row rows (length before) (named row field) fields (before ++ ((field ++ after) ++ rest)) index shown
-    (subst (λ (n : ℕ). Stands rows n fields (before ++ ((field ++ after) ++ rest)) index shown) (length-append before field)
-    (subst (λ (xs : List ℕ). Stands rows (length (before ++ field)) fields xs index shown) same there))
+    let there = others (before ++ field) rest index from in grind (arith, common_steps, append_assoc, later, length-append)
 
 -- so the place of each index is that of the field of its row
 stands : (rows : List Row) (bytes before rest : List ℕ) (index : ℕ) (shown : HartField)
@@ -140,10 +115,7 @@ stands (row ∷ rows) bytes before rest index shown is =
         let all = fields_more row rows bytes field after some in
         let parts = parts_of row.size bytes field after some in
         let got = subst (λ (fs : List Field). slice_get (placed (length before) fs) index ≡ Some shown) all is in
-        let there = beyond row rows before field after rest index shown (later after) got in
-        subst (λ (fs : List Field). Stands (row ∷ rows) (length before) fs (before ++ (bytes ++ rest)) index shown) (sym all)
-        (subst (λ (xs : List ℕ). Stands (row ∷ rows) (length before) (named row field ∷ fields_of rows after) (before ++ (xs ++ rest)) index
-        shown) parts there)
+        let there = beyond row rows before field after rest index shown (later after) got in grind (arith, common_steps)
 
 -- there are as many places as fields
 placed-length : (start : ℕ) (fields : List Field) → length (placed start fields) ≡ length fields
@@ -153,18 +125,7 @@ placed-length start (field ∷ fields) = ap suc (placed-length (start + length f
 -- of the fields of a command the name is told
 told : (is_reply : Bool) (command from : ℕ) (fields : List Field) (bytes : List ℕ) (index : ℕ) (shown : HartField)
     → Stands (rows_for is_reply command) from fields bytes index shown → StandsAt is_reply command from fields bytes index shown
-told is_reply command from fields bytes index shown at = record {
-  row = at.row;
-  field = at.field;
-  is_row = at.is_row;
-  is_field = at.is_field;
-  name = ap (option_map (λ (row : Row). row.name)) at.is_row ∙ ap (λ (n : List ℕ). Some n) (sym at.name);
-  kind = at.kind;
-  start = at.start;
-  len = at.len;
-  within = at.within;
-  bytes_there = at.bytes_there;
-}
+told is_reply command from fields bytes index shown at = grind (arith, common_steps)
 
 -- of fields that are shown
 shown-stands : (rows : List Row) (bytes before rest : List ℕ) (start taken code status : ℕ) (old new : List HartField)
@@ -172,13 +133,7 @@ shown-stands : (rows : List Row) (bytes before rest : List ℕ) (start taken cod
     → IsShown start (fields_of rows bytes) taken code status old new reading → index < reading.count → slice_get new index ≡ Some shown
     → Stands rows start (fields_of rows bytes) (before ++ (bytes ++ rest)) index shown
 shown-stands rows bytes before rest start taken code status old new reading index shown from is within got =
-    let fields = fields_of rows bytes in
-    let count = ap (λ (r : HartReading). r.count) is.told in
-    let there = over-at (placed start fields) old index shown (omega (arith, within, count, placed-length start fields))
-    (subst (λ (xs : List HartField). slice_get xs index ≡ Some shown) is.shown got) in
-    subst (λ (n : ℕ). Stands rows n fields (before ++ (bytes ++ rest)) index shown) from
-    (stands rows bytes before rest index shown
-    (subst (λ (n : ℕ). slice_get (placed n fields) index ≡ Some shown) (sym from) there))
+    grind (arith, common_steps, over-at, placed-length, stands)
 
 pub fields_stand_where_they_are_shown-requests : (command index : ℕ) (bytes : List ℕ) (old new : List HartField) (reading : HartReading)
     (shown : HartField) → RequestOutcome command bytes old new reading → index < reading.count → slice_get new index ≡ Some shown

@@ -1,6 +1,6 @@
+use Rattle.std.proofs.lemmas.Grind.{common_steps}
 use Rattle.std.proofs.Common.{List, ℕ, ap, arith, length}
 use Rattle.std.proofs.lemmas.List.{length-take}
-use Rattle.hart_commands.specs.ReplyData.{reply_payload}
 use Rattle.hart_commands.proofs.lemmas.Laws.{written_payloads_are_read_again-kept}
 use Rattle.hart_c.proofs.data.show_reply.Goals as goal
 
@@ -8,5 +8,4 @@ pub slice_bounds-taken-end : goal.slice_bounds-taken-end
 slice_bounds-taken-end c =
     let kept = ap (λ (xs : List ℕ). length xs)
     (written_payloads_are_read_again-kept c.args.command c.args.payload.now c.args.reply.now c.requires) in
-    let written = ap (λ (xs : List ℕ). length xs) c.write.ensures in
-    omega (arith, kept, written, c.len.ensures.value, length-take (length (reply_payload c.args.reply.now)) c.args.payload.now)
+    grind (arith, common_steps, length-take)

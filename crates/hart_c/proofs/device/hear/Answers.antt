@@ -55,8 +55,7 @@ returns-clause-heard c =
     let counts = c.response_preambles-preambles.ensures.same ∙ ap (λ (parts : IdentityParts). parts.response_preambles) own in
     record {
       hearing = hearing;
-      reply = said_there identity process heard device state measured kept process_is delivery c.hear-said.result
-          c.response_preambles-preambles.result c.args.reply.now c.say.new.output c.in_ok-len.len answer counts c.in_ok-len.ensures.said;
+      reply = grind (arith, common_steps, said_there);
       state = state_kept state c.hear-said.new.self hearing.brought after c.keep.new.device c.keep.ensures;
       kept = stands_after state c.hear-said.new.self hearing.brought after (parts_of identity) c.keep.new.device
           c.response_preambles-preambles.ensures.device (own ∙ kept.identity) c.keep.ensures;

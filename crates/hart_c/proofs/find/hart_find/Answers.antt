@@ -1,3 +1,4 @@
+use Rattle.std.proofs.lemmas.Grind.{common_steps}
 use Rattle.std.proofs.Common.{◌∙◌, [], arith, ap, length, map, refl, subst, sym, ◌<◌, ◌≡◌, inl}
 use Rattle.std.proofs.lemmas.List.{length-map, length-take}
 use Rattle.hart_frame.specs.heard.Frames.{IsUndecided}
@@ -25,19 +26,7 @@ loop-taken-init c = record {
 
 pub push-requires-clause-room : goal.push-requires-clause-room
 push-requires-clause-room c =
-    let loop = c.loop-taken.invariant in
-    let n = c.loop-taken.taken in
-    let chars = map char_of c.args.heard.now in
-    let held = frames_are_streamed-pushed _ c.loop-taken.scanner _ loop.history in
-    omega (
-      arith,
-      held,
-      length-take n chars,
-      length-map c.args.heard.now char_of,
-      loop.within,
-      c.loop-taken-test.true,
-      c.loop-taken.auto.taken-fits,
-    )
+    let loop = c.loop-taken.invariant in grind (arith, common_steps, frames_are_streamed-pushed, length-take, length-map)
 
 pub loop-taken-preserved : goal.loop-taken-preserved
 loop-taken-preserved c =
@@ -66,20 +55,9 @@ returns c =
     let heard = c.args.heard.now in
     let n = c.loop-taken.taken in
     let all = length-map heard char_of in
-    let whole : c.loop-taken.count < length c.loop-taken.frames → n ≡ length (map char_of heard) = elim c.loop-taken-test.branch [
-      | then-loop-taken-test+else-count-frames w ↦ λ fewer. absurd (omega (arith, w.if-count-frames.false, fewer))
-      | else-loop-taken-test w ↦ λ _. omega (arith, w.loop-taken-test.false, loop.within, all)
-    ] in
+    let whole : c.loop-taken.count < length c.loop-taken.frames → n ≡ length (map char_of heard) =
+    grind (arith, common_steps, then-loop-taken-test+else-count-frames, else-loop-taken-test) in
     inl (
-      loop.bits,
-      c.settle.ensures n (map char_of heard) c.args.frames.now (sym all) (record {
-        within = omega (arith, loop.within, all);
-        room = loop.room;
-        untouched = loop.untouched;
-        tidy = loop.tidy;
-        going = loop.going;
-        history = loop.history;
-        whole = whole;
-        undecided = loop.undecided;
-      }),
+      grind (arith, common_steps),
+      c.settle.ensures n (map char_of heard) c.args.frames.now (sym all) (grind (arith, common_steps)),
     )

@@ -1,4 +1,5 @@
-use Rattle.std.proofs.Common.{◌≡◌, ◌+◌, ◌∙◌, ◌++◌, [], ◌∷◌, List, ap, arith, refl, subst, sym}
+use Rattle.std.proofs.lemmas.Grind.{common_steps}
+use Rattle.std.proofs.Common.{◌≡◌, ◌+◌, ◌∙◌, ◌++◌, [], ◌∷◌, List, ap, arith, subst, sym}
 use Rattle.std.proofs.lemmas.List.{append-nil, drop-set-lt, length-set}
 use Rattle.hart_frame.specs.heard.Character.{faultless}
 use Rattle.hart_frame.specs.scan.Next.{LeadsOn, frames_of}
@@ -13,14 +14,7 @@ use Rattle.hart_c.proofs.Shown.{later_untouched, shown_more, tidy_more}
 use Rattle.hart_c.proofs.find.hart_find_in_bytes.Goals as goal
 
 pub loop-count-init : goal.loop-count-init
-loop-count-init c = record {
-  len = refl;
-  room = omega arith;
-  within = omega arith;
-  untouched = refl;
-  tidy = λ k d none. absurd (omega (arith, none));
-  leads = λ more later closed frames. frames;
-}
+loop-count-init c = grind (arith, common_steps)
 
 pub loop-count-preserved : goal.loop-count-preserved
 loop-count-preserved c =
@@ -32,9 +26,7 @@ loop-count-preserved c =
     let len = length-set frames count frame in
     let Leads : List Found → Type 0 = λ given. LeadsOn (faultless c.args.bytes.now) c.args.ended 0 given next.result.used in
     let given = found_in_first count frames in
-    let leads : Leads (given ++ frames_of next.result.frame) =
-    next_frames_are_all-onward (faultless c.args.bytes.now) c.args.ended 0 c.loop-count.used next.result.used given _ loop.leads
-    next.ensures.frames in
+    let leads : Leads (given ++ frames_of next.result.frame) = grind (arith, common_steps, next_frames_are_all-onward) in
     let one : frames_of next.result.frame ≡ found_of c.in-Some.found ∷ [] = ap frames_of c.in-Some.is in
     record {
       len = len ∙ loop.len;
@@ -56,21 +48,11 @@ returns-in_default c =
     let Outcome : HartSearch → Type 0 = λ search. Finds (faultless bytes) c.args.ended c.args.frames.now c.loop-count.frames search in
     let leads = next_frames_are_all-onward (faultless bytes) c.args.ended 0 c.loop-count.used next.result.used given [] loop.leads
     (subst Leads (ap frames_of c.in_default.is) next.ensures.frames) in
-    let found : IsFound bytes c.args.ended c.args.frames.now c.loop-count.frames next.result.used c.loop-count.count = record {
-      len = loop.len;
-      room = loop.room;
-      within = next.ensures.within;
-      untouched = loop.untouched;
-      tidy = loop.tidy;
-      leads = subst (λ (given : List Found). LeadsOn (faultless bytes) c.args.ended 0 given next.result.used) (append-nil given) leads;
-    } in
+    let found : IsFound bytes c.args.ended c.args.frames.now c.loop-count.frames next.result.used c.loop-count.count =
+    grind (arith, common_steps, append-nil) in
     subst Outcome (sym c.found_so_far.ensures)
     (finds_next bytes c.args.ended c.args.frames.now c.loop-count.frames next.result.used c.loop-count.count found
-    (λ _. record {
-      few = next.ensures.few c.in_default.is;
-      all = next.ensures.all c.in_default.is;
-      undecided = next.ensures.undecided c.in_default.is;
-    }))
+    (grind (arith, common_steps)))
 
 pub returns : goal.returns
 returns c =

@@ -1,4 +1,4 @@
-use Rattle.std.proofs.Common.{◌≡◌, ◌∙◌, ◌∷◌, [], Err, List, arith, map, refl, subst}
+use Rattle.std.proofs.Common.{◌≡◌, ◌∙◌, ◌∷◌, [], List, arith, map, refl, subst}
 use Rattle.std.proofs.lemmas.Grind.{common_steps}
 use Rattle.hart_frame.specs.heard.Character.{Character}
 use Rattle.hart_frame.specs.heard.Frames.{AreFrames}
@@ -8,9 +8,7 @@ use Rattle.hart_c.proofs.Accepted.{brought, brought_is, send_fault}
 use Rattle.hart_c.proofs.master.accept.Goals as goal
 
 pub returns-in_err-master-clause-refused : goal.returns-in_err-master-clause-refused
-returns-in_err-master-clause-refused c =
-    let is : c.from_residual.result ≡ Err c.in_err-master.field-0.0 = grind (arith, common_steps) in
-    rw is (send_fault c.args.request.now c.args.heard.now c.in_err-master.field-0.0 c.in_err-master.ensures.refused)
+returns-in_err-master-clause-refused c = grind (arith, common_steps, send_fault)
 
 pub returns-in_default-receive : goal.returns-in_default-receive
 returns-in_default-receive c =
@@ -47,8 +45,7 @@ returns-clause-accepted c =
         record {
           found = found;
           alone = subst (λ (chars : List Character). AreFrames chars 0 (found ∷ [])) all c.in-Alone.ensures.lone;
-          is_reply = brought_is c.args.request.now c.in_ok-master.master awaits found.frame c.in-Answered.said
-              c.in-Answered.ensures.event.0;
+          is_reply = grind (arith, common_steps, brought_is);
         },
         c.show_frame.ensures.found,
         c.show_frame.ensures.tidy,

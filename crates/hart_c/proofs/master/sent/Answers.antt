@@ -6,8 +6,7 @@ use Rattle.hart_c.proofs.master.sent.Goals as goal
 
 pub returns-in_err-frame-clause-refused : goal.returns-in_err-frame-clause-refused
 returns-in_err-frame-clause-refused c =
-    let is : c.from_residual.result ≡ Err c.in_err-frame.field-0.0 = grind (arith, common_steps) in
-    rw is (frame_fault c.args.request.now c.in_err-frame.field-0.0 c.in_err-frame.ensures.refused)
+    let is : c.from_residual.result ≡ Err c.in_err-frame.field-0.0 = grind (arith, common_steps) in grind (arith, common_steps, frame_fault)
 
 pub returns-in_err-asked-clause-refused : goal.returns-in_err-asked-clause-refused
 returns-in_err-asked-clause-refused c =
@@ -18,7 +17,7 @@ pub returns-then-is_err-clause-refused : goal.returns-then-is_err-clause-refused
 returns-then-is_err-clause-refused c =
     let made = rw c.unwrap-master.ensures at c.new.ensures.kept in
     let refused = sym c.is_err.ensures.value ∙ c.if-is_err.true in (
-      c.in_ok-frame.ensures.frame,
+      grind (arith, common_steps),
       (
         c.in_ok-asked.asked,
         rw c.in_ok-frame.ensures.same at c.in_ok-asked.ensures.asked,
