@@ -28,32 +28,11 @@ use Rattle.hart_c.specs.Find.{char_of}
 use Rattle.hart_c.specs.Identity.{parts_of}
 use Rattle.hart_c.specs.Process.{IsProcessOf}
 use Rattle.hart_c.proofs.Kept.{devices_are_kept-one_state}
-use Rattle.hart_c.proofs.Outcomes.{has_room, one_message, outcome_is, written_fits}
+use Rattle.hart_c.proofs.Outcomes.{one_message}
 
 -- numbers say one process
 one_process : (given : HartProcess) (process other : Process) → IsProcessOf given process → IsProcessOf given other → process ≡ other
 one_process given process other is again = grind arith
-
--- who hears what is one
-one_hearing : (identity : HartIdentity) (process : HartProcess) (heard : List HartChar) (device : HartDevice)
-    (is again : IsHearing identity process heard device)
-    → (is.state ≡ again.state) × (is.measured ≡ again.measured) × (is.brought ≡ again.brought)
-one_hearing identity process heard device is again = (
-  devices_are_kept-one_state (parts_of identity) device is.state again.state is.kept again.kept,
-  one_process process is.measured again.measured is.process_is again.process_is,
-  deliveries_bring_one-one (parts_of identity) (map char_of heard) is.brought again.brought is.brings again.brings,
-)
-
--- so its answer and its state after it are
-one_answer : (identity : HartIdentity) (process : HartProcess) (heard : List HartChar) (device : HartDevice)
-    (is again : IsHearing identity process heard device)
-    → answer_to is.state is.measured is.brought ≡ answer_to again.state again.measured again.brought
-one_answer identity process heard device is again = grind (arith, one_hearing identity process heard device is again)
-
-one_after : (identity : HartIdentity) (process : HartProcess) (heard : List HartChar) (device : HartDevice)
-    (is again : IsHearing identity process heard device)
-    → state_after_delivery is.state is.brought ≡ state_after_delivery again.state again.brought
-one_after identity process heard device is again = grind (arith, one_hearing identity process heard device is again)
 
 -- an answer is said in one way
 one_said : (answer : Option FrameParts) (preambles : ℕ) (old new newer : List ℕ) (len size : ℕ) → IsSaid answer preambles old new len
@@ -65,127 +44,71 @@ one_said (Some reply) preambles old new newer len size (message, is, long, writt
 -- what was said had room
 said_has_room : (answer : Option FrameParts) (preambles : ℕ) (old new : List ℕ) (len : ℕ) → IsSaid answer preambles old new len
     → length new ≡ length old → HasNoRoom answer preambles (length old) → ⊥
-said_has_room None preambles old new len said same none = none
-said_has_room (Some reply) preambles old new len (message, is, long, written) same (other, again, over) =
-    has_room reply preambles (length old) message is (written_fits message old new len long written same) other again over
+said_has_room answer preambles old new len said same none = grind (arith, common_steps, one_message)
 
--- parts that are an identity have no fault
-no_identity_fault : (parts : IdentityParts) (fault : DeviceFault) → AreIdentityParts parts → IsIdentityFault parts fault → ⊥
-no_identity_fault parts fault are why = grind arith
+-- of who hears what, where an image has one fault
+module _ (one : (image : List ℕ) (fault other : DeviceFault) → IsImageFault image fault → IsImageFault image other → fault ≡ other)
+    (identity : HartIdentity) (process : HartProcess) (heard : List HartChar) (device : HartDevice) where
+  -- who hears what is one
+  one_hearing : (is again : IsHearing identity process heard device)
+      → (is.state ≡ again.state) × (is.measured ≡ again.measured) × (is.brought ≡ again.brought)
+  one_hearing is again = (
+    devices_are_kept-one_state (parts_of identity) device is.state again.state is.kept again.kept,
+    one_process process is.measured again.measured is.process_is again.process_is,
+    deliveries_bring_one-one (parts_of identity) (map char_of heard) is.brought again.brought is.brings again.brings,
+  )
 
--- a device that is in a state has no fault
-in_state : (identity : HartIdentity) (device : HartDevice) (fault : Fault) → IsInState identity device
-    → IsStateFault identity device fault → ⊥
-in_state identity device (Device fault) (state, kept) (inl who) = no_identity_fault (parts_of identity) fault kept.is_identity who
-in_state identity device (Device fault) (state, kept) (inr (who, inl (long, is))) = absurd (omega (arith, long, kept.fits))
-in_state identity device (Device fault) (state, kept) (inr (who, inr (fits, why))) =
-    images_have_no_fault state (image_in device) fault kept.image why
-in_state identity device fault kept why = absurd why
+  -- a device that is in a state has no fault
+  in_state : (fault : Fault) → IsInState identity device → IsStateFault identity device fault → ⊥
+  in_state fault is why = grind (arith, images_have_no_fault is.0 (image_in device))
 
--- what a law of hart_device says of images
-abbrev pub OneImageFault : Type 0
-OneImageFault = (image : List ℕ) (fault other : DeviceFault) → IsImageFault image fault → IsImageFault image other → fault ≡ other
+  -- where all was heard, the only fault is that there is no room
+  room_only : (room : ℕ) → IsHearing identity process heard device → (fault : Fault)
+      → IsHearFault identity process heard device room fault → fault ≡ NoRoom
+  room_only room is NoRoom why = refl
+  room_only room is fault why = grind (arith, in_state fault (is.state, is.kept), is.process_is.count, is.delivery)
 
--- an identity has one fault
-one_identity_fault : (parts : IdentityParts) (fault other : DeviceFault) → IsIdentityFault parts fault → IsIdentityFault parts other
-    → fault ≡ other
-one_identity_fault parts fault other why because = grind arith
+  one_hear_fault : (room : ℕ) (fault other : Fault) → IsHearFault identity process heard device room fault
+      → IsHearFault identity process heard device room other → fault ≡ other
+  one_hear_fault room NoRoom other why because = sym (room_only room why.0 other because)
+  one_hear_fault room fault NoRoom why because = room_only room because.0 fault why
+  one_hear_fault room (Device fault) (Device other) why because = grind (arith, one)
+  one_hear_fault room (Device fault) other why because = grind (arith, in_state (Device fault))
+  one_hear_fault room fault (Device other) why because = grind (arith, in_state (Device other))
+  one_hear_fault room fault other why because = grind arith
 
--- and what is kept has one
-one_kept_fault : OneImageFault → (device : HartDevice) (fault other : DeviceFault) → IsKeptFault device fault → IsKeptFault device other
-    → fault ≡ other
-one_kept_fault one device fault other (inl (long, is)) (inl (longer, again)) = is ∙ sym again
-one_kept_fault one device fault other (inl (long, is)) (inr (fits, why)) = absurd (omega (arith, long, fits))
-one_kept_fault one device fault other (inr (fits, why)) (inl (long, is)) = absurd (omega (arith, long, fits))
-one_kept_fault one device fault other (inr (fits, why)) (inr (room, because)) = one (image_in device) fault other why because
+  -- what a device heard, and said, has no fault, and is one
+  not_heard : (after : HartDevice) (old new : List ℕ) (len : ℕ) (fault : Fault) → Hears identity process heard device after old new len
+      → length new ≡ length old → IsHearFault identity process heard device (length old) fault → ⊥
+  not_heard after old new len NoRoom is same (hearing, none) =
+      grind (arith, one_hearing hearing is.hearing, said_has_room _ identity.response_preambles old new len is.reply same)
+  not_heard after old new len fault is same why = grind (arith, room_only (length old) is.hearing fault why)
 
--- so a device that is in no state has one
-one_state_fault : OneImageFault → (identity : HartIdentity) (device : HartDevice) (fault other : DeviceFault)
-    → IsStateFault identity device (Device fault) → IsStateFault identity device (Device other) → fault ≡ other
-one_state_fault one identity device fault other (inl who) (inl again) = one_identity_fault (parts_of identity) fault other who again
-one_state_fault one identity device fault other (inl who) (inr (are, why)) = absurd (no_identity_fault (parts_of identity) fault are who)
-one_state_fault one identity device fault other (inr (are, why)) (inl who) = absurd (no_identity_fault (parts_of identity) other are who)
-one_state_fault one identity device fault other (inr (are, why)) (inr (too, because)) = one_kept_fault one device fault other why because
+  same_heard : (after other : HartDevice) (old new newer : List ℕ) (len size : ℕ) → Hears identity process heard device after old new len
+      → Hears identity process heard device other old newer size → (len ≡ size) × (after ≡ other) × (new ≡ newer)
+  same_heard after other old new newer len size is again =
+      let (state, measured, brought) = one_hearing is.hearing again.hearing in
+      grind (arith, one_said, state, measured, brought, is.reply, again.reply, is.state, again.state)
 
--- where all was heard, the only fault is that there is no room
-room_only : (identity : HartIdentity) (process : HartProcess) (heard : List HartChar) (device : HartDevice) (room : ℕ)
-    → IsHearing identity process heard device → (fault : Fault) → IsHearFault identity process heard device room fault → fault ≡ NoRoom
-room_only identity process heard device room is (Device fault) why =
-    absurd (in_state identity device (Device fault) (is.state, is.kept) why)
-room_only identity process heard device room is NoRoom why = refl
-room_only identity process heard device room is BadVariables why = absurd (why.1 is.process_is.count)
-room_only identity process heard device room is BadFaultBits why = absurd (why.2 is.delivery.chars)
-room_only identity process heard device room is TooLong why = absurd (omega (arith, why.2.1, is.delivery.few))
-room_only identity process heard device room is fault why = absurd why
-
-one_hear_fault : OneImageFault → (identity : HartIdentity) (process : HartProcess) (heard : List HartChar) (device : HartDevice) (room : ℕ)
-    (fault other : Fault) → IsHearFault identity process heard device room fault → IsHearFault identity process heard device room other
-    → fault ≡ other
-one_hear_fault one identity process heard device room (Device fault) (Device other) why because =
-    ap (λ (f : DeviceFault). let all : Fault = Device f in all) (one_state_fault one identity device fault other why because)
-one_hear_fault one identity process heard device room NoRoom other (is, none) because = grind (arith, common_steps, room_only)
-one_hear_fault one identity process heard device room fault NoRoom why (is, none) =
-    room_only identity process heard device room is fault why
-one_hear_fault one identity process heard device room (Device fault) BadVariables why because =
-    absurd (in_state identity device (Device fault) because.0 why)
-one_hear_fault one identity process heard device room (Device fault) BadFaultBits why because =
-    absurd (in_state identity device (Device fault) because.0 why)
-one_hear_fault one identity process heard device room (Device fault) TooLong why because =
-    absurd (in_state identity device (Device fault) because.0 why)
-one_hear_fault one identity process heard device room BadVariables (Device other) why because =
-    absurd (in_state identity device (Device other) why.0 because)
-one_hear_fault one identity process heard device room BadFaultBits (Device other) why because =
-    absurd (in_state identity device (Device other) why.0 because)
-one_hear_fault one identity process heard device room TooLong (Device other) why because =
-    absurd (in_state identity device (Device other) why.0 because)
-one_hear_fault one identity process heard device room fault other why because = grind arith
-
--- what a device heard, and said, has no fault
-not_heard : (identity : HartIdentity) (process : HartProcess) (heard : List HartChar) (before after : HartDevice) (old new : List ℕ)
-    (len : ℕ) (fault : Fault) → Hears identity process heard before after old new len → length new ≡ length old
-    → IsHearFault identity process heard before (length old) fault → ⊥
-not_heard identity process heard before after old new len (Device fault) is same why =
-    in_state identity before (Device fault) (is.hearing.state, is.hearing.kept) why
-not_heard identity process heard before after old new len NoRoom is same (hearing, none) =
-    let Has : Option FrameParts → Type 0 = λ answer. HasNoRoom answer identity.response_preambles (length old) in
-    let own = is.hearing in
-    said_has_room (answer_to own.state own.measured own.brought) identity.response_preambles old new len is.reply same
-    (subst Has (one_answer identity process heard before hearing own) none)
-not_heard identity process heard before after old new len fault is same why = grind (arith, is.hearing)
-
-pub one_heard : OneImageFault → (identity : HartIdentity) (process : HartProcess) (heard : List HartChar) (before after other : HartDevice)
-    (old new newer : List ℕ) (outcome another : HartOutcome) → length new ≡ length old → length newer ≡ length old
-    → HearOutcome identity process heard before after old new outcome → HearOutcome identity process heard before other old newer another
-    → (outcome ≡ another) × (after ≡ other) × (new ≡ newer)
-one_heard one identity process heard before after other old new newer outcome another long longer (inl (none, is)) (inl (free, again)) =
-    let Said : Option FrameParts → Type 0 = λ answer. IsSaid answer identity.response_preambles old new outcome.len in
-    let own = is.hearing in
-    let same = again.hearing in
-    let answer = answer_to same.state same.measured same.brought in
-    let (len, said) = one_said answer identity.response_preambles old new newer outcome.len another.len
-    (subst Said (one_answer identity process heard before own same) is.reply) again.reply in (
-      grind (arith, common_steps, outcome_is),
-      is.state ∙ ap device_of (one_after identity process heard before own same) ∙ sym again.state,
-      said,
-    )
-one_heard one identity process heard before after other old new newer outcome another long longer (inl (none, is))
-    (inr (fault, why, number, len, kept, silent)) =
-    absurd (not_heard identity process heard before after old new outcome.len fault is long why)
-one_heard one identity process heard before after other old new newer outcome another long longer
-    (inr (fault, why, number, len, kept, silent)) (inl (none, is)) =
-    absurd (not_heard identity process heard before other old newer another.len fault is longer why)
-one_heard one identity process heard before after other old new newer outcome another long longer
-    (inr (fault, why, number, len, kept, silent)) (inr (found, because, told, size, stays, still)) =
-    grind (arith, common_steps, outcome_is, one_hear_fault)
+  module _ (after other : HartDevice) (old new newer : List ℕ) (outcome another : HartOutcome) (long : length new ≡ length old)
+      (longer : length newer ≡ length old) where
+    pub one_heard : HearOutcome identity process heard device after old new outcome
+        → HearOutcome identity process heard device other old newer another → (outcome ≡ another) × (after ≡ other) × (new ≡ newer)
+    one_heard (inl (none, is)) (inl (free, again)) =
+        grind (arith, same_heard after other old new newer outcome.len another.len is again)
+    one_heard (inl (none, is)) (inr (fault, why, number, len, kept, silent)) =
+        absurd (not_heard after old new outcome.len fault is long why)
+    one_heard (inr (fault, why, number, len, kept, silent)) (inl (none, is)) =
+        absurd (not_heard other old newer another.len fault is longer why)
+    one_heard (inr (fault, why, number, len, kept, silent)) (inr (found, because, told, size, stays, still)) =
+        grind (arith, one_hear_fault (length old) fault found why because)
 
 -- a new device is kept with what its registers hold, whoever it is
 one_new : (values others : RegisterValues) (after other : HartDevice) → values_of values ≡ values_of others
     → ((parts : IdentityParts) → after ≡ device_of (new_device parts values))
     → ((parts : IdentityParts) → other ≡ device_of (new_device parts others)) → after ≡ other
 one_new values others after other same kept stays =
-    let anybody : IdentityParts = grind (arith, common_steps) in
-    let With : Contents → HartDevice = λ contents. device_of (record (new_device anybody values) { contents = contents }) in
-    kept anybody ∙ ap With same ∙ sym (stays anybody)
+    let anybody : IdentityParts = grind (arith, common_steps) in grind (arith, kept anybody, stays anybody)
 
 pub one_new_device : (given : HartRegisters) (before after other : HartDevice) (outcome another : HartOutcome)
     → NewDeviceOutcome given before after outcome → NewDeviceOutcome given before other another → (outcome ≡ another) × (after ≡ other)

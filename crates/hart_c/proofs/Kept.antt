@@ -43,25 +43,3 @@ devices_are_kept-one_state parts device state other is other_is =
     sym (ap (λ (cold_start : EachMaster Bool). record other { cold_start = cold_start }) same
     ∙ devices_are_kept_whole-either_version state other (image_in device) is.image other_is.image
     (other_is.identity ∙ sym is.identity))
-
-module _ (state after : DeviceState) (brought : Brought) (is : after ≡ state_after_delivery state brought) where
-  -- who a device is stays after a delivery, as after a frame
-  stays : (brings : Brought) → (state_after_delivery state brings).identity ≡ state.identity
-  stays (OneFrame frame) = frames_leave_identity_and_protection-identity state frame
-  stays (Garbled request) = refl
-  stays NoMessage = refl
-
-  pub identity_after : after.identity ≡ state.identity
-  identity_after = ap (λ (s : DeviceState). s.identity) is ∙ stays brought
-
-  -- what is kept of it is what is kept of the state after the delivery
-  pub state_kept : (device : HartDevice) → device ≡ device_of after → device ≡ device_of (state_after_delivery state brought)
-  state_kept device kept = subst (λ (s : DeviceState). device ≡ device_of s) is kept
-
-  -- and stands for it
-  pub stands_after : (parts : IdentityParts) (device : HartDevice) → IsDevice after → after.identity ≡ parts → device ≡ device_of after
-      → IsKept parts device (state_after_delivery state brought)
-  stands_after parts device well_made same kept =
-      subst (λ (s : DeviceState). IsKept parts device s) is
-      (subst (λ (own : IdentityParts). IsKept own device after) same
-      (subst (λ (d : HartDevice). IsKept after.identity d after) (sym kept) (devices_are_kept-kept after well_made)))

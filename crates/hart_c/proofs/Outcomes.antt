@@ -20,6 +20,7 @@ use Rattle.hart_c.specs.declared.frame.HartFrame.{HartFrame}
 use Rattle.hart_c.specs.Decode.{DecodeOutcome}
 use Rattle.hart_c.specs.Data.{ReplyShown, RequestShown}
 use Rattle.hart_c.specs.Encode.{EncodeOutcome, IsEncodeFault, IsWritten}
+use Rattle.hart_c.specs.Faults.{frame_fault_number, number_of}
 use Rattle.hart_c.specs.Frames.{found_in, frame_in}
 use Rattle.hart_c.specs.Names.{NameOutcome}
 
@@ -35,41 +36,34 @@ NotBoth = (bytes : List ℕ) (frame : FrameParts) (len : ℕ) (fault : FrameFaul
 pub outcome_is : (outcome other : HartOutcome) → outcome.len ≡ other.len → outcome.fault ≡ other.fault → outcome ≡ other
 outcome_is outcome other len fault = grind arith
 
+-- so an outcome is one if success is, and the fault, and there are not both
+pub one_outcome : {F Good Other Kept Stays R : Type 0} (Bad : F → Type 0) (number : F → ℕ) (outcome another : HartOutcome)
+    → (Good → Other → (outcome.len ≡ another.len) × R) → (Kept → Stays → R) → ((fault : F) → Good → Bad fault → ⊥)
+    → ((fault : F) → Other → Bad fault → ⊥) → ((fault found : F) → Bad fault → Bad found → fault ≡ found)
+    → ((outcome.fault ≡ 0) × Good) ⊎ ((fault : F) × Bad fault × (outcome.fault ≡ number fault) × (outcome.len ≡ 0) × Kept)
+    → ((another.fault ≡ 0) × Other) ⊎ ((fault : F) × Bad fault × (another.fault ≡ number fault) × (another.len ≡ 0) × Stays)
+    → (outcome ≡ another) × R
+one_outcome Bad number outcome another both kept none nor one is again = grind arith
+
 pub one_decoding : OneFault → NotBoth → (bytes : List ℕ) (before after other : HartFrame) (outcome another : HartOutcome)
     → DecodeOutcome bytes before after outcome → DecodeOutcome bytes before other another
     → (outcome ≡ another) × (found_in after ≡ found_in other)
-one_decoding one not_both bytes before after other outcome another (inl (none, shown)) (inl (free, again)) =
-    let same = bodies_are_unambiguous-one_prefix (frame_in after) (frame_in other) bytes outcome.len another.len
-    shown.begins again.begins in grind (arith, common_steps, outcome_is)
-one_decoding one not_both bytes before after other outcome another (inl (none, shown)) (inr (fault, refused, number, len, kept)) =
-    absurd (not_both bytes (frame_in after) outcome.len fault shown.begins refused)
-one_decoding one not_both bytes before after other outcome another (inr (fault, refused, number, len, kept)) (inl (none, shown)) =
-    absurd (not_both bytes (frame_in other) another.len fault shown.begins refused)
-one_decoding one not_both bytes before after other outcome another (inr (fault, refused, number, len, kept))
-    (inr (found, is, told, long, stays)) = grind (arith, common_steps, outcome_is)
+one_decoding one not_both bytes before after other outcome another =
+    one_outcome (IsRefusedWith bytes) frame_fault_number outcome another
+    (λ shown again. let same = bodies_are_unambiguous-one_prefix (frame_in after) (frame_in other) bytes outcome.len another.len
+    shown.begins again.begins in grind (arith, common_steps)) (λ kept stays. grind arith)
+    (λ fault shown. not_both bytes (frame_in after) outcome.len fault shown.begins)
+    (λ fault shown. not_both bytes (frame_in other) another.len fault shown.begins) (one bytes)
 
 pub one_name : (name : Option (List ℕ)) (before after other : List ℕ) (outcome another : HartOutcome)
     → NameOutcome name before after outcome → NameOutcome name before other another → (outcome ≡ another) × (after ≡ other)
-one_name None before after other outcome another (is, kept) (again, stays) = (is ∙ sym again, kept ∙ sym stays)
-one_name (Some name) before after other outcome another (inl (fits, is, written)) (inl (room, again, same)) = grind (arith, common_steps)
-one_name (Some name) before after other outcome another (inl (fits, is, written)) (inr (long, again, stays)) = grind (arith, common_steps)
-one_name (Some name) before after other outcome another (inr (long, is, kept)) (inl (fits, again, same)) = grind (arith, common_steps)
-one_name (Some name) before after other outcome another (inr (long, is, kept)) (inr (longer, again, stays)) = grind (arith, common_steps)
+one_name name before after other outcome another is again = grind arith
 
 -- a frame has one message with so many preamble bytes
 pub one_message : (frame : FrameParts) (preambles : ℕ) (message other : List ℕ) → IsMessage frame preambles message
     → IsMessage frame preambles other → message ≡ other
 one_message frame preambles message other is again =
-    is.parts
-    ∙ ap (λ (body : List ℕ). replicate preambles 255 ++ body)
-    (bodies_are_unambiguous-one_body frame is.body again.body is.is_body again.is_body)
-    ∙ sym again.parts
-
--- what was written over the front of a list that keeps its length fits into it
-pub written_fits : (message before after : List ℕ) (len : ℕ) → len ≡ length message → after ≡ message ++ drop len before
-    → length after ≡ length before → length message ≤ length before
-written_fits message before after len long written same =
-    omega (arith, long, ap length written, length-append message (drop len before), same)
+    grind (arith, bodies_are_unambiguous-one_body frame is.body again.body is.is_body again.is_body)
 
 -- why a frame is not written
 abbrev EncodeCase : HartFrame → ℕ → ℕ → Fault → Type 0
@@ -84,40 +78,26 @@ pub one_encode_fault : (frame : HartFrame) (preambles room : ℕ) (fault other :
     → IsEncodeFault frame preambles room other → fault ≡ other
 one_encode_fault frame preambles room fault other why again = grind arith
 
--- a message that fits has room
-pub has_room : (frame : FrameParts) (preambles room : ℕ) (message : List ℕ) → IsMessage frame preambles message → length message ≤ room
-    → (other : List ℕ) → IsMessage frame preambles other → room < length other → ⊥
-has_room frame preambles room message is fits other again over =
-    omega (arith, fits, over, ap length (one_message frame preambles message other is again))
-
 -- a frame whose message was written has no fault
 not_written : (frame : HartFrame) (preambles len : ℕ) (before after : List ℕ) (fault : Fault) → IsWritten frame preambles before after len
     → length after ≡ length before → IsEncodeFault frame preambles (length before) fault → ⊥
-not_written frame preambles len before after NoRoom is same (is_frame, count, (other, again, over)) =
-    grind (arith, common_steps, has_room, written_fits)
-not_written frame preambles len before after fault is same why = grind arith
+not_written frame preambles len before after fault is same why = grind (arith, common_steps, one_message)
 
 pub one_encoding : (frame : HartFrame) (preambles : ℕ) (before after other : List ℕ) (outcome another : HartOutcome)
     → length after ≡ length before → length other ≡ length before → EncodeOutcome frame preambles before after outcome
     → EncodeOutcome frame preambles before other another → (outcome ≡ another) × (after ≡ other)
-one_encoding frame preambles before after other outcome another long longer (inl (none, is)) (inl (free, again)) =
-    let same = one_message (frame_in frame) preambles is.message again.message is.is_message again.is_message in
-    grind (arith, common_steps, outcome_is)
-one_encoding frame preambles before after other outcome another long longer (inl (none, is)) (inr (fault, why, number, len, kept)) =
-    absurd (not_written frame preambles outcome.len before after fault is long why)
-one_encoding frame preambles before after other outcome another long longer (inr (fault, why, number, len, kept)) (inl (none, is)) =
-    absurd (not_written frame preambles another.len before other fault is longer why)
-one_encoding frame preambles before after other outcome another long longer (inr (fault, why, number, len, kept))
-    (inr (found, because, told, size, stays)) = grind (arith, common_steps, outcome_is, one_encode_fault)
+one_encoding frame preambles before after other outcome another long longer =
+    one_outcome (IsEncodeFault frame preambles (length before)) number_of outcome another
+    (λ is again. let same = one_message (frame_in frame) preambles _ _ is.is_message again.is_message in grind (arith, common_steps))
+    (λ kept stays. kept ∙ sym stays) (λ fault is. not_written frame preambles outcome.len before after fault is long)
+    (λ fault is. not_written frame preambles another.len before other fault is longer) (one_encode_fault frame preambles (length before))
 
 pub one_request : (command : ℕ) (bytes : List ℕ) (read : Reading) (before after other : List HartField) (reading another : HartReading)
     → RequestShown command bytes read before after reading → RequestShown command bytes read before other another
     → (reading ≡ another) × (after ≡ other)
-one_request command bytes (Ok request) before after other reading another is again = (is.told ∙ sym again.told, is.shown ∙ sym again.shown)
-one_request command bytes (Err code) before after other reading another is again = (is.told ∙ sym again.told, is.shown ∙ sym again.shown)
+one_request command bytes read before after other reading another is again = grind arith
 
 pub one_reply : (command : ℕ) (payload : List ℕ) (read : Option Reply) (before after other : List HartField) (reading another : HartReading)
     → ReplyShown command payload read before after reading → ReplyShown command payload read before other another
     → (reading ≡ another) × (after ≡ other)
-one_reply command payload None before after other reading another (is, kept) (again, stays) = (is ∙ sym again, kept ∙ sym stays)
-one_reply command payload (Some reply) before after other reading another is again = (is.told ∙ sym again.told, is.shown ∙ sym again.shown)
+one_reply command payload read before after other reading another is again = grind arith
