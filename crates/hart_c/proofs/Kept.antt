@@ -38,8 +38,5 @@ devices_are_kept-kept state is = grind (arith, common_steps, image_kept, devices
 
 pub devices_are_kept-one_state : (parts : IdentityParts) (device : HartDevice) (state other : DeviceState) → IsKept parts device state
     → IsKept parts device other → state ≡ other
-devices_are_kept-one_state parts device state other is other_is =
-    let same : other.cold_start ≡ state.cold_start = other_is.cold_start ∙ sym is.cold_start in
-    sym (ap (λ (cold_start : EachMaster Bool). record other { cold_start = cold_start }) same
-    ∙ devices_are_kept_whole-either_version state other (image_in device) is.image other_is.image
-    (other_is.identity ∙ sym is.identity))
+devices_are_kept-one_state parts device state other is again =
+    grind (arith, devices_are_kept_whole-either_version state other (image_in device) is.image again.image)

@@ -18,19 +18,7 @@ use Rattle.hart_c.specs.Data.{reply_fields, request_fields, written_over}
 use Rattle.hart_c.specs.Names.{rows_for}
 use Rattle.hart_c.specs.declared.data.HartField.{HartField}
 use Rattle.hart_c.specs.declared.data.HartReading.{HartReading}
-use Rattle.hart_c.proofs.Placed.{fields_more, over_nothing}
-
--- bytes are those of a field, and those after it
-abbrev split_at : ℕ → List ℕ → List ℕ × List ℕ
-split_at n bytes = (take n bytes, drop n bytes)
-
-parts_by : (bytes field after : List ℕ) (count : Option ℕ)
-    → option_map {U = List ℕ × List ℕ} (λ n. (take n bytes, drop n bytes)) count ≡ Some (field, after) → field ++ after ≡ bytes
-parts_by bytes field after None is = cc
-parts_by bytes field after (Some n) is = grind (arith, common_steps, take-append-drop)
-
-parts_of : (size : FieldSize) (bytes field after : List ℕ) → split size bytes ≡ Some (field, after) → field ++ after ≡ bytes
-parts_of size bytes field after is = parts_by bytes field after (size_in size (length bytes)) is
+use Rattle.hart_c.proofs.Placed.{fields_more, over_nothing, parts_of}
 
 -- what is shown within the places is one of them
 over-at : (places before : List HartField) (index : ℕ) (shown : HartField) → index < length places

@@ -1,17 +1,17 @@
-use Rattle.std.proofs.Common.{List, ap, arith, length, sym}
+use Rattle.std.proofs.Common.{List, ap, arith, length, length-append, sym}
 use Rattle.hart_commands.specs.Fields.{Field}
-use Rattle.hart_c.proofs.Placed.{few_more, row_at, shown_next}
+use Rattle.hart_c.proofs.Placed.{parts_of, row_at, shown_next}
 use Rattle.hart_c.proofs.data.show_fields.Goals as goal
 
 pub loop-row-preserved : goal.loop-row-preserved
 loop-row-preserved c =
     let loop = c.loop-row.invariant in
     let split = sym c.in-Some.ensures in
-    let all = few_more _ c.loop-row.rest.now c.in-Some.field.now c.in-Some.after.now split in
+    let all = parts_of _ c.loop-row.rest.now c.in-Some.field.now c.in-Some.after.now split in
     let more = row_at c.args.rows.now c.loop-row.row-index _ c.loop-row.rest.now c.in-Some.field.now c.in-Some.after.now
     c.loop-row-test.true split in
     record {
-      few = omega (arith, loop.few, all);
+      few = grind (arith, length-append, loop.few, all);
       within = omega (arith, loop.within);
       count = omega (arith, loop.count, ap (λ (fields : List Field). length fields) more);
       shown = shown_next c.loop-row.count c.loop-row.place c.loop-row.fields _ _ _ _

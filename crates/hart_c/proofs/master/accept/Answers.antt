@@ -4,7 +4,7 @@ use Rattle.hart_frame.specs.heard.Character.{Character}
 use Rattle.hart_frame.specs.heard.Frames.{AreFrames}
 use Rattle.hart_master.proofs.lemmas.Laws.{acceptance_is_decided-by_its_frame}
 use Rattle.hart_c.specs.Find.{char_of}
-use Rattle.hart_c.proofs.Accepted.{brought, brought_is, send_fault}
+use Rattle.hart_c.proofs.Accepted.{send_fault}
 use Rattle.hart_c.proofs.master.accept.Goals as goal
 
 pub returns-in_err-master-clause-refused : goal.returns-in_err-master-clause-refused
@@ -13,18 +13,15 @@ returns-in_err-master-clause-refused c = grind (arith, common_steps, send_fault)
 pub returns-in_default-receive : goal.returns-in_default-receive
 returns-in_default-receive c =
     let awaits = c.in_ok-master.ensures.awaits in
-    let found = c.in-Alone.found in
     let all : c.as_slice.result.now ≡ map char_of c.args.heard.now = c.as_slice.ensures ∙ c.in_ok-delivery.ensures.same in
-    let alone = subst (λ (chars : List Character). AreFrames chars 0 (found ∷ [])) all c.in-Alone.ensures.lone in
     record {
       accepted = record {
         request = awaits.request;
         sent = awaits.sent;
         delivery = c.in_ok-delivery.ensures.accepted;
         reply = (
-          λ reply accepted. c.in_default-receive.not-Answered reply _ (c.receive.ensures.answered reply
-              (brought c.args.request.now c.in_ok-master.master awaits found.frame reply
-              (acceptance_is_decided-by_its_frame _ _ _ _ found reply alone accepted))),
+          λ reply accepted. c.in_default-receive.not-Answered reply _ (c.receive.ensures.answered reply (rw (awaits.hand, awaits.id)
+              (acceptance_is_decided-by_its_frame _ _ _ _ c.in-Alone.found reply (rw all at c.in-Alone.ensures.lone) accepted))),
           refl,
         );
       };
@@ -35,7 +32,6 @@ returns-in_default-receive c =
 pub returns-clause-accepted : goal.returns-clause-accepted
 returns-clause-accepted c =
     let awaits = c.in_ok-master.ensures.awaits in
-    let found = c.in-Alone.found in
     let all : c.as_slice.result.now ≡ map char_of c.args.heard.now = c.as_slice.ensures ∙ c.in_ok-delivery.ensures.same in
     record {
       request = awaits.request;
@@ -43,9 +39,9 @@ returns-clause-accepted c =
       delivery = c.in_ok-delivery.ensures.accepted;
       reply = (
         record {
-          found = found;
-          alone = subst (λ (chars : List Character). AreFrames chars 0 (found ∷ [])) all c.in-Alone.ensures.lone;
-          is_reply = grind (arith, common_steps, brought_is);
+          found = c.in-Alone.found;
+          alone = rw all at c.in-Alone.ensures.lone;
+          is_reply = rw (awaits.hand, awaits.id) at c.in-Answered.ensures.event.0;
         },
         c.show_frame.ensures.found,
         c.show_frame.ensures.tidy,

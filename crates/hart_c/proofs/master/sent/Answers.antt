@@ -16,20 +16,19 @@ returns-in_err-asked-clause-refused c =
 pub returns-then-is_err-clause-refused : goal.returns-then-is_err-clause-refused
 returns-then-is_err-clause-refused c =
     let made = rw c.unwrap-master.ensures at c.new.ensures.kept in
-    let refused = sym c.is_err.ensures.value ∙ c.if-is_err.true in (
-      grind (arith, common_steps),
+    (
+      c.in_ok-frame.ensures.frame,
       (
         c.in_ok-asked.asked,
         rw c.in_ok-frame.ensures.same at c.in_ok-asked.ensures.asked,
         not_taken c.args.request.now c.in_ok-frame.frame c.in_ok-asked.asked c.master.result c.address.result c.unwrap-master.result
-            c.submit.result c.in_ok-frame.ensures.same c.address.ensures made c.submit.ensures.result refused,
+            c.submit.result c.in_ok-frame.ensures.same c.address.ensures made c.submit.ensures.result (grind arith),
       ),
     )
 
 pub returns-clause-awaits : goal.returns-clause-awaits
 returns-clause-awaits c =
     let made = rw c.unwrap-master.ensures at c.new.ensures.kept in
-    let accepted = sym c.is_err.ensures.value ∙ c.if-is_err.false in
     taken c.args.request.now c.in_ok-frame.frame c.in_ok-asked.asked c.master.result c.address.result c.unwrap-master.result
     c.submit.result c.in_ok-frame.ensures.same c.address.ensures made c.submit.ensures.result c.submit.new.self c.send.new.self
-    c.in_ok-frame.ensures.frame c.in_ok-asked.ensures.asked c.master.ensures accepted c.submit.ensures.state c.send.ensures.state
+    c.in_ok-frame.ensures.frame c.in_ok-asked.ensures.asked c.master.ensures (grind arith) c.submit.ensures.state c.send.ensures.state
