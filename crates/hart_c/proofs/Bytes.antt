@@ -73,14 +73,11 @@ third_flag changed protected = grind arith
 
 pub protection_is : (parts : IdentityParts) (device : HartDevice) (state : DeviceState) → length device.image ≡ 86
     → IsKept parts device state → slice_index device.image (device.image_len - 1) / 4 ≡ (if state.protected then 1 else 0)
-protection_is parts device state long is =
-    ap (λ (n : ℕ). n / 4) (flagged parts device state is long).flags ∙ third_flag state.changed state.protected
+protection_is parts device state long is = rw (flagged parts device state is long).flags (third_flag state.changed state.protected)
 
 -- a list of one byte
 one_byte : (xs : List ℕ) → length xs ≡ 1 → xs ≡ slice_index xs 0 ∷ []
-one_byte [] long = absurd (omega (arith, long))
-one_byte (x ∷ []) long = refl
-one_byte (x ∷ y ∷ xs) long = absurd (omega (arith, long))
+one_byte xs long = grind (arith, common_steps)
 
 -- the first registers of an image are the polling address and the loop current mode
 first_registers : (version : ℕ) (listed : List Register) → registers_of_version version ≡ Some listed
