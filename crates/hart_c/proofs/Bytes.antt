@@ -1,10 +1,11 @@
 -- What the bytes of an image that is kept say.
 use Rattle.std.proofs.lemmas.Grind.{common_steps}
-use Rattle.std.proofs.Common.{◌≡◌, ◌∙◌, ◌+◌, ◌-◌, ◌%◌, ◌<◌, ◌++◌, ◌∷◌, [], ℕ, Bool, List, Some, arith, ap, length, length-append, refl}
+use Rattle.std.proofs.Common.{◌≡◌, ◌∙◌, ◌≤◌, ◌+◌, ◌-◌, ◌%◌, ◌<◌, ◌++◌, ◌∷◌, [], ℕ, Bool, List, Some, arith, ap, length, length-append, refl}
 use Rattle.std.proofs.Common.{append_assoc, slice_index, sym, take}
 use Rattle.std.specs.Prelude.{if◌then◌else◌, ◌/◌}
 use Rattle.std.specs.List.{flat_map}
 use Rattle.std.proofs.lemmas.List.{get_or-take, length-take-le, take_more, take_more_set}
+use Rattle.std.proofs.Math.Seq.{drop-append_seam, take-append_seam}
 use Rattle.hart_values.specs.declared.each_master.EachMaster.{EachMaster}
 use Rattle.hart_commands.specs.Registers.{bytes_in}
 use Rattle.hart_commands.specs.declared.register.Register.{Register}
@@ -17,13 +18,10 @@ use Rattle.hart_c.specs.declared.device.HartDevice.{HartDevice}
 use Rattle.hart_c.specs.Device.{IsKept, image_in, with_protection}
 
 -- what stands before the last byte, and that byte
-last_same : (xs ys : List ℕ) (x y : ℕ) → xs ++ x ∷ [] ≡ ys ++ y ∷ [] → (xs ≡ ys) × (x ≡ y)
-last_same [] [] x y same = (refl, cc)
-last_same [] (b ∷ ys) x y same = absurd (omega (arith, ap length same, length-append ys (y ∷ [])))
-last_same (a ∷ xs) [] x y same = absurd (omega (arith, ap length same, length-append xs (x ∷ [])))
-last_same (a ∷ xs) (b ∷ ys) x y same =
-    let heads : a ≡ b = cc in
-    let tails : xs ++ x ∷ [] ≡ ys ++ y ∷ [] = cc in grind (arith, common_steps, last_same xs ys x y tails)
+last_is : (image front : List ℕ) (len flags : ℕ) → length image ≡ 86 → len ≤ 86 → take len image ≡ front ++ flags ∷ []
+    → (0 < len) × (take (len - 1) image ≡ front) × (slice_index image (len - 1) ≡ flags)
+last_is image front len flags long fits written =
+    grind (arith, common_steps, take-append_seam front (flags ∷ []), drop-append_seam front (flags ∷ []))
 
 -- an image is what stands before its flags, and those
 abbrev front_of : ℕ → List Register → DeviceState → List ℕ
@@ -34,26 +32,12 @@ image_parts : (version : ℕ) (listed : List Register) (state : DeviceState)
 image_parts version listed state = grind (arith, common_steps, append_assoc, flat_map)
 
 -- so are the bytes that are kept
-record IsFlagged (device : HartDevice) (state : DeviceState) (version : ℕ) (listed : List Register) : Type 0 where
-  pub some : 0 < device.image_len
-  pub front : take (device.image_len - 1) device.image ≡ front_of version listed state
-  pub flags : slice_index device.image (device.image_len - 1) ≡ flags_of state.changed state.protected
-
 flagged : (parts : IdentityParts) (device : HartDevice) (state : DeviceState) (is : IsKept parts device state) → length device.image ≡ 86
-    → IsFlagged device state is.image.version is.image.listed
+    → (0 < device.image_len) × (take (device.image_len - 1) device.image ≡ front_of is.image.version is.image.listed state)
+    × (slice_index device.image (device.image_len - 1) ≡ flags_of state.changed state.protected)
 flagged parts device state is long =
-    let image = device.image in
-    let last = device.image_len - 1 in
-    let written = is.image.written ∙ image_parts is.image.version is.image.listed state in
-    let size = ap length written
-    ∙ length-append (front_of is.image.version is.image.listed state) (flags_of state.changed state.protected ∷ []) in
-    let kept : length (image_in device) ≡ device.image_len = length-take-le device.image_len image (omega (arith, is.fits, long)) in
-    let some : 0 < device.image_len = omega (arith, size, kept) in
-    let all : last + 1 ≡ device.image_len = omega (arith, some) in
-    let same = last_same (take last image) (front_of is.image.version is.image.listed state) (slice_index image last)
-    (flags_of state.changed state.protected)
-    (sym (take_more image last 0 (omega (arith, some, is.fits, long))) ∙ ap (λ (n : ℕ). take n image) all ∙ written) in
-    record { some = some; front = same.0; flags = same.1 }
+    last_is device.image (front_of is.image.version is.image.listed state) device.image_len _ long is.fits
+    (is.image.written ∙ image_parts is.image.version is.image.listed state)
 
 -- the two lower flags stay
 flags_again : (changed : EachMaster Bool) (protected on : Bool)
@@ -63,9 +47,7 @@ flags_again changed protected on = grind arith
 pub protection_kept : (parts : IdentityParts) (device : HartDevice) (state : DeviceState) (on : Bool) → length device.image ≡ 86
     → IsKept parts device state → IsKept parts (with_protection on device) (record state { protected = on })
 protection_kept parts device state on long is =
-    let image = device.image in
-    let last = device.image_len - 1 in
-    let flags = flagged parts device state is long in grind (arith, common_steps, slice_index, flags_again, take_more_set, image_parts)
+    let flags = flagged parts device state is long in grind (arith, common_steps, flags_again, image_parts)
 
 -- the flag of write protection is bit 2
 third_flag : (changed : EachMaster Bool) (protected : Bool) → flags_of changed protected / 4 ≡ (if protected then 1 else 0)
@@ -73,7 +55,7 @@ third_flag changed protected = grind arith
 
 pub protection_is : (parts : IdentityParts) (device : HartDevice) (state : DeviceState) → length device.image ≡ 86
     → IsKept parts device state → slice_index device.image (device.image_len - 1) / 4 ≡ (if state.protected then 1 else 0)
-protection_is parts device state long is = rw (flagged parts device state is long).flags (third_flag state.changed state.protected)
+protection_is parts device state long is = rw (flagged parts device state is long).2 (third_flag state.changed state.protected)
 
 -- a list of one byte
 one_byte : (xs : List ℕ) → length xs ≡ 1 → xs ≡ slice_index xs 0 ∷ []

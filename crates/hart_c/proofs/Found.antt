@@ -1,7 +1,7 @@
 -- What is found in characters that are heard in pieces, and what is left of them.
 use Rattle.std.proofs.lemmas.Grind.{common_steps}
 use Rattle.std.proofs.Common.{◌≡◌, ◌+◌, ◌-◌, ◌<◌, ◌≤◌, ◌⊎◌, false, Bool, ℕ, IsTrue, List, [], ◌∷◌, ◌++◌, All, arith, ap, sym, subst}
-use Rattle.std.proofs.Common.{◌∙◌, append_assoc, drop, inl, inr, length, map, slice_index_or, take}
+use Rattle.std.proofs.Common.{◌∙◌, append_assoc, drop, inl, inr, length, refl, map, slice_index_or, take}
 use Rattle.std.proofs.lemmas.Bool.{false≢true}
 use Rattle.std.proofs.lemmas.List.{append-nil, drop-append-le, drop-drop, length-take, map-append, take-append-drop}
 use Rattle.std.proofs.lemmas.List.{take-map, take_more}
@@ -27,38 +27,8 @@ pub history_one : (n : ℕ) (heard : List HartChar) (other : HartChar) (characte
     → IsHistory (take (n + 1) (map char_of heard)) new shown
 history_one n heard other character old new shown within is going history pushed =
     let past = take n (map char_of heard) in
-    let Of : List Character → Type 0 = λ chars. IsHistory chars new shown in
-    let Now : Scan → Type 0 = λ scan. IsHistory (past ++ character ∷ []) scan shown in
-    let given = slice_index_or heard n other in
-    let all : past ++ character ∷ [] ≡ take (n + 1) (map char_of heard) = grind (arith, common_steps, take-map, map-append, take_more) in
-    subst Of all (subst Now (sym pushed) (push past old shown character history going))
-
--- what comes after so many is what it was, so what comes after more is
-pub untouched_on : (count more : ℕ) (after before : List HartFrame) → count ≤ more → drop count after ≡ drop count before
-    → drop more after ≡ drop more before
-untouched_on count more after before onward same =
-    let is : count + (more - count) ≡ more = omega (arith, onward) in
-    let At : List HartFrame → ℕ → List HartFrame = λ frames i. drop i frames in
-    ap (At after) (sym is) ∙ sym (drop-drop (more - count) count after) ∙ ap (drop (more - count)) same
-    ∙ drop-drop (more - count) count before ∙ ap (At before) is
-
--- the frames of all are those that were given and those of the rest
-next_frames : (n : ℕ) (chars : List Character) (ended : Bool) (scan : Scan) (given : List Found)
-    → n ≤ length chars → ((more : List Character) → (IsTrue ended → more ≡ []) → IsTrue scan.finished → drop n chars ++ more ≡ [])
-    → IsHistory (take n chars) scan given → AreNext chars ended given scan.first
-next_frames n chars ended scan given fits closes history more later ends frames =
-    let past = take n chars in
-    let used = scan.first in
-    let split = sym (take-append-drop n chars) in
-    grind (
-      arith,
-      common_steps,
-      frames_are_streamed-pushed,
-      drop-append-le,
-      append_assoc,
-      held_characters_have_the_later_frames-later,
-      closes,
-    )
+    let all : take (n + 1) (map char_of heard) ≡ past ++ character ∷ [] = grind (arith, common_steps, take-map, map-append, take_more) in
+    rw (all, pushed) (push past old shown character history going)
 
 -- a search goes on if the scanner does, or if all was searched and nothing is to come
 abbrev pub GoesOn : ℕ → List Character → Bool → Scan → Type 0
@@ -70,6 +40,32 @@ closes : (n : ℕ) (chars : List Character) (ended : Bool) (scan : Scan) → Goe
 closes n chars ended scan (inl going) more ends finished = absurd (false≢true (sym going ∙ finished))
 closes n chars ended scan (inr all) more ends finished = grind (arith, common_steps, drop-length)
 
+-- the frames of all are those that were given and those of the rest
+next_frames : (n : ℕ) (chars : List Character) (ended : Bool) (scan : Scan) (given : List Found)
+    → n ≤ length chars → GoesOn n chars ended scan → IsHistory (take n chars) scan given → AreNext chars ended given scan.first
+next_frames n chars ended scan given fits goes history more later ends frames =
+    let past = take n chars in
+    let used = scan.first in
+    let split = sym (take-append-drop n chars) in
+    grind (
+      arith,
+      common_steps,
+      frames_are_streamed-pushed,
+      drop-append-le,
+      append_assoc,
+      held_characters_have_the_later_frames-later,
+      closes n chars ended scan goes more ends,
+    )
+
+-- so many of all are all
+pub take_all : (n : ℕ) (chars : List Character) → n ≡ length chars → take n chars ≡ chars
+take_all n chars whole = ap (λ (i : ℕ). take i chars) whole ∙ take-length chars
+
+-- a search is what is said of it
+search_is : (search : HartSearch) (used count : ℕ) → search.used ≡ used → search.count ≡ count → search.fault ≡ 0
+    → search ≡ record { used = used; count = count; fault = 0 }
+search_is search used count used_is count_is fault = grind arith
+
 -- what a search came to that goes on
 pub finds_more : (n count : ℕ) (chars : List Character) (ended : Bool) (before after : List HartFrame)
     (scan : Scan) (search : HartSearch) → search.used ≡ scan.first → search.count ≡ count → search.fault ≡ 0 → n ≤ length chars
@@ -78,39 +74,28 @@ pub finds_more : (n count : ℕ) (chars : List Character) (ended : Bool) (before
     → (count < length after → (n ≡ length chars) × (ended ≡ false) × IsUndecided scan.held) → Finds chars ended before after search
 finds_more n count chars ended before after scan search used_is count_is fault fits room untouched tidy goes history few waits =
     let all_held = frames_are_streamed-pushed (take n chars) scan (found_in_first count after) history in
-    let taken = length-take n chars in
-    let next = next_frames n chars ended scan (found_in_first count after) fits (closes n chars ended scan goes) history in
-    let Untouched : ℕ → Type 0 = λ i. drop i after ≡ drop i before in
-    let Tidy : ℕ → Type 0 = λ i. All IsTidy (take i after) in
-    let Next : ℕ → Type 0 = λ i. AreNext chars ended (found_in_first i after) scan.first in
-    let From : ℕ → Type 0 = λ place. AreNext chars ended (found_in_first search.count after) place in
-    record {
-      within = omega (arith, count_is, room);
-      untouched = subst Untouched (sym count_is) untouched;
-      tidy = subst Tidy (sym count_is) tidy;
-      used = omega (arith, used_is, all_held, taken, fits);
-      are_next = subst From (sym used_is) (subst Next (sym count_is) next);
-      fault = fault;
-      undecided = λ fewer going.
-          let whole = waits (omega (arith, count_is, fewer)) in
-          let past_is : take n chars ≡ chars = ap (λ (i : ℕ). take i chars) whole.0 ∙ take-length chars in
-          let held = held_characters_have_the_later_frames-held (take n chars) scan (found_in_first count after) history in
-          let rest = ap (λ (place : ℕ). drop place chars) used_is ∙ ap (λ (cs : List Character). drop scan.first cs) (sym past_is) ∙ held in
-          subst IsUndecided (sym rest) whole.2;
-      few = grind (arith, common_steps);
-      all = λ fewer ends. absurd (false≢true (sym (waits (omega (arith, count_is, fewer))).1 ∙ ends));
-    }
+    let held = held_characters_have_the_later_frames-held (take n chars) scan (found_in_first count after) history in
+    rw (search_is search scan.first count used_is count_is fault) (record {
+      within = room;
+      untouched = untouched;
+      tidy = tidy;
+      used = omega (arith, all_held, length-take n chars, fits);
+      are_next = next_frames n chars ended scan (found_in_first count after) fits goes history;
+      fault = refl;
+      undecided = λ fewer going. rw (rw (take_all n chars (waits fewer).0) at held) (waits fewer).2;
+      few = grind (arith, all_held, length-take n chars);
+      all = λ fewer ends. absurd (false≢true (sym (waits fewer).1 ∙ ends));
+    })
 
 -- as many are not fewer
 pub not_fewer : {X : Type 0} → (count all : ℕ) → count ≡ all → count < all → X
 not_fewer count all same fewer = absurd (omega (arith, same, fewer))
 
 -- what a search came to at the end of all
-pub finds_all : (n count : ℕ) (chars : List Character) (ended : Bool) (before after : List HartFrame) (search : HartSearch)
-    → search.used ≡ length chars → search.count ≡ count → search.fault ≡ 0 → n ≡ length chars → count ≤ length after
+pub finds_all : (count : ℕ) (chars : List Character) (ended : Bool) (before after : List HartFrame) → count ≤ length after
     → drop count after ≡ drop count before → All IsTidy (take count after) → AreFrames chars 0 (found_in_first count after)
-    → IsTrue ended → Finds chars ended before after search
-finds_all n count chars ended before after search used_is count_is fault whole room untouched tidy frames ends =
+    → IsTrue ended → Finds chars ended before after (record { used = length chars; count = count; fault = 0 })
+finds_all count chars ended before after room untouched tidy frames ends =
     grind (
       arith,
       common_steps,
@@ -121,14 +106,6 @@ finds_all n count chars ended before after search used_is count_is fault whole r
       false≢true,
     )
 
--- so many of all are all
-pub take_all : (n : ℕ) (chars : List Character) → n ≡ length chars → take n chars ≡ chars
-take_all n chars whole = ap (λ (i : ℕ). take i chars) whole ∙ take-length chars
-
--- of nothing there is no frame, so nothing is decided
-no_frame : AreFrames [] 0 [] → IsUndecided []
-no_frame (none from nothing) = inl nothing
-
--- in nothing nothing is decided
-pub nothing_undecided : IsUndecided []
-nothing_undecided = no_frame messages_have_their_frame_alone-nothing
+-- in nothing nothing is decided, since there is no frame
+pub nothing_undecided : AreFrames [] 0 [] → IsUndecided []
+nothing_undecided (none from nothing) = inl nothing

@@ -1,6 +1,6 @@
 -- Frames that are shown one after another.
 use Rattle.std.proofs.lemmas.Grind.{common_steps}
-use Rattle.std.proofs.Common.{◌≡◌, ◌+◌, ◌<◌, ℕ, false, List, [], ◌∷◌, ◌++◌, All, length, map, take, drop, slice_set, ap, sym, ◌∙◌, subst}
+use Rattle.std.proofs.Common.{◌≡◌, ◌+◌, ◌<◌, ◌≤◌, ◌-◌, ℕ, false, List, [], ◌∷◌, ◌++◌, All, length, map, take, drop, slice_set, ap, sym, ◌∙◌, subst}
 use Rattle.std.proofs.Common.{arith, inl, inr}
 use Rattle.std.proofs.lemmas.Bool.{false≢true}
 use Rattle.std.proofs.lemmas.List.{drop-drop, map-append, take-set, take_more_set}
@@ -22,36 +22,24 @@ pub history_shown : (past : List Character) (old new : Scan) (count : ℕ) (fram
     → count < length frames → found_in frame ≡ found → Gives old new found → IsHistory past old (found_in_first count frames)
     → IsHistory past new (found_in_first (count + 1) (slice_set frames count frame))
 history_shown past old new count frames frame found within is gives history =
-    let Of : List Found → Type 0 = λ given. IsHistory past new given in
-    subst Of (sym (shown_more count frames frame found within is))
-    (take_view past old new (found_in_first count frames) found history gives)
-
--- one tidy frame
-tidy_one : (frame : HartFrame) → IsTidy frame → All IsTidy (frame ∷ [])
-tidy_one frame tidy = grind arith
+    rw (shown_more count frames frame found within is) (take_view past old new (found_in_first count frames) found history gives)
 
 -- one more tidy frame is shown
 pub tidy_more : (count : ℕ) (frames : List HartFrame) (frame : HartFrame) → count < length frames → IsTidy frame
     → All IsTidy (take count frames) → All IsTidy (take (count + 1) (slice_set frames count frame))
 tidy_more count frames frame within tidy all =
-    subst (All IsTidy) (sym (take_more_set frames count frame within))
-    (All-append IsTidy (take count frames) (frame ∷ []) all (tidy_one frame tidy))
+    rw (take_more_set frames count frame within) (All-append IsTidy (take count frames) (frame ∷ []) all (grind arith))
 
--- a frame that is not shown leaves those before it
-pub shown_before : (count : ℕ) (frames : List HartFrame) (frame : HartFrame)
-    → found_in_first count (slice_set frames count frame) ≡ found_in_first count frames
-shown_before count frames frame = ap (map found_in) (take-set frames count frame)
-
--- what comes after so many is what it was, so what comes after one more is
-pub later_untouched : (count : ℕ) (frames before : List HartFrame) → drop count frames ≡ drop count before
-    → drop (count + 1) frames ≡ drop (count + 1) before
-later_untouched count frames before same = grind (arith, common_steps, drop-drop)
+-- what comes after so many is what it was, so what comes after more is
+pub untouched_on : (count more : ℕ) (after before : List HartFrame) → count ≤ more → drop count after ≡ drop count before
+    → drop more after ≡ drop more before
+untouched_on count more after before onward same =
+    grind (arith, drop-drop (more - count) count after, drop-drop (more - count) count before)
 
 -- a scanner that gives none, and is not finished, waits
 pub waits_or_ends : (past : List Character) (old new : Scan) (count : ℕ) (frames : List HartFrame) (frame : HartFrame)
     → old.finished ≡ false → GivesNothing old new → IsHistory past old (found_in_first count frames)
     → IsHistory past new (found_in_first count (slice_set frames count frame))
 waits_or_ends past old new count frames frame going (inl waits) history =
-    let Of : List Found → Type 0 = λ given. IsHistory past new given in
-    subst Of (sym (shown_before count frames frame)) (wait past old new (found_in_first count frames) history waits)
+    rw (take-set frames count frame) (wait past old new (found_in_first count frames) history waits)
 waits_or_ends past old new count frames frame going (inr ends) history = absurd (false≢true (sym going ∙ ends.finished))

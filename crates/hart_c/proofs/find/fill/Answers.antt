@@ -1,6 +1,6 @@
 use Rattle.std.proofs.Common.{◌+◌, ◌∙◌, arith, refl}
 use Rattle.std.proofs.lemmas.List.{drop-set-lt, length-set}
-use Rattle.hart_c.proofs.Shown.{history_shown, later_untouched, tidy_more, waits_or_ends}
+use Rattle.hart_c.proofs.Shown.{history_shown, untouched_on, tidy_more, waits_or_ends}
 use Rattle.hart_c.proofs.find.fill.Goals as goal
 
 pub returns-then-not-give-clause-so_far : goal.returns-then-not-give-clause-so_far
@@ -24,7 +24,7 @@ loop-count-preserved c =
       within = omega (arith, len, c.loop-count-test.true);
       onward = omega (arith, loop.onward);
       len = len ∙ loop.len;
-      untouched = drop-set-lt (count + 1) frames count frame (omega arith) ∙ later_untouched count frames c.args.frames.now loop.untouched;
+      untouched = drop-set-lt (count + 1) frames count frame (omega arith) ∙ untouched_on count (count + 1) frames c.args.frames.now (omega arith) loop.untouched;
       tidy = λ all. tidy_more count frames frame c.loop-count-test.true (c.give.ensures.tidy c.if-not-give.false) (loop.tidy all);
       finished = gives.finished ∙ loop.finished;
       history = λ past begun. history_shown past _ _ count frames frame _ c.loop-count-test.true refl gives (loop.history past begun);

@@ -4,9 +4,10 @@ use Rattle.std.proofs.lemmas.List.{length-map, length-take}
 use Rattle.hart_frame.specs.heard.Frames.{IsUndecided}
 use Rattle.hart_frame.specs.scan.Scanner.{Scan}
 use Rattle.hart_frame.specs.scan.Streamed.{IsHistory, begin}
-use Rattle.hart_frame.proofs.lemmas.Laws.{frames_are_streamed-pushed}
+use Rattle.hart_frame.proofs.lemmas.Laws.{frames_are_streamed-pushed, messages_have_their_frame_alone-nothing}
 use Rattle.hart_c.specs.Find.{char_of}
-use Rattle.hart_c.proofs.Found.{history_one, nothing_undecided, untouched_on}
+use Rattle.hart_c.proofs.Found.{history_one, nothing_undecided}
+use Rattle.hart_c.proofs.Shown.{untouched_on}
 use Rattle.hart_c.proofs.find.hart_find.Goals.{then-loop-taken-test+else-count-frames, else-loop-taken-test}
 use Rattle.hart_c.proofs.find.hart_find.Goals as goal
 
@@ -17,11 +18,11 @@ loop-taken-init c = record {
   room = omega arith;
   untouched = refl;
   tidy = λ k d none. absurd (omega (arith, none));
-  going = ap (λ (scan : Scan). scan.finished) c.new-scanner.ensures;
-  drained = λ _. ap (λ (scan : Scan). scan.drained) c.new-scanner.ensures;
-  undecided = λ _. subst (λ (scan : Scan). IsUndecided scan.held) (sym c.new-scanner.ensures) nothing_undecided;
+  going = rw c.new-scanner.ensures refl;
+  drained = λ _. rw c.new-scanner.ensures refl;
+  undecided = λ _. rw c.new-scanner.ensures (nothing_undecided messages_have_their_frame_alone-nothing);
   bits = c.have_fault_bits.ensures.0 c.if-not-have_fault_bits.false;
-  history = subst (λ (scan : Scan). IsHistory [] scan []) (sym c.new-scanner.ensures) begin;
+  history = rw c.new-scanner.ensures begin;
 }
 
 pub push-requires-clause-room : goal.push-requires-clause-room

@@ -10,7 +10,7 @@ use Rattle.hart_c.specs.declared.find.HartSearch.{HartSearch}
 use Rattle.hart_c.specs.Find.{Finds}
 use Rattle.hart_c.specs.Frames.{found_in_first}
 use Rattle.hart_c.proofs.Nexts.{IsFound, finds_next}
-use Rattle.hart_c.proofs.Shown.{later_untouched, shown_more, tidy_more}
+use Rattle.hart_c.proofs.Shown.{untouched_on, shown_more, tidy_more}
 use Rattle.hart_c.proofs.find.hart_find_in_bytes.Goals as goal
 
 pub loop-count-init : goal.loop-count-init
@@ -32,7 +32,7 @@ loop-count-preserved c =
       len = len ∙ loop.len;
       room = omega (arith, len, c.loop-count-test.true);
       within = next.ensures.within;
-      untouched = drop-set-lt (count + 1) frames count frame (omega arith) ∙ later_untouched count frames c.args.frames.now loop.untouched;
+      untouched = drop-set-lt (count + 1) frames count frame (omega arith) ∙ untouched_on count (count + 1) frames c.args.frames.now (omega arith) loop.untouched;
       tidy = tidy_more count frames frame c.loop-count-test.true c.show_found.ensures.tidy loop.tidy;
       leads = subst Leads (sym (shown_more count frames frame (found_of c.in-Some.found) c.loop-count-test.true c.show_found.ensures.found))
           (subst Leads (ap (λ (fs : List Found). given ++ fs) one) leads);

@@ -2,10 +2,11 @@ use Rattle.std.proofs.Common.{◌∙◌, ◌<◌, List, ap, arith, inl, inr, len
 use Rattle.hart_frame.specs.heard.Character.{Character}
 use Rattle.hart_frame.specs.heard.Frames.{AreFrames}
 use Rattle.hart_frame.specs.scan.Scanner.{Scan}
-use Rattle.hart_frame.specs.scan.Streamed.{IsHistory, finish}
+use Rattle.hart_frame.specs.scan.Streamed.{IsHistory, IsWholeHistory, finish}
 use Rattle.hart_frame.proofs.lemmas.Laws.{frames_are_streamed-all}
 use Rattle.hart_c.specs.Frames.{found_in_first}
-use Rattle.hart_c.proofs.Found.{finds_all, finds_more, not_fewer, take_all, untouched_on}
+use Rattle.hart_c.proofs.Found.{finds_all, finds_more, not_fewer, take_all}
+use Rattle.hart_c.proofs.Shown.{untouched_on}
 use Rattle.hart_c.proofs.find.settle.Goals as goal
 
 pub returns-then-not-ended : goal.returns-then-not-ended
@@ -30,8 +31,8 @@ returns-then-count-frames-2 c = λ n chars before len searched.
     let step = c.step-then-count-frames-2.ensures in
     let fill = c.fill-count.ensures in
     let whole = searched.whole (omega (arith, searched.room, c.if-count-frames.false)) in
-    let finished = subst (λ (scan : Scan). IsHistory (take n chars) scan (found_in_first c.args.count c.args.frames.now))
-    (sym c.finish.ensures) (finish (take n chars) c.args.scanner.now (found_in_first c.args.count c.args.frames.now) searched.history) in
+    let finished : IsHistory (take n chars) c.finish.new.self (found_in_first c.args.count c.args.frames.now) =
+    rw c.finish.ensures (finish (take n chars) c.args.scanner.now (found_in_first c.args.count c.args.frames.now) searched.history) in
     finds_more n c.fill-count.result chars c.args.ended before c.fill-count.new.frames c.fill-count.new.scanner
     c.step-then-count-frames-2.result step.used step.count step.fault searched.within fill.within
     (fill.untouched ∙ untouched_on c.args.count c.fill-count.result c.args.frames.now before fill.onward searched.untouched)
@@ -43,14 +44,11 @@ pub returns : goal.returns
 returns c = λ n chars before len searched.
     let fill = c.fill-count.ensures in
     let whole = searched.whole (omega (arith, searched.room, c.if-count-frames.false)) in
-    let finished = subst (λ (scan : Scan). IsHistory (take n chars) scan (found_in_first c.args.count c.args.frames.now))
-    (sym c.finish.ensures) (finish (take n chars) c.args.scanner.now (found_in_first c.args.count c.args.frames.now) searched.history) in
+    let finished : IsHistory (take n chars) c.finish.new.self (found_in_first c.args.count c.args.frames.now) =
+    rw c.finish.ensures (finish (take n chars) c.args.scanner.now (found_in_first c.args.count c.args.frames.now) searched.history) in
     let fewer : c.fill-count.result < length c.fill-count.new.frames = omega (arith, fill.within, c.if-count-frames-2.false) in
-    let chars_are = take_all n chars whole in
-    let frames = frames_are_streamed-all (take n chars) _
-    (fill.all (take n chars) finished fewer (ap (λ (scan : Scan). scan.finished) c.finish.ensures)) in
-    finds_all n c.fill-count.result chars c.args.ended before c.fill-count.new.frames _ len refl refl whole fill.within
+    let all : IsWholeHistory (take n chars) (found_in_first c.fill-count.result c.fill-count.new.frames) =
+    fill.all (take n chars) finished fewer (rw c.finish.ensures refl) in
+    rw len (finds_all c.fill-count.result chars c.args.ended before c.fill-count.new.frames fill.within
     (fill.untouched ∙ untouched_on c.args.count c.fill-count.result c.args.frames.now before fill.onward searched.untouched)
-    (fill.tidy searched.tidy)
-    (subst (λ (cs : List Character). AreFrames cs 0 (found_in_first c.fill-count.result c.fill-count.new.frames)) chars_are frames)
-    c.if-not-ended.false
+    (fill.tidy searched.tidy) (frames_are_streamed-all chars _ (rw (take_all n chars whole) at all)) c.if-not-ended.false)
