@@ -1,21 +1,16 @@
 -- That what a master hears has one outcome.
 use Rattle.std.proofs.lemmas.Grind.{common_steps}
-use Rattle.std.proofs.Common.{◌≡◌, ◌⊎◌, ◌∙◌, ℕ, true, false, List, [], ◌∷◌, Option, None, Some, arith, ap, inl, inr, map, refl, subst, sym}
-use Rattle.std.proofs.lemmas.Bool.{false≢true}
+use Rattle.std.proofs.Common.{◌≡◌, ◌⊎◌, ℕ, List, Option, None, Some, arith, inl, inr, map, refl}
 use Rattle.hart_values.specs.declared.address.Address.{Address}
 use Rattle.hart_values.specs.declared.master_id.MasterId.{MasterId}
 use Rattle.hart_frame.specs.heard.Character.{Character}
-use Rattle.hart_frame.specs.heard.Frames.{AreFrames}
 use Rattle.hart_frame.specs.wire.FrameParts.{FrameParts}
-use Rattle.hart_frame.specs.declared.heard.found.Found.{Found}
-use Rattle.hart_frame.specs.declared.wire.fault.FrameFault.TheVariants.{BadPreamble, TooShortReply}
 use Rattle.hart_frame.proofs.lemmas.Laws.{frames_are_unambiguous-one_list}
 use Rattle.hart_commands.specs.declared.reply.Reply.{Reply}
 use Rattle.hart_commands.specs.declared.request.Request.{Request}
-use Rattle.hart_master.specs.Pairing.{may_ask}
 use Rattle.hart_master.proofs.lemmas.Laws.{replies_are_decided-one_reply}
 use Rattle.hart_c.specs.declared.fault.Fault.{Fault}
-use Rattle.hart_c.specs.declared.fault.Fault.TheVariants.{BadAddress, BadFaultBits, Frame, LongExpansion, NoRequest, NoRoom, TooLong, WrongAddress}
+use Rattle.hart_c.specs.declared.fault.Fault.TheVariants.{BadFaultBits, NoRequest, TooLong, WrongAddress}
 use Rattle.hart_c.specs.declared.find.HartChar.{HartChar}
 use Rattle.hart_c.specs.declared.frame.HartFrame.{HartFrame}
 use Rattle.hart_c.specs.declared.master.HartAcceptance.{HartAcceptance}

@@ -1,19 +1,15 @@
 -- Requests that are sent, and their faults.
 use Rattle.std.proofs.Common.{◌≡◌, ℕ, List, Result, arith, false, is_err, true}
-use Rattle.std.proofs.lemmas.Bool.{false≢true}
 use Rattle.hart_values.specs.declared.address.Address.{Address}
 use Rattle.hart_values.specs.declared.master_id.MasterId.{MasterId}
 use Rattle.hart_frame.specs.wire.FrameParts.{FrameParts}
-use Rattle.hart_commands.specs.declared.reply.Reply.{Reply}
 use Rattle.hart_commands.specs.declared.request.Request.{Request}
-use Rattle.hart_master.specs.Acceptance.{IsReplyTo}
-use Rattle.hart_master.specs.Master.{FrameBrings, MasterState, hand_sent, hand_submitted, result_submitted}
+use Rattle.hart_master.specs.Master.{MasterState, hand_sent, hand_submitted, result_submitted}
 use Rattle.hart_master.specs.Pairing.{may_ask}
 use Rattle.hart_master.specs.declared.fault.Rejected.{Rejected}
-use Rattle.hart_master.specs.declared.hand.Hand.{Hand}
-use Rattle.hart_master.specs.declared.hand.Hand.TheVariants.{Empty, ToSend}
+use Rattle.hart_master.specs.declared.hand.Hand.TheVariants.{Empty}
 use Rattle.hart_c.specs.declared.fault.Fault.{Fault}
-use Rattle.hart_c.specs.declared.fault.Fault.TheVariants.{BadFaultBits, NoRequest, TooLong, WrongAddress}
+use Rattle.hart_c.specs.declared.fault.Fault.TheVariants.{BadFaultBits, TooLong}
 use Rattle.hart_c.specs.declared.find.HartChar.{HartChar}
 use Rattle.hart_c.specs.declared.frame.HartFrame.{HartFrame}
 use Rattle.hart_c.specs.Encode.{IsEncodeFault, IsFrame}

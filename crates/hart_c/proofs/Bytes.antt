@@ -1,10 +1,10 @@
 -- What the bytes of an image that is kept say.
 use Rattle.std.proofs.lemmas.Grind.{common_steps}
-use Rattle.std.proofs.Common.{◌≡◌, ◌∙◌, ◌≤◌, ◌+◌, ◌-◌, ◌%◌, ◌<◌, ◌++◌, ◌∷◌, [], ℕ, Bool, List, Some, arith, ap, length, length-append, refl}
-use Rattle.std.proofs.Common.{append_assoc, slice_index, sym, take}
+use Rattle.std.proofs.Common.{◌≡◌, ◌∙◌, ◌≤◌, ◌+◌, ◌-◌, ◌%◌, ◌<◌, ◌++◌, ◌∷◌, [], ℕ, Bool, List, Some, arith, length}
+use Rattle.std.proofs.Common.{append_assoc, slice_index, take}
 use Rattle.std.specs.Prelude.{if◌then◌else◌, ◌/◌}
 use Rattle.std.specs.List.{flat_map}
-use Rattle.std.proofs.lemmas.List.{get_or-take, length-take-le, take_more, take_more_set}
+use Rattle.std.proofs.lemmas.List.{get_or-take, length-take-le}
 use Rattle.std.proofs.Math.Seq.{drop-append_seam, take-append_seam}
 use Rattle.hart_values.specs.declared.each_master.EachMaster.{EachMaster}
 use Rattle.hart_commands.specs.Registers.{bytes_in}

@@ -1,15 +1,13 @@
 -- What is kept of a device.
 use Rattle.std.proofs.lemmas.Grind.{common_steps}
-use Rattle.std.proofs.Common.{◌≡◌, ◌∙◌, Bool, ap, arith, length, length-append, refl, subst, sym, take, ℕ}
+use Rattle.std.proofs.Common.{◌≡◌, ◌∙◌, ap, arith, length, length-append, sym, take, ℕ}
 use Rattle.std.proofs.Math.Seq.{take-length}
-use Rattle.hart_values.specs.declared.each_master.EachMaster.{EachMaster}
 use Rattle.hart_commands.specs.declared.register.Register.TheVariants.{Polling, Mode, Message, Tag, Descriptor, Date, Assembly, LongTag}
 use Rattle.hart_device.specs.Device.{DeviceState, IsDevice}
-use Rattle.hart_device.specs.answer.Delivery.{Brought, Garbled, NoMessage, OneFrame, state_after_delivery}
 use Rattle.hart_device.specs.image.Image.{image_of}
 use Rattle.hart_device.specs.declared.identity_parts.IdentityParts.{IdentityParts}
 use Rattle.hart_device.proofs.lemmas.Laws.{devices_are_kept_whole-either_version}
-use Rattle.hart_device.proofs.lemmas.Laws.{devices_are_kept_whole-image, frames_leave_identity_and_protection-identity}
+use Rattle.hart_device.proofs.lemmas.Laws.{devices_are_kept_whole-image}
 use Rattle.hart_c.specs.declared.device.HartDevice.{HartDevice}
 use Rattle.hart_c.specs.Device.{IsKept, device_of, image_in}
 

@@ -1,16 +1,12 @@
 -- Where fields stand, one after another, and how they are shown.
-use Rattle.std.proofs.Common.{◌≡◌, ◌≤◌, ◌<◌, ◌+◌, ℕ, List, [], ◌∷◌, ◌++◌, drop, take, map, get_or, length, slice_set, suc, zero, Option, None}
-use Rattle.std.proofs.Common.{Some, ◌⊎◌, inl, inr}
-use Rattle.std.proofs.Common.{refl, sym, ap, ◌∙◌, append_assoc, arith, length-drop}
-use Rattle.std.specs.Prelude.{option_map}
+use Rattle.std.proofs.Common.{◌≡◌, ◌<◌, ◌+◌, ℕ, List, [], ◌∷◌, ◌++◌, drop, take, map, get_or, length, slice_set, suc, zero}
+use Rattle.std.proofs.Common.{Some}
+use Rattle.std.proofs.Common.{refl, ap, arith}
 use Rattle.std.proofs.lemmas.Grind.{common_steps}
-use Rattle.std.proofs.lemmas.Bool.{cases_lt}
-use Rattle.std.proofs.lemmas.Bool.Decides.{nat_tests}
-use Rattle.std.proofs.lemmas.List.{append-nil, take-append-drop}
-use Rattle.hart_commands.specs.Fields.{Field, Row, fields_of, seen, size_in, split}
+use Rattle.std.proofs.lemmas.List.{take-append-drop}
+use Rattle.hart_commands.specs.Fields.{Field, Row, fields_of, seen, split}
 use Rattle.hart_commands.specs.declared.fields.FieldRow.{FieldRow}
 use Rattle.hart_commands.specs.declared.fields.FieldSize.{FieldSize}
-use Rattle.hart_commands.specs.declared.fields.FieldSize.TheVariants.{AllBut, Exactly}
 use Rattle.hart_c.specs.Data.{kind_number, placed, written_over}
 use Rattle.hart_c.specs.declared.data.HartField.{HartField}
 

@@ -1,16 +1,10 @@
 -- How many fields there are at most, and how long names are.
-use Rattle.std.proofs.lemmas.Grind.{common_steps}
-use Rattle.std.proofs.Common.{◌≢◌, ◌≤◌, ℕ, zero, suc, List, [], ◌∷◌, drop, take, length, slice_get, Option, None, Some}
-use Rattle.std.proofs.Common.{ap, arith, rules, Bool, true, false, IfSome, Ok, Err, inl, inr}
-use Rattle.std.specs.Prelude.{option_map, if◌then◌else◌, ◌==◌}
+use Rattle.std.proofs.Common.{◌≢◌, ◌≤◌, ℕ, zero, suc, List, [], ◌∷◌, length, slice_get}
+use Rattle.std.proofs.Common.{arith, rules, Bool, IfSome}
+use Rattle.std.specs.Prelude.{option_map, ◌==◌}
 use Rattle.std.specs.List.{AllByRecursion, find}
-use Rattle.std.specs.Option.{option_map_or}
-use Rattle.hart_commands.specs.Commands.{content_bytes}
-use Rattle.hart_commands.specs.Fields.{CommandRows, Row, command_name, fields_of, reply_rows, request_rows, rows, rows_of, split}
-use Rattle.hart_commands.specs.ReplyData.{reply_payload, reply_reading}
-use Rattle.hart_commands.specs.RequestData.{Reading, request_data, request_reading}
-use Rattle.hart_commands.specs.declared.reply.Reply.{Reply}
-use Rattle.hart_c.specs.Data.{IsShown, ReplyOutcome, ReplyShown, RequestOutcome, RequestShown}
+use Rattle.hart_commands.specs.Fields.{CommandRows, Row, command_name, fields_of, reply_rows, request_rows, rows, rows_of}
+use Rattle.hart_c.specs.Data.{ReplyOutcome, RequestOutcome}
 use Rattle.hart_c.specs.Names.{NameOutcome, field_name, rows_for}
 use Rattle.hart_c.specs.declared.data.HartField.{HartField}
 use Rattle.hart_c.specs.declared.data.HartReading.{HartReading}

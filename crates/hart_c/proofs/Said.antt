@@ -4,7 +4,6 @@ use Rattle.hart_frame.specs.heard.Character.{Character}
 use Rattle.hart_frame.specs.wire.FrameParts.{FrameParts}
 use Rattle.hart_device.specs.Device.{DeviceState, IsDevice}
 use Rattle.hart_device.specs.answer.Delivery.{Brings, Brought, answer_to, state_after_delivery}
-use Rattle.hart_device.specs.declared.identity_parts.IdentityParts.{IdentityParts}
 use Rattle.hart_device.specs.declared.process.Process.{Process}
 use Rattle.hart_device.proofs.lemmas.Laws.{deliveries_bring_one-brings, frames_leave_identity_and_protection-identity}
 use Rattle.hart_c.specs.declared.device.HartDevice.{HartDevice}

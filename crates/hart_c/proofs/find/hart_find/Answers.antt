@@ -1,9 +1,8 @@
 use Rattle.std.proofs.lemmas.Grind.{common_steps}
-use Rattle.std.proofs.Common.{◌∙◌, [], arith, ap, length, map, refl, subst, sym, ◌<◌, ◌≡◌, inl}
+use Rattle.std.proofs.Common.{◌∙◌, arith, ap, length, map, refl, sym, ◌<◌, ◌≡◌, inl}
 use Rattle.std.proofs.lemmas.List.{length-map, length-take}
-use Rattle.hart_frame.specs.heard.Frames.{IsUndecided}
 use Rattle.hart_frame.specs.scan.Scanner.{Scan}
-use Rattle.hart_frame.specs.scan.Streamed.{IsHistory, begin}
+use Rattle.hart_frame.specs.scan.Streamed.{begin}
 use Rattle.hart_frame.proofs.lemmas.Laws.{frames_are_streamed-pushed, messages_have_their_frame_alone-nothing}
 use Rattle.hart_c.specs.Find.{char_of}
 use Rattle.hart_c.proofs.Found.{history_one, nothing_undecided}

@@ -1,7 +1,4 @@
-use Rattle.std.proofs.Common.{◌∙◌, ◌<◌, List, ap, arith, inl, inr, length, refl, sym, subst, take}
-use Rattle.hart_frame.specs.heard.Character.{Character}
-use Rattle.hart_frame.specs.heard.Frames.{AreFrames}
-use Rattle.hart_frame.specs.scan.Scanner.{Scan}
+use Rattle.std.proofs.Common.{◌∙◌, ◌<◌, arith, inl, inr, length, refl, take}
 use Rattle.hart_frame.specs.scan.Streamed.{IsHistory, IsWholeHistory, finish}
 use Rattle.hart_frame.proofs.lemmas.Laws.{frames_are_streamed-all}
 use Rattle.hart_c.specs.Frames.{found_in_first}

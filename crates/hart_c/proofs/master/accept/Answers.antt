@@ -1,7 +1,5 @@
-use Rattle.std.proofs.Common.{◌≡◌, ◌∙◌, ◌∷◌, [], List, arith, map, refl, subst}
+use Rattle.std.proofs.Common.{◌≡◌, ◌∙◌, arith, map, refl}
 use Rattle.std.proofs.lemmas.Grind.{common_steps}
-use Rattle.hart_frame.specs.heard.Character.{Character}
-use Rattle.hart_frame.specs.heard.Frames.{AreFrames}
 use Rattle.hart_master.proofs.lemmas.Laws.{acceptance_is_decided-by_its_frame}
 use Rattle.hart_c.specs.Find.{char_of}
 use Rattle.hart_c.proofs.Accepted.{send_fault}

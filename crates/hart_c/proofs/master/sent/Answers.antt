@@ -1,4 +1,4 @@
-use Rattle.std.proofs.Common.{◌≡◌, ◌∙◌, Err, arith, sym}
+use Rattle.std.proofs.Common.{◌≡◌, Err, arith}
 use Rattle.std.proofs.lemmas.Grind.{common_steps}
 use Rattle.hart_c.specs.declared.fault.Fault.TheVariants.{NoRequest}
 use Rattle.hart_c.proofs.Accepted.{frame_fault, not_taken, taken}
@@ -15,8 +15,7 @@ returns-in_err-asked-clause-refused c =
 
 pub returns-then-is_err-clause-refused : goal.returns-then-is_err-clause-refused
 returns-then-is_err-clause-refused c =
-    let made = rw c.unwrap-master.ensures at c.new.ensures.kept in
-    (
+    let made = rw c.unwrap-master.ensures at c.new.ensures.kept in (
       c.in_ok-frame.ensures.frame,
       (
         c.in_ok-asked.asked,
