@@ -34,28 +34,13 @@ history_one n heard other character old new shown within is going history pushed
 abbrev pub GoesOn : ℕ → List Character → Bool → Scan → Type 0
 GoesOn n chars ended scan = (scan.finished ≡ false) ⊎ (IsTrue ended × (n ≡ length chars))
 
--- then nothing is to come if the scanner is finished
-closes : (n : ℕ) (chars : List Character) (ended : Bool) (scan : Scan) → GoesOn n chars ended scan → (more : List Character)
-    → (IsTrue ended → more ≡ []) → IsTrue scan.finished → drop n chars ++ more ≡ []
-closes n chars ended scan (inl going) more ends finished = absurd (false≢true (sym going ∙ finished))
-closes n chars ended scan (inr all) more ends finished = grind (arith, common_steps, drop-length)
-
 -- the frames of all are those that were given and those of the rest
 next_frames : (n : ℕ) (chars : List Character) (ended : Bool) (scan : Scan) (given : List Found)
     → n ≤ length chars → GoesOn n chars ended scan → IsHistory (take n chars) scan given → AreNext chars ended given scan.first
 next_frames n chars ended scan given fits goes history more later ends frames =
-    let past = take n chars in
-    let used = scan.first in
-    let split = sym (take-append-drop n chars) in
-    grind (
-      arith,
-      common_steps,
-      frames_are_streamed-pushed,
-      drop-append-le,
-      append_assoc,
-      held_characters_have_the_later_frames-later,
-      closes n chars ended scan goes more ends,
-    )
+    let closed : IsTrue scan.finished → drop n chars ++ more ≡ [] = grind (arith, common_steps, drop-length) in
+    let split = take-append-drop n chars in
+    grind (arith, common_steps, frames_are_streamed-pushed, drop-append-le, append_assoc, held_characters_have_the_later_frames-later)
 
 -- so many of all are all
 pub take_all : (n : ℕ) (chars : List Character) → n ≡ length chars → take n chars ≡ chars
@@ -96,15 +81,7 @@ pub finds_all : (count : ℕ) (chars : List Character) (ended : Bool) (before af
     → drop count after ≡ drop count before → All IsTidy (take count after) → AreFrames chars 0 (found_in_first count after)
     → IsTrue ended → Finds chars ended before after (record { used = length chars; count = count; fault = 0 })
 finds_all count chars ended before after room untouched tidy frames ends =
-    grind (
-      arith,
-      common_steps,
-      drop-length,
-      frames_are_unambiguous-one_list,
-      messages_have_their_frame_alone-nothing,
-      append-nil,
-      false≢true,
-    )
+    grind (arith, drop-length, frames_are_unambiguous-one_list, messages_have_their_frame_alone-nothing, append-nil, false≢true)
 
 -- in nothing nothing is decided, since there is no frame
 pub nothing_undecided : AreFrames [] 0 [] → IsUndecided []

@@ -22,28 +22,23 @@ pub record IsFound (bytes : List ℕ) (ended : Bool) (before after : List HartFr
   pub tidy : All IsTidy (take count after)
   pub leads : LeadsOn (faultless bytes) ended 0 (found_in_first count after) used
 
--- what is left of bytes in which no more frames are found
-pub record IsLeft (bytes : List ℕ) (ended : Bool) (used : ℕ) : Type 0 where
-  pub few : length bytes < used + 269
-  pub all : IsTrue ended → used ≡ length bytes
-  pub undecided : ended ≡ false → IsUndecided (faultless (drop used bytes))
-
--- what a search comes to that has no more room, or finds no more frames
+-- what a search comes to that has no more room, or finds no more frames, where few bytes are left, and nothing is decided in them
 pub finds_next : (bytes : List ℕ) (ended : Bool) (before after : List HartFrame) (used count : ℕ)
-    → IsFound bytes ended before after used count → (count < length after → IsLeft bytes ended used)
+    → IsFound bytes ended before after used count
+    → (count < length after → (length bytes < used + 269) × (IsTrue ended → used ≡ length bytes)
+    × (ended ≡ false → IsUndecided (faultless (drop used bytes))))
     → Finds (faultless bytes) ended before after (record { used = used; count = count; fault = 0 })
 finds_next bytes ended before after used count found left =
-    let size = length-map bytes of_byte in
+    let size : length (faultless bytes) ≡ length bytes = length-map bytes of_byte in
     let within : used ≤ length (faultless bytes) = omega (arith, size, found.within) in
     record {
       within = found.room;
       untouched = found.untouched;
       tidy = found.tidy;
       used = within;
-      are_next = λ more later closed frames.
-          next_frames_are_all-rest (faultless bytes) more ended (found_in_first count after) later used within found.leads closed frames;
-      few = λ fewer. omega (arith, size, (left fewer).few);
-      all = λ fewer ends. omega (arith, size, (left fewer).all ends);
-      undecided = λ fewer going. subst IsUndecided (sym (drop-map of_byte used bytes)) ((left fewer).undecided going);
+      are_next = λ more later. next_frames_are_all-rest (faultless bytes) more ended (found_in_first count after) later used within found.leads;
+      few = λ fewer. omega (arith, size, (left fewer).0);
+      all = λ fewer ends. omega (arith, size, (left fewer).1 ends);
+      undecided = λ fewer going. rw (drop-map of_byte used bytes) ((left fewer).2 going);
       fault = refl;
     }

@@ -10,26 +10,19 @@ use Rattle.hart_frame.specs.declared.heard.found.Found.{Found}
 use Rattle.hart_frame.proofs.lemmas.Laws.{messages_have_their_frame_alone-nothing}
 use Rattle.hart_c.specs.Find.{AreNext, IsSearchedSoFar, begin, search}
 
--- a frame that is moved twice is moved by the sum
-moved_sum : (used further : ℕ) (found : Found) → moved used (moved further found) ≡ moved (used + further) found
-moved_sum used further found = grind arith
-
+-- frames that are moved twice are moved by the sum, and those that are moved by nothing stay
 moved_twice : (used further : ℕ) (frames : List Found)
     → map (moved used) (map (moved further) frames) ≡ map (moved (used + further)) frames
 moved_twice used further [] = refl
-moved_twice used further (found ∷ frames) = grind (arith, common_steps, moved_sum, moved_twice used further frames)
-
--- a frame that is moved by nothing stays
-moved_zero : (found : Found) → moved 0 found ≡ found
-moved_zero found = grind arith
+moved_twice used further (found ∷ frames) = grind (arith, moved_twice used further frames)
 
 moved_nowhere : (frames : List Found) → map (moved 0) frames ≡ frames
 moved_nowhere [] = refl
-moved_nowhere (found ∷ frames) = grind (arith, common_steps, moved_zero, moved_nowhere frames)
+moved_nowhere (found ∷ frames) = grind (arith, moved_nowhere frames)
 
 -- at first all is still to come
 next_first : AreNext [] false [] 0
-next_first more later ended frames = subst (AreFrames more 0) (sym (moved_nowhere later)) frames
+next_first more later ended frames = rw (moved_nowhere later) frames
 
 -- one search more
 next_more : (heard piece : List Character) (was ended : Bool) (given found : List Found) (used further : ℕ) → used ≤ length heard
@@ -39,8 +32,7 @@ next_more heard piece was ended given found used further within stays before now
     let rest = drop used heard ++ piece in
     let front : drop used (heard ++ piece) ≡ rest = drop-append-le used heard piece within in
     let left : drop (used + further) (heard ++ piece) ++ more ≡ drop further rest ++ more = grind (arith, common_steps, drop-drop) in
-    let First : List Character → Type 0 = λ cs. AreFrames cs 0 later in
-    let inner = now more later ends (subst First left frames) in grind (arith, common_steps, append_assoc, map-append, moved_twice)
+    let inner = now more later ends (rw left at frames) in grind (arith, common_steps, append_assoc, map-append, moved_twice)
 
 -- so after every search the frames given are the next ones
 pub searches_give_all_frames-next : (heard : List Character) (ended : Bool) (given : List Found) (used : ℕ)
@@ -53,6 +45,5 @@ searches_give_all_frames-next heard ended given used (search past piece was end 
 pub searches_give_all_frames-all : (heard : List Character) (given : List Found) → IsSearchedSoFar heard true given (length heard)
     → AreFrames heard 0 given
 searches_give_all_frames-all heard given searched =
-    let Rest : List Character → Type 0 = λ cs. AreFrames cs 0 [] in
-    let nothing = subst Rest (sym (ap (λ (cs : List Character). cs ++ []) (drop-length heard))) messages_have_their_frame_alone-nothing in
-    grind (arith, common_steps, searches_give_all_frames-next, append-nil)
+    let next = searches_give_all_frames-next heard true given (length heard) searched [] [] in
+    grind (arith, drop-length, messages_have_their_frame_alone-nothing, append-nil)

@@ -13,7 +13,6 @@ returns-clause-kept c =
       is_identity = search rules;
       identity = search rules;
       fits = search rules;
-      image = subst (λ (state : DeviceState). IsImageOf state image) (sym c.restore_cold_start.ensures)
-          (devices_are_kept_whole-any_cold_start c.in_ok-state.state image _ made);
+      image = rw c.restore_cold_start.ensures (devices_are_kept_whole-any_cold_start c.in_ok-state.state image _ made);
       cold_start = search rules;
     }

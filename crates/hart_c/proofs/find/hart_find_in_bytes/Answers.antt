@@ -24,18 +24,17 @@ loop-count-preserved c =
     let frame = c.show_found.new.frame in
     let next = c.next_in_bytes-next in
     let len = length-set frames count frame in
-    let Leads : List Found → Type 0 = λ given. LeadsOn (faultless c.args.bytes.now) c.args.ended 0 given next.result.used in
     let given = found_in_first count frames in
-    let leads : Leads (given ++ frames_of next.result.frame) = grind (arith, common_steps, next_frames_are_all-onward) in
-    let one : frames_of next.result.frame ≡ found_of c.in-Some.found ∷ [] = ap frames_of c.in-Some.is in
+    let leads : LeadsOn (faultless c.args.bytes.now) c.args.ended 0 (given ++ frames_of next.result.frame) next.result.used =
+    grind (arith, common_steps, next_frames_are_all-onward) in
     record {
       len = len ∙ loop.len;
       room = omega (arith, len, c.loop-count-test.true);
       within = next.ensures.within;
       untouched = drop-set-lt (count + 1) frames count frame (omega arith) ∙ untouched_on count (count + 1) frames c.args.frames.now (omega arith) loop.untouched;
       tidy = tidy_more count frames frame c.loop-count-test.true c.show_found.ensures.tidy loop.tidy;
-      leads = subst Leads (sym (shown_more count frames frame (found_of c.in-Some.found) c.loop-count-test.true c.show_found.ensures.found))
-          (subst Leads (ap (λ (fs : List Found). given ++ fs) one) leads);
+      leads = rw (shown_more count frames frame (found_of c.in-Some.found) c.loop-count-test.true c.show_found.ensures.found)
+          (rw c.in-Some.is at leads);
     }
 
 pub returns-in_default : goal.returns-in_default
@@ -43,22 +42,13 @@ returns-in_default c =
     let loop = c.loop-count.invariant in
     let next = c.next_in_bytes-next in
     let bytes = c.args.bytes.now in
-    let given = found_in_first c.loop-count.count c.loop-count.frames in
-    let Leads : List Found → Type 0 = λ found. LeadsOn (faultless bytes) c.args.ended c.loop-count.used found next.result.used in
-    let Outcome : HartSearch → Type 0 = λ search. Finds (faultless bytes) c.args.ended c.args.frames.now c.loop-count.frames search in
-    let leads = next_frames_are_all-onward (faultless bytes) c.args.ended 0 c.loop-count.used next.result.used given [] loop.leads
-    (subst Leads (ap frames_of c.in_default.is) next.ensures.frames) in
+    let leads = next_frames_are_all-onward (faultless bytes) c.args.ended 0 c.loop-count.used next.result.used
+    (found_in_first c.loop-count.count c.loop-count.frames) [] loop.leads (rw c.in_default.is at next.ensures.frames) in
     let found : IsFound bytes c.args.ended c.args.frames.now c.loop-count.frames next.result.used c.loop-count.count =
     grind (arith, common_steps, append-nil) in
-    subst Outcome (sym c.found_so_far.ensures)
-    (finds_next bytes c.args.ended c.args.frames.now c.loop-count.frames next.result.used c.loop-count.count found
+    rw c.found_so_far.ensures (finds_next bytes c.args.ended c.args.frames.now c.loop-count.frames next.result.used c.loop-count.count found
     (grind (arith, common_steps)))
 
 pub returns : goal.returns
-returns c =
-    let loop = c.loop-count.invariant in
-    let Outcome : HartSearch → Type 0 =
-    λ search. Finds (faultless c.args.bytes.now) c.args.ended c.args.frames.now c.loop-count.frames search in
-    subst Outcome (sym c.found_so_far-2.ensures)
-    (finds_next c.args.bytes.now c.args.ended c.args.frames.now c.loop-count.frames c.loop-count.used c.loop-count.count loop
-    (λ fewer. absurd (omega (arith, fewer, c.loop-count-test.false))))
+returns c = rw c.found_so_far-2.ensures (finds_next c.args.bytes.now c.args.ended c.args.frames.now c.loop-count.frames c.loop-count.used
+    c.loop-count.count c.loop-count.invariant (λ fewer. absurd (omega (arith, fewer, c.loop-count-test.false))))
