@@ -4,7 +4,7 @@ use Rattle.std.proofs.Common.{◌≡◌, ◌∙◌, ◌≤◌, ◌+◌, ◌-◌,
 use Rattle.std.proofs.Common.{append_assoc, slice_index, take}
 use Rattle.std.specs.Prelude.{if◌then◌else◌, ◌/◌}
 use Rattle.std.specs.List.{flat_map}
-use Rattle.std.proofs.lemmas.List.{get_or-take, length-take-le}
+use Rattle.std.proofs.lemmas.List.{take-append-drop}
 use Rattle.std.proofs.Math.Seq.{drop-append_seam, take-append_seam}
 use Rattle.hart_values.specs.declared.each_master.EachMaster.{EachMaster}
 use Rattle.hart_commands.specs.Registers.{bytes_in}
@@ -70,15 +70,8 @@ pub first_bytes : (parts : IdentityParts) (device : HartDevice) (state : DeviceS
     → IsKept parts device state
     → (state.contents.polling ≡ slice_index device.image 1 ∷ []) × (state.contents.mode ≡ slice_index device.image 2 ∷ [])
 first_bytes parts device state long is =
-    let image = device.image in
-    let contents = state.contents in
-    let polling = one_byte contents.polling (is.image.contents Polling).0 in
-    let mode = one_byte contents.mode (is.image.contents Mode).0 in
-    let p = slice_index contents.polling 0 in
-    let m = slice_index contents.mode 0 in
+    let polling = one_byte state.contents.polling (is.image.contents Polling).0 in
+    let mode = one_byte state.contents.mode (is.image.contents Mode).0 in
     let (rest, listed) = first_registers is.image.version is.image.listed is.image.known in
-    let others = flat_map (bytes_in contents) rest in
-    let ending = image_ending state in
-    let written : image_in device ≡ is.image.version ∷ p ∷ m ∷ (others ++ ending) = grind (arith, common_steps) in
-    let kept : length (image_in device) ≡ device.image_len = length-take-le device.image_len image (omega (arith, is.fits, long)) in
-    grind (arith, common_steps, slice_index, get_or-take)
+    let written = is.image.written in
+    grind (arith, polling, mode, listed, written, take-append-drop device.image_len device.image)

@@ -101,16 +101,11 @@ module _ (one : (image : List ℕ) (fault other : DeviceFault) → IsImageFault 
         grind (arith, one_hear_fault (length old) fault found why because)
 
 -- a new device is kept with what its registers hold, whoever it is
-one_new : (values others : RegisterValues) (after other : HartDevice) → values_of values ≡ values_of others
-    → ((parts : IdentityParts) → after ≡ device_of (new_device parts values))
-    → ((parts : IdentityParts) → other ≡ device_of (new_device parts others)) → after ≡ other
-one_new values others after other same kept stays =
-    let anybody : IdentityParts = grind (arith, common_steps) in grind (arith, kept anybody, stays anybody)
-
-pub one_new_device : (given : HartRegisters) (before after other : HartDevice) (outcome another : HartOutcome)
-    → NewDeviceOutcome given before after outcome → NewDeviceOutcome given before other another → (outcome ≡ another) × (after ≡ other)
-one_new_device given before after other outcome another (inl (is, values, hold, valid, kept)) (inl (again, others, carry, fine, stays)) =
-    (is ∙ sym again, one_new values others after other (hold ∙ sym carry) kept stays)
-one_new_device given before after other outcome another (inl (is, values, hold, valid, kept)) (inr (bad, again, stays)) = absurd (bad valid)
-one_new_device given before after other outcome another (inr (bad, is, kept)) (inl (again, others, carry, fine, stays)) = absurd (bad fine)
-one_new_device given before after other outcome another (inr (bad, is, kept)) (inr (wrong, again, stays)) = grind (arith, common_steps)
+module _ (given : HartRegisters) (before after other : HartDevice) (outcome another : HartOutcome) where
+  pub one_new_device : NewDeviceOutcome given before after outcome → NewDeviceOutcome given before other another
+      → (outcome ≡ another) × (after ≡ other)
+  one_new_device (inl (is, values, hold, valid, kept)) (inl (again, others, carry, fine, stays)) =
+      let parts : IdentityParts = grind (arith, common_steps) in grind (arith, kept parts, stays parts)
+  one_new_device (inl (is, values, hold, valid, kept)) (inr (bad, again, stays)) = absurd (bad valid)
+  one_new_device (inr (bad, is, kept)) (inl (again, others, carry, fine, stays)) = absurd (bad fine)
+  one_new_device (inr (bad, is, kept)) (inr (wrong, again, stays)) = grind arith

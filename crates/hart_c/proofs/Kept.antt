@@ -1,12 +1,14 @@
 -- What is kept of a device.
 use Rattle.std.proofs.lemmas.Grind.{common_steps}
-use Rattle.std.proofs.Common.{◌≡◌, ◌∙◌, ap, arith, length, length-append, sym, take, ℕ}
+use Rattle.std.proofs.Common.{◌≡◌, ◌≢◌, refl, ◌∙◌, ap, arith, length, length-append, sym, take, ℕ}
 use Rattle.std.proofs.Math.Seq.{take-length}
 use Rattle.hart_commands.specs.declared.register.Register.TheVariants.{Polling, Mode, Message, Tag, Descriptor, Date, Assembly, LongTag}
 use Rattle.hart_device.specs.Device.{DeviceState, IsDevice}
 use Rattle.hart_device.specs.image.Image.{image_of}
 use Rattle.hart_device.specs.declared.identity_parts.IdentityParts.{IdentityParts}
-use Rattle.hart_device.proofs.lemmas.Laws.{devices_are_kept_whole-either_version}
+use Rattle.hart_device.proofs.lemmas.Laws.{devices_are_kept_whole-either_version, images_have_no_fault}
+use Rattle.hart_device.specs.declared.fault.DeviceFault.TheVariants.{BadLength}
+use Rattle.hart_commands.specs.Registers.{registers}
 use Rattle.hart_device.proofs.lemmas.Laws.{devices_are_kept_whole-image}
 use Rattle.hart_c.specs.declared.device.HartDevice.{HartDevice}
 use Rattle.hart_c.specs.Device.{IsKept, device_of, image_in}
@@ -14,18 +16,9 @@ use Rattle.hart_c.specs.Device.{IsKept, device_of, image_in}
 -- an image of version 2 has 86 bytes
 image_len : (state : DeviceState) → IsDevice state → length (image_of state) ≡ 86
 image_len state is =
-    let valid = is.contents in
-    simp length-append (omega (
-      arith,
-      (valid Polling).0,
-      (valid Mode).0,
-      (valid Message).0,
-      (valid Tag).0,
-      (valid Descriptor).0,
-      (valid Date).0,
-      (valid Assembly).0,
-      (valid LongTag).0,
-    ))
+    let fault : (length (image_of state) ≢ 86) → ⊥ =
+    λ wrong. images_have_no_fault state (image_of state) BadLength (devices_are_kept_whole-image state is) (registers, refl, wrong) in
+    grind (arith, fault)
 
 -- so all of it is kept
 image_kept : (state : DeviceState) → IsDevice state → image_in (device_of state) ≡ image_of state

@@ -24,14 +24,6 @@ use Rattle.hart_c.specs.Faults.{frame_fault_number, number_of}
 use Rattle.hart_c.specs.Frames.{found_in, frame_in}
 use Rattle.hart_c.specs.Names.{NameOutcome}
 
--- what the laws of hart_frame say of faults
-abbrev pub OneFault : Type 0
-OneFault = (bytes : List ℕ) (fault other : FrameFault) → IsRefusedWith bytes fault → IsRefusedWith bytes other → fault ≡ other
-
-abbrev pub NotBoth : Type 0
-NotBoth = (bytes : List ℕ) (frame : FrameParts) (len : ℕ) (fault : FrameFault) → BeginsWithBody bytes frame len
-    → IsRefusedWith bytes fault → ⊥
-
 -- what is told is one if the length and the number of the fault are
 pub outcome_is : (outcome other : HartOutcome) → outcome.len ≡ other.len → outcome.fault ≡ other.fault → outcome ≡ other
 outcome_is outcome other len fault = grind arith
@@ -45,15 +37,18 @@ pub one_outcome : {F Good Other Kept Stays R : Type 0} (Bad : F → Type 0) (num
     → (outcome ≡ another) × R
 one_outcome Bad number outcome another both kept none nor one is again = grind arith
 
-pub one_decoding : OneFault → NotBoth → (bytes : List ℕ) (before after other : HartFrame) (outcome another : HartOutcome)
-    → DecodeOutcome bytes before after outcome → DecodeOutcome bytes before other another
-    → (outcome ≡ another) × (found_in after ≡ found_in other)
-one_decoding one not_both bytes before after other outcome another =
-    one_outcome (IsRefusedWith bytes) frame_fault_number outcome another
-    (λ shown again. let same = bodies_are_unambiguous-one_prefix (frame_in after) (frame_in other) bytes outcome.len another.len
-    shown.begins again.begins in grind (arith, common_steps)) (λ kept stays. grind arith)
-    (λ fault shown. not_both bytes (frame_in after) outcome.len fault shown.begins)
-    (λ fault shown. not_both bytes (frame_in other) another.len fault shown.begins) (one bytes)
+-- of bytes that have one fault, and none besides a frame
+module _ (one : (bytes : List ℕ) (fault other : FrameFault) → IsRefusedWith bytes fault → IsRefusedWith bytes other → fault ≡ other)
+    (not_both : (bytes : List ℕ) (frame : FrameParts) (len : ℕ) (fault : FrameFault) → BeginsWithBody bytes frame len
+    → IsRefusedWith bytes fault → ⊥) (bytes : List ℕ) (before after other : HartFrame) (outcome another : HartOutcome) where
+  pub one_decoding : DecodeOutcome bytes before after outcome → DecodeOutcome bytes before other another
+      → (outcome ≡ another) × (found_in after ≡ found_in other)
+  one_decoding =
+      one_outcome (IsRefusedWith bytes) frame_fault_number outcome another
+      (λ shown again. let same = bodies_are_unambiguous-one_prefix (frame_in after) (frame_in other) bytes outcome.len another.len
+      shown.begins again.begins in grind (arith, common_steps)) (λ kept stays. grind arith)
+      (λ fault shown. not_both bytes (frame_in after) outcome.len fault shown.begins)
+      (λ fault shown. not_both bytes (frame_in other) another.len fault shown.begins) (one bytes)
 
 pub one_name : (name : Option (List ℕ)) (before after other : List ℕ) (outcome another : HartOutcome)
     → NameOutcome name before after outcome → NameOutcome name before other another → (outcome ≡ another) × (after ≡ other)
@@ -64,15 +59,6 @@ pub one_message : (frame : FrameParts) (preambles : ℕ) (message other : List �
     → IsMessage frame preambles other → message ≡ other
 one_message frame preambles message other is again =
     grind (arith, bodies_are_unambiguous-one_body frame is.body again.body is.is_body again.is_body)
-
--- why a frame is not written
-abbrev EncodeCase : HartFrame → ℕ → ℕ → Fault → Type 0
-EncodeCase frame preambles room fault =
-    ((fault ≡ BadAddress) × IsEncodeFault frame preambles room BadAddress)
-    ⊎ ((fault ≡ LongExpansion) × IsEncodeFault frame preambles room LongExpansion)
-    ⊎ ((fault ≡ Frame frame_fault.TooShortReply) × IsEncodeFault frame preambles room (Frame frame_fault.TooShortReply))
-    ⊎ ((fault ≡ Frame frame_fault.BadPreamble) × IsEncodeFault frame preambles room (Frame frame_fault.BadPreamble))
-    ⊎ ((fault ≡ NoRoom) × IsEncodeFault frame preambles room NoRoom)
 
 pub one_encode_fault : (frame : HartFrame) (preambles room : ℕ) (fault other : Fault) → IsEncodeFault frame preambles room fault
     → IsEncodeFault frame preambles room other → fault ≡ other

@@ -13,9 +13,6 @@ use Rattle.hart_c.proofs.Nexts.{IsFound, finds_next}
 use Rattle.hart_c.proofs.Shown.{untouched_on, shown_more, tidy_more}
 use Rattle.hart_c.proofs.find.hart_find_in_bytes.Goals as goal
 
-pub loop-count-init : goal.loop-count-init
-loop-count-init c = grind (arith, common_steps)
-
 pub loop-count-preserved : goal.loop-count-preserved
 loop-count-preserved c =
     let loop = c.loop-count.invariant in
