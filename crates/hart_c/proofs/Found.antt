@@ -46,11 +46,6 @@ next_frames n chars ended scan given fits goes history more later ends frames =
 pub take_all : (n : ℕ) (chars : List Character) → n ≡ length chars → take n chars ≡ chars
 take_all n chars whole = ap (λ (i : ℕ). take i chars) whole ∙ take-length chars
 
--- a search is what is said of it
-search_is : (search : HartSearch) (used count : ℕ) → search.used ≡ used → search.count ≡ count → search.fault ≡ 0
-    → search ≡ record { used = used; count = count; fault = 0 }
-search_is search used count used_is count_is fault = grind arith
-
 -- what a search came to that goes on
 pub finds_more : (n count : ℕ) (chars : List Character) (ended : Bool) (before after : List HartFrame)
     (scan : Scan) (search : HartSearch) → search.used ≡ scan.first → search.count ≡ count → search.fault ≡ 0 → n ≤ length chars
@@ -60,7 +55,8 @@ pub finds_more : (n count : ℕ) (chars : List Character) (ended : Bool) (before
 finds_more n count chars ended before after scan search used_is count_is fault fits room untouched tidy goes history few waits =
     let all_held = frames_are_streamed-pushed (take n chars) scan (found_in_first count after) history in
     let held = held_characters_have_the_later_frames-held (take n chars) scan (found_in_first count after) history in
-    rw (search_is search scan.first count used_is count_is fault) (record {
+    let is : search ≡ record { used = scan.first; count = count; fault = 0 } = grind (arith, used_is, count_is, fault) in
+    rw is (record {
       within = room;
       untouched = untouched;
       tidy = tidy;
@@ -71,10 +67,6 @@ finds_more n count chars ended before after scan search used_is count_is fault f
       few = grind (arith, all_held, length-take n chars);
       all = λ fewer ends. absurd (false≢true (sym (waits fewer).1 ∙ ends));
     })
-
--- as many are not fewer
-pub not_fewer : {X : Type 0} → (count all : ℕ) → count ≡ all → count < all → X
-not_fewer count all same fewer = absurd (omega (arith, same, fewer))
 
 -- what a search came to at the end of all
 pub finds_all : (count : ℕ) (chars : List Character) (ended : Bool) (before after : List HartFrame) → count ≤ length after

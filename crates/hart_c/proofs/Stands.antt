@@ -69,18 +69,7 @@ stands_at is_reply command bytes before rest index shown is =
     let front = before ++ bytes_of (take index fields) in
     let more = bytes_of (drop (suc index) fields) ++ (drop (length (bytes_of fields)) bytes ++ rest) in
     let all : before ++ (bytes ++ rest) ≡ front ++ (field.bytes ++ more) = grind (arith, bytes_first rows bytes, append_assoc) in
-    record {
-      row = row;
-      field = field;
-      is_row = is_row;
-      is_field = is_field;
-      name = grind arith;
-      kind = grind arith;
-      start = start;
-      len = len;
-      within = grind (arith, length-append, all);
-      bytes_there = grind (arith, length-append, drop-append_seam front (field.bytes ++ more), take-append_seam field.bytes more);
-    }
+    grind (arith, common_steps, length-append, drop-append_seam, take-append_seam)
 
 -- there are as many places as fields
 placed-length : (start : ℕ) (fields : List Field) → length (placed start fields) ≡ length fields
@@ -104,8 +93,7 @@ of_reading : (command index : ℕ) (bytes : List ℕ) (read : Reading) (old new 
     → StandsAt false command 0 (request_fields command bytes read) bytes index shown
 of_reading command index bytes (Ok request) old new reading shown =
     shown-stands false command (length (request_data request)) bytes [] 0 _ 0 0 old new reading index shown true refl
-of_reading command index bytes (Err code) old new reading shown =
-    shown-stands false command 0 bytes [] 0 0 code 0 old new reading index shown false refl
+of_reading command index bytes (Err code) old new reading shown = grind (arith, common_steps, shown-stands)
 
 pub fields_stand_where_they_are_shown-requests : (command index : ℕ) (bytes : List ℕ) (old new : List HartField) (reading : HartReading)
     (shown : HartField) → RequestOutcome command bytes old new reading → index < reading.count → slice_get new index ≡ Some shown

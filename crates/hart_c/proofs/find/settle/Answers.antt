@@ -2,7 +2,7 @@ use Rattle.std.proofs.Common.{◌∙◌, ◌<◌, arith, inl, inr, length, refl,
 use Rattle.hart_frame.specs.scan.Streamed.{IsHistory, IsWholeHistory, finish}
 use Rattle.hart_frame.proofs.lemmas.Laws.{frames_are_streamed-all}
 use Rattle.hart_c.specs.Frames.{found_in_first}
-use Rattle.hart_c.proofs.Found.{finds_all, finds_more, not_fewer, take_all}
+use Rattle.hart_c.proofs.Found.{finds_all, finds_more, take_all}
 use Rattle.hart_c.proofs.Shown.{untouched_on}
 use Rattle.hart_c.proofs.find.settle.Goals as goal
 
@@ -18,10 +18,9 @@ pub returns-then-count-frames : goal.returns-then-count-frames
 returns-then-count-frames c = λ n chars before len searched.
     let step = c.step-then-count-frames.ensures in
     finds_more n c.args.count chars c.args.ended before c.args.frames.now c.args.scanner.now
-    c.step-then-count-frames.result
-    step.used step.count step.fault searched.within searched.room searched.untouched searched.tidy (inl searched.going)
+    c.step-then-count-frames.result step.used step.count step.fault searched.within searched.room searched.untouched searched.tidy (inl searched.going)
     searched.history step.few
-    (not_fewer c.args.count (length c.args.frames.now) c.if-count-frames.true)
+    (λ fewer. absurd (omega (arith, fewer, c.if-count-frames.true)))
 
 pub returns-then-count-frames-2 : goal.returns-then-count-frames-2
 returns-then-count-frames-2 c = λ n chars before len searched.
@@ -34,8 +33,8 @@ returns-then-count-frames-2 c = λ n chars before len searched.
     c.step-then-count-frames-2.result step.used step.count step.fault searched.within fill.within
     (fill.untouched ∙ untouched_on c.args.count c.fill-count.result c.args.frames.now before fill.onward searched.untouched)
     (fill.tidy searched.tidy) (inr (c.if-not-ended.false, whole))
-    (fill.so_far (take n chars) finished (not_fewer c.fill-count.result (length c.fill-count.new.frames) c.if-count-frames-2.true))
-    step.few (not_fewer c.fill-count.result (length c.fill-count.new.frames) c.if-count-frames-2.true)
+    (fill.so_far (take n chars) finished (λ fewer. absurd (omega (arith, fewer, c.if-count-frames-2.true))))
+    step.few (λ fewer. absurd (omega (arith, fewer, c.if-count-frames-2.true)))
 
 pub returns : goal.returns
 returns c = λ n chars before len searched.
