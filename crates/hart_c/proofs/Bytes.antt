@@ -12,10 +12,10 @@ use Rattle.hart_commands.specs.declared.register.Register.{Register}
 use Rattle.hart_commands.specs.declared.register.Register.TheVariants.{Mode, Polling}
 use Rattle.hart_device.specs.Device.{DeviceState}
 use Rattle.hart_device.specs.Identity.{two_bytes}
-use Rattle.hart_device.specs.image.Image.{flags_of, image_bytes, image_ending, registers_of_version}
+use Rattle.hart_device.specs.image.Image.{flags_of, image_bytes, registers_of_version}
 use Rattle.hart_device.specs.declared.identity_parts.IdentityParts.{IdentityParts}
 use Rattle.hart_c.specs.declared.device.HartDevice.{HartDevice}
-use Rattle.hart_c.specs.Device.{IsKept, image_in, with_protection}
+use Rattle.hart_c.specs.Device.{IsKept, with_protection}
 
 -- what stands before the last byte, and that byte
 last_is : (image front : List ℕ) (len flags : ℕ) → length image ≡ 86 → len ≤ 86 → take len image ≡ front ++ flags ∷ []

@@ -1,7 +1,7 @@
 -- What is found in characters that are heard in pieces, and what is left of them.
 use Rattle.std.proofs.lemmas.Grind.{common_steps}
 use Rattle.std.proofs.Common.{◌≡◌, ◌+◌, ◌<◌, ◌≤◌, ◌⊎◌, false, Bool, ℕ, IsTrue, List, [], ◌∷◌, ◌++◌, All, arith, ap, sym}
-use Rattle.std.proofs.Common.{◌∙◌, append_assoc, drop, inl, inr, length, refl, map, slice_index_or, take}
+use Rattle.std.proofs.Common.{◌∙◌, append_assoc, drop, inl, length, refl, map, slice_index_or, take}
 use Rattle.std.proofs.lemmas.Bool.{false≢true}
 use Rattle.std.proofs.lemmas.List.{append-nil, drop-append-le, length-take, map-append, take-append-drop}
 use Rattle.std.proofs.lemmas.List.{take-map, take_more}

@@ -3,13 +3,10 @@ use Rattle.std.proofs.lemmas.Grind.{common_steps}
 use Rattle.std.proofs.Common.{◌≡◌, ◌∙◌, ℕ, List, Option, None, Some, arith, inl, inr, length}
 use Rattle.std.proofs.Common.{map, refl, sym}
 use Rattle.hart_frame.specs.wire.FrameParts.{FrameParts}
-use Rattle.hart_device.specs.Device.{new_device}
 use Rattle.hart_device.specs.image.Image.{IsImageFault}
 use Rattle.hart_device.specs.declared.fault.DeviceFault.{DeviceFault}
 use Rattle.hart_device.specs.declared.identity_parts.IdentityParts.{IdentityParts}
 use Rattle.hart_device.specs.declared.process.Process.{Process}
-use Rattle.hart_device.specs.declared.registers.values.RegisterValues.{RegisterValues}
-use Rattle.hart_device.specs.registers.Values.{values_of}
 use Rattle.hart_device.proofs.lemmas.Laws.{deliveries_bring_one-one, images_have_no_fault}
 use Rattle.hart_c.specs.declared.device.HartDevice.{HartDevice}
 use Rattle.hart_c.specs.declared.fault.Fault.{Fault}
@@ -20,7 +17,7 @@ use Rattle.hart_c.specs.declared.identity.HartIdentity.{HartIdentity}
 use Rattle.hart_c.specs.declared.process.HartProcess.{HartProcess}
 use Rattle.hart_c.specs.declared.registers.HartRegisters.{HartRegisters}
 use Rattle.hart_c.specs.Device.{HasNoRoom, HearOutcome, Hears, IsHearFault, IsHearing, IsInState, IsSaid, IsStateFault}
-use Rattle.hart_c.specs.Device.{NewDeviceOutcome, device_of, image_in}
+use Rattle.hart_c.specs.Device.{NewDeviceOutcome, image_in}
 use Rattle.hart_c.specs.Find.{char_of}
 use Rattle.hart_c.specs.Identity.{parts_of}
 use Rattle.hart_c.specs.Process.{IsProcessOf}

@@ -1,8 +1,7 @@
 -- What is kept of a device.
 use Rattle.std.proofs.lemmas.Grind.{common_steps}
-use Rattle.std.proofs.Common.{◌≡◌, ◌≢◌, refl, ◌∙◌, ap, arith, length, length-append, sym, take, ℕ}
+use Rattle.std.proofs.Common.{◌≡◌, ◌≢◌, refl, ◌∙◌, ap, arith, length, sym, take, ℕ}
 use Rattle.std.proofs.Math.Seq.{take-length}
-use Rattle.hart_commands.specs.declared.register.Register.TheVariants.{Polling, Mode, Message, Tag, Descriptor, Date, Assembly, LongTag}
 use Rattle.hart_device.specs.Device.{DeviceState, IsDevice}
 use Rattle.hart_device.specs.image.Image.{image_of}
 use Rattle.hart_device.specs.declared.identity_parts.IdentityParts.{IdentityParts}

@@ -1,5 +1,5 @@
 -- What is found in bytes, one frame after another.
-use Rattle.std.proofs.Common.{◌≡◌, ◌+◌, ◌<◌, ◌≤◌, false, Bool, ℕ, IsTrue, List, All, arith, drop, length, refl, subst, sym, take}
+use Rattle.std.proofs.Common.{◌≡◌, ◌+◌, ◌<◌, ◌≤◌, false, Bool, ℕ, IsTrue, List, All, arith, drop, length, refl, take}
 use Rattle.std.proofs.lemmas.List.{drop-map, length-map}
 use Rattle.hart_frame.specs.heard.Character.{Character, faultless}
 use Rattle.hart_frame.specs.heard.Frames.{IsUndecided}

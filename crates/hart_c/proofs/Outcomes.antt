@@ -7,14 +7,12 @@ use Rattle.hart_frame.specs.wire.FrameParts.{FrameParts}
 use Rattle.hart_frame.specs.wire.Message.{IsMessage}
 use Rattle.hart_frame.specs.wire.Refusal.{IsRefusedWith}
 use Rattle.hart_frame.specs.declared.wire.fault.FrameFault.{FrameFault}
-use Rattle.hart_frame.specs.declared.wire.fault.FrameFault.TheVariants as frame_fault
 use Rattle.hart_frame.proofs.lemmas.Laws.{bodies_are_unambiguous-one_body, bodies_are_unambiguous-one_prefix}
 use Rattle.hart_commands.specs.RequestData.{Reading}
 use Rattle.hart_commands.specs.declared.reply.Reply.{Reply}
 use Rattle.hart_c.specs.declared.data.HartField.{HartField}
 use Rattle.hart_c.specs.declared.data.HartReading.{HartReading}
 use Rattle.hart_c.specs.declared.fault.Fault.{Fault}
-use Rattle.hart_c.specs.declared.fault.Fault.TheVariants.{BadAddress, Frame, LongExpansion, NoRoom}
 use Rattle.hart_c.specs.declared.fault.HartOutcome.{HartOutcome}
 use Rattle.hart_c.specs.declared.frame.HartFrame.{HartFrame}
 use Rattle.hart_c.specs.Decode.{DecodeOutcome}

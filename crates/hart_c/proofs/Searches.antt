@@ -1,7 +1,7 @@
 -- What is found by one search after another.
 use Rattle.std.proofs.lemmas.Grind.{common_steps}
-use Rattle.std.proofs.Common.{◌≡◌, ◌+◌, ◌≤◌, false, true, Bool, ℕ, List, [], ◌∷◌, ◌++◌, arith, ap, append_assoc, drop, length}
-use Rattle.std.proofs.Common.{IsTrue, map, refl, subst, sym}
+use Rattle.std.proofs.Common.{◌≡◌, ◌+◌, ◌≤◌, false, true, Bool, ℕ, List, [], ◌∷◌, ◌++◌, arith, append_assoc, drop, length}
+use Rattle.std.proofs.Common.{IsTrue, map, refl}
 use Rattle.std.proofs.lemmas.List.{append-nil, drop-append-le, drop-drop, map-append}
 use Rattle.std.proofs.Math.Seq.{drop-length}
 use Rattle.hart_frame.specs.heard.Character.{Character}

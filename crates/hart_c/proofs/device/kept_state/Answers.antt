@@ -1,5 +1,4 @@
-use Rattle.std.proofs.Common.{rules, subst, sym}
-use Rattle.hart_device.specs.Device.{DeviceState}
+use Rattle.std.proofs.Common.{rules}
 use Rattle.hart_device.specs.image.Image.{IsImageOf}
 use Rattle.hart_device.proofs.lemmas.Laws.{devices_are_kept_whole-any_cold_start}
 use Rattle.hart_c.specs.Device.{image_in}

@@ -1,13 +1,10 @@
 use Rattle.std.proofs.lemmas.Grind.{common_steps}
-use Rattle.std.proofs.Common.{◌≡◌, ◌+◌, ◌∙◌, ◌++◌, [], ◌∷◌, List, ap, arith, subst, sym}
+use Rattle.std.proofs.Common.{◌+◌, ◌∙◌, ◌++◌, [], arith}
 use Rattle.std.proofs.lemmas.List.{append-nil, drop-set-lt, length-set}
 use Rattle.hart_frame.specs.heard.Character.{faultless}
 use Rattle.hart_frame.specs.scan.Next.{LeadsOn, frames_of}
 use Rattle.hart_frame.specs.scan.View.{found_of}
-use Rattle.hart_frame.specs.declared.heard.found.Found.{Found}
 use Rattle.hart_frame.proofs.lemmas.Laws.{next_frames_are_all-onward}
-use Rattle.hart_c.specs.declared.find.HartSearch.{HartSearch}
-use Rattle.hart_c.specs.Find.{Finds}
 use Rattle.hart_c.specs.Frames.{found_in_first}
 use Rattle.hart_c.proofs.Nexts.{IsFound, finds_next}
 use Rattle.hart_c.proofs.Shown.{untouched_on, shown_more, tidy_more}
