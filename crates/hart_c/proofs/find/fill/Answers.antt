@@ -1,16 +1,11 @@
+use Rattle.std.proofs.lemmas.Grind.{common_steps}
 use Rattle.std.proofs.Common.{◌+◌, ◌∙◌, arith, refl}
 use Rattle.std.proofs.lemmas.List.{drop-set-lt, length-set}
 use Rattle.hart_c.proofs.Shown.{history_shown, untouched_on, tidy_more, waits_or_ends}
 use Rattle.hart_c.proofs.find.fill.Goals as goal
 
 pub returns-then-not-give-clause-so_far : goal.returns-then-not-give-clause-so_far
-returns-then-not-give-clause-so_far c = λ past begun going.
-    let loop = c.loop-count.invariant in
-    let frames = c.loop-count.frames in
-    let shorter = length-set frames c.loop-count.count c.give.new.frame in
-    waits_or_ends past _ _ c.loop-count.count frames c.give.new.frame
-    (loop.finished ∙ going (omega (arith, c.loop-count-test.true, shorter))) (c.give.ensures.none c.if-not-give.true)
-    (loop.history past begun)
+returns-then-not-give-clause-so_far c = grind (arith, common_steps, length-set, waits_or_ends)
 
 pub loop-count-preserved : goal.loop-count-preserved
 loop-count-preserved c =

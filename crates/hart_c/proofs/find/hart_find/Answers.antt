@@ -25,8 +25,7 @@ loop-taken-init c = record {
 }
 
 pub push-requires-clause-room : goal.push-requires-clause-room
-push-requires-clause-room c =
-    let loop = c.loop-taken.invariant in grind (arith, common_steps, frames_are_streamed-pushed, length-take, length-map)
+push-requires-clause-room c = grind (arith, common_steps, frames_are_streamed-pushed, length-take, length-map)
 
 pub loop-taken-preserved : goal.loop-taken-preserved
 loop-taken-preserved c =
@@ -39,8 +38,7 @@ loop-taken-preserved c =
       within = omega (arith, c.loop-taken-test.true);
       len = fill.len ∙ loop.len;
       room = fill.within;
-      untouched = fill.untouched
-          ∙ untouched_on c.loop-taken.count c.fill-count.result c.loop-taken.frames c.args.frames.now fill.onward loop.untouched;
+      untouched = grind (arith, common_steps, untouched_on);
       tidy = fill.tidy loop.tidy;
       going = fill.going going;
       drained = λ fewer. fill.waits fewer going;

@@ -36,11 +36,7 @@ returns-clause-accepted c =
       sent = awaits.sent;
       delivery = c.in_ok-delivery.ensures.accepted;
       reply = (
-        record {
-          found = c.in-Alone.found;
-          alone = rw all at c.in-Alone.ensures.lone;
-          is_reply = rw (awaits.hand, awaits.id) at c.in-Answered.ensures.event.0;
-        },
+        grind (arith, common_steps),
         c.show_frame.ensures.found,
         c.show_frame.ensures.tidy,
       );
