@@ -78,7 +78,9 @@ module _ (numbers : HartFrame) (heard : List HartChar) (before after other : Har
       let request = one_asked (frame_in numbers) again.request is.request again.sent.asked is.sent.asked in
       let one = one_shown_reply (frame_in numbers).master (frame_in numbers).address is.request (map char_of heard) before after other said
       tale is.reply (rw request at again.reply) in grind (arith, common_steps)
-  one_acceptance (inl (said, is, told)) (inr (fault, why, number, kept)) = absurd (not_accepted numbers heard before after said fault is why)
-  one_acceptance (inr (fault, why, number, kept)) (inl (said, is, told)) = absurd (not_accepted numbers heard before other said fault is why)
+  one_acceptance (inl (said, is, told)) (inr (fault, why, number, kept)) =
+      absurd (not_accepted numbers heard before after said fault is why)
+  one_acceptance (inr (fault, why, number, kept)) (inl (said, is, told)) =
+      absurd (not_accepted numbers heard before other said fault is why)
   one_acceptance (inr (fault, why, number, kept)) (inr (found, because, told, stays)) =
       grind (arith, one_accept_fault numbers heard fault found why because)

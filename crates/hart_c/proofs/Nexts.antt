@@ -36,7 +36,8 @@ finds_next bytes ended before after used count found left =
       untouched = found.untouched;
       tidy = found.tidy;
       used = within;
-      are_next = λ more later. next_frames_are_all-rest (faultless bytes) more ended (found_in_first count after) later used within found.leads;
+      are_next = λ more later.
+          next_frames_are_all-rest (faultless bytes) more ended (found_in_first count after) later used within found.leads;
       few = λ fewer. omega (arith, size, (left fewer).0);
       all = λ fewer ends. omega (arith, size, (left fewer).1 ends);
       undecided = λ fewer going. rw (drop-map of_byte used bytes) ((left fewer).2 going);

@@ -81,7 +81,8 @@ shown-stands : (is_reply : Bool) (command n : ℕ) (bytes before : List ℕ) (st
     (reading : HartReading) (index : ℕ) (shown : HartField) (done : Bool) → length before ≡ start
     → IsShown start (if done then fields_of (rows_for is_reply command) (take n bytes) else []) taken code status old new reading
     → index < reading.count → slice_get new index ≡ Some shown
-    → StandsAt is_reply command start (if done then fields_of (rows_for is_reply command) (take n bytes) else []) (before ++ bytes) index shown
+    → StandsAt is_reply command start (if done then fields_of (rows_for is_reply command) (take n bytes) else []) (before ++ bytes)
+    index shown
 shown-stands is_reply command n bytes before start taken code status old new reading index shown true from is within got =
     grind (arith, over-at, placed-length, stands_at is_reply command (take n bytes) before (drop n bytes), take-append-drop n bytes)
 shown-stands is_reply command n bytes before start taken code status old new reading index shown false from is within got =
@@ -107,6 +108,7 @@ pub fields_stand_where_they_are_shown-replies : (command index : ℕ) (payload :
 fields_stand_where_they_are_shown-replies command index [] old new reading shown reply read outcome within got = cc
 fields_stand_where_they_are_shown-replies command index (one ∷ []) old new reading shown reply read outcome within got = cc
 fields_stand_where_they_are_shown-replies command index (code ∷ status ∷ bytes) old new reading shown reply read outcome within got =
-    shown-stands true command (length (content_bytes reply.content)) bytes (code ∷ status ∷ []) 2 _ reply.code reply.status.0 old new reading
-    index shown (reply.code == 0) refl (subst (λ (r : Option Reply). ReplyShown command (code ∷ status ∷ bytes) r old new reading) read outcome)
+    shown-stands true command (length (content_bytes reply.content)) bytes (code ∷ status ∷ []) 2 _ reply.code reply.status.0 old new
+    reading index shown (reply.code == 0) refl
+    (subst (λ (r : Option Reply). ReplyShown command (code ∷ status ∷ bytes) r old new reading) read outcome)
     within got

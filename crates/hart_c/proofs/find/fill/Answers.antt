@@ -19,7 +19,8 @@ loop-count-preserved c =
       within = omega (arith, len, c.loop-count-test.true);
       onward = omega (arith, loop.onward);
       len = len ∙ loop.len;
-      untouched = drop-set-lt (count + 1) frames count frame (omega arith) ∙ untouched_on count (count + 1) frames c.args.frames.now (omega arith) loop.untouched;
+      untouched = drop-set-lt (count + 1) frames count frame (omega arith)
+          ∙ untouched_on count (count + 1) frames c.args.frames.now (omega arith) loop.untouched;
       tidy = λ all. tidy_more count frames frame c.loop-count-test.true (c.give.ensures.tidy c.if-not-give.false) (loop.tidy all);
       finished = gives.finished ∙ loop.finished;
       history = λ past begun. history_shown past _ _ count frames frame _ c.loop-count-test.true refl gives (loop.history past begun);

@@ -25,7 +25,8 @@ loop-count-preserved c =
       len = len ∙ loop.len;
       room = omega (arith, len, c.loop-count-test.true);
       within = next.ensures.within;
-      untouched = drop-set-lt (count + 1) frames count frame (omega arith) ∙ untouched_on count (count + 1) frames c.args.frames.now (omega arith) loop.untouched;
+      untouched = drop-set-lt (count + 1) frames count frame (omega arith)
+          ∙ untouched_on count (count + 1) frames c.args.frames.now (omega arith) loop.untouched;
       tidy = tidy_more count frames frame c.loop-count-test.true c.show_found.ensures.tidy loop.tidy;
       leads = rw (shown_more count frames frame (found_of c.in-Some.found) c.loop-count-test.true c.show_found.ensures.found)
           (rw c.in-Some.is at leads);

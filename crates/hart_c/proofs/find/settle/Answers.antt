@@ -18,8 +18,8 @@ pub returns-then-count-frames : goal.returns-then-count-frames
 returns-then-count-frames c = λ n chars before len searched.
     let step = c.step-then-count-frames.ensures in
     finds_more n c.args.count chars c.args.ended before c.args.frames.now c.args.scanner.now
-    c.step-then-count-frames.result step.used step.count step.fault searched.within searched.room searched.untouched searched.tidy (inl searched.going)
-    searched.history step.few
+    c.step-then-count-frames.result step.used step.count step.fault searched.within searched.room searched.untouched searched.tidy
+    (inl searched.going) searched.history step.few
     (λ fewer. absurd (omega (arith, fewer, c.if-count-frames.true)))
 
 pub returns-then-count-frames-2 : goal.returns-then-count-frames-2
