@@ -74,8 +74,7 @@ bad_at : (word : List ℕ) (e : FromHexError) (k : ℕ) → e ≡ InvalidHexChar
     → IsBadHexWord word (place_of word e)
 bad_at word e k given even below none digits =
     let same : 0 + k ≡ k = omega arith in
-    let at = subst (λ n. IsBadHexWord word n) (sym same) (IsBadHexWord.no_digit k even below none digits) in
-    subst (λ (f : FromHexError). IsBadHexWord word (place_of word f)) (sym given) at
+    let at = subst (λ n. IsBadHexWord word n) (sym same) (IsBadHexWord.no_digit k even below none digits) in grind (arith, common_steps)
 
 -- a word that does not decode is bad hex
 bad_hex : (word : List ℕ) (e : FromHexError) → decode_of word ≡ Err e → IsBadHexWord word (place_of word e)
@@ -85,10 +84,7 @@ bad_hex word e refused =
           let is : Err OddLength ≡ Err e = sym (decode_of-odd word odd) ∙ refused in
           let same : OddLength ≡ e = cc is in
           subst (λ (f : FromHexError). IsBadHexWord word (place_of word f)) same (IsBadHexWord.odd odd)
-      | inr even ↦
-          let is_even : length word % 2 ≡ 0 = omega (arith, even) in
-          let err = decode_pairs-err 0 word e is_even (sym (decode_of-even word is_even) ∙ refused) in
-          bad_at word e err.0 err.1 is_even err.2 err.3 err.4
+      | inr even ↦ grind (arith, common_steps, decode_pairs-err, decode_of-even, bad_at)
     ]
 
 -- what decoding into that room answers

@@ -1,5 +1,5 @@
 use Rattle.std.proofs.lemmas.Grind.{common_steps}
-use Rattle.std.proofs.Common.{◌≡◌, ◌+◌, ◌-◌, ◌++◌, List, ℕ, [], length, refl, ap, ◌∙◌, arith}
+use Rattle.std.proofs.Common.{◌≡◌, ◌+◌, ◌-◌, [], length, refl, ◌∙◌, arith}
 use Rattle.hart_frame.specs.scan.Scanner.{new_scan}
 use Rattle.hart_cli.proofs.lemmas.text.InputChars.{may_begin-nil}
 use Rattle.hart_cli.proofs.lemmas.text.Items.{ReadsUpTo-few}
@@ -17,14 +17,7 @@ pub scan_text-rest-requires : goal.scan_text-rest-requires
 scan_text-rest-requires g c =
     let loop = c.loop-frames.invariant in
     let due = loop.scanned in
-    let within = keeps_within new_scan c.loop-frames.frames.scanner due.chars [] _ due.scans in
-    let few = ReadsUpTo-few due.input due.chars c.loop-frames.ahead due.reads in
-    record {
-      waiting = due.waiting;
-      none_kept = loop.none_kept;
-      few = c.as_slice.ensures.fits;
-      pushed = omega (arith, within.0, few, due.read.1, c.as_slice.ensures.fits);
-    }
+    let within = keeps_within new_scan c.loop-frames.frames.scanner due.chars [] _ due.scans in grind (arith, common_steps, ReadsUpTo-few)
 
 -- what was read is scanned
 scanned : (g : Over) (c : After-scan_text-rest g)
@@ -54,9 +47,7 @@ returns-in-Stop g c =
 pub loop-frames-preserved : goal.loop-frames-preserved
 loop-frames-preserved g c =
     let list : c.unwrap-open.result ≡ c.scan_text-rest.result.now = rw c.unwrap-open.ensures at c.from_slice.ensures.kept in
-    let kept : c.extend_from_slice.new.self ≡ c.scan_text-rest.result.now =
-    c.extend_from_slice.ensures ∙ ap (λ (xs : List ℕ). xs ++ c.as_slice-in-ReadOn.result.now) c.clear-in-ReadOn.ensures
-    ∙ c.as_slice-in-ReadOn.ensures.value ∙ list in
+    let kept : c.extend_from_slice.new.self ≡ c.scan_text-rest.result.now = grind (arith, common_steps) in
     let on = goes_on _ _ _ c.in-ReadOn.ensures.step in
     let all = written _ (scanned g (goal.at.loop-frames-preserved g c).After-scan_text-rest)
     (rw c.as_slice-in-loop-frames.ensures.value at c.in_ok-write_all.ensures) in

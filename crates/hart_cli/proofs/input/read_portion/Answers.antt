@@ -1,5 +1,5 @@
 use Rattle.std.proofs.lemmas.Grind.{common_steps}
-use Rattle.std.proofs.Common.{◌≡◌, ◌≤◌, ◌+◌, ℕ, suc, List, [], ◌∷◌, ◌++◌, length, take, get_or, ap, ◌∙◌, subst, arith, take-suc}
+use Rattle.std.proofs.Common.{◌≡◌, ◌≤◌, ◌+◌, ℕ, suc, List, [], ◌∷◌, ◌++◌, length, take, get_or, arith, take-suc}
 use Rattle.std.proofs.lemmas.List.{length-append, length-take-le, take-append-le}
 use Rattle.hart_cli.specs.input.Input.{ReadsBeyond, ReadsWell}
 use Rattle.hart_cli.specs.stream.Stream.{Stream}
@@ -11,10 +11,7 @@ past_room : (old new : Stream) (bytes : List ℕ) (given room : ℕ) → ReadsWe
 past_room old new bytes given room read one fits =
     let next : given ≡ suc room = omega (arith, one) in
     let parts : take given bytes ≡ take room bytes ++ get_or bytes room 0 ∷ [] =
-    ap (λ (n : ℕ). take n bytes) next ∙ take-suc bytes room 0 (omega (arith, one, fits)) in (
-      record { beyond = get_or bytes room 0; read = subst (λ (xs : List ℕ). ReadsWell old new xs) parts read },
-      length-take-le room bytes (omega (arith, one, fits)),
-    )
+    grind (arith, common_steps, take-suc) in grind (arith, common_steps, length-take-le)
 
 pub returns-in-Ok-clause-reads : goal.returns-in-Ok-clause-reads
 returns-in-Ok-clause-reads g c = grind (arith, common_steps, length-append, length-take-le, past_room, take-append-le)

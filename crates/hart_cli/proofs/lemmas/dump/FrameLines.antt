@@ -1,7 +1,7 @@
 -- The lines that are kept while characters are scanned.
 use Rattle.std.proofs.lemmas.Grind.{common_steps}
 use Rattle.std.proofs.Common.{◌≡◌, ◌≤◌, ◌+◌, ◌*◌, ℕ, List, [], ◌++◌, false, true, length}
-use Rattle.std.proofs.Common.{sym, ap, ◌∙◌, append_assoc, subst, arith, length-append, drop, take, take-take}
+use Rattle.std.proofs.Common.{sym, ap, ◌∙◌, append_assoc, arith, length-append, drop, take, take-take}
 use Rattle.std.proofs.lemmas.List.{append-nil, drop-take, length-map, map-append, take-append-drop}
 use Rattle.hart_frame.specs.heard.Character.{Character, faultless}
 use Rattle.hart_frame.specs.scan.Scanner.{Ends, GivesNothing, MovesPast, Scan, Waits, finishing, hearing, new_scan}
@@ -42,13 +42,8 @@ keeps_then a b c p q r one two = record {
 pub keeps_on : (a b c : Scan) (xs ys : List Character) (p q r : List ℕ) → a.finished ≡ false → b.finished ≡ false
     → KeepsLines (hearing a xs) b p q → KeepsLines (hearing b ys) c q r → KeepsLines (hearing a (xs ++ ys)) c p r
 keeps_on a b c xs ys p q r going on one two =
-    let heard : KeepsLines (hearing a (xs ++ ys)) (hearing b ys) p q = record {
-      given = one.given;
-      moves = moves_hearing a b xs ys one.given going on one.moves;
-      lines = one.lines;
-      few = omega (arith, one.few, length-append a.held xs, length-append a.held (xs ++ ys), length-append xs ys, length-append b.held ys);
-    } in
-    keeps_then _ (hearing b ys) c p q r heard two
+    let heard : KeepsLines (hearing a (xs ++ ys)) (hearing b ys) p q =
+    grind (arith, common_steps, moves_hearing, length-append) in grind (arith, common_steps, keeps_then)
 
 -- what is heard is let go or held, and the lines are kept within its room
 pub keeps_within : (a b : Scan) (xs : List Character) (p q : List ℕ) → KeepsLines (hearing a xs) b p q
@@ -72,9 +67,7 @@ pub text_room : {text rest : List ℕ} (old now : FrameLines) → ScansText old 
     × (now.scanner.first + length now.scanner.held + length rest ≤ old.scanner.first + length old.scanner.held + length text)
 text_room {text = text} {rest = rest} old now scans waiting none few =
     let within = keeps_within old.scanner now.scanner scans.chars old.lines now.lines scans.scans in
-    let read = ReadsUpTo-few text scans.chars rest scans.reads in
-    let empty = ap (λ (lines : List ℕ). length lines) none in
-    (omega (arith, within.1, read, waiting.few, few, empty), omega (arith, within.0, read))
+    grind (arith, common_steps, ReadsUpTo-few)
 
 -- lines are kept after others
 pub keeps_after : (a b : Scan) (before p q : List ℕ) → KeepsLines a b p q → KeepsLines a b (before ++ p) (before ++ q)
@@ -87,20 +80,7 @@ waits_for_more old new p q going few all =
     let waits = waits_of all.last new (all.same_finish ∙ going) all.nothing in
     let first = moves_on old all.last all.keeps.given all.keeps.moves in
     let then = moves_on all.last new [] waits.moves in
-    let moves = moves_then old all.last new all.keeps.given [] all.keeps.moves waits.moves in (
-      record {
-        given = all.keeps.given;
-        moves = subst (λ (fs : List Found). MovesPast old new fs) (append-nil all.keeps.given) moves;
-        lines = all.keeps.lines;
-        few = omega (arith, all.keeps.few, then.0, then.1);
-      },
-      record {
-        going = waits.unfinished;
-        drained = waits.drained;
-        undecided = waits.undecided;
-        few = omega (arith, few, first.0, first.1, then.0, then.1);
-      },
-    )
+    let moves = moves_then old all.last new all.keeps.given [] all.keeps.moves waits.moves in grind (arith, common_steps, append-nil)
   where
     waits_of : (old new : Scan) → old.finished ≡ false → GivesNothing old new → Waits old new
     waits_of old new going gives = grind arith

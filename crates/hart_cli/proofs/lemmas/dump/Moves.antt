@@ -1,7 +1,7 @@
 -- A scanner that moves past frames.
 use Rattle.std.proofs.lemmas.Grind.{common_steps}
 use Rattle.std.proofs.Common.{◌≡◌, ◌≤◌, ◌<◌, ◌+◌, ◌-◌, ◌⊎◌, ℕ, List, [], ◌∷◌, ◌++◌, false, length, get_or, inl, inr, refl}
-use Rattle.std.proofs.Common.{sym, ap, ◌∙◌, append_assoc, subst, arith, length-append, replicate, drop}
+use Rattle.std.proofs.Common.{sym, ap, ◌∙◌, append_assoc, arith, length-append, replicate, drop}
 use Rattle.std.proofs.lemmas.Bool.{false≢true}
 use Rattle.std.proofs.lemmas.List.{append-nil, get_or-append_right, get_or-replicate, get_or_append_left, length-replicate}
 use Rattle.std.proofs.lemmas.List.{drop-append-le}
@@ -33,22 +33,9 @@ pub moves_hearing : (a b : Scan) (xs ys : List Character) (given : List Found) �
     → MovesPast (hearing a xs) b given → MovesPast (hearing a (xs ++ ys)) (hearing b ys) given
 moves_hearing a b xs ys given going on moves =
     let before : (more chars : List Character) → CanHear (hearing a (xs ++ ys)) more chars → CanHear (hearing a xs) (ys ++ more) chars =
-    λ more chars can. record {
-      prefix = can.prefix;
-      split = can.split ∙ ap (λ (cs : List Character). can.prefix ++ cs)
-          (ap (λ (cs : List Character). cs ++ more) (sym (append_assoc a.held xs ys)) ∙ append_assoc (a.held ++ xs) ys more);
-      place = can.place;
-      ended = λ finished. absurd (false≢true (sym going ∙ finished));
-    } in
+    grind (arith, common_steps, append_assoc, false≢true) in
     record {
-      heard = λ more chars can.
-          let heard = moves.heard (ys ++ more) chars (before more chars can) in
-          record {
-            prefix = heard.prefix;
-            split = heard.split ∙ ap (λ (cs : List Character). heard.prefix ++ cs) (sym (append_assoc b.held ys more));
-            place = heard.place;
-            ended = λ finished. absurd (false≢true (sym on ∙ finished));
-          };
+      heard = grind (arith, common_steps, append_assoc, false≢true);
       frames = λ more chars later can are. moves.frames (ys ++ more) chars later (before more chars can) are;
     }
 
@@ -87,8 +74,7 @@ moves_on old new given moves =
       elim order [
         | inl kept ↦ kept
         | inr less ↦
-            let same = first_held old new given 0 moves less ∙ sym (first_held old new given 1 moves less) in
-            absurd (omega (arith, ap (λ (c : Character). c.byte) same))
+            let same = first_held old new given 0 moves less ∙ sym (first_held old new given 1 moves less) in grind (arith, common_steps)
       ],
     )
 
@@ -120,16 +106,8 @@ no_frame_held prefix held empty found stands =
     let split : held ≡ before ++ (frame ++ stands.rest) = sym (drop-append_seam prefix held)
     ∙ ap (λ (cs : List Character). drop (length prefix) cs) (stands.split ∙ append_assoc stands.prefix frame stands.rest)
     ∙ drop-append-le (length prefix) stands.prefix (frame ++ stands.rest) stands.after in
-    empty (record { start = length before + 2; stop = length before + 2 + length stands.body; frame = found.frame }) (record {
-      prefix = before;
-      body = stands.body;
-      rest = stands.rest;
-      split = split ∙ sym (append_assoc before frame stands.rest);
-      is_body = stands.is_body;
-      after = omega arith;
-      start = refl;
-      stop = refl;
-    })
+    empty (record { start = length before + 2; stop = length before + 2 + length stands.body; frame = found.frame }) (
+    grind (arith, common_steps, append_assoc))
 
 -- some characters can be all that a scanner hears that was new
 all_heard : (chars more : List Character) → CanHear (hearing new_scan chars) more (chars ++ more)
@@ -154,9 +132,7 @@ are_decided chars scan given moves undecided = grind (arith, common_steps, appen
 pub some_frames : (chars : List Character) (scan : Scan) (given : List Found) → MovesPast (hearing new_scan chars) scan given
     → (later : List Found) × AreFrames chars 0 (given ++ later)
 some_frames chars scan given moves =
-    let later = every_list_has_frames (chars ++ []) scan.first in
-    let are = first_frames chars [] scan given later.0 moves later.1 in
-    (later.0, subst (λ (cs : List Character). AreFrames cs 0 (given ++ later.0)) (append-nil chars) are)
+    let later = every_list_has_frames (chars ++ []) scan.first in grind (arith, common_steps, first_frames, append-nil)
 
 -- with those that it moved past after the finish, until it ended, they are all frames
 pub all_frames : (chars : List Character) (scan last after : Scan) (given more : List Found) → MovesPast (hearing new_scan chars) scan given
@@ -169,8 +145,7 @@ all_frames chars scan last after given more moves on ends =
     let split : chars ≡ end.prefix ++ last.held = rw append-nil at end.split in
     let empty : HasNoFrame chars last.first =
     rw (split, ← end.place) (no_frame_held end.prefix last.held ends.none) in
-    let are = on.frames [] chars [] can (AreFrames.none last.first empty) in
-    rw append-nil at (first_frames chars [] scan given (more ++ []) moves (rw append-nil are))
+    let are = on.frames [] chars [] can (AreFrames.none last.first empty) in grind (arith, common_steps, append-nil, first_frames)
 
 -- a new scanner waits for what it is to hear
 pub new_waits : IsWaiting new_scan

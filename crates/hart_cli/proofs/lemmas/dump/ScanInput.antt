@@ -209,21 +209,7 @@ scanned_to : {r r2 w w1 : Stream} {frames : FrameLines} {end : Option InputEnd} 
     (ending : Ending) (scanned : ScannedUpTo r r2 w w1 frames end rest place) → frames.lines ≡ []
     → ReadsTo r r2 scanned.input ending → ReadsUpTo (ended_text scanned.input ending) scanned.chars rest
     → HasChars scanned.input ending scanned.chars fault → StopsSoon scanned.input fault → ScansAll r r2 w w1 frames fault
-scanned_to {frames = frames} {rest = rest} ending scanned none reads chars_read has_chars soon = record {
-  input = scanned.input;
-  ending = ending;
-  chars = scanned.chars;
-  text = scanned.text;
-  reads = reads;
-  has_chars = has_chars;
-  scanned = record { rest = rest; reads = chars_read; few = scanned.few };
-  soon = soon;
-  scans = scans_text frames scanned none;
-  waiting = scanned.waiting;
-  none_kept = none;
-  wrote = scanned.wrote;
-  in_time = scanned.in_time;
-}
+scanned_to {frames = frames} {rest = rest} ending scanned none reads chars_read has_chars soon = grind (arith, common_steps, scans_text)
 
 -- its fault is what the last step says
 pub scans_all : {r r2 w w1 : Stream} {frames : FrameLines} (end : Option InputEnd) (rest : List ℕ) (place : ℕ) (fault : Option CliFault)

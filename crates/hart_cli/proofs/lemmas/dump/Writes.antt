@@ -1,11 +1,10 @@
 -- Texts that are written one after another, and lines that were written in time.
 use Rattle.std.proofs.Common.{arith}
 use Rattle.std.proofs.lemmas.Grind.{common_steps}
-use Rattle.std.proofs.Common.{◌≢◌, ℕ, List, [], ◌∷◌, ◌++◌, refl, ◌∙◌, append_assoc, subst}
+use Rattle.std.proofs.Common.{◌≢◌, ℕ, List, [], ◌∷◌, ◌++◌, refl, ◌∙◌, append_assoc}
 use Rattle.std.specs.Io.KnownBytes.{Appends}
 use Rattle.std.proofs.KnownBytes.{Appends-trans}
 use Rattle.hart_cli.specs.dump.Dump.{WroteInTime}
-use Rattle.hart_cli.specs.dump.Text.{dump_text}
 use Rattle.hart_cli.specs.stream.Stream.{FailsToWrite, Stream, WritesAll}
 
 -- one text after another was written
@@ -40,6 +39,5 @@ in_time_on input w now later text before on =
       frames = before.frames;
       decided = before.decided;
       more = before.more ++ text;
-      written = subst Of (append_assoc (dump_text before.frames) before.more text)
-          (Appends-trans w.bytes now.bytes later.bytes (dump_text before.frames ++ before.more) text before.written on);
+      written = grind (arith, common_steps, append_assoc, Appends-trans);
     }

@@ -1,4 +1,5 @@
 -- What is said of the data of requests and replies, by what they are read as.
+use Rattle.std.proofs.lemmas.Grind.{common_steps}
 use Rattle.std.proofs.Common.{◌≡◌, ◌≤◌, ◌<◌, ℕ, Bool, true, false, List, [], ◌∷◌, drop, get_or, length, Option, None, Some}
 use Rattle.std.proofs.Common.{refl, sym, ap, ◌∙◌, arith}
 use Rattle.std.specs.Prelude.{nat_lt, if◌then◌else◌, is_some}
@@ -49,9 +50,7 @@ reply_lines-read command (first ∷ second ∷ bytes) reading some below is =
 -- data that are no reply, of a command that is known or not
 pub no_reply_line-known : (command : ℕ) (bytes name : List ℕ) → Some name ≡ command_name command
     → no_reply_line command bytes ≡ other_data_line command bytes
-no_reply_line-known command bytes name is =
-    ap (λ (n : Option (List ℕ)). if is_some n then other_data_line command bytes else data_line bytes) (sym is)
+no_reply_line-known command bytes name is = grind (arith, common_steps, is_some)
 
 pub no_reply_line-unknown : (command : ℕ) (bytes : List ℕ) → None ≡ command_name command → no_reply_line command bytes ≡ data_line bytes
-no_reply_line-unknown command bytes is =
-    ap (λ (n : Option (List ℕ)). if is_some n then other_data_line command bytes else data_line bytes) (sym is)
+no_reply_line-unknown command bytes is = grind (arith, common_steps, is_some)

@@ -1,20 +1,18 @@
 -- What `hart explain` and `hart dump` say of the same input is of the same messages.
-use Rattle.std.proofs.Common.{◌≡◌, ◌∙◌, ◌++◌, ℕ, List, Option, ap, append_assoc, inl, inr, subst, sym}
+use Rattle.std.proofs.Common.{arith}
+use Rattle.std.proofs.lemmas.Grind.{common_steps}
+use Rattle.std.proofs.Common.{◌≡◌, ◌++◌, ℕ, List, Option, append_assoc, inl, inr}
 use Rattle.hart_frame.specs.heard.Character.{Character}
-use Rattle.hart_frame.specs.heard.Frames.{AreFrames}
-use Rattle.hart_frame.specs.declared.heard.found.Found.{Found}
 use Rattle.hart_frame.proofs.lemmas.Laws.{frames_are_unambiguous-one_list}
 use Rattle.hart_cli.specs.declared.fault.CliFault.{CliFault}
 use Rattle.hart_cli.specs.declared.input.InputEnd.{InputEnd}
 use Rattle.hart_cli.specs.dump.Dump.{AreFrameLines, IsDump}
-use Rattle.hart_cli.specs.dump.Text.{dump_text}
 use Rattle.hart_cli.specs.explain.Dumped.{AreOfOneHearing}
 use Rattle.hart_cli.specs.explain.Explain.{IsExplanation}
 use Rattle.hart_cli.specs.explain.Explanation.{IsExplanationOf}
 use Rattle.hart_cli.specs.explain.Heard.{IsHeard}
 use Rattle.hart_cli.specs.input.Input.{CameTo, Left}
 use Rattle.hart_cli.specs.text.InputChars.{HasChars, decided_bad_hex}
-use Rattle.hart_cli.specs.text.Items.{HasBadHex}
 use Rattle.hart_cli.proofs.lemmas.explain.Heard.{IsHeard-one}
 
 -- of one hearing their messages are the same
@@ -22,19 +20,7 @@ one_hearing : (input : List ℕ) (end : InputEnd) (xs ys : List Character) (f g 
     → IsHeard input end xs f → AreFrameLines xs lines → IsHeard input end ys g → IsExplanationOf ys text
     → (f ≡ g) × AreOfOneHearing input end g lines text
 one_hearing input end xs ys f g lines text heard are_lines also explains =
-    let same = IsHeard-one input end xs ys f g heard also in
-    let are = subst (λ (chars : List Character). AreFrames chars 0 are_lines.frames) same.0 are_lines.are_frames in
-    let frames = frames_are_unambiguous-one_list ys 0 are_lines.frames explains.frames are explains.are_frames in (
-      same.1,
-      record {
-        chars = ys;
-        heard = also;
-        frames = explains.frames;
-        are_frames = explains.are_frames;
-        dumped = are_lines.text ∙ ap (λ (found : List Found). dump_text found) frames;
-        explained = explains.text_is;
-      },
-    )
+    let same = IsHeard-one input end xs ys f g heard also in grind (arith, common_steps, frames_are_unambiguous-one_list)
 
 -- they are of the same messages
 pub same_messages : (input : List ℕ) (end : InputEnd) (f g : Option CliFault) (lines text : List ℕ)
@@ -46,8 +32,7 @@ same_messages input end f g lines text dump said =
 left_more : (input more : List ℕ) (chars : List Character) (fault : Option CliFault) → HasChars input Left chars fault
     → HasChars (input ++ more) Left chars fault
 left_more input more _ _ (decided_bad_hex chars place bad) =
-    HasChars.decided_bad_hex chars place (λ later. subst (λ (text : List ℕ). HasBadHex text chars place)
-    (sym (append_assoc input more later)) (bad (more ++ later)))
+    HasChars.decided_bad_hex chars place (grind (arith, common_steps, append_assoc))
 
 pub same_messages_left : (input more : List ℕ) (end : InputEnd) (f g : Option CliFault) (lines text : List ℕ)
     → IsDump input Left f lines → IsExplanation (input ++ more) end g text

@@ -1,6 +1,6 @@
 -- The explanation of an input, of which there is one.
-use Rattle.std.proofs.Common.{◌≡◌, ℕ, List, [], ◌∷◌, ◌++◌, length, inl, inr, Option, Some, Result, Err, refl, sym, ap, ◌∙◌, append_assoc}
-use Rattle.std.proofs.Common.{arith, subst}
+use Rattle.std.proofs.Common.{◌≡◌, ℕ, List, [], ◌∷◌, ◌++◌, length, inl, inr, Option, Some, Result, Err, refl, append_assoc}
+use Rattle.std.proofs.Common.{arith}
 use Rattle.std.proofs.lemmas.Grind.{common_steps}
 use Rattle.hart_frame.specs.heard.Character.{Character}
 use Rattle.hart_frame.specs.heard.Frames.{AreFrames, first, HasNoFrame, IsFirst, none}
@@ -24,9 +24,7 @@ use Rattle.hart_cli.proofs.lemmas.explain.Told.{adds_nothing, adds_then, fails_t
 
 -- characters have one explanation
 IsExplanationOf-one : (chars : List Character) (xs ys : List ℕ) → IsExplanationOf chars xs → IsExplanationOf chars ys → xs ≡ ys
-IsExplanationOf-one chars xs ys p q =
-    p.text_is ∙ ap (λ (frames : List Found). explanation chars 0 frames)
-    (frames_are_unambiguous-one_list chars 0 p.frames q.frames p.are_frames q.are_frames) ∙ sym q.text_is
+IsExplanationOf-one chars xs ys p q = grind (arith, common_steps, frames_are_unambiguous-one_list)
 
 -- an input has one explanation and one fault
 pub IsExplanation-one : (input : List ℕ) (end : InputEnd) (f g : Option CliFault) (xs ys : List ℕ)
@@ -47,9 +45,7 @@ goes_on_first chars = λ later are. record { frames = later; are_frames = are; t
 pub goes_on_after : (chars : List Character) (from : ℕ) (found : Found) (text : List ℕ) → GoesOn chars from text
     → IsFirst found chars from → GoesOn chars found.stop (text ++ (gap_text chars from found.start ++ paragraph found))
 goes_on_after chars from found text on is = λ later are.
-    let all = on (found ∷ later) (first from found later is are) in
-    let said = gap_text chars from found.start ++ paragraph found in
-    subst (λ (xs : List ℕ). IsExplanationOf chars xs) (sym (append_assoc text said (explanation chars found.stop later))) all
+    let all = on (found ∷ later) (first from found later is are) in grind (arith, common_steps, append_assoc)
 
 -- after the last message it ends with what is said of the places up to the end
 pub goes_on_to_end : (chars : List Character) (from : ℕ) (text : List ℕ) → GoesOn chars from text → HasNoFrame chars from
@@ -66,12 +62,7 @@ pub record StopsTelling (chars : List Character) (old new : Stream) : Type 0 whe
 pub stops_telling : (chars : List Character) (from : ℕ) (text : List ℕ) (old new : Stream) → GoesOn chars from text
     → FailsToWrite old new text → StopsTelling chars old new
 stops_telling chars from text old new on fails =
-    let later = every_list_has_frames chars from in
-    record {
-      text = text ++ explanation chars from later.0;
-      explains = on later.0 later.1;
-      fails = FailsToWrite-longer old new text (explanation chars from later.0) fails;
-    }
+    let later = every_list_has_frames chars from in grind (arith, common_steps, FailsToWrite-longer)
 
 -- of an explanation a text was said up to a place, of which the last part is kept
 pub record SaidUpTo (old new : Stream) (kept : List ℕ) (chars : List Character) (from : ℕ) : Type 0 where

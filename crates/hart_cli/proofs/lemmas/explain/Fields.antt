@@ -69,8 +69,7 @@ each_shown (row ∷ rows) (suc i) d all within =
 
 row_at-shown : (rows : List FieldRow) (i : ℕ) (d : FieldRow) → are_shown (map seen rows) ≡ true → i < length rows
     → is_shown (seen (get_or rows i d)) ≡ true
-row_at-shown rows i d all within =
-    each_shown rows i d (and_parts (nat_le (length (map seen rows)) 16) (list_all is_shown (map seen rows)) all).1 within
+row_at-shown rows i d all within = grind (arith, common_steps, each_shown, and_parts, nat_le, list_all)
 
 -- bytes fall into those of a field and those after them
 record FallsInto (size : FieldSize) (bytes field after : List ℕ) : Type 0 where
@@ -91,15 +90,7 @@ split_at n bytes = (take n bytes, drop n bytes)
 split_by : (size : FieldSize) (bytes field after : List ℕ) (count : Option ℕ) → size_in size (length bytes) ≡ count
     → option_map {U = List ℕ × List ℕ} (λ n. (take n bytes, drop n bytes)) count ≡ Some (field, after) → FallsInto size bytes field after
 split_by size bytes field after None sized is = cc
-split_by size bytes field after (Some n) sized is =
-    let same : split_at n bytes ≡ (field, after) = cc in
-    record {
-      count = n;
-      size_is = sized;
-      within = size_in-within size (length bytes) n sized;
-      front = sym (ap (λ (parts : List ℕ × List ℕ). parts.0) same);
-      back = sym (ap (λ (parts : List ℕ × List ℕ). parts.1) same);
-    }
+split_by size bytes field after (Some n) sized is = grind (arith, common_steps, size_in-within)
 
 split-is : (size : FieldSize) (bytes field after : List ℕ) → split size bytes ≡ Some (field, after) → FallsInto size bytes field after
 split-is size bytes field after is = split_by size bytes field after (size_in size (length bytes)) refl is
@@ -115,8 +106,7 @@ row_at-short rows i d all within =
 -- so many bytes as it gives a field suit its kind
 suits_count : (kind : FieldKind) (size : FieldSize) (left count : ℕ) → suits_size kind size ≡ true → size_in size left ≡ Some count
     → suits kind count ≡ true
-suits_count kind (Exactly size) left count can is =
-    let same : size ≡ count = grind (arith, nat_tests) in subst (λ (n : ℕ). suits kind n ≡ true) same can
+suits_count kind (Exactly size) left count can is = grind (arith, common_steps)
 suits_count Bytes (AllBut after) left count can is = refl
 suits_count Float (AllBut after) left count can is = refl
 suits_count Variables (AllBut after) left count can is = refl
@@ -140,8 +130,7 @@ field_by row bytes = record { name = row.name; kind = row.kind; bytes = bytes }
 
 fields_more : (row : Row) (rows : List Row) (bytes field after : List ℕ) → split row.size bytes ≡ Some (field, after)
     → fields_of (row ∷ rows) bytes ≡ field_by row field ∷ fields_of rows after
-fields_more row rows bytes field after is =
-    ap (λ (parts : Option (List ℕ × List ℕ)). option_map_or (λ p. field_by row p.0 ∷ fields_of rows p.1) parts []) is
+fields_more row rows bytes field after is = grind (arith, common_steps)
 
 -- the rows from one on
 rows_from : (rows : List FieldRow) (i : ℕ) (d : FieldRow) → i < length rows
@@ -152,47 +141,25 @@ rows_from rows i d within = grind (arith, common_steps)
 lines_more : (text line : List ℕ) (row : Row) (rows : List Row) (all bytes field after : List ℕ)
     → split row.size bytes ≡ Some (field, after) → text ++ field_lines (fields_of (row ∷ rows) bytes) ≡ all
     → line ≡ text ++ field_line (field_by row field) → line ++ field_lines (fields_of rows after) ≡ all
-lines_more text line row rows all bytes field after is before said =
-    ap (λ (xs : List ℕ). xs ++ field_lines (fields_of rows after)) said
-    ∙ append_assoc text (field_line (field_by row field)) (field_lines (fields_of rows after))
-    ∙ ap (λ (fields : List Field). text ++ field_lines fields) (sym (fields_more row rows bytes field after is))
-    ∙ before
+lines_more text line row rows all bytes field after is before said = grind (arith, common_steps, append_assoc, fields_more)
 
 pub row_at-lines : (rows : List FieldRow) (i : ℕ) (d : FieldRow) (text line all bytes field after : List ℕ) → i < length rows
     → split (get_or rows i d).size bytes ≡ Some (field, after) → text ++ field_lines (fields_of (map seen (drop i rows)) bytes) ≡ all
     → line ≡ text ++ field_line (field_by (seen (get_or rows i d)) field)
     → line ++ field_lines (fields_of (map seen (drop (i + 1) rows)) after) ≡ all
-row_at-lines rows i d text line all bytes field after within is before said =
-    lines_more text line (seen (get_or rows i d)) (map seen (drop (i + 1) rows)) all bytes field after is
-    (ap (λ (xs : List Row). text ++ field_lines (fields_of xs bytes)) (sym (rows_from rows i d within)) ∙ before) said
+row_at-lines rows i d text line all bytes field after within is before said = grind (arith, common_steps, lines_more, rows_from)
 
 -- so many bytes are left
 pub few_more : (size : FieldSize) (bytes field after : List ℕ) → split size bytes ≡ Some (field, after)
     → length field + length after ≡ length bytes
-few_more size bytes field after is =
-    let parts = split-is size bytes field after is in
-    omega (
-      arith,
-      ap (λ (xs : List ℕ). length xs) parts.front,
-      ap (λ (xs : List ℕ). length xs) parts.back,
-      length-take-le parts.count bytes parts.within,
-      length-drop parts.count bytes,
-      parts.within,
-    )
+few_more size bytes field after is = grind (arith, common_steps, split-is, length-take-le, length-drop)
 
 -- what is left after the fields is the same
 rest_more : (row : Row) (rows : List Row) (bytes field after rest : List ℕ) → split row.size bytes ≡ Some (field, after)
     → drop (length (bytes_of (fields_of (row ∷ rows) bytes))) bytes ≡ rest
     → drop (length (bytes_of (fields_of rows after))) after ≡ rest
 rest_more row rows bytes field after rest is before =
-    let parts = split-is row.size bytes field after is in
-    let others = length (bytes_of (fields_of rows after)) in
-    let long : length field ≡ parts.count = ap (λ (xs : List ℕ). length xs) parts.front ∙ length-take-le parts.count bytes parts.within in
-    let all : length (bytes_of (fields_of (row ∷ rows) bytes)) ≡ parts.count + others =
-    ap (λ (fields : List Field). length (bytes_of fields)) (fields_more row rows bytes field after is)
-    ∙ length-append field (bytes_of (fields_of rows after)) ∙ ap (λ (n : ℕ). n + others) long in
-    ap (λ (xs : List ℕ). drop others xs) parts.back ∙ drop-drop others parts.count bytes
-    ∙ ap (λ (n : ℕ). drop n bytes) (sym all) ∙ before
+    grind (arith, common_steps, split-is, length-take-le, fields_more, length-append, drop-drop)
 
 pub row_at-rest : (rows : List FieldRow) (i : ℕ) (d : FieldRow) (bytes field after rest : List ℕ) → i < length rows
     → split (get_or rows i d).size bytes ≡ Some (field, after)

@@ -1,8 +1,9 @@
 -- The places that no message holds: which of them have a miss, and the lines of these.
+use Rattle.std.proofs.lemmas.Grind.{common_steps}
 use Rattle.std.proofs.Common.{◌≡◌, ◌≢◌, ◌≤◌, ◌<◌, ◌+◌, ◌-◌, ℕ, zero, suc, Bool, true, false, List, [], ◌∷◌, ◌++◌, length, get_or, drop}
 use Rattle.std.proofs.Common.{take}
-use Rattle.std.proofs.Common.{Option, None, Some, inl, inr, refl, sym, ap, ◌∙◌, append_assoc, arith, length-append, length-drop, subst}
-use Rattle.std.specs.Prelude.{◌/◌, ◌%◌, ◌⊎◌, ◌==◌, if◌then◌else◌, All, AllPairs, Contains, IsSome, codes, decimal, not}
+use Rattle.std.proofs.Common.{Option, None, Some, inl, inr, refl, sym, ap, append_assoc, arith, length-append, length-drop, subst}
+use Rattle.std.specs.Prelude.{◌/◌, ◌%◌, ◌⊎◌, ◌==◌, All, AllPairs, Contains, IsSome, codes, decimal, not}
 use Rattle.std.specs.List.{flat_map, list_all, range_with_len}
 use Rattle.std.specs.Option.{option_map_or}
 use Rattle.std.specs.Fmt.{digit_glyph, digits, digits_onto}
@@ -70,9 +71,7 @@ only_one y x (suc k, within, is) = absurd (omega arith)
 at_place : (f : ℕ → Option Miss) (a : ℕ) (miss : Option Miss) → f a ≡ miss → (x : MissedPlace)
     → Contains (option_map_or (λ m. record { place = a; miss = m } ∷ []) miss []) x → (x.place ≡ a) × (f a ≡ Some x.miss)
 at_place f a None is x has = absurd (none_in_none x has)
-at_place f a (Some m) is x has =
-    let same : record { place = a; miss = m } ≡ x = only_one _ x has in
-    (sym (ap (λ (told : MissedPlace). told.place) same), is ∙ ap (λ (told : MissedPlace). Some told.miss) same)
+at_place f a (Some m) is x has = grind (arith, common_steps, only_one)
 
 -- what stands among places
 record IsTold (f : ℕ → Option Miss) (a n : ℕ) (x : MissedPlace) : Type 0 where
@@ -84,12 +83,8 @@ told_is : (f : ℕ → Option Miss) (a n : ℕ) (x : MissedPlace) → Contains (
 told_is f a zero x has = absurd (none_in_none x has)
 told_is f a (suc n) x has =
     elim (Contains-append_cases (told_at f a) (told_from f (a + 1) n) x has) [
-      | inl here ↦
-          let at = at_place f a (f a) refl x here in
-          record { from = omega (arith, at.0); below = omega (arith, at.0); has = rw at.0 at.1 }
-      | inr later ↦
-          let told = told_is f (a + 1) n x later in
-          record { from = omega (arith, told.from); below = omega (arith, told.below); has = told.has }
+      | inl here ↦ grind (arith, common_steps, at_place)
+      | inr later ↦ grind (arith, common_steps, told_is f (a + 1) n x later)
     ]
 
 -- every place that has something is among them
@@ -98,15 +93,8 @@ told_has : (f : ℕ → Option Miss) (a n place : ℕ) (miss : Miss) → a ≤ p
 told_has f a zero place miss from below has = absurd (omega arith)
 told_has f a (suc n) place miss from below has =
     elim (cases_lt a place) [
-      | inl after ↦
-          Contains-append_right (told_at f a) (told_from f (a + 1) n) _ (told_has f (a + 1) n place miss (omega arith) (omega arith) has)
-      | inr upto ↦
-          let at : a ≡ place = omega arith in
-          let here : told_at f a ≡ record { place = place; miss = miss } ∷ [] =
-          ap (λ (p : ℕ). told_at f p) at
-          ∙ ap (λ (m : Option Miss). option_map_or (λ m. record { place = place; miss = m } ∷ []) m []) has in
-          Contains-append_left (told_at f a) (told_from f (a + 1) n) _
-          (rw here (Contains-get_or (record { place = place; miss = miss } ∷ []) 0 (record { place = place; miss = miss }) (omega arith)))
+      | inl after ↦ grind (arith, common_steps, Contains-append_right, told_has f (a + 1) n place miss (omega arith) (omega arith) has)
+      | inr upto ↦ grind (arith, common_steps, Contains-append_left, Contains-get_or)
     ]
 
 -- they stand in the order of their places
@@ -131,8 +119,7 @@ unbroken text = list_all no_line_feed text
 
 unbroken-all : (text : List ℕ) → unbroken text ≡ true → All (λ code. code ≢ 10) text
 unbroken-all [] test = All-nil (λ code. code ≢ 10)
-unbroken-all (code ∷ text) test =
-    All-cons (λ code. code ≢ 10) code text (grind (arith, nat_tests)) (unbroken-all text (grind (arith, nat_tests)))
+unbroken-all (code ∷ text) test = grind (arith, common_steps, All-cons, unbroken-all text (grind (arith, nat_tests)))
 
 -- digits are none
 unbroken-glyph : (digit : ℕ) → no_line_feed (digit_glyph false digit) ≡ true
@@ -142,9 +129,7 @@ unbroken-onto : (k n : ℕ) (text : List ℕ) → unbroken text ≡ true → unb
 unbroken-onto zero n text test = test
 unbroken-onto (suc k) n text test =
     let more : unbroken (digit_glyph false (n % 10) ∷ text) ≡ true = grind (arith, unbroken-glyph (n % 10)) in
-    elim (n / 10 == 0) as (λ last. unbroken (if last then digit_glyph false (n % 10) ∷ text
-    else digits_onto k 10 false (n / 10) (digit_glyph false (n % 10) ∷ text)) ≡ true)
-    [ true ↦ more | false ↦ unbroken-onto k (n / 10) (digit_glyph false (n % 10) ∷ text) more ]
+    grind (arith, common_steps, unbroken-onto k (n / 10) (digit_glyph false (n % 10) ∷ text) more)
 
 unbroken-decimal : (n : ℕ) → unbroken (decimal n) ≡ true
 unfolding digits
@@ -161,8 +146,7 @@ unfolding encode_with
 unbroken-byte_digits byte = grind (arith, unbroken-get_or upper_digits (byte / 16) refl, unbroken-get_or upper_digits (byte % 16) refl)
 
 unbroken-characters_word : (count : ℕ) → unbroken (characters_word count) ≡ true
-unbroken-characters_word count =
-    elim (count == 1) as (λ one. unbroken (if one then codes " character" else codes " characters") ≡ true) [ true ↦ refl | false ↦ refl ]
+unbroken-characters_word count = grind (arith, common_steps)
 
 unbroken-miss_words : (from : ℕ) (miss : Miss) → unbroken (miss_words from miss) ≡ true
 unbroken-miss_words from (Faulty place faults) = simp (list_all-append, unbroken-decimal, unbroken-byte_digits)
@@ -200,8 +184,7 @@ stands_at chars from place (found, stands, start) =
         prefix = take from chars ++ stands.prefix;
         body = stands.body;
         rest = stands.rest;
-        split = sym (take-append-drop from chars) ∙ ap (λ (xs : List Character). take from chars ++ xs) stands.split
-            ∙ simp append_assoc;
+        split = grind (arith, common_steps, take-append-drop, append_assoc);
         is_body = stands.is_body;
         after = omega (arith, length-append (take from chars) stands.prefix);
         start = omega (arith, length-append (take from chars) stands.prefix, stands.start);
@@ -242,8 +225,7 @@ pub missed_are : (chars : List Character) (from stop place : ℕ) (miss : Miss)
     → Contains (missed chars from stop) (record { place = place; miss = miss })
     → (from ≤ place) × (place < stop) × (miss_of (drop from chars) (place - from) ≡ Some miss)
 missed_are chars from stop place miss has =
-    let told = told_is (miss_at chars from) from (stop - from) (record { place = place; miss = miss }) has in
-    (told.from, omega (arith, told.from, told.below), told.has)
+    let told = told_is (miss_at chars from) from (stop - from) (record { place = place; miss = miss }) has in grind (arith, common_steps)
 
 pub missed_has : (chars : List Character) (from stop place : ℕ) (miss : Miss)
     → (from ≤ place) × (place < stop) × (miss_of (drop from chars) (place - from) ≡ Some miss)

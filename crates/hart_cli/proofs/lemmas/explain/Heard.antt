@@ -1,5 +1,6 @@
 -- What was heard of an input: its fault, and that it is heard in one way.
-use Rattle.std.proofs.Common.{◌≡◌, ℕ, ◌+◌, List, [], ◌∷◌, ◌++◌, length, inl, inr, Option, None, Some, ap, ◌∙◌, arith, length-append}
+use Rattle.std.proofs.lemmas.Grind.{common_steps}
+use Rattle.std.proofs.Common.{◌≡◌, ℕ, ◌+◌, List, [], ◌∷◌, ◌++◌, length, inl, inr, Option, None, Some, ap, arith, length-append}
 use Rattle.hart_frame.specs.heard.Character.{Character}
 use Rattle.hart_cli.specs.declared.fault.CliFault.{CliFault}
 use Rattle.hart_cli.specs.declared.input.InputEnd.{InputEnd}
@@ -9,7 +10,6 @@ use Rattle.hart_cli.specs.explain.Heard.{IsFaultAt, IsHeard}
 use Rattle.hart_cli.specs.input.Input.{CameTo, Left}
 use Rattle.hart_cli.specs.text.InputChars.{all, bad_hex, decided_bad_hex, failure, HasChars, limit}
 use Rattle.hart_cli.specs.text.Items.{BeginsWith, closed, IsDecidedBadHexAt, NoPieceBegins, nothing, Piece, piece, ReadsSoFarAs, ReadsUpTo}
-use Rattle.hart_cli.specs.text.Items.{spelling}
 use Rattle.hart_cli.proofs.lemmas.text.InputChars.{as_it_stands, decided_rest, not_both, one_input, one_place}
 use Rattle.hart_cli.proofs.lemmas.text.Items.{goes_on, one_reading, ReadsUpTo-few, ReadsUpTo-more, spelling-length}
 
@@ -35,9 +35,7 @@ reads_nothing : (text : List ℕ) (chars : List Character) (rest : List ℕ) →
     → NoPieceBegins rest → (p : Piece) (tail : List ℕ) → BeginsWith text p tail → ⊥
 reads_nothing _ _ _ (nothing rest) long stop p tail begins = stop p tail begins
 reads_nothing _ _ _ (piece text first after chars rest h r) long stop p tail begins =
-    let parts : length text ≡ length (spelling first) + length after =
-    ap (λ (xs : List ℕ). length xs) h.spelled ∙ length-append (spelling first) after in
-    omega (arith, long, parts, spelling-length first, ReadsUpTo-few after chars rest r)
+    grind (arith, common_steps, length-append, spelling-length, ReadsUpTo-few)
 
 -- what may go on has no bad hex that is decided
 not_decided : (text : List ℕ) (xs ys : List Character) (place : ℕ) → ReadsSoFarAs text xs → IsDecidedBadHexAt text ys place → ⊥

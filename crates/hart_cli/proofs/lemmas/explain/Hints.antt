@@ -1,25 +1,25 @@
 -- What the lines of a gap name, as places of the whole list.
+use Rattle.std.proofs.lemmas.Grind.{common_steps}
 use Rattle.std.proofs.Common.{◌≡◌, ◌+◌, ◌-◌, ◌<◌, ◌≤◌, ◌⊎◌, ◌↔◌, ℕ, inl, inr, List, [], ◌∷◌, ◌++◌, length, take, drop, set}
 use Rattle.std.proofs.Common.{Option, Some, refl, sym, ap, ◌∙◌, subst, arith, append_assoc, length-append, length-drop}
 use Rattle.std.specs.List.{All, slice_get}
-use Rattle.std.specs.Prelude.{◌%◌, Contains, codes, decimal}
+use Rattle.std.specs.Prelude.{Contains}
 use Rattle.std.proofs.lemmas.List.{drop-append-le, drop-drop, drop-set-add, get_or-drop, length-take-le, take-append-drop}
 use Rattle.std.proofs.lemmas.List.Elements.{All-drop}
 use Rattle.std.proofs.lemmas.Option.{get_or_from_slice_get, slice_get-get_or, slice_get_within}
 use Rattle.hart_frame.specs.heard.Character.{Character, faultless, faultless_bytes}
-use Rattle.hart_frame.specs.heard.InTheWay.{FollowsOnePreamble, HasBodyAt, HasFaultsAt, IsBurstDelimiter, IsInTheWay, bytes_from}
+use Rattle.hart_frame.specs.heard.InTheWay.{FollowsOnePreamble, HasBodyAt, HasFaultsAt, IsInTheWay, bytes_from}
 use Rattle.hart_frame.specs.heard.Miss.{HasFrameUpTo, miss_of}
 use Rattle.hart_frame.specs.heard.Place.{StandsIn}
 use Rattle.hart_frame.specs.heard.Start.{IsStart}
-use Rattle.hart_frame.specs.wire.Layout.{body_length, byte_count_in, delimiter_in}
+use Rattle.hart_frame.specs.wire.Layout.{body_length}
 use Rattle.hart_frame.specs.wire.Parity.{IsCheckByte}
-use Rattle.hart_frame.specs.wire.Refusal.{HasByteCount, HasCheckByte, HasGoodByteCount, IsDelimiter, IsTruncated}
 use Rattle.hart_frame.specs.declared.heard.found.Found.{Found}
 use Rattle.hart_frame.specs.declared.heard.miss.Miss.{Miss}
 use Rattle.hart_frame.specs.declared.heard.miss.Miss.TheVariants.{BadCheck, BadDelimiter, Burst, EndsBeforeByteCount, Faulty, Missing}
 use Rattle.hart_frame.specs.declared.heard.miss.Miss.TheVariants.{OnePreamble, ShortReply}
 use Rattle.hart_cli.specs.explain.Gaps.{missed}
-use Rattle.hart_cli.specs.explain.Misses.{byte_digits, miss_in_whole, miss_line}
+use Rattle.hart_cli.specs.explain.Misses.{miss_in_whole, miss_line}
 use Rattle.hart_cli.proofs.lemmas.explain.Gaps.{missed_are}
 
 -- a frame in the rest of characters is one of the characters
@@ -39,8 +39,7 @@ frame_up_to chars from start stop place end (found, stands, begins, ends) place_
       after = omega arith;
       start = omega (arith, length-append (take from chars) stands.prefix, stands.start, begins, place_is, first);
       stop = omega (arith, length-append (take from chars) stands.prefix, stands.stop, ends, end_is, first);
-    } in
-    (whole, there, refl, refl)
+    } in grind (arith, common_steps)
 
 -- what a law of misses says of a whole list
 abbrev pub Fits : Type 0
@@ -76,42 +75,24 @@ faults_in_rest chars from at faults (some, byte, is) = (some, byte, char_in_rest
 -- the bytes from a place of the rest of characters on are those of the characters
 bytes_in_rest : (chars : List Character) (from start place : ℕ) → place ≡ from + start
     → bytes_from (drop from chars) start ≡ bytes_from chars place
-bytes_in_rest chars from start place is =
-    ap faultless_bytes (drop-drop start from chars ∙ ap (λ (n : ℕ). drop n chars) (sym is))
+bytes_in_rest chars from start place is = grind (arith, common_steps, drop-drop)
 
 -- what stands in the way in the rest of characters does so in the characters
 way_in_rest : (chars : List Character) (from start place : ℕ) (miss : Miss) → place ≡ from + start → from ≤ length chars
     → IsInTheWay (drop from chars) start miss → IsInTheWay chars place (miss_in_whole from miss)
 way_in_rest chars from start place (Faulty at faults) is within (truncated, there, has) =
-    let same = bytes_in_rest chars from start place is in
-    (subst IsTruncated same truncated, omega (arith, there, is, ap length same), faults_in_rest chars from at faults has)
-way_in_rest chars from start place Burst is within way =
-    let Way : List ℕ → Type 0 = λ bytes. (0 < length bytes) × IsBurstDelimiter (delimiter_in bytes) in
-    subst Way (bytes_in_rest chars from start place is) way
-way_in_rest chars from start place (BadDelimiter byte) is within way =
-    let Way : List ℕ → Type 0 = λ bytes. (0 < length bytes) × (delimiter_in bytes ≡ byte)
-    × (IsDelimiter byte → ⊥) × (IsBurstDelimiter byte → ⊥) in
-    subst Way (bytes_in_rest chars from start place is) way
+    grind (arith, common_steps, bytes_in_rest, faults_in_rest)
+way_in_rest chars from start place Burst is within way = grind (arith, common_steps, bytes_in_rest)
+way_in_rest chars from start place (BadDelimiter byte) is within way = grind (arith, common_steps, bytes_in_rest)
 way_in_rest chars from start place EndsBeforeByteCount is within (truncated, none, end) =
-    let same = bytes_in_rest chars from start place is in
-    let Uncounted : List ℕ → Type 0 = λ bytes. HasByteCount bytes → ⊥ in
-    (subst IsTruncated same truncated, subst Uncounted same none, omega (arith, end, is, within, ap length same, length-drop from chars))
-way_in_rest chars from start place (ShortReply byte_count) is within way =
-    let Way : List ℕ → Type 0 = λ bytes. HasByteCount bytes × (delimiter_in bytes % 8 ≡ 6)
-    × (byte_count_in bytes ≡ byte_count) × (byte_count < 2) in
-    subst Way (bytes_in_rest chars from start place is) way
+    grind (arith, common_steps, bytes_in_rest, length-drop)
+way_in_rest chars from start place (ShortReply byte_count) is within way = grind (arith, common_steps, bytes_in_rest)
 way_in_rest chars from start place (Missing count) is within (good, some, sum, end) =
-    let same = bytes_in_rest chars from start place is in
-    let Sum : List ℕ → Type 0 = λ bytes. length bytes + count ≡ body_length bytes in (
-      subst HasGoodByteCount same good,
-      some,
-      subst Sum same sum,
-      omega (arith, end, is, within, ap length same, length-drop from chars),
-    )
+    grind (arith, common_steps, bytes_in_rest, length-drop)
 way_in_rest chars from start place (BadCheck at byte fits) is within (has, there, char, check, other) =
     let same = bytes_in_rest chars from start place is in
     let Check : List ℕ → Type 0 = λ bytes. IsCheckByte (take (body_length bytes - 1) bytes) fits in (
-      subst HasCheckByte same has,
+      grind (arith, common_steps),
       omega (arith, there, is, ap body_length same),
       char_in_rest chars from at (record { byte = byte; faults = 0 }) char,
       subst Check same check,
@@ -165,19 +146,13 @@ in_the_way_in_gap law chars from stop place miss small has start =
 -- the line of a miss tells its places as places of the whole list
 pub line_in_whole : (from place : ℕ) (miss : Miss)
     → miss_line from place (Some miss) ≡ miss_line 0 place (Some (miss_in_whole from miss))
-line_in_whole from place (Faulty at faults) =
-    let there : from + at ≡ 0 + (from + at) = omega arith in
-    ap (λ (n : ℕ). decimal place ++ codes ": no message: " ++ (codes "the character at " ++ decimal n
-    ++ codes " has the fault bits " ++ byte_digits faults) ++ 10 ∷ []) there
+line_in_whole from place (Faulty at faults) = grind (arith, common_steps)
 line_in_whole from place Burst = refl
 line_in_whole from place (BadDelimiter byte) = refl
 line_in_whole from place EndsBeforeByteCount = refl
 line_in_whole from place (ShortReply byte_count) = refl
 line_in_whole from place (Missing count) = refl
-line_in_whole from place (BadCheck at byte fits) =
-    let there : from + at ≡ 0 + (from + at) = omega arith in
-    ap (λ (n : ℕ). decimal place ++ codes ": no message: " ++ (codes "the check byte is " ++ byte_digits byte ++ codes " at "
-    ++ decimal n ++ codes ", and " ++ byte_digits fits ++ codes " would fit") ++ 10 ∷ []) there
+line_in_whole from place (BadCheck at byte fits) = grind (arith, common_steps)
 line_in_whole from place OnePreamble = refl
 
 abbrev pub Misses : Type 0
@@ -193,16 +168,12 @@ pub missing_in_gap : OnlyThere → Misses → (chars : List Character) (from sto
     × HasFrameUpTo (chars ++ faultless (bytes ++ last ∷ [])) place (length chars + count)
 missing_in_gap only_there law chars from stop place count bytes small fit has long =
     let is = missed_are chars from stop place (Missing count) has in
-    let within : from ≤ length chars = elim (only_there (place - from) (drop from chars) (Missing count) is.2) [
-      | inl start ↦ rest_is chars from (place - from) start
-      | inr same ↦ absurd (grind arith)
-    ] in
+    let within : from ≤ length chars = grind (arith, common_steps, rest_is) in
     let rest = drop from chars in
     let heard = All-drop (λ (character : Character). character.byte < 256) from chars small in
     let (last, check, stands) = law (place - from) count rest bytes heard fit is.2 long in
     let place_is : place ≡ from + (place - from) = omega (arith, is.0) in
-    let same : drop (place - from) rest ≡ drop place chars =
-    drop-drop (place - from) from chars ∙ ap (λ (n : ℕ). drop n chars) (sym place_is) in
+    let same : drop (place - from) rest ≡ drop place chars = grind (arith, common_steps, drop-drop) in
     let Check : List Character → Type 0 = λ xs. IsCheckByte (faultless_bytes xs ++ bytes) last in
     let more = faultless (bytes ++ last ∷ []) in
     let Has : List Character → Type 0 = λ xs. HasFrameUpTo xs (place - from) (length rest + count) in (
@@ -219,13 +190,7 @@ OneAlone = (start : ℕ) (chars : List Character) → All (λ character. charact
 -- a body in the rest of characters is one in the characters
 body_in_rest : (chars : List Character) (from start place : ℕ) → place ≡ from + start → HasBodyAt (drop from chars) start
     → HasBodyAt chars place
-body_in_rest chars from start place is has = record {
-  frame = has.frame;
-  body = has.body;
-  rest = has.rest;
-  is_body = has.is_body;
-  parts = ap (λ (n : ℕ). drop n chars) is ∙ sym (drop-drop start from chars) ∙ has.parts;
-}
+body_in_rest chars from start place is has = grind (arith, common_steps, drop-drop)
 
 pub alone_in_gap : OneAlone → (chars : List Character) (from stop place : ℕ) → All (λ character. character.byte < 256) chars
     → Contains (missed chars from stop) (record { place = place; miss = OnePreamble })
@@ -233,5 +198,4 @@ pub alone_in_gap : OneAlone → (chars : List Character) (from stop place : ℕ)
 alone_in_gap law chars from stop place small has =
     let is = missed_are chars from stop place OnePreamble has in
     let bytes = All-drop (λ (character : Character). character.byte < 256) from chars small in
-    let (alone, body) = (law (place - from) (drop from chars) bytes).0 is.2 in
-    (alone, body_in_rest chars from (place - from) place (omega (arith, is.0)) body)
+    let (alone, body) = (law (place - from) (drop from chars) bytes).0 is.2 in grind (arith, common_steps, body_in_rest)

@@ -59,11 +59,7 @@ pub record GapBegins (chars : List Character) (from place stop : ℕ) : Type 0 w
 pub gap_begins : (chars : List Character) (from place stop : ℕ) → from ≤ place → place ≤ stop → GapBegins chars from place stop
 gap_begins chars from place stop after within =
     let all = begins (λ p. place_text chars from p) from (place - from) (stop - place) in
-    let number : (place - from) + (stop - place) ≡ stop - from = omega arith in
-    record {
-      rest = all.rest;
-      parts = ap (λ (k : ℕ). flat_map (λ p. place_text chars from p) (range_with_len from k)) (sym number) ∙ all.parts;
-    }
+    grind (arith, common_steps, flat_map, range_with_len)
 
 -- the text of a place is the line of its miss
 pub place_text-miss : (chars : List Character) (from place : ℕ) (miss : Option Miss) → miss ≡ miss_of (drop from chars) (place - from)

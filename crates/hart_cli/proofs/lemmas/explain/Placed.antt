@@ -1,21 +1,21 @@
 -- The places that a miss names lie in the characters.
 use Rattle.std.proofs.Common.{◌≡◌, ◌≤◌, ◌<◌, ◌+◌, ◌-◌, ℕ, Bool, true, false, List, [], ◌∷◌, Option, None, Some, refl, drop, length, arith}
 use Rattle.std.proofs.Common.{subst}
-use Rattle.std.proofs.Common.{◌%◌, length-drop, nat_le, nat_lt}
-use Rattle.std.specs.Prelude.{◌==◌, ◌&&◌, if◌then◌else◌, is_none, not, slice_get}
+use Rattle.std.proofs.Common.{length-drop, nat_le, nat_lt}
+use Rattle.std.specs.Prelude.{◌==◌, ◌&&◌, if◌then◌else◌, is_none, slice_get}
 use Rattle.std.proofs.lemmas.Grind.{common_steps}
 use Rattle.std.proofs.lemmas.Bool.Decides.{nat_tests}
 use Rattle.std.proofs.lemmas.List.{length-map}
 use Rattle.std.proofs.lemmas.Option.{slice_get_within}
 use Rattle.std.specs.List.{take_while}
 use Rattle.hart_frame.specs.heard.Character.{Character, faultless_bytes}
-use Rattle.hart_frame.specs.heard.Miss.{body_miss, check_byte_in, check_miss, delimiter_miss, faulty_or, fitting_check_byte}
+use Rattle.hart_frame.specs.heard.Miss.{body_miss, faulty_or}
 use Rattle.hart_frame.specs.heard.Miss.{follows_one_preamble}
-use Rattle.hart_frame.specs.heard.Miss.{is_burst_delimiter, is_delimiter, is_start, miss_in, miss_of}
-use Rattle.hart_frame.specs.wire.Layout.{body_length, byte_count_in, byte_count_place, delimiter_in}
+use Rattle.hart_frame.specs.heard.Miss.{is_start, miss_in, miss_of}
+use Rattle.hart_frame.specs.wire.Layout.{body_length}
 use Rattle.hart_frame.specs.declared.heard.miss.Miss.{Miss}
-use Rattle.hart_frame.specs.declared.heard.miss.Miss.TheVariants.{BadCheck, BadDelimiter, Burst, EndsBeforeByteCount, Missing}
-use Rattle.hart_frame.specs.declared.heard.miss.Miss.TheVariants.{OnePreamble, ShortReply}
+use Rattle.hart_frame.specs.declared.heard.miss.Miss.TheVariants.{BadCheck, BadDelimiter, Burst}
+use Rattle.hart_frame.specs.declared.heard.miss.Miss.TheVariants.{OnePreamble}
 use Rattle.hart_cli.specs.explain.Misses.{ArePlacesBelow}
 
 -- what holds of each of some choices, and of another that may be none, holds of the one that is taken
@@ -45,24 +45,14 @@ delimiter_placed count false byte = tt
 check_placed : (count place byte fits : ℕ) (same : Bool) → place < count → (miss : Miss)
     → (if same then None else Some (BadCheck place byte fits)) ≡ Some miss → ArePlacesBelow count miss
 check_placed count place byte fits true below miss is = cc
-check_placed count place byte fits false below miss is =
-    let same : BadCheck place byte fits ≡ miss = cc in subst (λ (m : Miss). ArePlacesBelow count m) same below
+check_placed count place byte fits false below miss is = grind (arith, common_steps)
 
 -- so many bytes from a start on, and a character with fault bits after them
 bytes_placed : (count start place : ℕ) (bytes : List ℕ) (faulty : Option Character) → start + length bytes ≤ count
     → ((c : Character) → faulty ≡ Some c → place < count) → (miss : Miss) → miss_in bytes faulty place start ≡ Some miss
     → ArePlacesBelow count miss
 bytes_placed count start place bytes faulty within faulty_within miss is =
-    let ends = faulty_placed count place faulty EndsBeforeByteCount faulty_within tt in
-    let missing = faulty_placed count place faulty (Missing (body_length bytes - length bytes)) faulty_within tt in
-    let P : Miss → Type 0 = λ m. ArePlacesBelow count m in
-    taken P (length bytes == 0) (not (is_delimiter (delimiter_in bytes))) (nat_le (length bytes) (byte_count_place bytes))
-    ((delimiter_in bytes % 8 == 6) && nat_lt (byte_count_in bytes) 2) (nat_lt (length bytes) (body_length bytes))
-    (faulty_or faulty place EndsBeforeByteCount) (delimiter_miss (delimiter_in bytes)) (faulty_or faulty place EndsBeforeByteCount)
-    (ShortReply (byte_count_in bytes)) (faulty_or faulty place (Missing (body_length bytes - length bytes))) (check_miss bytes start)
-    ends (delimiter_placed count (is_burst_delimiter (delimiter_in bytes)) (delimiter_in bytes)) ends tt missing
-    (λ some whole m last. check_placed count (start + (body_length bytes - 1)) (check_byte_in bytes) (fitting_check_byte bytes)
-    (check_byte_in bytes == fitting_check_byte bytes) (check_within some whole) m last) miss is
+    grind (arith, common_steps, faulty_placed, taken, nat_le, nat_lt, delimiter_placed, check_placed)
   where
     check_within : (length bytes == 0) ≡ false → nat_lt (length bytes) (body_length bytes) ≡ false
         → start + (body_length bytes - 1) < count

@@ -1,5 +1,5 @@
 -- A text that is told piece by piece.
-use Rattle.std.proofs.Common.{◌≡◌, ℕ, List, [], ◌++◌, Result, Ok, Err, refl, sym, ap, ◌∙◌, append_assoc, arith, subst}
+use Rattle.std.proofs.Common.{◌≡◌, ℕ, List, [], ◌++◌, Result, Ok, Err, refl, sym, append_assoc, arith, subst}
 use Rattle.std.proofs.lemmas.Grind.{common_steps}
 use Rattle.std.proofs.KnownBytes.{Appends-nil}
 use Rattle.std.proofs.lemmas.List.{append-nil}
@@ -26,15 +26,13 @@ pub adds_then : (a b c : Stream) (p q r x y : List ℕ) → AddsText a b p q x �
 adds_then a b c p q r x y h k = record {
   written = h.written ++ k.written;
   wrote = WritesAll-on a b c h.written k.written h.wrote k.wrote;
-  whole = append_assoc h.written k.written r ∙ ap (λ (xs : List ℕ). h.written ++ xs) k.whole
-      ∙ sym (append_assoc h.written q y) ∙ ap (λ (xs : List ℕ). xs ++ y) h.whole ∙ append_assoc p x y;
+  whole = grind (arith, common_steps, append_assoc);
 }
 
 -- a write failed in the second of two texts
 pub fails_then : (a b c : Stream) (p q x y : List ℕ) → AddsText a b p q x → FailsToWrite b c (q ++ y) → FailsToWrite a c (p ++ (x ++ y))
 fails_then a b c p q x y h fails =
-    let same : h.written ++ (q ++ y) ≡ p ++ (x ++ y) =
-    sym (append_assoc h.written q y) ∙ ap (λ (xs : List ℕ). xs ++ y) h.whole ∙ append_assoc p x y in
+    let same : h.written ++ (q ++ y) ≡ p ++ (x ++ y) = grind (arith, common_steps, append_assoc) in
     subst (λ (xs : List ℕ). FailsToWrite a c xs) same (FailsToWrite-on a b c h.written (q ++ y) h.wrote fails)
 
 -- a write failed in the first of two texts
@@ -50,7 +48,5 @@ tells_failure old new before after text P result failed fails = grind (arith, co
 -- what is kept is written at last
 pub writes_kept : {T : Type 0} (a b c : Stream) (kept text : List ℕ) (result : Result T Failed) → AddsText a b [] kept text
     → Writes b c kept result → Writes a c text result
-writes_kept a b c kept text (Ok done) h wrote =
-    subst (λ (xs : List ℕ). WritesAll a c xs) h.whole (WritesAll-on a b c h.written kept h.wrote wrote)
-writes_kept a b c kept text (Err fault) h fails =
-    subst (λ (xs : List ℕ). FailsToWrite a c xs) h.whole (FailsToWrite-on a b c h.written kept h.wrote fails)
+writes_kept a b c kept text (Ok done) h wrote = grind (arith, common_steps, WritesAll-on)
+writes_kept a b c kept text (Err fault) h fails = grind (arith, common_steps, FailsToWrite-on)

@@ -1,6 +1,6 @@
 -- The values of fields.
-use Rattle.std.proofs.Common.{◌≡◌, ◌≤◌, ◌<◌, ◌+◌, ◌*◌, ◌/◌, ◌%◌, ℕ, suc, List, [], ◌∷◌, ◌++◌, length, take, get_or, refl, ap}
-use Rattle.std.proofs.Common.{◌∙◌, append_assoc, arith}
+use Rattle.std.proofs.Common.{◌≡◌, ◌≤◌, ◌<◌, ◌+◌, ◌*◌, ◌%◌, ℕ, suc, List, [], ◌∷◌, ◌++◌, length, take, get_or, refl}
+use Rattle.std.proofs.Common.{append_assoc, arith}
 use Rattle.std.specs.List.{join_by}
 use Rattle.std.proofs.lemmas.Grind.{common_steps, flat_map-append}
 use Rattle.std.proofs.lemmas.Bool.Decides.{nat_tests}
@@ -14,16 +14,7 @@ character_of code is = grind (arith, nat_tests)
 -- the characters of a packed group
 group_is : (w x y z a b c : ℕ) → IsCharacter w → IsCharacter x → IsCharacter y → IsCharacter z → a < 256 → b < 256 → c < 256
     → IsPackedGroup w x y z a b c → characters_of a b c ≡ w ∷ x ∷ y ∷ z ∷ []
-group_is w x y z a b c p q r s t u v packed =
-    let first : a / 4 ≡ w % 64 = omega arith in
-    let second : 16 * (a % 4) + b / 16 ≡ x % 64 = omega arith in
-    let third : 4 * (b % 16) + c / 64 ≡ y % 64 = omega arith in
-    let fourth : c % 64 ≡ z % 64 = omega arith in
-    let w_is : character (a / 4) ≡ w = ap character first ∙ character_of w p in
-    let x_is : character (16 * (a % 4) + b / 16) ≡ x = ap character second ∙ character_of x q in
-    let y_is : character (4 * (b % 16) + c / 64) ≡ y = ap character third ∙ character_of y r in
-    let z_is : character (c % 64) ≡ z = ap character fourth ∙ character_of z s in
-    cc
+group_is w x y z a b c p q r s t u v packed = grind (arith, common_steps, character_of)
 
 -- the texts of groups after the first
 rest_packed : (w x y z a b c : ℕ) (text bytes : List ℕ) → IsPacked (w ∷ x ∷ y ∷ z ∷ text) (a ∷ b ∷ c ∷ bytes) → IsPacked text bytes
@@ -39,8 +30,7 @@ rest_packed w x y z a b c text bytes p = record {
       let three : 3 * suc place ≡ suc (suc (suc (3 * place))) = omega arith in
       let more : 3 * suc place + 1 ≡ suc (suc (suc (3 * place + 1))) = omega arith in
       let most : 3 * suc place + 2 ≡ suc (suc (suc (3 * place + 2))) = omega arith in
-      let at_next = p.groups (suc place) (omega arith) in
-      rw (five, six, seven, four, more, most, three) at at_next;
+      let at_next = p.groups (suc place) (omega arith) in grind (arith, common_steps);
 }
 
 -- a text is what its packed bytes unpack to
@@ -49,9 +39,7 @@ unpacked-is [] [] p = refl
 unpacked-is (w ∷ x ∷ y ∷ z ∷ text) (a ∷ b ∷ c ∷ bytes) p =
     let first = group_is w x y z a b c (p.characters 0 0 (omega arith)) (p.characters 1 0 (omega arith)) (p.characters 2 0 (omega arith))
     (p.characters 3 0 (omega arith)) (p.bytes_fit 0 0 (omega arith)) (p.bytes_fit 1 0 (omega arith)) (p.bytes_fit 2 0 (omega arith))
-    (p.groups 0 (omega arith)) in
-    let others = unpacked-is text bytes (rest_packed w x y z a b c text bytes p) in
-    ap (λ (xs : List ℕ). xs ++ unpacked bytes) first ∙ ap (λ (xs : List ℕ). w ∷ x ∷ y ∷ z ∷ xs) others
+    (p.groups 0 (omega arith)) in grind (arith, common_steps, rest_packed, unpacked-is text bytes (rest_packed w x y z a b c text bytes p))
 unpacked-is (w ∷ []) bytes p = absurd (omega (arith, p.lengths))
 unpacked-is (w ∷ x ∷ []) bytes p = absurd (omega (arith, p.lengths))
 unpacked-is (w ∷ x ∷ y ∷ []) bytes p = absurd (omega (arith, p.lengths))

@@ -22,7 +22,7 @@ use Rattle.hart_line.specs.declared.fault.LineFault.TheVariants as line_faults
 use Rattle.hart_line.specs.declared.line.report.Outcome.{Outcome}
 use Rattle.hart_line.specs.declared.line.report.Spoken.{Spoken}
 use Rattle.hart_cli.specs.sim.Sim.{HasLineFault, IsSimulation, IsWorldText, start_with}
-use Rattle.hart_cli.specs.sim.Text.{counter_line, image_line, outcome_line, sim_text, spoken_line}
+use Rattle.hart_cli.specs.sim.Text.{counter_line, image_line, outcome_line, spoken_line}
 
 -- the things of a list that goes on are numbered on
 numbered_on : {X : Type 0} (n : ℕ) (xs more : List X)
@@ -50,18 +50,7 @@ pub IsSimulation-run : (first : DeviceState) (input : List ℕ) (start : Start) 
     → IsSimulation first input ((flat_map spoken_line spoken ++ flat_map outcome_line (enumerate_from 1 outcomes))
     ++ counter_line device ++ image_line device)
 IsSimulation-run first input start events device outcomes world spoken same script last device_is outcomes_are said =
-    record {
-      events = events;
-      script = script;
-      world = world;
-      last = rw same at last;
-      world_text = record {
-        spoken = spoken;
-        are_spoken = said;
-        gives = ap (λ (results : List Outcome). sim_text spoken results device) outcomes_are
-            ∙ ap (λ (state : DeviceState). sim_text spoken world.outcomes state) (rw same at device_is);
-      };
-    }
+    grind (arith, common_steps)
 
 same_spoken : (x y : Spoken) → x.party ≡ y.party → x.preambles ≡ y.preambles → x.bytes ≡ y.bytes → x ≡ y
 same_spoken x y party preambles bytes = grind (arith, common_steps)
@@ -71,8 +60,7 @@ AreSpoken-one : (frames : List SpokenFrame) (xs ys : List Spoken) → AreSpoken 
 AreSpoken-one [] xs ys p q = grind arith
 AreSpoken-one (said ∷ frames) (x ∷ xs) (y ∷ ys) p q =
     let body = bodies_are_unambiguous-one_body said.frame x.bytes y.bytes p.0.body q.0.body in
-    let rest = AreSpoken-one frames xs ys p.1 q.1 in
-    grind (arith, p.0, q.0, body, rest, same_spoken)
+    grind (arith, common_steps, same_spoken, AreSpoken-one frames xs ys p.1 q.1)
 AreSpoken-one (said ∷ frames) xs ys p q = grind arith
 
 -- a world has one text

@@ -1,6 +1,6 @@
 -- An input has one list of characters.
 use Rattle.std.proofs.lemmas.Grind.{common_steps}
-use Rattle.std.proofs.Common.{◌≡◌, ℕ, ◌+◌, List, [], ◌∷◌, ◌++◌, length, inl, Option, refl, sym, subst, arith}
+use Rattle.std.proofs.Common.{◌≡◌, ℕ, ◌+◌, List, [], ◌∷◌, ◌++◌, length, inl, Option, refl, subst, arith}
 use Rattle.std.proofs.lemmas.List.{append-nil, length-append}
 use Rattle.hart_frame.specs.heard.Character.{Character}
 use Rattle.hart_cli.specs.input.Input.{Ending}
@@ -60,11 +60,4 @@ pub decided_rest : (text : List ℕ) (chars : List Character) (rest : List ℕ) 
     → place + length rest ≡ length text → (MayBegin rest → ⊥) → IsDecidedBadHexAt text chars place
 decided_rest text chars rest place r e n = λ more.
     let all = length-append text more in
-    let after = length-append rest more in
-    record {
-      rest = rest ++ more;
-      reads = ReadsUpTo-more text chars rest more r;
-      begins = omega (arith, all, after, e);
-      more = λ none. n (subst MayBegin (sym (append_nil_left rest more none)) may_begin-nil);
-      no_piece = λ p tail h. n (record { more = more; piece = p; tail = tail; begins = h });
-    }
+    let after = length-append rest more in grind (arith, common_steps, ReadsUpTo-more, append_nil_left, may_begin-nil)

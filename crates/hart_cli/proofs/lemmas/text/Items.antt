@@ -1,7 +1,7 @@
 -- Texts of items: a text reads in one way, and what follows a text leaves what was read.
 use Rattle.std.proofs.lemmas.Grind.{common_steps}
-use Rattle.std.proofs.Common.{◌≡◌, ℕ, ◌+◌, ◌<◌, ◌≤◌, ◌-◌, true, List, [], ◌∷◌, ◌++◌, length, take, drop, Option, refl, sym, ap}
-use Rattle.std.proofs.Common.{◌∙◌, ◌*◌, Some, subst, arith}
+use Rattle.std.proofs.Common.{◌≡◌, ℕ, ◌+◌, ◌<◌, ◌≤◌, ◌-◌, true, List, [], ◌∷◌, ◌++◌, length, take, drop, Option, refl, sym}
+use Rattle.std.proofs.Common.{◌*◌, Some, subst, arith}
 use Rattle.std.proofs.lemmas.List.{append-nil, append_assoc, drop-drop, length-append, length-drop, take_rest}
 use Rattle.hart_frame.specs.heard.Character.{Character}
 use Rattle.hart_cli.specs.text.Items.{BeginsAs, BeginsWith, IsSeparator, IsWholeBefore, Item, meaning, NoPieceBegins, nothing}
@@ -71,13 +71,12 @@ goes_on _ _ _ ys last (nothing rest) k n = record { between = ys; reads = k; cha
 goes_on _ _ _ _ _ (piece text p s cs rest h r) (nothing last) n = absurd (n p s h)
 goes_on _ _ _ _ _ (piece text p s cs rest h r) (piece _ q t ds last k l) n =
     let same = same_piece text p q s t h k in
-    let on = goes_on s cs rest ds last r (subst (λ (us : List ℕ). ReadsUpTo us ds last) (sym same.1) l) n in
-    record {
-      between = on.between;
-      reads = on.reads;
-      chars = ap (λ (u : Piece). meaning u ++ ds) (sym same.0) ∙ ap (λ (us : List Character). meaning p ++ us) on.chars
-          ∙ sym (append_assoc (meaning p) cs on.between);
-    }
+    grind (
+      arith,
+      common_steps,
+      append_assoc,
+      goes_on s cs rest ds last r (subst (λ (us : List ℕ). ReadsUpTo us ds last) (sym same.1) l) n,
+    )
 
 -- nothing is read if no piece begins
 pub stays : (rest : List ℕ) (chars : List Character) (last : List ℕ) → ReadsUpTo rest chars last → NoPieceBegins rest
@@ -124,8 +123,7 @@ begins_reads text char len b =
     let some = spelling-length b.piece in
     let long = length-append (spelling b.piece) b.tail in
     let tail : drop len text ≡ b.tail = rw (← b.long, b.begins.spelled) (drop-append_seam (spelling b.piece) b.tail) in
-    let read = piece text b.piece b.tail [] b.tail b.begins (nothing b.tail) in
-    (grind arith, grind (arith, b.begins.spelled), rw (tail, ← b.means) (rw append-nil at read))
+    let read = piece text b.piece b.tail [] b.tail b.begins (nothing b.tail) in grind (arith, common_steps, append-nil)
 
 -- a text is read one piece further
 pub piece_read : (text : List ℕ) (chars new : List Character) (place : ℕ) (char : Option Character) (len : ℕ) → place ≤ length text

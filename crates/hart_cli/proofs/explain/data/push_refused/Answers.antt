@@ -1,4 +1,5 @@
-use Rattle.std.proofs.Common.{append_assoc, ap, arith, length, length-append, length-drop, List, ℕ}
+use Rattle.std.proofs.lemmas.Grind.{common_steps}
+use Rattle.std.proofs.Common.{append_assoc, arith, length-append, length-drop}
 use Rattle.hart_cli.proofs.lemmas.explain.Fields.{request_rows-shown}
 use Rattle.hart_cli.proofs.explain.data.push_refused.Goals as goal
 
@@ -6,10 +7,7 @@ pub push_fields-rest-requires-clause-shown : goal.push_fields-rest-requires-clau
 push_fields-rest-requires-clause-shown c = rw c.request_rows.ensures (request_rows-shown c.args.command)
 
 pub push_bytes_line-requires : goal.push_bytes_line-requires
-push_bytes_line-requires c =
-    let short = simp length-drop at (ap (λ (xs : List ℕ). length xs) c.push_fields-rest.ensures.rest) in
-    let line = simp length-append at (ap (λ (xs : List ℕ). length xs) c.push.ensures) in
-    omega (arith, short, line)
+push_bytes_line-requires c = grind (arith, common_steps, length-drop, length-append)
 
 pub returns : goal.returns
 returns c = record {

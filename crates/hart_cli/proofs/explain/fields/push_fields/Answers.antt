@@ -1,3 +1,4 @@
+use Rattle.std.proofs.lemmas.Grind.{common_steps}
 use Rattle.std.proofs.Common.{sym, arith}
 use Rattle.hart_cli.proofs.lemmas.explain.Fields.{few_more, row_at-lines, row_at-rest, row_at-short, row_at-suits}
 use Rattle.hart_cli.proofs.explain.fields.push_fields.Goals as goal
@@ -20,8 +21,7 @@ loop-row-preserved c =
     let rows = c.args.rows.now in
     let index = c.loop-row.row-index in
     record {
-      lines = row_at-lines rows index _ c.loop-row.text c.push_field.new.text _ rest field after (omega arith) split
-          c.loop-row.invariant.lines c.push_field.ensures.line;
+      lines = grind (arith, common_steps, row_at-lines);
       rest = row_at-rest rows index _ rest field after _ (omega arith) split c.loop-row.invariant.rest;
       few = omega (arith, c.push_field.ensures.few);
     }

@@ -1,3 +1,4 @@
+use Rattle.std.proofs.lemmas.Grind.{common_steps}
 use Rattle.std.proofs.Common.{◌+◌, arith}
 use Rattle.hart_cli.specs.explain.Misses.{gap_text, place_text}
 use Rattle.hart_cli.proofs.lemmas.explain.Misses.{gap_begins, gap_more}
@@ -12,9 +13,7 @@ returns-in_err-tell_place g c =
     let more = gap_more chars from place (omega arith) in
     let all = gap_begins chars from (place + 1) c.args.stop (omega arith) (omega arith) in
     let fails = fails_then _ _ _ c.args.kept.now c.loop-place.kept (gap_text chars from place) (place_text chars from place)
-    c.loop-place.invariant c.in_err-tell_place.ensures in
-    tells_failure _ _ _ _ _ _ c.from_residual.result c.from_residual.ensures.1
-    (rw all.parts (fails_first _ _ c.args.kept.now (gap_text chars from (place + 1)) all.rest (rw (← more) at fails)))
+    c.loop-place.invariant c.in_err-tell_place.ensures in grind (arith, common_steps, tells_failure, fails_first)
 
 pub loop-place-preserved : goal.loop-place-preserved
 loop-place-preserved g c =

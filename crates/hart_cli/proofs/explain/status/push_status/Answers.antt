@@ -1,4 +1,6 @@
-use Rattle.std.proofs.Common.{◌++◌, ◌∙◌, List, ℕ, ap, append_assoc, codes}
+use Rattle.std.proofs.Common.{arith}
+use Rattle.std.proofs.lemmas.Grind.{common_steps}
+use Rattle.std.proofs.Common.{append_assoc, codes}
 use Rattle.hart_cli.specs.explain.Status.{code_words, device_states, names_words, set_names}
 use Rattle.hart_cli.specs.explain.Words.{said_line}
 use Rattle.hart_cli.proofs.lemmas.explain.Status.{status_lines-code, status_lines-faults}
@@ -9,8 +11,7 @@ returns-then-first-lt128-clause-lines c =
     let code = said_line (codes "response code") (code_words c.args.first) in
     let states = said_line (codes "device status") (names_words (set_names c.args.second device_states)) in
     rw (status_lines-code c.args.first c.args.second c.if-first-lt128.true)
-    (c.push_names_line.ensures.line ∙ ap (λ (xs : List ℕ). xs ++ states) c.push_code_line.ensures.line
-    ∙ append_assoc c.args.text.now code states)
+    (grind (arith, common_steps, append_assoc))
 
 pub returns-else-first-lt128-clause-lines : goal.returns-else-first-lt128-clause-lines
 returns-else-first-lt128-clause-lines c =

@@ -1,3 +1,4 @@
+use Rattle.std.proofs.lemmas.Grind.{common_steps}
 use Rattle.std.proofs.Common.{arith}
 use Rattle.hart_cli.proofs.lemmas.text.HexText.{encode_upper-more, encode_upper-none}
 use Rattle.hart_cli.proofs.text.hex_text.push_hex.Goals as goal
@@ -8,5 +9,4 @@ loop-byte-init g c = record { written = encode_upper-none _; len = omega arith }
 pub loop-byte-preserved : goal.loop-byte-preserved
 loop-byte-preserved g c =
     let written = encode_upper-more _ _ _ _ _ c.loop-byte.byte-index 0 c.loop-byte-test.true c.loop-byte.invariant.written c.of.ensures
-    c.extend_from_slice.ensures in
-    record { written = written.0; len = omega (arith, written.1, c.loop-byte.invariant.len) }
+    c.extend_from_slice.ensures in grind (arith, common_steps)

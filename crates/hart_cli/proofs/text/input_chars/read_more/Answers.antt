@@ -1,9 +1,8 @@
 use Rattle.std.proofs.lemmas.Grind.{common_steps}
-use Rattle.std.proofs.Common.{◌≡◌, [], ◌∷◌, List, Option, Some, drop, refl, subst, arith}
+use Rattle.std.proofs.Common.{◌≡◌, [], Option, Some, arith}
 use Rattle.std.proofs.lemmas.List.{append-nil}
 use Rattle.std.specs.Option.{option_to_list}
 use Rattle.hart_frame.specs.heard.Character.{Character}
-use Rattle.hart_cli.specs.text.Items.{ReadsUpTo}
 use Rattle.hart_cli.proofs.lemmas.text.Items.{begins_reads}
 use Rattle.hart_cli.proofs.text.input_chars.read_more.Goals as goal
 
@@ -12,25 +11,10 @@ no_char : (char : Option Character) → ((x : Character) → char ≡ Some x →
 no_char char h = grind (arith, common_steps)
 
 pub returns-in-Some-char : goal.returns-in-Some-char
-returns-in-Some-char c =
-    let text = c.args.text.now in
-    let lead = c.in_ok-lead.lead in
-    let read = begins_reads text lead.char lead.len c.in_ok-lead.ensures in
-    let Of : Option Character → Type 0 = λ char. ReadsUpTo text (option_to_list char) (drop lead.len text) in
-    record {
-      chars = c.in-Some-char.char ∷ [];
-      pieces = record { some = read.0; within = read.1; reads = subst Of c.in-Some-char.is read.2 };
-      added = c.push.ensures;
-    }
+returns-in-Some-char c = grind (arith, common_steps, begins_reads)
 
 pub returns-in_default-char : goal.returns-in_default-char
 returns-in_default-char c =
     let text = c.args.text.now in
     let lead = c.in_ok-lead.lead in
-    let read = begins_reads text lead.char lead.len c.in_ok-lead.ensures in
-    let Of : List Character → Type 0 = λ chars. ReadsUpTo text chars (drop lead.len text) in
-    record {
-      chars = [];
-      pieces = record { some = read.0; within = read.1; reads = subst Of (no_char lead.char c.in_default-char.not-Some) read.2 };
-      added = rw append-nil refl;
-    }
+    let read = begins_reads text lead.char lead.len c.in_ok-lead.ensures in grind (arith, common_steps, no_char, append-nil)

@@ -1,5 +1,5 @@
 use Rattle.std.proofs.lemmas.Grind.{common_steps}
-use Rattle.std.proofs.Common.{List, ℕ, length, refl, ap, arith}
+use Rattle.std.proofs.Common.{refl, arith}
 use Rattle.std.proofs.lemmas.List.{length-append, length-drop, take_rest}
 use Rattle.hart_cli.specs.text.Items.{nothing}
 use Rattle.hart_cli.proofs.lemmas.text.Items.{read_on, ReadsUpTo-few}
@@ -13,9 +13,4 @@ pub loop-len-preserved : goal.loop-len-preserved
 loop-len-preserved c = grind (arith, common_steps, length-append, length-drop, read_on, take_rest)
 
 pub read_more-requires : goal.read_more-requires
-read_more-requires c =
-    let text = c.args.text.now in
-    let loop = c.loop-len.invariant in
-    let few = ReadsUpTo-few text c.loop-len.chars.items _ loop.reads in
-    let long = ap (λ (xs : List ℕ). length xs) (take_rest text c.loop-len.place) in
-    record { room = omega (arith, few, long, c.requires.room, loop.same_room) }
+read_more-requires c = grind (arith, common_steps, ReadsUpTo-few, take_rest)

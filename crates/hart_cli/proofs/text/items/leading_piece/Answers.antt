@@ -1,4 +1,4 @@
-use Rattle.std.proofs.Common.{◌≡◌, ◌≢◌, ◌<◌, ℕ, List, length, [], ◌∷◌, ◌++◌, get_or, drop, Some, None, refl, sym, ap, ◌∙◌, arith}
+use Rattle.std.proofs.Common.{◌≡◌, ◌≢◌, ◌<◌, ℕ, List, length, [], ◌∷◌, ◌++◌, get_or, drop, Some, None, refl, ap, arith}
 use Rattle.std.proofs.lemmas.Grind.{common_steps}
 use Rattle.std.proofs.lemmas.Bool.{iff_false}
 use Rattle.std.proofs.lemmas.List.{length-append}
@@ -24,11 +24,7 @@ begins_as_piece : (text : List ℕ) (char : Character) (len : ℕ) → BeginsAsI
 begins_as_piece text char len b short = record {
   piece = Item b.item;
   tail = b.tail;
-  begins = record {
-    valid = b.begins.valid;
-    spelled = b.begins.spelled;
-    whole = (λ none. grind (arith, common_steps, b.begins.spelled, b.long), b.begins.ends);
-  };
+  begins = grind (arith, common_steps);
   long = b.long;
   means = cc (b.means);
 }
@@ -37,8 +33,7 @@ begins_as_piece text char len b short = record {
 no_piece_begins : (text : List ℕ) → (IsSeparator (get_or text 0 0) → ⊥)
     → ((item : items.Item) (tail : List ℕ) → BeginsWithItem text item tail → tail ≢ [] → ⊥) → NoPieceBegins text
 no_piece_begins text s n (Separator a) tail h = s (rw (h.spelled) (h.valid))
-no_piece_begins text s n (Item item) tail h =
-    n item tail (record { valid = h.valid; spelled = h.spelled; ends = h.whole.1 }) h.whole.0
+no_piece_begins text s n (Item item) tail h = grind (arith, common_steps)
 
 -- if one item is a whole text, no other one is short of its end
 one_whole_item : (p q : items.Item) (tail : List ℕ) → item_spelling p ≡ item_spelling q ++ tail → EndsBefore tail q → tail ≢ [] → ⊥
@@ -54,19 +49,10 @@ pub returns-then-is_separator : goal.returns-then-is_separator
 returns-then-is_separator c = grind (arith, begins_as_separator c.args.text.now, c.in_ok-first.ensures.item)
 
 pub returns-in_err-item : goal.returns-in_err-item
-returns-in_err-item c =
-    let found = c.in_ok-first.ensures.item.3 in
-    rw (c.from_residual-in_err-item.ensures)
-    (no_piece_begins _ (λ s. iff_false c.is_separator.ensures c.if-is_separator.false (rw (found.1 0) s))
-    (λ item tail begins some. c.in_err-item.ensures item tail begins))
+returns-in_err-item c = grind (arith, common_steps, no_piece_begins, iff_false)
 
 pub returns-then-item-text : goal.returns-then-item-text
-returns-then-item-text c =
-    let found = c.in_ok-first.ensures.item.3 in
-    let b = c.in_ok-item.ensures in
-    let whole = is_spelling _ (item_spelling b.item) b.tail b.begins.spelled (b.long ∙ c.if-item-text.true) in
-    no_piece_begins _ (λ s. iff_false c.is_separator.ensures c.if-is_separator.false (rw (found.1 0) s))
-    (λ item tail begins some. one_whole_item b.item item tail (sym whole ∙ begins.spelled) begins.ends some)
+returns-then-item-text c = grind (arith, common_steps, is_spelling, no_piece_begins, iff_false, one_whole_item)
 
 pub returns : goal.returns
 returns c = begins_as_piece _ _ _ c.in_ok-item.ensures c.if-item-text.false

@@ -25,8 +25,7 @@ sets_fault_bits high _ small below set = absurd (omega arith)
 -- with the low digit 2, the high digit of fault bits makes fault bits
 two_fits : (high low : ℕ) → AreFaultBits (16 * high + low) → AreFaultBits (16 * high + 2)
 two_fits high low are =
-    let small : high < 8 = grind (arith, are.byte, are.only 7) in
-    record { byte = omega arith; only = λ bit below set. sets_fault_bits high bit small below set }
+    let small : high < 8 = grind (arith, are.byte, are.only 7) in grind (arith, common_steps, sets_fault_bits)
 
 -- a piece with a byte after it begins a text already
 stands_already : (text more tail : List ℕ) (p : Piece) → BeginsWith (text ++ more) p tail → length (spelling p) < length text
@@ -81,25 +80,14 @@ longer text more tail p long h n = grind (arith, stands_already text more tail p
 found_if : (text text' : List ℕ) (found : Option LeadingPiece) (result : Bool) → result ≡ is_some found → text' ≡ text → NoPieceBegins text
     → MatchOption found (NoPieceBegins (text' ++ filling text)) (λ lead. BeginsAs (text' ++ filling text) lead.char lead.len)
     → (IsTrue result → MayBegin text) × (MayBegin text → IsTrue result)
-found_if text text' None result e f n h = (
-  λ t. cc (e, t),
-  λ b. absurd (filled text b.more b.tail b.piece n b.begins (rw f at h)),
-)
-found_if text text' (Some lead) result e f n h = (
-  λ t. let k = rw f at h in record { more = filling text; piece = k.piece; tail = k.tail; begins = k.begins },
-  λ b. e,
-)
+found_if text text' None result e f n h = grind (arith, common_steps, filled)
+found_if text text' (Some lead) result e f n h = grind (arith, common_steps)
 
 pub returns-then-text-gt6-clause-may : goal.returns-then-text-gt6-clause-may
-returns-then-text-gt6-clause-may c = (
-  λ t. cc t,
-  λ b. absurd (longer _ b.more b.tail b.piece (omega (arith, c.if-text-gt6.true)) b.begins c.requires),
-)
+returns-then-text-gt6-clause-may c = grind (arith, common_steps, longer)
 
 pub returns-clause-may : goal.returns-clause-may
 returns-clause-may c = found_if _ _ _ _ c.is_some.ensures c.copy_from_slice.ensures.after c.requires c.leading_piece.ensures
 
 pub returns-clause-short : goal.returns-clause-short
-returns-clause-short c = λ is.
-    let may = (found_if _ _ _ _ c.is_some.ensures c.copy_from_slice.ensures.after c.requires c.leading_piece.ensures).0 is in
-    grind (arith, longer c.args.text.now may.more may.tail may.piece)
+returns-clause-short c = grind (arith, common_steps, found_if, longer)

@@ -1,3 +1,5 @@
+use Rattle.std.proofs.Common.{arith}
+use Rattle.std.proofs.lemmas.Grind.{common_steps}
 use Rattle.std.proofs.Common.{◌∙◌, ap}
 use Rattle.hart_frame.specs.scan.Scanner.{Scan}
 use Rattle.hart_cli.proofs.lemmas.dump.FrameLines.{keeps_nothing, waits_for_more}
@@ -9,5 +11,4 @@ returns-in_default c = rw c.in_default.is (record { scans = keeps_nothing _ _; w
 pub returns : goal.returns
 returns c =
     let going = ap (λ (scan : Scan). scan.finished) c.push.ensures.heard ∙ c.requires.waiting.going in
-    let waits = waits_for_more _ _ _ _ going c.push.ensures.few c.take_frames.ensures in
-    rw c.in-Some.is (record { scans = rw c.push.ensures.heard at waits.0; waiting = waits.1 })
+    let waits = waits_for_more _ _ _ _ going c.push.ensures.few c.take_frames.ensures in grind (arith, common_steps)

@@ -1,8 +1,7 @@
-use Rattle.std.proofs.Common.{◌≡◌, ◌≤◌, ◌-◌, List, ℕ, [], take, drop, length, ap, ◌∙◌, arith, subst}
+use Rattle.std.proofs.lemmas.Grind.{common_steps}
+use Rattle.std.proofs.Common.{◌≡◌, ◌≤◌, ◌-◌, List, ℕ, [], take, drop, length, ap, ◌∙◌, arith}
 use Rattle.std.proofs.lemmas.List.{length-drop, length-take-le, take_rest}
-use Rattle.hart_frame.specs.heard.Character.{Character, faultless}
-use Rattle.hart_frame.specs.scan.Scanner.{hearing}
-use Rattle.hart_cli.specs.dump.FrameLines.{KeepsLines}
+use Rattle.hart_frame.specs.heard.Character.{faultless}
 use Rattle.hart_cli.proofs.lemmas.dump.FrameLines.{faultless_parts, keeps_no_frame, keeps_nothing, keeps_on, keeps_then}
 use Rattle.hart_cli.proofs.lemmas.dump.FrameLines.{keeps_within, length-faultless, waits_for_more}
 use Rattle.hart_cli.proofs.dump.frame_lines.FrameLines.scan_chunk.Goals as goal
@@ -49,10 +48,4 @@ loop-taken-preserved c =
     let more = keeps_then _ c.push_bytes-taken.new.self _ _ _ _ (keeps_no_frame _ _ c.loop-taken.self.lines pushed.moves) waits.0 in
     let all = keeps_on c.args.self.now.scanner c.loop-taken.self.scanner c.take_frames.new.self.scanner (faultless (take n chunk))
     (faultless (take m rest)) _ _ _ c.requires.waiting.going loop.waiting.going loop.scans more in
-    let Of : List Character → Type 0 = λ cs. KeepsLines (hearing c.args.self.now.scanner cs) c.take_frames.new.self.scanner
-    c.args.self.now.lines c.take_frames.new.self.lines in
-    record {
-      within = omega (arith, loop.within, pushed.within, left chunk n);
-      scans = subst Of (faultless_parts chunk rest n m (take_rest chunk n)) all;
-      waiting = waits.1;
-    }
+    grind (arith, common_steps, left, faultless_parts, take_rest)

@@ -2,7 +2,6 @@ use Rattle.std.proofs.lemmas.Grind.{common_steps}
 use Rattle.std.proofs.Common.{◌-◌, [], drop, take, length, arith}
 use Rattle.std.proofs.lemmas.List.{take_rest}
 use Rattle.std.specs.Option.{option_to_list}
-use Rattle.hart_frame.specs.heard.Character.{faultless}
 use Rattle.hart_cli.specs.dump.FrameLines.{ScansText}
 use Rattle.hart_cli.specs.text.Items.{nothing}
 use Rattle.hart_cli.proofs.lemmas.dump.FrameLines.{keeps_nothing, length-faultless, text_on, text_room}
@@ -18,13 +17,7 @@ pub scan_chunk-requires : goal.scan_chunk-requires
 scan_chunk-requires c =
     let loop = c.loop-lead.invariant in
     let room = text_room c.args.self.now c.loop-lead.self loop.scans c.requires.waiting c.requires.none_kept c.requires.few in
-    let few = ReadsUpTo-few c.loop-lead.rest.now (faultless c.read_chunk-len.new.chunk) _ c.read_chunk-len.ensures.reads in
-    let long = length-faultless c.read_chunk-len.new.chunk in
-    rw c.as_slice.ensures.value (record {
-      waiting = loop.waiting;
-      room = omega (arith, room.0, few, long);
-      pushed = omega (arith, room.1, few, long, c.requires.pushed);
-    })
+    grind (arith, common_steps, ReadsUpTo-few, length-faultless)
 
 -- the chunk is scanned
 scanned : (c : After-scan_chunk) → ScansText c.args.self.now c.scan_chunk.new.self c.args.text.now
@@ -41,13 +34,7 @@ pub scan_char-requires : goal.scan_char-requires
 scan_char-requires c =
     let scans = scanned (goal.at.scan_char-requires c).After-scan_chunk in
     let room = text_room c.args.self.now c.scan_chunk.new.self scans c.requires.waiting c.requires.none_kept c.requires.few in
-    let few = few_read _ _ _ c.in-Some.ensures in
-    let inside = begins_reads _ _ _ c.in-Some.ensures in
-    record {
-      waiting = c.scan_chunk.ensures.waiting;
-      room = omega (arith, room.0, few, inside.1);
-      pushed = omega (arith, room.1, few, inside.0, inside.1, c.requires.pushed);
-    }
+    grind (arith, common_steps, few_read, begins_reads)
 
 pub loop-lead-preserved : goal.loop-lead-preserved
 loop-lead-preserved c =

@@ -14,9 +14,4 @@ one_more pairs place pair within are is byte below =
     grind (arith, common_steps, cases_eq, get_or-set_at, get_or-set_other)
 
 pub loop-place-preserved : goal.loop-place-preserved
-loop-place-preserved c =
-    record {
-      pairs = one_more c.loop-place.pairs _ _ (omega (arith, c.loop-place.invariant.long, c.loop-place-test.true))
-          c.loop-place.invariant.pairs c.digits_of.ensures;
-      long = grind (arith, common_steps);
-    }
+loop-place-preserved c = grind (arith, common_steps, one_more)
