@@ -1,7 +1,7 @@
 -- The answer to an input, of which there is one at most.
 use Rattle.std.proofs.Common.{arith}
 use Rattle.std.proofs.lemmas.Grind.{common_steps}
-use Rattle.std.proofs.Common.{◌≡◌, ℕ, List, Option, None, Result, Err, subst}
+use Rattle.std.proofs.Common.{◌≡◌, ℕ, List, Option, None, Result, Err}
 use Rattle.std.specs.Result.{IsErrAnd}
 use Rattle.hart_frame.specs.heard.Character.{Character}
 use Rattle.hart_frame.specs.wire.FrameParts.{FrameParts}
@@ -27,9 +27,8 @@ IsAnswerText-one device answer xs ys h k = grind (arith, common_steps, IsMessage
 IsTextFor-one : (device : DeviceState) (delivery : List Character) (xs ys : List ℕ)
     → IsTextFor device delivery xs → IsTextFor device delivery ys → xs ≡ ys
 IsTextFor-one device delivery xs ys p q =
-    let P : Brought → Type 0 = λ brought. IsAnswerText device (answer_to device bench_process brought) xs in
     let same = deliveries_bring_one-one device.identity delivery p.brought q.brought p.brings q.brings in
-    IsAnswerText-one device _ xs ys (subst P same p.answered) q.answered
+    IsAnswerText-one device _ xs ys (rw same at p.answered) q.answered
 
 -- what a device answers has its text
 pub IsTextFor-heard : (delivery : List Character) (brought : Brought) (device : DeviceState) (process : Process)
@@ -43,8 +42,7 @@ pub IsAnswer-one : (device : DeviceState) (input xs ys : List ℕ) → IsAnswer 
 IsAnswer-one device input xs ys p q =
     let one = HasChars.all p.delivery p.reads in
     let same = (one_input input (CameTo Ended) p.delivery q.delivery None None one (HasChars.all q.delivery q.reads)).0 in
-    let P : List Character → Type 0 = λ delivery. IsTextFor device delivery xs in
-    IsTextFor-one device q.delivery xs ys (subst P same p.text_for) q.text_for
+    IsTextFor-one device q.delivery xs ys (rw same at p.text_for) q.text_for
 
 -- a fault that is made of its cause alone
 pub made_of : {T : Type 0} (result : Result T CliFault) (cause : CliFault) → IsErrAnd result (λ fault. fault ≡ cause) → result ≡ Err cause

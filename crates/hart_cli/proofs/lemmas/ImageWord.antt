@@ -1,6 +1,6 @@
 -- The device of a call, and the fault of its image, are one.
 use Rattle.std.proofs.lemmas.Grind.{common_steps}
-use Rattle.std.proofs.Common.{◌≡◌, ◌≢◌, ℕ, ◌+◌, ◌<◌, true, List, length, take, slice_index, Option, Some, None, subst, sym}
+use Rattle.std.proofs.Common.{◌≡◌, ℕ, ◌+◌, ◌<◌, true, List, length, take, slice_index, Option, Some, None, subst, sym}
 use Rattle.std.proofs.Common.{◌∙◌, inl, inr, arith, refl, false, ◌/◌, ◌%◌, Result, Ok, Err}
 use Rattle.std.specs.Prelude.{MatchResult}
 use Rattle.std.specs.List.{AllPass}
@@ -10,7 +10,7 @@ use Rattle.std.proofs.lemmas.Bool.{cases_eq, cases_order}
 use Rattle.hex.specs.Hex.{decode_of, decode_sized, is_hex_digit}
 use Rattle.hex.specs.declared.error.FromHexError.{FromHexError}
 use Rattle.hex.specs.declared.error.FromHexError.TheVariants.{InvalidHexCharacter, OddLength}
-use Rattle.hex.proofs.HexLemmas.{decode_of-err, decode_of-even, decode_of-odd, decode_of-ok, decode_of-same}
+use Rattle.hex.proofs.HexLemmas.{decode_of-even, decode_of-odd, decode_of-ok, decode_of-same}
 use Rattle.hex.proofs.HexLemmas.{decode_pairs-err, decode_sized-odd, decode_sized-twice}
 use Rattle.hart_device.specs.Device.{DeviceState}
 use Rattle.hart_device.specs.image.Image.{IsImageOf, IsImageFault}
@@ -77,7 +77,7 @@ bad_at word e k given even below none digits =
     let at = subst (λ n. IsBadHexWord word n) (sym same) (IsBadHexWord.no_digit k even below none digits) in grind (arith, common_steps)
 
 -- a word that does not decode is bad hex
-bad_hex : (word : List ℕ) (e : FromHexError) → decode_of word ≡ Err e → IsBadHexWord word (place_of word e)
+pub bad_hex : (word : List ℕ) (e : FromHexError) → decode_of word ≡ Err e → IsBadHexWord word (place_of word e)
 bad_hex word e refused =
     elim (cases_eq (length word % 2) 1) [
       | inl odd ↦
@@ -87,22 +87,10 @@ bad_hex word e refused =
       | inr even ↦ grind (arith, common_steps, decode_pairs-err, decode_of-even, bad_at)
     ]
 
--- what decoding into that room answers
-refused_is : (decoded : Result (List ℕ) FromHexError) (r : Result Unit FromHexError) (out : List ℕ) (e : FromHexError)
-    → MatchResult decoded (λ bytes. (r ≡ Ok tt) × (out ≡ bytes)) (λ f. r ≡ Err f) → r ≡ Err e → decoded ≡ Err e
-refused_is decoded r out e h k = grind (arith, common_steps)
-
--- so is a word whose decoding into that room fails
-pub bad_hex_given : (word : List ℕ) (room : ℕ) (r : Result Unit FromHexError) (out : List ℕ) (e : FromHexError) → room ≡ length word / 2
-    → MatchResult (decode_sized word room) (λ bytes. (r ≡ Ok tt) × (out ≡ bytes)) (λ f. r ≡ Err f) → r ≡ Err e
-    → IsBadHexWord word (place_of word e)
-bad_hex_given word room r out e half given is = grind (arith, common_steps, bad_hex, half_sized, refused_is)
-
--- and decoding into that room fails in these two ways alone
-pub fails_no_other_way : (word : List ℕ) (room : ℕ) (r : Result Unit FromHexError) (out : List ℕ) (e : FromHexError)
-    → room ≡ length word / 2 → MatchResult (decode_sized word room) (λ bytes. (r ≡ Ok tt) × (out ≡ bytes)) (λ f. r ≡ Err f) → r ≡ Err e
-    → e ≢ OddLength → ((c index : ℕ) → e ≢ InvalidHexCharacter c index) → ⊥
-fails_no_other_way word room r out e half given is even digits = grind (arith, common_steps, decode_of-err, half_sized, refused_is)
+-- what fails to decode into that room does not decode
+pub decoded_err : (word : List ℕ) (room : ℕ) (r : Result Unit FromHexError) (out : List ℕ) (e : FromHexError) → room ≡ length word / 2
+    → MatchResult (decode_sized word room) (λ bytes. (r ≡ Ok tt) × (out ≡ bytes)) (λ f. r ≡ Err f) → r ≡ Err e → decode_of word ≡ Err e
+decoded_err word room r out e half given is = grind (arith, common_steps, half_sized)
 
 -- an image has one fault
 pub HasImageFault-one : OneImageFault → (image : Option (List ℕ)) (fault other : CliFault) → HasImageFault image fault
@@ -116,5 +104,4 @@ IsDeviceOf-faultless (Some word) device (BadHex place) p q = bad_is_no_word word
 IsDeviceOf-faultless (Some word) device (Image fault) p q =
     let same = decode_of-same word p.2 q.0 p.3 q.1 in
     images_have_no_fault device q.0 fault (subst (λ (image : List ℕ). IsImageOf device image) same p.4) q.2
-IsDeviceOf-faultless (Some word) device _ p q = absurd q
-IsDeviceOf-faultless None device fault p q = absurd q
+IsDeviceOf-faultless _ device _ p q = absurd q

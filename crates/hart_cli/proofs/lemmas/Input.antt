@@ -1,6 +1,6 @@
 -- One read after another.
 use Rattle.std.proofs.lemmas.Grind.{common_steps}
-use Rattle.std.proofs.Common.{◌≡◌, ◌≢◌, ◌≤◌, ◌<◌, ◌+◌, ℕ, List, [], ◌++◌, length, None, Some, ◌∙◌}
+use Rattle.std.proofs.Common.{◌≡◌, ◌≤◌, ◌<◌, ◌+◌, ℕ, List, ◌++◌, length, None, Some, ◌∙◌}
 use Rattle.std.proofs.Common.{arith, append_assoc}
 use Rattle.std.proofs.Common.{length-append}
 use Rattle.std.proofs.KnownBytes.{Consumes-trans}
@@ -12,15 +12,11 @@ use Rattle.hart_cli.specs.stream.Stream.{Stream}
 ReadsWell-on : (a b c : Stream) (xs ys : List ℕ) → ReadsWell a b xs → ReadsWell b c ys → ReadsWell a c (xs ++ ys)
 ReadsWell-on a b c xs ys h k = (Consumes-trans a.bytes b.bytes c.bytes xs ys h.0 k.0, k.1 ∙ h.1)
 
--- some bytes have a length
-some_length : (xs : List ℕ) → xs ≢ [] → 0 < length xs
-some_length xs h = grind (arith, common_steps)
-
 -- one read more, after which more may follow
 pub portion_more : (a b c : Stream) (text bytes : List ℕ) (room : ℕ) → ReadsWell a b text → length text + room ≡ input_limit
     → ReadsPortion b c bytes room None
     → ReadsWell a c (text ++ bytes) × (length (text ++ bytes) ≤ input_limit) × (length text < length (text ++ bytes))
-portion_more a b c text bytes room h full k = grind (arith, common_steps, ReadsWell-on, length-append, some_length)
+portion_more a b c text bytes room h full k = grind (arith, common_steps, ReadsWell-on, length-append)
 
 -- one read more, with which the input came to its end
 pub portion_last : (a b c : Stream) (text bytes : List ℕ) (room : ℕ) (end : InputEnd) → ReadsWell a b text

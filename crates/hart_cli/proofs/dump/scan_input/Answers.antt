@@ -1,10 +1,11 @@
 use Rattle.std.proofs.lemmas.Grind.{common_steps}
 use Rattle.std.proofs.Common.{◌≡◌, ◌+◌, ◌-◌, [], length, refl, ◌∙◌, arith}
+use Rattle.std.proofs.lemmas.Result.{err_from_is_err_and}
 use Rattle.hart_frame.specs.scan.Scanner.{new_scan}
 use Rattle.hart_cli.proofs.lemmas.text.InputChars.{may_begin-nil}
 use Rattle.hart_cli.proofs.lemmas.text.Items.{ReadsUpTo-few}
 use Rattle.hart_cli.proofs.lemmas.dump.FrameLines.{keeps_within}
-use Rattle.hart_cli.proofs.lemmas.dump.ScanInput.{ScannedUpTo, goes_on, input_stops, nothing_scanned, scanned_step, scans_all}
+use Rattle.hart_cli.proofs.lemmas.dump.ScanInput.{ScannedUpTo, goes_on, nothing_scanned, scanned_step, scans_all}
 use Rattle.hart_cli.proofs.lemmas.dump.ScanInput.{stopped_writing, written}
 use Rattle.hart_cli.proofs.dump.scan_input.Given.{Over}
 use Rattle.hart_cli.proofs.dump.scan_input.Goals.{After-scan_text-rest}
@@ -33,7 +34,7 @@ scanned g c =
 
 pub returns-in_err-write_all : goal.returns-in_err-write_all
 returns-in_err-write_all g c =
-    input_stops _ _ _ _ _ c.from_residual.result _ c.from_residual.ensures.1
+    rw (err_from_is_err_and c.from_residual.result c.from_residual.ensures.1).1
     (stopped_writing _ (scanned g (goal.at.returns-in_err-write_all g c).After-scan_text-rest)
     (rw c.as_slice-in-loop-frames.ensures.value at c.in_err-write_all.ensures))
 

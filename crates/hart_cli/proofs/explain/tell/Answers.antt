@@ -1,6 +1,7 @@
 use Rattle.std.proofs.Common.{[], ◌++◌, arith, length}
+use Rattle.std.proofs.lemmas.Result.{err_from_is_err_and}
 use Rattle.hart_cli.specs.explain.Misses.{gap_text}
-use Rattle.hart_cli.proofs.lemmas.explain.Explain.{end_stops, goes_on_to_end, message_stops, said_message, said_nothing, tells_stopped}
+use Rattle.hart_cli.proofs.lemmas.explain.Explain.{end_stops, goes_on_to_end, message_stops, said_message, said_nothing}
 use Rattle.hart_cli.proofs.lemmas.explain.Told.{adds_then, writes_kept}
 use Rattle.hart_cli.proofs.explain.tell.Goals as goal
 
@@ -9,7 +10,7 @@ loop-found-init g c = record { said = rw c.new-kept.ensures (said_nothing _ c.ar
 
 pub returns-in_err-tell_message : goal.returns-in_err-tell_message
 returns-in_err-tell_message g c =
-    tells_stopped _ _ _ _ c.from_residual.result c.from_residual.ensures.1
+    rw (err_from_is_err_and c.from_residual.result c.from_residual.ensures.1).1
     (message_stops c.in-Some.found c.loop-found.invariant.said c.in-Some.ensures.first c.in_err-tell_message.ensures)
 
 pub loop-found-preserved : goal.loop-found-preserved
@@ -20,7 +21,7 @@ loop-found-preserved g c = record {
 
 pub returns-in_err-tell_gap : goal.returns-in_err-tell_gap
 returns-in_err-tell_gap g c =
-    tells_stopped _ _ _ _ c.from_residual-in_err-tell_gap.result c.from_residual-in_err-tell_gap.ensures.1
+    rw (err_from_is_err_and c.from_residual-in_err-tell_gap.result c.from_residual-in_err-tell_gap.ensures.1).1
     (end_stops c.loop-found.invariant.said c.in_default.ensures.first c.in_err-tell_gap.ensures)
 
 pub returns : goal.returns

@@ -63,6 +63,4 @@ pub ends_with : (r r' w w' : Stream) (input : List ℕ) (ending : Ending) (chars
     → HasChars input ending chars (Some fault) → (lines : List ℕ) × HasDump r r' (Some fault) lines × WritesAll w w' lines
     → DumpOutcome r r' w w' (Err fault)
 ends_with r r' w w' input _ _ _ (HasChars.bad_hex _ place bad) dump = dump
-ends_with r r' w w' input _ _ _ (HasChars.decided_bad_hex _ place bad) dump = dump
-ends_with r r' w w' input _ _ _ (HasChars.failure _ reads) dump = dump
-ends_with r r' w w' input _ _ _ (HasChars.limit _ reads) dump = dump
+ends_with r r' w w' input _ _ _ _ dump = dump

@@ -1,10 +1,11 @@
 -- The lines that are kept while characters are scanned.
 use Rattle.std.proofs.lemmas.Grind.{common_steps}
-use Rattle.std.proofs.Common.{◌≡◌, ◌≤◌, ◌+◌, ◌*◌, ℕ, List, [], ◌++◌, false, true, length}
-use Rattle.std.proofs.Common.{sym, ap, ◌∙◌, append_assoc, arith, length-append, drop, take, take-take}
-use Rattle.std.proofs.lemmas.List.{append-nil, drop-take, length-map, map-append, take-append-drop}
+use Rattle.std.proofs.Common.{◌≡◌, ◌≤◌, ◌+◌, ◌*◌, ℕ, List, [], ◌++◌, false, length}
+use Rattle.std.proofs.Common.{sym, ap, ◌∙◌, append_assoc, arith, length-append, drop, take}
+use Rattle.std.proofs.Math.Seq.{take-add}
+use Rattle.std.proofs.lemmas.List.{append-nil, length-map, map-append}
 use Rattle.hart_frame.specs.heard.Character.{Character, faultless}
-use Rattle.hart_frame.specs.scan.Scanner.{Ends, GivesNothing, MovesPast, Scan, Waits, finishing, hearing, new_scan}
+use Rattle.hart_frame.specs.scan.Scanner.{MovesPast, Scan, Waits, finishing, hearing, new_scan}
 use Rattle.hart_frame.specs.declared.heard.found.Found.{Found}
 use Rattle.hart_cli.specs.declared.dump.frame_lines.FrameLines.{FrameLines}
 use Rattle.hart_cli.specs.dump.Dump.{AreFrameLines, most_ahead}
@@ -77,13 +78,10 @@ keeps_after a b before p q keeps = grind (arith, common_steps, append_assoc, len
 pub waits_for_more : (old new : Scan) (p q : List ℕ) → old.finished ≡ false → length old.held ≤ 269 → GivesAll old new p q
     → KeepsLines old new p q × IsWaiting new
 waits_for_more old new p q going few all =
-    let waits = waits_of all.last new (all.same_finish ∙ going) all.nothing in
+    let waits : Waits all.last new = grind (arith, all.same_finish, all.nothing) in
     let first = moves_on old all.last all.keeps.given all.keeps.moves in
     let then = moves_on all.last new [] waits.moves in
     let moves = moves_then old all.last new all.keeps.given [] all.keeps.moves waits.moves in grind (arith, common_steps, append-nil)
-  where
-    waits_of : (old new : Scan) → old.finished ≡ false → GivesNothing old new → Waits old new
-    waits_of old new going gives = grind arith
 
 -- once a scanner that was new has ended, the lines that were kept of it are all
 pub all_lines : (chars : List Character) (scan new : Scan) (text rest : List ℕ) → KeepsLines (hearing new_scan chars) scan [] text
@@ -91,37 +89,23 @@ pub all_lines : (chars : List Character) (scan new : Scan) (text rest : List ℕ
 all_lines chars scan new text rest keeps all = record {
   frames = keeps.given ++ (all.keeps.given ++ []);
   are_frames = all_frames chars scan all.last new keeps.given all.keeps.given keeps.moves all.keeps.moves
-      (ends_of all.last new all.same_finish all.nothing);
+      (grind (arith, all.same_finish, all.nothing));
   text = grind (arith, keeps.lines, all.keeps.lines, append-nil, dump_text-append);
 }
-  where
-    ends_of : (old new : Scan) → old.finished ≡ true → GivesNothing old new → Ends old new
-    ends_of old new finished gives = grind arith
 
 -- a prefix of the lines that were kept is one of all lines
 pub stopped_lines : (chars : List Character) (scan : Scan) (text : List ℕ) (old new : Stream)
     → KeepsLines (hearing new_scan chars) scan [] text → FailsToWrite old new text
     → (lines : List ℕ) × AreFrameLines chars lines × FailsToWrite old new lines
 stopped_lines chars scan text old new keeps fails =
-    let all = some_frames chars scan keeps.given keeps.moves in (
-      text ++ dump_text all.0,
-      record {
-        frames = keeps.given ++ all.0;
-        are_frames = all.1;
-        text = ap (λ (xs : List ℕ). xs ++ dump_text all.0) keeps.lines ∙ sym (dump_text-append keeps.given all.0);
-      },
-      FailsToWrite-longer old new text (dump_text all.0) fails,
-    )
+    let all = some_frames chars scan keeps.given keeps.moves in
+    (text ++ dump_text all.0, grind (arith, keeps.lines, dump_text-append), FailsToWrite-longer old new text (dump_text all.0) fails)
 
 -- bytes are as many characters
 pub length-faultless : (bytes : List ℕ) → length (faultless bytes) ≡ length bytes
 length-faultless bytes = length-map bytes _
 
--- what is taken at once is what is taken in two parts
-take_parts : (n m : ℕ) (xs : List ℕ) → take n xs ++ take m (drop n xs) ≡ take (n + m) xs
-take_parts n m xs = grind (arith, take-append-drop n (take (n + m) xs), take-take n (n + m) xs, drop-take n m xs)
-
 -- the faultless characters of two parts of a chunk
 pub faultless_parts : (chunk rest : List ℕ) (n m : ℕ) → rest ≡ drop n chunk
     → faultless (take n chunk) ++ faultless (take m rest) ≡ faultless (take (n + m) chunk)
-faultless_parts chunk rest n m is = rw (is, ← take_parts n m chunk) (sym (map-append _ (take n chunk) (take m (drop n chunk))))
+faultless_parts chunk rest n m is = rw (is, take-add n m chunk) (sym (map-append _ (take n chunk) (take m (drop n chunk))))

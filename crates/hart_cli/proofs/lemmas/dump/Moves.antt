@@ -132,7 +132,7 @@ are_decided chars scan given moves undecided = grind (arith, common_steps, appen
 pub some_frames : (chars : List Character) (scan : Scan) (given : List Found) → MovesPast (hearing new_scan chars) scan given
     → (later : List Found) × AreFrames chars 0 (given ++ later)
 some_frames chars scan given moves =
-    let later = every_list_has_frames (chars ++ []) scan.first in grind (arith, common_steps, first_frames, append-nil)
+    grind (arith, common_steps, first_frames, append-nil, every_list_has_frames (chars ++ []) scan.first)
 
 -- with those that it moved past after the finish, until it ended, they are all frames
 pub all_frames : (chars : List Character) (scan last after : Scan) (given more : List Found) → MovesPast (hearing new_scan chars) scan given

@@ -60,10 +60,6 @@ read_more : (a b c : Stream) (text bytes : List ℕ) (room : ℕ) (end : Option 
     → length text + room ≡ input_limit → ReadsPortion b c bytes room end → ReadsSoFar a c (text ++ bytes) end
 read_more a b c text bytes room end h k e = grind (arith, common_steps, portion_last, portion_more)
 
--- an input that gave this text so far was read to here
-reads_to : (a c : Stream) (text : List ℕ) (end : Option InputEnd) → ReadsSoFar a c text end → ReadsTo a c text (ending_of end)
-reads_to a c text end h = grind (arith, common_steps)
-
 -- after a failed read what was open is still open
 open_after_failure : (a b : Stream) (ahead bytes : List ℕ) (more : List Character) (rest : List ℕ) (room : ℕ) (end : Option InputEnd)
     → ReadsPortion a b bytes room end → NoPieceBegins ahead → MayBegin ahead
@@ -166,7 +162,6 @@ pub written : {r r2 w w1 : Stream} {frames : FrameLines} {end : Option InputEnd}
     → ScannedUpTo r r2 w w1 frames end rest place → WritesAll w1 w2 frames.lines
     → ScannedUpTo r r2 w w2 (record frames { lines = [] }) end rest place
 written {w = w} {w1 = w1} {frames = frames} w2 scanned on =
-    let Of : List ℕ → Type 0 = λ text. KeepsLines (hearing new_scan scanned.chars) frames.scanner [] text in
     record {
       input = scanned.input;
       chars = scanned.chars;
@@ -177,7 +172,7 @@ written {w = w} {w1 = w1} {frames = frames} w2 scanned on =
       no_piece = scanned.no_piece;
       few = scanned.few;
       still_open = scanned.still_open;
-      scans = subst Of (sym (append-nil (scanned.text ++ frames.lines))) scanned.scans;
+      scans = rw append-nil scanned.scans;
       waiting = scanned.waiting;
       wrote = WritesAll-on w w1 w2 scanned.text frames.lines scanned.wrote on;
       in_time = in_time_on scanned.input w w1 w2 frames.lines scanned.in_time on.0;
@@ -190,19 +185,14 @@ pub stops_in : {r r2 w w1 : Stream} (w2 : Stream) (input : List ℕ) (ending : E
 stops_in {w = w} {w1 = w1} w2 input ending chars lines last reads scanned are in_time fails last_fails =
     grind (arith, in_time_on)
 
--- the characters of what was read so far can be those scanned
-are_scanned : {r r2 w w1 : Stream} {frames : FrameLines} {end : Option InputEnd} {rest : List ℕ} {place : ℕ}
-    (scanned : ScannedUpTo r r2 w w1 frames end rest place) → AreScanned scanned.input (ending_of end) scanned.chars
-are_scanned {rest = rest} scanned = record { rest = rest; reads = scanned.reads; few = scanned.few }
-
 -- a write failed in the lines that were kept
 pub stopped_writing : {r r2 w w1 : Stream} {frames : FrameLines} {end : Option InputEnd} {rest : List ℕ} {place : ℕ} (w2 : Stream)
     → ScannedUpTo r r2 w w1 frames end rest place → FailsToWrite w1 w2 frames.lines → StopsWriting r r2 w w2
 stopped_writing {r = r} {r2 = r2} {w = w} {w1 = w1} {frames = frames} {end = end} w2 scanned fails =
     let all = stopped_lines scanned.chars frames.scanner (scanned.text ++ frames.lines) w w2 scanned.scans
     (FailsToWrite-on w w1 w2 scanned.text frames.lines scanned.wrote fails) in
-    stops_in w2 scanned.input (ending_of end) scanned.chars all.0 frames.lines (reads_to r r2 scanned.input end scanned.read)
-    (are_scanned scanned) all.1 scanned.in_time all.2 fails
+    stops_in w2 scanned.input (ending_of end) scanned.chars all.0 frames.lines (grind (arith, common_steps))
+    (record { rest = _; reads = scanned.reads; few = scanned.few }) all.1 scanned.in_time all.2 fails
 
 -- an input that is read no further was scanned with its fault, or none
 scanned_to : {r r2 w w1 : Stream} {frames : FrameLines} {end : Option InputEnd} {rest : List ℕ} {place : ℕ} {fault : Option CliFault}
@@ -242,8 +232,3 @@ scans_all (Some TooLong) rest place fault scanned none (inr (never, is)) =
 pub goes_on : (end : Option InputEnd) (rest : List ℕ) (place : ℕ) → IsNextStep end rest place ReadOn
     → (end ≡ None) × MayBegin rest
 goes_on end rest place h = grind (arith, common_steps)
-
--- a call that answers that a write failed
-pub input_stops : (r r2 w w2 : Stream) (frames : FrameLines) (result : Result (Option CliFault) stream.Failed) (P : stream.Failed → Type 0)
-    → IsErrAnd result P → StopsWriting r r2 w w2 → ScansInput r r2 w w2 frames result
-input_stops r r2 w w2 frames result P h k = grind (arith, common_steps)

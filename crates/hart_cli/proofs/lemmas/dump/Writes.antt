@@ -28,7 +28,6 @@ FailsToWrite-longer old new text more fails = grind (arith, common_steps, append
 pub in_time_on : (input : List ℕ) (w now later : Stream) (text : List ℕ) → WroteInTime input w now
     → Appends now.bytes later.bytes text → WroteInTime input w later
 in_time_on input w now later text before on =
-    let Of : List ℕ → Type 0 = λ xs. Appends w.bytes later.bytes xs in
     record {
       before = before.before;
       last = before.last;

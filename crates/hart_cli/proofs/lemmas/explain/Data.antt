@@ -20,9 +20,8 @@ request_lines-read command bytes reading is = ap (λ (r : Reading). read_lines c
 -- fewer than two bytes are no payload of a reply
 pub reply_lines-none : (command : ℕ) (payload : List ℕ) → length payload < 2 → reply_lines command payload ≡ []
 unfolding reply_lines
-reply_lines-none command [] few = refl
-reply_lines-none command (first ∷ []) few = refl
 reply_lines-none command (first ∷ second ∷ bytes) few = absurd (omega arith)
+reply_lines-none command _ few = refl
 
 -- with communication faults the data are ignored
 pub reply_lines-faults : (command : ℕ) (payload : List ℕ) → 2 ≤ length payload → 127 < get_or payload 0 0
@@ -32,8 +31,7 @@ reply_lines-faults command [] some above = absurd (omega arith)
 reply_lines-faults command (first ∷ []) some above = absurd (omega arith)
 reply_lines-faults command (first ∷ second ∷ bytes) some above =
     let test : nat_lt 127 first ≡ true = grind (arith, nat_tests) in
-    ap (λ (faults : Bool). if faults then ignored_line bytes
-    else replied_lines command bytes (reply_reading command (first ∷ second ∷ bytes))) test
+    rw test
 
 -- without them they are those of what is read
 pub reply_lines-read : (command : ℕ) (payload : List ℕ) (reading : Option Reply) → 2 ≤ length payload → get_or payload 0 0 ≤ 127

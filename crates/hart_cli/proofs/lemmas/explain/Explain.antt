@@ -53,10 +53,8 @@ pub goes_on_to_end : (chars : List Character) (from : ℕ) (text : List ℕ) →
 goes_on_to_end chars from text on without = on [] (none from without)
 
 -- a prefix of an explanation was written
-pub record StopsTelling (chars : List Character) (old new : Stream) : Type 0 where
-  pub text : List ℕ
-  pub explains : IsExplanationOf chars text
-  pub fails : FailsToWrite old new text
+abbrev pub StopsTelling : List Character → Stream → Stream → Type 0
+StopsTelling chars old new = (text : List ℕ) × IsExplanationOf chars text × FailsToWrite old new text
 
 -- a write failed in a text after which an explanation goes on
 pub stops_telling : (chars : List Character) (from : ℕ) (text : List ℕ) (old new : Stream) → GoesOn chars from text
@@ -97,22 +95,16 @@ message_stops {old = old} {now = now} {new = new} {kept = kept} {chars = chars} 
 pub end_stops : {old now new : Stream} {kept : List ℕ} {chars : List Character} {from : ℕ}
     → SaidUpTo old now kept chars from → HasNoFrame chars from → FailsToWrite now new (kept ++ gap_text chars from (length chars))
     → StopsTelling chars old new
-end_stops {old = old} {now = now} {new = new} {kept = kept} {chars = chars} {from = from} said without fails = record {
-  text = said.text ++ gap_text chars from (length chars);
-  explains = goes_on_to_end chars from said.text said.on without;
-  fails = fails_then old now new [] kept said.text (gap_text chars from (length chars)) said.adds fails;
-}
-
--- a call that answers that a write failed
-pub tells_stopped : {T : Type 0} (old new : Stream) (chars : List Character) (P : Failed → Type 0) (result : Result T Failed)
-    → IsErrAnd result P → StopsTelling chars old new → TellsExplanation chars old new result
-tells_stopped old new chars P result failed stops = grind (arith, common_steps)
+end_stops {old = old} {now = now} {new = new} {kept = kept} {chars = chars} {from = from} said without fails = (
+  said.text ++ gap_text chars from (length chars),
+  goes_on_to_end chars from said.text said.on without,
+  fails_then old now new [] kept said.text (gap_text chars from (length chars)) said.adds fails,
+)
 
 -- only these faults end an input
 pub ends_with : (r r' w w' : Stream) (input : List ℕ) (end : InputEnd) (chars : List Character) (fault : CliFault)
     → IsHeard input end chars (Some fault) → (text : List ℕ) × HasExplanation r r' (Some fault) text × WritesAll w w' text
     → ExplainOutcome r r' w w' (Err fault)
 ends_with r r' w w' input _ _ _ (inl (HasChars.bad_hex _ place bad)) text = text
-ends_with r r' w w' input _ _ _ (inl (HasChars.failure _ reads)) text = text
-ends_with r r' w w' input _ _ _ (inl (HasChars.limit _ reads)) text = text
 ends_with r r' w w' input _ _ _ (inr (HasChars.decided_bad_hex _ place bad)) text = text
+ends_with r r' w w' input _ _ _ _ text = text

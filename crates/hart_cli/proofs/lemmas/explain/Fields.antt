@@ -1,20 +1,20 @@
 -- The fields of data: that every row of the table can be shown, and one field after another.
-use Rattle.std.proofs.Common.{◌≡◌, ◌≤◌, ◌<◌, ◌+◌, ℕ, zero, suc, Bool, true, List, [], ◌∷◌, ◌++◌, drop, take, map, get_or, length, Option}
-use Rattle.std.proofs.Common.{None, Some, refl, sym, ap, ◌∙◌, append_assoc, arith, length-append, length-drop, nat_le, subst}
-use Rattle.std.specs.Prelude.{◌&&◌, ◌==◌, option_map}
+use Rattle.std.proofs.Common.{◌≡◌, ◌≤◌, ◌<◌, ◌+◌, ℕ, Bool, true, List, [], ◌∷◌, ◌++◌, drop, take, map, get_or, length, Option}
+use Rattle.std.proofs.Common.{None, Some, refl, sym, ap, ◌∙◌, append_assoc, arith, length-append, length-drop, nat_le}
+use Rattle.std.specs.Prelude.{◌&&◌, ◌==◌}
 use Rattle.std.proofs.lemmas.Grind.{common_steps}
 use Rattle.std.proofs.lemmas.Bool.{and_parts}
 use Rattle.std.proofs.lemmas.Bool.Decides.{nat_tests}
 use Rattle.std.proofs.lemmas.List.{drop-drop, length-take-le}
 use Rattle.std.specs.List.{list_all}
+use Rattle.std.proofs.lemmas.List.Folds.{list_all-map}
+use Rattle.std.proofs.lemmas.List.Sums.{AllPass-from_list_all}
 use Rattle.std.specs.Option.{option_map_or}
 use Rattle.hart_commands.specs.Fields.{bytes_of, CommandRows, Field, fields_of, reply_rows, request_rows, Row, rows, rows_of, seen}
 use Rattle.hart_commands.specs.Fields.{size_in, split}
 use Rattle.hart_commands.specs.declared.fields.FieldKind.{FieldKind}
-use Rattle.hart_commands.specs.declared.fields.FieldKind.TheVariants.{Bytes, Date, Float, Number, PackedText, Variables}
 use Rattle.hart_commands.specs.declared.fields.FieldRow.{FieldRow}
 use Rattle.hart_commands.specs.declared.fields.FieldSize.{FieldSize}
-use Rattle.hart_commands.specs.declared.fields.FieldSize.TheVariants.{AllBut, Exactly}
 use Rattle.hart_cli.specs.explain.Fields.{are_shown, field_line, field_lines, is_shown, suits_size}
 use Rattle.hart_cli.specs.explain.Values.{suits}
 use Rattle.hart_cli.proofs.lemmas.explain.Message.{passes_all}
@@ -28,101 +28,56 @@ all_shown : list_all is_shown_command rows ≡ true
 unfolding is_shown_command rows
 all_shown = refl
 
--- if both can be shown, each of them can
-first_shown : (row : CommandRows) → is_shown_command row ≡ true → are_shown row.request ≡ true
-unfolding is_shown_command
-first_shown row all = (and_parts (are_shown row.request) (are_shown row.reply) all).0
-
-second_shown : (row : CommandRows) → is_shown_command row ≡ true → are_shown row.reply ≡ true
-unfolding is_shown_command
-second_shown row all = (and_parts (are_shown row.request) (are_shown row.reply) all).1
-
 -- of a command that has a row they can
-row_shown : (command : ℕ) (row : CommandRows) → rows_of command ≡ Some row → is_shown_command row ≡ true
-row_shown command row found = passes_all is_shown_command (λ row. row.number == command) rows row all_shown found
-
-request_shown : (command : ℕ) (found : Option CommandRows) → rows_of command ≡ found
-    → are_shown (option_map_or (λ row. row.request) found []) ≡ true
-request_shown command None is = refl
-request_shown command (Some row) is = first_shown row (row_shown command row is)
-
-reply_shown : (command : ℕ) (found : Option CommandRows) → rows_of command ≡ found
-    → are_shown (option_map_or (λ row. row.reply) found []) ≡ true
-reply_shown command None is = refl
-reply_shown command (Some row) is = second_shown row (row_shown command row is)
+rows_shown : (command : ℕ) (found : Option CommandRows) → rows_of command ≡ found
+    → (are_shown (option_map_or (λ row. row.request) found []) ≡ true) × (are_shown (option_map_or (λ row. row.reply) found []) ≡ true)
+unfolding is_shown_command
+rows_shown command None is = (refl, refl)
+rows_shown command (Some row) is =
+    and_parts (are_shown row.request) (are_shown row.reply)
+    (passes_all is_shown_command (λ r. r.number == command) rows row all_shown is)
 
 -- the fields of the data of requests can be shown
 pub request_rows-shown : (command : ℕ) → are_shown (request_rows command) ≡ true
-request_rows-shown command = request_shown command (rows_of command) refl
+request_rows-shown command = (rows_shown command (rows_of command) refl).0
 
 -- and those of replies
 pub reply_rows-shown : (command : ℕ) → are_shown (reply_rows command) ≡ true
-reply_rows-shown command = reply_shown command (rows_of command) refl
+reply_rows-shown command = (rows_shown command (rows_of command) refl).1
 
 -- each row of those that can be shown can be
-each_shown : (rows : List FieldRow) (i : ℕ) (d : FieldRow) → list_all is_shown (map seen rows) ≡ true → i < length rows
-    → is_shown (seen (get_or rows i d)) ≡ true
-each_shown [] i d all within = absurd (omega arith)
-each_shown (row ∷ rows) zero d all within = (and_parts (is_shown (seen row)) (list_all is_shown (map seen rows)) all).0
-each_shown (row ∷ rows) (suc i) d all within =
-    each_shown rows i d (and_parts (is_shown (seen row)) (list_all is_shown (map seen rows)) all).1 (omega arith)
-
 row_at-shown : (rows : List FieldRow) (i : ℕ) (d : FieldRow) → are_shown (map seen rows) ≡ true → i < length rows
     → is_shown (seen (get_or rows i d)) ≡ true
-row_at-shown rows i d all within = grind (arith, common_steps, each_shown, and_parts, nat_le, list_all)
-
--- bytes fall into those of a field and those after them
-record FallsInto (size : FieldSize) (bytes field after : List ℕ) : Type 0 where
-  pub count : ℕ
-  pub size_is : size_in size (length bytes) ≡ Some count
-  pub within : count ≤ length bytes
-  pub front : field ≡ take count bytes
-  pub back : after ≡ drop count bytes
+row_at-shown rows i d all within =
+    let each = (and_parts (nat_le (length (map seen rows)) 16) (list_all is_shown (map seen rows)) all).1 in
+    AllPass-from_list_all (λ (row : FieldRow). is_shown (seen row)) rows (rw list_all-map at each) i d within
 
 -- a field has no more bytes than there are
 size_in-within : (size : FieldSize) (left count : ℕ) → size_in size left ≡ Some count → count ≤ left
-size_in-within (Exactly size) left count is = grind (arith, nat_tests)
-size_in-within (AllBut after) left count is = grind (arith, nat_tests)
+size_in-within size left count is = grind (arith, nat_tests)
 
-abbrev split_at : ℕ → List ℕ → List ℕ × List ℕ
-split_at n bytes = (take n bytes, drop n bytes)
-
-split_by : (size : FieldSize) (bytes field after : List ℕ) (count : Option ℕ) → size_in size (length bytes) ≡ count
-    → option_map {U = List ℕ × List ℕ} (λ n. (take n bytes, drop n bytes)) count ≡ Some (field, after) → FallsInto size bytes field after
-split_by size bytes field after None sized is = cc
-split_by size bytes field after (Some n) sized is = grind (arith, common_steps, size_in-within)
-
-split-is : (size : FieldSize) (bytes field after : List ℕ) → split size bytes ≡ Some (field, after) → FallsInto size bytes field after
-split-is size bytes field after is = split_by size bytes field after (size_in size (length bytes)) refl is
+-- bytes fall into those of a field and those after them
+split-is : (size : FieldSize) (bytes field after : List ℕ) → split size bytes ≡ Some (field, after)
+    → (count : ℕ) × (size_in size (length bytes) ≡ Some count) × (count ≤ length bytes) × (field ≡ take count bytes)
+    × (after ≡ drop count bytes)
+split-is size bytes field after is = grind (arith, common_steps, size_in-within)
 
 -- the name of a row that can be shown is short
 pub row_at-short : (rows : List FieldRow) (i : ℕ) (d : FieldRow) → are_shown (map seen rows) ≡ true → i < length rows
     → length (get_or rows i d).name.now ≤ 40
-row_at-short rows i d all within =
-    let row = get_or rows i d in
-    let test = (and_parts (nat_le (length row.name.now) 40) (suits_size row.kind row.size) (row_at-shown rows i d all within)).0 in
-    grind (arith, nat_tests)
+row_at-short rows i d all within = let both = row_at-shown rows i d all within in grind (arith, nat_tests)
 
 -- so many bytes as it gives a field suit its kind
 suits_count : (kind : FieldKind) (size : FieldSize) (left count : ℕ) → suits_size kind size ≡ true → size_in size left ≡ Some count
     → suits kind count ≡ true
-suits_count kind (Exactly size) left count can is = grind (arith, common_steps)
-suits_count Bytes (AllBut after) left count can is = refl
-suits_count Float (AllBut after) left count can is = refl
-suits_count Variables (AllBut after) left count can is = refl
-suits_count Number (AllBut after) left count can is = cc
-suits_count PackedText (AllBut after) left count can is = cc
-suits_count Date (AllBut after) left count can is = cc
+suits_count kind size left count can is = grind (arith, common_steps)
 
 pub row_at-suits : (rows : List FieldRow) (i : ℕ) (d : FieldRow) (bytes field after : List ℕ) → are_shown (map seen rows) ≡ true
     → i < length rows → split (get_or rows i d).size bytes ≡ Some (field, after) → suits (get_or rows i d).kind (length field) ≡ true
 row_at-suits rows i d bytes field after all within is =
     let row = get_or rows i d in
-    let parts = split-is row.size bytes field after is in
-    let long : length field ≡ parts.count = ap (λ (xs : List ℕ). length xs) parts.front ∙ length-take-le parts.count bytes parts.within in
-    subst (λ (n : ℕ). suits row.kind n ≡ true) (sym long)
-    (suits_count row.kind row.size (length bytes) parts.count
-    (and_parts (nat_le (length row.name.now) 40) (suits_size row.kind row.size) (row_at-shown rows i d all within)).1 parts.size_is)
+    let suited = and_parts (nat_le (length row.name.now) 40) (suits_size row.kind row.size) (row_at-shown rows i d all within) in
+    grind (arith, common_steps, split-is row.size bytes field after is, length-take-le, suits_count row.kind row.size (length bytes))
 
 -- the field of a row, with those of the rows after it
 abbrev field_by : Row → List ℕ → Field
@@ -138,16 +93,12 @@ rows_from : (rows : List FieldRow) (i : ℕ) (d : FieldRow) → i < length rows
 rows_from rows i d within = grind (arith, common_steps)
 
 -- one line more
-lines_more : (text line : List ℕ) (row : Row) (rows : List Row) (all bytes field after : List ℕ)
-    → split row.size bytes ≡ Some (field, after) → text ++ field_lines (fields_of (row ∷ rows) bytes) ≡ all
-    → line ≡ text ++ field_line (field_by row field) → line ++ field_lines (fields_of rows after) ≡ all
-lines_more text line row rows all bytes field after is before said = grind (arith, common_steps, append_assoc, fields_more)
-
 pub row_at-lines : (rows : List FieldRow) (i : ℕ) (d : FieldRow) (text line all bytes field after : List ℕ) → i < length rows
     → split (get_or rows i d).size bytes ≡ Some (field, after) → text ++ field_lines (fields_of (map seen (drop i rows)) bytes) ≡ all
     → line ≡ text ++ field_line (field_by (seen (get_or rows i d)) field)
     → line ++ field_lines (fields_of (map seen (drop (i + 1) rows)) after) ≡ all
-row_at-lines rows i d text line all bytes field after within is before said = grind (arith, common_steps, lines_more, rows_from)
+row_at-lines rows i d text line all bytes field after within is before said =
+    grind (arith, common_steps, append_assoc, fields_more, rows_from)
 
 -- so many bytes are left
 pub few_more : (size : FieldSize) (bytes field after : List ℕ) → split size bytes ≡ Some (field, after)

@@ -2,7 +2,7 @@
 use Rattle.std.proofs.lemmas.Grind.{common_steps}
 use Rattle.std.proofs.Common.{◌≡◌, ◌≢◌, ◌≤◌, ◌<◌, ◌+◌, ◌-◌, ℕ, zero, suc, Bool, true, false, List, [], ◌∷◌, ◌++◌, length, get_or, drop}
 use Rattle.std.proofs.Common.{take}
-use Rattle.std.proofs.Common.{Option, None, Some, inl, inr, refl, sym, ap, append_assoc, arith, length-append, length-drop, subst}
+use Rattle.std.proofs.Common.{Option, None, Some, inl, inr, refl, sym, ap, append_assoc, arith, length-append, length-drop}
 use Rattle.std.specs.Prelude.{◌/◌, ◌%◌, ◌⊎◌, ◌==◌, All, AllPairs, Contains, IsSome, codes, decimal, not}
 use Rattle.std.specs.List.{flat_map, list_all, range_with_len}
 use Rattle.std.specs.Option.{option_map_or}
@@ -10,14 +10,15 @@ use Rattle.std.specs.Fmt.{digit_glyph, digits, digits_onto}
 use Rattle.std.proofs.lemmas.Grind.{flat_map-append}
 use Rattle.std.proofs.lemmas.Bool.{cases_lt}
 use Rattle.std.proofs.lemmas.Bool.Decides.{nat_tests}
-use Rattle.std.proofs.lemmas.List.{append-nil, length-take-le, take-append-drop}
-use Rattle.std.proofs.lemmas.List.Folds.{list_all-append}
-use Rattle.std.proofs.lemmas.List.Elements.{All-cons, All-drop, All-nil, Contains-append_cases, Contains-append_left}
+use Rattle.std.proofs.lemmas.List.{append-nil, get_or_past, length-take-le, take-append-drop}
+use Rattle.std.proofs.lemmas.List.Folds.{list_all-append, list_all_at}
+use Rattle.std.proofs.lemmas.List.Sums.{AllPass-from_list_all}
+use Rattle.std.proofs.lemmas.List.Elements.{All-drop, Contains-append_cases, Contains-append_left}
 use Rattle.std.proofs.lemmas.List.Elements.{Contains-append_right, Contains-get_or}
 use Rattle.std.proofs.lemmas.List.Kept.{AllPairs-cons}
 use Rattle.hex.specs.Hex.{encode_with, upper_digits}
 use Rattle.hart_frame.specs.heard.Character.{Character}
-use Rattle.hart_frame.specs.heard.Frames.{AreFrames, first, none}
+use Rattle.hart_frame.specs.heard.Frames.{AreFrames, first, moved, none}
 use Rattle.hart_frame.specs.heard.Miss.{HasFrameAt, miss_of}
 use Rattle.hart_frame.specs.heard.Place.{StandsIn}
 use Rattle.hart_frame.specs.heard.Start.{IsStart}
@@ -28,28 +29,20 @@ use Rattle.hart_frame.specs.declared.heard.miss.Miss.TheVariants.{BadCheck, OneP
 use Rattle.hart_cli.specs.explain.Gaps.{IsGap, IsOneLine, missed, missed_at, MissedPlace}
 use Rattle.hart_cli.specs.explain.Misses.{byte_digits, characters_word, gap_text, miss_line, miss_words, place_text}
 
--- the line of a missed place
-abbrev told_line : ℕ → MissedPlace → List ℕ
-told_line from told = miss_line from told.place (Some told.miss)
-
--- what is said of a place is the line of its miss
-said_of_place : (chars : List Character) (from place : ℕ)
-    → place_text chars from place ≡ flat_map (λ told. told_line from told) (missed_at chars from place)
-unfolding place_text
-said_of_place chars from place =
-    elim (miss_of (drop from chars) (place - from))
-    as (λ miss. miss_line from place miss
-    ≡ flat_map (λ told. told_line from told) (option_map_or (λ m. record { place = place; miss = m } ∷ []) miss []))
-    [ None ↦ refl | Some miss ↦ sym (append-nil (miss_line from place (Some miss))) ]
-
 -- what is said of places is the lines of their misses
+said_of : (from place : ℕ) (found : Option Miss) → miss_line from place found
+    ≡ flat_map (λ (told : MissedPlace). miss_line from told.place (Some told.miss))
+    (option_map_or (λ miss. record { place = place; miss = miss } ∷ []) found [])
+said_of from place None = refl
+said_of from place (Some miss) = sym (append-nil (miss_line from place (Some miss)))
+
 said_of_places : (chars : List Character) (from : ℕ) (places : List ℕ)
     → flat_map (λ place. place_text chars from place) places
-    ≡ flat_map (λ told. told_line from told) (flat_map (λ place. missed_at chars from place) places)
+    ≡ flat_map (λ told. miss_line from told.place (Some told.miss)) (flat_map (λ place. missed_at chars from place) places)
+unfolding place_text
 said_of_places chars from [] = refl
 said_of_places chars from (place ∷ places) =
-    rw (said_of_place chars from place, said_of_places chars from places)
-    (sym (flat_map-append (λ told. told_line from told) (missed_at chars from place) (flat_map (λ p. missed_at chars from p) places)))
+    simp (flat_map-append, ← said_of, said_of_places chars from places)
 
 -- places that have something, each with it
 abbrev told_at : (ℕ → Option Miss) → ℕ → List MissedPlace
@@ -58,34 +51,16 @@ told_at f place = option_map_or (λ miss. record { place = place; miss = miss } 
 abbrev told_from : (ℕ → Option Miss) → ℕ → ℕ → List MissedPlace
 told_from f a n = flat_map (λ place. told_at f place) (range_with_len a n)
 
--- an empty list has no element
-none_in_none : {X : Type 0} (x : X) → Contains [] x → ⊥
-none_in_none x (k, within, is) = omega arith
-
--- a list of one has that one
-only_one : {X : Type 0} (y x : X) → Contains (y ∷ []) x → y ≡ x
-only_one y x (zero, within, is) = is
-only_one y x (suc k, within, is) = absurd (omega arith)
-
 -- what stands at one place
-at_place : (f : ℕ → Option Miss) (a : ℕ) (miss : Option Miss) → f a ≡ miss → (x : MissedPlace)
-    → Contains (option_map_or (λ m. record { place = a; miss = m } ∷ []) miss []) x → (x.place ≡ a) × (f a ≡ Some x.miss)
-at_place f a None is x has = absurd (none_in_none x has)
-at_place f a (Some m) is x has = grind (arith, common_steps, only_one)
+at_place : (f : ℕ → Option Miss) (a : ℕ) (x : MissedPlace) → Contains (told_at f a) x → (x.place ≡ a) × (f a ≡ Some x.miss)
+at_place f a x has = grind (arith, common_steps)
 
 -- what stands among places
-record IsTold (f : ℕ → Option Miss) (a n : ℕ) (x : MissedPlace) : Type 0 where
-  from : a ≤ x.place
-  below : x.place < a + n
-  has : f x.place ≡ Some x.miss
-
-told_is : (f : ℕ → Option Miss) (a n : ℕ) (x : MissedPlace) → Contains (told_from f a n) x → IsTold f a n x
-told_is f a zero x has = absurd (none_in_none x has)
+told_is : (f : ℕ → Option Miss) (a n : ℕ) (x : MissedPlace) → Contains (told_from f a n) x
+    → (a ≤ x.place) × (x.place < a + n) × (f x.place ≡ Some x.miss)
+told_is f a zero x (k, within, is) = absurd (omega arith)
 told_is f a (suc n) x has =
-    elim (Contains-append_cases (told_at f a) (told_from f (a + 1) n) x has) [
-      | inl here ↦ grind (arith, common_steps, at_place)
-      | inr later ↦ grind (arith, common_steps, told_is f (a + 1) n x later)
-    ]
+    grind (arith, common_steps, Contains-append_cases (told_at f a) (told_from f (a + 1) n) x has, at_place, told_is f (a + 1) n x)
 
 -- every place that has something is among them
 told_has : (f : ℕ → Option Miss) (a n place : ℕ) (miss : Miss) → a ≤ place → place < a + n → f place ≡ Some miss
@@ -105,9 +80,7 @@ told_in_order f a (suc n) = elim (f a) as (λ miss. AllPairs (λ told later. tol
       | None ↦ told_in_order f (a + 1) n
       | Some m ↦
           AllPairs-cons (λ told later. told.place < later.place) (record { place = a; miss = m }) (told_from f (a + 1) n)
-          (λ k d within.
-          let told = told_is f (a + 1) n (get_or (told_from f (a + 1) n) k d) (Contains-get_or (told_from f (a + 1) n) k d within) in
-          omega (arith, told.from)) (told_in_order f (a + 1) n)
+          (λ k d within. omega (arith, told_is f (a + 1) n _ (Contains-get_or (told_from f (a + 1) n) k d within))) (told_in_order f (a + 1) n)
     ]
 
 -- the code of a line feed is none of a text
@@ -118,17 +91,13 @@ abbrev unbroken : List ℕ → Bool
 unbroken text = list_all no_line_feed text
 
 unbroken-all : (text : List ℕ) → unbroken text ≡ true → All (λ code. code ≢ 10) text
-unbroken-all [] test = All-nil (λ code. code ≢ 10)
-unbroken-all (code ∷ text) test = grind (arith, common_steps, All-cons, unbroken-all text (grind (arith, nat_tests)))
+unbroken-all text test = grind (arith, common_steps, AllPass-from_list_all, nat_tests)
 
 -- digits are none
-unbroken-glyph : (digit : ℕ) → no_line_feed (digit_glyph false digit) ≡ true
-unbroken-glyph digit = grind (arith, nat_tests)
-
 unbroken-onto : (k n : ℕ) (text : List ℕ) → unbroken text ≡ true → unbroken (digits_onto k 10 false n text) ≡ true
 unbroken-onto zero n text test = test
 unbroken-onto (suc k) n text test =
-    let more : unbroken (digit_glyph false (n % 10) ∷ text) ≡ true = grind (arith, unbroken-glyph (n % 10)) in
+    let more : unbroken (digit_glyph false (n % 10) ∷ text) ≡ true = grind (arith, nat_tests) in
     grind (arith, common_steps, unbroken-onto k (n / 10) (digit_glyph false (n % 10) ∷ text) more)
 
 unbroken-decimal : (n : ℕ) → unbroken (decimal n) ≡ true
@@ -137,9 +106,7 @@ unbroken-decimal n = unbroken-onto 64 n [] refl
 
 -- an element of a text, or 0 past its end
 unbroken-get_or : (text : List ℕ) (k : ℕ) → unbroken text ≡ true → no_line_feed (get_or text k 0) ≡ true
-unbroken-get_or [] k test = refl
-unbroken-get_or (code ∷ text) zero test = grind arith
-unbroken-get_or (code ∷ text) (suc k) test = unbroken-get_or text k (grind arith)
+unbroken-get_or text k test = grind (arith, common_steps, list_all_at, get_or_past)
 
 unbroken-byte_digits : (byte : ℕ) → unbroken (byte_digits byte) ≡ true
 unfolding encode_with
@@ -149,14 +116,10 @@ unbroken-characters_word : (count : ℕ) → unbroken (characters_word count) �
 unbroken-characters_word count = grind (arith, common_steps)
 
 unbroken-miss_words : (from : ℕ) (miss : Miss) → unbroken (miss_words from miss) ≡ true
-unbroken-miss_words from (Faulty place faults) = simp (list_all-append, unbroken-decimal, unbroken-byte_digits)
 unbroken-miss_words from Burst = refl
-unbroken-miss_words from (BadDelimiter byte) = simp (list_all-append, unbroken-byte_digits)
 unbroken-miss_words from EndsBeforeByteCount = refl
-unbroken-miss_words from (ShortReply byte_count) = simp (list_all-append, unbroken-decimal)
-unbroken-miss_words from (Missing count) = simp (list_all-append, unbroken-decimal, unbroken-characters_word)
-unbroken-miss_words from (BadCheck place byte fits) = simp (list_all-append, unbroken-decimal, unbroken-byte_digits)
 unbroken-miss_words from OnePreamble = refl
+unbroken-miss_words from _ = simp (list_all-append, unbroken-decimal, unbroken-byte_digits, unbroken-characters_word)
 
 -- the line of a miss is one line
 pub miss_line-one : (from place : ℕ) (miss : Miss) → IsOneLine (miss_line from place (Some miss))
@@ -168,41 +131,30 @@ miss_line-one from place miss = record {
 }
 
 -- a frame in the rest of characters is one of the characters
-record StandsAt (chars : List Character) (from place : ℕ) : Type 0 where
-  found : Found
-  stands : StandsIn found chars from
-  start : found.start ≡ place
-
-stands_at : (chars : List Character) (from place : ℕ) → HasFrameAt (drop from chars) place → StandsAt chars from (from + place)
-stands_at chars from place (found, stands, start) =
-    let long = ap (λ (xs : List Character). length xs) stands.split in
-    let within : from ≤ length chars = omega (arith, simp (length-append, length-drop) at long) in
-    let first : length (take from chars) ≡ from = length-take-le from chars within in
+pub stands_in_rest : (chars : List Character) (from at : ℕ) (found : Found) → at ≤ from → StandsIn found (drop from chars) 0
+    → StandsIn (moved from found) chars at
+stands_in_rest chars from at found before stands =
+    let long = simp (length-append, length-drop) at (ap (λ (xs : List Character). length xs) stands.split) in
+    let first : length (take from chars) ≡ from = length-take-le from chars (omega arith) in
+    let size = length-append (take from chars) stands.prefix in
     record {
-      found = record { frame = found.frame; start = from + found.start; stop = from + found.stop };
-      stands = record {
-        prefix = take from chars ++ stands.prefix;
-        body = stands.body;
-        rest = stands.rest;
-        split = grind (arith, common_steps, take-append-drop, append_assoc);
-        is_body = stands.is_body;
-        after = omega (arith, length-append (take from chars) stands.prefix);
-        start = omega (arith, length-append (take from chars) stands.prefix, stands.start);
-        stop = omega (arith, length-append (take from chars) stands.prefix, stands.stop);
-      };
-      start = omega arith;
+      prefix = take from chars ++ stands.prefix;
+      body = stands.body;
+      rest = stands.rest;
+      split = grind (arith, common_steps, take-append-drop, append_assoc);
+      is_body = stands.is_body;
+      after = omega arith;
+      start = omega (arith, stands.start);
+      stop = omega (arith, stands.stop);
     }
 
 -- no frame stands in a gap
 pub no_frame_in_gap : (chars : List Character) (at : ℕ) (frames : List Found) → AreFrames chars at frames → (from stop place : ℕ)
     → IsGap chars at frames from stop → from ≤ place → place < stop → HasFrameAt (drop from chars) (place - from) → ⊥
 no_frame_in_gap chars _ _ (none at without) from stop place gap after below has =
-    let stands = stands_at chars from (place - from) has in
-    without stands.found (subst (λ (n : ℕ). StandsIn stands.found chars n) gap.0 stands.stands)
+    without (moved from has.0) (stands_in_rest chars from at has.0 (omega arith) has.1)
 no_frame_in_gap chars _ _ (first at found later is are) from stop place (inl gap) after below has =
-    let stands = stands_at chars from (place - from) has in
-    let least = is.least stands.found (subst (λ (n : ℕ). StandsIn stands.found chars n) gap.0 stands.stands) in
-    omega (arith, stands.start, gap.1)
+    omega (arith, is.least (moved from has.0) (stands_in_rest chars from at has.0 (omega arith) has.1))
 no_frame_in_gap chars _ _ (first at found later is are) from stop place (inr gap) after below has =
     no_frame_in_gap chars found.stop later are from stop place gap after below has
 
@@ -225,7 +177,7 @@ pub missed_are : (chars : List Character) (from stop place : ℕ) (miss : Miss)
     → Contains (missed chars from stop) (record { place = place; miss = miss })
     → (from ≤ place) × (place < stop) × (miss_of (drop from chars) (place - from) ≡ Some miss)
 missed_are chars from stop place miss has =
-    let told = told_is (miss_at chars from) from (stop - from) (record { place = place; miss = miss }) has in grind (arith, common_steps)
+    grind (arith, common_steps, told_is (miss_at chars from) from (stop - from) (record { place = place; miss = miss }) has)
 
 pub missed_has : (chars : List Character) (from stop place : ℕ) (miss : Miss)
     → (from ≤ place) × (place < stop) × (miss_of (drop from chars) (place - from) ≡ Some miss)

@@ -61,7 +61,4 @@ one_heard text _ _ _ _ _ (limit xs h) (decided_bad_hex ys q k) = absurd (not_dec
 -- an input is heard in one way
 pub IsHeard-one : (text : List ℕ) (end : InputEnd) (xs ys : List Character) (f g : Option CliFault)
     → IsHeard text end xs f → IsHeard text end ys g → (xs ≡ ys) × (f ≡ g)
-IsHeard-one text end xs ys f g (inl h) (inl k) = one_input text (CameTo end) xs ys f g h k
-IsHeard-one text end xs ys f g (inr h) (inr k) = one_input text Left xs ys f g h k
-IsHeard-one text end xs ys f g (inl h) (inr k) = one_heard text end xs ys f g h k
-IsHeard-one text end xs ys f g (inr h) (inl k) = grind (arith, one_heard text end ys xs g f k h)
+IsHeard-one text end xs ys f g h k = grind (arith, one_input, one_heard)

@@ -37,8 +37,7 @@ fails_then a b c p q x y h fails =
 
 -- a write failed in the first of two texts
 pub fails_first : (a b : Stream) (p x y : List ℕ) → FailsToWrite a b (p ++ x) → FailsToWrite a b (p ++ (x ++ y))
-fails_first a b p x y fails =
-    subst (λ (xs : List ℕ). FailsToWrite a b xs) (append_assoc p x y) (FailsToWrite-longer a b (p ++ x) y fails)
+fails_first a b p x y fails = rw (← append_assoc) (FailsToWrite-longer a b (p ++ x) y fails)
 
 -- a call that answers that a write failed
 pub tells_failure : {T : Type 0} (old new : Stream) (before after text : List ℕ) (P : Failed → Type 0) (result : Result T Failed)

@@ -1,9 +1,10 @@
 -- The values of fields.
-use Rattle.std.proofs.Common.{◌≡◌, ◌≤◌, ◌<◌, ◌+◌, ◌*◌, ◌%◌, ℕ, suc, List, [], ◌∷◌, ◌++◌, length, take, get_or, refl}
+use Rattle.std.proofs.Common.{◌≡◌, ◌≤◌, ◌<◌, ◌+◌, ◌%◌, ℕ, suc, List, [], ◌∷◌, ◌++◌, length, take, get_or, refl}
 use Rattle.std.proofs.Common.{append_assoc, arith}
 use Rattle.std.specs.List.{join_by}
 use Rattle.std.proofs.lemmas.Grind.{common_steps, flat_map-append}
 use Rattle.std.proofs.lemmas.Bool.Decides.{nat_tests}
+use Rattle.std.proofs.lemmas.List.{get_or-drop}
 use Rattle.hart_values.specs.packed_text.Packing.{IsCharacter, IsPacked, IsPackedGroup}
 use Rattle.hart_cli.specs.explain.Values.{character, characters_of, unpacked}
 
@@ -23,14 +24,8 @@ rest_packed w x y z a b c text bytes p = record {
   characters = λ i d below. p.characters (suc (suc (suc (suc i)))) d (omega arith);
   bytes_fit = λ i d below. p.bytes_fit (suc (suc (suc i))) d (omega arith);
   groups = λ place below.
-      let four : 4 * suc place ≡ suc (suc (suc (suc (4 * place)))) = omega arith in
-      let five : 4 * suc place + 1 ≡ suc (suc (suc (suc (4 * place + 1)))) = omega arith in
-      let six : 4 * suc place + 2 ≡ suc (suc (suc (suc (4 * place + 2)))) = omega arith in
-      let seven : 4 * suc place + 3 ≡ suc (suc (suc (suc (4 * place + 3)))) = omega arith in
-      let three : 3 * suc place ≡ suc (suc (suc (3 * place))) = omega arith in
-      let more : 3 * suc place + 1 ≡ suc (suc (suc (3 * place + 1))) = omega arith in
-      let most : 3 * suc place + 2 ≡ suc (suc (suc (3 * place + 2))) = omega arith in
-      let at_next = p.groups (suc place) (omega arith) in grind (arith, common_steps);
+      let at_next = p.groups (suc place) (omega arith) in
+      grind (arith, get_or-drop 4 (w ∷ x ∷ y ∷ z ∷ text), get_or-drop 3 (a ∷ b ∷ c ∷ bytes));
 }
 
 -- a text is what its packed bytes unpack to
@@ -40,13 +35,7 @@ unpacked-is (w ∷ x ∷ y ∷ z ∷ text) (a ∷ b ∷ c ∷ bytes) p =
     let first = group_is w x y z a b c (p.characters 0 0 (omega arith)) (p.characters 1 0 (omega arith)) (p.characters 2 0 (omega arith))
     (p.characters 3 0 (omega arith)) (p.bytes_fit 0 0 (omega arith)) (p.bytes_fit 1 0 (omega arith)) (p.bytes_fit 2 0 (omega arith))
     (p.groups 0 (omega arith)) in grind (arith, common_steps, rest_packed, unpacked-is text bytes (rest_packed w x y z a b c text bytes p))
-unpacked-is (w ∷ []) bytes p = absurd (omega (arith, p.lengths))
-unpacked-is (w ∷ x ∷ []) bytes p = absurd (omega (arith, p.lengths))
-unpacked-is (w ∷ x ∷ y ∷ []) bytes p = absurd (omega (arith, p.lengths))
-unpacked-is [] (a ∷ bytes) p = absurd (omega (arith, p.lengths))
-unpacked-is (w ∷ x ∷ y ∷ z ∷ text) [] p = absurd (omega (arith, p.lengths))
-unpacked-is (w ∷ x ∷ y ∷ z ∷ text) (a ∷ []) p = absurd (omega (arith, p.lengths))
-unpacked-is (w ∷ x ∷ y ∷ z ∷ text) (a ∷ b ∷ []) p = absurd (omega (arith, p.lengths))
+unpacked-is _ _ p = absurd (omega (arith, p.lengths))
 
 -- one more part after the last of one or more
 join_by-push : {X : Type 0} (f : X → List ℕ) (sep : List ℕ) (x : X) (xs : List X) (y : X)

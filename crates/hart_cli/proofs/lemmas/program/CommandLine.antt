@@ -41,16 +41,10 @@ pub gives_fault : (command : Command) (words : List Text) (error : Error) → ap
 gives_fault command words error is_hart kinds =
     subst (λ (a : App). HasKind (fault_of a words) error) is_hart (kinds (ap is_simple_and_free is_hart))
 
--- the name and the rows of a subcommand, from each alone
-joined : (met : Option (Text × List Row)) (name : Text) (rows : List Row) → Some name ≡ option_map (λ p. p.0) met
-    → Some rows ≡ option_map (λ p. p.1) met
-    → met ≡ Some (name, rows)
-joined met name rows h k = grind (arith, common_steps)
-
 -- what `subcommand()` gives is what was met
 pub met : (m : ArgMatches) (name : Text) (rows : List Row) → Some name ≡ subcommand_name_of m
     → Some rows ≡ option_map (λ p. p.1) (subcommand_rows_of m) → subcommand_rows_of m ≡ Some (name, rows)
-met m name rows named with_rows = joined (subcommand_rows_of m) name rows (named ∙ sym (subcommand_name-rows m)) with_rows
+met m name rows named with_rows = grind (arith, common_steps, subcommand_name-rows)
 
 -- without a name nothing was met
 pub none_met : (m : ArgMatches) → None ≡ subcommand_name_of m → None ≡ call_of (subcommand_rows_of m)

@@ -52,16 +52,12 @@ pub IsSimulation-run : (first : DeviceState) (input : List ℕ) (start : Start) 
 IsSimulation-run first input start events device outcomes world spoken same script last device_is outcomes_are said =
     grind (arith, common_steps)
 
-same_spoken : (x y : Spoken) → x.party ≡ y.party → x.preambles ≡ y.preambles → x.bytes ≡ y.bytes → x ≡ y
-same_spoken x y party preambles bytes = grind (arith, common_steps)
-
 -- frames are spoken in one way
 AreSpoken-one : (frames : List SpokenFrame) (xs ys : List Spoken) → AreSpoken frames xs → AreSpoken frames ys → xs ≡ ys
-AreSpoken-one [] xs ys p q = grind arith
 AreSpoken-one (said ∷ frames) (x ∷ xs) (y ∷ ys) p q =
     let body = bodies_are_unambiguous-one_body said.frame x.bytes y.bytes p.0.body q.0.body in
-    grind (arith, common_steps, same_spoken, AreSpoken-one frames xs ys p.1 q.1)
-AreSpoken-one (said ∷ frames) xs ys p q = grind arith
+    grind (arith, common_steps, AreSpoken-one frames xs ys p.1 q.1)
+AreSpoken-one _ xs ys p q = grind arith
 
 -- a world has one text
 IsWorldText-one : (start : Start) (world : World) (xs ys : List ℕ) → IsWorldText start world xs → IsWorldText start world ys
@@ -81,19 +77,16 @@ IsSimulation-one device input xs ys p q =
 -- an input with a text has no fault
 pub IsSimulation-faultless : (device : DeviceState) (input text : List ℕ) (fault : LineFault)
     → IsSimulation device input text → HasLineFault device input fault → ⊥
-IsSimulation-faultless device input text (line_faults.BadLine number) p bad = grind arith
 IsSimulation-faultless device input text (line_faults.Undetected number leg) p damage =
     scripts_have_one_last_world-no_fault (start_with device) damage.events p.world number leg
     (rw (p.script.1 ∙ sym damage.script.1) at p.last) damage.is_fault
-IsSimulation-faultless device input text (line_faults.Memory none) p bad = bad
+IsSimulation-faultless device input text _ p bad = grind arith
 
 -- an input has one fault
 pub HasLineFault-one : (device : DeviceState) (input : List ℕ)
     (fault other : LineFault) → HasLineFault device input fault → HasLineFault device input other → fault ≡ other
-HasLineFault-one device input (line_faults.BadLine number) other p q = grind arith
 HasLineFault-one device input (line_faults.Undetected number leg) (line_faults.Undetected other another) p q =
     let same = scripts_have_one_last_world-one_fault (start_with device) q.events number other leg another
     (rw (p.script.1 ∙ sym q.script.1) at p.is_fault) q.is_fault in
     cc (same.0, same.1)
-HasLineFault-one device input (line_faults.Undetected number leg) other p q = grind arith
-HasLineFault-one device input (line_faults.Memory none) other p q = absurd p
+HasLineFault-one device input _ other p q = grind arith

@@ -21,11 +21,6 @@ not_both text xs ys p h k = grind (arith, common_steps, NoPieceBegins-nil, one_r
 pub as_it_stands : (text : List ℕ) (chars : List Character) (place : ℕ) → IsDecidedBadHexAt text chars place → HasBadHex text chars place
 as_it_stands text chars place h = subst (λ (us : List ℕ). HasBadHex us chars place) (append-nil text) (h [])
 
--- bad hex is decided at one place
-one_decided : (text : List ℕ) (xs ys : List Character) (p q : ℕ) → IsDecidedBadHexAt text xs p → IsDecidedBadHexAt text ys q
-    → (xs ≡ ys) × (p ≡ q)
-one_decided text xs ys p q h k = one_place text xs ys p q (as_it_stands text xs p h) (as_it_stands text ys q k)
-
 -- a text reads so far as one list of characters
 one_so_far : (text : List ℕ) (xs ys : List Character) → ReadsSoFarAs text xs → ReadsSoFarAs text ys → xs ≡ ys
 one_so_far text xs ys h k = (one_reading text xs h.rest ys k.rest h.reads k.reads h.no_piece k.no_piece).0
@@ -37,7 +32,8 @@ one_input text _ _ _ _ _ (all xs h) (bad_hex ys q k) = absurd (not_both (closed 
 one_input text _ _ _ _ _ (all xs h) (all ys k) = ((one_reading (closed text) xs [] ys [] h k NoPieceBegins-nil NoPieceBegins-nil).0, refl)
 one_input text _ _ _ _ _ (bad_hex xs p h) (all ys k) = absurd (not_both (closed text) ys xs p k h)
 one_input text _ _ _ _ _ (bad_hex xs p h) (bad_hex ys q k) = grind (arith, one_place (closed text) xs ys p q h k)
-one_input text _ _ _ _ _ (decided_bad_hex xs p h) (decided_bad_hex ys q k) = grind (arith, one_decided text xs ys p q h k)
+one_input text _ _ _ _ _ (decided_bad_hex xs p h) (decided_bad_hex ys q k) =
+    grind (arith, one_place text xs ys p q (as_it_stands text xs p h) (as_it_stands text ys q k))
 one_input text _ _ _ _ _ (failure xs h) (failure ys k) = (one_so_far text xs ys h k, refl)
 one_input text _ _ _ _ _ (limit xs h) (limit ys k) = (one_so_far text xs ys h k, refl)
 

@@ -11,13 +11,9 @@ use Rattle.std.proofs.Math.Seq.{drop-append_seam}
 use Rattle.std.specs.Option.{option_to_list}
 use Rattle.hex.specs.Hex.{is_hex_digit}
 
--- a separator is no digit
-separator_is_no_digit : (byte : ℕ) → IsSeparator byte → is_hex_digit byte ≡ true → ⊥
-separator_is_no_digit byte h k = grind (arith, common_steps)
-
 -- a separator is not the high digit of an item
 separator_is_no_high : (a h : ℕ) → IsSeparator a → is_hex_digit h ≡ true → a ≡ h → ⊥
-separator_is_no_high a h s d e = separator_is_no_digit a s (subst (λ (x : ℕ). is_hex_digit x ≡ true) (sym e) d)
+separator_is_no_high a h s d e = grind (arith, common_steps)
 
 -- an item is not whole before a `!`
 not_whole : (tail more : List ℕ) (high low : ℕ) → IsWholeBefore tail (Item (Plain high low)) → tail ≡ 33 ∷ more → ⊥
@@ -49,8 +45,7 @@ pub ReadsUpTo-on : (text : List ℕ) (xs : List Character) (rest : List ℕ) (ys
     → ReadsUpTo rest ys last → ReadsUpTo text (xs ++ ys) last
 ReadsUpTo-on _ _ _ ys last (nothing rest) k = k
 ReadsUpTo-on _ _ _ ys last (piece text first tail chars rest h r) k =
-    subst (λ (zs : List Character). ReadsUpTo text zs last) (sym (append_assoc (meaning first) chars ys))
-    (piece text first tail (chars ++ ys) last h (ReadsUpTo-on tail chars rest ys last r k))
+    rw append_assoc (piece text first tail (chars ++ ys) last h (ReadsUpTo-on tail chars rest ys last r k))
 
 -- a text is read on from a place
 pub read_on : (text : List ℕ) (chars more : List Character) (place len : ℕ) → ReadsUpTo text chars (drop place text)
@@ -96,10 +91,6 @@ spelling-length p = grind (arith, common_steps)
 pub NoPieceBegins-nil : NoPieceBegins []
 NoPieceBegins-nil p tail h = grind (arith, common_steps)
 
--- something has a length
-some_length : (xs : List ℕ) → (xs ≡ [] → ⊥) → 0 < length xs
-some_length xs h = grind (arith, common_steps)
-
 -- a piece takes two bytes at least for a character that it means
 few_meant : (p : Piece) → 2 * length (meaning p) ≤ length (spelling p)
 few_meant p = grind (arith, common_steps)
@@ -110,7 +101,7 @@ few_read text char len b = grind (arith, common_steps, few_meant)
 -- a byte stands after an item
 item_inside : (text tail : List ℕ) (p : Piece) (x : Character) → BeginsWith text p tail → meaning p ≡ x ∷ []
     → length (spelling p) < length text
-item_inside text tail p x h k = grind (arith, common_steps, some_length)
+item_inside text tail p x h k = grind (arith, common_steps)
 
 pub char_inside : (text : List ℕ) (char : Option Character) (x : Character) (len : ℕ) → BeginsAs text char len → char ≡ Some x
     → (2 ≤ len) × (len < length text)
