@@ -16,16 +16,12 @@ use Rattle.hart_cli.proofs.lemmas.dump.ScanInput.{stops_in}
 use Rattle.hart_cli.proofs.lemmas.text.InputChars.{one_input}
 use Rattle.hart_cli.proofs.lemmas.dump.Writes.{FailsToWrite-on, WritesAll-on}
 
--- characters have one text
-AreFrameLines-one : (chars : List Character) (xs ys : List ℕ) → AreFrameLines chars xs → AreFrameLines chars ys → xs ≡ ys
-AreFrameLines-one chars xs ys p q = grind (arith, common_steps, frames_are_unambiguous-one_list)
-
 -- an input has one text and one fault
 pub IsDump-one : (input : List ℕ) (ending : Ending) (f g : Option CliFault) (xs ys : List ℕ)
     → IsDump input ending f xs → IsDump input ending g ys → (f ≡ g) × (xs ≡ ys)
 IsDump-one input ending f g xs ys p q =
     let same = one_input input ending p.chars q.chars f g p.has_chars q.has_chars in
-    (same.1, AreFrameLines-one q.chars xs ys (rw same.0 at p.are_lines) q.are_lines)
+    grind (arith, common_steps, frames_are_unambiguous-one_list)
 
 -- with the lines after the finish, those that were written are all lines of the characters
 all_scanned : {r r' w w1 : Stream} {frames : FrameLines} {fault : Option CliFault} {new : Scan} {lines : List ℕ}

@@ -1,7 +1,7 @@
 -- The lines that are kept while characters are scanned.
 use Rattle.std.proofs.lemmas.Grind.{common_steps}
 use Rattle.std.proofs.Common.{◌≡◌, ◌≤◌, ◌+◌, ◌*◌, ℕ, List, [], ◌++◌, false, length}
-use Rattle.std.proofs.Common.{sym, ap, ◌∙◌, append_assoc, arith, length-append, drop, take}
+use Rattle.std.proofs.Common.{sym, append_assoc, arith, length-append, drop, take}
 use Rattle.std.proofs.Math.Seq.{take-add}
 use Rattle.std.proofs.lemmas.List.{append-nil, length-map, map-append}
 use Rattle.hart_frame.specs.heard.Character.{Character, faultless}

@@ -1,9 +1,7 @@
 -- An input that is read and scanned, step by step.
 use Rattle.std.proofs.lemmas.Grind.{common_steps}
-use Rattle.std.proofs.Common.{◌≡◌, ◌≤◌, ◌+◌, ◌-◌, ℕ, List, [], ◌∷◌, ◌++◌, length, Option, None, Some, Result, refl}
-use Rattle.std.proofs.Common.{sym, ap, ◌∙◌, subst, arith, append_assoc, inl, inr, length-append}
-use Rattle.std.specs.Io.KnownBytes.{Appends}
-use Rattle.std.specs.Result.{IsErrAnd}
+use Rattle.std.proofs.Common.{◌≡◌, ◌≤◌, ◌+◌, ◌-◌, ℕ, List, [], ◌∷◌, ◌++◌, length, Option, None, Some, refl}
+use Rattle.std.proofs.Common.{ap, ◌∙◌, arith, append_assoc, inl, inr, length-append}
 use Rattle.std.proofs.KnownBytes.{Appends-nil, Consumes-nil}
 use Rattle.std.proofs.lemmas.List.{append-nil}
 use Rattle.hart_frame.specs.heard.Character.{Character}
@@ -13,10 +11,8 @@ use Rattle.hart_cli.specs.declared.fault.CliFault.{CliFault}
 use Rattle.hart_cli.specs.declared.dump.frame_lines.FrameLines.{FrameLines}
 use Rattle.hart_cli.specs.declared.input.InputEnd.{InputEnd}
 use Rattle.hart_cli.specs.declared.input.InputEnd.TheVariants.{Ended, ReadFailed, TooLong}
-use Rattle.hart_cli.specs.declared.stream.Failed as stream
 use Rattle.hart_cli.specs.dump.Dump.{AreFrameLines, AreScanned, StopsSoon, StopsWriting, WroteInTime, ended_text, most_ahead}
-use Rattle.hart_cli.specs.dump.FrameLines.{IsNextStep, IsWaiting, KeepsLines, ReadsAhead, ScansAll, ScansInput, ScansText}
-use Rattle.hart_cli.specs.dump.Text.{dump_text}
+use Rattle.hart_cli.specs.dump.FrameLines.{IsNextStep, IsWaiting, KeepsLines, ReadsAhead, ScansAll, ScansText}
 use Rattle.hart_cli.specs.input.Input.{CameTo, Ending, Left, Reads, ReadsPortion, ReadsTo, ReadsWell, ending_of, input_limit}
 use Rattle.hart_cli.specs.text.InputChars.{HasChars}
 use Rattle.hart_cli.specs.text.Items.{MayBegin, NoPieceBegins, ReadsUpTo}
@@ -109,7 +105,6 @@ due_in_time : {r r1 r2 w w1 : Stream} (frames : FrameLines) {place : ℕ} {ahead
     → (more : ReadsAhead r1 r2 ahead after room end) → WroteInTime (due.input ++ more.bytes) w w1
 due_in_time {w = w} {w1 = w1} frames {ahead = ahead} due none may more =
     let scans = scans_text frames due none in
-    let Of : List ℕ → Type 0 = λ text. Appends w.bytes w1.bytes text in
     record {
       before = due.input;
       last = more.bytes;
@@ -120,7 +115,7 @@ due_in_time {w = w} {w1 = w1} frames {ahead = ahead} due none may more =
       frames = scans.given;
       decided = are_decided due.chars frames.scanner scans.given scans.moves due.waiting.undecided;
       more = [];
-      written = subst Of (scans.lines ∙ sym (append-nil (dump_text scans.given))) due.wrote.0;
+      written = rw append-nil (rw scans.lines at due.wrote.0);
     }
 
 -- a read and what it gave is scanned
@@ -134,9 +129,7 @@ scanned_step {r = r} {r1 = r1} {r2 = r2} {w = w} {w1 = w1} old new {place = plac
     let full : length due.input + room ≡ input_limit = omega (arith, is_room, due.placed, due.read.1) in
     let added = ended_text more.bytes (ending_of end) in
     let all = ended_on due.input more.bytes (ending_of end) in
-    let reads = subst (λ (xs : List ℕ). ReadsUpTo xs scans.chars rest) more.added scans.reads in
-    let whole = ReadsUpTo-on (due.input ++ added) due.chars (ahead ++ added) scans.chars rest
-    (ReadsUpTo-more due.input due.chars ahead added due.reads) reads in
+    let reads = rw more.added at scans.reads in
     let left = ReadsUpTo-few after scans.chars rest scans.reads in
     let size = ap (λ (xs : List ℕ). length xs) more.added ∙ length-append ahead added in
     let total = ap (λ (xs : List ℕ). length xs) all ∙ length-append due.input added in
@@ -145,7 +138,8 @@ scanned_step {r = r} {r1 = r1} {r2 = r2} {w = w} {w1 = w1} old new {place = plac
       chars = due.chars ++ scans.chars;
       text = due.text;
       read = read_more r r1 r2 due.input more.bytes room end due.read.0 full more.reads;
-      reads = subst (λ (xs : List ℕ). ReadsUpTo xs (due.chars ++ scans.chars) rest) (sym all) whole;
+      reads = rw all (ReadsUpTo-on (due.input ++ added) due.chars (ahead ++ added) scans.chars rest
+          (ReadsUpTo-more due.input due.chars ahead added due.reads) reads);
       placed = omega (arith, due.placed, left, size, total);
       no_piece = stops;
       few = omega (arith, left, few);

@@ -1,14 +1,12 @@
 -- What is said of the data of requests and replies, by what they are read as.
-use Rattle.std.proofs.lemmas.Grind.{common_steps}
-use Rattle.std.proofs.Common.{◌≡◌, ◌≤◌, ◌<◌, ℕ, Bool, true, false, List, [], ◌∷◌, drop, get_or, length, Option, None, Some}
+use Rattle.std.proofs.Common.{◌≡◌, ◌≤◌, ◌<◌, ℕ, Bool, true, false, List, [], ◌∷◌, drop, get_or, length, Option}
 use Rattle.std.proofs.Common.{refl, sym, ap, ◌∙◌, arith}
-use Rattle.std.specs.Prelude.{nat_lt, if◌then◌else◌, is_some}
+use Rattle.std.specs.Prelude.{nat_lt, if◌then◌else◌}
 use Rattle.std.proofs.lemmas.Bool.Decides.{nat_tests}
-use Rattle.hart_commands.specs.Fields.{command_name}
 use Rattle.hart_commands.specs.ReplyData.{reply_reading}
 use Rattle.hart_commands.specs.RequestData.{Reading, request_reading}
 use Rattle.hart_commands.specs.declared.reply.Reply.{Reply}
-use Rattle.hart_cli.specs.explain.Data.{data_line, ignored_line, no_reply_line, other_data_line, read_lines, replied_lines, reply_lines}
+use Rattle.hart_cli.specs.explain.Data.{ignored_line, read_lines, replied_lines, reply_lines}
 use Rattle.hart_cli.specs.explain.Data.{request_lines}
 
 -- the data of a request, by what they are read as
@@ -44,11 +42,3 @@ reply_lines-read command (first ∷ second ∷ bytes) reading some below is =
     ap (λ (faults : Bool). if faults then ignored_line bytes
     else replied_lines command bytes (reply_reading command (first ∷ second ∷ bytes))) test
     ∙ ap (λ (r : Option Reply). replied_lines command bytes r) (sym is)
-
--- data that are no reply, of a command that is known or not
-pub no_reply_line-known : (command : ℕ) (bytes name : List ℕ) → Some name ≡ command_name command
-    → no_reply_line command bytes ≡ other_data_line command bytes
-no_reply_line-known command bytes name is = grind (arith, common_steps, is_some)
-
-pub no_reply_line-unknown : (command : ℕ) (bytes : List ℕ) → None ≡ command_name command → no_reply_line command bytes ≡ data_line bytes
-no_reply_line-unknown command bytes is = grind (arith, common_steps, is_some)

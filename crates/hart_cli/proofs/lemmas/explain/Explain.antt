@@ -1,5 +1,5 @@
 -- The explanation of an input, of which there is one.
-use Rattle.std.proofs.Common.{◌≡◌, ℕ, List, [], ◌∷◌, ◌++◌, length, inl, inr, Option, Some, Result, Err, refl, append_assoc}
+use Rattle.std.proofs.Common.{◌≡◌, ℕ, List, [], ◌∷◌, ◌++◌, length, inl, inr, Option, Some, Err, refl, append_assoc}
 use Rattle.std.proofs.Common.{arith}
 use Rattle.std.proofs.lemmas.Grind.{common_steps}
 use Rattle.hart_frame.specs.heard.Character.{Character}
@@ -8,30 +8,24 @@ use Rattle.hart_frame.specs.declared.heard.found.Found.{Found}
 use Rattle.hart_frame.proofs.lemmas.Laws.{every_list_has_frames, frames_are_unambiguous-one_list}
 use Rattle.hart_cli.specs.declared.fault.CliFault.{CliFault}
 use Rattle.hart_cli.specs.declared.input.InputEnd.{InputEnd}
-use Rattle.hart_cli.specs.declared.stream.Failed.{Failed}
 use Rattle.hart_cli.specs.explain.Explain.{ExplainOutcome, HasExplanation, IsExplanation}
 use Rattle.hart_cli.specs.explain.Heard.{IsHeard}
 use Rattle.hart_cli.specs.text.InputChars.{HasChars}
-use Rattle.std.specs.Result.{IsErrAnd}
 use Rattle.hart_cli.specs.explain.Explanation.{explanation, IsExplanationOf}
 use Rattle.hart_cli.specs.explain.Message.{paragraph}
 use Rattle.hart_cli.specs.explain.Misses.{gap_text}
-use Rattle.hart_cli.specs.explain.Told.{AddsText, TellsExplanation}
+use Rattle.hart_cli.specs.explain.Told.{AddsText}
 use Rattle.hart_cli.specs.stream.Stream.{FailsToWrite, Stream, WritesAll}
 use Rattle.hart_cli.proofs.lemmas.dump.Writes.{FailsToWrite-longer}
 use Rattle.hart_cli.proofs.lemmas.explain.Heard.{IsHeard-one}
 use Rattle.hart_cli.proofs.lemmas.explain.Told.{adds_nothing, adds_then, fails_then}
-
--- characters have one explanation
-IsExplanationOf-one : (chars : List Character) (xs ys : List ℕ) → IsExplanationOf chars xs → IsExplanationOf chars ys → xs ≡ ys
-IsExplanationOf-one chars xs ys p q = grind (arith, common_steps, frames_are_unambiguous-one_list)
 
 -- an input has one explanation and one fault
 pub IsExplanation-one : (input : List ℕ) (end : InputEnd) (f g : Option CliFault) (xs ys : List ℕ)
     → IsExplanation input end f xs → IsExplanation input end g ys → (f ≡ g) × (xs ≡ ys)
 IsExplanation-one input end f g xs ys p q =
     let same = IsHeard-one input end p.chars q.chars f g p.heard q.heard in
-    (same.1, IsExplanationOf-one q.chars xs ys (rw same.0 at p.explains) q.explains)
+    grind (arith, common_steps, frames_are_unambiguous-one_list)
 
 -- an explanation that goes on from a place, after a text, whatever frames the characters have from there on
 abbrev pub GoesOn : List Character → ℕ → List ℕ → Type 0

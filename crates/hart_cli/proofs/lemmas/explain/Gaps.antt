@@ -24,8 +24,8 @@ use Rattle.hart_frame.specs.heard.Place.{StandsIn}
 use Rattle.hart_frame.specs.heard.Start.{IsStart}
 use Rattle.hart_frame.specs.declared.heard.found.Found.{Found}
 use Rattle.hart_frame.specs.declared.heard.miss.Miss.{Miss}
-use Rattle.hart_frame.specs.declared.heard.miss.Miss.TheVariants.{Faulty, Burst, BadDelimiter, EndsBeforeByteCount, ShortReply, Missing}
-use Rattle.hart_frame.specs.declared.heard.miss.Miss.TheVariants.{BadCheck, OnePreamble}
+use Rattle.hart_frame.specs.declared.heard.miss.Miss.TheVariants.{Burst, EndsBeforeByteCount}
+use Rattle.hart_frame.specs.declared.heard.miss.Miss.TheVariants.{OnePreamble}
 use Rattle.hart_cli.specs.explain.Gaps.{IsGap, IsOneLine, missed, missed_at, MissedPlace}
 use Rattle.hart_cli.specs.explain.Misses.{byte_digits, characters_word, gap_text, miss_line, miss_words, place_text}
 
@@ -51,16 +51,12 @@ told_at f place = option_map_or (λ miss. record { place = place; miss = miss } 
 abbrev told_from : (ℕ → Option Miss) → ℕ → ℕ → List MissedPlace
 told_from f a n = flat_map (λ place. told_at f place) (range_with_len a n)
 
--- what stands at one place
-at_place : (f : ℕ → Option Miss) (a : ℕ) (x : MissedPlace) → Contains (told_at f a) x → (x.place ≡ a) × (f a ≡ Some x.miss)
-at_place f a x has = grind (arith, common_steps)
-
 -- what stands among places
 told_is : (f : ℕ → Option Miss) (a n : ℕ) (x : MissedPlace) → Contains (told_from f a n) x
     → (a ≤ x.place) × (x.place < a + n) × (f x.place ≡ Some x.miss)
 told_is f a zero x (k, within, is) = absurd (omega arith)
 told_is f a (suc n) x has =
-    grind (arith, common_steps, Contains-append_cases (told_at f a) (told_from f (a + 1) n) x has, at_place, told_is f (a + 1) n x)
+    grind (arith, common_steps, Contains-append_cases (told_at f a) (told_from f (a + 1) n) x has, told_is f (a + 1) n x)
 
 -- every place that has something is among them
 told_has : (f : ℕ → Option Miss) (a n place : ℕ) (miss : Miss) → a ≤ place → place < a + n → f place ≡ Some miss

@@ -13,8 +13,8 @@ use Rattle.hart_frame.specs.heard.Miss.{HasFrameUpTo, miss_of}
 use Rattle.hart_frame.specs.heard.Start.{IsStart}
 use Rattle.hart_frame.specs.wire.Parity.{IsCheckByte}
 use Rattle.hart_frame.specs.declared.heard.miss.Miss.{Miss}
-use Rattle.hart_frame.specs.declared.heard.miss.Miss.TheVariants.{BadCheck, BadDelimiter, Burst, EndsBeforeByteCount, Faulty, Missing}
-use Rattle.hart_frame.specs.declared.heard.miss.Miss.TheVariants.{OnePreamble, ShortReply}
+use Rattle.hart_frame.specs.declared.heard.miss.Miss.TheVariants.{BadCheck, Faulty, Missing}
+use Rattle.hart_frame.specs.declared.heard.miss.Miss.TheVariants.{OnePreamble}
 use Rattle.hart_cli.specs.explain.Gaps.{missed}
 use Rattle.hart_cli.specs.explain.Misses.{miss_in_whole, miss_line}
 use Rattle.hart_cli.proofs.lemmas.explain.Gaps.{missed_are, stands_in_rest}

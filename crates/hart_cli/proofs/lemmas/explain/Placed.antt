@@ -1,11 +1,10 @@
 -- The places that a miss names lie in the characters.
-use Rattle.std.proofs.Common.{◌≡◌, ◌≤◌, ◌<◌, ◌+◌, ℕ, Bool, List, [], ◌∷◌, Option, None, Some, drop, length, arith}
+use Rattle.std.proofs.Common.{◌≡◌, ◌≤◌, ◌<◌, ◌+◌, ℕ, Bool, List, Option, None, Some, drop, length, arith}
 use Rattle.std.proofs.Common.{length-drop, nat_le, nat_lt}
 use Rattle.std.specs.Prelude.{◌&&◌, if◌then◌else◌, is_none, slice_get}
 use Rattle.std.proofs.lemmas.Grind.{common_steps}
 use Rattle.std.proofs.lemmas.List.{length-map, length-take}
 use Rattle.std.proofs.lemmas.Option.{slice_get_within}
-use Rattle.std.specs.List.{take_while}
 use Rattle.hart_frame.specs.heard.Character.{Character, faultless_bytes}
 use Rattle.hart_frame.specs.heard.Miss.{body_miss}
 use Rattle.hart_frame.specs.heard.Miss.{follows_one_preamble}

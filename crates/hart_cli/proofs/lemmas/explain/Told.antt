@@ -6,7 +6,7 @@ use Rattle.std.proofs.lemmas.List.{append-nil}
 use Rattle.std.specs.Result.{IsErrAnd}
 use Rattle.hart_cli.specs.declared.stream.Failed.{Failed}
 use Rattle.hart_cli.specs.explain.Told.{AddsText, Tells}
-use Rattle.hart_cli.specs.stream.Stream.{FailsToWrite, Stream, Writes, WritesAll}
+use Rattle.hart_cli.specs.stream.Stream.{FailsToWrite, Stream, Writes}
 use Rattle.hart_cli.proofs.lemmas.dump.Writes.{FailsToWrite-longer, FailsToWrite-on, WritesAll-on}
 
 -- a text is kept
@@ -16,10 +16,6 @@ adds_kept s before text = record { written = []; wrote = (Appends-nil _, refl); 
 -- nothing is added
 pub adds_nothing : (s : Stream) (kept : List ℕ) → AddsText s s kept kept []
 adds_nothing s kept = record { written = []; wrote = (Appends-nil _, refl); whole = sym (append-nil kept) }
-
--- what is kept is written
-pub adds_written : (old new : Stream) (kept : List ℕ) → WritesAll old new kept → AddsText old new kept [] []
-adds_written old new kept wrote = record { written = kept; wrote = wrote; whole = refl }
 
 -- a text is added after another
 pub adds_then : (a b c : Stream) (p q r x y : List ℕ) → AddsText a b p q x → AddsText b c q r y → AddsText a c p r (x ++ y)

@@ -21,7 +21,7 @@ use Rattle.hart_line.specs.declared.fault.LineFault.{LineFault}
 use Rattle.hart_line.specs.declared.fault.LineFault.TheVariants as line_faults
 use Rattle.hart_line.specs.declared.line.report.Outcome.{Outcome}
 use Rattle.hart_line.specs.declared.line.report.Spoken.{Spoken}
-use Rattle.hart_cli.specs.sim.Sim.{HasLineFault, IsSimulation, IsWorldText, start_with}
+use Rattle.hart_cli.specs.sim.Sim.{HasLineFault, IsSimulation, start_with}
 use Rattle.hart_cli.specs.sim.Text.{counter_line, image_line, outcome_line, spoken_line}
 
 -- the things of a list that goes on are numbered on
@@ -59,20 +59,11 @@ AreSpoken-one (said ∷ frames) (x ∷ xs) (y ∷ ys) p q =
     grind (arith, common_steps, AreSpoken-one frames xs ys p.1 q.1)
 AreSpoken-one _ xs ys p q = grind arith
 
--- a world has one text
-IsWorldText-one : (start : Start) (world : World) (xs ys : List ℕ) → IsWorldText start world xs → IsWorldText start world ys
-    → xs ≡ ys
-IsWorldText-one start world xs ys p q = grind (arith, common_steps, AreSpoken-one)
-
 -- an input has one text
 pub IsSimulation-one : (device : DeviceState) (input xs ys : List ℕ)
     → IsSimulation device input xs → IsSimulation device input ys → xs ≡ ys
 IsSimulation-one device input xs ys p q =
-    grind (
-      arith,
-      scripts_have_one_last_world-one_world (start_with device) q.events p.world q.world,
-      IsWorldText-one (start_with device) q.world xs ys,
-    )
+    grind (arith, scripts_have_one_last_world-one_world (start_with device) q.events p.world q.world, AreSpoken-one)
 
 -- an input with a text has no fault
 pub IsSimulation-faultless : (device : DeviceState) (input text : List ℕ) (fault : LineFault)

@@ -5,7 +5,7 @@ use Rattle.std.proofs.Common.{append_assoc, arith, length-append}
 use Rattle.std.proofs.Math.ListN.{get_or-map}
 use Rattle.std.specs.Char.{to_ascii_uppercase}
 use Rattle.std.specs.List.{join_with_byte}
-use Rattle.std.proofs.lemmas.List.{append-nil, map_more}
+use Rattle.std.proofs.lemmas.List.{map_more}
 use Rattle.hart_cli.specs.text.HexText.{hex_items}
 use Rattle.hex.proofs.HexLemmas.{length-encode_with}
 use Rattle.hex.specs.Hex.{encode_lower, encode_upper, encode_with, lower_digits, upper_digits}
@@ -26,10 +26,6 @@ join_with_byte-push : (c : ℕ) (x : List ℕ) (xs : List (List ℕ)) (y : List 
 join_with_byte-push c x [] y = refl
 join_with_byte-push c x (z ∷ zs) y = grind (arith, append_assoc, join_with_byte-push c z zs y)
 
--- no byte yet
-pub hex_items-none : (start bytes : List ℕ) → start ≡ start ++ hex_items (take 0 bytes)
-hex_items-none start bytes = sym (append-nil start)
-
 -- the first byte
 pub hex_items-first : (start bytes line digits : List ℕ) (i d : ℕ) → i ≤ 0 → i < length bytes
     → line ≡ start ++ hex_items (take i bytes) → digits ≡ encode_upper (get_or bytes i d ∷ [])
@@ -47,11 +43,6 @@ encode_upper-append : (bytes more : List ℕ) → encode_upper (bytes ++ more) �
 unfolding encode_with
 encode_upper-append [] more = refl
 encode_upper-append (byte ∷ bytes) more = grind (arith, encode_upper-append bytes more)
-
--- no bytes have no digits
-pub encode_upper-none : (line : List ℕ) → line ≡ line ++ encode_upper []
-unfolding encode_with
-encode_upper-none line = sym (append-nil line)
 
 -- the digits of one byte more
 pub encode_upper-more : (start line line' bytes digits : List ℕ) (i d : ℕ) → i < length bytes

@@ -1,8 +1,8 @@
 -- Texts of items: a text reads in one way, and what follows a text leaves what was read.
 use Rattle.std.proofs.lemmas.Grind.{common_steps}
 use Rattle.std.proofs.Common.{◌≡◌, ℕ, ◌+◌, ◌<◌, ◌≤◌, ◌-◌, true, List, [], ◌∷◌, ◌++◌, length, take, drop, Option, refl, sym}
-use Rattle.std.proofs.Common.{◌*◌, Some, subst, arith}
-use Rattle.std.proofs.lemmas.List.{append-nil, append_assoc, drop-drop, length-append, length-drop, take_rest}
+use Rattle.std.proofs.Common.{◌*◌, subst, arith}
+use Rattle.std.proofs.lemmas.List.{append-nil, append_assoc, drop-drop, length-append, take_rest}
 use Rattle.hart_frame.specs.heard.Character.{Character}
 use Rattle.hart_cli.specs.text.Items.{BeginsAs, BeginsWith, IsSeparator, IsWholeBefore, Item, meaning, NoPieceBegins, nothing}
 use Rattle.hart_cli.specs.text.Items.{Piece, piece, ReadsUpTo, spelling}
@@ -98,15 +98,6 @@ few_meant p = grind (arith, common_steps)
 pub few_read : (text : List ℕ) (char : Option Character) (len : ℕ) → BeginsAs text char len → 2 * length (option_to_list char) ≤ len
 few_read text char len b = grind (arith, common_steps, few_meant)
 
--- a byte stands after an item
-item_inside : (text tail : List ℕ) (p : Piece) (x : Character) → BeginsWith text p tail → meaning p ≡ x ∷ []
-    → length (spelling p) < length text
-item_inside text tail p x h k = grind (arith, common_steps)
-
-pub char_inside : (text : List ℕ) (char : Option Character) (x : Character) (len : ℕ) → BeginsAs text char len → char ≡ Some x
-    → (2 ≤ len) × (len < length text)
-char_inside text char x len b is = grind (arith, common_steps, few_read, item_inside)
-
 -- a piece is read
 pub begins_reads : (text : List ℕ) (char : Option Character) (len : ℕ) → BeginsAs text char len
     → (0 < len) × (len ≤ length text) × ReadsUpTo text (option_to_list char) (drop len text)
@@ -115,12 +106,6 @@ begins_reads text char len b =
     let long = length-append (spelling b.piece) b.tail in
     let tail : drop len text ≡ b.tail = rw (← b.long, b.begins.spelled) (drop-append_seam (spelling b.piece) b.tail) in
     let read = piece text b.piece b.tail [] b.tail b.begins (nothing b.tail) in grind (arith, common_steps, append-nil)
-
--- a text is read one piece further
-pub piece_read : (text : List ℕ) (chars new : List Character) (place : ℕ) (char : Option Character) (len : ℕ) → place ≤ length text
-    → ReadsUpTo text chars (drop place text) → BeginsAs (take (length text - place) (drop place text)) char len
-    → new ≡ chars ++ option_to_list char → (0 < len) × (place + len ≤ length text) × ReadsUpTo text new (drop (place + len) text)
-piece_read text chars new place char len within r b e = grind (arith, common_steps, begins_reads, length-drop, read_on, take_rest)
 
 -- a text has two bytes at least before its rest for each character
 pub ReadsUpTo-few : (text : List ℕ) (chars : List Character) (rest : List ℕ) → ReadsUpTo text chars rest

@@ -20,8 +20,8 @@ returns-in_err-finish-clause-fault c =
     let noted = ending.noted world ending.world.1 in
     let stop = err_from_is_err_and c.from_residual-in_err-finish.result c.from_residual-in_err-finish.ensures.1 in
     let simulation = IsSimulation-run c.args.device c.args.input.now _ c.as_slice.result.now c.in_ok-ending.ending.device
-    c.in_ok-ending.ending.outcomes world noted.0 (grind (arith, same_start)) (rw c.as_slice.ensures.value c.in_ok-events.ensures.events) ending.world.1
-    (ending.device world ending.world.1) (ending.outcomes world ending.world.1) noted.1 in
+    c.in_ok-ending.ending.outcomes world noted.0 (grind (arith, same_start)) (rw c.as_slice.ensures.value c.in_ok-events.ensures.events)
+    ending.world.1 (ending.device world ending.world.1) (ending.outcomes world ending.world.1) noted.1 in
     rw (stop.1, stop.2) (inr (inr (
       _,
       simulation,

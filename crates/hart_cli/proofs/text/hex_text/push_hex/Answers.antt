@@ -1,10 +1,14 @@
+use Rattle.std.proofs.Common.{sym}
+use Rattle.std.proofs.lemmas.List.{append-nil}
+use Rattle.hex.specs.Hex.{encode_with}
 use Rattle.std.proofs.lemmas.Grind.{common_steps}
 use Rattle.std.proofs.Common.{arith}
-use Rattle.hart_cli.proofs.lemmas.text.HexText.{encode_upper-more, encode_upper-none}
+use Rattle.hart_cli.proofs.lemmas.text.HexText.{encode_upper-more}
 use Rattle.hart_cli.proofs.text.hex_text.push_hex.Goals as goal
 
 pub loop-byte-init : goal.loop-byte-init
-loop-byte-init g c = record { written = encode_upper-none _; len = omega arith }
+unfolding encode_with
+loop-byte-init g c = record { written = sym (append-nil _); len = omega arith }
 
 pub loop-byte-preserved : goal.loop-byte-preserved
 loop-byte-preserved g c =

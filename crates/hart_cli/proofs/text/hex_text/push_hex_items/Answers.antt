@@ -1,11 +1,13 @@
+use Rattle.std.proofs.Common.{sym}
+use Rattle.std.proofs.lemmas.List.{append-nil}
 use Rattle.std.proofs.lemmas.Grind.{common_steps}
 use Rattle.std.proofs.Common.{arith, length-append}
-use Rattle.hart_cli.proofs.lemmas.text.HexText.{hex_items-first, hex_items-more, hex_items-none}
+use Rattle.hart_cli.proofs.lemmas.text.HexText.{hex_items-first, hex_items-more}
 use Rattle.hart_cli.proofs.text.hex_text.push_hex_items.Goals as goal
 use Rattle.hart_cli.proofs.text.hex_text.push_hex_items.Goals.{then-index-gt0, else-index-gt0}
 
 pub loop-index-init : goal.loop-index-init
-loop-index-init g c = record { written = hex_items-none c.args.line.now c.args.bytes.now; few = omega arith }
+loop-index-init g c = record { written = sym (append-nil _); few = omega arith }
 
 pub loop-index-preserved : goal.loop-index-preserved
 loop-index-preserved g c = grind (arith, common_steps, else-index-gt0, hex_items-first, hex_items-more, length-append, then-index-gt0)
