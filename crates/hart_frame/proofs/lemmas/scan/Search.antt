@@ -5,6 +5,9 @@ use Rattle.std.proofs.Common.{drop, get_or, refl, sym, ap, ◌∙◌, max, arith
 use Rattle.std.specs.List.{All}
 use Rattle.std.proofs.lemmas.List.{drop-append-le, drop-take, drop_all, drop_more, get_or-drop, get_or-take, length-take-le, take_rest}
 use Rattle.std.proofs.Math.Seq.{take-add, take-append-add}
+use Rattle.std.proofs.Common.{Option, add-zero}
+use Rattle.std.specs.Option.{MatchOption}
+use Rattle.hart_frame.specs.scan.Search.{IsOpenAll}
 use Rattle.hart_frame.specs.wire.Layout.{layout_length}
 use Rattle.hart_frame.specs.wire.Refusal.{IsTruncated}
 use Rattle.hart_frame.specs.scan.Candidate.{IsCandidate, IsWhole, MayBegin, MayBeginBefore, NeverBecomeBody, NeverBegin}
@@ -50,65 +53,74 @@ never_other : (xs : List ℕ) (here count : ℕ) → here < count → count ≤ 
     → NeverBegin (drop here (take count xs))
 never_other xs here count below within other = search (arith, common_steps, drop_take, drop_more, never_first)
 
--- nothing is decided of so many bytes if what they have from the place of the search on may begin a frame
-still_open : (xs : List ℕ) (from seen place decided fewer : ℕ) → IsSearching xs from seen place decided → decided ≤ fewer
-    → fewer ≤ length xs → from ≤ fewer → (place ≤ fewer → MayBegin (take (fewer - place) (drop place xs))) → IsOpenFrom (take fewer xs) from
-still_open xs from seen place decided fewer searching late within start may =
-    let long = length-take-le fewer xs within in
-    let cases : (place ≤ fewer) ⊎ (fewer < place) = grind arith in
+open_here : (xs : List ℕ) (from place : ℕ) → from ≤ place → place ≤ length xs → NoneBegin xs from place → MayBegin (drop place xs)
+    → IsOpenFrom xs from
+open_here xs from place after within none may = grind arith
+
+-- nothing is decided of so many bytes if fewer than so many from the place of the search on may begin a frame
+open_before : (xs : List ℕ) (from seen place decided more count : ℕ) → IsSearching xs from seen place decided → from ≤ seen
+    → more ≤ length xs → (more ≤ decided) ⊎ (more ≤ place + count) → MayBeginBefore count (drop place xs) → IsOpenBefore xs from seen more
+open_before xs from seen place decided more count searching order within either may fewer late early =
+    let all : fewer ≤ length xs = omega (arith, early, within) in
+    let long = length-take-le fewer xs all in
+    let cases : (fewer < decided) ⊎ (decided ≤ fewer) = grind arith in
+    let reached : (place ≤ fewer) ⊎ (fewer < place) = grind arith in
     elim cases [
-      | inl reached ↦ record {
-        place = place;
-        after = searching.after;
-        within = omega (arith, long, reached);
-        none = λ here since below. searching.none fewer here late within since below (omega (arith, below, reached));
-        may = subst MayBegin (sym (drop_take xs place fewer reached)) (may reached);
-      }
-      | inr short ↦ record {
-        place = fewer;
-        after = start;
-        within = omega (arith, long);
-        none = λ here since below. searching.none fewer here late within since (omega (arith, below, short)) below;
-        may = inl (drop_all fewer (take fewer xs) (omega (arith, long)));
-      }
+      | inl before ↦ searching.before fewer late before
+      | inr not ↦
+          let none : (to : ℕ) → to ≤ place → to ≤ fewer → NoneBegin (take fewer xs) from to =
+          λ to some any here since below.
+          searching.none fewer here not all since (omega (arith, below, some)) (omega (arith, below, any)) in
+          elim reached [
+            | inl there ↦
+                open_here (take fewer xs) from place searching.after (omega (arith, long, there)) (none place (omega arith) there)
+                (rw (drop_take xs place fewer there) (grind arith))
+            | inr short ↦
+                open_here (take fewer xs) from fewer (omega (arith, order, late)) (omega (arith, long))
+                (none fewer (omega (arith, short)) (omega arith)) (inl (drop_all fewer (take fewer xs) (omega (arith, long))))
+          ]
     ]
+
+-- a search goes on to a later place if at none of those in between a frame begins, as so many bytes show
+searching_on : (xs : List ℕ) (from seen place decided next more : ℕ) → IsSearching xs from seen place decided → place ≤ next
+    → next ≤ length xs → decided ≤ more → more ≤ length xs → more ≤ next + 269 → IsOpenBefore xs from seen more
+    → ((count here : ℕ) → more ≤ count → count ≤ length xs → place ≤ here → here < next → here < count
+    → NeverBegin (drop here (take count xs))) → IsSearching xs from seen next more
+searching_on xs from seen place decided next more searching after within late inside few before none =
+    let all : (n here : ℕ) → more ≤ n → n ≤ length xs → from ≤ here → here < next → here < n → NeverBegin (drop here (take n xs)) =
+    λ n here later all since below there.
+    let cases : (here < place) ⊎ (place ≤ here) = grind arith in
+    elim cases [
+      | inl early ↦ searching.none n here (omega (arith, later, late)) all since early there
+      | inr on ↦ none n here later all on below there
+    ] in
+    grind arith
 
 -- a search goes on after other bytes than preamble bytes
 pub searching_others : (xs : List ℕ) (from seen place decided next : ℕ) → IsSearching xs from seen place decided → place ≤ next
     → next ≤ length xs → ((here : ℕ) → place ≤ here → here < next → get_or xs here 0 ≢ 255) → IsSearching xs from seen next decided
 searching_others xs from seen place decided next searching after within others =
-    let none : (n here : ℕ) → decided ≤ n → n ≤ length xs → from ≤ here → here < next → here < n → NeverBegin (drop here (take n xs)) =
-    λ n here later all since below there.
-    let cases : (here < place) ⊎ (place ≤ here) = grind arith in
-    elim cases [
-      | inl early ↦ searching.none n here later all since early there
-      | inr late ↦ never_other xs here n there all (others here late below)
-    ] in
-    grind arith
+    searching_on xs from seen place decided next decided searching after within (omega arith) searching.within
+    (omega (arith, after, searching.few)) searching.before
+    (λ n here late all since below there. never_other xs here n there all (others here since below))
+
+never_here : (xs : List ℕ) (place count n : ℕ) → IsCandidate (drop place xs) (Never count) → place + count ≤ n → n ≤ length xs
+    → NeverBegin (drop place (take n xs))
+never_here xs place count n never long within =
+    rw (drop_take xs place n (omega (arith, long)), take_more (drop place xs) count (n - place) (omega (arith, long)))
+    (never_more (take count (drop place xs)) _ never.1)
 
 -- so many bytes show that no frame begins at the place, and the search goes on after it
 pub searching_never : (xs : List ℕ) (from seen place decided count more : ℕ) → IsSearching xs from seen place decided → from ≤ seen
-    → place < length xs → IsCandidate (drop place xs) (Never count) → count ≤ 269 → decided ≤ more → place + count ≤ more
-    → (more ≤ decided) ⊎ (more ≤ place + count) → IsSearching xs from seen (place + 1) more
-searching_never xs from seen place decided count more searching order inside never short least above either =
-    let room = length-drop place xs in
-    let none : (n here : ℕ) → more ≤ n → n ≤ length xs → from ≤ here → here < place + 1 → here < n → NeverBegin (drop here (take n xs)) =
-    λ n here later all since below there.
-    let cases : (here < place) ⊎ (here ≡ place) = grind arith in
-    elim cases [
-      | inl early ↦ searching.none n here (omega (arith, later, least)) all since early there
-      | inr same ↦
-          let rest : drop here (take n xs) ≡ take count (drop place xs) ++ take (n - place - count) (drop count (drop place xs)) =
-          grind (arith, common_steps, drop_take, take_more) in
-          rw rest (never_more (take count (drop place xs)) _ never.1)
-    ] in
-    let before : IsOpenBefore xs from seen more = λ fewer late early.
-    let cases : (fewer < decided) ⊎ (decided ≤ fewer) = grind arith in
-    elim cases [
-      | inl before ↦ searching.before fewer late before
-      | inr not ↦ still_open xs from seen place decided fewer searching not (grind arith) (grind arith) (λ reached. grind arith)
-    ] in
-    grind arith
+    → place < length xs → IsCandidate (drop place xs) (Never count) → count ≤ 269 → more ≡ max decided (place + count)
+    → IsSearching xs from seen (place + 1) more
+searching_never xs from seen place decided count more searching order inside never short is =
+    let fits : more ≤ length xs = omega (arith, is, length-drop place xs) in
+    searching_on xs from seen place decided (place + 1) more searching (omega arith) (omega (arith, inside)) (omega (arith, is)) fits
+    (omega (arith, is, searching.few)) (open_before xs from seen place decided more count searching order fits (grind (arith, is)) never.2)
+    (λ n here late all since below there.
+    let same : here ≡ place = omega (arith, since, below) in
+    rw same (never_here xs place count n never (omega (arith, late, is)) all))
 
 -- three preamble bytes begin no frame, and two may
 three_never : (xs : List ℕ) (here : ℕ) → HasThree xs here → IsCandidate (drop here xs) (Never 3)
@@ -119,96 +131,80 @@ three_never xs here (within, first, second, third) =
     rw parts (omega arith, never_after 255 255 (255 ∷ []) never, may_begin_before 1 (255 ∷ drop (here + 3) xs) (grind arith))
 
 -- a search has come to a place, and only so many bytes more are needed for it
-pub record HasPassed (xs : List ℕ) (from seen place decided : ℕ) : Type 0 where
-  pub needed : ℕ
-  pub searching : IsSearching xs from seen place needed
-  pub least : decided ≤ needed
-  pub most : (needed ≤ decided) ⊎ (needed ≤ place + 2)
+abbrev HasPassed : List ℕ → ℕ → ℕ → ℕ → ℕ → Type 0
+HasPassed xs from seen place decided =
+    (needed : ℕ) × IsSearching xs from seen place needed × (decided ≤ needed) × ((needed ≤ decided) ⊎ (needed ≤ place + 2))
+
+passed_on : (xs : List ℕ) (from seen place decided next : ℕ) → HasPassed xs from seen place decided → from ≤ seen → place < length xs
+    → next ≡ place + 1 → (get_or xs place 0 ≢ 255) ⊎ HasThree xs place → HasPassed xs from seen next decided
+passed_on xs from seen place decided next (needed, searching, least, most) order within is either =
+    let more = max needed (place + 3) in
+    elim either [
+      | inl other ↦ (
+        needed,
+        searching_others xs from seen place needed next searching (omega (arith, is)) (omega (arith, is, within)) (grind arith),
+        least,
+        grind arith,
+      )
+      | inr three ↦ (
+        more,
+        rw is (searching_never xs from seen place needed 3 more searching order within (three_never xs place three) (omega arith)
+            refl),
+        omega arith,
+        grind arith,
+      )
+    ]
 
 searching_run : (xs : List ℕ) (from seen place decided count : ℕ) → IsSearching xs from seen place decided → from ≤ seen
     → place + count ≤ length xs
     → ((here : ℕ) → place ≤ here → here < place + count → (get_or xs here 0 ≢ 255) ⊎ HasThree xs here)
     → HasPassed xs from seen (place + count) decided
-searching_run xs from seen place decided zero searching order within passed = record {
-  needed = decided;
-  searching = subst (λ (n : ℕ). IsSearching xs from seen n decided) (let e : place ≡ place + 0 = omega arith in e) searching;
-  least = omega arith;
-  most = inl (omega arith);
-}
+searching_run xs from seen place decided zero searching order within passed = (decided, rw add-zero searching, omega arith, inl (omega arith))
 searching_run xs from seen place decided (suc count) searching order within passed =
-    let there : place + 1 + count ≡ place + suc count = omega arith in
-    let Passed : ℕ → Type 0 = λ n. HasPassed xs from seen n decided in
-    let later : (here : ℕ) → place + 1 ≤ here → here < place + 1 + count → (get_or xs here 0 ≢ 255) ⊎ HasThree xs here = grind arith in
-    elim (passed place (omega arith) (omega arith)) [
-      | inl other ↦
-          let others : (here : ℕ) → place ≤ here → here < place + 1 → get_or xs here 0 ≢ 255 = grind arith in
-          subst Passed there (searching_run xs from seen (place + 1) decided count
-          (searching_others xs from seen place decided (place + 1) searching (omega arith) (omega (arith, within)) others) order
-          (omega (arith, within)) later)
-      | inr three ↦
-          let more = max decided (place + 3) in
-          let either : (more ≤ decided) ⊎ (more ≤ place + 3) = grind arith in
-          let next = searching_never xs from seen place decided 3 more searching order (omega (arith, three.0))
-          (three_never xs place three) (omega arith) (omega arith) (omega arith) either in
-          grind (arith, common_steps, searching_run xs from seen (place + 1) more count next order (omega (arith, within)) later)
-    ]
+    passed_on xs from seen (place + count) decided (place + suc count)
+    (searching_run xs from seen place decided count searching order (omega (arith, within)) (grind arith)) order (omega (arith, within))
+    (omega arith) (passed (place + count) (omega arith) (omega arith))
 
 -- a search goes on at the next candidate
 pub searching_next : (xs : List ℕ) (from seen place decided start : ℕ) → IsSearching xs from seen place decided → from ≤ seen
     → IsNextCandidate xs place start → HasPassed xs from seen start decided
 searching_next xs from seen place decided start searching order next =
     let there : place + (start - place) ≡ start = omega (arith, next.after) in
-    grind (arith, searching_run)
+    rw (← there) (searching_run xs from seen place decided (start - place) searching order (grind arith) (rw there next.passed))
 
 may_take_two : (xs : List ℕ) (n : ℕ) → n ≤ length xs + 2 → IsTruncated xs → MayBegin (take n (255 ∷ 255 ∷ xs))
-may_take_two xs zero within truncated = inl refl
-may_take_two xs (suc zero) within truncated = inr (inl refl)
-may_take_two xs (suc (suc n)) within truncated = grind (arith, length-take-le, truncated_count, truncated_check)
+may_take_two xs n within truncated =
+    may_begin_before (length xs + 1) xs (λ fewer below. grind (arith, length-take-le, truncated_count, truncated_check)) n
+    (omega (arith, within))
 
 -- the first of bytes that may begin a frame may
 pub may_take : (xs : List ℕ) (n : ℕ) → n ≤ length xs → MayBegin xs → MayBegin (take n xs)
 may_take xs n within may = grind (arith, may_take_two)
 
--- the whole list decides nothing, if it is searched to its end
-all_open : (xs : List ℕ) (from seen place decided : ℕ) → IsSearching xs from seen place decided → from ≤ seen → MayBegin (drop place xs)
-    → IsOpenBefore xs from seen (length xs)
-all_open xs from seen place decided searching order may fewer late early =
-    grind (
-      arith,
-      searching.before fewer late,
-      still_open xs from seen place decided fewer searching,
-      may_take (drop place xs) (fewer - place),
-      length-drop place xs,
-    )
+searched_at : (xs : List ℕ) (from seen place decided more count : ℕ) (layout : Option Layout) → IsSearching xs from seen place decided
+    → from ≤ seen → place ≤ more → decided ≤ more → more ≤ length xs → more ≤ place + 269 → (more ≤ decided) ⊎ (more ≤ place + count)
+    → MayBeginBefore count (drop place xs)
+    → MatchOption layout (IsOpenAll xs (record { place = place; decided = more; layout = layout })) (λ l. IsWhole l (drop place (take more xs)))
+    → IsSearched xs from seen (record { place = place; decided = more; layout = layout })
+searched_at xs from seen place decided more count layout searching order above least fits few either may stands =
+    let before = open_before xs from seen place decided more count searching order fits either may in
+    let none : NoneBegin (take more xs) from place =
+    λ here since below. searching.none more here least fits since below (omega (arith, below, above)) in
+    grind arith
 
 -- the search ends where the list ends, or where a frame may begin that has more bytes
 pub searched_open : (xs : List ℕ) (from seen place decided : ℕ) → IsSearching xs from seen place decided → from ≤ seen
     → length xs < place + 269 → MayBegin (drop place xs)
     → IsSearched xs from seen (record { place = place; decided = length xs; layout = None })
 searched_open xs from seen place decided searching order few may =
-    record {
-      after = searching.after;
-      order = searching.place_within;
-      late = omega (arith, searching.late, searching.within);
-      within = omega arith;
-      few = omega (arith, few);
-      none = λ here since below.
-          searching.none (length xs) here searching.within (omega arith) since below (omega (arith, below, searching.place_within));
-      before = all_open xs from seen place decided searching order may;
-      stands = (refl, few, may);
-    }
+    searched_at xs from seen place decided (length xs) (length xs - place) None searching order searching.place_within searching.within
+    (omega arith) (omega (arith, few)) (inr (omega arith))
+    (λ n below. may_take (drop place xs) n (omega (arith, below, length-drop place xs)) may) (refl, few, may)
 
 -- a whole frame is one if as many bytes are there
 whole_take : (layout : Layout) (xs : List ℕ) (n : ℕ) → (whole : IsWhole layout xs) → 2 + layout_length layout ≤ n → n ≤ length xs
     → IsWhole layout (take n xs)
-whole_take layout xs n whole long within =
-    let front : List ℕ = 255 ∷ 255 ∷ whole.body in
-    record {
-      body = whole.body;
-      rest = take (n - length front) whole.rest;
-      parts = grind (arith, take_both front whole.rest n);
-      whole = whole.whole;
-    }
+whole_take layout xs n whole long within = grind (arith, take_both (255 ∷ 255 ∷ whole.body) whole.rest n)
 
 -- and stays one if more bytes follow
 pub whole_append : (layout : Layout) (xs ys : List ℕ) (place : ℕ) → place ≤ length xs → IsWhole layout (drop place xs)
@@ -216,32 +212,17 @@ pub whole_append : (layout : Layout) (xs ys : List ℕ) (place : ℕ) → place 
 whole_append layout xs ys place within whole = grind (arith, drop-append-le, append_assoc)
 
 pub searched_stands : (xs : List ℕ) (from seen place decided more : ℕ) (layout : Layout) → IsSearching xs from seen place decided
-    → from ≤ seen
-    → IsWhole layout (drop place xs) → MayBeginBefore (2 + layout_length layout) (drop place xs) → layout_length layout ≤ 267
-    → decided ≤ more → place + 2 + layout_length layout ≤ more → (more ≤ decided) ⊎ (more ≤ place + 2 + layout_length layout)
+    → from ≤ seen → IsWhole layout (drop place xs) → MayBeginBefore (2 + layout_length layout) (drop place xs) → layout_length layout ≤ 267
+    → more ≡ max decided (place + 2 + layout_length layout)
     → IsSearched xs from seen (record { place = place; decided = more; layout = Some layout })
-searched_stands xs from seen place decided more layout searching order whole may short least above either =
-    let room = length-drop place xs in
-    let long : length (drop place xs) ≡ 2 + layout_length layout + length whole.rest = grind (arith, common_steps, length-append) in
-    let fits : more ≤ length xs = grind arith in
-    let few : more ≤ place + 269 = grind arith in
-    record {
-      after = searching.after;
-      order = omega (arith, above);
-      late = omega (arith, searching.late, least);
-      within = fits;
-      few = few;
-      none = λ here since below. searching.none more here least fits since below (omega (arith, below, above));
-      before = λ fewer late early.
-          let cases : (fewer < decided) ⊎ (decided ≤ fewer) = grind arith in
-          elim cases [
-            | inl before ↦ searching.before fewer late before
-            | inr not ↦
-                still_open xs from seen place decided fewer searching not (omega (arith, early, fits)) (omega (arith, order, late))
-                (λ reached. grind arith)
-          ];
-      stands = grind (arith, drop_take, whole_take);
-    }
+searched_stands xs from seen place decided more layout searching order whole may short is =
+    let n = 2 + layout_length layout in
+    let long : length (drop place xs) ≡ n + length whole.rest = grind (arith, common_steps, length-append) in
+    let fits : more ≤ length xs = omega (arith, is, long, length-drop place xs, searching.within) in
+    searched_at xs from seen place decided more n (Some layout) searching order (omega (arith, is)) (omega (arith, is)) fits
+    (omega (arith, is, searching.few, short)) (grind (arith, is)) may
+    (rw (drop_take xs place more (omega (arith, is)))
+    (whole_take layout (drop place xs) (more - place) whole (omega (arith, is)) (omega (arith, fits, length-drop place xs))))
 
 -- what is read in the rest of a list is read in the list
 pub read_rest : (xs : List ℕ) (from place : ℕ) → from ≤ place → place < length xs
