@@ -1,4 +1,5 @@
 -- What damage of a message leaves of its frame: the place of the delimiter is the only one where a body can stand.
+use Rattle.std.proofs.lemmas.Slice.Zip.{AllZip-long}
 use Rattle.std.proofs.lemmas.Grind.{common_steps}
 use Rattle.std.proofs.Common.{◌≡◌, ◌≢◌, ℕ, zero, suc, ◌+◌, ◌<◌, ◌≤◌, ◌⊎◌, inl, inr, List, [], ◌∷◌, ◌++◌, length, drop, get_or, replicate}
 use Rattle.std.proofs.Common.{refl, ap, ◌∙◌, arith, append_assoc, length-append, subst}
@@ -35,10 +36,7 @@ heard_faultless (byte ∷ bytes) = (inl refl, heard_faultless bytes)
 
 -- as many characters are heard as bytes were sent
 pub length-heard : (bytes : List ℕ) (chars : List Character) → AreHeardOrMarked bytes chars → length chars ≡ length bytes
-length-heard [] [] heard = refl
-length-heard [] (character ∷ others) heard = absurd heard
-length-heard (byte ∷ bytes) [] heard = absurd heard
-length-heard (byte ∷ bytes) (character ∷ others) heard = ap suc (length-heard bytes others heard.1)
+length-heard bytes chars heard = AllZip-long IsHeardOrMarked bytes chars heard
 
 -- what follows the first bytes is heard after them
 heard-drop : (sent bytes : List ℕ) (chars : List Character) → AreHeardOrMarked (sent ++ bytes) chars
@@ -62,12 +60,11 @@ clear_at (sent ∷ bytes) (character ∷ others) (suc place) byte heard within i
     clear_at bytes others place byte heard.1 (omega (arith, within)) is
 
 -- bytes that are heard without faults begin what was sent
-record BeginsWith (bytes prefix : List ℕ) : Type 0 where
-  pub rest : List ℕ
-  pub parts : bytes ≡ prefix ++ rest
+abbrev BeginsWith : List ℕ → List ℕ → Type 0
+BeginsWith bytes prefix = (rest : List ℕ) × (bytes ≡ prefix ++ rest)
 
 begins_sent : (bytes prefix : List ℕ) (more : List Character) → AreHeardOrMarked bytes (faultless prefix ++ more) → BeginsWith bytes prefix
-begins_sent bytes [] more heard = record { rest = bytes; parts = refl }
+begins_sent bytes [] more heard = (bytes, refl)
 begins_sent [] (byte ∷ prefix) more heard = absurd heard
 begins_sent (sent ∷ bytes) (byte ∷ prefix) more heard = grind (arith, clear_is, begins_sent bytes prefix more heard.1)
 
@@ -190,7 +187,7 @@ marked_own laws frame preambles chars damage found from stands =
     let begins = begins_body damage.left damage.body chars found from is stands in
     let start = start_is damage.left damage.body chars found from is stands in
     let same : damage.body ≡ stands.body =
-    grind (arith, laws.no_proper_prefix found.frame frame stands.body begins.rest, append-nil) in
+    grind (arith, laws.no_proper_prefix found.frame frame stands.body begins.0, append-nil) in
     grind (arith, laws.one_frame found.frame frame stands.body, length-heard, length-append, length-replicate)
 
 -- if each frame that stands is one that ends the list, the list has none or that one alone
@@ -226,14 +223,14 @@ check_none : (frame : FrameParts) (preambles : ℕ) (chars : List Character) (da
 check_none frame preambles chars damage found stands =
     let bytes = damage.bytes in
     let begins = begins_body damage.left bytes chars found 0 (check_heard frame preambles chars damage) stands in
-    let said = says (stands.body ++ begins.rest) found.frame (length stands.body)
-    (BeginsWithBody-append found.frame stands.body begins.rest stands.is_body) in
-    let ended = nil_from_length begins.rest
+    let said = says (stands.body ++ begins.0) found.frame (length stands.body)
+    (BeginsWithBody-append found.frame stands.body begins.0 stands.is_body) in
+    let ended = nil_from_length begins.0
     (omega (
       arith,
-      ap length begins.parts,
-      length-append stands.body begins.rest,
-      ap body_length begins.parts,
+      ap length begins.1,
+      length-append stands.body begins.0,
+      ap body_length begins.1,
       said.whole,
       check_length frame preambles chars damage,
     )) in grind (arith, append-nil)

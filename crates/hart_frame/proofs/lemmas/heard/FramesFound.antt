@@ -1,4 +1,7 @@
 -- Every list of characters has its frames.
+use Rattle.std.proofs.Common.{ap}
+use Rattle.std.proofs.Common.{append_assoc, length-drop}
+use Rattle.hart_frame.specs.heard.Frames.{none, first}
 use Rattle.std.proofs.lemmas.Grind.{common_steps}
 use Rattle.std.proofs.Common.{◌≡◌, ℕ, zero, suc, ◌+◌, ◌<◌, ◌≤◌, ◌⊎◌, inl, inr, List, [], ◌∷◌, length, take, drop, refl}
 use Rattle.std.proofs.Common.{◌∙◌, arith, subst}
@@ -11,7 +14,7 @@ use Rattle.hart_frame.specs.heard.Place.{StandsIn}
 use Rattle.hart_frame.specs.heard.Frames.{AreFrames, HasNoFrame, IsFirst}
 use Rattle.hart_frame.specs.declared.heard.found.Found.{Found}
 use Rattle.hart_frame.proofs.lemmas.wire.BodiesFound.{body_decided}
-use Rattle.hart_frame.proofs.lemmas.heard.Place.{preamble, StandsIn-at, StandsIn-heard, StandsIn-hears, StandsIn-from, StandsIn-within}
+use Rattle.hart_frame.proofs.lemmas.heard.Place.{preamble, StandsIn-at, StandsIn-hears, StandsIn-from, StandsIn-within}
 use Rattle.hart_frame.proofs.lemmas.heard.Place.{HasNoFrame-end, start-later}
 use Rattle.std.proofs.Common.{◌++◌, sym}
 use Rattle.hart_frame.specs.heard.Character.{faultless_bytes}
@@ -19,10 +22,8 @@ use Rattle.hart_frame.proofs.lemmas.heard.Front.{heard_parts, regrouped, faultle
 use Rattle.hart_frame.proofs.lemmas.wire.UnambiguousBodies.{BeginsWithBody-append}
 
 -- characters begin with some body that is heard
-pub record HeardAhead (chars : List Character) : Type 0 where
-  pub frame : FrameParts
-  pub len : ℕ
-  pub begins : BeginsWithHeard chars frame len
+abbrev pub HeardAhead : List Character → Type 0
+HeardAhead chars = (frame : FrameParts) × (len : ℕ) × BeginsWithHeard chars frame len
 
 abbrev pub NothingHeard : List Character → Type 0
 NothingHeard chars = (f : FrameParts) (len : ℕ) → BeginsWithHeard chars f len → ⊥
@@ -46,104 +47,79 @@ heard_bytes chars f len heard =
 
 heard_decided : (chars : List Character) → HeardAhead chars ⊎ NothingHeard chars
 heard_decided chars = elim (body_decided (faultless_bytes chars)) [
-  | inr none ↦ inr (λ f len heard. none f len (heard_bytes chars f len heard))
-  | inl ahead ↦ inl (record { frame = ahead.frame; len = ahead.len; begins = heard_whole chars ahead.frame ahead.len ahead.begins })
+  | inr nothing ↦ inr (λ f len heard. nothing f len (heard_bytes chars f len heard))
+  | inl (f, len, begins) ↦ inl (f, len, heard_whole chars f len begins)
 ]
 
 -- a frame stands right at a place
-pub record Here (chars : List Character) (place : ℕ) : Type 0 where
-  pub found : Found
-  pub stands : StandsIn found chars place
-  pub start : found.start ≡ place + 2
+abbrev pub Here : List Character → ℕ → Type 0
+Here chars place = (found : Found) × StandsIn found chars place × (found.start ≡ place + 2)
 
 abbrev pub NothingHere : List Character → ℕ → Type 0
 NothingHere chars place = (found : Found) → StandsIn found chars place → found.start ≡ place + 2 → ⊥
 
--- whether a character is a faultless preamble byte
-preamble_decided : (x : Character) → (x ≡ preamble) ⊎ (x ≡ preamble → ⊥)
-preamble_decided x = grind arith
-
 -- what is heard after two preamble bytes stands there
-here_heard : (chars : List Character) (x y : Character) (rest : List Character) (place : ℕ) → place ≤ length chars
-    → x ∷ y ∷ rest ≡ drop place chars → x ≡ preamble → y ≡ preamble → HeardAhead rest → Here chars place
-here_heard chars x y rest place within is first second ahead =
-    let after = take_rest (x ∷ y ∷ rest) 2 in
-    record {
-      found = record { start = place + 2; stop = place + 2 + ahead.len; frame = ahead.frame };
-      stands = grind (arith, StandsIn-heard);
-      start = refl;
-    }
+here_heard : (chars rest : List Character) (place : ℕ) → drop place chars ≡ preamble ∷ preamble ∷ rest → HeardAhead rest
+    → Here chars place
+here_heard chars rest place is (f, len, heard) =
+    let found : Found = record { start = place + 2; stop = place + 2 + len; frame = f } in
+    let stands : StandsIn found chars place =
+    grind (
+      arith,
+      take-append-drop place chars,
+      length-take-le place chars,
+      length-drop place chars,
+      append_assoc (take place chars) (faultless (255 ∷ 255 ∷ heard.body)) heard.rest,
+    ) in
+    (found, stands, refl)
 
-nothing_here : (chars : List Character) (x y : Character) (rest : List Character) (place : ℕ) → x ∷ y ∷ rest ≡ drop place chars
-    → NothingHeard rest → NothingHere chars place
-nothing_here chars x y rest place is none found stands start =
-    let Heard : List Character → Type 0 = λ cs. BeginsWithHeard cs found.frame (length stands.body) in
-    none found.frame (length stands.body)
-    (subst Heard (take_rest (x ∷ y ∷ rest) 2) (StandsIn-hears chars (x ∷ y ∷ rest) place place found stands start is))
+-- whether two characters are faultless preamble bytes
+two_decided : (x y : Character) → ((x ≡ preamble) × (y ≡ preamble)) ⊎ ((x ≡ preamble) × (y ≡ preamble) → ⊥)
+two_decided x y = grind arith
+
+-- whether a list begins with two
+begins_decided : (tail : List Character) → ((rest : List Character) × (tail ≡ preamble ∷ preamble ∷ rest))
+    ⊎ ((rest : List Character) → tail ≡ preamble ∷ preamble ∷ rest → ⊥)
+begins_decided [] = inr (λ rest same. cc)
+begins_decided (x ∷ []) = inr (λ rest same. cc)
+begins_decided (x ∷ y ∷ rest) = elim (two_decided x y) [
+  | inl two ↦ inl (rest, grind arith)
+  | inr other ↦ inr (λ more same. other (cc, cc))
+]
 
 -- whether a frame stands right at a place
-here_decided : (chars tail : List Character) (place : ℕ) → place ≤ length chars → tail ≡ drop place chars
-    → Here chars place ⊎ NothingHere chars place
-here_decided chars [] place within is = grind (arith, common_steps, StandsIn-at)
-here_decided chars (x ∷ []) place within is = grind (arith, common_steps, StandsIn-at)
-here_decided chars (x ∷ y ∷ rest) place within is =
-    elim (preamble_decided x) [
-      | inr other ↦ inr (λ found stands start. let at = is ∙ StandsIn-at chars place place found stands start in other (cc))
-      | inl first ↦ elim (preamble_decided y) [
-        | inr other ↦ inr (λ found stands start. let at = is ∙ StandsIn-at chars place place found stands start in other (cc))
-        | inl second ↦ elim (heard_decided rest) [
-          | inl ahead ↦ inl (here_heard chars x y rest place within is first second ahead)
-          | inr none ↦ inr (nothing_here chars x y rest place is none)
-        ]
-      ]
-    ]
+here_decided : (chars : List Character) (place : ℕ) → Here chars place ⊎ NothingHere chars place
+here_decided chars place = elim (begins_decided (drop place chars)) [
+  | inr other ↦ inr (λ found stands start. other _ (StandsIn-at chars place place found stands start))
+  | inl (rest, is) ↦ elim (heard_decided rest) [
+    | inl ahead ↦ inl (here_heard chars rest place is ahead)
+    | inr nothing ↦ inr (λ found stands start.
+        let heard : rest ≡ faultless stands.body ++ stands.rest = ap (drop 2) (sym is ∙ StandsIn-at chars place place found stands start) in
+        nothing found.frame (length stands.body) (grind arith))
+  ]
+]
 
--- a list has a first frame from a place on
-pub record HasFirst (chars : List Character) (from : ℕ) : Type 0 where
-  pub found : Found
-  pub is_first : IsFirst found chars from
-
--- no frame stands before a place
-abbrev pub NoneBefore : List Character → ℕ → ℕ → Type 0
-NoneBefore chars from place = (found : Found) → StandsIn found chars from → place + 2 ≤ found.start
-
-past_end : (chars : List Character) (from place : ℕ) → length chars ≤ place → NoneBefore chars from place → HasNoFrame chars from
-past_end chars from place end none found stands =
-    let within = StandsIn-within found chars from stands in
-    omega (arith, end, none found stands, within.some, within.within)
-
-search : (chars : List Character) (from fuel place : ℕ) → from ≤ place → length chars ≤ place + fuel → NoneBefore chars from place
-    → HasFirst chars from ⊎ HasNoFrame chars from
-search chars from zero place after enough none = inr (past_end chars from place (omega (arith, enough)) none)
-search chars from (suc fuel) place after enough none =
-    let cases : (place ≤ length chars) ⊎ (length chars < place) = grind arith in
-    elim cases [
-      | inr past ↦ inr (past_end chars from place (omega (arith, past)) none)
-      | inl within ↦ elim (here_decided chars (drop place chars) place within refl) [
-        | inl here ↦ inl (record {
-          found = here.found;
-          is_first = record {
-            stands = StandsIn-from here.found chars place from here.stands (omega (arith, after, here.start));
-            least = λ other stands. omega (arith, here.start, none other stands);
-          };
-        })
-        | inr nothing ↦ search chars from fuel (place + 1) (omega (arith, after)) (omega (arith, enough))
-            (λ found stands. start-later found chars from place stands (none found stands) (nothing found))
-      ]
-    ]
-
--- whether a frame stands in a list from a place on
-first_decided : (chars : List Character) (from : ℕ) → HasFirst chars from ⊎ HasNoFrame chars from
-first_decided chars from =
-    search chars from (length chars) from (omega arith) (omega arith) (λ found stands. (StandsIn-within found chars from stands).after)
+-- the frames from a place on are those from an earlier one on, if each that stands from there on stands from that place on
+pub AreFrames-earlier : (chars : List Character) (from to : ℕ) (frames : List Found) → from ≤ to
+    → ((found : Found) → StandsIn found chars from → StandsIn found chars to) → AreFrames chars to frames → AreFrames chars from frames
+AreFrames-earlier chars from to frames before skip (none n empty) = AreFrames.none from (λ found stands. empty found (skip found stands))
+AreFrames-earlier chars from to frames before skip (first n found later is rest) =
+    let within = StandsIn-within found chars to is.stands in
+    AreFrames.first from found later (record {
+      stands = StandsIn-from found chars to from is.stands (omega (arith, within.after, before));
+      least = λ other stands. is.least other (skip other stands);
+    }) rest
 
 frames_found : (chars : List Character) (fuel from : ℕ) → length chars ≤ from + fuel → (frames : List Found) × AreFrames chars from frames
 frames_found chars zero from enough = ([], AreFrames.none from (HasNoFrame-end chars from (omega (arith, enough))))
-frames_found chars (suc fuel) from enough = elim (first_decided chars from) [
-  | inr none ↦ ([], AreFrames.none from none)
-  | inl has ↦
-      let later = frames_found chars fuel has.found.stop (grind (arith, StandsIn-within)) in
-      (has.found ∷ later.0, AreFrames.first from has.found later.0 has.is_first later.1)
+frames_found chars (suc fuel) from enough = elim (here_decided chars from) [
+  | inl (found, stands, start) ↦
+      let later = frames_found chars fuel found.stop (grind (arith, StandsIn-within)) in
+      (found ∷ later.0, AreFrames.first from found later.0 (grind (arith, StandsIn-within)) later.1)
+  | inr nothing ↦
+      let later = frames_found chars fuel (from + 1) (omega (arith, enough)) in
+      (later.0, AreFrames-earlier chars from (from + 1) later.0 (omega arith)
+      (λ found stands. grind (arith, StandsIn-within, StandsIn-from)) later.1)
 ]
 
 pub AreFrames-found : (chars : List Character) (from : ℕ) → (frames : List Found) × AreFrames chars from frames

@@ -1,4 +1,5 @@
 -- What a miss names is what stands in the way of a frame.
+use Rattle.hart_frame.proofs.lemmas.heard.FramesFound.{HeardAhead}
 use Rattle.std.proofs.lemmas.Grind.{common_steps}
 use Rattle.std.proofs.Common.{◌≡◌, ◌≢◌, ℕ, zero, suc, fold, bit_xor, ◌+◌, ◌-◌, ◌<◌, ◌≤◌, ◌⊎◌, inl, inr, List, [], ◌∷◌, ◌++◌, length, take}
 use Rattle.std.proofs.Common.{drop, get_or, set}
@@ -50,11 +51,6 @@ frame_up_to chars prefix rest body f place stop is split at to =
     let found : Found = record { start = place; stop = stop; frame = f } in
     let stands : StandsIn found chars 0 = grind (arith, common_steps) in grind (arith, common_steps)
 
-pub frame_at : (chars prefix rest : List Character) (body : List ℕ) (f : FrameParts) (place : ℕ) → IsBody f body
-    → chars ≡ prefix ++ faultless (255 ∷ 255 ∷ body) ++ rest → place ≡ length prefix + 2 → HasFrameAt chars place
-frame_at chars prefix rest body f place is split at =
-    let found = frame_up_to chars prefix rest body f place (place + length body) is split at refl in (found.0, found.1, found.2)
-
 -- two preamble bytes right before a start
 pub record Starts (chars : List Character) (start : ℕ) : Type 0 where
   pub prefix : List Character
@@ -70,41 +66,29 @@ good_prefix : (bytes : List ℕ) (n : ℕ) → HasCheckByte bytes → byte_count
 good_prefix bytes n has after within = grind (arith, get_or-take, length-take-le)
 
 -- bytes up to a check byte that fits are a body
-pub record WholeBody (bytes : List ℕ) : Type 0 where
-  pub frame : FrameParts
-  pub is_body : IsBody frame (take (body_length bytes - 1) bytes ++ fitting_check_byte bytes ∷ [])
+abbrev pub WholeBody : List ℕ → Type 0
+WholeBody bytes = (frame : FrameParts) × IsBody frame (take (body_length bytes - 1) bytes ++ fitting_check_byte bytes ∷ [])
 
 pub whole_body : (bytes : List ℕ) → All (λ byte. byte < 256) bytes → HasCheckByte bytes → WholeBody bytes
 whole_body bytes fit has =
     let n = body_length bytes - 1 in
-    let checked : List ℕ = take n bytes in
     let long = length-take-le n bytes (omega (arith, has.1)) in
     let good = good_prefix bytes n has (omega arith) (omega (arith, has.1)) in
-    let body = fitted checked (All-take (λ byte. byte < 256) n bytes fit) good.0 (omega (arith, good.1, long)) in
-    record { frame = body.frame; is_body = body.is_body }
-
--- a body that is heard, and what follows it
-pub record HeardBody (heard : List Character) : Type 0 where
-  pub frame : FrameParts
-  pub body : List ℕ
-  pub rest : List Character
-  pub is_body : IsBody frame body
-  pub parts : heard ≡ faultless body ++ rest
+    fitted (take n bytes) (All-take (λ byte. byte < 256) n bytes fit) good.0 (omega (arith, good.1, long))
 
 heard_body : (heard : List Character) → All (λ c. c.byte < 256) heard → HasCheckByte (faultless_bytes heard)
-    → check_byte_in (faultless_bytes heard) ≡ fitting_check_byte (faultless_bytes heard) → HeardBody heard
+    → check_byte_in (faultless_bytes heard) ≡ fitting_check_byte (faultless_bytes heard) → HeardAhead heard
 heard_body heard fit has same =
     let bytes = faultless_bytes heard in
-    let found = whole_body bytes (faultless_fit heard fit) has in
+    let (frame, body) = whole_body bytes (faultless_fit heard fit) has in
     let begin : take (body_length bytes) bytes ≡ take (body_length bytes - 1) bytes ++ fitting_check_byte bytes ∷ [] =
     grind (arith, common_steps, take_more) in
-    let begins : BeginsWithBody bytes found.frame (body_length bytes) = grind arith in
-    let is = heard_whole heard found.frame (body_length bytes) begins in
-    record { frame = found.frame; body = is.body; rest = is.rest; is_body = is.is_body; parts = is.split }
+    let begins : BeginsWithBody bytes frame (body_length bytes) = grind arith in
+    (frame, body_length bytes, heard_whole heard frame (body_length bytes) begins)
 
 -- what is heard begins with a body, or misses something of it
 pub heard_or_miss : (heard : List Character) (start : ℕ) → All (λ c. c.byte < 256) heard
-    → HeardBody heard ⊎ (is_some (body_miss start heard) ≡ true)
+    → HeardAhead heard ⊎ (is_some (body_miss start heard) ≡ true)
 heard_or_miss heard start fit = grind (arith, told_of heard start, heard_body heard fit, other_check)
 
 pub never_one_preamble : (start : ℕ) (heard : List Character) → body_miss start heard ≡ Some OnePreamble → ⊥
@@ -112,10 +96,11 @@ never_one_preamble start heard miss = grind (arith, nat_tests)
 
 -- a body that is heard after two preamble bytes is a frame there
 heard_frame : (chars prefix heard : List Character) (place : ℕ) → chars ≡ prefix ++ (preamble ∷ preamble ∷ heard)
-    → place ≡ length prefix + 2 → HeardBody heard → HasFrameAt chars place
-heard_frame chars prefix heard place split at found =
-    let two : List Character = preamble ∷ preamble ∷ faultless found.body in
-    frame_at chars prefix found.rest found.body found.frame place found.is_body (grind (arith, common_steps, preamble, append_assoc)) at
+    → place ≡ length prefix + 2 → HeardAhead heard → HasFrameAt chars place
+heard_frame chars prefix heard place split at (f, len, body) =
+    let all : chars ≡ prefix ++ faultless (255 ∷ 255 ∷ body.body) ++ body.rest = grind (arith, common_steps, preamble, append_assoc) in
+    let found = frame_up_to chars prefix body.rest body.body f place (place + length body.body) body.is_body all at refl in
+    (found.0, found.1, found.2)
 
 pub frame_or_miss : (place : ℕ) (chars : List Character) → All (λ c. c.byte < 256) chars → IsStart place chars
     → HasFrameAt chars place ⊎ IsSome (miss_of chars place)
@@ -127,7 +112,7 @@ frame_or_miss place chars fit is =
       | inr some ↦ inr (ap is_some (sym (miss_of-start chars heard place refl is)) ∙ some)
     ]
 
-with_preamble : (chars : List Character) (start : ℕ) → follows_one_preamble chars start ≡ true → HeardBody (drop start chars)
+with_preamble : (chars : List Character) (start : ℕ) → follows_one_preamble chars start ≡ true → HeardAhead (drop start chars)
     → HasFrameAt (insert chars start preamble) (start + 1)
 with_preamble chars zero one found = absurd (not_at_front chars one)
 with_preamble chars (suc k) one found =
@@ -140,19 +125,25 @@ with_preamble chars (suc k) one found =
     let long = length-take-le k chars (omega (arith, at.0)) in
     heard_frame (insert chars (suc k) preamble) (take k chars) heard (suc k + 1) split (omega (arith, long)) found
 
--- with another preamble byte before the one a frame stands there
-pub one_preamble_fits : (start : ℕ) (chars : List Character) → All (λ c. c.byte < 256) chars → miss_of chars start ≡ Some OnePreamble
-    → HasFrameAt (insert chars start preamble) (start + 1)
-one_preamble_fits start chars fit is =
+-- after one preamble byte alone a whole body stands
+alone_is : (start : ℕ) (chars : List Character) → All (λ c. c.byte < 256) chars → miss_of chars start ≡ Some OnePreamble
+    → (follows_one_preamble chars start ≡ true) × HeardAhead (drop start chars)
+alone_is start chars fit is =
     let heard = drop start chars in
     elim (miss_of-some chars start OnePreamble is) [
       | inl (here, miss) ↦ absurd (never_one_preamble start heard miss)
       | inr (same, one, no_miss) ↦
           elim (heard_or_miss heard start (All-drop (λ (c : Character). c.byte < 256) start chars fit)) [
-            | inl found ↦ with_preamble chars start one found
+            | inl found ↦ (one, found)
             | inr some ↦ absurd (false≢true (sym no_miss ∙ some))
           ]
     ]
+
+-- with another preamble byte before the one a frame stands there
+pub one_preamble_fits : (start : ℕ) (chars : List Character) → All (λ c. c.byte < 256) chars → miss_of chars start ≡ Some OnePreamble
+    → HasFrameAt (insert chars start preamble) (start + 1)
+one_preamble_fits start chars fit is =
+    let (one, found) = alone_is start chars fit is in with_preamble chars start one found
 
 -- with the byte that would fit a frame stands there
 pub bad_check_fits : (start place byte fits : ℕ) (chars : List Character) → All (λ c. c.byte < 256) chars
@@ -180,8 +171,8 @@ bad_check_fits start place byte fits chars fit is =
     let fits_is = fits-is checked fits (All-take (λ byte. byte < 256) n bytes bytes_fit) way.1.3 in
     let changed : set chars place (make fits) ≡ at.prefix ++ faultless (255 ∷ 255 ∷ (checked ++ fits ∷ [])) ++ others =
     grind (arith, common_steps, set_at, append_assoc, map-append) in
-    frame_up_to (set chars place (make fits)) at.prefix others (checked ++ fitting_check_byte bytes ∷ []) body.frame start (place + 1)
-    body.is_body (grind arith) at.at (omega (arith, way.1.1, long, length-append checked (fitting_check_byte bytes ∷ [])))
+    frame_up_to (set chars place (make fits)) at.prefix others (checked ++ fitting_check_byte bytes ∷ []) body.0 start (place + 1)
+    body.1 (grind arith) at.at (omega (arith, way.1.1, long, length-append checked (fitting_check_byte bytes ∷ [])))
 
 -- the place of a fault is that of a character with fault bits
 told_faulty : (start place faults : ℕ) (heard : List Character) → body_miss start heard ≡ Some (Faulty place faults)
@@ -232,32 +223,18 @@ missing_fits start count chars more fit more_fit is long =
     ≡ at.prefix ++ faultless (255 ∷ 255 ∷ (checked ++ last ∷ [])) ++ [] = grind (arith, common_steps, append_assoc, append-nil, map-append) in (
       last,
       IsCheckByte-fold checked last (fits_at checked checked_fit) refl,
-      frame_up_to (chars ++ faultless (more ++ last ∷ [])) at.prefix [] (checked ++ last ∷ []) body.frame start (length chars + count)
-          body.is_body (ap (λ (cs : List Character). cs ++ faultless (more ++ last ∷ [])) split ∙ regroup) at.at
+      frame_up_to (chars ++ faultless (more ++ last ∷ [])) at.prefix [] (checked ++ last ∷ []) body.0 start (length chars + count)
+          body.1 (ap (λ (cs : List Character). cs ++ faultless (more ++ last ∷ [])) split ∙ regroup) at.at
           (omega (arith, way.1.2, way.1.3, length-append checked (last ∷ []), size, long)),
     )
 
 never_both : (chars : List Character) (start : ℕ) → follows_one_preamble chars start ≡ true → is_start chars start ≡ true → ⊥
 never_both chars start one is = grind arith
 
--- after one preamble byte alone a whole body stands
-alone_is : (start : ℕ) (chars : List Character) → All (λ c. c.byte < 256) chars → miss_of chars start ≡ Some OnePreamble
-    → (follows_one_preamble chars start ≡ true) × HasBodyAt chars start
-alone_is start chars fit is =
-    let heard = drop start chars in
-    elim (miss_of-some chars start OnePreamble is) [
-      | inl (here, miss) ↦ absurd (never_one_preamble start heard miss)
-      | inr (same, one, no_miss) ↦
-          elim (heard_or_miss heard start (All-drop (λ (c : Character). c.byte < 256) start chars fit)) [
-            | inl found ↦ grind (arith, common_steps)
-            | inr some ↦ absurd (false≢true (sym no_miss ∙ some))
-          ]
-    ]
-
 pub one_alone : (start : ℕ) (chars : List Character) → All (λ c. c.byte < 256) chars
     → (miss_of chars start ≡ Some OnePreamble) ↔ (FollowsOnePreamble chars start × HasBodyAt chars start)
 one_alone start chars fit = (
-  λ is. let both = alone_is start chars fit is in (one_preamble-is chars start both.0, both.1),
+  λ is. let (one, found) = alone_is start chars fit is in (one_preamble-is chars start one, grind arith),
   λ both. let one = one_preamble-yes chars start both.0 in
       sym (miss_of-one chars (drop start chars) start refl (λ is. never_both chars start one (is_start-yes chars start is)) one
       (ap is_some (none_of chars start both.1))),

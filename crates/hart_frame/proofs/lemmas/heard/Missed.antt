@@ -1,4 +1,6 @@
 -- The miss of a place by what stands before it, and that there is none where a frame stands.
+use Rattle.hart_frame.proofs.lemmas.wire.Refusal.{has_check}
+use Rattle.hart_frame.proofs.lemmas.heard.Miss.{miss_in-whole}
 use Rattle.std.proofs.lemmas.Grind.{common_steps}
 use Rattle.std.proofs.Common.{◌≡◌, ◌≢◌, ℕ, zero, suc, ◌+◌, ◌-◌, ◌<◌, ◌⊎◌, inl, inr, List, [], ◌∷◌, ◌++◌, length, take, drop, get_or}
 use Rattle.std.proofs.Common.{bit_xor}
@@ -157,15 +159,7 @@ body_fits bytes f len begins =
 pub nothing_missed : (bytes : List ℕ) (f : FrameParts) (len : ℕ) (faulty : Option Character) (end start : ℕ) → BeginsWithBody bytes f len
     → miss_in bytes faulty end start ≡ None
 nothing_missed bytes f len faulty end start begins =
-    grind (
-      arith,
-      told bytes faulty end start,
-      not_refused bytes f len Truncated begins,
-      not_refused bytes f len BadDelimiter begins,
-      not_refused bytes f len ShortReply begins,
-      same_check bytes start,
-      body_fits bytes f len begins,
-    )
+    miss_in-whole bytes faulty end start (has_check bytes f len begins) ∙ same_check bytes start (body_fits bytes f len begins)
 
 pub none_of : (chars : List Character) (start : ℕ) → HasBodyAt chars start → body_miss start (drop start chars) ≡ None
 none_of chars start has =

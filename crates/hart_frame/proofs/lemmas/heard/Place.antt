@@ -14,22 +14,6 @@ use Rattle.hart_frame.specs.declared.heard.found.Found.{Found}
 abbrev pub preamble : Character
 preamble = record { byte = 255; faults = 0 }
 
--- a body that is heard after two preamble bytes stands there
-pub StandsIn-heard : (chars tail : List Character) (place : ℕ) (first second : Character) (f : FrameParts) (len : ℕ)
-    → place ≤ length chars → tail ≡ drop place chars → 2 ≤ length tail → first ≡ get_or tail 0 first → second ≡ get_or tail 1 second
-    → first ≡ preamble → second ≡ preamble → BeginsWithHeard (take (length tail - 2) (drop 2 tail)) f len
-    → StandsIn (record { start = place + 2; stop = place + 2 + len; frame = f }) chars place
-StandsIn-heard chars [] place first second f len within is long x_is y_is x_pre y_pre heard = absurd (omega arith)
-StandsIn-heard chars (x ∷ []) place first second f len within is long x_is y_is x_pre y_pre heard = absurd (omega arith)
-StandsIn-heard chars (x ∷ y ∷ rest) place first second f len within is long x_is y_is x_pre y_pre heard =
-    grind (
-      arith,
-      take_rest (x ∷ y ∷ rest) 2,
-      length-take-le place chars within,
-      take-append-drop place chars,
-      append_assoc (take place chars) (faultless (255 ∷ 255 ∷ heard.body)) heard.rest,
-    )
-
 -- what stands at a place begins there
 pub StandsIn-at : (chars : List Character) (place from : ℕ) (found : Found) (stands : StandsIn found chars from)
     → found.start ≡ place + 2 → drop place chars ≡ faultless (255 ∷ 255 ∷ stands.body) ++ stands.rest

@@ -1,4 +1,5 @@
 -- What is known of bytes by how they begin.
+use Rattle.hart_frame.proofs.lemmas.wire.Truncated.{truncated_check}
 use Rattle.std.proofs.Common.{◌≡◌, ◌≢◌, ℕ, zero, suc, ◌+◌, ◌<◌, ◌≤◌, inl, inr, List, [], ◌∷◌, ◌++◌, length, take, drop, get_or, refl}
 use Rattle.std.proofs.Common.{sym, arith, subst, append_assoc}
 use Rattle.std.proofs.lemmas.List.{append-nil, map-append, get_or-take}
@@ -89,16 +90,6 @@ undecided_open xs may =
             grind (arith, StandsIn-within found (faultless xs) 1 later),
       )
     ]
-
--- fewer bytes than go up to a byte count end too early
-pub truncated_count : (xs : List ℕ) (fewer : ℕ) → HasDelimiter xs → fewer ≤ byte_count_place xs → fewer ≤ length xs
-    → IsTruncated (take fewer xs)
-truncated_count xs fewer has before within = grind (arith, length-take-le, get_or-take)
-
--- and so do fewer than go up to a check byte
-pub truncated_check : (xs : List ℕ) (fewer : ℕ) → HasGoodByteCount xs → fewer < body_length xs → fewer ≤ length xs
-    → IsTruncated (take fewer xs)
-truncated_check xs fewer has before within = grind (arith, length-take-le, truncated_count, get_or-take)
 
 -- fewer bytes than so many of a list may begin a frame if two preamble bytes come first, and fewer after them end too early
 pub may_begin_before : (count : ℕ) (xs : List ℕ) → ((fewer : ℕ) → fewer < count → IsTruncated (take fewer xs))

@@ -1,4 +1,5 @@
 -- What a scanner that lets characters go leaves to the frames of whatever is heard.
+use Rattle.hart_frame.proofs.lemmas.heard.FramesFound.{AreFrames-earlier}
 use Rattle.std.proofs.lemmas.Grind.{common_steps}
 use Rattle.std.proofs.Common.{◌≡◌, ℕ, zero, suc, ◌+◌, ◌<◌, ◌≤◌, IsTrue, List, [], ◌∷◌, ◌++◌, length, drop, refl, sym}
 use Rattle.std.proofs.Common.{ap, ◌∙◌, arith, subst, append_assoc, length-append}
@@ -21,17 +22,6 @@ skip_one chars from nothing found stands =
     let later = start-later found chars from from stands within.after
     (λ here start. nothing found.frame here.body here.rest here.is_body (StandsIn-at chars from from found here start)) in
     grind arith
-
--- and the frames from there on are those from here on
-pub AreFrames-earlier : (chars : List Character) (from to : ℕ) (frames : List Found) → from ≤ to
-    → ((found : Found) → StandsIn found chars from → StandsIn found chars to) → AreFrames chars to frames → AreFrames chars from frames
-AreFrames-earlier chars from to frames before skip (none n empty) = AreFrames.none from (λ found stands. empty found (skip found stands))
-AreFrames-earlier chars from to frames before skip (first n found later is rest) =
-    let within = StandsIn-within found chars to is.stands in
-    AreFrames.first from found later (record {
-      stands = StandsIn-from found chars to from is.stands (omega (arith, within.after, before));
-      least = λ other stands. is.least other (skip other stands);
-    }) rest
 
 -- what is held is found after as many characters as were let go
 pub heard_at : (scan : Scan) (more chars : List Character) (hears : CanHear scan more chars) → drop scan.first chars ≡ scan.held ++ more

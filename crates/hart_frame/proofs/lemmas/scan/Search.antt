@@ -1,4 +1,5 @@
 -- What is known of bytes while they are searched, and of a search that is joined of two.
+use Rattle.hart_frame.proofs.lemmas.wire.Truncated.{truncated_check, truncated_count}
 use Rattle.std.proofs.lemmas.Grind.{common_steps}
 use Rattle.std.proofs.Common.{Some, None, ◌≡◌, ◌≢◌, ℕ, zero, suc, ◌+◌, ◌-◌, ◌<◌, ◌≤◌, ◌⊎◌, inl, inr, List, [], ◌∷◌, ◌++◌, length, take}
 use Rattle.std.proofs.Common.{drop, get_or, refl, sym, ap, ◌∙◌, max, arith, subst, append_assoc, length-append, length-drop}
@@ -15,8 +16,7 @@ use Rattle.hart_frame.specs.scan.Search.{HasThree, IsNextCandidate, IsOpenBefore
 use Rattle.hart_frame.specs.declared.wire.fault.FrameFault.TheVariants.{BadDelimiter}
 use Rattle.hart_frame.specs.declared.wire.layout.Layout.{Layout}
 use Rattle.hart_frame.specs.declared.scan.candidate.Candidate.TheVariants.{Never}
-use Rattle.hart_frame.proofs.lemmas.scan.Candidate.{may_begin_before, never_after, never_first, never_more, truncated_check}
-use Rattle.hart_frame.proofs.lemmas.scan.Candidate.{truncated_count}
+use Rattle.hart_frame.proofs.lemmas.scan.Candidate.{may_begin_before, never_after, never_first, never_more}
 
 -- what lies after a place of the first bytes of a list
 pub drop_take : (xs : List ℕ) (n m : ℕ) → n ≤ m → drop n (take m xs) ≡ take (m - n) (drop n xs)

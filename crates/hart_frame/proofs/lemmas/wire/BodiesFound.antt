@@ -1,4 +1,5 @@
 -- Whether bytes begin with a body is decided.
+use Rattle.hart_frame.proofs.lemmas.wire.Refusal.{has_check}
 use Rattle.std.proofs.lemmas.Grind.{common_steps}
 use Rattle.std.proofs.Common.{◌≡◌, ℕ, zero, suc, fold, bit_xor, ◌+◌, ◌-◌, ◌*◌, ◌/◌, ◌%◌, ◌<◌, ◌≤◌, ◌⊎◌, inl, inr, Bool}
 use Rattle.std.proofs.Common.{List, [], ◌∷◌, length, take, get_or, refl, ap, ◌∙◌, arith, subst}
@@ -89,16 +90,10 @@ long_enough kind payload byte count is long good = grind arith
 abbrev pub Fit : List ℕ → ℕ → Type 0
 Fit bytes n = (k : ℕ) → k < n → get_or bytes k 0 < 256
 
--- or one of them does not
-pub record Unfit (bytes : List ℕ) (n : ℕ) : Type 0 where
-  pub place : ℕ
-  pub below : place < n
-  pub large : 256 ≤ get_or bytes place 0
-
 fit_more : (bytes : List ℕ) (n : ℕ) → Fit bytes n → get_or bytes n 0 < 256 → Fit bytes (suc n)
 fit_more bytes n fits small k below = grind arith
 
-fit_decided : (bytes : List ℕ) (n : ℕ) → Fit bytes n ⊎ Unfit bytes n
+fit_decided : (bytes : List ℕ) (n : ℕ) → Fit bytes n ⊎ (Fit bytes n → ⊥)
 fit_decided bytes zero = inl (λ k below. absurd (omega (arith, below)))
 fit_decided bytes (suc n) =
     let cases : (get_or bytes n 0 < 256) ⊎ (256 ≤ get_or bytes n 0) = grind arith in
@@ -143,13 +138,8 @@ held_frame bytes fits whole =
     record { frame = frame; part = IsCheckedPart-in bytes layout frame describes whole stands }
 
 -- bytes begin with some body
-pub record BodyAhead (bytes : List ℕ) : Type 0 where
-  pub frame : FrameParts
-  pub len : ℕ
-  pub begins : BeginsWithBody bytes frame len
-
-refused_for : (bytes : List ℕ) (fault : FrameFault) → IsRefusedWith bytes fault → HasNoBody bytes
-refused_for bytes fault refused f len begins = not_refused bytes f len fault begins refused
+abbrev pub BodyAhead : List ℕ → Type 0
+BodyAhead bytes = (frame : FrameParts) × (len : ℕ) × BeginsWithBody bytes frame len
 
 -- bytes up to a check byte of even parity are a body
 pub even_body : (bytes : List ℕ) (len : ℕ) → len ≡ body_length bytes → HasCheckByte bytes → All (λ byte. byte < 256) (take len bytes)
@@ -172,51 +162,27 @@ checked bytes whole fits =
     elim cases [
       | inl even ↦
           let body = even_body bytes (body_length bytes) refl whole fit (subst Is even is) in grind (arith, common_steps)
-      | inr odd ↦ inr (refused_for bytes BadCheck (whole, λ parity. omega (arith, check-even prefix _ is parity, odd)))
+      | inr odd ↦ inr (λ f len begins. not_refused bytes f len BadCheck begins (whole, λ parity. omega (arith, check-even prefix _ is parity, odd)))
     ]
 
--- otherwise one of them does not fit
-unfit : (bytes : List ℕ) → Unfit bytes (body_length bytes) → HasNoBody bytes
-unfit bytes large f len begins = grind (arith, says bytes f len begins, length-take-le len bytes begins.within, All-get_or, get_or-take)
-
-counted : (bytes : List ℕ) → HasGoodByteCount bytes → BodyAhead bytes ⊎ HasNoBody bytes
-counted bytes good =
-    let cases : (body_length bytes ≤ length bytes) ⊎ (length bytes < body_length bytes) = grind arith in
-    elim cases [
-      | inr short ↦ inr (refused_for bytes Truncated (inr (inr (good, short))))
-      | inl long ↦ elim (fit_decided bytes (body_length bytes)) [
-        | inl fits ↦ checked bytes (good, long) fits
-        | inr large ↦ inr (unfit bytes large)
-      ]
-    ]
-
-with_byte_count : (bytes : List ℕ) → HasByteCount bytes → BodyAhead bytes ⊎ HasNoBody bytes
-with_byte_count bytes has = elim has.0.1.1 [
-  | inl stx ↦ counted bytes (has, inl stx)
-  | inr ack ↦
-      let cases : (2 ≤ byte_count_in bytes) ⊎ (byte_count_in bytes < 2) = grind arith in
-      elim cases [
-        | inl enough ↦ counted bytes (has, inr enough)
-        | inr few ↦ inr (refused_for bytes ShortReply (has, ack, few))
-      ]
-]
+-- and if a body comes first, they fit
+fit_body : (bytes : List ℕ) (f : FrameParts) (len : ℕ) → BeginsWithBody bytes f len → Fit bytes (body_length bytes)
+fit_body bytes f len begins k below =
+    grind (arith, says bytes f len begins, length-take-le len bytes begins.within, All-get_or, get_or-take)
 
 -- whether a byte is a delimiter
 pub delimiter_decided : (byte : ℕ) → IsDelimiter byte ⊎ (IsDelimiter byte → ⊥)
 delimiter_decided byte = grind arith
 
+check_decided : (bytes : List ℕ) → HasCheckByte bytes ⊎ (HasCheckByte bytes → ⊥)
+check_decided bytes = grind (arith, delimiter_decided (delimiter_in bytes))
+
 -- whether bytes begin with a body
 pub body_decided : (bytes : List ℕ) → BodyAhead bytes ⊎ HasNoBody bytes
-body_decided bytes =
-    let some : (length bytes ≡ 0) ⊎ (0 < length bytes) = grind arith in
-    let long : (byte_count_place bytes < length bytes) ⊎ (length bytes ≤ byte_count_place bytes) = grind arith in
-    elim some [
-      | inl none ↦ inr (refused_for bytes Truncated (inl none))
-      | inr any ↦ elim (delimiter_decided (delimiter_in bytes)) [
-        | inr bad ↦ inr (refused_for bytes BadDelimiter (any, bad))
-        | inl good ↦ elim long [
-          | inl whole ↦ with_byte_count bytes ((any, good), whole)
-          | inr short ↦ inr (refused_for bytes Truncated (inr (inl ((any, good), short))))
-        ]
-      ]
-    ]
+body_decided bytes = elim (check_decided bytes) [
+  | inr lacks ↦ inr (λ f len begins. lacks (has_check bytes f len begins))
+  | inl whole ↦ elim (fit_decided bytes (body_length bytes)) [
+    | inl fits ↦ checked bytes whole fits
+    | inr unfit ↦ inr (λ f len begins. unfit (fit_body bytes f len begins))
+  ]
+]

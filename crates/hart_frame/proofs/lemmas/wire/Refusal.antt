@@ -1,4 +1,9 @@
 -- What begins with a body is not refused.
+use Rattle.std.proofs.Common.{◌%◌, ◌⊎◌}
+use Rattle.hart_frame.specs.declared.wire.kind.FrameKind.{FrameKind}
+use Rattle.hart_frame.specs.wire.FrameParts.{IsLongEnough}
+use Rattle.hart_frame.specs.wire.Delimiter.{kind_code}
+use Rattle.hart_frame.specs.wire.Refusal.{HasCheckByte}
 use Rattle.std.proofs.lemmas.Grind.{common_steps}
 use Rattle.std.proofs.Common.{◌≡◌, ℕ, ◌+◌, ◌*◌, ◌<◌, ◌≤◌, List, [], ◌∷◌, ◌++◌, length, take, drop, get_or, sym, ap}
 use Rattle.std.proofs.Common.{◌∙◌, arith, append_assoc, length-append, Result, Ok, Err}
@@ -40,15 +45,19 @@ says bytes f len begins =
     let prefix_len : length prefix ≡ byte_count_place bytes =
     grind (arith, length-append) in search (arith, common_steps, get_or_at, length-take-le, length-append, length-address)
 
--- a list that begins with a body is refused with no fault
+-- the byte count of a frame is none that is refused
+enough : (kind : FrameKind) (payload : List ℕ) (byte count : ℕ) → byte % 8 ≡ kind_code kind → count ≡ length payload
+    → IsLongEnough kind payload → (byte % 8 ≡ 2) ⊎ (2 ≤ count)
+enough kind payload byte count low is long = grind arith
+
+-- a list that begins with a body goes on to its check byte
+pub has_check : (bytes : List ℕ) (f : FrameParts) (len : ℕ) → BeginsWithBody bytes f len → HasCheckByte bytes
+has_check bytes f len begins = grind (arith, says bytes f len begins, IsDelimiter-of, kind_code-is, address_type-lt f.address, enough)
+
+-- so it is refused with no fault
 pub not_refused : (bytes : List ℕ) (f : FrameParts) (len : ℕ) (fault : FrameFault)
     → BeginsWithBody bytes f len → IsRefusedWith bytes fault → ⊥
-not_refused bytes f len TooShortReply begins refused = refused
-not_refused bytes f len BadPreamble begins refused = refused
-not_refused bytes f len BadDelimiter begins refused = grind (arith, common_steps, says, IsDelimiter-of)
-not_refused bytes f len Truncated begins refused = grind (arith, says bytes f len begins)
-not_refused bytes f len BadCheck begins refused = grind (arith, says bytes f len begins)
-not_refused bytes f len ShortReply begins refused = grind (arith, says bytes f len begins, kind_code-is, address_type-lt f.address)
+not_refused bytes f len fault begins refused = grind (arith, says bytes f len begins, has_check bytes f len begins)
 
 pub only : ((f g : FrameParts) (bytes : List ℕ) (m n : ℕ) → BeginsWithBody bytes f m → BeginsWithBody bytes g n → (f ≡ g) × (m ≡ n))
     → (bytes : List ℕ) (result : Result (FrameParts × ℕ) FrameFault)

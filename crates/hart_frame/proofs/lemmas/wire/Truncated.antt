@@ -1,4 +1,7 @@
 -- Bytes that end too early are those that can become a body.
+use Rattle.std.proofs.Math.Seq.{take-append_seam}
+use Rattle.std.proofs.lemmas.List.{get_or-take, length-take-le}
+use Rattle.hart_frame.proofs.lemmas.wire.Refusal.{has_check}
 use Rattle.std.proofs.lemmas.Grind.{common_steps}
 use Rattle.std.proofs.Common.{◌≡◌, ℕ, fold, bit_xor, ◌+◌, ◌-◌, ◌%◌, ◌<◌, ◌≤◌, ◌⊎◌, inl, inr, List, [], ◌∷◌, ◌++◌, length, take, get_or}
 use Rattle.std.proofs.Common.{replicate, refl, sym, ◌∙◌, arith, append_assoc, length-append, subst}
@@ -31,9 +34,8 @@ CanBecomeBody-prefix : (bytes more : List ℕ) → CanBecomeBody (bytes ++ more)
 CanBecomeBody-prefix bytes more can = grind (arith, append_assoc)
 
 -- bytes that lack only their check byte are a body with it
-pub record Fitted (bytes : List ℕ) : Type 0 where
-  pub frame : FrameParts
-  pub is_body : IsBody frame (bytes ++ fold bit_xor 0 bytes ∷ [])
+abbrev pub Fitted : List ℕ → Type 0
+Fitted bytes = (frame : FrameParts) × IsBody frame (bytes ++ fold bit_xor 0 bytes ∷ [])
 
 pub fitted : (bytes : List ℕ) → All (λ byte. byte < 256) bytes → HasGoodByteCount bytes → body_length bytes ≡ length bytes + 1
     → Fitted bytes
@@ -51,7 +53,7 @@ fitted bytes fit good last =
     let held = held_frame whole fits (HasGoodByteCount-more bytes (check ∷ []) good, omega (arith, len)) in
     let prefix : take (body_length whole - 1) whole ≡ bytes = grind (arith, take_at) in
     let Checked : List ℕ → Type 0 = λ xs. IsCheckedPart held.frame xs in
-    record { frame = held.frame; is_body = IsBody-push held.frame bytes check (subst Checked prefix held.part) fit is }
+    (held.frame, IsBody-push held.frame bytes check (subst Checked prefix held.part) fit is)
 
 -- so they can become a body
 CanBecomeBody-last : (bytes : List ℕ) → AreBytes bytes → HasGoodByteCount bytes → body_length bytes ≡ length bytes + 1
@@ -59,13 +61,13 @@ CanBecomeBody-last : (bytes : List ℕ) → AreBytes bytes → HasGoodByteCount 
 CanBecomeBody-last bytes fit good last =
     let check = fold bit_xor 0 bytes in
     let whole : List ℕ = bytes ++ check ∷ [] in
-    let body = fitted bytes fit good last in
-    let Is : List ℕ → Type 0 = λ xs. IsBody body.frame xs in
+    let (frame, body) = fitted bytes fit good last in
+    let Is : List ℕ → Type 0 = λ xs. IsBody frame xs in
     record {
       rest = check ∷ [];
-      frame = body.frame;
+      frame = frame;
       count = length whole;
-      begins = record { within = omega arith; body = subst Is (sym (take_all (length whole) whole (omega arith))) body.is_body };
+      begins = record { within = omega arith; body = subst Is (sym (take_all (length whole) whole (omega arith))) body };
     }
 
 -- bytes that go on to their byte count get what is left
@@ -112,25 +114,22 @@ CanBecomeBody-none (byte ∷ bytes) none = absurd (omega (arith, none))
 pub CanBecomeBody-truncated : (bytes : List ℕ) → AreBytes bytes → IsTruncated bytes → CanBecomeBody bytes
 CanBecomeBody-truncated bytes fit truncated = grind (arith, CanBecomeBody-none, CanBecomeBody-begun, CanBecomeBody-counted)
 
--- the byte count of a frame is none that is refused
-enough : (kind : FrameKind) (payload : List ℕ) (byte count : ℕ) → byte % 8 ≡ kind_code kind → count ≡ length payload
-    → IsLongEnough kind payload → (byte % 8 ≡ 2) ⊎ (2 ≤ count)
-enough kind payload byte count low is long = grind arith
+-- fewer bytes than go up to a byte count end too early
+pub truncated_count : (xs : List ℕ) (fewer : ℕ) → HasDelimiter xs → fewer ≤ byte_count_place xs → fewer ≤ length xs
+    → IsTruncated (take fewer xs)
+truncated_count xs fewer has before within = grind (arith, length-take-le, get_or-take)
+
+-- and so do fewer than go up to a check byte
+pub truncated_check : (xs : List ℕ) (fewer : ℕ) → HasGoodByteCount xs → fewer < body_length xs → fewer ≤ length xs
+    → IsTruncated (take fewer xs)
+truncated_check xs fewer has before within = grind (arith, length-take-le, truncated_count, get_or-take)
 
 pub IsTruncated-becomes : (bytes rest : List ℕ) (f : FrameParts) (len : ℕ) → BeginsWithBody (bytes ++ rest) f len
     → length bytes < len → IsTruncated bytes
 IsTruncated-becomes bytes rest f len begins short =
-    grind (
-      arith,
-      says (bytes ++ rest) f len begins,
-      delimiter_more,
-      count_place_more,
-      IsDelimiter-of,
-      count_more,
-      kind_code-is,
-      address_type-lt f.address,
-      enough,
-    )
+    rw (← take-append_seam bytes rest)
+    (truncated_check (bytes ++ rest) (length bytes) (has_check (bytes ++ rest) f len begins).0
+    (omega (arith, short, (says (bytes ++ rest) f len begins).whole)) (omega (arith, length-append bytes rest)))
 
 -- what can become a body and is none ends too early
 pub IsTruncated-only : (bytes : List ℕ) → CanBecomeBody bytes → HasNoBody bytes → IsTruncated bytes
