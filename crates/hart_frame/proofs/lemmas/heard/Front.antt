@@ -1,4 +1,5 @@
 -- The bytes up to the first character with fault bits.
+use Rattle.std.proofs.lemmas.List.{get_or_append_left, get_or-map}
 use Rattle.std.proofs.lemmas.Grind.{common_steps}
 use Rattle.std.proofs.Common.{◌≡◌, ◌≢◌, ℕ, zero, suc, not, ◌+◌, ◌<◌, ◌≤◌, ◌⊎◌, inl, inr, List, [], ◌∷◌, ◌++◌, length, take, drop, get_or, min}
 use Rattle.std.proofs.Common.{None, Some, refl, sym, ap, ◌∙◌, arith, append_assoc, length-append, subst, ◌==◌}
@@ -71,53 +72,31 @@ heard_parts (c ∷ cs) = grind (arith, common_steps, faultless_bytes-more, fault
 pub after_faultless : (heard : List Character) (c : Character) → slice_get heard (length (faultless_bytes heard)) ≡ Some c
     → c.faults ≢ 0
 after_faultless [] c is = absurd cc
-after_faultless (x ∷ xs) c is =
-    let cases : (x.faults ≡ 0) ⊎ (x.faults ≢ 0) = grind arith in
-    elim cases [
-      | inl good ↦
-          let long : length (faultless_bytes (x ∷ xs)) ≡ suc (length (faultless_bytes xs)) = ap length (faultless_bytes-more x xs good) in
-          after_faultless xs c (sym (ap (slice_get (x ∷ xs)) long) ∙ is)
-      | inr bad ↦ grind (arith, common_steps, faultless_bytes-end)
-    ]
+after_faultless (x ∷ xs) c is = grind (arith, faultless_bytes-more x xs, faultless_bytes-end x xs, after_faultless xs c)
 
 -- if no character follows the faultless bytes, they are all
 pub nothing_follows : (heard : List Character) → slice_get heard (length (faultless_bytes heard)) ≡ None
     → heard ≡ faultless (faultless_bytes heard)
 nothing_follows heard none =
-    let bytes = faultless_bytes heard in
-    let n = length bytes in
-    let cases : (n < length heard) ⊎ (length heard ≤ n) = grind arith in
-    elim cases [
-      | inl within ↦ absurd (none-some (get_or heard n preamble) (sym none ∙ slice_get-get_or heard n preamble within))
-      | inr end ↦
-          heard_parts heard ∙ ap (λ (cs : List Character). faultless bytes ++ cs) (drop_all n heard end) ∙ append-nil (faultless bytes)
-    ]
+    let end : length heard ≤ length (faultless_bytes heard) =
+    grind (arith, none-some, slice_get-get_or heard (length (faultless_bytes heard)) preamble) in
+    grind (arith, drop_all, append-nil, heard_parts heard)
 
 -- the characters of the first faultless bytes
 pub take_heard : (heard : List Character) (n : ℕ) → n ≤ length (faultless_bytes heard)
     → take n heard ≡ faultless (take n (faultless_bytes heard))
-take_heard heard n within =
-    let make = λ (byte : ℕ). let c : Character = record { byte = byte; faults = 0 } in c in
-    let bytes = faultless_bytes heard in
-    ap (take n) (heard_parts heard)
-    ∙ take-append-le n (faultless bytes) (drop (length bytes) heard) (omega (arith, within, length-map bytes make)) ∙ take-map make n bytes
+take_heard heard n within = grind (arith, heard_parts heard, take-append-le, length-map, take-map)
 
-fit_one : (byte k d : ℕ) → byte < 256 → k < length (byte ∷ []) → get_or (byte ∷ []) k d < 256
-fit_one byte k d small below = grind arith
+-- each faultless byte is of the character at its place
+pub char_at : (heard : List Character) (i : ℕ) (d : Character) → i < length (faultless_bytes heard)
+    → get_or heard i d ≡ record { byte = get_or (faultless_bytes heard) i 0; faults = 0 }
+char_at heard i d below = grind (arith, heard_parts heard, get_or_append_left, get_or-map, length-map)
 
 -- the bytes of characters whose bytes fit
 pub faultless_fit : (heard : List Character) → All (λ c. c.byte < 256) heard → All (λ byte. byte < 256) (faultless_bytes heard)
-faultless_fit [] fit = All-from_get_or (λ byte. byte < 256) (faultless_bytes []) 0 (λ i below. absurd (omega (arith, below)))
-faultless_fit (c ∷ cs) fit =
-    let rest = faultless_fit cs (All-tail (λ (x : Character). x.byte < 256) c cs fit) in
-    let Fit : List ℕ → Type 0 = λ xs. All (λ byte. byte < 256) xs in
-    let cases : (c.faults ≡ 0) ⊎ (c.faults ≢ 0) = grind arith in
-    elim cases [
-      | inl good ↦
-          let first : All (λ byte. byte < 256) (c.byte ∷ []) = λ k d below. fit_one c.byte k d (fit 0 c (omega arith)) below in
-          subst Fit (sym (faultless_bytes-more c cs good)) (All-append (λ byte. byte < 256) (c.byte ∷ []) (faultless_bytes cs) first rest)
-      | inr bad ↦ subst Fit (sym (faultless_bytes-end c cs bad)) (λ k d below. absurd (omega (arith, below)))
-    ]
+faultless_fit heard fit =
+    All-from_get_or (λ byte. byte < 256) (faultless_bytes heard) 0
+    (λ i below. grind (arith, char_at heard i preamble below, fit i preamble, length-faultless_bytes heard))
 
 -- faultless characters after others, and before a tail
 pub regrouped : (xs ys : List ℕ) (tail : List Character) → faultless (xs ++ ys) ++ tail ≡ faultless xs ++ (faultless ys ++ tail)
@@ -148,16 +127,9 @@ faultless_bytes-take (suc n) (c ∷ cs) = grind (arith, faultless_bytes-more, fa
 pub faultless_bytes-all : (heard : List Character) → All (λ c. c.faults ≡ 0) heard → faultless_bytes heard ≡ bytes_of heard
 faultless_bytes-all [] all = refl
 faultless_bytes-all (c ∷ cs) all =
-    faultless_bytes-more c cs (all 0 c (omega arith))
-    ∙ ap (λ (xs : List ℕ). c.byte ∷ xs) (faultless_bytes-all cs (All-tail (λ (x : Character). x.faults ≡ 0) c cs all))
+    grind (arith, faultless_bytes-more, all 0 c, faultless_bytes-all cs (All-tail (λ (x : Character). x.faults ≡ 0) c cs all))
 
 -- they come from faultless characters
 pub faultless_all : (bytes : List ℕ) → All (λ c. c.faults ≡ 0) (faultless bytes)
 faultless_all bytes = search (arith, common_steps, All-map)
 
--- each is the byte of the character at its place
-pub byte_at : (heard : List Character) (i : ℕ) (d : Character) → i < length (faultless_bytes heard)
-    → (get_or heard i d).byte ≡ get_or (faultless_bytes heard) i 0
-byte_at [] i d below = absurd (omega arith)
-byte_at (c ∷ cs) zero d below = grind (arith, faultless_bytes-more, faultless_bytes-end)
-byte_at (c ∷ cs) (suc i) d below = grind (arith, faultless_bytes-more, faultless_bytes-end, byte_at cs i d)

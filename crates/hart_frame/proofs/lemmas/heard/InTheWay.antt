@@ -1,4 +1,5 @@
 -- A miss where a body may start is what stands in the way there.
+use Rattle.hart_frame.proofs.lemmas.heard.Front.{char_at}
 use Rattle.std.proofs.lemmas.Grind.{common_steps}
 use Rattle.std.proofs.Common.{◌≡◌, ◌≢◌, ℕ, zero, suc, ◌+◌, ◌-◌, ◌<◌, ◌≤◌, ◌⊎◌, inl, inr, List, [], ◌∷◌, length, take}
 use Rattle.std.proofs.Common.{◌↔◌, drop, fold, get_or, bit_xor, None, Some, refl, sym, ap, subst, ◌∙◌, arith}
@@ -34,9 +35,7 @@ rest_at chars start n = grind (arith, common_steps, slice_get_cases, slice_get-g
 -- a character among the faultless ones at the front
 front_at : (heard : List Character) (i : ℕ) → i < length (faultless_bytes heard)
     → slice_get heard i ≡ Some (record { byte = get_or (faultless_bytes heard) i 0; faults = 0 })
-front_at [] i below = absurd (omega (arith, below))
-front_at (c ∷ cs) zero below = grind (arith, faultless_bytes-more, faultless_bytes-end)
-front_at (c ∷ cs) (suc i) below = grind (arith, faultless_bytes-more, faultless_bytes-end, front_at cs i)
+front_at heard i below = grind (arith, slice_get-get_or heard i preamble, char_at heard i preamble below, length-faultless_bytes heard)
 
 -- nothing comes after the bytes at the end of the list, and nowhere else
 end_is : (chars : List Character) (start : ℕ) → start ≤ length chars

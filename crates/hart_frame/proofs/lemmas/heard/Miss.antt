@@ -16,7 +16,7 @@ use Rattle.hart_frame.specs.wire.Refusal.{HasByteCount, HasCheckByte, HasDelimit
 use Rattle.hart_frame.specs.declared.heard.miss.Miss.{Miss}
 use Rattle.hart_frame.specs.declared.heard.miss.Miss.TheVariants.{BadCheck, EndsBeforeByteCount, Faulty, Missing}
 use Rattle.hart_frame.specs.declared.heard.miss.Miss.TheVariants.{ShortReply}
-use Rattle.hart_frame.proofs.lemmas.heard.Front.{byte_at, faultless_all, faultless_bytes-all, faultless_bytes-take, length-faultless_bytes, take_heard}
+use Rattle.hart_frame.proofs.lemmas.heard.Front.{char_at, faultless_all, faultless_bytes-all, faultless_bytes-take, length-faultless_bytes, take_heard}
 use Rattle.hart_frame.proofs.lemmas.heard.Place.{preamble}
 use Rattle.hart_frame.proofs.lemmas.wire.Prefix.{HasCheckByte-prefix, length_more}
 
@@ -152,7 +152,7 @@ pub begins_with_count : (heard : List Character) (first place count : ℕ) (one 
     → 1 ≤ length (faultless_bytes heard) → one ≡ get_or heard 0 one → first ≡ one.byte
     → place ≡ 2 + (1 + 4 * (first / 128)) + first / 32 % 4 → place + 1 ≤ length (faultless_bytes heard)
     → two ≡ get_or heard place two → count ≡ two.byte → BeginsWithCount heard first place count
-begins_with_count heard first place count one two some one_is first_is place_is within two_is count_is = grind (arith, byte_at)
+begins_with_count heard first place count one two some one_is first_is place_is within two_is count_is = grind (arith, char_at)
 
 pub good_count : (heard : List Character) (first place count : ℕ) → BeginsWithCount heard first place count → IsDelimiter first
     → ((first % 8 ≡ 2) ⊎ (2 ≤ count)) → HasGoodByteCount (faultless_bytes heard)

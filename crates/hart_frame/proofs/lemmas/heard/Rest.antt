@@ -1,4 +1,5 @@
 -- The frames of the rest of a list are those of the list from its place on, moved by as many places as stand before it.
+use Rattle.std.proofs.Common.{add-zero}
 use Rattle.std.proofs.lemmas.Grind.{common_steps}
 use Rattle.std.proofs.Common.{◌≡◌, ℕ, ◌+◌, ◌-◌, ◌<◌, ◌≤◌, ◌⊎◌, inl, inr, List, [], ◌∷◌, ◌++◌, length, map, take, drop, refl, ap, arith}
 use Rattle.std.proofs.Common.{append_assoc, length-append, length-drop, subst, take-append-drop}
@@ -15,18 +16,9 @@ use Rattle.hart_frame.proofs.lemmas.heard.Place.{HasNoFrame-end, StandsIn-from, 
 pub stands_after : (prefix cs rest : List Character) (found : Found) (n : ℕ) → length prefix ≡ n → StandsIn found cs 0
     → StandsIn (record { start = n + found.start; stop = n + found.stop; frame = found.frame }) (prefix ++ (cs ++ rest)) n
 stands_after prefix cs rest found n long stands =
-    let body = faultless (255 ∷ 255 ∷ stands.body) in
-    let size = length-append prefix stands.prefix in
-    record {
-      prefix = prefix ++ stands.prefix;
-      body = stands.body;
-      rest = stands.rest ++ rest;
-      split = grind (arith, append_assoc);
-      is_body = stands.is_body;
-      after = omega (arith, size, long);
-      start = omega (arith, size, long, stands.start);
-      stop = omega (arith, size, long, stands.stop);
-    }
+    let split : prefix ++ (cs ++ rest) ≡ (prefix ++ stands.prefix) ++ faultless (255 ∷ 255 ∷ stands.body) ++ (stands.rest ++ rest) =
+    grind (arith, append_assoc) in
+    grind (arith, length-append prefix stands.prefix)
 
 -- and what stands after others stands in the list
 pub stands_in : (prefix cs : List Character) (found : Found) (n : ℕ) → length prefix ≡ n → StandsIn found (prefix ++ cs) n
@@ -43,10 +35,8 @@ stands_moved before rest found n from long stands =
     let here = subst Here (append-nil rest) (stands_after before rest [] found n long low) in grind (arith, common_steps, StandsIn-from)
 
 -- what stands after others, as it stands in the rest
-record StandsMoved (found : Found) (rest : List Character) (n from : ℕ) : Type 0 where
-  pub own : Found
-  pub is : found ≡ moved n own
-  pub stands : StandsIn own rest from
+abbrev StandsMoved : Found → List Character → ℕ → ℕ → Type 0
+StandsMoved found rest n from = (own : Found) × (found ≡ moved n own) × StandsIn own rest from
 
 stands_back : (before rest : List Character) (found : Found) (n from : ℕ) → length before ≡ n
     → StandsIn found (before ++ rest) (n + from) → StandsMoved found rest n from
@@ -54,11 +44,7 @@ stands_back before rest found n from long stands =
     let lies = StandsIn-within found (before ++ rest) (n + from) stands in
     let own : Found = record { start = found.start - n; stop = found.stop - n; frame = found.frame } in
     let low = StandsIn-from found (before ++ rest) (n + from) n stands (omega (arith, lies.after)) in
-    record {
-      own = own;
-      is = grind arith;
-      stands = StandsIn-from own rest 0 from (stands_in before rest found n long low) (omega (arith, lies.after));
-    }
+    (own, grind arith, StandsIn-from own rest 0 from (stands_in before rest found n long low) (omega (arith, lies.after)))
 
 first_moved : (before rest : List Character) (found : Found) (n from : ℕ) → length before ≡ n → IsFirst found rest from
     → IsFirst (moved n found) (before ++ rest) (n + from)
@@ -66,14 +52,14 @@ first_moved before rest found n from long is = record {
   stands = stands_moved before rest found n from long is.stands;
   least = λ other there.
       let back = stands_back before rest other n from long there in
-      omega (arith, is.least back.own back.stands, ap (λ (f : Found). f.start) back.is);
+      omega (arith, is.least back.0 back.2, ap (λ (f : Found). f.start) back.1);
 }
 
 -- the frames of the rest, counted from its front, stand in the list so many places later
 frames_moved : (before rest : List Character) (n : ℕ) (long : length before ≡ n) (from : ℕ) (frames : List Found)
     → AreFrames rest from frames → AreFrames (before ++ rest) (n + from) (map (moved n) frames)
 frames_moved before rest n long from frames (none place empty) =
-    AreFrames.none (n + from) (λ found there. let back = stands_back before rest found n from long there in empty back.own back.stands)
+    AreFrames.none (n + from) (λ found there. let back = stands_back before rest found n from long there in empty back.0 back.2)
 frames_moved before rest n long from frames (first place found later is more) =
     AreFrames.first (n + from) (moved n found) (map (moved n) later) (first_moved before rest found n from long is)
     (frames_moved before rest n long found.stop later more)
@@ -85,6 +71,12 @@ all_moved_one n [] (y ∷ ys) same = absurd cc
 all_moved_one n (x ∷ xs) [] same = absurd cc
 all_moved_one n (x ∷ xs) (y ∷ ys) same = grind (arith, common_steps, all_moved_one n xs ys cc)
 
+-- from the end of a list on there are no frames
+frames_none : (chars : List Character) (place : ℕ) (frames : List Found) → length chars ≤ place → AreFrames chars place frames
+    → frames ≡ []
+frames_none chars place frames end (none n empty) = refl
+frames_none chars place frames end (first n g later is rest) = absurd (HasNoFrame-end chars place end g is.stands)
+
 -- the rest of a list gives the frames from its place on
 pub rest_frames : OneList → (place : ℕ) (chars : List Character) (frames : List Found) → AreFrames (drop place chars) 0 frames
     → AreFrames chars place (map (moved place) frames)
@@ -92,17 +84,10 @@ rest_frames one place chars frames are =
     let cases : (place ≤ length chars) ⊎ (length chars < place) = grind arith in
     elim cases [
       | inl within ↦
-          let Of : List Character → Type 0 = λ cs. AreFrames cs (place + 0) (map (moved place) frames) in
-          let From : ℕ → Type 0 = λ n. AreFrames chars n (map (moved place) frames) in
-          let here : place + 0 ≡ place = omega arith in
-          subst From here (subst Of (take-append-drop place chars)
-          (frames_moved (take place chars) (drop place chars) place (length-take-le place chars within) 0 frames are))
+          rw (take-append-drop place chars, add-zero place) at
+          (frames_moved (take place chars) (drop place chars) place (length-take-le place chars within) 0 frames are)
       | inr past ↦
-          let gone = drop_all place chars (omega (arith, past)) in
-          let empty : AreFrames (drop place chars) 0 [] =
-          AreFrames.none 0 (HasNoFrame-end (drop place chars) 0 (omega (arith, ap length gone))) in
-          let At : List Found → Type 0 = λ fs. AreFrames chars place (map (moved place) fs) in
-          subst At (one (drop place chars) 0 [] frames empty are)
+          rw (frames_none (drop place chars) 0 frames (omega (arith, past, length-drop place chars)) are)
           (AreFrames.none place (HasNoFrame-end chars place (omega (arith, past))))
     ]
 

@@ -24,11 +24,15 @@ sample scan = replicate scan.first other ++ (scan.held ++ [])
 hears_sample : (scan : Scan) → CanHear scan [] (sample scan)
 hears_sample scan = grind (arith, common_steps, length-replicate)
 
--- of the frames of a list the first is its first
+-- the frames of a list are none, or the first and others
+frames_cases : (chars : List Character) (from : ℕ) (frames : List Found) → AreFrames chars from frames
+    → ((frames ≡ []) × HasNoFrame chars from) ⊎ ((g : Found) × (later : List Found) × (frames ≡ g ∷ later) × IsFirst g chars from)
+frames_cases chars from frames (none n empty) = inl (refl, empty)
+frames_cases chars from frames (first n g later is rest) = inr (g, later, refl, is)
+
 pub head_first : (chars : List Character) (from : ℕ) (frames : List Found) → AreFrames chars from frames
     → (g : Found) (later : List Found) → frames ≡ g ∷ later → IsFirst g chars from
-head_first chars from frames (none n empty) g later same = absurd cc
-head_first chars from frames (first n f more is rest) g later same = grind arith
+head_first chars from frames are g later same = grind (arith, frames_cases chars from frames are)
 
 -- what a scanner holds, stands in all that it heard
 pub held_stands : (s : Scan) (found : Found) → StandsIn found s.held 0
@@ -45,50 +49,43 @@ pub no_frames : (chars : List Character) (from : ℕ) (frames : List Found) → 
 no_frames chars from frames (none n empty) same = empty
 no_frames chars from frames (first n g later is rest) same = absurd cc
 
--- if a frame stands, there is a first
-record HasHead (chars : List Character) (from start : ℕ) (frames : List Found) : Type 0 where
-  pub head : Found
-  pub later : List Found
-  pub parts : frames ≡ head ∷ later
-  pub least : head.start ≤ start
-
-has_head : (chars : List Character) (from : ℕ) (frames : List Found) (found : Found) → StandsIn found chars from
-    → AreFrames chars from frames → HasHead chars from found.start frames
-has_head chars from frames found stands (none n empty) = absurd (empty found stands)
-has_head chars from frames found stands (first n g later is rest) =
-    record { head = g; later = later; parts = refl; least = is.least found stands }
-
 other_preamble : other ≡ preamble → ⊥
 other_preamble same = let bytes : 0 ≡ 255 = ap (λ (c : Character). c.byte) same in absurd (omega (arith, bytes))
 
 -- no preamble byte is among what was let go
 preamble_held : (s : Scan) (prefix rest : List Character) → sample s ≡ prefix ++ preamble ∷ rest → s.first ≤ length prefix
 preamble_held s prefix rest same =
-    let k = length prefix in
-    let cases : (k < s.first) ⊎ (s.first ≤ k) = grind arith in
-    elim cases [
-      | inl early ↦
-          grind (
+    grind (
+      arith,
+      get_or_append_left (replicate s.first other) (s.held ++ []) other (length prefix),
+      length-replicate s.first other,
+      get_or-replicate s.first (length prefix) other other,
+      preamble,
+      get_or_at prefix preamble rest other (length prefix) refl,
+      other_preamble,
+    )
+
+-- if a frame stands in what was held before some characters were passed, one that starts no later stands in what is held then
+still_stands : (s t : Scan) → MovesPast s t [] → (found : Found) → StandsIn found s.held 0
+    → (g : Found) × StandsIn g t.held 0 × (t.first + g.start ≤ s.first + found.start)
+still_stands s t moves found stands =
+    let after = moves.heard [] (sample s) (hears_sample s) in
+    let later = AreFrames-found (sample s) t.first in
+    let frames = moves.frames [] (sample s) later.0 (hears_sample s) later.1 in
+    let there = held_stands s found stands in
+    elim (frames_cases (sample s) t.first later.0 later.1) [
+      | inl (nil, empty) ↦ absurd (no_frames (sample s) s.first later.0 frames nil _ there)
+      | inr (g, others, parts, is) ↦
+          (_, stands_held t (sample s) g after is.stands, omega (
             arith,
-            get_or_append_left (replicate s.first other) (s.held ++ []) other k (omega (
-              arith,
-              early,
-              length-replicate s.first other,
-            )),
-            get_or-replicate s.first k other other early,
-            preamble,
-            get_or_at prefix preamble rest other k refl,
-            other_preamble,
-          )
-      | inr late ↦ late
+            (head_first (sample s) s.first later.0 frames g others parts).least _ there,
+            (StandsIn-within g (sample s) t.first is.stands).after,
+          ))
     ]
 
 -- what holds no frame after some characters are passed held none before
 pub nothing_before : (s t : Scan) → MovesPast s t [] → HasNoFrame t.held 0 → HasNoFrame s.held 0
-nothing_before s t moves empty found stands =
-    let after = moves.heard [] (sample s) (hears_sample s) in
-    let ends : AreFrames (sample s) t.first [] = AreFrames.none t.first (λ g there. empty _ (stands_held t (sample s) g after there)) in
-    let frames = moves.frames [] (sample s) [] (hears_sample s) ends in search (arith, common_steps, no_frames, held_stands)
+nothing_before s t moves empty found stands = let there = still_stands s t moves found stands in empty there.0 there.1
 
 -- what is undecided after some characters are passed was undecided before
 pub undecided_before : (s t : Scan) → MovesPast s t [] → IsUndecided t.held → IsUndecided s.held
@@ -114,12 +111,8 @@ undecided_before s t moves undecided = elim undecided [
           truncated = opened.truncated;
         },
         λ found stands.
-            let later = AreFrames-found (sample s) t.first in
-            let frames = moves.frames [] (sample s) later.0 (hears_sample s) later.1 in
-            let head = has_head (sample s) s.first later.0 _ (held_stands s found stands) frames in
-            let there = (head_first (sample s) t.first later.0 later.1 head.head head.later head.parts).stands in
-            let low = before _ (stands_held t (sample s) head.head after there) in
-            omega (arith, low, head.least, opened.start, size, dropped, after.place, late),
+            let there = still_stands s t moves found stands in
+            omega (arith, before there.0 there.1, there.2, opened.start, size, dropped, after.place, late),
       )
 ]
 
