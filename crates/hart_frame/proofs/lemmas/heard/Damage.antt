@@ -1,5 +1,6 @@
 -- What damage of a message leaves of its frame: the place of the delimiter is the only one where a body can stand.
-use Rattle.std.proofs.lemmas.Slice.Zip.{AllZip-long}
+use Rattle.std.proofs.lemmas.Option.{slice_get-get_or}
+use Rattle.std.proofs.lemmas.Slice.Zip.{AllZip-left, AllZip-long}
 use Rattle.std.proofs.lemmas.Grind.{common_steps}
 use Rattle.std.proofs.Common.{◌≡◌, ◌≢◌, ℕ, zero, suc, ◌+◌, ◌<◌, ◌≤◌, ◌⊎◌, inl, inr, List, [], ◌∷◌, ◌++◌, length, drop, get_or, replicate}
 use Rattle.std.proofs.Common.{refl, ap, ◌∙◌, arith, append_assoc, length-append, subst}
@@ -52,12 +53,15 @@ clear_is sent byte is = grind arith
 -- so at each place
 clear_at : (bytes : List ℕ) (chars : List Character) (place byte : ℕ) → AreHeardOrMarked bytes chars → place < length bytes
     → get_or chars place preamble ≡ clear byte → get_or bytes place 0 ≡ byte
-clear_at [] [] place byte heard within is = absurd (omega (arith, within))
-clear_at [] (character ∷ others) place byte heard within is = absurd heard
-clear_at (sent ∷ bytes) [] place byte heard within is = absurd heard
-clear_at (sent ∷ bytes) (character ∷ others) zero byte heard within is = grind (arith, common_steps, clear_is)
-clear_at (sent ∷ bytes) (character ∷ others) (suc place) byte heard within is =
-    clear_at bytes others place byte heard.1 (omega (arith, within)) is
+clear_at bytes chars place byte heard within is =
+    grind (
+      arith,
+      AllZip-left IsHeardOrMarked bytes chars heard place,
+      slice_get-get_or bytes place 0,
+      slice_get-get_or chars place preamble,
+      length-heard bytes chars,
+      clear_is,
+    )
 
 -- bytes that are heard without faults begin what was sent
 abbrev BeginsWith : List ℕ → List ℕ → Type 0

@@ -1,4 +1,5 @@
 -- The request that shows what damage is.
+use Rattle.std.proofs.Common.{◌⊎◌}
 use Rattle.std.proofs.Common.{◌≡◌, ℕ, zero, suc, ◌<◌, inl, List, [], ◌∷◌, ◌++◌, length, drop, get_or, replicate, refl, ap, ◌∙◌, arith}
 use Rattle.std.proofs.Common.{length-append, subst}
 use Rattle.std.specs.Int.{bit_at}
@@ -53,15 +54,9 @@ none_in_row (character ∷ chars) others (other ∷ prefix) rest same =
 
 -- a vertical parity fault
 parity_bit : (bit : ℕ) → bit < 8 → bit_at 64 bit ≡ 1 → IsFaultBit bit
-parity_bit zero below set = absurd (omega arith)
-parity_bit (suc zero) below set = absurd (omega arith)
-parity_bit (suc (suc zero)) below set = absurd (omega arith)
-parity_bit (suc (suc (suc zero))) below set = absurd (omega arith)
-parity_bit (suc (suc (suc (suc zero)))) below set = absurd (omega arith)
-parity_bit (suc (suc (suc (suc (suc zero))))) below set = absurd (omega arith)
-parity_bit (suc (suc (suc (suc (suc (suc zero)))))) below set = inl refl
-parity_bit (suc (suc (suc (suc (suc (suc (suc zero))))))) below set = absurd (omega arith)
-parity_bit (suc (suc (suc (suc (suc (suc (suc (suc bit)))))))) below set = absurd (omega arith)
+parity_bit bit below set =
+    let cases : (bit ≡ 0) ⊎ (bit ≡ 1) ⊎ (bit ≡ 2) ⊎ (bit ≡ 3) ⊎ (bit ≡ 4) ⊎ (bit ≡ 5) ⊎ (bit ≡ 6) ⊎ (bit ≡ 7) = grind arith in
+    grind arith
 
 faulty : IsHeardOrMarked 128 (record { byte = 129; faults = 64 })
 faulty = grind (arith, parity_bit)

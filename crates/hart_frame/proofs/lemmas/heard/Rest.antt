@@ -46,7 +46,7 @@ stands_back before rest found n from long stands =
     let low = StandsIn-from found (before ++ rest) (n + from) n stands (omega (arith, lies.after)) in
     (own, grind arith, StandsIn-from own rest 0 from (stands_in before rest found n long low) (omega (arith, lies.after)))
 
-first_moved : (before rest : List Character) (found : Found) (n from : ℕ) → length before ≡ n → IsFirst found rest from
+pub first_moved : (before rest : List Character) (found : Found) (n from : ℕ) → length before ≡ n → IsFirst found rest from
     → IsFirst (moved n found) (before ++ rest) (n + from)
 first_moved before rest found n from long is = record {
   stands = stands_moved before rest found n from long is.stands;

@@ -44,12 +44,12 @@ same_or_other : (a b : Character) → (a ≡ b) ⊎ (a ≢ b)
 same_or_other a b = grind arith
 
 -- whether a body may start at a place
-start_decided : (chars : List Character) (place : ℕ) → 2 ≤ place → place < length chars → IsStart place chars ⊎ (IsStart place chars → ⊥)
-start_decided chars place after within =
+start_decided : (chars : List Character) (place : ℕ) → IsStart place chars ⊎ (IsStart place chars → ⊥)
+start_decided chars place =
     grind (
       arith,
       preamble,
-      starts_at,
+      starts_at chars place preamble,
       same_or_other (get_or chars (place - 2) preamble) preamble,
       same_or_other (get_or chars (place - 1) preamble) preamble,
       same_or_other (get_or chars place preamble) preamble,
@@ -64,28 +64,20 @@ NoneBefore chars place = (other : ℕ) → IsStart other chars → place ≤ oth
 pub no_start : (chars : List Character) (place : ℕ) → NoneBefore chars place → length chars ≤ place → HasNoStart chars
 no_start chars place none end other is = omega (arith, none other is, (starts_at chars other preamble is).within, end)
 
--- if there is none at a place either, there is none up to the next
-pub none_before_next : (chars : List Character) (place : ℕ) → NoneBefore chars place → (IsStart place chars → ⊥)
-    → NoneBefore chars (place + 1)
-none_before_next chars place none not_here other is = grind arith
-
-pub none_before_two : (chars : List Character) → NoneBefore chars 2
-none_before_two chars other is = (starts_at chars other preamble is).after_two
-
-search : (chars : List Character) (fuel place : ℕ) → 2 ≤ place → length chars ≤ place + fuel → NoneBefore chars place
-    → ((first : ℕ) × IsFirstStart first chars) ⊎ HasNoStart chars
-search chars zero place after enough none = inr (no_start chars place none (omega (arith, enough)))
-search chars (suc fuel) place after enough none =
-    let cases : (place < length chars) ⊎ (length chars ≤ place) = grind arith in
-    elim cases [
-      | inr past ↦ inr (no_start chars place none past)
-      | inl within ↦ elim (start_decided chars place after within) [
-        | inl here ↦ inl (place, record { start = here; least = none })
-        | inr not_here ↦ search chars fuel (place + 1) (omega (arith, after)) (omega (arith, enough))
-            (none_before_next chars place none not_here)
-      ]
-    ]
+-- the first start before a place, or none
+first_before : (chars : List Character) (place : ℕ) → ((first : ℕ) × IsFirstStart first chars) ⊎ NoneBefore chars place
+first_before chars zero = inr (λ other is. omega arith)
+first_before chars (suc n) = elim (first_before chars n) [
+  | inl found ↦ inl found
+  | inr none ↦ elim (start_decided chars n) [
+    | inl here ↦ inl (n, record { start = here; least = none })
+    | inr not_here ↦ inr (λ place is. grind arith)
+  ]
+]
 
 -- a list has a first start or none
 pub first_start_decided : (chars : List Character) → ((first : ℕ) × IsFirstStart first chars) ⊎ HasNoStart chars
-first_start_decided chars = search chars (length chars) 2 (omega arith) (omega arith) (none_before_two chars)
+first_start_decided chars = elim (first_before chars (length chars)) [
+  | inl found ↦ inl found
+  | inr none ↦ inr (no_start chars (length chars) none (omega arith))
+]

@@ -1,4 +1,5 @@
 -- What is decided of a buffer, and what is given then.
+use Rattle.hart_frame.proofs.lemmas.scan.Next.{body_at_place}
 use Rattle.std.proofs.Common.{◌≡◌, ◌≢◌, ℕ, ◌+◌, ◌-◌, ◌≤◌, ◌⊎◌, ◌↔◌, inl, inr, Bool, true, false, IsTrue, List, [], ◌∷◌, ◌++◌, length}
 use Rattle.std.proofs.Common.{take, drop, Option, Some, None, refl, sym, ap, ◌∙◌, arith, subst, append_assoc, length-append, length-drop}
 use Rattle.std.specs.List.{slice_range}
@@ -47,11 +48,6 @@ held_searched b ended found sound over is = record {
   stands = held_stands b ended found.place found.layout over.1 is.stands;
 }
 
--- a frame that begins what is held is given
-body_here : (b : Buffer) (layout : Layout) (whole : IsWhole layout (held_bytes b))
-    → slice_range b.bytes (b.from + 2) (b.from + 2 + layout_length layout) ≡ whole.body
-body_here b layout whole = grind (arith, drop-drop 2 b.from b.bytes, take_at)
-
 -- a buffer that gave the frame that it began with
 abbrev pub released : Buffer → Layout → Buffer
 released b layout = passed b (2 + layout_length layout)
@@ -68,22 +64,18 @@ held_whole b layout whole = grind (arith, map-append, append_assoc, held_passed,
 pub gives_span : (b : Buffer) (layout : Layout) → IsSound b → is_drained b.state ≡ false → IsWhole layout (held_bytes b)
     → GivesSpan b (released b layout) (span_of b layout)
 gives_span b layout sound busy whole =
-    let n = layout_length layout in
-    let body = body_here b layout whole in
+    let body = body_at_place b.bytes b.from (layout_length layout) layout whole refl in
     let held = ap length whole.parts ∙ length-append (255 ∷ 255 ∷ whole.body) whole.rest in
-    let size = length-drop b.from b.bytes in
     record {
-      within = omega (arith, held, size, whole.whole.exact, sound.stored.within);
-      body = let Of : List ℕ → Type 0 = λ xs. IsWholeBody layout xs in subst Of (sym body) whole.whole;
-      given = λ frame is.
-          let Of : List ℕ → Type 0 = λ xs. IsBody frame xs in
-          record {
-            moves = moves_frame (scan_of b) (scan_of (released b layout)) frame whole.body (held_whole b layout whole) (subst Of body is)
-                (omega (arith, whole.whole.exact)) refl;
-            stop = refl;
-            finished = refl;
-            undrained = (busy, refl);
-          };
+      within = omega (arith, held, length-drop b.from b.bytes, whole.whole.exact, sound.stored.within);
+      body = rw body whole.whole;
+      given = λ frame is. record {
+        moves = moves_frame (scan_of b) (scan_of (released b layout)) frame whole.body (held_whole b layout whole) (rw body at is)
+            (omega (arith, whole.whole.exact)) refl;
+        stop = refl;
+        finished = refl;
+        undrained = (busy, refl);
+      };
     }
 
 -- a frame that is given after some characters were let go

@@ -1,4 +1,6 @@
 -- The first frame of a list, by what a scanner gave of it.
+use Rattle.hart_frame.proofs.lemmas.heard.Rest.{first_moved}
+use Rattle.std.proofs.Common.{add-zero}
 use Rattle.std.proofs.lemmas.Grind.{common_steps}
 use Rattle.std.proofs.Common.{◌≡◌, ℕ, ◌+◌, ◌≤◌, false, IsTrue, inl, inr, Option, Some, None, List, [], ◌∷◌, ◌++◌, length, take, drop}
 use Rattle.std.proofs.Common.{refl, sym, ap, ◌∙◌, arith, subst}
@@ -84,25 +86,10 @@ pub first_later : (chars rest : List Character) (from : ℕ) (found : Found) →
     → IsFirst found rest 0
     → IsFirst (record { start = from + found.start; stop = from + found.stop; frame = found.frame }) chars from
 first_later chars rest from found within is least =
-    let prefix = take from chars in
-    let long = length-take-le from chars within in
-    let parts : prefix ++ rest ≡ chars = ap (λ (cs : List Character). prefix ++ cs) is ∙ take-append-drop from chars in
-    let later : Found = record { start = from + found.start; stop = from + found.stop; frame = found.frame } in
-    let Of : List Character → Type 0 = λ cs. StandsIn later cs from in
-    let Here : (other : Found) → List Character → Type 0 = λ other cs. StandsIn other cs from in
-    let stands = subst Of (ap (λ (cs : List Character). prefix ++ cs) (append-nil rest) ∙ parts)
-    (stands_after prefix rest [] found from long least.stands) in
-    record {
-      stands = stands;
-      least = λ other there.
-          let low = least.least _ (stands_in prefix rest other from long (subst (Here other) (sym parts) there)) in
-          grind (arith, common_steps, StandsIn-within);
-    }
+    rw (take-append-drop from chars, add-zero from) at
+    (first_moved (take from chars) (drop from chars) found from 0 (length-take-le from chars within) (rw is at least))
 
 pub no_later : (chars rest : List Character) (from : ℕ) → from ≤ length chars → rest ≡ drop from chars → HasNoFrame rest 0
     → HasNoFrame chars from
 no_later chars rest from within is empty found there =
-    let prefix = take from chars in
-    let parts : prefix ++ rest ≡ chars = ap (λ (cs : List Character). prefix ++ cs) is ∙ take-append-drop from chars in
-    let Here : List Character → Type 0 = λ cs. StandsIn found cs from in
-    empty _ (stands_in prefix rest found from (length-take-le from chars within) (subst Here (sym parts) there))
+    empty _ (stands_in (take from chars) rest found from (length-take-le from chars within) (rw (is, take-append-drop from chars) there))

@@ -20,16 +20,9 @@ record IsStreamed (past : List Character) (scan : Scan) (given : List Found) : T
   pub frames : (more : List Character) (later : List Found) → (IsTrue scan.finished → more ≡ [])
       → AreFrames (past ++ more) scan.first later → AreFrames (past ++ more) 0 (given ++ later)
 
-streamed_new : IsStreamed [] new_scan []
-streamed_new = grind arith
-
 streamed_pushed : (past : List Character) (scan : Scan) (given : List Found) (cs : List Character) → scan.finished ≡ false
     → IsStreamed past scan given → IsStreamed (past ++ cs) (hearing scan cs) given
 streamed_pushed past scan given cs going streamed = grind (arith, append_assoc)
-
-streamed_finished : (past : List Character) (scan : Scan) (given : List Found) → IsStreamed past scan given
-    → IsStreamed past (finishing scan) given
-streamed_finished past scan given streamed = grind arith
 
 streamed_taken : (past : List Character) (old new : Scan) (given found : List Found) → IsStreamed past old given
     → MovesPast old new found → new.finished ≡ old.finished → IsStreamed past new (given ++ found)
@@ -43,9 +36,8 @@ streamed_chunk past old new given chunk going streamed moves finished =
 
 -- so it is after every history
 streamed : (past : List Character) (scan : Scan) (given : List Found) → IsHistory past scan given → IsStreamed past scan given
-streamed past scan given begin = streamed_new
-streamed past scan given (push before old frames character history going) =
-    streamed_pushed before old frames (character ∷ []) going (streamed before old frames history)
+streamed past scan given begin = grind arith
+streamed past scan given (push before old frames character history going) = grind (arith, append_assoc, streamed before old frames history)
 streamed past scan given (push_bytes before old new frames chunk history going moves finished) =
     streamed_chunk before old new frames (faultless chunk) going (streamed before old frames history) moves finished
 streamed past scan given (push_chars before old new frames chunk history going moves finished) =
@@ -54,7 +46,7 @@ streamed past scan given (take_view before old new frames found history gave) =
     streamed_taken before old new frames (found ∷ []) (streamed before old frames history) gave.moves gave.finished
 streamed past scan given (wait before old new frames history waited) =
     grind (arith, streamed_taken, append-nil, streamed before old frames history)
-streamed past scan given (finish before old frames history) = streamed_finished before old frames (streamed before old frames history)
+streamed past scan given (finish before old frames history) = grind (arith, streamed before old frames history)
 
 -- the frames given so far are the first ones
 pub history_first : OneList → (past more : List Character) (scan : Scan) (given frames : List Found) → IsHistory past scan given
