@@ -25,24 +25,21 @@ append_none : (cs more : List Character) → cs ++ more ≡ [] → more ≡ []
 append_none [] more none = none
 append_none (c ∷ cs) more none = absurd cc
 
--- what is passed is also passed if more is heard before it is looked at
-pub moves_hearing : (a b : Scan) (cs : List Character) → a.finished ≡ false → MovesPast a b [] → MovesPast (hearing a cs) (hearing b cs) []
-moves_hearing a b cs going p =
-    let before : (more chars : List Character) → CanHear (hearing a cs) more chars → CanHear a (cs ++ more) chars =
-    grind (arith, append_assoc) in
-    record {
-      heard = grind (arith, append_assoc, append_none);
-      frames = λ more chars later hears frames. p.frames (cs ++ more) chars later (before more chars hears) frames;
-    }
-
 -- what is heard in two parts
 pub hearing_more : (a b c : Scan) (xs ys : List Character) → a.finished ≡ false → MovesPast (hearing a xs) b []
     → MovesPast (hearing b ys) c []
     → MovesPast (hearing a (xs ++ ys)) c []
 hearing_more a b c xs ys going p q =
-    moves_then (hearing a (xs ++ ys)) (hearing (hearing a xs) ys) c []
-    (moves_none (hearing a (xs ++ ys)) (hearing (hearing a xs) ys) (append_assoc a.held xs ys) refl refl)
-    (moves_then (hearing (hearing a xs) ys) (hearing b ys) c [] (moves_hearing (hearing a xs) b ys going p) q)
+    let before : (more chars : List Character) → CanHear (hearing a (xs ++ ys)) more chars → CanHear (hearing a xs) (ys ++ more) chars =
+    grind (arith, append_assoc) in
+    let after : (more chars : List Character) → CanHear b (ys ++ more) chars → CanHear (hearing b ys) more chars =
+    grind (arith, append_assoc, append_none) in
+    record {
+      heard = λ more chars hears. q.heard more chars (after more chars (p.heard (ys ++ more) chars (before more chars hears)));
+      frames = λ more chars later hears frames.
+          let mid = before more chars hears in
+          p.frames (ys ++ more) chars later mid (q.frames more chars later (after more chars (p.heard (ys ++ more) chars mid)) frames);
+    }
 
 -- what is undecided after two parts was undecided before
 pub undecided_more : (a b : Scan) (xs ys : List Character) → a.finished ≡ false → MovesPast (hearing a xs) b [] → IsUndecided (b.held ++ ys)

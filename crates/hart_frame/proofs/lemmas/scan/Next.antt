@@ -42,14 +42,11 @@ leads_on bytes ended from to given within moves more later closed =
 moves_to : (bytes : List ℕ) (ended : Bool) (from to : ℕ) → from ≤ to → to ≤ length bytes → NoneBeginThen bytes ended from to
     → MovesPast (scan_at bytes ended from) (scan_at bytes ended to) []
 moves_to bytes ended from to order within none =
-    let there : from + (to - from) ≡ to = omega (arith, order) in
     moves_places (scan_at bytes ended from) (scan_at bytes ended to) (drop from bytes) [] (to - from)
-    (sym (append-nil (faultless (drop from bytes))))
-    (grind (arith, common_steps, drop-drop, append-nil))
-    (sym there) refl (omega (arith, within, length-drop from bytes))
+    (sym (append-nil (faultless (drop from bytes)))) (grind (arith, common_steps, drop-drop, append-nil))
+    (let there : to ≡ from + (to - from) = omega (arith, order) in there) refl (omega (arith, within, length-drop from bytes))
     (λ place below more closed.
-    subst (λ (xs : List ℕ). BeginWithNone (faultless xs ++ more)) (sym (drop-drop place from bytes))
-    (none (from + place) (omega arith) (omega (arith, below)) more (λ over. inl (closed over))))
+    rw (drop-drop place from bytes) (none (from + place) (omega arith) (omega (arith, below)) more (λ over. inl (closed over))))
 
 -- the body after two preamble bytes at a place, and what comes after it
 pub body_at_place : (bytes : List ℕ) (place len : ℕ) (layout : Layout) (whole : IsWhole layout (drop place bytes))
@@ -59,14 +56,7 @@ body_at_place bytes place len layout whole same = grind (arith, drop-drop 2 plac
 rest_at_place : (bytes : List ℕ) (place len : ℕ) (layout : Layout) (whole : IsWhole layout (drop place bytes))
     → len ≡ layout_length layout → drop (place + 2 + len) bytes ≡ whole.rest
 rest_at_place bytes place len layout whole same =
-    ap (λ (n : ℕ). drop n bytes) (let there : place + 2 + len ≡ place + (2 + len) = omega arith in there)
-    ∙ sym (drop-drop (2 + len) place bytes) ∙ ap (drop (2 + len)) whole.parts
-    ∙ drop_at (255 ∷ 255 ∷ whole.body) whole.rest (2 + len) (omega (arith, same, whole.whole.exact))
-
--- what stands at a place, by the layout that was found there or was not
-abbrev StandsOrIsLeft : List ℕ → Bool → ℕ → Option Layout → Type 0
-StandsOrIsLeft bytes ended place layout =
-    MatchOption layout (IsLeftOpen bytes ended place) (λ own. IsWhole own (drop place bytes))
+    grind (arith, drop-drop (2 + len) place bytes, drop_at (255 ∷ 255 ∷ whole.body) whole.rest (2 + len))
 
 -- a layout that is found is that of the frame which stands at the place
 pub stands_by : (bytes : List ℕ) (from : ℕ) (ended : Bool) (found : Sighting) (layout : Layout) → IsSearchedToEnd bytes from ended found
@@ -89,16 +79,13 @@ pub leads_past : (bytes : List ℕ) (ended : Bool) (from len : ℕ) (found : Sig
 leads_past bytes ended from len found layout frame is whole same body =
     let place = found.place in
     let stop = place + 2 + len in
-    let Body : List ℕ → Type 0 = λ xs. IsBody frame xs in
-    let own = subst Body (body_at_place bytes place len layout whole same) body in
     let held : faultless (drop place bytes) ≡ faultless (255 ∷ 255 ∷ whole.body) ++ faultless (drop stop bytes) =
-    ap faultless whole.parts ∙ map-append of_byte (255 ∷ 255 ∷ whole.body) whole.rest
-    ∙ ap (λ (xs : List ℕ). faultless (255 ∷ 255 ∷ whole.body) ++ faultless xs) (sym (rest_at_place bytes place len layout whole same)) in
+    grind (arith, map-append, rest_at_place bytes place len layout whole same) in
     leads_on bytes ended from stop _ (omega (arith, is.after, is.within))
     (moves_then (scan_at bytes ended from) (scan_at bytes ended place) (scan_at bytes ended stop) _
     (moves_to bytes ended from place is.after is.within is.none)
-    (moves_frame (scan_at bytes ended place) (scan_at bytes ended stop) frame whole.body held own
-    (omega (arith, same, whole.whole.exact)) refl))
+    (moves_frame (scan_at bytes ended place) (scan_at bytes ended stop) frame whole.body held
+    (rw (body_at_place bytes place len layout whole same) at body) (omega (arith, same, whole.whole.exact)) refl))
 
 -- and if none is found, the next ones stand from the place on that is found
 pub leads_nowhere : (bytes : List ℕ) (ended : Bool) (from : ℕ) (found : Sighting) → IsSearchedToEnd bytes from ended found
@@ -110,9 +97,4 @@ leads_nowhere bytes ended from found is =
 -- nothing is decided in what is left
 pub undecided_left : (bytes : List ℕ) (from : ℕ) (ended : Bool) (found : Sighting) → IsSearchedToEnd bytes from ended found
     → found.layout ≡ None → IsUndecided (faultless (drop found.place bytes))
-undecided_left bytes from ended found is none =
-    let rest = drop found.place bytes in
-    elim (subst (StandsOrIsLeft bytes ended found.place) none is.stands) [
-      | inl end ↦ undecided_open rest (inl (drop_all found.place bytes (omega (arith, end))))
-      | inr left ↦ undecided_open rest left.1
-    ]
+undecided_left bytes from ended found is none = undecided_open (drop found.place bytes) (grind (arith, drop_all))

@@ -58,13 +58,9 @@ holds_kept : (old new : Buffer) (part : List ℕ) (found : Sighting) → IsKept 
 holds_kept old new part found kept layout whole = grind (arith, take-length, length-drop, length-append)
 
 -- so it is what its state means
-meant_kept : (old new : Buffer) (part : List ℕ) (found : Sighting) → IsKept old new part found → (layout : Option Layout)
-    → Holds old new part found layout → IsMeant new (state_of layout)
-meant_kept old new part found kept layout whole = grind arith
-
 pub sound_kept : (old new : Buffer) (part : List ℕ) (found : Sighting) → IsStored new → IsKept old new part found → IsSound new
 sound_kept old new part found stored kept =
-    grind (arith, meant_kept old new part found kept found.layout (holds_kept old new part found kept found.layout kept.searched.stands))
+    grind (arith, holds_kept old new part found kept found.layout kept.searched.stands)
 
 -- and it stops where nothing more is decided, or where a frame stands
 stops_kept : (old new : Buffer) (part : List ℕ) (found : Sighting) → IsKept old new part found → (layout : Option Layout) (count : ℕ)
