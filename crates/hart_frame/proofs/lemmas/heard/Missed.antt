@@ -1,4 +1,5 @@
 -- The miss of a place by what stands before it, and that there is none where a frame stands.
+use Rattle.std.proofs.lemmas.List.{get_or_append_left, get_or_past}
 use Rattle.hart_frame.proofs.lemmas.wire.Refusal.{has_check}
 use Rattle.hart_frame.proofs.lemmas.heard.Miss.{miss_in-whole}
 use Rattle.std.proofs.lemmas.Grind.{common_steps}
@@ -141,18 +142,12 @@ body_fits bytes f len begins =
     let n = length body.checked in
     let long : len ≡ n + 1 = grind (arith, common_steps, length-take-le, length-append) in
     let whole : body_length bytes - 1 ≡ n = omega (arith, (says bytes f len begins).whole, long) in
-    let checked : take n bytes ≡ body.checked =
-    sym (take-take n len bytes (omega (arith, long))) ∙ ap (take n) body.parts ∙ take_at body.checked (body.check ∷ []) n refl in
+    let checked : take n bytes ≡ body.checked = grind (arith, take-take n len bytes, take_at body.checked (body.check ∷ []) n) in
     let check : get_or bytes n 0 ≡ body.check = grind (arith, common_steps, get_or-take, get_or_at) in
-    let Fit : List ℕ → Type 0 = λ xs. All (λ byte. byte < 256) xs in
-    let Even : List ℕ → Type 0 = λ xs. HasEvenParity xs in
-    let fit = subst Fit body.parts body.bytes_fit in
-    let first =
-    subst Fit (take_at body.checked (body.check ∷ []) n refl) (All-take (λ byte. byte < 256) n (body.checked ++ body.check ∷ []) fit) in
-    let last : body.check < 256 =
-    subst (λ (byte : ℕ). byte < 256) (get_or_at body.checked body.check [] 0 n refl)
-    (fit n 0 (omega (arith, length-append body.checked (body.check ∷ [])))) in
-    let fits = even-is body.checked body.check (fits_at body.checked first) last (subst Even body.parts body.parity) in
+    let fits = fits_at (body.checked ++ body.check ∷ []) (rw body.parts at body.bytes_fit) in
+    let first : (i : ℕ) → get_or body.checked i 0 < 256 = grind (arith, fits, get_or_append_left, get_or_past) in
+    let last : body.check < 256 = grind (arith, fits n, get_or_at) in
+    let fits = even-is body.checked body.check first last (rw body.parts at body.parity) in
     grind (arith, common_steps, whole, bit_xor)
 
 -- nothing is missed of bytes that begin with a body

@@ -1,4 +1,6 @@
 -- What is known of bytes by how they begin.
+use Rattle.hart_frame.specs.declared.heard.found.Found.{Found}
+use Rattle.hart_frame.specs.heard.Place.{StandsIn}
 use Rattle.hart_frame.proofs.lemmas.wire.Truncated.{truncated_check}
 use Rattle.std.proofs.Common.{◌≡◌, ◌≢◌, ℕ, zero, suc, ◌+◌, ◌<◌, ◌≤◌, inl, inr, List, [], ◌∷◌, ◌++◌, length, take, drop, get_or, refl}
 use Rattle.std.proofs.Common.{sym, arith, subst, append_assoc}
@@ -52,10 +54,8 @@ never_after x y xs never more f body rest is same = nothing_never_body xs more n
 
 -- nor do those bytes and others after them
 pub never_more : (xs ys : List ℕ) → NeverBegin xs → NeverBegin (xs ++ ys)
-never_more xs ys never more =
-    let parts : faultless xs ++ (faultless ys ++ more) ≡ faultless (xs ++ ys) ++ more = grind (arith, append_assoc, map-append) in
-    let None : List Character → Type 0 = λ cs. BeginWithNone cs in
-    subst None parts (never (faultless ys ++ more))
+never_more xs ys never more f body rest is same =
+    never (faultless ys ++ more) f body rest is (grind (arith, append_assoc, map-append))
 
 -- what follows then has no bytes
 nothing_open_body : (xs : List ℕ) (tail : List Character) → IsTruncated xs → NothingFollows tail → (f : FrameParts)
@@ -74,21 +74,20 @@ nothing_open xs tail may ends f body rest is same =
       | inr (inr (after, two, truncated)) ↦ nothing_open_body after tail truncated ends f body rest is (grind arith)
     ]
 
+later_open : (xs : List ℕ) → MayBegin xs → (found : Found) → StandsIn found (faultless xs) 0 → 2 < found.start
+later_open xs may found stands =
+    let later = skip_one (faultless xs) 0 (rw append-nil at (nothing_open xs [] may (inl refl))) found stands in
+    grind (arith, StandsIn-within found (faultless xs) 1 later)
+
 -- what may begin a frame is undecided
 pub undecided_open : (xs : List ℕ) → MayBegin xs → IsUndecided (faultless xs)
 undecided_open xs may =
     elim may [
       | inl none ↦ inl (λ found stands. grind (arith, StandsIn-within found (faultless xs) 0 stands))
       | inr (inl one) ↦ inl (λ found stands. grind (arith, StandsIn-within found (faultless xs) 0 stands))
-      | inr (inr (after, two, truncated)) ↦ inr (
-        2,
-        record { prefix = []; bytes = after; split = grind arith; start = refl; truncated = truncated },
-        λ found stands.
-            let nothing = nothing_open xs [] (inr (inr (after, two, truncated))) (inl refl) in
-            let None : List Character → Type 0 = λ cs. BeginWithNone cs in
-            let later = skip_one (faultless xs) 0 (subst None (append-nil (faultless xs)) nothing) found stands in
-            grind (arith, StandsIn-within found (faultless xs) 1 later),
-      )
+      | inr (inr (after, two, truncated)) ↦
+          inr (2, record { prefix = []; bytes = after; split = grind arith; start = refl; truncated = truncated },
+          later_open xs (inr (inr (after, two, truncated))))
     ]
 
 -- fewer bytes than so many of a list may begin a frame if two preamble bytes come first, and fewer after them end too early
@@ -115,12 +114,9 @@ cut_off layout xs len has is same =
 pub odd_body : (layout : Layout) (xs : List ℕ) (len check : ℕ) → IsCut layout xs len → IsCheckByte (take len xs) check → check ≢ 0
     → NeverBecomeBody (take len xs)
 odd_body layout xs len check cut is odd =
-    let all : take (body_length (take len xs)) (take len xs) ≡ take len xs = grind (arith, take_all, length-take) in
-    record {
-      fault = BadCheck;
-      refused = (cut.checked, λ even. odd (check-even (take len xs) check is (subst HasEvenParity all even)));
-      decided = λ same. absurd cc;
-    }
+    let even : HasEvenParity (take (body_length (take len xs)) (take len xs)) → ⊥ =
+    grind (arith, take_all, length-take, check-even (take len xs) check is) in
+    record { fault = BadCheck; refused = (cut.checked, even); decided = λ same. absurd cc }
 
 -- and are a whole one if it is even
 pub whole_body : (layout : Layout) (xs : List ℕ) (len check : ℕ) → IsCut layout xs len → ((i : ℕ) → get_or xs i 0 < 256)

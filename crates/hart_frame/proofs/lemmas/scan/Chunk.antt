@@ -1,4 +1,5 @@
 -- What a chunk is to a scanner that hears it at once, or in parts.
+use Rattle.hart_frame.specs.scan.Scanner.{Waits}
 use Rattle.std.proofs.lemmas.Grind.{common_steps}
 use Rattle.std.proofs.Common.{◌≡◌, ℕ, ◌+◌, ◌-◌, ◌<◌, ◌≤◌, ◌^◌, ◌⊎◌, inl, inr, true, false, List, [], ◌∷◌, ◌++◌, length, take}
 use Rattle.std.proofs.Common.{Option, None, Some, drop, get_or, refl, sym, ap, ◌∙◌, arith, subst, append_assoc, length-append, length-drop}
@@ -94,35 +95,29 @@ pub heard_length : (a b : Scan) (chunk : List Character) (n : ℕ) → n ≤ len
     → b.first + length b.held ≡ a.first + length a.held + n
 heard_length a b chunk n within moves = grind (arith, moves_length, length-append, length-take-le)
 
--- what a peek makes of one character that was heard
-abbrev pub Peeked : Scan → Buffer → Character → Option Layout → Type 0
-Peeked old new character seen = MatchOption seen (GivesNothing (hearing old (character ∷ [])) (scan_of new))
-    (λ layout. MovesPast (hearing old (character ∷ [])) (scan_of new) [] × (is_drained new.state ≡ false) × IsWhole layout (held_bytes new)
-    × (new.finished ≡ false))
-
--- so it stops after that
-seen_one : (old : Scan) (new : Buffer) (character : Character) (seen : Option Layout) → old.finished ≡ false
-    → Peeked old new character seen
+-- where one character was heard, and a peek gave nothing or holds a frame, it stops after that character
+seen_one : (old : Scan) (mid new : Buffer) (character : Character) (seen : Option Layout) → old.finished ≡ false
+    → scan_of mid ≡ hearing old (character ∷ []) → MatchOption seen (GivesNothing (scan_of mid) (scan_of new)) (HoldsWhole mid new)
     → MovesPast (hearing old (character ∷ [])) (scan_of new) [] × StopsAt (scan_of new) 1 1 × (new.finished ≡ old.finished)
-seen_one old new character None going nothing = grind (arith, waits_only)
-seen_one old new character (Some layout) going (moves, busy, whole, finished) =
-    (moves, inr (busy, holds_frame new layout whole), finished ∙ sym going)
-
-pub peeked : (old : Scan) (mid new : Buffer) (character : Character) (seen : Option Layout) → scan_of mid ≡ hearing old (character ∷ [])
-    → mid.finished ≡ false → MatchOption seen (GivesNothing (scan_of mid) (scan_of new)) (HoldsWhole mid new)
-    → Peeked old new character seen
-peeked old mid new character seen heard going nothing = grind arith
+seen_one old mid new character None going heard nothing =
+    let is : Waits (hearing old (character ∷ [])) (scan_of new) =
+    rw heard at (waits_only (scan_of mid) (scan_of new) (ap (λ (s : Scan). s.finished) heard ∙ going) nothing) in
+    (is.moves, inl (is.drained, is.undecided, refl), is.unfinished ∙ sym going)
+seen_one old mid new character (Some layout) going heard holds =
+    (rw heard at holds.moves, inr (holds.undrained, holds_frame new layout holds.begins),
+    holds.finished ∙ ap (λ (s : Scan). s.finished) heard)
 
 pub first_one : (chunk : List Character) (character : Character) → 0 < length chunk → character ≡ get_or chunk 0 character
     → take 1 chunk ≡ character ∷ []
 first_one chunk character some is = grind arith
 
 -- so a first part of a chunk is heard
-pub hears_first : (old : Scan) (new : Buffer) (chunk : List Character) (character : Character) (seen : Option Layout) → old.finished ≡ false
-    → IsUndecided old.held → take 1 chunk ≡ character ∷ [] → 0 < length chunk → Peeked old new character seen
+pub hears_first : (old : Scan) (mid new : Buffer) (chunk : List Character) (character : Character) (seen : Option Layout)
+    → old.finished ≡ false → IsUndecided old.held → take 1 chunk ≡ character ∷ [] → 0 < length chunk
+    → scan_of mid ≡ hearing old (character ∷ []) → MatchOption seen (GivesNothing (scan_of mid) (scan_of new)) (HoldsWhole mid new)
     → HearsPart old (scan_of new) chunk 1
-hears_first old new chunk character seen going undecided first some peeked =
-    let is = seen_one old new character seen going peeked in
+hears_first old mid new chunk character seen going undecided first some heard given =
+    let is = seen_one old mid new character seen going heard given in
     let before : (fewer : ℕ) → fewer < 1 → IsUndecided (old.held ++ take fewer chunk) = λ fewer below.
     let none : fewer ≡ 0 = omega (arith, below) in rw (none, append-nil) undecided in
     grind arith

@@ -1,3 +1,4 @@
+use Rattle.std.proofs.Common.{◌⊎◌}
 use Rattle.std.proofs.lemmas.Grind.{common_steps}
 use Rattle.std.proofs.Common.{◌≡◌, ◌<◌, inl, inr, ℕ, suc, zero, refl, bit_and, arith, sym, ap, ◌∙◌}
 use Rattle.std.specs.Int.{bit_at}
@@ -9,22 +10,13 @@ use Rattle.hart_frame.proofs.heard.character.Char.new.Goals as goal
 
 -- the bits that are not set in 141 are the fault bits
 fault_bit : (bit : ℕ) → bit < 8 → bit_at 141 bit ≡ 0 → IsFaultBit bit
-fault_bit zero below e = absurd (omega arith)
-fault_bit (suc zero) below e = inr (inr (inr refl))
-fault_bit (suc (suc zero)) below e = absurd (omega arith)
-fault_bit (suc (suc (suc zero))) below e = absurd (omega arith)
-fault_bit (suc (suc (suc (suc zero)))) below e = inr (inr (inl refl))
-fault_bit (suc (suc (suc (suc (suc zero))))) below e = inr (inl refl)
-fault_bit (suc (suc (suc (suc (suc (suc zero)))))) below e = inl refl
-fault_bit (suc (suc (suc (suc (suc (suc (suc zero))))))) below e = absurd (omega arith)
-fault_bit (suc (suc (suc (suc (suc (suc (suc (suc bit)))))))) below e = absurd (omega arith)
+fault_bit bit below e =
+    let cases : (bit ≡ 0) ⊎ (bit ≡ 1) ⊎ (bit ≡ 2) ⊎ (bit ≡ 3) ⊎ (bit ≡ 4) ⊎ (bit ≡ 5) ⊎ (bit ≡ 6) ⊎ (bit ≡ 7) = grind arith in
+    grind arith
 
 -- and no fault bit is set in it
 not_set : (bit : ℕ) → IsFaultBit bit → bit_at 141 bit ≡ 0
-not_set bit (inl e) = ap (bit_at 141) e
-not_set bit (inr (inl e)) = ap (bit_at 141) e
-not_set bit (inr (inr (inl e))) = ap (bit_at 141) e
-not_set bit (inr (inr (inr e))) = ap (bit_at 141) e
+not_set bit is = grind arith
 
 -- a byte with none of the other bits is fault bits
 AreFaultBits-from : (faults : ℕ) → faults < 256 → bit_and faults 141 ≡ 0 → AreFaultBits faults

@@ -4,7 +4,7 @@ use Rattle.hart_frame.specs.heard.Character.{faultless}
 use Rattle.hart_frame.specs.scan.Buffer.{scan_of}
 use Rattle.hart_frame.proofs.lemmas.heard.Front.{front_heard, length-front}
 use Rattle.hart_frame.proofs.lemmas.scan.Buffer.{undecided_waiting, waits_drained}
-use Rattle.hart_frame.proofs.lemmas.scan.Chunk.{first_one, hears_first, part_heard, peeked}
+use Rattle.hart_frame.proofs.lemmas.scan.Chunk.{first_one, hears_first, part_heard}
 use Rattle.hart_frame.proofs.scan.buffer.Buffer.push_stretch.Goals as goal
 
 pub returns-clause-hears : goal.returns-clause-hears
@@ -14,9 +14,8 @@ returns-clause-hears c =
     let new = c.peek-layout.new.self in
     let character = c.index-chunk-0.result in
     let waiting = waits_drained old c.requires.sound c.requires.drained in
-    hears_first (scan_of old) new chunk character c.peek-layout.result waiting.going (undecided_waiting old waiting)
-    (first_one chunk character c.requires.some c.index-chunk-0.is) c.requires.some
-    (grind (arith, common_steps, peeked))
+    hears_first (scan_of old) c.push.new.self new chunk character c.peek-layout.result waiting.going (undecided_waiting old waiting)
+    (first_one chunk character c.requires.some c.index-chunk-0.is) c.requires.some c.push.ensures.pushed c.peek-layout.ensures.seen
 
 pub returns-then-not-is_empty-clause-hears : goal.returns-then-not-is_empty-clause-hears
 returns-then-not-is_empty-clause-hears c =
