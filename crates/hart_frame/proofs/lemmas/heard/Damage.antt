@@ -76,8 +76,7 @@ begins_sent (sent ∷ bytes) (byte ∷ prefix) more heard = grind (arith, clear_
 -- a body gives its delimiter and its length
 says_of : (f : FrameParts) (body : List ℕ) → IsBody f body → Says body f (length body)
 says_of f body is =
-    let Begins : List ℕ → Type 0 = λ xs. BeginsWithBody xs f (length body) in
-    says body f (length body) (subst Begins (append-nil body) (BeginsWithBody-append f body [] is))
+    says body f (length body) (rw (append-nil body) at (BeginsWithBody-append f body [] is))
 
 -- a delimiter is no preamble byte
 delimiter_of-other : (f : FrameParts) (body : List ℕ) → IsBody f body → delimiter_of f ≡ 255 → ⊥

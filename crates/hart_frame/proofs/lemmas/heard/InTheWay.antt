@@ -80,10 +80,9 @@ said_early : (chars : List Character) (start : ℕ) (at_end miss : Miss) → sta
     → faulty_or (slice_get (drop start chars) (length (bytes_from chars start))) (start + length (bytes_from chars start)) at_end ≡ miss
     → IsInTheWay chars start miss
 said_early chars start at_end miss within truncated by_end is =
-    let In : Miss → Type 0 = λ miss. IsInTheWay chars start miss in
     elim (early_way chars start at_end miss within is) [
-      | inl (same, end) ↦ subst In same (by_end end)
-      | inr (faults, same, has) ↦ subst In (sym same) (truncated, refl, has)
+      | inl (same, end) ↦ rw same at (by_end end)
+      | inr (faults, same, has) ↦ rw same (truncated, refl, has)
     ]
 
 said : (chars : List Character) (start : ℕ) (miss : Miss) → All (λ byte. byte < 256) (bytes_from chars start) → start ≤ length chars

@@ -67,11 +67,9 @@ pub missed_whole : (bytes : List ℕ) (len : ℕ) (faulty : Option Character) (p
     → check_miss (take len bytes) start ≡ miss_in bytes faulty place start
 missed_whole bytes len faulty place start has long =
     let parts = take-append-drop len bytes in
-    let Has : List ℕ → Type 0 = λ xs. HasCheckByte xs in
     let length_is : length (take len bytes) ≡ len = length-take-le len bytes (omega (arith, has.1, long)) in
-    let Within : List ℕ → Type 0 = λ xs. body_length xs ≤ length (take len bytes) in
-    let cut = HasCheckByte-prefix (take len bytes) (drop len bytes) (subst Has (sym parts) has)
-    (subst Within (sym parts) (omega (arith, long, length_is))) in
+    let cut = HasCheckByte-prefix (take len bytes) (drop len bytes) (rw parts has)
+    (rw parts (omega (arith, long, length_is))) in
     sym (check_miss-more (take len bytes) (drop len bytes) start cut.0) ∙ ap (λ (xs : List ℕ). check_miss xs start) parts
     ∙ sym (miss_in-whole bytes faulty place start has)
 

@@ -30,9 +30,8 @@ stands_moved : (before rest : List Character) (found : Found) (n from : ℕ) →
     → StandsIn (moved n found) (before ++ rest) (n + from)
 stands_moved before rest found n from long stands =
     let lies = StandsIn-within found rest from stands in
-    let Here : List Character → Type 0 = λ cs. StandsIn (moved n found) (before ++ cs) n in
     let low = StandsIn-from found rest from 0 stands (omega (arith, lies.after)) in
-    let here = subst Here (append-nil rest) (stands_after before rest [] found n long low) in grind (arith, common_steps, StandsIn-from)
+    let here = rw (append-nil rest) at (stands_after before rest [] found n long low) in grind (arith, common_steps, StandsIn-from)
 
 -- what stands after others, as it stands in the rest
 abbrev StandsMoved : Found → List Character → ℕ → ℕ → Type 0

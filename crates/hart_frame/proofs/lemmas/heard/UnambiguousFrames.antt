@@ -38,5 +38,4 @@ AreFrames-one law chars from xs ys (none m empty) (first n g more is rest) = abs
 AreFrames-one law chars from xs ys (first m f later is rest) (none n empty) = absurd (empty f is.stands)
 AreFrames-one law chars from xs ys (first m f later is rest) (first n g more also others) =
     let same = IsFirst-one law f g chars from is also in
-    let Others : Found → Type 0 = λ found. AreFrames chars found.stop more in
-    let all = AreFrames-one law chars f.stop later more rest (subst Others (sym same) others) in cc
+    let all = AreFrames-one law chars f.stop later more rest (rw same others) in cc

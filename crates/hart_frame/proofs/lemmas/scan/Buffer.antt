@@ -38,8 +38,7 @@ undecided_waiting b waiting = search (arith, held_clear, undecided_open)
 -- so nothing is given
 pub waits : (b : Buffer) (new : Scan) → IsWaiting b → new ≡ record (scan_of b) { drained = true } → Waits (scan_of b) new
 waits b new waiting same =
-    let Of : Scan → Type 0 = λ s. Waits (scan_of b) s in
-    subst Of (sym same) (search (arith, common_steps, moves_none, undecided_waiting))
+    rw same (search (arith, common_steps, moves_none, undecided_waiting))
 
 -- the first of what is held and of a chunk after it
 first_both : (held chunk : List ℕ) (stop count : ℕ) → count ≡ length held → count ≤ stop

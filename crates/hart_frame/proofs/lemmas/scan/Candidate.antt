@@ -40,8 +40,7 @@ nothing_never_body : (xs : List ℕ) (tail : List Character) → NeverBecomeBody
 nothing_never_body xs tail is f body rest is_body same =
     let heard : BeginsWithHeard (faultless xs ++ tail) f (length body) = grind arith in
     let begins = BeginsWithBody-heard (faultless xs ++ tail) f (length body) heard in
-    let Begins : List ℕ → Type 0 = λ ys. BeginsWithBody ys f (length body) in
-    not_refused (xs ++ bytes_of tail) f (length body) is.fault (subst Begins (bytes_of_append xs tail) begins)
+    not_refused (xs ++ bytes_of tail) f (length body) is.fault (rw (bytes_of_append xs tail) at begins)
     (refused_more xs (bytes_of tail) is.fault is.decided is.refused)
 
 -- bytes that begin with another byte than a preamble byte never begin a frame

@@ -71,11 +71,9 @@ pub heard_then : (a b c : Scan) (chunk : List Character) (n r : ℕ) → n ≤ l
 heard_then a b c chunk n r inside so part =
     let rest = slice_range chunk n (length chunk) in
     let within = rest_within b c chunk n r inside part in
-    let Moves : List Character → Type 0 = λ cs. MovesPast (hearing a cs) c [] in
-    let Undecided : List Character → Type 0 = λ cs. IsUndecided (a.held ++ cs) in
     record {
       going = so.going;
-      moves = subst Moves (take_part chunk n r within) (hearing_more a b c (take n chunk) (take r rest) so.going so.moves part.moves);
+      moves = rw (take_part chunk n r within) at (hearing_more a b c (take n chunk) (take r rest) so.going so.moves part.moves);
       before = λ fewer below.
           let cases : (fewer < n) ⊎ (n ≤ fewer) = grind arith in
           elim cases [
@@ -86,7 +84,7 @@ heard_then a b c chunk n r inside so part =
                 let undecided = undecided_more a b (take n chunk) (take k rest) so.going so.moves
                 (part.before k (omega (arith, below, late))) in
                 subst (λ (m : ℕ). IsUndecided (a.held ++ take m chunk)) whole
-                (subst Undecided (take_part chunk n k (omega (arith, below, late, within))) undecided)
+                (rw (take_part chunk n k (omega (arith, below, late, within))) at undecided)
           ];
     }
 

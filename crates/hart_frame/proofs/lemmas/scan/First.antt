@@ -42,8 +42,7 @@ pub first_given : (chars : List Character) (count : ℕ) (mid new : Scan) (found
 first_given chars count mid new found moves going gives =
     let heard = push_chars [] new_scan mid [] (take count chars) begin refl moves going in
     let history = take_view (take count chars) mid new [] found heard gives in
-    let Of : List Character → Type 0 = λ cs. IsFirst found cs 0 in
-    first_in found chars (subst Of (take-append-drop count chars) (given_first (take count chars) (drop count chars) new found history
+    first_in found chars (rw (take-append-drop count chars) at (given_first (take count chars) (drop count chars) new found history
     (λ finished. absurd (false≢true (sym (gives.finished ∙ going) ∙ finished)))))
 
 -- or it heard all of it
@@ -64,8 +63,7 @@ last_given chars waiting new None history nothing =
           refl,
     )
 last_given chars waiting new (Some found) history gives =
-    let Of : List Character → Type 0 = λ cs. IsFirst found cs 0 in
-    first_in found chars (subst Of (append-nil chars) (given_first chars [] new found
+    first_in found chars (rw (append-nil chars) at (given_first chars [] new found
     (take_view chars (finishing waiting) new [] found history gives) (λ _. refl)))
 
 -- and gives it once it is finished, or none if there is none
@@ -78,8 +76,7 @@ first_finished chars count mid waiting new given moves going stops nothing after
     let waited = wait (take count chars) mid waiting [] heard (waits_only mid waiting going nothing) in
     let all : take count chars ≡ chars =
     ap (λ (n : ℕ). take n chars) (all_heard mid waiting count (length chars) stops nothing) ∙ take-length chars in
-    let Of : List Character → Type 0 = λ cs. IsHistory cs (finishing waiting) [] in
-    last_given chars waiting new given (subst Of all (finish (take count chars) waiting [] waited)) after
+    last_given chars waiting new given (rw all at (finish (take count chars) waiting [] waited)) after
 
 -- what stands in the rest of a list stands in the list
 pub first_later : (chars rest : List Character) (from : ℕ) (found : Found) → from ≤ length chars → rest ≡ drop from chars

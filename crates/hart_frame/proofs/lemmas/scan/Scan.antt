@@ -89,8 +89,7 @@ moves_places old new (byte ∷ bytes) tail (suc n) held rest firsts finished wit
     let mid : Scan = record old { first = old.first + 1; held = faultless bytes ++ tail } in
     let same : (more : List Character) → faultless (byte ∷ bytes) ++ (tail ++ more) ≡ old.held ++ more =
     λ more. sym (append_assoc (faultless (byte ∷ bytes)) tail more) ∙ ap (λ (cs : List Character). cs ++ more) (sym held) in
-    let None : List Character → Type 0 = λ cs. BeginWithNone cs in
     moves_then old mid new [] (moves_drop old mid gone held refl refl
-    (λ more ended. subst None (same more) (never 0 (omega arith) more ended)))
+    (λ more ended. rw (same more) at (never 0 (omega arith) more ended)))
     (moves_places mid new bytes tail n refl rest (omega (arith, firsts)) finished (omega (arith, within))
     (λ place below. never (suc place) (omega (arith, below))))

@@ -40,9 +40,8 @@ none_found : (bytes : List ℕ) (first : ℕ) (ended : Bool) (found : Sighting) 
 none_found bytes first ended found looked =
     let n = found.decided in
     let is = looked.searched in
-    let None : List ℕ → Type 0 = λ xs. NoneBegin xs looked.from found.place in
     none_further bytes ended first looked.from found.place looked.none
-    (subst None (take-append-drop n bytes) (none_append (take n bytes) (drop n bytes) looked.from found.place
+    (rw (take-append-drop n bytes) at (none_append (take n bytes) (drop n bytes) looked.from found.place
     (omega (arith, is.order, length-take-le n bytes is.within)) is.none))
 
 -- what may begin a frame begins none if nothing can follow
@@ -57,10 +56,9 @@ looked_on bytes first ended old new over looked none searched =
       after = omega (arith, looked.after, looked.searched.after);
       none = λ here after below next closed.
           let cases : (here < old.place) ⊎ (here ≡ old.place) = grind arith in
-          let None : ℕ → Type 0 = λ n. BeginWithNone (faultless (drop n bytes) ++ next) in
           elim cases [
             | inl early ↦ none_found bytes first ended old looked here after early next closed
-            | inr same ↦ subst None (sym same) (nothing_open (drop old.place bytes) next open_all.2 (closed over))
+            | inr same ↦ rw same (nothing_open (drop old.place bytes) next open_all.2 (closed over))
           ];
       searched = searched;
     }
@@ -72,8 +70,7 @@ stands_at_end : (bytes : List ℕ) (ended : Bool) (found : Sighting) (layout : O
 stands_at_end bytes ended found None order within last opened = grind arith
 stands_at_end bytes ended found (Some layout) order within last whole =
     let n = found.decided in
-    let Whole : List ℕ → Type 0 = λ xs. IsWhole layout (drop found.place xs) in
-    subst Whole (take-append-drop n bytes)
+    rw (take-append-drop n bytes) at
     (whole_append layout (take n bytes) (drop n bytes) found.place (omega (arith, order, length-take-le n bytes within)) whole)
 
 -- what is found at last

@@ -158,10 +158,9 @@ checked bytes whole fits =
     let is = IsCheckByte-fold prefix (fold bit_xor 0 prefix) at refl in
     let fit : All (λ byte. byte < 256) prefix = All-from_get_or (λ byte. byte < 256) prefix 0 (λ k below. at k) in
     let cases : (fold bit_xor 0 prefix ≡ 0) ⊎ (0 < fold bit_xor 0 prefix) = grind arith in
-    let Is : ℕ → Type 0 = λ c. IsCheckByte prefix c in
     elim cases [
       | inl even ↦
-          let body = even_body bytes (body_length bytes) refl whole fit (subst Is even is) in grind (arith, common_steps)
+          let body = even_body bytes (body_length bytes) refl whole fit (rw even at is) in grind (arith, common_steps)
       | inr odd ↦ inr (λ f len begins. not_refused bytes f len BadCheck begins (whole, λ parity. omega (arith, check-even prefix _ is parity, odd)))
     ]
 

@@ -11,8 +11,7 @@ use Rattle.hart_frame.proofs.lemmas.wire.UnambiguousBodies.{BeginsWithBody-appen
 
 pub short_body : (f : FrameParts) (body : List ℕ) → IsBody f body → length body ≤ 267
 short_body f body is =
-    let Begins : List ℕ → Type 0 = λ bytes. BeginsWithBody bytes f (length body) in
-    let told = says body f (length body) (subst Begins (append-nil body) (BeginsWithBody-append f body [] is)) in
+    let told = says body f (length body) (rw (append-nil body) at (BeginsWithBody-append f body [] is)) in
     omega (
       arith,
       told.whole,

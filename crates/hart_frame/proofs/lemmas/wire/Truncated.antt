@@ -52,8 +52,7 @@ fitted bytes fit good last =
     let fits : Fit whole (body_length whole) = λ k below. fits_at whole all_fit k in
     let held = held_frame whole fits (HasGoodByteCount-more bytes (check ∷ []) good, omega (arith, len)) in
     let prefix : take (body_length whole - 1) whole ≡ bytes = grind (arith, take_at) in
-    let Checked : List ℕ → Type 0 = λ xs. IsCheckedPart held.frame xs in
-    (held.frame, IsBody-push held.frame bytes check (subst Checked prefix held.part) fit is)
+    (held.frame, IsBody-push held.frame bytes check (rw prefix at held.part) fit is)
 
 -- so they can become a body
 CanBecomeBody-last : (bytes : List ℕ) → AreBytes bytes → HasGoodByteCount bytes → body_length bytes ≡ length bytes + 1
@@ -62,12 +61,11 @@ CanBecomeBody-last bytes fit good last =
     let check = fold bit_xor 0 bytes in
     let whole : List ℕ = bytes ++ check ∷ [] in
     let (frame, body) = fitted bytes fit good last in
-    let Is : List ℕ → Type 0 = λ xs. IsBody frame xs in
     record {
       rest = check ∷ [];
       frame = frame;
       count = length whole;
-      begins = record { within = omega arith; body = subst Is (sym (take_all (length whole) whole (omega arith))) body };
+      begins = record { within = omega arith; body = rw (take_all (length whole) whole (omega arith)) body };
     }
 
 -- bytes that go on to their byte count get what is left
@@ -138,7 +136,6 @@ IsTruncated-only bytes can none =
     elim cases [
       | inr short ↦ IsTruncated-becomes bytes can.rest can.frame can.count can.begins short
       | inl within ↦
-          let Is : List ℕ → Type 0 = λ xs. IsBody can.frame xs in
           let same : take can.count (bytes ++ can.rest) ≡ take can.count bytes = take-append-le can.count bytes can.rest within in
-          absurd (none can.frame can.count (record { within = within; body = subst Is same can.begins.body }))
+          absurd (none can.frame can.count (record { within = within; body = rw same at can.begins.body }))
     ]

@@ -7,9 +7,8 @@ use Rattle.hart_frame.proofs.heard.character.sum_of.Goals as goal
 
 summed : (c : goal.After-fold) → IsSum c.args.chars.now c.fold.result
 summed c =
-    let SumOf : List Character → Type 0 = λ chars. IsSum chars c.fold.result in
     let all : c.iter.result.rest.now ≡ c.args.chars.now = cc in
-    subst SumOf all (fold_over fronts (λ y. y.now) _ IsSum _
+    rw all at (fold_over fronts (λ y. y.now) _ IsSum _
     (λ chars sum x more f' before k.
     let next : more ≡ record { check = bit_xor sum.check x.now.byte; faults = bit_or sum.faults x.now.faults } = search rules in
     (IsSum-more chars sum x.now more next before, search rules))

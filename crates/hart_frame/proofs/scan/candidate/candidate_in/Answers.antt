@@ -13,15 +13,11 @@ returns-in-Never-clause-candidate c =
     let bytes = c.args.bytes.now in
     let count = c.in-Never.count in
     let two = two_first bytes (omega (arith, c.requires.some, c.if-bytes-eq1.false)) c.requires.preamble c.if-bytes.false in
-    let Rest : List ℕ → Type 0 = λ xs. IsBodyCandidate xs (Never count) in
-    let Is : List ℕ → Type 0 = λ xs. IsCandidate xs (Never (2 + count)) in
-    subst Is (sym two) (after_never count (drop 2 bytes) (subst Rest (take_rest bytes 2) c.in-Never.ensures.candidate))
+    rw two (after_never count (drop 2 bytes) (rw (take_rest bytes 2) at c.in-Never.ensures.candidate))
 
 pub returns-in-Whole-clause-candidate : goal.returns-in-Whole-clause-candidate
 returns-in-Whole-clause-candidate c =
     let bytes = c.args.bytes.now in
     let layout = c.in-Whole.layout in
     let two = two_first bytes (omega (arith, c.requires.some, c.if-bytes-eq1.false)) c.requires.preamble c.if-bytes.false in
-    let Rest : List ℕ → Type 0 = λ xs. IsBodyCandidate xs (Whole layout) in
-    let Is : List ℕ → Type 0 = λ xs. IsCandidate xs (Whole layout) in
-    subst Is (sym two) (after_whole layout (drop 2 bytes) (subst Rest (take_rest bytes 2) c.in-Whole.ensures.candidate))
+    rw two (after_whole layout (drop 2 bytes) (rw (take_rest bytes 2) at c.in-Whole.ensures.candidate))

@@ -10,8 +10,7 @@ pub returns-in_err-found-clause-first : goal.returns-in_err-found-clause-first
 returns-in_err-found-clause-first c =
     let chars = c.args.chars.now in
     let lookup = c.in_ok-get.ensures.lookup in
-    let Of : Option Found → Type 0 = λ found. MatchOption found (HasNoFrame chars c.args.from) (λ f. IsFirst f chars c.args.from) in
-    subst Of (sym c.from_residual-in_err-found.ensures)
+    rw c.from_residual-in_err-found.ensures
     (no_later chars c.in_ok-get.field-0.now c.args.from lookup.0.0 (lookup.0.2 ∙ take_rest chars c.args.from) c.in_err-found.ensures)
 
 pub returns-clause-first : goal.returns-clause-first

@@ -33,8 +33,7 @@ returns-in-Open c =
     let passed = searching_next bytes c.args.from c.args.seen c.loop-start.place c.loop-start.decided start c.loop-start.invariant order
     c.in-Some.ensures in
     let few = subst (λ (xs : List ℕ). length xs < 269) (take_rest bytes start) c.in-Open.ensures.few in
-    let Of : Sighting → Type 0 = λ found. IsSearched bytes c.args.from c.args.seen found in
-    subst Of (sym c.open_at.ensures)
+    rw c.open_at.ensures
     (searched_open bytes c.args.from c.args.seen start passed.0 passed.1 order
     (omega (arith, few, length-drop start bytes, c.in-Some.ensures.within)) (begins bytes start Open c.in-Open.ensures.candidate))
 
@@ -56,7 +55,6 @@ returns c =
     let end = length bytes in
     let others = searching_others bytes c.args.from c.args.seen c.loop-start.place c.loop-start.decided end c.loop-start.invariant
     c.loop-start.invariant.place_within (omega arith) c.in_default.ensures in
-    let Of : Sighting → Type 0 = λ found. IsSearched bytes c.args.from c.args.seen found in
-    subst Of (sym c.open_at-2.ensures)
+    rw c.open_at-2.ensures
     (searched_open bytes c.args.from c.args.seen end c.loop-start.decided others c.requires.order (omega arith)
     (inl (drop_all end bytes (omega arith))))

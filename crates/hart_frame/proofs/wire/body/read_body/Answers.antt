@@ -22,9 +22,7 @@ pub returns-clause-accepts : goal.returns-clause-accepts
 returns-clause-accepts c =
     let bytes = c.args.bytes.now in
     let len = c.body_len-len.ensures.described bytes c.in_ok-layout.ensures.described in
-    let IsChecked : ℕ → Type 0 = λ n. IsCheckedPart c.frame_in.result (take (n - 1) bytes) in
     let fits : All (λ byte. byte < 256) bytes = All-from_get_or (λ byte. byte < 256) bytes 0 (λ i _. omega (arith, c.type_inv.bytes i)) in
-    let IsCheck : ℕ → Type 0 = λ check. IsCheckByte (take c.body_len-len.result bytes) check in
     BeginsWithBody-prefix bytes c.frame_in.result c.body_len-len.result (omega (arith, len)) c.if-bytes-len.false
     (All-take (λ byte. byte < 256) c.body_len-len.result bytes fits)
-    (subst IsChecked (sym len) c.frame_in.ensures.parts) (subst IsCheck c.if-check_byte-ne0.false c.check_byte.ensures)
+    (rw len c.frame_in.ensures.parts) (rw c.if-check_byte-ne0.false at c.check_byte.ensures)

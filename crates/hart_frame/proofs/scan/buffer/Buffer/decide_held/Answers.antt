@@ -19,9 +19,7 @@ returns-in-Some-clause-seen c =
     let found = c.search_held-found.result in
     let layout = c.in-Some.layout in
     let is = c.search_held-found.ensures in
-    let Of : Buffer → Type 0 = λ x. HoldsWhole b (record x { state = Stands layout }) layout in
-    let Stands : Option Layout → Type 0 = λ l. Found b found.place l in
-    subst Of (sym c.pass.ensures.passed) (given_stands b found layout c.requires.busy is (subst Stands c.in-Some.is is.stands))
+    rw c.pass.ensures.passed (given_stands b found layout c.requires.busy is (rw c.in-Some.is at is.stands))
 
 pub returns-then-is_empty-clause-seen : goal.returns-then-is_empty-clause-seen
 returns-then-is_empty-clause-seen c = search (arith, given_nothing)

@@ -20,8 +20,7 @@ returns-clause-moves c = grind (arith, first_of)
 
 pub returns-clause-before : goal.returns-clause-before
 returns-clause-before c = λ count below.
-    let Of : List Character → Type 0 = λ cs. IsUndecided (c.args.self.now.held ++ cs) in
-    subst Of (first_of c.args.chunk.now count) ((hears c).before count below)
+    rw (first_of c.args.chunk.now count) at ((hears c).before count below)
 
 pub returns-clause-pushed : goal.returns-clause-pushed
 returns-clause-pushed c = grind (arith, common_steps, hears, heard_length)
