@@ -70,8 +70,7 @@ here_heard chars rest place is (f, len, heard) =
       length-take-le place chars,
       length-drop place chars,
       append_assoc (take place chars) (faultless (255 ∷ 255 ∷ heard.body)) heard.rest,
-    ) in
-    (found, stands, refl)
+    ) in grind (arith, common_steps)
 
 -- whether two characters are faultless preamble bytes
 two_decided : (x y : Character) → ((x ≡ preamble) × (y ≡ preamble)) ⊎ ((x ≡ preamble) × (y ≡ preamble) → ⊥)

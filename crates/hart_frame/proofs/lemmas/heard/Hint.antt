@@ -142,8 +142,7 @@ alone_is start chars fit is =
 -- with another preamble byte before the one a frame stands there
 pub one_preamble_fits : (start : ℕ) (chars : List Character) → All (λ c. c.byte < 256) chars → miss_of chars start ≡ Some OnePreamble
     → HasFrameAt (insert chars start preamble) (start + 1)
-one_preamble_fits start chars fit is =
-    let (one, found) = alone_is start chars fit is in with_preamble chars start one found
+one_preamble_fits start chars fit is = grind (arith, common_steps, alone_is, with_preamble)
 
 -- with the byte that would fit a frame stands there
 pub bad_check_fits : (start place byte fits : ℕ) (chars : List Character) → All (λ c. c.byte < 256) chars
@@ -235,7 +234,5 @@ pub one_alone : (start : ℕ) (chars : List Character) → All (λ c. c.byte < 2
     → (miss_of chars start ≡ Some OnePreamble) ↔ (FollowsOnePreamble chars start × HasBodyAt chars start)
 one_alone start chars fit = (
   λ is. let (one, found) = alone_is start chars fit is in (one_preamble-is chars start one, grind arith),
-  λ both. let one = one_preamble-yes chars start both.0 in
-      sym (miss_of-one chars (drop start chars) start refl (λ is. never_both chars start one (is_start-yes chars start is)) one
-      (ap is_some (none_of chars start both.1))),
+  λ both. let one = one_preamble-yes chars start both.0 in grind (arith, common_steps, miss_of-one, never_both, is_start-yes, none_of),
 )

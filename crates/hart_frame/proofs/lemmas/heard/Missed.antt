@@ -171,8 +171,4 @@ no_miss place chars (found, stands, at) =
     let front : List Character = stands.prefix ++ (preamble ∷ preamble ∷ []) in
     let after : List Character = faultless body ++ stands.rest in
     let split : chars ≡ front ++ after = grind (arith, common_steps, append_assoc, preamble) in
-    let place_is : place ≡ length stands.prefix + 2 = sym at ∙ stands.start in
-    let heard_is : drop place chars ≡ after = grind (arith, drop_at front after place, length-append) in
-    let is : IsStart place chars = grind (arith, common_steps, other) in
-    sym (miss_of-start chars (drop place chars) place refl is)
-    ∙ none_of chars place (record { frame = found.frame; body = body; rest = stands.rest; is_body = stands.is_body; parts = heard_is })
+    grind (arith, common_steps, drop_at, length-append, other, miss_of-start, none_of)

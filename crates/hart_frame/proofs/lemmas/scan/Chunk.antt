@@ -98,8 +98,7 @@ seen_one : (old : Scan) (mid new : Buffer) (character : Character) (seen : Optio
     → scan_of mid ≡ hearing old (character ∷ []) → MatchOption seen (GivesNothing (scan_of mid) (scan_of new)) (HoldsWhole mid new)
     → MovesPast (hearing old (character ∷ [])) (scan_of new) [] × StopsAt (scan_of new) 1 1 × (new.finished ≡ old.finished)
 seen_one old mid new character None going heard nothing =
-    let is : Waits (hearing old (character ∷ [])) (scan_of new) =
-    rw heard at (waits_only (scan_of mid) (scan_of new) (ap (λ (s : Scan). s.finished) heard ∙ going) nothing) in
+    let is : Waits (hearing old (character ∷ [])) (scan_of new) = grind (arith, common_steps, waits_only) in
     (is.moves, inl (is.drained, is.undecided, refl), is.unfinished ∙ sym going)
 seen_one old mid new character (Some layout) going heard holds =
     (rw heard at holds.moves, inr (holds.undrained, holds_frame new layout holds.begins),
@@ -165,9 +164,7 @@ part_heard old new chunk part n count is within some hears =
     let few : count ≤ n = omega (arith, hears.within, size) in
     let first : (k : ℕ) → k ≤ n → take k part ≡ take k chunk = λ k less. ap (take k) is ∙ take-take k n chunk less in
     let before : (fewer : ℕ) → fewer < count → IsUndecided (old.held ++ take fewer chunk) =
-    λ fewer below. rw (← first fewer (omega (arith, below, few))) (hears.before fewer below) in
-    let moves : MovesPast (hearing old (take count chunk)) new [] = rw (first count few) at hears.moves in
-    grind arith
+    λ fewer below. rw (← first fewer (omega (arith, below, few))) (hears.before fewer below) in grind (arith, common_steps)
 
 -- of bytes as of their characters
 pub bytes_heard : (old new : Scan) (chunk : List ℕ) (n count : ℕ) → n ≤ length chunk → 0 < n

@@ -221,8 +221,7 @@ searched_stands xs from seen place decided more layout searching order whole may
     let fits : more ≤ length xs = omega (arith, is, long, length-drop place xs, searching.within) in
     searched_at xs from seen place decided more n (Some layout) searching order (omega (arith, is)) (omega (arith, is)) fits
     (omega (arith, is, searching.few, short)) (grind (arith, is)) may
-    (rw (drop_take xs place more (omega (arith, is)))
-    (whole_take layout (drop place xs) (more - place) whole (omega (arith, is)) (omega (arith, fits, length-drop place xs))))
+    (grind (arith, common_steps, drop_take, whole_take, length-drop))
 
 -- what is read in the rest of a list is read in the list
 pub read_rest : (xs : List ℕ) (from place : ℕ) → from ≤ place → place < length xs
