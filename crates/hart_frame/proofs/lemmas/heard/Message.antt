@@ -55,9 +55,7 @@ stands_in f preambles more bytes two message =
     let prefix : List ℕ = replicate more 255 in
     let marked : List ℕ = 255 ∷ 255 ∷ message.body in
     let whole : bytes ≡ prefix ++ marked =
-    message.parts ∙ ap (λ (n : ℕ). replicate n 255 ++ message.body) two
-    ∙ ap (λ (xs : List ℕ). xs ++ message.body) (sym (replicate-append-replicate more 2 255))
-    ∙ append_assoc prefix (255 ∷ 255 ∷ []) message.body in
+    grind (arith, replicate-append-replicate {A = ℕ} more 2 255, append_assoc prefix (255 ∷ 255 ∷ []) message.body) in
     grind (arith, length-map, length-replicate, length-append, map-append, append-nil)
 
 pub AreFrames-message : (f : FrameParts) (preambles : ℕ) (bytes : List ℕ) → 2 ≤ preambles → IsMessage f preambles bytes

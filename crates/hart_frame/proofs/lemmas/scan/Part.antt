@@ -87,27 +87,24 @@ hears_kept old new part found m kept same =
     let size = length-take-le found.decided total is.within in
     let heard : (fewer : ℕ) → (scan_of old).held ++ take fewer (faultless part) ≡ faultless (take (n + fewer) total) =
     λ fewer. heard_bytes old part fewer kept.waiting in
+    let first : (scan_of old).held ++ take count (faultless part) ≡ faultless both ++ [] = grind (arith, append-nil, heard count) in
+    let last : (scan_of new).held ≡ faultless (drop found.place both) ++ [] = grind (arith, append-nil, held_clear new kept.clear) in
+    let before : (fewer : ℕ) → fewer < count → IsUndecided ((scan_of old).held ++ take fewer (faultless part)) =
+    λ fewer below.
+    let cases : (fewer ≡ 0) ⊎ (0 < fewer) = grind arith in
+    rw (heard fewer) (elim cases [
+      | inl none ↦
+          let front : take (n + fewer) total ≡ held = grind (arith, common_steps, take-append_seam) in
+          rw front (undecided_open held kept.waiting.may)
+      | inr some ↦ undecided_from (take (n + fewer) total) (is.before (n + fewer) (omega (arith, some)) (omega (arith, below, counts)))
+    ]) in
     let Stops : ℕ → Type 0 = λ k. StopsAt (scan_of new) count k in
     record {
       within = omega (arith, long, counts, is.within, all);
       some = λ any. omega (arith, is.late, counts);
-      moves = moves_places (hearing (scan_of old) (take count (faultless part))) (scan_of new) both [] found.place
-          (heard count ∙ ap (λ (k : ℕ). faultless (take k total)) (sym counts) ∙ sym (append-nil (faultless both)))
-          (held_clear new kept.clear ∙ ap faultless kept.held ∙ sym (append-nil (faultless (drop found.place both)))) kept.firsts
-          kept.finished
-          (omega (arith, size, is.order)) (λ here below more _. is.none here (omega arith) below more);
-      before = λ fewer below.
-          let Undecided : List Character → Type 0 = λ cs. IsUndecided cs in
-          let cases : (fewer ≡ 0) ⊎ (0 < fewer) = grind arith in
-          let of : IsUndecided (faultless (take (n + fewer) total)) = elim cases [
-            | inl none ↦
-                let same : take (n + fewer) total ≡ held = grind (arith, common_steps, take-append_seam) in
-                subst Undecided (ap faultless (sym same)) (undecided_open held kept.waiting.may)
-            | inr some ↦ undecided_from (take (n + fewer) total)
-                (is.before (n + fewer) (omega (arith, some)) (omega (arith, below, counts)))
-          ] in
-          subst Undecided (sym (heard fewer)) of;
-      stops = subst Stops (sym long)
-          (search (arith, common_steps, stops_kept, holds_kept));
+      moves = moves_places (hearing (scan_of old) (take count (faultless part))) (scan_of new) both [] found.place first last kept.firsts
+          kept.finished (omega (arith, size, is.order)) (λ here below more _. is.none here (omega arith) below more);
+      before = before;
+      stops = subst Stops (sym long) (search (arith, common_steps, stops_kept, holds_kept));
       finished = kept.finished;
     }
