@@ -62,11 +62,9 @@ kept_past held chunk bytes new from place stop count end long past order is =
     let more = stop - count - size in
     let there : place ≡ length held + size = omega (arith, long, past) in
     let all : stop - count ≡ size + more = omega (arith, past, order) in
-    ap (λ (k : ℕ). drop k new) end ∙ ap (drop (length bytes)) is ∙ drop-append_seam bytes (take more (drop size chunk))
-    ∙ sym (drop-take size more chunk) ∙ ap (λ (k : ℕ). drop size (take k chunk)) (sym all)
-    ∙ sym (drop-append-add held (take (stop - count) chunk) size)
-    ∙ ap (λ (k : ℕ). drop k (held ++ take (stop - count) chunk)) (sym there)
-    ∙ ap (drop place) (sym (first_both held chunk stop count long (omega (arith, past, order))))
+    let both = first_both held chunk stop count long (omega (arith, past, order)) in
+    let after = drop-append-add held (take (stop - count) chunk) size in
+    grind (arith, drop-append_seam bytes (take more (drop size chunk)), drop-take size more chunk)
 
 pub drained_is : (state : State) → IsTrue (is_drained state) → state ≡ Drained
 drained_is state is = grind arith

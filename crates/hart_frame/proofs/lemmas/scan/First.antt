@@ -47,10 +47,7 @@ first_given chars count mid new found moves going gives =
 
 -- or it heard all of it
 all_heard : (scan new : Scan) (count all : ℕ) → StopsAt scan count all → GivesNothing scan new → count ≡ all
-all_heard scan new count all stops nothing = elim stops [
-  | inl waits ↦ waits.2
-  | inr holds ↦ absurd (holds_gives scan new holds.1 nothing)
-]
+all_heard scan new count all stops nothing = grind (arith, holds_gives scan new)
 
 last_given : (chars : List Character) (waiting new : Scan) (given : Option Found) → IsHistory chars (finishing waiting) []
     → MatchOption given (GivesNothing (finishing waiting) new) (Gives (finishing waiting) new)

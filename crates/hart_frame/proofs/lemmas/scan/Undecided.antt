@@ -125,11 +125,8 @@ frame_decided chars found stands start undecided = elim undecided [
 
 -- a scanner whose characters begin with a frame gives one
 pub holds_gives : (old new : Scan) → BeginsWithFrame old → GivesNothing old new → ⊥
-holds_gives old new holds nothing = elim nothing [
-  | inl waits ↦ frame_decided old.held holds.0 holds.1 holds.2 (undecided_before old new waits.moves waits.undecided)
-  | inr ends ↦
-      ends.none holds.0 holds.1
-]
+holds_gives old new (found, stands, start) nothing =
+    grind (arith, frame_decided old.held found stands start, undecided_before old new)
 
 -- nothing is given before the finish
 pub waits_only : (old new : Scan) → old.finished ≡ false → GivesNothing old new → Waits old new
