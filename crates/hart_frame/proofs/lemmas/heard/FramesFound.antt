@@ -3,19 +3,19 @@ use Rattle.std.proofs.Common.{ap}
 use Rattle.std.proofs.Common.{append_assoc, length-drop}
 use Rattle.hart_frame.specs.heard.Frames.{none, first}
 use Rattle.std.proofs.lemmas.Grind.{common_steps}
-use Rattle.std.proofs.Common.{◌≡◌, ℕ, zero, suc, ◌+◌, ◌<◌, ◌≤◌, ◌⊎◌, inl, inr, List, [], ◌∷◌, length, take, drop, refl}
-use Rattle.std.proofs.Common.{◌∙◌, arith, subst}
-use Rattle.std.proofs.lemmas.List.{take-append-drop, take_rest, length-take-le}
+use Rattle.std.proofs.Common.{◌≡◌, ℕ, zero, suc, ◌+◌, ◌≤◌, ◌⊎◌, inl, inr, List, [], ◌∷◌, length, take, drop}
+use Rattle.std.proofs.Common.{◌∙◌, arith}
+use Rattle.std.proofs.lemmas.List.{take-append-drop, length-take-le}
 use Rattle.hart_frame.specs.wire.FrameParts.{FrameParts}
 use Rattle.hart_frame.specs.wire.Body.{BeginsWithBody}
 use Rattle.hart_frame.specs.heard.Character.{Character, faultless}
 use Rattle.hart_frame.specs.heard.Body.{BeginsWithHeard}
 use Rattle.hart_frame.specs.heard.Place.{StandsIn}
-use Rattle.hart_frame.specs.heard.Frames.{AreFrames, HasNoFrame, IsFirst}
+use Rattle.hart_frame.specs.heard.Frames.{AreFrames}
 use Rattle.hart_frame.specs.declared.heard.found.Found.{Found}
 use Rattle.hart_frame.proofs.lemmas.wire.BodiesFound.{body_decided}
-use Rattle.hart_frame.proofs.lemmas.heard.Place.{preamble, StandsIn-at, StandsIn-hears, StandsIn-from, StandsIn-within}
-use Rattle.hart_frame.proofs.lemmas.heard.Place.{HasNoFrame-end, start-later}
+use Rattle.hart_frame.proofs.lemmas.heard.Place.{preamble, StandsIn-at, StandsIn-from, StandsIn-within}
+use Rattle.hart_frame.proofs.lemmas.heard.Place.{HasNoFrame-end}
 use Rattle.std.proofs.Common.{◌++◌, sym}
 use Rattle.hart_frame.specs.heard.Character.{faultless_bytes}
 use Rattle.hart_frame.proofs.lemmas.heard.Front.{heard_parts, regrouped, faultless_bytes-append}
@@ -116,9 +116,11 @@ frames_found chars (suc fuel) from enough = elim (here_decided chars from) [
       let later = frames_found chars fuel found.stop (grind (arith, StandsIn-within)) in
       (found ∷ later.0, AreFrames.first from found later.0 (grind (arith, StandsIn-within)) later.1)
   | inr nothing ↦
-      let later = frames_found chars fuel (from + 1) (omega (arith, enough)) in
-      (later.0, AreFrames-earlier chars from (from + 1) later.0 (omega arith)
-      (λ found stands. grind (arith, StandsIn-within, StandsIn-from)) later.1)
+      let later = frames_found chars fuel (from + 1) (omega (arith, enough)) in (
+        later.0,
+        AreFrames-earlier chars from (from + 1) later.0 (omega arith)
+            (λ found stands. grind (arith, StandsIn-within, StandsIn-from)) later.1,
+      )
 ]
 
 pub AreFrames-found : (chars : List Character) (from : ℕ) → (frames : List Found) × AreFrames chars from frames

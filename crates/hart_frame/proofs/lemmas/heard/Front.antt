@@ -1,13 +1,13 @@
 -- The bytes up to the first character with fault bits.
 use Rattle.std.proofs.lemmas.List.{get_or_append_left, get_or-map}
 use Rattle.std.proofs.lemmas.Grind.{common_steps}
-use Rattle.std.proofs.Common.{◌≡◌, ◌≢◌, ℕ, zero, suc, not, ◌+◌, ◌<◌, ◌≤◌, ◌⊎◌, inl, inr, List, [], ◌∷◌, ◌++◌, length, take, drop, get_or, min}
-use Rattle.std.proofs.Common.{None, Some, refl, sym, ap, ◌∙◌, arith, append_assoc, length-append, subst, ◌==◌}
+use Rattle.std.proofs.Common.{◌≡◌, ◌≢◌, ℕ, zero, suc, not, ◌+◌, ◌<◌, ◌≤◌, List, [], ◌∷◌, ◌++◌, length, take, drop, get_or, min}
+use Rattle.std.proofs.Common.{None, Some, refl, arith, append_assoc, length-append, ◌==◌}
 use Rattle.std.specs.List.{All, position_or_len, slice_get}
 use Rattle.std.proofs.lemmas.List.{append-nil, drop_more, drop_all, get_or-take, length-map, length-take, map-append, take_at, take_all}
 use Rattle.std.proofs.lemmas.List.{take_min}
 use Rattle.std.proofs.lemmas.List.{take-append-le, take-map}
-use Rattle.std.proofs.lemmas.List.Elements.{All-append, All-from_get_or, All-map, All-tail}
+use Rattle.std.proofs.lemmas.List.Elements.{All-from_get_or, All-map, All-tail}
 use Rattle.std.proofs.lemmas.List.Sums.{take_while-cons}
 use Rattle.std.proofs.lemmas.Option.{none-some, slice_get-get_or}
 use Rattle.std.proofs.lemmas.Bool.Decides.{nat_tests}
@@ -132,4 +132,3 @@ faultless_bytes-all (c ∷ cs) all =
 -- they come from faultless characters
 pub faultless_all : (bytes : List ℕ) → All (λ c. c.faults ≡ 0) (faultless bytes)
 faultless_all bytes = search (arith, common_steps, All-map)
-

@@ -1,7 +1,7 @@
 -- A miss where a body may start is what stands in the way there.
 use Rattle.hart_frame.proofs.lemmas.heard.Front.{char_at}
 use Rattle.std.proofs.lemmas.Grind.{common_steps}
-use Rattle.std.proofs.Common.{◌≡◌, ◌≢◌, ℕ, zero, suc, ◌+◌, ◌-◌, ◌<◌, ◌≤◌, ◌⊎◌, inl, inr, List, [], ◌∷◌, length, take}
+use Rattle.std.proofs.Common.{◌≡◌, ◌≢◌, ℕ, ◌+◌, ◌-◌, ◌<◌, ◌≤◌, ◌⊎◌, inl, inr, List, length, take}
 use Rattle.std.proofs.Common.{◌↔◌, drop, fold, get_or, bit_xor, None, Some, refl, sym, ap, subst, ◌∙◌, arith}
 use Rattle.std.specs.List.{All, slice_get}
 use Rattle.std.proofs.lemmas.Bool.Decides.{nat_tests}
@@ -22,7 +22,7 @@ use Rattle.hart_frame.specs.declared.heard.miss.Miss.TheVariants.{BadCheck, BadD
 use Rattle.hart_frame.specs.declared.heard.miss.Miss.TheVariants.{OnePreamble, ShortReply}
 use Rattle.hart_frame.proofs.lemmas.wire.Parity.{HasEvenParity-push, IsCheckByte-fold, even-is}
 use Rattle.hart_frame.proofs.lemmas.wire.Truncated.{fits_at}
-use Rattle.hart_frame.proofs.lemmas.heard.Front.{after_faultless, faultless_bytes-end, faultless_bytes-more, faultless_fit, length-faultless_bytes}
+use Rattle.hart_frame.proofs.lemmas.heard.Front.{after_faultless, faultless_fit, length-faultless_bytes}
 use Rattle.hart_frame.proofs.lemmas.heard.Miss.{Told, begun, counted, empty, faulty_or-is, miss_in-begun, miss_in-counted, miss_in-none}
 use Rattle.hart_frame.proofs.lemmas.heard.Miss.{miss_in-other, miss_in-short, miss_in-whole, other, other_check, same_check, short, told_of, whole}
 use Rattle.hart_frame.proofs.lemmas.heard.Missed.{miss_of-some, miss_of-start}

@@ -1,9 +1,8 @@
 -- Where a frame stands, and where the body begins that is heard there.
 use Rattle.std.proofs.lemmas.Grind.{common_steps}
-use Rattle.std.proofs.Common.{◌≡◌, ℕ, ◌+◌, ◌-◌, ◌<◌, ◌≤◌, List, [], ◌∷◌, ◌++◌, length, take, drop, get_or}
+use Rattle.std.proofs.Common.{◌≡◌, ℕ, ◌+◌, ◌-◌, ◌<◌, ◌≤◌, List, ◌∷◌, ◌++◌, length, take, drop}
 use Rattle.std.proofs.Common.{arith, append_assoc, length-append}
-use Rattle.std.proofs.lemmas.List.{take-append-drop, length-take-le, take_rest, drop_at, length-map}
-use Rattle.hart_frame.specs.wire.FrameParts.{FrameParts}
+use Rattle.std.proofs.lemmas.List.{take_rest, drop_at, length-map}
 use Rattle.hart_frame.specs.heard.Character.{Character, faultless}
 use Rattle.hart_frame.specs.heard.Body.{BeginsWithHeard}
 use Rattle.hart_frame.specs.heard.Place.{StandsIn}

@@ -2,8 +2,8 @@
 use Rattle.std.proofs.Common.{add-zero}
 use Rattle.std.proofs.lemmas.Grind.{common_steps}
 use Rattle.std.proofs.Common.{◌≡◌, ℕ, ◌+◌, ◌-◌, ◌<◌, ◌≤◌, ◌⊎◌, inl, inr, List, [], ◌∷◌, ◌++◌, length, map, take, drop, refl, ap, arith}
-use Rattle.std.proofs.Common.{append_assoc, length-append, length-drop, subst, take-append-drop}
-use Rattle.std.proofs.lemmas.List.{append-nil, drop-append-le, drop_all, drop_at, length-take-le}
+use Rattle.std.proofs.Common.{append_assoc, length-append, length-drop, take-append-drop}
+use Rattle.std.proofs.lemmas.List.{append-nil, drop-append-le, drop_at, length-take-le}
 use Rattle.hart_frame.specs.heard.Character.{Character, faultless}
 use Rattle.hart_frame.specs.heard.Frames.{AreFrames, IsFirst, moved, none, first}
 use Rattle.hart_frame.specs.heard.Place.{StandsIn}

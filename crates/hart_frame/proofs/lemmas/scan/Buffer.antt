@@ -1,7 +1,7 @@
 -- A buffer stays sound, and what it stands for then.
 use Rattle.std.proofs.lemmas.Grind.{common_steps}
 use Rattle.std.proofs.Common.{◌≡◌, ℕ, ◌+◌, ◌-◌, ◌≤◌, true, IsTrue, List, [], ◌++◌, length}
-use Rattle.std.proofs.Common.{take, drop, None, sym, ap, ◌∙◌, arith, subst}
+use Rattle.std.proofs.Common.{take, drop, None, sym, arith}
 use Rattle.std.proofs.Math.Seq.{drop-append-add, drop-append_seam}
 use Rattle.std.proofs.lemmas.List.{append-nil, drop-append-le, drop-drop, drop-take}
 use Rattle.hart_frame.specs.heard.Character.{faultless}

@@ -9,10 +9,10 @@ use Rattle.std.proofs.lemmas.List.{length-take, length-take-le, take-append-drop
 use Rattle.std.proofs.lemmas.List.Elements.{All-from_get_or}
 use Rattle.std.proofs.Math.Seq.{take-append-add}
 use Rattle.hart_frame.specs.wire.FrameParts.{FrameParts}
-use Rattle.hart_frame.specs.wire.Body.{IsBody, BeginsWithBody}
-use Rattle.hart_frame.specs.wire.Layout.{Describes, body_length, byte_count_place, layout_length}
+use Rattle.hart_frame.specs.wire.Body.{IsBody}
+use Rattle.hart_frame.specs.wire.Layout.{Describes, body_length, layout_length}
 use Rattle.hart_frame.specs.wire.Parity.{HasEvenParity, IsCheckByte}
-use Rattle.hart_frame.specs.wire.Refusal.{HasCheckByte, HasDelimiter, HasGoodByteCount, IsTruncated}
+use Rattle.hart_frame.specs.wire.Refusal.{HasCheckByte, IsTruncated}
 use Rattle.hart_frame.specs.heard.Character.{Character, faultless}
 use Rattle.hart_frame.specs.heard.Body.{bytes_of, BeginsWithHeard}
 use Rattle.hart_frame.specs.heard.Frames.{IsUndecided}
@@ -85,8 +85,11 @@ undecided_open xs may =
       | inl none ↦ inl (λ found stands. grind (arith, StandsIn-within found (faultless xs) 0 stands))
       | inr (inl one) ↦ inl (λ found stands. grind (arith, StandsIn-within found (faultless xs) 0 stands))
       | inr (inr (after, two, truncated)) ↦
-          inr (2, record { prefix = []; bytes = after; split = grind arith; start = refl; truncated = truncated },
-          later_open xs (inr (inr (after, two, truncated))))
+          inr (
+            2,
+            record { prefix = []; bytes = after; split = grind arith; start = refl; truncated = truncated },
+            later_open xs (inr (inr (after, two, truncated))),
+          )
     ]
 
 -- fewer bytes than so many of a list may begin a frame if two preamble bytes come first, and fewer after them end too early

@@ -10,8 +10,7 @@ use Rattle.std.specs.Option.{MatchOption}
 use Rattle.hart_frame.specs.declared.wire.layout.Layout.{Layout}
 use Rattle.hart_frame.specs.heard.Character.{Character, faultless}
 use Rattle.hart_frame.specs.heard.Frames.{IsUndecided}
-use Rattle.hart_frame.specs.scan.Buffer.{IsSound, held_bytes, is_drained, scan_of}
-use Rattle.hart_frame.specs.scan.Candidate.{IsWhole}
+use Rattle.hart_frame.specs.scan.Buffer.{IsSound, is_drained, scan_of}
 use Rattle.hart_frame.specs.scan.Chunk.{Hears, HearsPart, StopsAt}
 use Rattle.hart_frame.specs.scan.Decision.{HoldsWhole}
 use Rattle.hart_frame.specs.scan.Scanner.{Scan, CanHear, GivesNothing, MovesPast, hearing}
@@ -19,7 +18,7 @@ use Rattle.hart_frame.specs.declared.scan.buffer.Buffer.{Buffer}
 use Rattle.hart_frame.specs.declared.scan.buffer.State.TheVariants.{Drained}
 use Rattle.hart_frame.proofs.lemmas.scan.Buffer.{undecided_waiting, waits_drained}
 use Rattle.hart_frame.proofs.lemmas.scan.Decision.{holds_frame}
-use Rattle.hart_frame.proofs.lemmas.scan.Scan.{moves_none, moves_then}
+use Rattle.hart_frame.proofs.lemmas.scan.Scan.{moves_none}
 use Rattle.hart_frame.proofs.lemmas.scan.Undecided.{moves_length, undecided_before, waits_only}
 
 append_none : (cs more : List Character) → cs ++ more ≡ [] → more ≡ []
@@ -100,9 +99,11 @@ seen_one : (old : Scan) (mid new : Buffer) (character : Character) (seen : Optio
 seen_one old mid new character None going heard nothing =
     let is : Waits (hearing old (character ∷ [])) (scan_of new) = grind (arith, common_steps, waits_only) in
     (is.moves, inl (is.drained, is.undecided, refl), is.unfinished ∙ sym going)
-seen_one old mid new character (Some layout) going heard holds =
-    (rw heard at holds.moves, inr (holds.undrained, holds_frame new layout holds.begins),
-    holds.finished ∙ ap (λ (s : Scan). s.finished) heard)
+seen_one old mid new character (Some layout) going heard holds = (
+  rw heard at holds.moves,
+  inr (holds.undrained, holds_frame new layout holds.begins),
+  holds.finished ∙ ap (λ (s : Scan). s.finished) heard,
+)
 
 pub first_one : (chunk : List Character) (character : Character) → 0 < length chunk → character ≡ get_or chunk 0 character
     → take 1 chunk ≡ character ∷ []

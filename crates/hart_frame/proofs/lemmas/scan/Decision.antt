@@ -1,15 +1,14 @@
 -- What is decided of a buffer, and what is given then.
 use Rattle.hart_frame.proofs.lemmas.scan.Next.{body_at_place}
 use Rattle.std.proofs.Common.{◌≡◌, ◌≢◌, ℕ, ◌+◌, ◌-◌, ◌≤◌, ◌⊎◌, ◌↔◌, inl, inr, Bool, true, false, IsTrue, List, [], ◌∷◌, ◌++◌, length}
-use Rattle.std.proofs.Common.{take, drop, Option, Some, None, refl, sym, ap, ◌∙◌, arith, subst, append_assoc, length-append, length-drop}
-use Rattle.std.specs.List.{slice_range}
+use Rattle.std.proofs.Common.{take, drop, Option, Some, None, refl, ap, ◌∙◌, arith, subst, append_assoc, length-append, length-drop}
 use Rattle.std.specs.Option.{IfSome, MatchOption, is_some, option_to_list}
-use Rattle.std.proofs.lemmas.List.{drop-drop, drop_at, map-append, take_at}
-use Rattle.hart_frame.specs.wire.Body.{IsBody, IsCheckedPart}
+use Rattle.std.proofs.lemmas.List.{drop_at, map-append}
+use Rattle.hart_frame.specs.wire.Body.{IsCheckedPart}
 use Rattle.hart_frame.specs.wire.Layout.{body_length, layout_length}
 use Rattle.hart_frame.specs.heard.Character.{Character, faultless}
 use Rattle.hart_frame.specs.scan.Buffer.{IsEnded, IsSound, IsWaiting, held_bytes, is_drained, scan_of}
-use Rattle.hart_frame.specs.scan.Candidate.{IsWhole, IsWholeBody, NothingFollows}
+use Rattle.hart_frame.specs.scan.Candidate.{IsWhole, NothingFollows}
 use Rattle.hart_frame.specs.scan.Chunk.{BeginsWithFrame}
 use Rattle.hart_frame.specs.scan.Decision.{GivesSpan, HoldsWhole, IsHeldOpen, IsHeldSearched}
 use Rattle.hart_frame.specs.scan.Scanner.{Scan, MovesPast, GivesNothing}

@@ -1,14 +1,14 @@
 -- What a part of bytes is to a scanner that searches it together with what it holds.
 use Rattle.std.proofs.lemmas.Grind.{common_steps}
 use Rattle.std.proofs.Common.{◌≡◌, ℕ, ◌+◌, ◌-◌, ◌<◌, ◌⊎◌, inl, inr, false, List, [], ◌++◌, length, take}
-use Rattle.std.proofs.Common.{Option, None, Some, drop, refl, sym, ap, ◌∙◌, arith, subst, length-append, length-drop}
+use Rattle.std.proofs.Common.{Option, None, Some, drop, refl, sym, ap, arith, subst, length-append, length-drop}
 use Rattle.std.proofs.lemmas.List.{append-nil, map-append, take-map, length-map, length-take-le}
 use Rattle.std.proofs.Math.Seq.{take-append-add, take-append_seam, take-length}
 use Rattle.std.specs.Option.{MatchOption}
 use Rattle.hart_frame.specs.declared.wire.layout.Layout.{Layout}
 use Rattle.hart_frame.specs.heard.Character.{Character, faultless}
 use Rattle.hart_frame.specs.heard.Frames.{IsUndecided}
-use Rattle.hart_frame.specs.scan.Buffer.{IsMeant, IsSound, IsStored, IsWaiting, held_bytes, is_drained, scan_of, state_of}
+use Rattle.hart_frame.specs.scan.Buffer.{IsSound, IsStored, IsWaiting, held_bytes, is_drained, scan_of, state_of}
 use Rattle.hart_frame.specs.scan.Candidate.{IsWhole, MayBegin}
 use Rattle.hart_frame.specs.scan.Chunk.{Hears, StopsAt}
 use Rattle.hart_frame.specs.scan.Scanner.{Scan, hearing}

@@ -8,11 +8,11 @@ use Rattle.hart_frame.specs.wire.FrameParts.{FrameParts}
 use Rattle.hart_frame.specs.wire.Body.{IsBody}
 use Rattle.hart_frame.specs.heard.Character.{Character, faultless}
 use Rattle.hart_frame.specs.heard.Place.{StandsIn}
-use Rattle.hart_frame.specs.heard.Frames.{AreFrames, none, first}
+use Rattle.hart_frame.specs.heard.Frames.{AreFrames}
 use Rattle.hart_frame.specs.scan.Candidate.{BeginWithNone}
 use Rattle.hart_frame.specs.scan.Scanner.{Scan, CanHear, MovesPast}
 use Rattle.hart_frame.specs.declared.heard.found.Found.{Found}
-use Rattle.hart_frame.proofs.lemmas.heard.Place.{StandsIn-at, StandsIn-from, StandsIn-within, start-later}
+use Rattle.hart_frame.proofs.lemmas.heard.Place.{StandsIn-at, StandsIn-within, start-later}
 
 -- each frame stands from the next place on if none begins here
 pub skip_one : (chars : List Character) (from : ℕ) → BeginWithNone (drop from chars) → (found : Found) → StandsIn found chars from

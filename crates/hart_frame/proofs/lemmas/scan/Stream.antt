@@ -5,7 +5,7 @@ use Rattle.std.proofs.Common.{length-append}
 use Rattle.std.proofs.lemmas.List.{append-nil, drop-append-le, drop_at}
 use Rattle.hart_frame.specs.heard.Character.{Character, faultless}
 use Rattle.hart_frame.specs.heard.Frames.{AreFrames, moved}
-use Rattle.hart_frame.specs.scan.Scanner.{Scan, CanHear, MovesPast, finishing, hearing, new_scan}
+use Rattle.hart_frame.specs.scan.Scanner.{Scan, CanHear, MovesPast, hearing}
 use Rattle.hart_frame.specs.scan.Streamed.{IsHistory, IsWholeHistory, begin, push, push_bytes, push_chars, take_view, wait, finish}
 use Rattle.hart_frame.specs.declared.heard.found.Found.{Found}
 use Rattle.hart_frame.proofs.lemmas.heard.Delivery.{OneList}

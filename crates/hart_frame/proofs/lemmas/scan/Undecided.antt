@@ -75,12 +75,15 @@ still_stands s t moves found stands =
     let there = held_stands s found stands in
     elim (frames_cases (sample s) t.first later.0 later.1) [
       | inl (nil, empty) ↦ absurd (no_frames (sample s) s.first later.0 frames nil _ there)
-      | inr (g, others, parts, is) ↦
-          (_, stands_held t (sample s) g after is.stands, omega (
-            arith,
-            (head_first (sample s) s.first later.0 frames g others parts).least _ there,
-            (StandsIn-within g (sample s) t.first is.stands).after,
-          ))
+      | inr (g, others, parts, is) ↦ (
+        _,
+        stands_held t (sample s) g after is.stands,
+        omega (
+          arith,
+          (head_first (sample s) s.first later.0 frames g others parts).least _ there,
+          (StandsIn-within g (sample s) t.first is.stands).after,
+        ),
+      )
     ]
 
 -- what holds no frame after some characters are passed held none before

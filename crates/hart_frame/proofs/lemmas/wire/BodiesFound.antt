@@ -2,7 +2,7 @@
 use Rattle.hart_frame.proofs.lemmas.wire.Refusal.{has_check}
 use Rattle.std.proofs.lemmas.Grind.{common_steps}
 use Rattle.std.proofs.Common.{◌≡◌, ℕ, zero, suc, fold, bit_xor, ◌+◌, ◌-◌, ◌*◌, ◌/◌, ◌%◌, ◌<◌, ◌≤◌, ◌⊎◌, inl, inr, Bool}
-use Rattle.std.proofs.Common.{List, [], ◌∷◌, length, take, get_or, refl, ap, ◌∙◌, arith, subst}
+use Rattle.std.proofs.Common.{List, [], ◌∷◌, length, take, get_or, refl, ap, ◌∙◌, arith}
 use Rattle.std.specs.List.{All, slice_range}
 use Rattle.hart_values.specs.address.AddressBytes.{IsAddressBytes, first_byte}
 use Rattle.hart_values.specs.declared.master_id.MasterId.{MasterId}
@@ -16,11 +16,10 @@ use Rattle.hart_frame.specs.declared.wire.layout.Layout.{Layout}
 use Rattle.hart_frame.specs.wire.FrameParts.{FrameParts, IsLongEnough}
 use Rattle.hart_frame.specs.wire.Delimiter.{kind_code}
 use Rattle.hart_frame.specs.wire.Body.{IsCheckedPart, BeginsWithBody, HasNoBody}
-use Rattle.hart_frame.specs.wire.Layout.{Describes, delimiter_in, address_end, command_place, byte_count_place, byte_count_in, body_length}
-use Rattle.hart_frame.specs.wire.Refusal.{IsDelimiter, IsRefusedWith, HasByteCount, HasGoodByteCount, HasCheckByte}
+use Rattle.hart_frame.specs.wire.Layout.{Describes, delimiter_in, address_end, command_place, byte_count_in, body_length}
+use Rattle.hart_frame.specs.wire.Refusal.{IsDelimiter, HasCheckByte}
 use Rattle.hart_frame.specs.wire.Parity.{IsCheckByte}
-use Rattle.hart_frame.specs.declared.wire.fault.FrameFault.{FrameFault}
-use Rattle.hart_frame.specs.declared.wire.fault.FrameFault.TheVariants.{BadDelimiter, Truncated, BadCheck, ShortReply}
+use Rattle.hart_frame.specs.declared.wire.fault.FrameFault.TheVariants.{BadCheck}
 use Rattle.hart_frame.proofs.lemmas.wire.Parity.{IsCheckByte-fold, check-even}
 use Rattle.hart_frame.proofs.lemmas.wire.Body.{BeginsWithBody-prefix}
 use Rattle.hart_frame.proofs.lemmas.wire.Refusal.{says, not_refused}

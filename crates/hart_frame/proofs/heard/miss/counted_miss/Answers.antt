@@ -1,5 +1,6 @@
+use Rattle.std.proofs.Math.Nat.{sub-zero}
 use Rattle.std.proofs.lemmas.Grind.{common_steps}
-use Rattle.std.proofs.Common.{◌≡◌, ◌<◌, ◌-◌, ℕ, ap, arith, length, take, ◌∙◌}
+use Rattle.std.proofs.Common.{◌<◌, arith, length, ◌∙◌}
 use Rattle.hart_frame.specs.heard.Character.{faultless_bytes}
 use Rattle.hart_frame.proofs.lemmas.heard.Front.{length-faultless_bytes}
 use Rattle.hart_frame.proofs.lemmas.heard.Miss.{counted_early, counted_whole, front_length, not_whole, whole_front}
@@ -11,8 +12,7 @@ check_miss-requires-clause-whole c =
     let heard = c.args.heard.now in
     let body = c.in-Some.body.now in
     let lookup = c.in-Some.ensures.lookup.0 in
-    let whole : c.args.len - 0 ≡ c.args.len = omega arith in
-    let front = whole_front heard body c.args.len lookup.1 (lookup.2 ∙ ap (λ (n : ℕ). take n heard) whole)
+    let front = whole_front heard body c.args.len lookup.1 (rw sub-zero at lookup.2)
     (c.sum_of-sum.ensures.faults.0 c.if-sum-eq0.true) in grind (arith, common_steps, front_length)
 
 pub returns-then-sum-eq0 : goal.returns-then-sum-eq0
@@ -20,19 +20,17 @@ returns-then-sum-eq0 c =
     let heard = c.args.heard.now in
     let body = c.in-Some.body.now in
     let lookup = c.in-Some.ensures.lookup.0 in
-    let whole : c.args.len - 0 ≡ c.args.len = omega arith in
-    let front = whole_front heard body c.args.len lookup.1 (lookup.2 ∙ ap (λ (n : ℕ). take n heard) whole)
+    let front = whole_front heard body c.args.len lookup.1 (rw sub-zero at lookup.2)
     (c.sum_of-sum.ensures.faults.0 c.if-sum-eq0.true) in
     c.check_miss.ensures ∙ counted_whole heard body c.args.len c.args.start front c.requires.counted c.requires.len
 
 pub returns : goal.returns
 returns c =
     let heard = c.args.heard.now in
-    let whole : c.args.len - 0 ≡ c.args.len = omega arith in
     let few : length (faultless_bytes heard) < c.args.len =
     elim c.match-get.branch [
       | in-Some+else-sum-eq0 w ↦
-          not_whole heard w.in-Some.body.now c.args.len (w.in-Some.ensures.lookup.0.2 ∙ ap (λ (n : ℕ). take n heard) whole)
+          not_whole heard w.in-Some.body.now c.args.len (rw sub-zero at w.in-Some.ensures.lookup.0.2)
           (λ all. w.if-sum-eq0.false (w.sum_of-sum.ensures.faults.1 all))
       | in_default w ↦ grind (arith, common_steps, length-faultless_bytes)
     ] in

@@ -1,7 +1,5 @@
-use Rattle.std.proofs.Common.{◌+◌, ℕ, List, drop, arith, sym, subst}
+use Rattle.std.proofs.Common.{drop, arith}
 use Rattle.std.proofs.lemmas.List.{take_rest}
-use Rattle.hart_frame.specs.scan.Candidate.{IsBodyCandidate, IsCandidate}
-use Rattle.hart_frame.specs.declared.scan.candidate.Candidate.TheVariants.{Never, Whole}
 use Rattle.hart_frame.proofs.lemmas.scan.Candidate.{after_never, after_whole, second_never, two_first}
 use Rattle.hart_frame.proofs.scan.candidate.candidate_in.Goals as goal
 

@@ -1,8 +1,5 @@
-use Rattle.std.proofs.Common.{Option, subst, sym, ◌∙◌}
-use Rattle.std.specs.Option.{MatchOption}
+use Rattle.std.proofs.Common.{◌∙◌}
 use Rattle.std.proofs.lemmas.List.{take_rest}
-use Rattle.hart_frame.specs.heard.Frames.{HasNoFrame, IsFirst}
-use Rattle.hart_frame.specs.declared.heard.found.Found.{Found}
 use Rattle.hart_frame.proofs.lemmas.scan.First.{first_later, no_later}
 use Rattle.hart_frame.proofs.scan.first.first_frame.Goals as goal
 

@@ -1,6 +1,5 @@
-use Rattle.std.proofs.Common.{◌≡◌, [], take, false, ap, subst, ◌∙◌}
-use Rattle.std.specs.Option.{MatchOption}
-use Rattle.hart_frame.specs.scan.Scanner.{Gives, GivesNothing, MovesPast, Scan, hearing}
+use Rattle.std.proofs.Common.{◌≡◌, false, ap, ◌∙◌}
+use Rattle.hart_frame.specs.scan.Scanner.{Scan}
 use Rattle.hart_frame.proofs.lemmas.scan.First.{first_finished, first_given}
 use Rattle.hart_frame.proofs.scan.first.first_scanned.Goals as goal
 

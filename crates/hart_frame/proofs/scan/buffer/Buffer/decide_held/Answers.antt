@@ -1,17 +1,6 @@
-use Rattle.std.proofs.Common.{◌<◌, ℕ, Option, drop, length, arith, rules, subst, sym}
-use Rattle.std.specs.Option.{MatchOption}
-use Rattle.hart_frame.specs.scan.Buffer.{held_bytes}
-use Rattle.hart_frame.specs.scan.Candidate.{IsWhole}
-use Rattle.hart_frame.specs.scan.Decision.{HoldsWhole, IsHeldOpen}
-use Rattle.hart_frame.specs.declared.wire.layout.Layout.{Layout}
-use Rattle.hart_frame.specs.declared.scan.buffer.Buffer.{Buffer}
-use Rattle.hart_frame.specs.declared.scan.buffer.State.TheVariants.{Stands}
+use Rattle.std.proofs.Common.{◌<◌, length, arith, rules}
 use Rattle.hart_frame.proofs.lemmas.scan.Decision.{given_nothing, given_open, given_stands, waits_open}
 use Rattle.hart_frame.proofs.scan.buffer.Buffer.decide_held.Goals as goal
-
--- what is found, by the layout that there is or is not
-abbrev Found : Buffer → ℕ → Option Layout → Type 0
-Found b place layout = MatchOption layout (IsHeldOpen b place) (λ l. IsWhole l (drop place (held_bytes b)))
 
 pub returns-in-Some-clause-seen : goal.returns-in-Some-clause-seen
 returns-in-Some-clause-seen c =

@@ -1,4 +1,3 @@
-use Rattle.std.proofs.lemmas.Grind.{common_steps}
 use Rattle.std.proofs.Common.{◌≡◌, ℕ, ◌<◌, List, length, take, sym, ap, ◌∙◌, rules, arith}
 use Rattle.hart_frame.specs.heard.Character.{faultless}
 use Rattle.hart_frame.specs.scan.Buffer.{scan_of}

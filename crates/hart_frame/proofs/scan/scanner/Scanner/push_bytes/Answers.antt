@@ -1,8 +1,7 @@
 use Rattle.std.proofs.lemmas.Grind.{common_steps}
-use Rattle.std.proofs.Common.{arith, ◌≡◌, ◌++◌, ℕ, List, take, subst}
+use Rattle.std.proofs.Common.{arith, ◌≡◌, ℕ, List, take}
 use Rattle.std.proofs.lemmas.List.{take-map}
 use Rattle.hart_frame.specs.heard.Character.{Character, faultless}
-use Rattle.hart_frame.specs.heard.Frames.{IsUndecided}
 use Rattle.hart_frame.specs.scan.Buffer.{scan_of}
 use Rattle.hart_frame.specs.scan.Chunk.{Hears}
 use Rattle.hart_frame.proofs.lemmas.scan.Chunk.{heard_length}
