@@ -41,7 +41,8 @@ heard_whole chars f len begins =
       whole = sym (length-take-le len bytes begins.within);
     }
 
-heard_bytes : (chars : List Character) (f : FrameParts) (len : ℕ) → BeginsWithHeard chars f len → BeginsWithBody (faultless_bytes chars) f len
+heard_bytes : (chars : List Character) (f : FrameParts) (len : ℕ) → BeginsWithHeard chars f len
+    → BeginsWithBody (faultless_bytes chars) f len
 heard_bytes chars f len heard =
     grind (arith, faultless_bytes-append heard.body heard.rest, BeginsWithBody-append f heard.body (faultless_bytes heard.rest))
 

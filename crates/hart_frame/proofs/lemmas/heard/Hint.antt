@@ -219,7 +219,8 @@ missing_fits start count chars more fit more_fit is long =
     let all : heard ≡ faultless bytes = nothing_follows heard (nothing_at_end chars start way.1.3) in
     let split : chars ≡ at.prefix ++ (preamble ∷ preamble ∷ faultless bytes) = grind (arith, common_steps, preamble) in
     let regroup : (at.prefix ++ (preamble ∷ preamble ∷ faultless bytes)) ++ faultless (more ++ last ∷ [])
-    ≡ at.prefix ++ faultless (255 ∷ 255 ∷ (checked ++ last ∷ [])) ++ [] = grind (arith, common_steps, append_assoc, append-nil, map-append) in (
+    ≡ at.prefix ++ faultless (255 ∷ 255 ∷ (checked ++ last ∷ [])) ++ [] =
+    grind (arith, common_steps, append_assoc, append-nil, map-append) in (
       last,
       IsCheckByte-fold checked last (fits_at checked checked_fit) refl,
       frame_up_to (chars ++ faultless (more ++ last ∷ [])) at.prefix [] (checked ++ last ∷ []) body.0 start (length chars + count)

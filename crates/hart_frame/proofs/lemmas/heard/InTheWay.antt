@@ -24,7 +24,8 @@ use Rattle.hart_frame.proofs.lemmas.wire.Parity.{HasEvenParity-push, IsCheckByte
 use Rattle.hart_frame.proofs.lemmas.wire.Truncated.{fits_at}
 use Rattle.hart_frame.proofs.lemmas.heard.Front.{after_faultless, faultless_fit, length-faultless_bytes}
 use Rattle.hart_frame.proofs.lemmas.heard.Miss.{Told, begun, counted, empty, faulty_or-is, miss_in-begun, miss_in-counted, miss_in-none}
-use Rattle.hart_frame.proofs.lemmas.heard.Miss.{miss_in-other, miss_in-short, miss_in-whole, other, other_check, same_check, short, told_of, whole}
+use Rattle.hart_frame.proofs.lemmas.heard.Miss.{miss_in-other, miss_in-short, miss_in-whole, other, other_check}
+use Rattle.hart_frame.proofs.lemmas.heard.Miss.{same_check, short, told_of, whole}
 use Rattle.hart_frame.proofs.lemmas.heard.Missed.{miss_of-some, miss_of-start}
 use Rattle.hart_frame.proofs.lemmas.heard.Place.{preamble}
 

@@ -16,7 +16,8 @@ use Rattle.hart_frame.specs.wire.Refusal.{HasByteCount, HasCheckByte, HasDelimit
 use Rattle.hart_frame.specs.declared.heard.miss.Miss.{Miss}
 use Rattle.hart_frame.specs.declared.heard.miss.Miss.TheVariants.{BadCheck, EndsBeforeByteCount, Faulty, Missing}
 use Rattle.hart_frame.specs.declared.heard.miss.Miss.TheVariants.{ShortReply}
-use Rattle.hart_frame.proofs.lemmas.heard.Front.{char_at, faultless_all, faultless_bytes-all, faultless_bytes-take, length-faultless_bytes, take_heard}
+use Rattle.hart_frame.proofs.lemmas.heard.Front.{char_at, faultless_all, faultless_bytes-all}
+use Rattle.hart_frame.proofs.lemmas.heard.Front.{faultless_bytes-take, length-faultless_bytes, take_heard}
 use Rattle.hart_frame.proofs.lemmas.heard.Place.{preamble}
 use Rattle.hart_frame.proofs.lemmas.wire.Prefix.{HasCheckByte-prefix, length_more}
 

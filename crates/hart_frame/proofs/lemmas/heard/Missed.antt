@@ -53,7 +53,15 @@ both is none = cc
 -- the test of a start
 pub is_start-yes : (chars : List Character) (place : ℕ) → IsStart place chars → is_start chars place ≡ true
 is_start-yes chars place is =
-    grind (arith, starts_at chars place preamble is, first_tests chars (place - 1), first_tests chars (place - 2), nat_tests, slice_get-get_or, preamble)
+    grind (
+      arith,
+      starts_at chars place preamble is,
+      first_tests chars (place - 1),
+      first_tests chars (place - 2),
+      nat_tests,
+      slice_get-get_or,
+      preamble,
+    )
 
 pub is_start-is : (chars : List Character) (place : ℕ) → is_start chars place ≡ true → IsStart place chars
 is_start-is chars place passes =
@@ -107,7 +115,8 @@ one_preamble-is chars (suc k) one =
       rest = drop (suc k) chars;
       split = grind (arith, common_steps, take-append-drop, drop-cons, preamble, append_snoc);
       place_is = omega (arith, at.0, length-take-le k chars (omega (arith, at.0)));
-      alone = λ earlier is. grind (arith, common_steps, length-append, preamble, length-take-le, get_or-take, get_or-append_seam, first_tests);
+      alone = λ earlier is.
+          grind (arith, common_steps, length-append, preamble, length-take-le, get_or-take, get_or-append_seam, first_tests);
     }
 
 -- and the other way round

@@ -16,7 +16,8 @@ use Rattle.hart_frame.specs.wire.Refusal.{HasCheckByte, IsTruncated}
 use Rattle.hart_frame.specs.heard.Character.{Character, faultless}
 use Rattle.hart_frame.specs.heard.Body.{bytes_of, BeginsWithHeard}
 use Rattle.hart_frame.specs.heard.Frames.{IsUndecided}
-use Rattle.hart_frame.specs.scan.Candidate.{BeginWithNone, IsBodyCandidate, IsCandidate, IsWholeBody, MayBegin, MayBeginBefore, NothingFollows}
+use Rattle.hart_frame.specs.scan.Candidate.{BeginWithNone, IsBodyCandidate, IsCandidate, IsWholeBody}
+use Rattle.hart_frame.specs.scan.Candidate.{MayBegin, MayBeginBefore, NothingFollows}
 use Rattle.hart_frame.specs.scan.Candidate.{NeverBecomeBody, NeverBegin}
 use Rattle.hart_frame.specs.declared.wire.fault.FrameFault.TheVariants.{BadCheck, Truncated}
 use Rattle.hart_frame.specs.declared.wire.layout.Layout.{Layout}

@@ -159,7 +159,8 @@ searching_run : (xs : List ℕ) (from seen place decided count : ℕ) → IsSear
     → place + count ≤ length xs
     → ((here : ℕ) → place ≤ here → here < place + count → (get_or xs here 0 ≢ 255) ⊎ HasThree xs here)
     → HasPassed xs from seen (place + count) decided
-searching_run xs from seen place decided zero searching order within passed = (decided, rw add-zero searching, omega arith, inl (omega arith))
+searching_run xs from seen place decided zero searching order within passed =
+    (decided, rw add-zero searching, omega arith, inl (omega arith))
 searching_run xs from seen place decided (suc count) searching order within passed =
     passed_on xs from seen (place + count) decided (place + suc count)
     (searching_run xs from seen place decided count searching order (omega (arith, within)) (grind arith)) order (omega (arith, within))
@@ -184,7 +185,8 @@ may_take xs n within may = grind (arith, may_take_two)
 searched_at : (xs : List ℕ) (from seen place decided more count : ℕ) (layout : Option Layout) → IsSearching xs from seen place decided
     → from ≤ seen → place ≤ more → decided ≤ more → more ≤ length xs → more ≤ place + 269 → (more ≤ decided) ⊎ (more ≤ place + count)
     → MayBeginBefore count (drop place xs)
-    → MatchOption layout (IsOpenAll xs (record { place = place; decided = more; layout = layout })) (λ l. IsWhole l (drop place (take more xs)))
+    → MatchOption layout (IsOpenAll xs (record { place = place; decided = more; layout = layout }))
+    (λ l. IsWhole l (drop place (take more xs)))
     → IsSearched xs from seen (record { place = place; decided = more; layout = layout })
 searched_at xs from seen place decided more count layout searching order above least fits few either may stands =
     let before = open_before xs from seen place decided more count searching order fits either may in

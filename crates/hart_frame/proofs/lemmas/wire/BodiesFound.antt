@@ -160,7 +160,8 @@ checked bytes whole fits =
     elim cases [
       | inl even ↦
           let body = even_body bytes (body_length bytes) refl whole fit (rw even at is) in grind (arith, common_steps)
-      | inr odd ↦ inr (λ f len begins. not_refused bytes f len BadCheck begins (whole, λ parity. omega (arith, check-even prefix _ is parity, odd)))
+      | inr odd ↦ inr (λ f len begins.
+          not_refused bytes f len BadCheck begins (whole, λ parity. omega (arith, check-even prefix _ is parity, odd)))
     ]
 
 -- and if a body comes first, they fit
