@@ -56,16 +56,15 @@ pub scripts_keep_their_promises-first_world : (start : Start) → start.device.c
 scripts_keep_their_promises-first_world start small = grind (arith, common_steps, same_state, registers_of_lists-none, mod-eq_of_lt)
 
 pub scripts_keep_their_promises-kept : (start : Start) (events : List LineEvent) → KeepsPromises start events
-scripts_keep_their_promises-kept start events = record {
-  accepted_reply_answers_last_sending = answered_last start events;
-  registers_follow_last_executions = registers_last start events;
-  counter_counts_executions = λ world. refl;
-  refused_commands_change_nothing = refused_last start events;
-  refused_turns_change_nothing = refused_step start events;
-  unrefused_writes_are_executed = turn_executed start events;
-  nothing_else_is_executed = λ before next event here. step_stays start before event next here.step;
-  executed_in_its_turn = answered_executed start events;
-  at_most_once_a_sending = executed_at_most start events;
-  no_change_unseen = unseen start events;
-  detectable_damage_is_detected = fault_not_detectable start events;
-}
+scripts_keep_their_promises-kept start events = assumption (
+  answered_last start events,
+  registers_last start events,
+  refused_last start events,
+  refused_step start events,
+  turn_executed start events,
+  step_stays start events,
+  answered_executed start events,
+  executed_at_most start events,
+  unseen start events,
+  fault_not_detectable start events,
+)

@@ -3,9 +3,9 @@ use Rattle.hart_line.proofs.lemmas.Laws.{scripts_have_one_last_world-one_fault, 
 use Rattle.hart_line.proofs.laws.scripts_have_one_last_world.Goals as goal
 
 pub returns : goal.returns
-returns c = record {
-  one_world = scripts_have_one_last_world-one_world;
-  detected = scripts_have_one_last_world-detected;
-  no_fault = scripts_have_one_last_world-no_fault;
-  one_fault = scripts_have_one_last_world-one_fault;
-}
+returns c = assumption (
+  scripts_have_one_last_world-one_world,
+  scripts_have_one_last_world-detected,
+  scripts_have_one_last_world-no_fault,
+  scripts_have_one_last_world-one_fault,
+)

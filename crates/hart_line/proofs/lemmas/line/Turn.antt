@@ -7,7 +7,7 @@ use Rattle.hart_values.specs.declared.master_id.MasterId.{MasterId}
 use Rattle.hart_frame.specs.wire.FrameParts.{FrameParts}
 use Rattle.hart_values.specs.EachMaster.{of_master, with_master}
 use Rattle.hart_device.specs.Device.{DeviceState, Effect, Nothing, after, after_reply}
-use Rattle.hart_device.specs.answer.Delivery.{Brought, state_after_delivery}
+use Rattle.hart_device.specs.answer.Delivery.{Brought, OneFrame, state_after_delivery}
 use Rattle.hart_device.specs.declared.process.Process.{Process}
 use Rattle.hart_line.specs.world.Damage.{Arrives, Reaches}
 use Rattle.hart_frame.specs.wire.Message.{IsPreambleCount}
@@ -22,7 +22,7 @@ use Rattle.hart_line.specs.declared.event.LineEvent.TheVariants.{Turn}
 use Rattle.hart_line.specs.declared.line.report.Party.TheVariants as parties
 use Rattle.hart_line.specs.declared.line.report.Spoken.{Spoken}
 use Rattle.hart_line.proofs.lemmas.line.Leg.{speaks_sent}
-use Rattle.hart_line.proofs.lemmas.world.Arrival.{AreSpoken-more, frame_in, none_reaches, reaches_cases}
+use Rattle.hart_line.proofs.lemmas.world.Arrival.{AreSpoken-more, frame_in, none_reaches, reaches_sent}
 use Rattle.hart_line.proofs.lemmas.world.State.{state-after}
 
 -- What the device answered to what this leg brought it was spoken after what was said in it.
@@ -69,7 +69,7 @@ answer_leaves : (answered zero : Bool) (asked : Effect) (id : MasterId) (state :
 answer_leaves answered zero asked id state = grind (arith)
 
 state_after-effect : (state : DeviceState) (id : MasterId) (held : InHand) (brought : Brought)
-    → (frame_in brought ≡ None) ⊎ (frame_in brought ≡ Some (spoken_request id held).frame)
+    → (frame_in brought ≡ None) ⊎ (brought ≡ OneFrame (spoken_request id held).frame)
     → state_after_delivery state brought
     ≡ record (after id (effect_on state brought) state) { cold_start = cold_start_after state id brought }
 state_after-effect state id held brought known = grind (arith, answer_leaves)
@@ -99,7 +99,7 @@ turn_stands start world who up down (Some held) answer returned line within in_h
       step = grind (arith, common_steps);
       stands = record {
         device_is = a.after_is ∙ state_after-effect (state_of start.device world) who held a.brought
-            (reaches_cases start.device.identity up (Some (spoken_request who held)) a.brought a.arrives)
+            (reaches_sent start.device.identity up (spoken_request who held) a.brought a.arrives)
             ∙ state-after start.device world next who held.submission (effect_on (state_of start.device world) a.brought)
             within refl refl refl;
         masters_are = ends.left;

@@ -41,21 +41,14 @@ slice_set-cases [] k y n x is = inl is
 slice_set-cases (z ∷ xs) k y n x is = grind (arith, slice_set-cases xs)
 
 -- A reply that is the outcome of a turn was accepted in it: it came back, and is the device's answer to what was sent.
-pub record AnswersSent (state : DeviceState) (process : Process) (who : MasterId) (held : InHand) (brought : Brought)
-    (returned : Option FrameParts) (reply : Reply) (sendings : ℕ) : Type 0 where
-  pub arrived_is : brought ≡ OneFrame (spoken_request who held).frame
-  pub frame : FrameParts
-  pub answered : answer_of state process (spoken_request who held).frame ≡ Some frame
-  pub came : returned ≡ Some frame
-  pub is_reply : IsReplyTo who held.address held.request frame reply
-  pub sent : sendings ≡ held.sendings + 1
-
 answers_sent : (state : DeviceState) (process : Process) (who : MasterId) (held : InHand) (brought : Brought)
     (returned : Option FrameParts) (accepted : Option Reply) (retries : ℕ) (reply : Reply) (sendings : ℕ)
-    → (frame_in brought ≡ None) ⊎ (frame_in brought ≡ Some (spoken_request who held).frame)
+    → (frame_in brought ≡ None) ⊎ (brought ≡ OneFrame (spoken_request who held).frame)
     → (returned ≡ None) ⊎ (returned ≡ answer_to state process brought) → Accepts who (Some held) returned accepted
     → outcome_of retries (held.sendings + 1) accepted ≡ Answered reply sendings
-    → AnswersSent state process who held brought returned reply sendings
+    → (brought ≡ OneFrame (spoken_request who held).frame) × (frame : FrameParts)
+    × (answer_of state process (spoken_request who held).frame ≡ Some frame) × (returned ≡ Some frame)
+    × IsReplyTo who held.address held.request frame reply × (sendings ≡ held.sendings + 1)
 answers_sent state process who held brought None accepted retries reply sendings known back accepts is = grind arith
 answers_sent state process who held brought returned None retries reply sendings known back accepts is = grind arith
 answers_sent state process who held (Garbled request) (Some frame) (Some accepted) retries reply sendings known back accepts is =
@@ -67,7 +60,7 @@ came_back : (party : Party) (preambles : ℕ) (down : Heard) (answer returned : 
 came_back party preambles down answer returned back = grind arith
 
 sending_answered : (start : Start) (events : List LineEvent) (world next : World) (who : MasterId) (up down : Heard)
-    (here : IsStepOf start (first_world start) events world (Turn who up down) next) → IsSending start world who up down next here.step
+    (here : IsStepOf start (first_world start) events world (Turn who up down) next) → IsSending start world who here.step.brought here.step.accepted next
     → (number : ℕ) (reply : Reply) (sendings : ℕ) → slice_get next.outcomes number ≡ Some (Answered reply sendings)
     → (slice_get world.outcomes number ≡ Some (Answered reply sendings))
     ⊎ AnswersLastSendingFrom start (first_world start) events number reply sendings
@@ -76,8 +69,8 @@ sending_answered start events world next who up down here s number reply sending
       | inl old ↦ inl old
       | inr new ↦ (
           let back = came_back _ _ down _ _ here.step.returns in
-          let sent = answers_sent (state_of start.device world) start.process who s.held here.step.brought here.step.returned
-          here.step.accepted _ reply sendings s.known back s.accepts new.1 in
+          let (arrived, answer, given, came, replies, sent) = answers_sent (state_of start.device world) start.process who s.held here.step.brought here.step.returned
+          here.step.accepted _ reply sendings s.known back (rw s.in_hand at here.step.accepts) new.1 in
           inr (record {
             before = world;
             next = next;
@@ -88,12 +81,12 @@ sending_answered start events world next who up down here s number reply sending
             held = s.held;
             in_hand = s.in_hand;
             of_submission = sym new.0;
-            sent = sent.sent;
-            brought = sent.arrived_is;
-            answer = sent.frame;
-            answered = sent.answered;
-            returned = sent.came;
-            is_reply = sent.is_reply;
+            sent = sent;
+            brought = arrived;
+            answer = answer;
+            answered = given;
+            returned = came;
+            is_reply = replies;
             executions = grind (arith, common_steps);
             reached = is;
             left = grind (arith, s.next_is, new.1);
@@ -124,12 +117,12 @@ pub answered_last : (start : Start) (events : List LineEvent) (last : World) →
 answered_last start events last run number reply sendings is = as_submitted start events number reply sendings
     (to_last start (first_world start) events Known step_known (λ none. cc) last run is)
   where
-    Known : World → List LineEvent → Type 0
-    Known world later = slice_get world.outcomes number ≡ Some (Answered reply sendings)
+    Known : World → Type 0
+    Known world = slice_get world.outcomes number ≡ Some (Answered reply sendings)
         → AnswersLastSendingFrom start (first_world start) events number reply sendings
 
     step_known : (before next : World) (event : LineEvent) (here : IsStepOf start (first_world start) events before event next)
-        → Known before (event ∷ here.suffix) → Known next here.suffix
+        → Known before → Known next
     step_known before next (Submit who address request) here known is =
         known (not_answered before who address request _ number reply sendings (rw here.step at is))
     step_known before next (Turn who up down) here known is = elim (turn_cases start before who up down next here.step) [

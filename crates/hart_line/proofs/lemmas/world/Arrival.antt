@@ -18,14 +18,14 @@ frame_in (OneFrame frame) = Some frame
 frame_in (Garbled request) = None
 frame_in NoMessage = None
 
-pub reaches_cases : (identity : IdentityParts) (heard : Heard) (sent : Option SpokenFrame) (brought : Brought)
-    → Reaches identity heard sent brought → (frame_in brought ≡ None) ⊎ (frame_in brought ≡ frame_of sent)
-reaches_cases identity heard sent brought r = grind arith
+pub reaches_sent : (identity : IdentityParts) (heard : Heard) (said : SpokenFrame) (brought : Brought)
+    → Reaches identity heard (Some said) brought → (frame_in brought ≡ None) ⊎ (brought ≡ OneFrame said.frame)
+reaches_sent identity heard said brought r = grind arith
 
 -- So none is if nothing was sent.
 pub none_reaches : (identity : IdentityParts) (heard : Heard) (brought : Brought) → Reaches identity heard None brought
     → frame_in brought ≡ None
-none_reaches identity heard brought r = grind (arith, reaches_cases)
+none_reaches identity heard brought r = grind arith
 
 -- What is no frame has no effect.
 pub no_effect : (state : DeviceState) (brought : Brought) → frame_in brought ≡ None → effect_on state brought ≡ Nothing

@@ -6,15 +6,15 @@ use Rattle.std.proofs.lemmas.Bool.Decides.{nat_tests}
 use Rattle.std.proofs.lemmas.Grind.{common_steps}
 use Rattle.hart_device.specs.Device.{Effect}
 use Rattle.hart_line.specs.world.Executions.{times_executed}
-use Rattle.hart_line.specs.world.Promises.{IsStepOf, sendings_in}
-use Rattle.hart_line.specs.world.Step.{IsLast, effect_on, executions_after}
+use Rattle.hart_line.specs.world.Promises.{sendings_in}
+use Rattle.hart_line.specs.world.Step.{IsLast, LeadsTo, Step, effect_on, executions_after}
 use Rattle.hart_line.specs.world.World.{Execution, InHand, Start, World, first_world, state_of}
 use Rattle.hart_line.specs.declared.event.LineEvent.{LineEvent}
 use Rattle.hart_line.specs.declared.line.report.Outcome.{Outcome}
 use Rattle.hart_line.specs.declared.line.report.Outcome.TheVariants.{Unfinished}
 use Rattle.hart_line.proofs.lemmas.world.Basics.{slice_get-append, slice_get-set_other, slice_get-set_same}
-use Rattle.hart_line.proofs.lemmas.world.Steps.{by_cases, to_last}
-use Rattle.hart_line.proofs.lemmas.world.Submitted.{held_in}
+use Rattle.hart_line.proofs.lemmas.world.Steps.{Submits, Sends, Stays, along, step_cases}
+use Rattle.hart_line.proofs.lemmas.world.Submitted.{held_before}
 
 abbrev pub IsCounted : World → Type 0
 IsCounted world = (number : ℕ) → times_executed number world.executions ≤ sendings_in (slice_get world.outcomes number)
@@ -36,18 +36,16 @@ counts_by : (hand : InHand) (outcomes : List Outcome) (outcome : Outcome) (numbe
 counts_by hand outcomes outcome number before after there sent old more =
     grind (arith, nat_tests, slice_get-set_same, slice_get-set_other)
 
-step_counted : (start : Start) (events : List LineEvent) (world next : World) (event : LineEvent)
-    → IsStepOf start (first_world start) events world event next → IsCounted world → IsCounted next
-step_counted start events world next event here c = by_cases start world (λ event next. IsCounted next) (record {
-  submits = grind (arith, common_steps, sendings-append);
-  refuses = grind (arith, common_steps, sendings-append);
-  sends = λ who up down next turn s. rw s.next_is (λ number. counts_by s.held world.outcomes _ number
-      (times_executed number world.executions) _ (held_in start events here who s.held s.in_hand).unfinished
-      (grind arith) (c number)
-      (times_executed-more (effect_on (state_of start.device world) turn.brought) s.held.submission number world.executions));
-  others = λ event protected cold_start spoken same. c;
-}) event next here.step
+step_counted : (start : Start) (prefix : List LineEvent) (before : World) (event : LineEvent) (next : World)
+    → LeadsTo start (first_world start) prefix before → Step start before event next → IsCounted before → IsCounted next
+step_counted start prefix before event next led step c number = elim (step_cases start before event next step) [
+  | Submits said fault are is ↦ grind (arith, common_steps, sendings-append)
+  | Sends who brought accepted are s ↦ rw s.next_is (counts_by s.held before.outcomes _ number (times_executed number before.executions) _
+      (held_before start prefix before led who s.held s.in_hand).unfinished (grind arith) (c number)
+      (times_executed-more (effect_on (state_of start.device before) brought) s.held.submission number before.executions))
+  | Stays protected cold_start spoken are is ↦ rw is (c number)
+]
 
 pub executed_at_most : (start : Start) (events : List LineEvent) (last : World) → IsLast start events last → IsCounted last
-executed_at_most start events = to_last start (first_world start) events (λ world later. IsCounted world)
-    (λ before next event here. step_counted start events before next event here) (λ number. omega arith)
+executed_at_most start events last =
+    along start (first_world start) events last (λ es world. IsCounted world) (step_counted start) (λ number. omega arith)

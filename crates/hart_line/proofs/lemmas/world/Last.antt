@@ -4,7 +4,7 @@ use Rattle.std.proofs.lemmas.Bool.Decides.{nat_tests}
 use Rattle.std.proofs.lemmas.Bool.{cases_eq}
 use Rattle.std.proofs.lemmas.Grind.{common_steps}
 use Rattle.std.proofs.Common.{◌≡◌, ℕ, suc, ◌∙◌, sym, refl, arith, Ok, Some, Bool, true, false, List}
-use Rattle.std.proofs.Common.{[], ◌∷◌, ◌++◌, if◌then◌else◌, inl, inr}
+use Rattle.std.proofs.Common.{[], ◌∷◌, ◌++◌, if◌then◌else◌, inl, inr, None, ◌⊎◌}
 use Rattle.std.specs.List.{AllByRecursion, Contains, slice_get}
 use Rattle.hart_values.specs.declared.master_id.MasterId.{MasterId}
 use Rattle.hart_commands.specs.Registers.{Contents, Overwrite, overwrite_of, overwritten, registers_of}
@@ -21,7 +21,7 @@ use Rattle.hart_line.specs.world.World.{Execution, InHand, Start, World, first_w
 use Rattle.hart_line.specs.declared.event.LineEvent.{LineEvent}
 use Rattle.hart_line.proofs.lemmas.world.Arrival.{frame_in, no_effect}
 use Rattle.hart_line.proofs.lemmas.world.Basics.{some_one}
-use Rattle.hart_line.proofs.lemmas.world.Steps.{entered, to_last}
+use Rattle.hart_line.proofs.lemmas.world.Steps.{Submits, Sends, Stays, step_cases, to_last}
 use Rattle.hart_line.proofs.lemmas.world.Submitted.{held_in, made_of, request_there}
 
 -- THE WRITE OF AN EXECUTION
@@ -34,12 +34,13 @@ pub record IsWriteOf (requests : List Request) (execution : Execution) : Type 0 
 arrived_executes : (state : DeviceState) (who : MasterId) (held : InHand) (requests : List Request)
     (brought : Brought) (overwrite : Overwrite) → slice_get requests held.submission ≡ Some held.request
     → reading_of (spoken_request who held).frame ≡ Ok held.request
-    → frame_in brought ≡ Some (spoken_request who held).frame → effect_on state brought ≡ Executes overwrite
+    → (frame_in brought ≡ None) ⊎ (brought ≡ OneFrame (spoken_request who held).frame) → effect_on state brought ≡ Executes overwrite
     → IsWriteOf requests (record { submission = held.submission; overwrite = overwrite })
-arrived_executes state who held requests (OneFrame frame) overwrite there reading sent is =
-    let asked = writes_execute_their_overwrite-only state (spoken_request who held).frame overwrite (rw (some_one sent) at is) in
+arrived_executes state who held requests brought overwrite there reading (inl none) is =
+    let quiet = no_effect state brought none in cc
+arrived_executes state who held requests brought overwrite there reading (inr sent) is =
+    let asked = writes_execute_their_overwrite-only state (spoken_request who held).frame overwrite (rw sent at is) in
     grind (arith, common_steps)
-arrived_executes state who held requests brought overwrite there reading sent is = cc
 
 -- ALL EXECUTIONS OF A SCRIPT ARE WRITES OF THEIR SUBMISSIONS
 AllByRecursion-append : {A : Type 0} (P : A → Type 0) (xs : List A) (x : A) → AllByRecursion P xs → P x → AllByRecursion P (xs ++ x ∷ [])
@@ -53,23 +54,22 @@ effect_writes effect number requests executions writes all = grind (arith, commo
 
 are_writes : (start : Start) (events : List LineEvent) → AreWellMade events → (last : World) → IsLast start events last
     → AllByRecursion (IsWriteOf (requests_of events)) last.executions
-are_writes start events made = to_last start (first_world start) events (λ world later. AreWrites world) step_writes tt
+are_writes start events made = to_last start (first_world start) events AreWrites step_writes tt
   where
     AreWrites : World → Type 0
     AreWrites world = AllByRecursion (IsWriteOf (requests_of events)) world.executions
 
     step_writes : (before next : World) (event : LineEvent) → IsStepOf start (first_world start) events before event next
         → AreWrites before → AreWrites next
-    step_writes before next event here all =
-        let e = entered start before event next here.step in
-        rw e.executions (effect_writes _ e.number (requests_of events) before.executions (λ overwrite is.
-        elim e.known [
-          | inl none ↦ (let quiet = no_effect (state_of start.device before) e.brought none in cc)
-          | inr (held, in_hand, own, sent) ↦ (let there = (held_in start events here e.who held in_hand).submitted_as in
-              rw (← own) (arrived_executes (state_of start.device before) e.who held (requests_of events) e.brought overwrite
-              (request_there events held.submission _ there)
-              (written_data_are_their_request held.request (made_of events held.submission _ made there)) sent is))
-        ]) all)
+    step_writes before next event here all = elim (step_cases start before event next here.step) [
+      | Submits said fault are is ↦ grind arith
+      | Sends who brought accepted are s ↦ (let there = (held_in start events here who s.held s.in_hand).submitted_as in
+          rw s.next_is (effect_writes _ s.held.submission (requests_of events) before.executions
+          (λ overwrite. arrived_executes (state_of start.device before) who s.held (requests_of events) brought overwrite
+          (request_there events s.held.submission _ there)
+          (written_data_are_their_request s.held.request (made_of events s.held.submission _ made there)) s.known) all))
+      | Stays protected cold_start spoken are is ↦ rw is all
+    ]
 
 -- LAST EXECUTIONS
 -- A later execution of the submission has the same overwrite.

@@ -37,8 +37,8 @@ effect_grows effect number old now g = grind (arith, common_steps, append_assoc)
 
 leads_grows : (start : Start) (events : List LineEvent) (world last : World) → LeadsTo start world events last
     → Grows world.executions last.executions
-leads_grows start events world last = to_last start world events (λ now later. Grows world.executions now.executions)
-    (λ before next event here g. let e = entered start before event next here.step in grind (arith, common_steps, effect_grows))
+leads_grows start events world last = to_last start world events (λ now. Grows world.executions now.executions) (λ before next event here g.
+    let e = entered start before event next here.step in grind (arith, common_steps, effect_grows))
     (record { more = []; is = sym (append-nil world.executions) }) last
 
 -- MARKS STAY WHERE THERE IS NO RESET
@@ -49,7 +49,7 @@ marks_kept effect id who count marks apart = grind arith
 leads_kept : (start : Start) (events : List LineEvent) (world last : World) (id : MasterId) → LeadsTo start world events last
     → HasNoReset start world events id → of_master id last.marks ≡ of_master id world.marks
 leads_kept start events world last id run none =
-    to_last start world events (λ now later. of_master id now.marks ≡ of_master id world.marks) kept refl last run
+    to_last start world events (λ now. of_master id now.marks ≡ of_master id world.marks) kept refl last run
   where
     kept : (before next : World) (event : LineEvent) → IsStepOf start world events before event next
         → of_master id before.marks ≡ of_master id world.marks → of_master id next.marks ≡ of_master id world.marks

@@ -1,19 +1,19 @@
 -- The steps of a script: what holds at its beginning and is kept by every step of it holds of every world of it.
 use Rattle.std.proofs.Common.{arith}
 use Rattle.std.proofs.lemmas.Grind.{common_steps}
-use Rattle.std.proofs.Common.{◌≡◌, Bool, ap, ◌∙◌, refl, subst, sym, append-nil, Option, None, Some, List, [], ◌∷◌, ◌++◌, ◌⊎◌, inl, inr}
+use Rattle.std.proofs.Common.{◌≡◌, Bool, ap, ◌∙◌, refl, subst, sym, append-nil, append_assoc, Option, None, Some, List, [], ◌∷◌, ◌++◌, ◌⊎◌, inl, inr}
 use Rattle.hart_values.specs.declared.address.Address.{Address}
 use Rattle.hart_values.specs.declared.each_master.EachMaster.{EachMaster}
 use Rattle.hart_values.specs.declared.master_id.MasterId.{MasterId}
 use Rattle.hart_values.specs.EachMaster.{of_master}
-use Rattle.hart_commands.specs.declared.request.Request.{Request}
+use Rattle.hart_commands.specs.declared.reply.Reply.{Reply}
 use Rattle.hart_master.specs.declared.fault.MasterFault.{MasterFault}
 use Rattle.hart_line.specs.world.Damage.{Reaches}
-use Rattle.hart_line.specs.world.Promises.{IsStepOf, submissions_of}
+use Rattle.hart_line.specs.world.Promises.{IsStepOf, Submission, submissions_of}
 use Rattle.hart_line.specs.world.Spoken.{SpokenFrame}
 use Rattle.hart_line.specs.world.Step.{Accepts, IsTurn, LeadsTo, Step, replied, sent_by, spoken_request, submitted}
 use Rattle.hart_line.specs.world.Step.{turned}
-use Rattle.hart_device.specs.answer.Delivery.{Brought, NoMessage}
+use Rattle.hart_device.specs.answer.Delivery.{Brought, NoMessage, OneFrame}
 use Rattle.hart_line.specs.world.Step.{effect_on, executions_after, marks_after}
 use Rattle.hart_line.specs.world.World.{state_of}
 use Rattle.hart_values.specs.declared.master_id.MasterId.TheVariants.{Primary}
@@ -23,121 +23,87 @@ use Rattle.hart_line.specs.world.World.{InHand, Start, World}
 use Rattle.hart_line.specs.declared.event.Heard.{Heard}
 use Rattle.hart_line.specs.declared.event.LineEvent.{LineEvent}
 use Rattle.hart_line.specs.declared.event.LineEvent.TheVariants.{Submit, Turn, Protect, Noise, Restart}
-use Rattle.hart_line.proofs.lemmas.world.Arrival.{frame_in, none_reaches, reaches_cases}
+use Rattle.hart_line.proofs.lemmas.world.Arrival.{frame_in, none_reaches, reaches_sent}
+use Rattle.hart_device.specs.declared.identity_parts.IdentityParts.{IdentityParts}
 
 -- ONE STEP
--- A turn with a request in hand.
-pub record IsSending (start : Start) (world : World) (who : MasterId) (up down : Heard) (next : World)
-    (turn : IsTurn start world who up down next) : Type 0 where
+-- A turn with a request in hand, which brings the device the frame of this request or none.
+pub record IsSending (start : Start) (world : World) (who : MasterId) (brought : Brought) (accepted : Option Reply) (next : World)
+    : Type 0 where
   pub held : InHand
   pub in_hand : of_master who world.hands ≡ Some held
-  pub known : (frame_in turn.brought ≡ None) ⊎ (frame_in turn.brought ≡ Some (spoken_request who held).frame)
-  pub accepts : Accepts who (Some held) turn.returned turn.accepted
-  pub next_is : next ≡ turned start world who (Some held) turn.brought turn.accepted
+  pub known : (frame_in brought ≡ None) ⊎ (brought ≡ OneFrame (spoken_request who held).frame)
+  pub next_is : next ≡ turned start world who (Some held) brought accepted
 
 -- A turn without one brings the device no frame, and it replies to that alone.
 pub turn_cases : (start : Start) (world : World) (who : MasterId) (up down : Heard) (next : World)
     (turn : IsTurn start world who up down next)
-    → IsSending start world who up down next turn ⊎ (frame_in turn.brought ≡ None) × (next ≡ replied start world turn.brought)
-turn_cases start world who up down next turn = by_hand (of_master who world.hands) refl turn.arrives turn.accepts turn.next_is
+    → IsSending start world who turn.brought turn.accepted next ⊎ (frame_in turn.brought ≡ None) × (next ≡ replied start world turn.brought)
+turn_cases start world who up down next turn = by_hand (of_master who world.hands) refl turn.arrives turn.next_is
   where
     by_hand : (hand : Option InHand) → of_master who world.hands ≡ hand → Reaches start.device.identity up (sent_by who hand) turn.brought
-        → Accepts who hand turn.returned turn.accepted → next ≡ turned start world who hand turn.brought turn.accepted
-        → IsSending start world who up down next turn ⊎ (frame_in turn.brought ≡ None) × (next ≡ replied start world turn.brought)
-    by_hand None in_hand arrives accepts next_is =
-        inr (none_reaches start.device.identity up turn.brought arrives, next_is)
-    by_hand (Some held) in_hand arrives accepts next_is = inl (grind (arith, common_steps, reaches_cases))
+        → next ≡ turned start world who hand turn.brought turn.accepted → IsSending start world who turn.brought turn.accepted next
+        ⊎ (frame_in turn.brought ≡ None) × (next ≡ replied start world turn.brought)
+    by_hand None in_hand arrives next_is = inr (none_reaches start.device.identity up turn.brought arrives, next_is)
+    by_hand (Some held) in_hand arrives next_is = inl (record {
+      held = held;
+      in_hand = in_hand;
+      known = reaches_sent start.device.identity up (spoken_request who held) turn.brought arrives;
+      next_is = next_is;
+    })
 
--- An event is a submission, a turn with a request in hand, or one that changes no more than protection, cold start bits, and what was
--- spoken. What holds of these holds of every step.
-pub record StepCases (start : Start) (world : World) (P : LineEvent → World → Type 0) : Type 0 where
-  pub submits : (who : MasterId) (address : Address) (request : Request) → P (Submit who address request)
-      (submitted world who address request None)
-  pub refuses : (who : MasterId) (address : Address) (request : Request) (fault : MasterFault) → P (Submit who address request)
-      (submitted world who address request (Some fault))
-  pub sends : (who : MasterId) (up down : Heard) (next : World) (turn : IsTurn start world who up down next)
-      → IsSending start world who up down next turn → P (Turn who up down) next
-  pub others : (event : LineEvent) (protected : Bool) (cold_start : EachMaster Bool) (spoken : List SpokenFrame)
-      → ((later : List LineEvent) → submissions_of (event ∷ later) ≡ submissions_of later)
-      → P event (record world { protected = protected; cold_start = cold_start; spoken = spoken })
+-- A step submits a request, sends the one in a master's hand, or leaves all but protection, cold start bits and what was spoken.
+pub data StepCases (start : Start) (world next : World) (submissions : List Submission) : Type 0 where
+  Submits : (said : Submission) (fault : Option MasterFault) → submissions ≡ said ∷ []
+      → next ≡ submitted world said.who said.address said.request fault → StepCases start world next submissions
+  Sends : (who : MasterId) (brought : Brought) (accepted : Option Reply) → submissions ≡ []
+      → IsSending start world who brought accepted next → StepCases start world next submissions
+  Stays : (protected : Bool) (cold_start : EachMaster Bool) (spoken : List SpokenFrame) → submissions ≡ []
+      → next ≡ record world { protected = protected; cold_start = cold_start; spoken = spoken } → StepCases start world next submissions
 
-pub by_cases : (start : Start) (world : World) (P : LineEvent → World → Type 0) → StepCases start world P
-    → (event : LineEvent) (next : World) → Step start world event next → P event next
-by_cases start world P cases (Submit who address request) next step =
-    grind (arith, common_steps, cases.submits who address request, cases.refuses who address request)
-by_cases start world P cases (Turn who up down) next step = elim (turn_cases start world who up down next step) [
-  | inl sending ↦ cases.sends who up down next step sending
-  | inr silent ↦ rw silent.1 (cases.others (Turn who up down) _ _ _ (λ later. refl))
+pub step_cases : (start : Start) (world : World) (event : LineEvent) (next : World) → Step start world event next
+    → StepCases start world next (submissions_of (event ∷ []))
+step_cases start world (Submit who address request) next step =
+    Submits (record { who = who; address = address; request = request }) _ refl step
+step_cases start world (Turn who up down) next step = elim (turn_cases start world who up down next step) [
+  | inl sending ↦ Sends who step.brought step.accepted refl sending
+  | inr silent ↦ Stays _ _ _ refl silent.1
 ]
-by_cases start world P cases (Protect on) next step = rw step (cases.others (Protect on) _ _ _ (λ later. refl))
-by_cases start world P cases (Noise chars) next step = rw step.next_is (cases.others (Noise chars) _ _ _ (λ later. refl))
-by_cases start world P cases Restart next step = rw step (cases.others Restart _ _ _ (λ later. refl))
+step_cases start world (Protect on) next step = Stays _ _ _ refl step
+step_cases start world (Noise chars) next step = Stays _ _ _ refl step.next_is
+step_cases start world Restart next step = Stays _ _ _ refl step
 
--- A step enters into the executions and the marks the effect of what it brought the device, which is no frame but that of a request
--- in hand.
-pub record IsEntered (start : Start) (world next : World) : Type 0 where
-  pub who : MasterId
-  pub number : ℕ
-  pub brought : Brought
-  pub known : (frame_in brought ≡ None) ⊎ (held : InHand) × (of_master who world.hands ≡ Some held) × (held.submission ≡ number)
-      × (frame_in brought ≡ Some (spoken_request who held).frame)
-  pub executions : next.executions ≡ executions_after (effect_on (state_of start.device world) brought) number world.executions
-  pub marks : next.marks ≡ marks_after (effect_on (state_of start.device world) brought) who (length world.executions) world.marks
-
+-- So it enters into the executions and the marks the effect of what some master's turn brought the device, which is nothing but in a turn.
 pub entered : (start : Start) (world : World) (event : LineEvent) (next : World) → Step start world event next
-    → IsEntered start world next
-entered start world (Turn who up down) next step = elim (turn_cases start world who up down next step) [
-  | inl s ↦ record {
-    who = who;
-    number = s.held.submission;
-    brought = step.brought;
-    known = grind arith;
-    executions = rw s.next_is refl;
-    marks = rw s.next_is refl;
-  }
-  | inr silent ↦ record {
-    who = who;
-    number = 0;
-    brought = step.brought;
-    known = inl silent.0;
-    executions = grind (arith, silent.1, no_effect);
-    marks = grind (arith, silent.1, no_effect);
-  }
+    → (who : MasterId) × (number : ℕ) × (brought : Brought)
+    × (next.executions ≡ executions_after (effect_on (state_of start.device world) brought) number world.executions)
+    × (next.marks ≡ marks_after (effect_on (state_of start.device world) brought) who (length world.executions) world.marks)
+entered start world event next step = elim (step_cases start world event next step) [
+  | Submits said fault are is ↦ (Primary, 0, NoMessage, grind arith, grind arith)
+  | Sends who brought accepted are s ↦ (who, s.held.submission, brought, rw s.next_is refl, rw s.next_is refl)
+  | Stays protected cold_start spoken are is ↦ (Primary, 0, NoMessage, rw is refl, rw is refl)
 ]
-entered start world event next step = record {
-  who = Primary;
-  number = 0;
-  brought = NoMessage;
-  known = inl refl;
-  executions = grind arith;
-  marks = grind arith;
-}
 
 -- EVERY STEP
--- What holds before all events and is kept by each step holds of each world of these events and of the events that are left there.
-pub along : (start : Start) (from : World) (events : List LineEvent) (P : World → List LineEvent → Type 0)
-    → ((before next : World) (event : LineEvent) (here : IsStepOf start from events before event next)
-    → P before (event ∷ here.suffix) → P next here.suffix)
-    → P from events → (prefix later : List LineEvent) (world : World) → events ≡ prefix ++ later → LeadsTo start from prefix world
-    → P world later
-along start from events P keeps holds [] later world split led = grind (arith, common_steps)
-along start from events P keeps holds (event ∷ prefix) later world split led =
-    let first : IsStepOf start from events from event led.0 =
-    record { prefix = []; suffix = prefix ++ later; split = split; led = refl; step = led.1 } in
-    along start led.0 (prefix ++ later) P (λ before next other here. keeps before next other (record {
-      prefix = event ∷ here.prefix;
-      suffix = here.suffix;
-      split = split ∙ ap (λ es. event ∷ es) here.split;
-      led = (led.0, led.1, here.led);
-      step = here.step;
-    })) (keeps from led.0 event first (subst (λ es. P from es) split holds)) prefix later world refl led.2
+-- What holds before all events and is kept by each step holds after them.
+pub along : (start : Start) (from : World) (events : List LineEvent) (world : World) (P : List LineEvent → World → Type 0)
+    → ((prefix : List LineEvent) (before : World) (event : LineEvent) (next : World) → LeadsTo start from prefix before
+    → Step start before event next → P prefix before → P (prefix ++ event ∷ []) next)
+    → P [] from → LeadsTo start from events world → P events world
+along start from [] world P keeps holds led = rw led holds
+along start from (event ∷ events) world P keeps holds led = along start led.0 events world (λ es w. P (event ∷ es) w)
+    (λ prefix before other next run. keeps (event ∷ prefix) before other next (led.0, led.1, run)) (keeps [] from event led.0 refl led.1 holds) led.2
 
--- So it does after the last event.
-pub to_last : (start : Start) (from : World) (events : List LineEvent) (P : World → List LineEvent → Type 0)
-    → ((before next : World) (event : LineEvent) (here : IsStepOf start from events before event next)
-    → P before (event ∷ here.suffix) → P next here.suffix)
-    → P from events → (last : World) → LeadsTo start from events last → P last []
-to_last start from events P keeps holds last = along start from events P keeps holds events [] last (sym (append-nil events))
+-- So does what each step of a whole script keeps.
+pub to_last : (start : Start) (from : World) (events : List LineEvent) (P : World → Type 0)
+    → ((before next : World) (event : LineEvent) → IsStepOf start from events before event next → P before → P next)
+    → P from → (last : World) → LeadsTo start from events last → P last
+to_last start from events P keeps holds last led =
+    along start from events last (λ es world. (later : List LineEvent) → events ≡ es ++ later → P world)
+    (λ prefix before event next run step known later split.
+    let is : events ≡ prefix ++ event ∷ later = split ∙ append_assoc prefix (event ∷ []) later in
+    keeps before next event (record { prefix = prefix; suffix = later; split = is; led = run; step = step }) (known (event ∷ later) is))
+    (λ later split. holds) led [] (sym (append-nil events))
 
 -- One event more.
 pub leads_more : (start : Start) (events : List LineEvent) (event : LineEvent) (world mid next : World)

@@ -2,7 +2,8 @@
 use Rattle.hart_line.proofs.lemmas.world.Basics.{length-one_more}
 use Rattle.std.proofs.lemmas.Grind.{common_steps}
 use Rattle.std.proofs.Common.{◌≡◌, ℕ, ◌+◌, ◌<◌, zero, suc, ◌∙◌, refl, Option, None, Some, List, [], ◌∷◌, ◌++◌}
-use Rattle.std.proofs.Common.{add-one, drop, get_or, length, slice_set, take, inl, inr, arith}
+use Rattle.std.proofs.lemmas.List.{append-nil, map-append}
+use Rattle.std.proofs.Common.{drop, get_or, length, slice_set, take, inl, inr, arith}
 use Rattle.std.specs.List.{slice_get}
 use Rattle.std.proofs.lemmas.List.{length-set, take_more}
 use Rattle.std.proofs.lemmas.List.Elements.{All-append, All-get_or}
@@ -15,88 +16,69 @@ use Rattle.hart_commands.specs.declared.request.Request.{Request}
 use Rattle.hart_device.specs.answer.Delivery.{Brought}
 use Rattle.hart_commands.specs.declared.reply.Reply.{Reply}
 use Rattle.hart_line.specs.world.Promises.{AreWellMade, IsStepOf, Submission, requests_of, submission_in, submissions_of}
-use Rattle.hart_line.specs.world.Step.{Step, hand_left, outcome_of, submitted, turned}
+use Rattle.hart_line.specs.world.Step.{LeadsTo, submitted, turned}
+use Rattle.hart_master.specs.declared.fault.MasterFault.{MasterFault}
+use Rattle.hart_line.specs.world.Spoken.{SpokenFrame}
+use Rattle.hart_values.specs.declared.each_master.EachMaster.{EachMaster}
 use Rattle.hart_line.specs.world.World.{InHand, Start, World, first_world}
 use Rattle.hart_line.specs.declared.event.LineEvent.{LineEvent}
-use Rattle.hart_line.specs.declared.event.LineEvent.TheVariants.{Submit, Turn}
+use Rattle.hart_line.specs.declared.event.LineEvent.TheVariants.{Submit}
 use Rattle.hart_line.specs.declared.line.report.Outcome.{Outcome}
-use Rattle.hart_line.specs.declared.line.report.Outcome.TheVariants.{Unfinished, Refused}
+use Rattle.hart_line.specs.declared.line.report.Outcome.TheVariants.{Unfinished}
 use Rattle.hart_line.proofs.lemmas.world.Basics.{slice_get-append, slice_get-last, slice_get-set_other}
 use Rattle.hart_line.proofs.lemmas.world.Basics.{slice_get-set_same, some_one, with_master-cases}
-use Rattle.hart_line.proofs.lemmas.world.Steps.{along, by_cases}
+use Rattle.hart_line.proofs.lemmas.world.Steps.{StepCases, Submits, Sends, Stays, along, step_cases}
 
 -- EVENT BY EVENT
 pub record IsHeld (submissions : List Submission) (outcomes : List Outcome) (id : MasterId) (held : InHand) : Type 0 where
   pub submitted_as : slice_get submissions held.submission ≡ Some (submission_in id held)
   pub unfinished : slice_get outcomes held.submission ≡ Some (Unfinished held.sendings)
 
--- The submissions of the events that are to come follow as many as there are outcomes.
-pub record IsAlong (submissions : List Submission) (world : World) (later : List LineEvent) : Type 0 where
-  pub to_come : drop (length world.outcomes) submissions ≡ submissions_of later
-  pub hands : (id : MasterId) (held : InHand) → of_master id world.hands ≡ Some held → IsHeld submissions world.outcomes id held
-
-drop-first : {A : Type 0} (n : ℕ) (xs : List A) (x : A) (later : List A) → drop n xs ≡ x ∷ later
-    → (slice_get xs n ≡ Some x) × (drop (suc n) xs ≡ later)
-drop-first zero xs x later is = grind arith
-drop-first (suc n) [] x later is = cc
-drop-first (suc n) (y ∷ xs) x later is = drop-first n xs x later is
-
--- One outcome more takes the next submission.
-next_to_come : (submissions : List Submission) (outcomes : List Outcome) (outcome : Outcome) (submission : Submission)
-    (more : List Submission)
-    → drop (length outcomes) submissions ≡ submission ∷ more → drop (length (outcomes ++ outcome ∷ [])) submissions ≡ more
-next_to_come submissions outcomes outcome submission more is = grind (arith, common_steps, length-one_more, add-one, drop-first)
-
-submits_along : (submissions : List Submission) (world : World) (who : MasterId) (address : Address) (request : Request)
-    (later : List LineEvent) → IsAlong submissions world (Submit who address request ∷ later)
-    → IsAlong submissions (submitted world who address request None) later
-submits_along submissions world who address request later a = record {
-  to_come = next_to_come submissions world.outcomes (Unfinished 0) _ (submissions_of later) a.to_come;
-  hands = λ id held is. elim (with_master-cases id who _ world.hands held is) [
-    | inl (own, new) ↦ grind (arith, common_steps, drop-first, slice_get-last)
-    | inr (apart, old) ↦ (let there = a.hands id held old in grind (arith, common_steps, slice_get-append))
-  ];
-}
+-- There is an outcome for each submission so far.
+record IsAlong (submissions : List Submission) (world : World) : Type 0 where
+  long : length submissions ≡ length world.outcomes
+  hands : (id : MasterId) (held : InHand) → of_master id world.hands ≡ Some held → IsHeld submissions world.outcomes id held
 
 -- What stays in hand after a turn is unfinished, and is the same but for its sendings; every other stays as it was.
-sends_along : (submissions : List Submission) (start : Start) (world : World) (who : MasterId) (held : InHand)
-    (brought : Brought) (accepted : Option Reply) (event : LineEvent) (later : List LineEvent) → of_master who world.hands ≡ Some held
-    → submissions_of (event ∷ later) ≡ submissions_of later → IsAlong submissions world (event ∷ later)
-    → IsAlong submissions (turned start world who (Some held) brought accepted) later
-sends_along submissions start world who held brought accepted event later in_hand same a =
-    let outcome = outcome_of (of_master who start.retries) (held.sendings + 1) accepted in
-    let own = a.hands who held in_hand in record {
-      to_come = rw length-set (a.to_come ∙ same);
-      hands = λ id other is. elim (with_master-cases id who (hand_left held outcome) world.hands other is) [
-        | inl (is_own, left) ↦ grind (arith, common_steps, slice_set, slice_get-set_same)
-        | inr (apart, old) ↦ (let there = a.hands id other old in grind (arith, common_steps, slice_get-set_other, some_one))
-      ];
-    }
+held_more : (submissions more : List Submission) (start : Start) (world next : World) (id : MasterId) (held : InHand)
+    → StepCases start world next more → IsAlong submissions world → of_master id next.hands ≡ Some held
+    → IsHeld (submissions ++ more) next.outcomes id held
+held_more submissions more start world next id held (Submits said fault are is) a own =
+    let old = a.hands id held in grind (arith, common_steps, slice_get-append, slice_get-last, with_master-cases)
+held_more submissions more start world next id held (Sends who brought accepted are s) a own =
+    let sent = a.hands who s.held s.in_hand in let old = a.hands id held in
+    grind (arith, common_steps, append-nil, slice_set, slice_get-set_same, slice_get-set_other, some_one, with_master-cases)
+held_more submissions more start world next id held (Stays protected cold_start spoken are is) a own =
+    let old = a.hands id held in grind (arith, common_steps, append-nil)
 
-step_along : (submissions : List Submission) (start : Start) (world : World) (event : LineEvent) (next : World)
-    → Step start world event next → (later : List LineEvent) → IsAlong submissions world (event ∷ later) → IsAlong submissions next later
-step_along submissions start world =
-    by_cases start world (λ event next. (later : List LineEvent) → IsAlong submissions world (event ∷ later)
-    → IsAlong submissions next later) (record {
-      submits = submits_along submissions world;
-      refuses = λ who address request fault later a. record {
-        to_come = next_to_come submissions world.outcomes (Refused fault) _ (submissions_of later) a.to_come;
-        hands = λ id held is. let there = a.hands id held is in grind (arith, common_steps, slice_get-append);
-      };
-      sends = λ who up down next turn s later a. rw s.next_is
-          (sends_along submissions start world who s.held turn.brought turn.accepted (Turn who up down) later s.in_hand refl a);
-      others = λ event protected cold_start spoken same later a. record { to_come = a.to_come ∙ same later; hands = a.hands };
-    })
+step_along : (submissions more : List Submission) (start : Start) (world next : World) → StepCases start world next more
+    → IsAlong submissions world → IsAlong (submissions ++ more) next
+step_along submissions more start world next cases a = record {
+  long = grind (arith, common_steps, length-one_more, append-nil);
+  hands = λ id held own. held_more submissions more start world next id held cases a own;
+}
 
--- IN A SCRIPT
+submissions_of-append : (prefix suffix : List LineEvent) → submissions_of (prefix ++ suffix) ≡ submissions_of prefix ++ submissions_of suffix
+submissions_of-append [] suffix = refl
+submissions_of-append (event ∷ prefix) suffix = grind (arith, submissions_of-append prefix suffix)
+
+-- EVERY STEP
+pub held_before : (start : Start) (events : List LineEvent) (world : World) → LeadsTo start (first_world start) events world
+    → (who : MasterId) (held : InHand) → of_master who world.hands ≡ Some held → IsHeld (submissions_of events) world.outcomes who held
+held_before start events world led =
+    (along start (first_world start) events world (λ es w. IsAlong (submissions_of es) w) (λ prefix before event next run step a.
+    rw submissions_of-append (step_along _ _ start before next (step_cases start before event next step) a))
+    (record { long = refl; hands = λ id held is. grind arith }) led).hands
+
 pub held_in : (start : Start) (events : List LineEvent) {before next : World} {event : LineEvent}
-    → IsStepOf start (first_world start) events before event next → (id : MasterId) (held : InHand) → of_master id before.hands ≡ Some held
-    → IsHeld (submissions_of events) before.outcomes id held
-held_in start events {before = before} {event = event} here =
-    (along start (first_world start) events (IsAlong (submissions_of events))
-    (λ before next event here. step_along (submissions_of events) start before event next here.step here.suffix)
-    (record { to_come = refl; hands = λ id held is. grind arith })
-    here.prefix (event ∷ here.suffix) before here.split here.led).hands
+    (here : IsStepOf start (first_world start) events before event next) (who : MasterId) (held : InHand)
+    → of_master who before.hands ≡ Some held → IsHeld (submissions_of events) before.outcomes who held
+held_in start events {event = event} here who held in_hand =
+    let there = held_before start here.prefix _ here.led who held in_hand in
+    rw (here.split, submissions_of-append here.prefix (event ∷ here.suffix)) (record {
+      submitted_as = slice_get-append (submissions_of here.prefix) _ held.submission _ there.submitted_as;
+      unfinished = there.unfinished;
+    })
 
 -- The request of a submission stands at its number among the requests.
 pub request_there : (events : List LineEvent) (number : ℕ) (submission : Submission)
@@ -113,8 +95,7 @@ made_of events number submission made there =
     (slice_get_within (requests_of events) number submission.request request) made)
 
 requests_of-append : (prefix suffix : List LineEvent) → requests_of (prefix ++ suffix) ≡ requests_of prefix ++ requests_of suffix
-requests_of-append [] suffix = refl
-requests_of-append (event ∷ prefix) suffix = grind (arith, requests_of-append prefix suffix)
+requests_of-append prefix suffix = grind (arith, map-append, submissions_of-append)
 
 -- One event more.
 pub made_more : (events : List LineEvent) (n : ℕ) (unused : LineEvent) → n < length events → AreWellMade (take n events)

@@ -35,7 +35,7 @@ effect_valid initial effect number executions made valid = valid
 led_valid : (start : Start) → AreValid start.device.contents → (events : List LineEvent) (world : World)
     → LeadsTo start (first_world start) events world → AreValid (state_of start.device world).contents
 led_valid start valid events world led =
-    to_last start (first_world start) events (λ world later. AreValid (state_of start.device world).contents) (λ before next event here holds.
+    to_last start (first_world start) events (λ world. AreValid (state_of start.device world).contents) (λ before next event here holds.
     let e = entered start before event next here.step in grind (arith, common_steps, effect_valid, effect_made))
     (subst AreValid (sym (registers_of_lists-none start.device.contents)) valid) world led
 

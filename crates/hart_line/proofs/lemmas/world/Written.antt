@@ -19,7 +19,7 @@ use Rattle.hart_device.proofs.lemmas.Laws.{answers_give_their_code-answered, wri
 use Rattle.hart_device.proofs.lemmas.Laws.{writes_execute_their_overwrite-only}
 use Rattle.hart_line.specs.world.Promises.{AnswersLastSending, AreWellMade, IsExecutedFromHand, IsExecutedInItsTurn, IsStepOf}
 use Rattle.hart_line.specs.world.Promises.{IsUnrefusedWrite, brought_in_step, requests_of}
-use Rattle.hart_line.specs.world.Step.{Step, executions_after, spoken_request, submitted}
+use Rattle.hart_line.specs.world.Step.{Step, effect_on, executions_after, spoken_request, submitted}
 use Rattle.hart_line.specs.world.World.{Execution, Start, World, first_world, state_of}
 use Rattle.hart_line.specs.declared.event.Heard.{Heard}
 use Rattle.hart_line.specs.declared.event.LineEvent.{LineEvent}
@@ -39,7 +39,7 @@ named_by : (overwrite : Option Overwrite) → IsSome overwrite → (named : Over
 named_by overwrite there = grind arith
 
 -- A write that is not refused and arrives in a turn is the frame that was sent.
-sent_write : (state : DeviceState) (sent : FrameParts) (brought : Brought) → (frame_in brought ≡ None) ⊎ (frame_in brought ≡ Some sent)
+sent_write : (state : DeviceState) (sent : FrameParts) (brought : Brought) → (frame_in brought ≡ None) ⊎ (brought ≡ OneFrame sent)
     → IsUnrefusedWrite state brought → (brought ≡ OneFrame sent) × IsUnrefusedWrite state (OneFrame sent)
 sent_write state sent brought known write = grind arith
 
@@ -84,19 +84,20 @@ answered_executed start events made number request reply sendings a submitted wr
     }
 
 -- NOTHING ELSE
-frame_stays : (state : DeviceState) (frame : FrameParts) (number : ℕ) (executions : List Execution) (effect : Effect)
-    → effect_of state frame ≡ effect → (IsUnrefusedWrite state (OneFrame frame) → ⊥)
-    → executions_after effect number executions ≡ executions
-frame_stays state frame number executions (Executes overwrite) is other =
+brought_stays : (state : DeviceState) (brought : Brought) (number : ℕ) (executions : List Execution) (effect : Effect)
+    → effect_on state brought ≡ effect → (IsUnrefusedWrite state brought → ⊥) → executions_after effect number executions ≡ executions
+brought_stays state (OneFrame frame) number executions (Executes overwrite) is other =
     let asked = writes_execute_their_overwrite-only state frame overwrite is in
     grind (arith, common_steps, requests_have_their_command, writes_have_overwrites-exactly)
-frame_stays state frame number executions effect is other = refl
+brought_stays state brought number executions (Executes overwrite) is other = cc
+brought_stays state brought number executions effect is other = refl
 
-pub step_stays : (start : Start) (before : World) (event : LineEvent) (next : World) (step : Step start before event next)
-    → (IsUnrefusedWrite (state_of start.device before) (brought_in_step start before event next step) → ⊥)
+pub step_stays : (start : Start) (events : List LineEvent) (before next : World) (event : LineEvent)
+    (here : IsStepOf start (first_world start) events before event next)
+    → (IsUnrefusedWrite (state_of start.device before) (brought_in_step start before event next here.step) → ⊥)
     → next.executions ≡ before.executions
-step_stays start before (Turn who up down) next step other = elim (turn_cases start before who up down next step) [
-  | inl s ↦ grind (arith, common_steps, frame_stays)
+step_stays start events before next (Turn who up down) here other = elim (turn_cases start before who up down next here.step) [
+  | inl s ↦ rw s.next_is (brought_stays (state_of start.device before) here.step.brought _ _ _ refl other)
   | inr silent ↦ ap (λ (w : World). w.executions) silent.1
 ]
-step_stays start before event next step other = grind arith
+step_stays start events before next event here other = grind arith
