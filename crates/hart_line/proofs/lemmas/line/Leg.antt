@@ -59,12 +59,7 @@ nothing_arrives sent = record { frames = []; are_frames = messages_have_their_fr
 
 pub nothing_reaches : (identity : IdentityParts) (heard : Heard) (said : Option SpokenFrame) → AreHeard heard said []
     → Reaches identity heard said NoMessage
-unfolding nothing_arrives
-nothing_reaches identity heard said are = record {
-  chars = [];
-  are_heard = are;
-  among = record { frame = None; arrives = nothing_arrives (frame_of said); brings = grind (arith, length-append) };
-}
+nothing_reaches identity heard said are = grind (arith, common_steps, among_none, nothing_arrives, length-append)
 
 -- Otherwise the frame that was sent arrives in it, and is brought.
 pub message_arrives : (said : SpokenFrame) → IsSpeakable (Some said) → Arrives Clean (Some said) (Some said.frame)
@@ -85,12 +80,10 @@ pub clean_reaches : (identity : IdentityParts) (frame : FrameParts) (said : Opti
     → IsSent (Some frame) said → Reaches identity Clean said (OneFrame frame)
 clean_reaches identity frame None is = let none = is.frame in cc
 clean_reaches identity frame (Some said) is =
-    let a = message_arrives said is.speakable in
-    let same : Some said.frame ≡ Some frame = is.frame in
-    record {
+    let a = message_arrives said is.speakable in record {
       chars = a.chars;
       are_heard = a.are_heard;
-      among = among_frame identity a.chars (Some said.frame) frame (subst (ArrivesAmong a.chars (Some said.frame)) same a.among);
+      among = record { frame = Some said.frame; arrives = a.among; brings = grind (arith, is.frame) };
     }
 
 -- WHAT IS SPOKEN

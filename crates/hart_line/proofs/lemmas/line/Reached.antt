@@ -22,7 +22,7 @@ use Rattle.hart_line.specs.declared.fault.Leg.{Leg}
 use Rattle.hart_line.specs.declared.fault.LineFault.TheVariants.{Undetected}
 use Rattle.hart_line.proofs.lemmas.world.Leads.{leads_one}
 use Rattle.hart_line.proofs.lemmas.world.Steps.{leads_more}
-use Rattle.hart_line.proofs.lemmas.world.Marks.{first_marks, step_marks}
+use Rattle.hart_line.proofs.lemmas.world.Marks.{step_marks}
 
 -- The line stands for a world that the events, which are well made, lead to.
 pub record IsReached (start : Start) (events : List LineEvent) (line : LineState) : Type 0 where
@@ -77,7 +77,7 @@ reached_first device process primary secondary outcomes_room spoken_room first o
     spoken_are = tt;
     preambles_are = refl;
   };
-  marks = first_marks (start_from device process primary secondary);
+  marks = λ id mark is. grind arith;
   well_made = search rules;
 }
 

@@ -26,13 +26,9 @@ set_bit faults bit small set zero two three seven =
 fault_bits : (faults : ℕ) → are_some_fault_bits faults ≡ true → (faults ≢ 0) × AreFaultBits faults
 fault_bits faults test = grind (arith, nat_tests, set_bit)
 
--- a bit that is none of theirs is not set in fault bits
-clear_bit : (faults bit : ℕ) → AreFaultBits faults → bit < 8 → (IsFaultBit bit → ⊥) → bit_at faults bit ≡ 0
-clear_bit faults bit are small other = grind (arith, bit_at-lt, are.only)
-
 -- and fault bits pass the test
 fault_bits_tested : (faults : ℕ) → faults ≢ 0 → AreFaultBits faults → are_some_fault_bits faults ≡ true
-fault_bits_tested faults some are = grind (arith, nat_tests, clear_bit)
+fault_bits_tested faults some are = grind (arith, nat_tests, bit_at-lt, are.only)
 
 -- a valid item passes its test
 valid_tested : (item : Item) → IsValidItem item → is_valid_item item ≡ true
@@ -66,17 +62,11 @@ unfolding items_of
 items_of-none byte [] none = refl
 items_of-none byte (low ∷ []) none = invalid _ (Plain byte low) [] (Some []) none refl tt
 items_of-none byte (low ∷ a ∷ []) none = grind arith
-items_of-none byte (low ∷ a ∷ b ∷ rest) none = at_mark rest (a == 33) refl none
-  where
-    at_mark : (more : List ℕ) (mark : Bool) → (a == 33) ≡ mark → NoItemBegins (byte ∷ low ∷ a ∷ b ∷ more)
-        → items_of (byte ∷ low ∷ a ∷ b ∷ more) ≡ None
-    at_mark [] true is nowhere = rw (eqb-true a 33 is) (grind arith)
-    at_mark [] false is nowhere =
-        invalid _ (Plain byte low) (a ∷ b ∷ []) (items_of (a ∷ b ∷ [])) nowhere refl (eqb-false a 33 is)
-    at_mark (c ∷ more) true is nowhere =
-        rw is (invalid _ (Faulty byte low b c) more (items_of more) nowhere (rw (eqb-true a 33 is) refl) tt)
-    at_mark (c ∷ more) false is nowhere =
-        rw is (invalid _ (Plain byte low) (a ∷ b ∷ c ∷ more) (items_of (a ∷ b ∷ c ∷ more)) nowhere refl (eqb-false a 33 is))
+items_of-none byte (low ∷ a ∷ b ∷ []) none =
+    let plain = invalid _ (Plain byte low) (a ∷ b ∷ []) (items_of (a ∷ b ∷ [])) none refl in grind (arith, nat_tests)
+items_of-none byte (low ∷ a ∷ b ∷ c ∷ more) none =
+    let plain = invalid _ (Plain byte low) (a ∷ b ∷ c ∷ more) (items_of (a ∷ b ∷ c ∷ more)) none refl in
+    let faulty = invalid _ (Faulty byte low b c) more (items_of more) none in grind (arith, nat_tests)
 
 -- a text reads as characters up to a rest of it: its items are theirs and those of the rest
 abbrev pub ReadsTo : List ℕ → List Character → List ℕ → Type 0

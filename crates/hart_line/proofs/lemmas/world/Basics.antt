@@ -17,9 +17,6 @@ pub with_master-cases : {A : Type 0} (id who : MasterId) (a : Option A) (each : 
 with_master-cases id who a each x is = grind arith
 
 -- What is in a list with one more.
-pub length-one_more : {A : Type 0} (xs : List A) (x : A) → length (xs ++ x ∷ []) ≡ length xs + 1
-length-one_more xs x = grind (arith, common_steps)
-
 pub slice_get-last : {A : Type 0} (xs : List A) (x : A) → slice_get (xs ++ x ∷ []) (length xs) ≡ Some x
 slice_get-last [] x = refl
 slice_get-last (y ∷ xs) x = slice_get-last xs x

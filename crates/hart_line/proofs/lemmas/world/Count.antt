@@ -2,6 +2,7 @@
 use Rattle.std.proofs.Common.{◌≡◌, ℕ, ◌+◌, ◌≤◌, ◌==◌, arith, Some}
 use Rattle.std.proofs.Common.{List, [], ◌∷◌, ◌++◌, slice_set, if◌then◌else◌}
 use Rattle.std.specs.List.{slice_get}
+use Rattle.std.proofs.lemmas.List.Sums.{sum_by-append}
 use Rattle.std.proofs.lemmas.Bool.Decides.{nat_tests}
 use Rattle.std.proofs.lemmas.Grind.{common_steps}
 use Rattle.hart_device.specs.Device.{Effect}
@@ -21,8 +22,7 @@ IsCounted world = (number : ℕ) → times_executed number world.executions ≤ 
 
 times_executed-more : (effect : Effect) (own number : ℕ) (executions : List Execution)
     → times_executed number (executions_after effect own executions) ≤ times_executed number executions + (if own == number then 1 else 0)
-times_executed-more effect own number [] = grind (arith, common_steps)
-times_executed-more effect own number (e ∷ es) = grind (arith, common_steps, times_executed-more effect own number es)
+times_executed-more effect own number executions = grind (arith, nat_tests, sum_by-append)
 
 -- One more outcome, which was never sent.
 sendings-append : (outcomes : List Outcome) (outcome : Outcome) (number : ℕ)

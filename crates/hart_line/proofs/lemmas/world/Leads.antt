@@ -1,7 +1,7 @@
 -- A script leads to one world, and has one fault at most.
 use Rattle.std.proofs.lemmas.Grind.{common_steps}
 use Rattle.std.proofs.Common.{append-nil}
-use Rattle.std.proofs.Common.{◌≡◌, ℕ, ◌<◌, ap, ◌∙◌, sym, subst, arith, Option, None, Some, List, [], ◌∷◌, ◌++◌, zero, suc, take, drop}
+use Rattle.std.proofs.Common.{◌≡◌, ℕ, ◌<◌, ap, ◌∙◌, sym, subst, arith, Option, None, Some, List, [], ◌∷◌, ◌++◌, zero, suc, pred, take, drop}
 use Rattle.std.specs.List.{slice_get}
 use Rattle.hart_values.specs.declared.master_id.MasterId.{MasterId}
 use Rattle.hart_frame.specs.heard.Character.{Character}
@@ -63,17 +63,13 @@ Accepts-one : (who : MasterId) (hand : Option InHand) (returned : Option FramePa
     → Accepts who hand returned a → Accepts who hand returned b → a ≡ b
 Accepts-one who hand returned a b x y = grind (arith, replies_are_decided-one_reply)
 
-IsTurn-one : (start : Start) (world : World) (who : MasterId) (up down : Heard) (a b : World)
-    → IsTurn start world who up down a → IsTurn start world who up down b → a ≡ b
-IsTurn-one start world who up down a b s t =
+pub step_one : (start : Start) (world : World) (event : LineEvent) (a b : World)
+    → Step start world event a → Step start world event b → a ≡ b
+step_one start world (Turn who up down) a b s t =
     let hand = of_master who world.hands in
     let brought = Reaches-one start.device.identity up (sent_by who hand) s.brought t.brought s.arrives t.arrives in
     let returned = Arrives-one down (sent_back start world t.brought) s.returned t.returned (rw brought at s.returns) t.returns in
     let accepted = Accepts-one who hand t.returned s.accepted t.accepted (rw returned at s.accepts) t.accepts in cc
-
-pub step_one : (start : Start) (world : World) (event : LineEvent) (a b : World)
-    → Step start world event a → Step start world event b → a ≡ b
-step_one start world (Turn who up down) a b s t = IsTurn-one start world who up down a b s t
 step_one start world (Noise chars) a b s t =
     let same = Reaches-one start.device.identity (Chars chars) None s.brought t.brought s.arrives t.arrives in cc
 step_one start world event a b s t = s ∙ sym t
@@ -112,9 +108,8 @@ undetected_one start world event leg another u v = grind arith
 
 take-past : {A : Type 0} (number other : ℕ) (xs : List A) (x : A) → slice_get xs number ≡ Some x → number < other
     → take other xs ≡ take number xs ++ x ∷ drop (suc number) (take other xs)
-take-past zero (suc other) (y ∷ xs) x is before = ap (λ z. z ∷ take other xs) (some_one is)
-take-past (suc number) (suc other) (y ∷ xs) x is before = ap (λ zs. y ∷ zs) (take-past number other xs x is (omega arith))
-take-past number other xs x is before = absurd (grind arith)
+take-past number other [] x is before = cc
+take-past number other (y ∷ xs) x is before = grind (arith, take-past (pred number) (pred other) xs x)
 
 -- A fault comes after no other.
 pub fault_before : (start : Start) (events : List LineEvent) (number other : ℕ) (leg : Leg) (world : World) → number < other

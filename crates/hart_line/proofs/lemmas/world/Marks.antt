@@ -22,6 +22,3 @@ pub step_marks : (start : Start) (world : World) (event : LineEvent) (next : Wor
     → MarksWithin next
 step_marks start world event next step within =
     let e = entered start world event next step in grind (arith, common_steps, effect_marks)
-
-pub first_marks : (start : Start) → MarksWithin (first_world start)
-first_marks start = λ id mark is. grind arith

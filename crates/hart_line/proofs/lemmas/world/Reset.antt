@@ -113,24 +113,10 @@ refused_effect : (state : DeviceState) (frame : FrameParts) → (code_of state f
     → effect_of state frame ≡ Nothing
 refused_effect state frame refused = grind (arith, refused_commands_change_nothing-refused, refused_commands_change_nothing-silent)
 
--- A turn without an effect changes no more of the device than cold start bits.
-unmoved : (start : Start) (world : World) (who : MasterId) (held : InHand) (brought : Brought) (accepted : Option Reply)
-    → effect_on (state_of start.device world) brought ≡ Nothing
-    → state_of start.device (turned start world who (Some held) brought accepted)
-    ≡ record (state_of start.device world) { cold_start = cold_start_after (state_of start.device world) who brought }
-unmoved start world who held brought accepted nothing = rw nothing refl
-
 pub refused_step : (start : Start) (events : List LineEvent) (before next : World) (r : IsRefusedByDevice start events before next)
     → state_of start.device next ≡ after_refusal (state_of start.device before) r.frame
 refused_step start events before next r = elim (turn_cases start before r.who r.up r.down next r.turn.step) [
-  | inl s ↦ (
-      let state = state_of start.device before in
-      let cold_start : cold_start_after state r.who r.turn.step.brought
-      ≡ (if is_answered state r.frame then with_master r.frame.master false state.cold_start else state.cold_start) = grind arith in
-      ap (state_of start.device) s.next_is
-      ∙ unmoved start before r.who s.held r.turn.step.brought r.turn.step.accepted
-      (ap (effect_on state) r.brought ∙ refused_effect state r.frame r.refused)
-      ∙ ap (λ (bits : EachMaster Bool). record state { cold_start = bits }) cold_start)
+  | inl s ↦ rw (s.next_is, r.brought, refused_effect (state_of start.device before) r.frame r.refused) (grind (arith, common_steps))
   | inr silent ↦ grind arith
 ]
 

@@ -18,9 +18,6 @@ is_changed-more : (initially : Bool) (mark : Option ℕ) (count : ℕ) → ((m :
     → true ≡ is_changed initially mark (count + 1)
 is_changed-more initially mark count within = grind (arith, nat_tests)
 
-counted : (counter count : ℕ) → ((counter + count) % 65536 + 1) % 65536 ≡ (counter + (count + 1)) % 65536
-counted counter count = mod-add-mod (counter + count) 65536 1 ∙ ap (λ n. n % 65536) (omega arith)
-
 -- States are the same if their parts are.
 pub same_state : (a b : DeviceState) → a.identity ≡ b.identity → a.contents ≡ b.contents → a.counter ≡ b.counter
     → a.changed.primary ≡ b.changed.primary → a.changed.secondary ≡ b.changed.secondary → a.protected ≡ b.protected

@@ -1,5 +1,4 @@
 -- A request in hand is unfinished, and is the one that was submitted under its number, to its master and for its address.
-use Rattle.hart_line.proofs.lemmas.world.Basics.{length-one_more}
 use Rattle.std.proofs.lemmas.Grind.{common_steps}
 use Rattle.std.proofs.Common.{◌≡◌, ℕ, ◌+◌, ◌<◌, zero, suc, ◌∙◌, refl, Option, None, Some, List, [], ◌∷◌, ◌++◌}
 use Rattle.std.proofs.lemmas.List.{append-nil, map-append}
@@ -54,7 +53,7 @@ held_more submissions more start world next id held (Stays protected cold_start 
 step_along : (submissions more : List Submission) (start : Start) (world next : World) → StepCases start world next more
     → IsAlong submissions world → IsAlong (submissions ++ more) next
 step_along submissions more start world next cases a = record {
-  long = grind (arith, common_steps, length-one_more, append-nil);
+  long = grind (arith, common_steps, append-nil);
   hands = λ id held own. held_more submissions more start world next id held cases a own;
 }
 

@@ -35,14 +35,6 @@ reading_code : (command : ℕ) (payload : List ℕ) (reply : Reply) (code : ℕ)
 reading_code command payload reply code read is = grind arith
 
 -- EXECUTIONS
-named_by : (overwrite : Option Overwrite) → IsSome overwrite → (named : Overwrite) × (overwrite ≡ Some named)
-named_by overwrite there = grind arith
-
--- A write that is not refused and arrives in a turn is the frame that was sent.
-sent_write : (state : DeviceState) (sent : FrameParts) (brought : Brought) → (frame_in brought ≡ None) ⊎ (brought ≡ OneFrame sent)
-    → IsUnrefusedWrite state brought → (brought ≡ OneFrame sent) × IsUnrefusedWrite state (OneFrame sent)
-sent_write state sent brought known write = grind arith
-
 pub turn_executed : (start : Start) (events : List LineEvent) → AreWellMade events
     → (before next : World) (who : MasterId) (up down : Heard)
     (here : IsStepOf start (first_world start) events before (Turn who up down) next)
@@ -53,9 +45,11 @@ turn_executed start events made before next who up down here write =
           let state = state_of start.device before in
           let frame = (spoken_request who s.held).frame in
           let there = (held_in start events here who s.held s.in_hand).submitted_as in
-          let sent = sent_write state frame here.step.brought s.known write in
-          let named = named_by (overwrite_of s.held.request) ((writes_have_overwrites-exactly s.held.request).0 sent.1.0) in
-          let executes = writes_execute_their_overwrite-executes state frame s.held.request named.0 sent.1.1 sent.1.2
+          let sent : here.step.brought ≡ OneFrame frame = grind arith in
+          let unrefused = rw sent at write in
+          let named : (named : Overwrite) × (overwrite_of s.held.request ≡ Some named) =
+          grind (arith, (writes_have_overwrites-exactly s.held.request).0 unrefused.0) in
+          let executes = writes_execute_their_overwrite-executes state frame s.held.request named.0 unrefused.1 unrefused.2
           (written_data_are_their_request s.held.request (made_of events s.held.submission _ made there)) named.1 in
           grind (arith, common_steps))
       | inr silent ↦ (let none = silent.0 in absurd (grind arith))
