@@ -59,40 +59,6 @@ came_back : (party : Party) (preambles : ℕ) (down : Heard) (answer returned : 
     → Arrives down (spoken_by party preambles answer) returned → (returned ≡ None) ⊎ (returned ≡ answer)
 came_back party preambles down answer returned back = grind arith
 
-sending_answered : (start : Start) (events : List LineEvent) (world next : World) (who : MasterId) (up down : Heard)
-    (here : IsStepOf start (first_world start) events world (Turn who up down) next) → IsSending start world who here.step.brought here.step.accepted next
-    → (number : ℕ) (reply : Reply) (sendings : ℕ) → slice_get next.outcomes number ≡ Some (Answered reply sendings)
-    → (slice_get world.outcomes number ≡ Some (Answered reply sendings))
-    ⊎ AnswersLastSendingFrom start (first_world start) events number reply sendings
-sending_answered start events world next who up down here s number reply sendings is =
-    elim (slice_set-cases world.outcomes s.held.submission _ number _ (rw s.next_is at is)) [
-      | inl old ↦ inl old
-      | inr new ↦ (
-          let back = came_back _ _ down _ _ here.step.returns in
-          let (arrived, answer, given, came, replies, sent) = answers_sent (state_of start.device world) start.process who s.held here.step.brought here.step.returned
-          here.step.accepted _ reply sendings s.known back (rw s.in_hand at here.step.accepts) new.1 in
-          inr (record {
-            before = world;
-            next = next;
-            who = who;
-            up = up;
-            down = down;
-            turn = here;
-            held = s.held;
-            in_hand = s.in_hand;
-            of_submission = sym new.0;
-            sent = sent;
-            brought = arrived;
-            answer = answer;
-            answered = given;
-            returned = came;
-            is_reply = replies;
-            executions = grind (arith, common_steps);
-            reached = is;
-            left = grind (arith, s.next_is, new.1);
-          }))
-    ]
-
 -- A submission answers nothing.
 not_answered : (world : World) (who : MasterId) (address : Address) (request : Request) (fault : Option MasterFault) (number : ℕ)
     (reply : Reply) (sendings : ℕ)
@@ -126,9 +92,32 @@ answered_last start events last run number reply sendings is = as_submitted star
     step_known before next (Submit who address request) here known is =
         known (not_answered before who address request _ number reply sendings (rw here.step at is))
     step_known before next (Turn who up down) here known is = elim (turn_cases start before who up down next here.step) [
-      | inl s ↦ elim (sending_answered start events before next who up down here s number reply sendings is) [
+      | inl s ↦ elim (slice_set-cases before.outcomes s.held.submission _ number _ (rw s.next_is at is)) [
         | inl old ↦ known old
-        | inr answered ↦ answered
+        | inr new ↦ (
+            let back = came_back _ _ down _ _ here.step.returns in
+            let (arrived, answer, given, came, replies, sent) = answers_sent (state_of start.device before) start.process who s.held
+            here.step.brought here.step.returned here.step.accepted _ reply sendings s.known back (rw s.in_hand at here.step.accepts) new.1 in
+            record {
+              before = before;
+              next = next;
+              who = who;
+              up = up;
+              down = down;
+              turn = here;
+              held = s.held;
+              in_hand = s.in_hand;
+              of_submission = sym new.0;
+              sent = sent;
+              brought = arrived;
+              answer = answer;
+              answered = given;
+              returned = came;
+              is_reply = replies;
+              executions = grind (arith, common_steps);
+              reached = is;
+              left = grind (arith, s.next_is, new.1);
+            })
       ]
       | inr silent ↦ known (rw silent.1 at is)
     ]

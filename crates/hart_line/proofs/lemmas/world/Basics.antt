@@ -1,5 +1,5 @@
 -- What an option and a list hold, and what one of two masters has.
-use Rattle.std.proofs.Common.{◌≡◌, ◌≢◌, ℕ, ◌+◌, arith, Option, Some, refl, List}
+use Rattle.std.proofs.Common.{◌≡◌, ◌≢◌, ℕ, ◌+◌, arith, Option, None, Some, inl, inr, refl, List}
 use Rattle.std.proofs.Common.{[], ◌∷◌, ◌++◌, length, slice_set, ◌⊎◌}
 use Rattle.std.specs.List.{slice_get}
 use Rattle.std.proofs.lemmas.Grind.{common_steps}
@@ -10,6 +10,10 @@ use Rattle.hart_values.specs.declared.master_id.MasterId.{MasterId}
 -- Options that are one hold one thing.
 pub some_one : {A : Type 0} {x y : A} → Some x ≡ Some y → x ≡ y
 some_one is = cc
+
+pub none_or_some : {A : Type 0} (a : Option A) → (a ≡ None) ⊎ (x : A) × (a ≡ Some x)
+none_or_some None = inl refl
+none_or_some (Some x) = inr (x, refl)
 
 -- A master has what it was given, and the other one what it had.
 pub with_master-cases : {A : Type 0} (id who : MasterId) (a : Option A) (each : EachMaster (Option A)) (x : A)

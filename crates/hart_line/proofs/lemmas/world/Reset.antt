@@ -42,10 +42,6 @@ leads_grows start events world last = to_last start world events (λ now. Grows 
     (record { more = []; is = sym (append-nil world.executions) }) last
 
 -- MARKS STAY WHERE THERE IS NO RESET
-marks_kept : (effect : Effect) (id who : MasterId) (count : ℕ) (marks : EachMaster (Option ℕ)) → (id ≡ who → effect ≢ Resets)
-    → of_master id (marks_after effect who count marks) ≡ of_master id marks
-marks_kept effect id who count marks apart = grind arith
-
 leads_kept : (start : Start) (events : List LineEvent) (world last : World) (id : MasterId) → LeadsTo start world events last
     → HasNoReset start world events id → of_master id last.marks ≡ of_master id world.marks
 leads_kept start events world last id run none =
@@ -56,7 +52,7 @@ leads_kept start events world last id run none =
     kept before next (Turn who up down) here same = elim (turn_cases start before who up down next here.step) [
       | inl s ↦ (let quiet = λ (own : id ≡ who). subst (λ m. (turn : IsStepOf start world events before (Turn m up down) next)
           → effect_on (state_of start.device before) turn.step.brought ≢ Resets) own (none before next up down) here in
-          grind (arith, common_steps, marks_kept))
+          grind (arith, common_steps))
       | inr silent ↦ rw silent.1 same
     ]
     kept before next event here same = grind arith

@@ -17,6 +17,7 @@ use Rattle.hart_device.specs.answer.Delivery.{Brought, NoMessage, OneFrame}
 use Rattle.hart_line.specs.world.Step.{effect_on, executions_after, marks_after}
 use Rattle.hart_line.specs.world.World.{state_of}
 use Rattle.hart_values.specs.declared.master_id.MasterId.TheVariants.{Primary}
+use Rattle.hart_line.proofs.lemmas.world.Basics.{none_or_some}
 use Rattle.hart_line.proofs.lemmas.world.Arrival.{no_effect}
 use Rattle.std.proofs.Common.{ℕ, length}
 use Rattle.hart_line.specs.world.World.{InHand, Start, World}
@@ -39,18 +40,16 @@ pub record IsSending (start : Start) (world : World) (who : MasterId) (brought :
 pub turn_cases : (start : Start) (world : World) (who : MasterId) (up down : Heard) (next : World)
     (turn : IsTurn start world who up down next)
     → IsSending start world who turn.brought turn.accepted next ⊎ (frame_in turn.brought ≡ None) × (next ≡ replied start world turn.brought)
-turn_cases start world who up down next turn = by_hand (of_master who world.hands) refl turn.arrives turn.next_is
-  where
-    by_hand : (hand : Option InHand) → of_master who world.hands ≡ hand → Reaches start.device.identity up (sent_by who hand) turn.brought
-        → next ≡ turned start world who hand turn.brought turn.accepted → IsSending start world who turn.brought turn.accepted next
-        ⊎ (frame_in turn.brought ≡ None) × (next ≡ replied start world turn.brought)
-    by_hand None in_hand arrives next_is = inr (none_reaches start.device.identity up turn.brought arrives, next_is)
-    by_hand (Some held) in_hand arrives next_is = inl (record {
-      held = held;
-      in_hand = in_hand;
-      known = reaches_sent start.device.identity up (spoken_request who held) turn.brought arrives;
-      next_is = next_is;
-    })
+turn_cases start world who up down next turn =
+    elim (none_or_some (of_master who world.hands)) [
+      | inl none ↦ inr (none_reaches start.device.identity up turn.brought (rw none at turn.arrives), rw none at turn.next_is)
+      | inr (held, is) ↦ inl (record {
+        held = held;
+        in_hand = is;
+        known = reaches_sent start.device.identity up (spoken_request who held) turn.brought (rw is at turn.arrives);
+        next_is = rw is at turn.next_is;
+      })
+    ]
 
 -- A step submits a request, sends the one in a master's hand, or leaves all but protection, cold start bits and what was spoken.
 pub data StepCases (start : Start) (world next : World) (submissions : List Submission) : Type 0 where
