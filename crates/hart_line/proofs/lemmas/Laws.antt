@@ -5,7 +5,7 @@ use Rattle.std.proofs.Math.Nat.{mod-eq_of_lt}
 use Rattle.std.proofs.lemmas.Option.{slice_get_within}
 use Rattle.std.proofs.lemmas.List.{take_all}
 use Rattle.std.proofs.lemmas.Grind.{common_steps}
-use Rattle.std.proofs.Common.{arith, length, ◌≡◌, ◌<◌, ◌^◌, ℕ, List, refl}
+use Rattle.std.proofs.Common.{arith, length, ◌≡◌, ◌<◌, ◌^◌, ℕ, List}
 use Rattle.hart_device.specs.answer.Answer.{after_refusal}
 use Rattle.hart_line.specs.world.Faults.{AreAllDetected, IsFault}
 use Rattle.hart_line.specs.world.Kept.{KeepsPromises}

@@ -1,6 +1,6 @@
 -- What arrives in a leg, what it brings the device, and what is spoken.
 use Rattle.std.proofs.lemmas.Grind.{common_steps}
-use Rattle.std.proofs.Common.{◌≡◌, ℕ, ◌≤◌, ap, subst, refl, arith, length-append, Option, None, Some, List, [], ◌∷◌, ◌++◌, length}
+use Rattle.std.proofs.Common.{◌≡◌, ℕ, ◌≤◌, ap, refl, arith, length-append, Option, None, Some, List, [], ◌∷◌, ◌++◌, length}
 use Rattle.std.proofs.Common.{replicate}
 use Rattle.hart_frame.specs.heard.Character.{Character, faultless}
 use Rattle.hart_frame.specs.wire.FrameParts.{FrameParts}
@@ -17,7 +17,7 @@ use Rattle.hart_device.specs.declared.process.Process.{Process}
 use Rattle.hart_line.specs.world.Damage.{AreHeard, Arrives, ArrivesAmong, Reaches, ReachesAmong}
 use Rattle.hart_line.specs.line.Leg.{AnswersTo, IsSent, IsSpeakable}
 use Rattle.hart_line.specs.line.Masters.{Sends}
-use Rattle.hart_line.specs.world.Spoken.{SpokenFrame, Speaks, frame_of, master_preambles, party_of, spoken_by}
+use Rattle.hart_line.specs.world.Spoken.{SpokenFrame, Speaks, master_preambles, party_of, spoken_by}
 use Rattle.hart_line.specs.world.Step.{sent_by}
 use Rattle.hart_line.specs.world.World.{InHand}
 use Rattle.hart_line.specs.declared.event.Heard.{Heard}

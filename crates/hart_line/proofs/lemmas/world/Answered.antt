@@ -30,7 +30,7 @@ use Rattle.hart_line.specs.declared.line.report.Outcome.TheVariants.{Answered}
 use Rattle.hart_line.specs.declared.line.report.Party.{Party}
 use Rattle.hart_line.proofs.lemmas.world.Arrival.{frame_in}
 use Rattle.hart_line.proofs.lemmas.world.Basics.{slice_get-cases, some_one}
-use Rattle.hart_line.proofs.lemmas.world.Steps.{IsSending, to_last, turn_cases}
+use Rattle.hart_line.proofs.lemmas.world.Steps.{to_last, turn_cases}
 use Rattle.hart_line.proofs.lemmas.world.Submitted.{held_in}
 use Rattle.hart_line.proofs.lemmas.world.Valid.{device_replied}
 

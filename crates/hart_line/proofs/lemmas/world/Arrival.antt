@@ -8,7 +8,7 @@ use Rattle.hart_device.specs.Device.{DeviceState, Nothing}
 use Rattle.hart_device.specs.declared.identity_parts.IdentityParts.{IdentityParts}
 use Rattle.hart_line.specs.world.Damage.{Reaches}
 use Rattle.hart_line.specs.world.Step.{effect_on}
-use Rattle.hart_line.specs.world.Spoken.{AreSpoken, SpokenFrame, Speaks, frame_of}
+use Rattle.hart_line.specs.world.Spoken.{AreSpoken, SpokenFrame, Speaks}
 use Rattle.hart_line.specs.declared.event.Heard.{Heard}
 use Rattle.hart_line.specs.declared.line.report.Spoken.{Spoken}
 

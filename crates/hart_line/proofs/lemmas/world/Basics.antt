@@ -1,8 +1,7 @@
 -- What an option and a list hold, and what one of two masters has.
-use Rattle.std.proofs.Common.{◌≡◌, ◌≢◌, ℕ, ◌+◌, arith, Option, None, Some, inl, inr, refl, List}
+use Rattle.std.proofs.Common.{◌≡◌, ◌≢◌, ℕ, arith, Option, None, Some, inl, inr, refl, List}
 use Rattle.std.proofs.Common.{[], ◌∷◌, ◌++◌, length, slice_set, ◌⊎◌}
 use Rattle.std.specs.List.{slice_get}
-use Rattle.std.proofs.lemmas.Grind.{common_steps}
 use Rattle.hart_values.specs.EachMaster.{of_master, with_master}
 use Rattle.hart_values.specs.declared.each_master.EachMaster.{EachMaster}
 use Rattle.hart_values.specs.declared.master_id.MasterId.{MasterId}

@@ -20,7 +20,6 @@ use Rattle.hart_line.specs.world.Step.{IsLast, effect_on, executions_after, spok
 use Rattle.hart_line.specs.world.World.{Execution, InHand, Start, World, first_world, overwrites_of, state_of}
 use Rattle.hart_line.specs.declared.event.LineEvent.{LineEvent}
 use Rattle.hart_line.proofs.lemmas.world.Arrival.{frame_in, no_effect}
-use Rattle.hart_line.proofs.lemmas.world.Basics.{some_one}
 use Rattle.hart_line.proofs.lemmas.world.Steps.{Submits, Sends, Stays, step_cases, to_last}
 use Rattle.hart_line.proofs.lemmas.world.Submitted.{held_in, made_of, request_there}
 

@@ -1,27 +1,19 @@
 -- A request in hand is unfinished, and is the one that was submitted under its number, to its master and for its address.
 use Rattle.std.proofs.lemmas.Grind.{common_steps}
-use Rattle.std.proofs.Common.{◌≡◌, ℕ, ◌+◌, ◌<◌, zero, suc, ◌∙◌, refl, Option, None, Some, List, [], ◌∷◌, ◌++◌}
+use Rattle.std.proofs.Common.{◌≡◌, ℕ, ◌+◌, ◌<◌, refl, Some, List, [], ◌∷◌, ◌++◌}
 use Rattle.std.proofs.lemmas.List.{append-nil, map-append}
-use Rattle.std.proofs.Common.{drop, get_or, length, slice_set, take, inl, inr, arith}
+use Rattle.std.proofs.Common.{get_or, length, slice_set, take, arith}
 use Rattle.std.specs.List.{slice_get}
-use Rattle.std.proofs.lemmas.List.{length-set, take_more}
+use Rattle.std.proofs.lemmas.List.{take_more}
 use Rattle.std.proofs.lemmas.List.Elements.{All-append, All-get_or}
 use Rattle.std.proofs.lemmas.Option.{get_or_from_slice_get, slice_get-map, slice_get_within}
-use Rattle.hart_values.specs.declared.address.Address.{Address}
 use Rattle.hart_values.specs.declared.master_id.MasterId.{MasterId}
 use Rattle.hart_values.specs.EachMaster.{of_master}
 use Rattle.hart_commands.specs.RequestData.{IsRequest}
-use Rattle.hart_commands.specs.declared.request.Request.{Request}
-use Rattle.hart_device.specs.answer.Delivery.{Brought}
-use Rattle.hart_commands.specs.declared.reply.Reply.{Reply}
 use Rattle.hart_line.specs.world.Promises.{AreWellMade, IsStepOf, Submission, requests_of, submission_in, submissions_of}
-use Rattle.hart_line.specs.world.Step.{LeadsTo, submitted, turned}
-use Rattle.hart_master.specs.declared.fault.MasterFault.{MasterFault}
-use Rattle.hart_line.specs.world.Spoken.{SpokenFrame}
-use Rattle.hart_values.specs.declared.each_master.EachMaster.{EachMaster}
+use Rattle.hart_line.specs.world.Step.{LeadsTo}
 use Rattle.hart_line.specs.world.World.{InHand, Start, World, first_world}
 use Rattle.hart_line.specs.declared.event.LineEvent.{LineEvent}
-use Rattle.hart_line.specs.declared.event.LineEvent.TheVariants.{Submit}
 use Rattle.hart_line.specs.declared.line.report.Outcome.{Outcome}
 use Rattle.hart_line.specs.declared.line.report.Outcome.TheVariants.{Unfinished}
 use Rattle.hart_line.proofs.lemmas.world.Basics.{slice_get-append, slice_get-last, slice_get-set_other}
