@@ -17,7 +17,7 @@ use Rattle.hart_device.specs.declared.process.Process.{Process}
 use Rattle.hart_line.specs.world.Damage.{AreHeard, Arrives, ArrivesAmong, Reaches, ReachesAmong}
 use Rattle.hart_line.specs.line.Leg.{AnswersTo, IsSent, IsSpeakable}
 use Rattle.hart_line.specs.line.Masters.{Sends}
-use Rattle.hart_line.specs.world.Spoken.{SpokenFrame, Speaks, master_preambles, party_of, spoken_by}
+use Rattle.hart_line.specs.world.Spoken.{SpokenFrame, Speaks, frame_of, master_preambles, party_of, spoken_by}
 use Rattle.hart_line.specs.world.Step.{sent_by}
 use Rattle.hart_line.specs.world.World.{InHand}
 use Rattle.hart_line.specs.declared.event.Heard.{Heard}
@@ -59,7 +59,9 @@ nothing_arrives sent = record { frames = []; are_frames = messages_have_their_fr
 
 pub nothing_reaches : (identity : IdentityParts) (heard : Heard) (said : Option SpokenFrame) → AreHeard heard said []
     → Reaches identity heard said NoMessage
-nothing_reaches identity heard said are = grind (arith, common_steps, among_none, nothing_arrives, length-append)
+nothing_reaches identity heard said are =
+    let among = among_none identity [] (frame_of said) NoMessage (nothing_arrives (frame_of said)) (grind (arith, length-append)) in
+    record { chars = []; are_heard = are; among = among }
 
 -- Otherwise the frame that was sent arrives in it, and is brought.
 pub message_arrives : (said : SpokenFrame) → IsSpeakable (Some said) → Arrives Clean (Some said) (Some said.frame)
