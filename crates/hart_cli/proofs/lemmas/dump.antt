@@ -1,5 +1,4 @@
 -- `hart dump`.
-pub mod Dump
 pub mod FrameLines
 pub mod Moves
 pub mod ScanInput

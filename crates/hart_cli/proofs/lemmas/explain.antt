@@ -11,4 +11,3 @@ pub mod Placed
 pub mod Explain
 pub mod Gaps
 pub mod Dumped
-pub mod Hints

@@ -1,12 +1,53 @@
+use Rattle.std.proofs.lemmas.Grind.{common_steps}
+use Rattle.std.proofs.Common.{◌≡◌, ℕ, List, [], ◌++◌, Option, Some, Err, arith}
+use Rattle.hart_frame.specs.heard.Character.{Character}
+use Rattle.hart_frame.specs.scan.Scanner.{Scan, finishing}
+use Rattle.hart_frame.proofs.lemmas.Laws.{frames_are_unambiguous-one_list}
+use Rattle.hart_cli.specs.declared.fault.CliFault.{CliFault}
+use Rattle.hart_cli.specs.declared.dump.frame_lines.FrameLines.{FrameLines}
+use Rattle.hart_cli.specs.dump.Dump.{AreFrameLines, DumpOutcome, HasDump, IsDump, StopsWriting}
+use Rattle.hart_cli.specs.dump.FrameLines.{GivesAll, ScansAll}
+use Rattle.hart_cli.specs.input.Input.{Ending}
+use Rattle.hart_cli.specs.text.InputChars.{HasChars}
+use Rattle.hart_cli.specs.stream.Stream.{FailsToWrite, Stream, WritesAll}
+use Rattle.hart_cli.proofs.lemmas.dump.FrameLines.{all_lines}
+use Rattle.hart_cli.proofs.lemmas.dump.ScanInput.{stops_in}
+use Rattle.hart_cli.proofs.lemmas.text.InputChars.{one_input}
+use Rattle.hart_cli.proofs.lemmas.dump.Writes.{FailsToWrite-on, WritesAll-on}
 use Rattle.hart_cli.specs.declared.fault.CliFault.TheVariants.{Write}
 use Rattle.hart_cli.proofs.lemmas.Answer.{made_of}
-use Rattle.hart_cli.proofs.lemmas.dump.Dump.{dump_stops_at_end, ends_with, has_dump}
 use Rattle.hart_cli.proofs.dump.dump.Goals as goal
+
+-- an input was dumped up to its end or its first fault
+has_dump : {r r' w w1 : Stream} {frames : FrameLines} {fault : Option CliFault} {new : Scan} {lines : List ℕ} (w' : Stream)
+    → ScansAll r r' w w1 frames fault → GivesAll (finishing frames.scanner) new [] lines → WritesAll w1 w' lines
+    → (all : List ℕ) × HasDump r r' fault all × WritesAll w w' all
+has_dump {w = w} {w1 = w1} {lines = lines} w' all gives wrote = (
+  all.text ++ lines,
+  record {
+    input = all.input;
+    ending = all.ending;
+    reads = all.reads;
+    is_dump = record { chars = all.chars; has_chars = all.has_chars; are_lines = all_lines all.chars _ _ all.text _ all.scans gives };
+    soon = all.soon;
+  },
+  WritesAll-on w w1 w' all.text lines all.wrote wrote,
+)
+
+-- only these faults end an input
+ends_with : (r r' w w' : Stream) (input : List ℕ) (ending : Ending) (chars : List Character) (fault : CliFault)
+    → HasChars input ending chars (Some fault) → (lines : List ℕ) × HasDump r r' (Some fault) lines × WritesAll w w' lines
+    → DumpOutcome r r' w w' (Err fault)
+ends_with r r' w w' input _ _ _ (HasChars.bad_hex _ place bad) dump = dump
+ends_with r r' w w' input _ _ _ _ dump = dump
 
 pub returns-in_err-write_all : goal.returns-in_err-write_all
 returns-in_err-write_all g c =
+    let all = c.in_ok-fault.ensures in
+    let fails = rw c.as_slice.ensures.value at c.in_err-write_all.ensures in
     rw (made_of c.from_residual-in_err-write_all.result Write c.from_residual-in_err-write_all.ensures.1)
-    (dump_stops_at_end _ c.in_ok-fault.ensures c.finish.ensures (rw c.as_slice.ensures.value at c.in_err-write_all.ensures))
+    (stops_in _ all.input all.ending all.chars _ _ all.reads all.scanned (all_lines all.chars _ _ all.text _ all.scans c.finish.ensures)
+    all.in_time (FailsToWrite-on _ _ _ all.text _ all.wrote fails) fails)
 
 pub returns-in-Some : goal.returns-in-Some
 returns-in-Some g c =

@@ -1,7 +1,32 @@
+use Rattle.std.proofs.Common.{◌≡◌, ℕ, List, [], ◌∷◌, ◌++◌, length, inl, inr, Option, Some, Err, refl, append_assoc}
+use Rattle.hart_frame.specs.heard.Character.{Character}
+use Rattle.hart_frame.specs.heard.Frames.{AreFrames, first, HasNoFrame, IsFirst, none}
+use Rattle.hart_frame.specs.declared.heard.found.Found.{Found}
+use Rattle.hart_frame.proofs.lemmas.Laws.{every_list_has_frames, frames_are_unambiguous-one_list}
+use Rattle.hart_cli.specs.declared.fault.CliFault.{CliFault}
+use Rattle.hart_cli.specs.declared.input.InputEnd.{InputEnd}
+use Rattle.hart_cli.specs.explain.Explain.{ExplainOutcome, HasExplanation, IsExplanation}
+use Rattle.hart_cli.specs.explain.Heard.{IsHeard}
+use Rattle.hart_cli.specs.text.InputChars.{HasChars}
+use Rattle.hart_cli.specs.explain.Explanation.{explanation, IsExplanationOf}
+use Rattle.hart_cli.specs.explain.Message.{paragraph}
+use Rattle.hart_cli.specs.explain.Misses.{gap_text}
+use Rattle.hart_cli.specs.explain.Told.{AddsText}
+use Rattle.hart_cli.specs.stream.Stream.{FailsToWrite, Stream, WritesAll}
+use Rattle.hart_cli.proofs.lemmas.dump.Writes.{FailsToWrite-longer}
+use Rattle.hart_cli.proofs.lemmas.explain.Heard.{IsHeard-one}
+use Rattle.hart_cli.proofs.lemmas.explain.Told.{adds_nothing, adds_then, fails_then}
 use Rattle.std.proofs.Common.{arith}
 use Rattle.std.proofs.lemmas.Grind.{common_steps}
-use Rattle.hart_cli.proofs.lemmas.explain.Explain.{ends_with}
 use Rattle.hart_cli.proofs.explain.explain.Goals as goal
+
+-- only these faults end an input
+ends_with : (r r' w w' : Stream) (input : List ℕ) (end : InputEnd) (chars : List Character) (fault : CliFault)
+    → IsHeard input end chars (Some fault) → (text : List ℕ) × HasExplanation r r' (Some fault) text × WritesAll w w' text
+    → ExplainOutcome r r' w w' (Err fault)
+ends_with r r' w w' input _ _ _ (inl (HasChars.bad_hex _ place bad)) text = text
+ends_with r r' w w' input _ _ _ (inr (HasChars.decided_bad_hex _ place bad)) text = text
+ends_with r r' w w' input _ _ _ _ text = text
 
 pub returns-in-Some : goal.returns-in-Some
 returns-in-Some g c = grind (arith, common_steps, ends_with)

@@ -1,36 +1,85 @@
+use Rattle.std.proofs.Common.{◌≡◌, ℕ, List, [], ◌∷◌, ◌++◌, length, inl, inr, Option, Some, Err, refl, append_assoc}
+use Rattle.std.proofs.Common.{arith}
+use Rattle.std.proofs.lemmas.Grind.{common_steps}
+use Rattle.hart_frame.specs.heard.Character.{Character}
+use Rattle.hart_frame.specs.heard.Frames.{AreFrames, first, HasNoFrame, IsFirst, none}
+use Rattle.hart_frame.specs.declared.heard.found.Found.{Found}
+use Rattle.hart_frame.proofs.lemmas.Laws.{every_list_has_frames, frames_are_unambiguous-one_list}
+use Rattle.hart_cli.specs.declared.fault.CliFault.{CliFault}
+use Rattle.hart_cli.specs.declared.input.InputEnd.{InputEnd}
+use Rattle.hart_cli.specs.explain.Explain.{ExplainOutcome, HasExplanation, IsExplanation}
+use Rattle.hart_cli.specs.explain.Heard.{IsHeard}
+use Rattle.hart_cli.specs.text.InputChars.{HasChars}
+use Rattle.hart_cli.specs.explain.Explanation.{explanation, IsExplanationOf}
+use Rattle.hart_cli.specs.explain.Message.{paragraph}
+use Rattle.hart_cli.specs.explain.Told.{AddsText}
+use Rattle.hart_cli.specs.stream.Stream.{FailsToWrite, Stream, WritesAll}
+use Rattle.hart_cli.proofs.lemmas.dump.Writes.{FailsToWrite-longer}
+use Rattle.hart_cli.proofs.lemmas.explain.Heard.{IsHeard-one}
+use Rattle.hart_cli.proofs.lemmas.explain.Told.{adds_nothing, adds_then, fails_then}
+use Rattle.hart_cli.proofs.lemmas.explain.Explain.{GoesOn}
 use Rattle.std.proofs.Common.{[], ◌++◌, arith, length}
 use Rattle.std.proofs.lemmas.Result.{err_from_is_err_and}
 use Rattle.hart_cli.specs.explain.Misses.{gap_text}
-use Rattle.hart_cli.proofs.lemmas.explain.Explain.{end_stops, goes_on_to_end, message_stops, said_message, said_nothing}
 use Rattle.hart_cli.proofs.lemmas.explain.Told.{adds_then, writes_kept}
 use Rattle.hart_cli.proofs.explain.tell.Goals as goal
 
+-- it goes on after the next message
+goes_on_after : (chars : List Character) (from : ℕ) (found : Found) (text : List ℕ) → GoesOn chars from text
+    → IsFirst found chars from → GoesOn chars found.stop (text ++ (gap_text chars from found.start ++ paragraph found))
+goes_on_after chars from found text on is = λ later are.
+    let all = on (found ∷ later) (first from found later is are) in grind (arith, common_steps, append_assoc)
+
 pub loop-found-init : goal.loop-found-init
-loop-found-init g c = record { said = rw c.new-kept.ensures (said_nothing _ c.args.chars.now); within = omega arith }
+loop-found-init g c = record {
+  said = rw c.new-kept.ensures (record {
+    text = [];
+    adds = adds_nothing _ [];
+    on = λ later are. record { frames = later; are_frames = are; text_is = refl };
+  });
+  within = omega arith;
+}
 
 pub returns-in_err-tell_message : goal.returns-in_err-tell_message
 returns-in_err-tell_message g c =
-    rw (err_from_is_err_and c.from_residual.result c.from_residual.ensures.1).1
-    (message_stops c.in-Some.found c.loop-found.invariant.said c.in-Some.ensures.first c.in_err-tell_message.ensures)
+    let chars = c.args.chars.now in
+    let found = c.in-Some.found in
+    let said = c.loop-found.invariant.said in
+    let later = every_list_has_frames chars found.stop in
+    let text = said.text ++ (gap_text chars c.loop-found.from found.start ++ paragraph found) in
+    rw (err_from_is_err_and c.from_residual.result c.from_residual.ensures.1).1 (
+      text ++ explanation chars found.stop later.0,
+      goes_on_after chars _ found said.text said.on c.in-Some.ensures.first later.0 later.1,
+      FailsToWrite-longer _ _ text _ (fails_then _ _ _ [] _ said.text _ said.adds c.in_err-tell_message.ensures),
+    )
 
 pub loop-found-preserved : goal.loop-found-preserved
-loop-found-preserved g c = record {
-  said = said_message c.in-Some.found c.loop-found.invariant.said c.in-Some.ensures.first c.in_ok-tell_message.ensures;
-  within = omega (arith, c.in-Some.ensures.within);
-}
+loop-found-preserved g c =
+    let said = c.loop-found.invariant.said in
+    record {
+      said = record {
+        text = _;
+        adds = adds_then _ _ _ [] _ _ said.text _ said.adds c.in_ok-tell_message.ensures;
+        on = goes_on_after c.args.chars.now _ c.in-Some.found said.text said.on c.in-Some.ensures.first;
+      };
+      within = omega (arith, c.in-Some.ensures.within);
+    }
 
 pub returns-in_err-tell_gap : goal.returns-in_err-tell_gap
 returns-in_err-tell_gap g c =
-    rw (err_from_is_err_and c.from_residual-in_err-tell_gap.result c.from_residual-in_err-tell_gap.ensures.1).1
-    (end_stops c.loop-found.invariant.said c.in_default.ensures.first c.in_err-tell_gap.ensures)
+    let said = c.loop-found.invariant.said in
+    rw (err_from_is_err_and c.from_residual-in_err-tell_gap.result c.from_residual-in_err-tell_gap.ensures.1).1 (
+      _,
+      said.on [] (none _ c.in_default.ensures.first),
+      fails_then _ _ _ [] _ said.text _ said.adds c.in_err-tell_gap.ensures,
+    )
 
 pub returns : goal.returns
 returns g c =
-    let said = c.loop-found.invariant.said in
-    let gap = gap_text c.args.chars.now c.loop-found.from (length c.args.chars.now) in (
-      said.text ++ gap,
-      goes_on_to_end c.args.chars.now c.loop-found.from said.text said.on c.in_default.ensures.first,
-      writes_kept _ _ _ c.tell_gap.new.kept (said.text ++ gap) c.write_all.result
-          (adds_then _ _ _ [] c.loop-found.kept c.tell_gap.new.kept said.text gap said.adds c.in_ok-tell_gap.ensures)
+    let said = c.loop-found.invariant.said in (
+      _,
+      said.on [] (none _ c.in_default.ensures.first),
+      writes_kept _ _ _ c.tell_gap.new.kept _ c.write_all.result
+          (adds_then _ _ _ [] c.loop-found.kept c.tell_gap.new.kept said.text _ said.adds c.in_ok-tell_gap.ensures)
           (rw c.as_slice.ensures.value at c.write_all.ensures),
     )

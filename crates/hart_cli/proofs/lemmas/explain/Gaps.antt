@@ -36,7 +36,7 @@ said_of : (from place : ℕ) (found : Option Miss) → miss_line from place foun
 said_of from place None = refl
 said_of from place (Some miss) = sym (append-nil (miss_line from place (Some miss)))
 
-said_of_places : (chars : List Character) (from : ℕ) (places : List ℕ)
+pub said_of_places : (chars : List Character) (from : ℕ) (places : List ℕ)
     → flat_map (λ place. place_text chars from place) places
     ≡ flat_map (λ told. miss_line from told.place (Some told.miss)) (flat_map (λ place. missed_at chars from place) places)
 unfolding place_text
@@ -45,10 +45,10 @@ said_of_places chars from (place ∷ places) =
     simp (flat_map-append, ← said_of, said_of_places chars from places)
 
 -- places that have something, each with it
-abbrev told_at : (ℕ → Option Miss) → ℕ → List MissedPlace
+abbrev pub told_at : (ℕ → Option Miss) → ℕ → List MissedPlace
 told_at f place = option_map_or (λ miss. record { place = place; miss = miss } ∷ []) (f place) []
 
-abbrev told_from : (ℕ → Option Miss) → ℕ → ℕ → List MissedPlace
+abbrev pub told_from : (ℕ → Option Miss) → ℕ → ℕ → List MissedPlace
 told_from f a n = flat_map (λ place. told_at f place) (range_with_len a n)
 
 -- what stands among places
@@ -59,7 +59,7 @@ told_is f a (suc n) x has =
     grind (arith, common_steps, Contains-append_cases (told_at f a) (told_from f (a + 1) n) x has, told_is f (a + 1) n x)
 
 -- every place that has something is among them
-told_has : (f : ℕ → Option Miss) (a n place : ℕ) (miss : Miss) → a ≤ place → place < a + n → f place ≡ Some miss
+pub told_has : (f : ℕ → Option Miss) (a n place : ℕ) (miss : Miss) → a ≤ place → place < a + n → f place ≡ Some miss
     → Contains (told_from f a n) (record { place = place; miss = miss })
 told_has f a zero place miss from below has = absurd (omega arith)
 told_has f a (suc n) place miss from below has =
@@ -69,7 +69,7 @@ told_has f a (suc n) place miss from below has =
     ]
 
 -- they stand in the order of their places
-told_in_order : (f : ℕ → Option Miss) (a n : ℕ) → AllPairs (λ told later. told.place < later.place) (told_from f a n)
+pub told_in_order : (f : ℕ → Option Miss) (a n : ℕ) → AllPairs (λ told later. told.place < later.place) (told_from f a n)
 told_in_order f a zero = λ i j d before within. absurd (omega arith)
 told_in_order f a (suc n) = elim (f a) as (λ miss. AllPairs (λ told later. told.place < later.place)
     (option_map_or (λ m. record { place = a; miss = m } ∷ []) miss [] ++ told_from f (a + 1) n)) [
@@ -80,13 +80,13 @@ told_in_order f a (suc n) = elim (f a) as (λ miss. AllPairs (λ told later. tol
     ]
 
 -- the code of a line feed is none of a text
-abbrev no_line_feed : ℕ → Bool
+abbrev pub no_line_feed : ℕ → Bool
 no_line_feed code = not (code == 10)
 
-abbrev unbroken : List ℕ → Bool
+abbrev pub unbroken : List ℕ → Bool
 unbroken text = list_all no_line_feed text
 
-unbroken-all : (text : List ℕ) → unbroken text ≡ true → All (λ code. code ≢ 10) text
+pub unbroken-all : (text : List ℕ) → unbroken text ≡ true → All (λ code. code ≢ 10) text
 unbroken-all text test = grind (arith, common_steps, AllPass-from_list_all, nat_tests)
 
 -- digits are none
@@ -96,7 +96,7 @@ unbroken-onto (suc k) n text test =
     let more : unbroken (digit_glyph false (n % 10) ∷ text) ≡ true = grind (arith, nat_tests) in
     grind (arith, common_steps, unbroken-onto k (n / 10) (digit_glyph false (n % 10) ∷ text) more)
 
-unbroken-decimal : (n : ℕ) → unbroken (decimal n) ≡ true
+pub unbroken-decimal : (n : ℕ) → unbroken (decimal n) ≡ true
 unfolding digits
 unbroken-decimal n = unbroken-onto 64 n [] refl
 
@@ -111,20 +111,11 @@ unbroken-byte_digits byte = grind (arith, unbroken-get_or upper_digits (byte / 1
 unbroken-characters_word : (count : ℕ) → unbroken (characters_word count) ≡ true
 unbroken-characters_word count = grind (arith, common_steps)
 
-unbroken-miss_words : (from : ℕ) (miss : Miss) → unbroken (miss_words from miss) ≡ true
+pub unbroken-miss_words : (from : ℕ) (miss : Miss) → unbroken (miss_words from miss) ≡ true
 unbroken-miss_words from Burst = refl
 unbroken-miss_words from EndsBeforeByteCount = refl
 unbroken-miss_words from OnePreamble = refl
 unbroken-miss_words from _ = simp (list_all-append, unbroken-decimal, unbroken-byte_digits, unbroken-characters_word)
-
--- the line of a miss is one line
-pub miss_line-one : (from place : ℕ) (miss : Miss) → IsOneLine (miss_line from place (Some miss))
-miss_line-one from place miss = record {
-  words = decimal place ++ codes ": no message: " ++ miss_words from miss;
-  ended = refl;
-  unbroken = unbroken-all (decimal place ++ codes ": no message: " ++ miss_words from miss)
-      (simp (list_all-append, unbroken-decimal, unbroken-miss_words));
-}
 
 -- a frame in the rest of characters is one of the characters
 pub stands_in_rest : (chars : List Character) (from at : ℕ) (found : Found) → at ≤ from → StandsIn found (drop from chars) 0
@@ -154,44 +145,10 @@ no_frame_in_gap chars _ _ (first at found later is are) from stop place (inl gap
 no_frame_in_gap chars _ _ (first at found later is are) from stop place (inr gap) after below has =
     no_frame_in_gap chars found.stop later are from stop place gap after below has
 
--- what is said of a gap is the lines of the places that have a miss
-pub gap_lines : (chars : List Character) (from stop : ℕ)
-    → gap_text chars from stop ≡ flat_map (λ told. miss_line from told.place (Some told.miss)) (missed chars from stop)
-gap_lines chars from stop = said_of_places chars from (range_with_len from (stop - from))
-
--- the miss of a place of a gap
-abbrev miss_at : List Character → ℕ → ℕ → Option Miss
-miss_at chars from place = miss_of (drop from chars) (place - from)
-
--- the places of a gap that have a miss stand in their order
-pub missed_in_order : (chars : List Character) (from stop : ℕ)
-    → AllPairs (λ told later. told.place < later.place) (missed chars from stop)
-missed_in_order chars from stop = told_in_order (miss_at chars from) from (stop - from)
-
--- and are just those that have one
+-- the places of a gap that have a miss
 pub missed_are : (chars : List Character) (from stop place : ℕ) (miss : Miss)
     → Contains (missed chars from stop) (record { place = place; miss = miss })
     → (from ≤ place) × (place < stop) × (miss_of (drop from chars) (place - from) ≡ Some miss)
 missed_are chars from stop place miss has =
-    grind (arith, common_steps, told_is (miss_at chars from) from (stop - from) (record { place = place; miss = miss }) has)
-
-pub missed_has : (chars : List Character) (from stop place : ℕ) (miss : Miss)
-    → (from ≤ place) × (place < stop) × (miss_of (drop from chars) (place - from) ≡ Some miss)
-    → Contains (missed chars from stop) (record { place = place; miss = miss })
-missed_has chars from stop place miss is =
-    told_has (miss_at chars from) from (stop - from) place miss is.0 (omega (arith, is.0, is.1)) is.2
-
--- a place has a frame or a miss if it is a start
-abbrev pub HasFrameOrMiss : Type 0
-HasFrameOrMiss = (place : ℕ) (chars : List Character) → All (λ character. character.byte < 256) chars → IsStart place chars
-    → HasFrameAt chars place ⊎ IsSome (miss_of chars place)
-
--- so a start in a gap has a miss
-pub start_is_missed : HasFrameOrMiss → (chars : List Character) (frames : List Found) (from stop place : ℕ)
-    → All (λ character. character.byte < 256) chars → AreFrames chars 0 frames → IsGap chars 0 frames from stop
-    → from ≤ place → place < stop → IsStart (place - from) (drop from chars) → IsSome (miss_of (drop from chars) (place - from))
-start_is_missed law chars frames from stop place bytes are gap after below start =
-    elim (law (place - from) (drop from chars) (All-drop (λ (character : Character). character.byte < 256) from chars bytes) start) [
-      | inl has ↦ absurd (no_frame_in_gap chars 0 frames are from stop place gap after below has)
-      | inr some ↦ some
-    ]
+    let is = told_is (λ at. miss_of (drop from chars) (at - from)) from (stop - from) (record { place = place; miss = miss }) has in
+    (is.0, omega arith, is.2)

@@ -1,14 +1,33 @@
-use Rattle.std.proofs.Common.{◌-◌, drop}
-use Rattle.hart_cli.proofs.lemmas.explain.Gaps.{gap_lines, miss_line-one, missed_are, missed_has, missed_in_order, start_is_missed}
+use Rattle.std.proofs.Common.{◌-◌, ◌++◌, ◌<◌, drop, inl, inr, refl, codes, decimal, arith}
+use Rattle.std.specs.List.{range_with_len}
+use Rattle.std.proofs.lemmas.List.Folds.{list_all-append}
+use Rattle.std.proofs.lemmas.List.Elements.{All-drop}
+use Rattle.hart_frame.specs.heard.Character.{Character}
+use Rattle.hart_frame.specs.heard.Miss.{miss_of}
+use Rattle.hart_cli.specs.explain.Misses.{miss_words}
+use Rattle.hart_cli.proofs.lemmas.explain.Gaps.{missed_are, no_frame_in_gap, said_of_places, told_has, told_in_order}
+use Rattle.hart_cli.proofs.lemmas.explain.Gaps.{unbroken-all, unbroken-decimal, unbroken-miss_words}
 use Rattle.hart_cli.proofs.explain.laws.every_start_outside_messages_has_one_line.Goals as goal
 
 pub returns : goal.returns
 returns c = record {
-  lines = gap_lines;
-  one_line = miss_line-one;
-  in_order = missed_in_order;
-  exactly = λ chars from stop place miss. (missed_are chars from stop place miss, missed_has chars from stop place miss);
-  every_start = start_is_missed c.every_start_has_a_frame_or_a_miss.ensures.one;
+  lines = λ chars from stop. said_of_places chars from (range_with_len from (stop - from));
+  one_line = λ from place miss. record {
+    words = decimal place ++ codes ": no message: " ++ miss_words from miss;
+    ended = refl;
+    unbroken = unbroken-all _ (simp (list_all-append, unbroken-decimal, unbroken-miss_words));
+  };
+  in_order = λ chars from stop. told_in_order (λ place. miss_of (drop from chars) (place - from)) from (stop - from);
+  exactly = λ chars from stop place miss. (
+    missed_are chars from stop place miss,
+    λ is. told_has (λ at. miss_of (drop from chars) (at - from)) from (stop - from) place miss is.0 (omega (arith, is.0, is.1)) is.2,
+  );
+  every_start = λ chars frames from stop place bytes are gap after below start.
+      let rest = All-drop (λ (character : Character). character.byte < 256) from chars bytes in
+      elim (c.every_start_has_a_frame_or_a_miss.ensures.one (place - from) (drop from chars) rest start) [
+        | inl has ↦ absurd (no_frame_in_gap chars 0 frames are from stop place gap after below has)
+        | inr some ↦ some
+      ];
   only_there = λ chars from stop place miss has.
       c.every_start_has_a_frame_or_a_miss.ensures.only_there (place - from) (drop from chars) miss
       (missed_are chars from stop place miss has).2;
