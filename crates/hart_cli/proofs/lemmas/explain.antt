@@ -1,13 +1,8 @@
 -- `hart explain`.
 pub mod Heard
 pub mod Told
-pub mod Status
 pub mod Message
-pub mod Values
 pub mod Fields
-pub mod Data
 pub mod Misses
-pub mod Placed
 pub mod Explain
 pub mod Gaps
-pub mod Dumped

@@ -1,3 +1,2 @@
 -- The program: which call the words make, and how it ends.
-pub mod CommandLine
 pub mod Subcommand

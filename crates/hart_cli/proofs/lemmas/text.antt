@@ -3,7 +3,5 @@ pub mod InputChars
 pub mod HexText
 pub mod Items
 pub mod KnownBytes
-pub mod Words
 pub mod MessageLine
-pub mod Chunk
 pub mod PlainItems

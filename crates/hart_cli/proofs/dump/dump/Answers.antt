@@ -1,3 +1,16 @@
+use Rattle.std.proofs.Common.{arith}
+use Rattle.std.proofs.Common.{◌≡◌, ℕ, List, Option, None, Result, Err}
+use Rattle.std.specs.Result.{IsErrAnd}
+use Rattle.hart_frame.specs.wire.FrameParts.{FrameParts}
+use Rattle.hart_device.specs.Bench.{bench_process}
+use Rattle.hart_device.specs.answer.Delivery.{Brings, Brought, answer_to}
+use Rattle.hart_device.specs.Device.{DeviceState}
+use Rattle.hart_device.specs.declared.process.Process.{Process}
+use Rattle.hart_cli.specs.declared.input.InputEnd.TheVariants.{Ended}
+use Rattle.hart_cli.specs.input.Input.{CameTo}
+use Rattle.hart_device.proofs.lemmas.Laws.{deliveries_bring_one-one}
+use Rattle.hart_cli.specs.Answer.{IsAnswer, IsAnswerText, IsTextFor}
+use Rattle.hart_cli.proofs.lemmas.text.MessageLine.{IsMessageLine-one}
 use Rattle.std.proofs.lemmas.Grind.{common_steps}
 use Rattle.std.proofs.Common.{◌≡◌, ℕ, List, [], ◌++◌, Option, Some, Err, arith}
 use Rattle.hart_frame.specs.heard.Character.{Character}
@@ -15,8 +28,11 @@ use Rattle.hart_cli.proofs.lemmas.dump.ScanInput.{stops_in}
 use Rattle.hart_cli.proofs.lemmas.text.InputChars.{one_input}
 use Rattle.hart_cli.proofs.lemmas.dump.Writes.{FailsToWrite-on, WritesAll-on}
 use Rattle.hart_cli.specs.declared.fault.CliFault.TheVariants.{Write}
-use Rattle.hart_cli.proofs.lemmas.Answer.{made_of}
 use Rattle.hart_cli.proofs.dump.dump.Goals as goal
+
+-- a fault that is made of its cause alone
+made_of : {T : Type 0} (result : Result T CliFault) (cause : CliFault) → IsErrAnd result (λ fault. fault ≡ cause) → result ≡ Err cause
+made_of result cause made = grind (arith, common_steps)
 
 -- an input was dumped up to its end or its first fault
 has_dump : {r r' w w1 : Stream} {frames : FrameLines} {fault : Option CliFault} {new : Scan} {lines : List ℕ} (w' : Stream)

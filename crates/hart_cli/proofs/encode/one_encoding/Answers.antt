@@ -1,5 +1,13 @@
-use Rattle.hart_cli.proofs.lemmas.Encode.{IsEncoding-one}
+use Rattle.std.proofs.Common.{arith}
+use Rattle.std.proofs.lemmas.Grind.{common_steps}
+use Rattle.std.proofs.Common.{◌≡◌, ℕ, List}
+use Rattle.hart_frame.specs.wire.FrameParts.{FrameParts}
+use Rattle.hart_cli.specs.encode.Encode.{IsEncoding, IsRequestOf}
+use Rattle.hart_cli.specs.encode.MessageWords.{MessageWords}
+use Rattle.hart_cli.proofs.lemmas.text.MessageLine.{IsMessageLine-one}
 use Rattle.hart_cli.proofs.encode.one_encoding.Goals as goal
 
 pub returns : goal.returns
-returns c = IsEncoding-one
+returns c = λ words xs ys p q.
+    let frames : p.frame ≡ q.frame = grind (arith, common_steps) in
+    IsMessageLine-one p.frame q.frame words.preambles xs ys frames p.line q.line

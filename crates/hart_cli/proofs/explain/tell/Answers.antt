@@ -30,16 +30,6 @@ goes_on_after : (chars : List Character) (from : ℕ) (found : Found) (text : Li
 goes_on_after chars from found text on is = λ later are.
     let all = on (found ∷ later) (first from found later is are) in grind (arith, common_steps, append_assoc)
 
-pub loop-found-init : goal.loop-found-init
-loop-found-init g c = record {
-  said = rw c.new-kept.ensures (record {
-    text = [];
-    adds = adds_nothing _ [];
-    on = λ later are. record { frames = later; are_frames = are; text_is = refl };
-  });
-  within = omega arith;
-}
-
 pub returns-in_err-tell_message : goal.returns-in_err-tell_message
 returns-in_err-tell_message g c =
     let chars = c.args.chars.now in

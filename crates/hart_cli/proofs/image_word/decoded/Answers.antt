@@ -1,9 +1,61 @@
+use Rattle.std.proofs.lemmas.Grind.{common_steps}
+use Rattle.std.proofs.Common.{◌≡◌, ℕ, ◌+◌, ◌<◌, true, List, length, take, slice_index, Option, Some, None, subst, sym}
+use Rattle.std.proofs.Common.{◌∙◌, inl, inr, arith, refl, false, ◌/◌, ◌%◌, Result, Ok, Err}
+use Rattle.std.specs.Prelude.{MatchResult}
+use Rattle.std.specs.List.{AllPass}
+use Rattle.std.proofs.lemmas.List.{get_or-take, length-take}
+use Rattle.std.proofs.lemmas.List.Elements.{All-get_or}
+use Rattle.std.proofs.lemmas.Bool.{cases_eq, cases_order}
+use Rattle.hex.specs.Hex.{decode_of, decode_sized, is_hex_digit}
+use Rattle.hex.specs.declared.error.FromHexError.{FromHexError}
+use Rattle.hex.specs.declared.error.FromHexError.TheVariants.{InvalidHexCharacter, OddLength}
+use Rattle.hex.proofs.HexLemmas.{decode_of-even, decode_of-odd, decode_of-ok, decode_of-same}
+use Rattle.hex.proofs.HexLemmas.{decode_pairs-err, decode_sized-odd, decode_sized-twice}
+use Rattle.hart_device.specs.Device.{DeviceState}
+use Rattle.hart_device.specs.image.Image.{IsImageOf, IsImageFault}
+use Rattle.hart_device.specs.declared.fault.DeviceFault.{DeviceFault}
+use Rattle.hart_device.proofs.lemmas.Laws.{images_have_no_fault}
+use Rattle.hart_cli.specs.declared.fault.CliFault.{CliFault}
+use Rattle.hart_cli.specs.declared.fault.CliFault.TheVariants.{BadHex, Image}
+use Rattle.hart_cli.specs.ImageWord.{HasImageFault, IsBadHexWord, IsDeviceOf, IsImageWord}
 use Rattle.std.proofs.Common.{◌/◌, ◌∙◌, ap, inl, length}
 use Rattle.std.proofs.lemmas.List.{length-replicate}
 use Rattle.std.proofs.Common.{arith}
 use Rattle.hex.proofs.HexLemmas.{decode_of-err}
-use Rattle.hart_cli.proofs.lemmas.ImageWord.{bad_hex, decoded_err}
 use Rattle.hart_cli.proofs.image_word.decoded.Goals as goal
+
+-- a word decodes into room for half as many bytes as if there were more
+half_sized : (word : List ℕ) → decode_sized word (length word / 2) ≡ decode_of word
+half_sized word = grind (arith, common_steps, cases_eq, decode_of-odd, decode_sized-odd, decode_sized-twice)
+
+-- the place that an error gives
+abbrev place_of : List ℕ → FromHexError → ℕ
+place_of word (InvalidHexCharacter c index) = index
+place_of word _ = length word
+
+-- a word whose decoding gives its first byte that is no digit is bad hex there
+bad_at : (word : List ℕ) (e : FromHexError) (k : ℕ) → e ≡ InvalidHexCharacter (slice_index word k) (0 + k) → length word % 2 ≡ 0
+    → k < length word → is_hex_digit (slice_index word k) ≡ false → AllPass is_hex_digit (take k word)
+    → IsBadHexWord word (place_of word e)
+bad_at word e k given even below none digits =
+    let same : 0 + k ≡ k = omega arith in
+    let at = subst (λ n. IsBadHexWord word n) (sym same) (IsBadHexWord.no_digit k even below none digits) in grind (arith, common_steps)
+
+-- a word that does not decode is bad hex
+bad_hex : (word : List ℕ) (e : FromHexError) → decode_of word ≡ Err e → IsBadHexWord word (place_of word e)
+bad_hex word e refused =
+    elim (cases_eq (length word % 2) 1) [
+      | inl odd ↦
+          let is : Err OddLength ≡ Err e = sym (decode_of-odd word odd) ∙ refused in
+          let same : OddLength ≡ e = cc is in
+          subst (λ (f : FromHexError). IsBadHexWord word (place_of word f)) same (IsBadHexWord.odd odd)
+      | inr even ↦ grind (arith, common_steps, decode_pairs-err, decode_of-even, bad_at)
+    ]
+
+-- what fails to decode into that room does not decode
+decoded_err : (word : List ℕ) (room : ℕ) (r : Result Unit FromHexError) (out : List ℕ) (e : FromHexError) → room ≡ length word / 2
+    → MatchResult (decode_sized word room) (λ bytes. (r ≡ Ok tt) × (out ≡ bytes)) (λ f. r ≡ Err f) → r ≡ Err e → decode_of word ≡ Err e
+decoded_err word room r out e half given is = grind (arith, common_steps, half_sized)
 
 pub returns-in-Err-InvalidHexCharacter-clause-fault : goal.returns-in-Err-InvalidHexCharacter-clause-fault
 returns-in-Err-InvalidHexCharacter-clause-fault c =

@@ -1,11 +1,71 @@
-use Rattle.hart_cli.proofs.lemmas.ImageWord.{HasImageFault-one, IsDeviceOf-faultless, IsDeviceOf-one}
+use Rattle.std.proofs.Common.{◌⊎◌}
+use Rattle.std.proofs.lemmas.Grind.{common_steps}
+use Rattle.std.proofs.Common.{◌≡◌, ℕ, ◌+◌, ◌<◌, true, List, length, take, slice_index, Option, Some, None, subst, sym}
+use Rattle.std.proofs.Common.{◌∙◌, inl, inr, arith, refl, false, ◌/◌, ◌%◌, Result, Ok, Err}
+use Rattle.std.specs.Prelude.{MatchResult}
+use Rattle.std.specs.List.{AllPass}
+use Rattle.std.proofs.lemmas.List.{get_or-take, length-take}
+use Rattle.std.proofs.lemmas.List.Elements.{All-get_or}
+use Rattle.std.proofs.lemmas.Bool.{cases_eq, cases_order}
+use Rattle.hex.specs.Hex.{decode_of, decode_sized, is_hex_digit}
+use Rattle.hex.specs.declared.error.FromHexError.{FromHexError}
+use Rattle.hex.specs.declared.error.FromHexError.TheVariants.{InvalidHexCharacter, OddLength}
+use Rattle.hex.proofs.HexLemmas.{decode_of-even, decode_of-odd, decode_of-ok, decode_of-same}
+use Rattle.hex.proofs.HexLemmas.{decode_pairs-err, decode_sized-odd, decode_sized-twice}
+use Rattle.hart_device.specs.Device.{DeviceState}
+use Rattle.hart_device.specs.image.Image.{IsImageOf, IsImageFault}
+use Rattle.hart_device.specs.declared.fault.DeviceFault.{DeviceFault}
+use Rattle.hart_device.proofs.lemmas.Laws.{images_have_no_fault}
+use Rattle.hart_cli.specs.declared.fault.CliFault.{CliFault}
+use Rattle.hart_cli.specs.declared.fault.CliFault.TheVariants.{BadHex, Image}
+use Rattle.hart_cli.specs.ImageWord.{HasImageFault, IsBadHexWord, IsDeviceOf, IsImageWord}
 use Rattle.hart_cli.proofs.image_word.one_device.Goals as goal
+
+-- what makes a word bad hex at a place
+bad_parts : (word : List ℕ) (place : ℕ) → IsBadHexWord word place → ((length word % 2 ≡ 1) × (place ≡ length word))
+    ⊎ ((length word % 2 ≡ 0) × (place < length word) × (is_hex_digit (slice_index word place) ≡ false)
+    × AllPass is_hex_digit (take place word))
+bad_parts word _ (IsBadHexWord.odd is) = inl (is, refl)
+bad_parts word place (IsBadHexWord.no_digit _ even below none digits) = inr (even, below, none, digits)
+
+-- an element of the first ones, all of which are digits, is a digit
+digit_before : (word : List ℕ) (place n : ℕ) → place < n → n < length word → AllPass is_hex_digit (take n word)
+    → is_hex_digit (slice_index word place) ≡ true
+digit_before word place n before below digits = grind (arith, All-get_or, get_or-take, length-take)
+
+-- a word is bad hex at one place
+IsBadHexWord-one : (word : List ℕ) (place other : ℕ) → IsBadHexWord word place → IsBadHexWord word other → place ≡ other
+IsBadHexWord-one word place other p q =
+    grind (arith, bad_parts word place p, bad_parts word other q, digit_before word place other, digit_before word other place)
+
+-- a word that is bad hex is that of no image
+bad_is_no_word : (word : List ℕ) (place : ℕ) (bytes : List ℕ) → IsBadHexWord word place → IsImageWord word bytes → ⊥
+bad_is_no_word word place bytes bad writes = grind (arith, bad_parts, All-get_or, decode_of-ok word bytes writes)
+
+
+
+-- a call has one device
+IsDeviceOf-one : ((state other : DeviceState) (image : List ℕ) → IsImageOf state image → IsImageOf other image
+    → state.identity ≡ other.identity → state.cold_start ≡ other.cold_start → state ≡ other)
+    → (image : Option (List ℕ)) (device other : DeviceState) → IsDeviceOf image device → IsDeviceOf image other → device ≡ other
+IsDeviceOf-one states None device other p q = cc
+IsDeviceOf-one states (Some word) device other p q =
+    states device other q.2 (rw (decode_of-same word p.2 q.2 p.3 q.3) at p.4) q.4 (cc (p.0, q.0)) (cc (p.1, q.1))
+
+-- an image with a device has no fault
+IsDeviceOf-faultless : (image : Option (List ℕ)) (device : DeviceState) (fault : CliFault) → IsDeviceOf image device
+    → HasImageFault image fault → ⊥
+IsDeviceOf-faultless (Some word) device (BadHex place) p q = bad_is_no_word word place p.2 q p.3
+IsDeviceOf-faultless (Some word) device (Image fault) p q =
+    let same = decode_of-same word p.2 q.0 p.3 q.1 in
+    images_have_no_fault device q.0 fault (subst (λ (image : List ℕ). IsImageOf device image) same p.4) q.2
+IsDeviceOf-faultless _ device _ p q = absurd q
 
 pub returns-clause-one : goal.returns-clause-one
 returns-clause-one c = IsDeviceOf-one c.images_have_one_state.ensures.one_state
 
 pub returns-clause-one_fault : goal.returns-clause-one_fault
-returns-clause-one_fault c = HasImageFault-one c.bytes_have_one_image_fault.ensures
+returns-clause-one_fault c = grind (arith, common_steps, IsBadHexWord-one, bad_is_no_word, decode_of-same)
 
 pub returns-clause-no_fault : goal.returns-clause-no_fault
 returns-clause-no_fault c = IsDeviceOf-faultless

@@ -1,5 +1,58 @@
-use Rattle.hart_cli.proofs.lemmas.sim.Sim.{HasLineFault-one, IsSimulation-faultless, IsSimulation-one}
+use Rattle.std.proofs.lemmas.Grind.{common_steps}
+use Rattle.std.proofs.Common.{◌≡◌, ℕ, ◌+◌, ◌<◌, List, [], ◌∷◌, ◌++◌, length, take, get_or, refl, sym, ap, ◌∙◌}
+use Rattle.std.proofs.Common.{add-zero, arith, length-take}
+use Rattle.std.proofs.lemmas.List.{flat_map_more, take_more}
+use Rattle.std.specs.List.{enumerate_from, flat_map}
+use Rattle.hart_device.specs.Bench.{bench_process}
+use Rattle.hart_device.specs.Device.{DeviceState}
+use Rattle.hart_device.specs.declared.process.Process.{Process}
+use Rattle.hart_frame.proofs.lemmas.Laws.{bodies_are_unambiguous-one_body}
+use Rattle.hart_line.specs.world.Promises.{start_from}
+use Rattle.hart_line.specs.script.Rows.{IsScript}
+use Rattle.hart_master.specs.Master.{MasterState}
+use Rattle.hart_line.specs.world.Spoken.{AreSpoken, SpokenFrame}
+use Rattle.hart_line.specs.world.Step.{IsLast}
+use Rattle.hart_line.specs.world.World.{Start, World, state_of}
+use Rattle.hart_line.specs.declared.event.LineEvent.{LineEvent}
+use Rattle.hart_line.proofs.lemmas.Laws.{scripts_have_one_last_world-no_fault, scripts_have_one_last_world-one_fault}
+use Rattle.hart_line.proofs.lemmas.Laws.{scripts_have_one_last_world-one_world}
+use Rattle.hart_line.specs.declared.fault.LineFault.{LineFault}
+use Rattle.hart_line.specs.declared.fault.LineFault.TheVariants as line_faults
+use Rattle.hart_line.specs.declared.line.report.Outcome.{Outcome}
+use Rattle.hart_line.specs.declared.line.report.Spoken.{Spoken}
+use Rattle.hart_cli.specs.sim.Sim.{HasLineFault, IsSimulation, start_with}
+use Rattle.hart_cli.specs.sim.Text.{counter_line, image_line, outcome_line, spoken_line}
 use Rattle.hart_cli.proofs.sim.one_simulation.Goals as goal
+
+-- frames are spoken in one way
+AreSpoken-one : (frames : List SpokenFrame) (xs ys : List Spoken) → AreSpoken frames xs → AreSpoken frames ys → xs ≡ ys
+AreSpoken-one (said ∷ frames) (x ∷ xs) (y ∷ ys) p q =
+    let body = bodies_are_unambiguous-one_body said.frame x.bytes y.bytes p.0.body q.0.body in
+    grind (arith, common_steps, AreSpoken-one frames xs ys p.1 q.1)
+AreSpoken-one _ xs ys p q = grind arith
+
+-- an input has one text
+IsSimulation-one : (device : DeviceState) (input xs ys : List ℕ)
+    → IsSimulation device input xs → IsSimulation device input ys → xs ≡ ys
+IsSimulation-one device input xs ys p q =
+    grind (arith, scripts_have_one_last_world-one_world (start_with device) q.events p.world q.world, AreSpoken-one)
+
+-- an input with a text has no fault
+IsSimulation-faultless : (device : DeviceState) (input text : List ℕ) (fault : LineFault)
+    → IsSimulation device input text → HasLineFault device input fault → ⊥
+IsSimulation-faultless device input text (line_faults.Undetected number leg) p damage =
+    scripts_have_one_last_world-no_fault (start_with device) damage.events p.world number leg
+    (rw (p.script.1 ∙ sym damage.script.1) at p.last) damage.is_fault
+IsSimulation-faultless device input text _ p bad = grind arith
+
+-- an input has one fault
+HasLineFault-one : (device : DeviceState) (input : List ℕ)
+    (fault other : LineFault) → HasLineFault device input fault → HasLineFault device input other → fault ≡ other
+HasLineFault-one device input (line_faults.Undetected number leg) (line_faults.Undetected other another) p q =
+    let same = scripts_have_one_last_world-one_fault (start_with device) q.events number other leg another
+    (rw (p.script.1 ∙ sym q.script.1) at p.is_fault) q.is_fault in
+    cc (same.0, same.1)
+HasLineFault-one device input _ other p q = grind arith
 
 pub returns-clause-one_text : goal.returns-clause-one_text
 returns-clause-one_text c = IsSimulation-one

@@ -1,7 +1,44 @@
+use Rattle.std.proofs.lemmas.Grind.{common_steps}
+use Rattle.std.proofs.Common.{◌≡◌, ℕ, ◌+◌, ◌<◌, List, [], ◌∷◌, ◌++◌, length, take, get_or, refl, sym, ap, ◌∙◌}
+use Rattle.std.proofs.Common.{add-zero, arith, length-take}
+use Rattle.std.proofs.lemmas.List.{flat_map_more, take_more}
+use Rattle.std.specs.List.{enumerate_from, flat_map}
+use Rattle.hart_device.specs.Bench.{bench_process}
+use Rattle.hart_device.specs.Device.{DeviceState}
+use Rattle.hart_device.specs.declared.process.Process.{Process}
+use Rattle.hart_frame.proofs.lemmas.Laws.{bodies_are_unambiguous-one_body}
+use Rattle.hart_line.specs.world.Promises.{start_from}
+use Rattle.hart_line.specs.script.Rows.{IsScript}
+use Rattle.hart_master.specs.Master.{MasterState}
+use Rattle.hart_line.specs.world.Spoken.{AreSpoken, SpokenFrame}
+use Rattle.hart_line.specs.world.Step.{IsLast}
+use Rattle.hart_line.specs.world.World.{Start, World, state_of}
+use Rattle.hart_line.specs.declared.event.LineEvent.{LineEvent}
+use Rattle.hart_line.proofs.lemmas.Laws.{scripts_have_one_last_world-no_fault, scripts_have_one_last_world-one_fault}
+use Rattle.hart_line.proofs.lemmas.Laws.{scripts_have_one_last_world-one_world}
+use Rattle.hart_line.specs.declared.fault.LineFault.{LineFault}
+use Rattle.hart_line.specs.declared.fault.LineFault.TheVariants as line_faults
+use Rattle.hart_line.specs.declared.line.report.Outcome.{Outcome}
+use Rattle.hart_line.specs.declared.line.report.Spoken.{Spoken}
+use Rattle.hart_cli.specs.sim.Sim.{HasLineFault, IsSimulation, start_with}
+use Rattle.hart_cli.specs.sim.Text.{counter_line, image_line, outcome_line, spoken_line}
 use Rattle.std.proofs.Common.{arith, inr}
 use Rattle.std.proofs.lemmas.Result.{err_from_is_err_and}
-use Rattle.hart_cli.proofs.lemmas.sim.Sim.{IsSimulation-run, same_start}
 use Rattle.hart_cli.proofs.sim.simulation.Goals as goal
+
+-- a script starts with the device
+same_start : (device : DeviceState) (process : Process) (primary secondary : MasterState) → process ≡ bench_process
+    → primary.retries ≡ 3 → secondary.retries ≡ 3 → start_from device process primary secondary ≡ start_with device
+same_start device process primary secondary is_process is_primary is_secondary = rw (is_process, is_primary, is_secondary) refl
+
+-- the text of a script that was carried out
+IsSimulation-run : (first : DeviceState) (input : List ℕ) (start : Start) (events : List LineEvent) (device : DeviceState)
+    (outcomes : List Outcome) (world : World) (spoken : List Spoken) → start ≡ start_with first → IsScript input events
+    → IsLast start events world → device ≡ state_of start.device world → outcomes ≡ world.outcomes → AreSpoken world.spoken spoken
+    → IsSimulation first input ((flat_map spoken_line spoken ++ flat_map outcome_line (enumerate_from 1 outcomes))
+    ++ counter_line device ++ image_line device)
+IsSimulation-run first input start events device outcomes world spoken same script last device_is outcomes_are said =
+    grind (arith, common_steps)
 
 pub returns-clause-text : goal.returns-clause-text
 returns-clause-text c =

@@ -6,9 +6,6 @@ use Rattle.hart_cli.proofs.explain.data.push_refused.Goals as goal
 pub push_fields-rest-requires-clause-shown : goal.push_fields-rest-requires-clause-shown
 push_fields-rest-requires-clause-shown c = rw c.request_rows.ensures (request_rows-shown c.args.command)
 
-pub push_bytes_line-requires : goal.push_bytes_line-requires
-push_bytes_line-requires c = grind (arith, common_steps, length-drop, length-append)
-
 pub returns : goal.returns
 returns c = record {
   lines = rw (

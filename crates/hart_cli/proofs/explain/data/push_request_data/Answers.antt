@@ -1,5 +1,13 @@
+use Rattle.std.proofs.Common.{◌≡◌, ◌≤◌, ◌<◌, ℕ, Bool, true, false, List, [], ◌∷◌, drop, get_or, length, Option}
+use Rattle.std.proofs.Common.{refl, sym, ap, ◌∙◌, arith}
+use Rattle.std.specs.Prelude.{nat_lt, if◌then◌else◌}
+use Rattle.std.proofs.lemmas.Bool.Decides.{nat_tests}
+use Rattle.hart_commands.specs.ReplyData.{reply_reading}
+use Rattle.hart_commands.specs.RequestData.{Reading, request_reading}
+use Rattle.hart_commands.specs.declared.reply.Reply.{Reply}
+use Rattle.hart_cli.specs.explain.Data.{ignored_line, read_lines, replied_lines, reply_lines}
+use Rattle.hart_cli.specs.explain.Data.{request_lines}
 use Rattle.std.proofs.Common.{◌∙◌, Err, Ok, sym}
-use Rattle.hart_cli.proofs.lemmas.explain.Data.{request_lines-read}
 use Rattle.hart_cli.proofs.lemmas.explain.Fields.{request_rows-shown}
 use Rattle.hart_cli.proofs.explain.data.push_request_data.Goals as goal
 
@@ -7,13 +15,11 @@ pub push_taken-requires-clause-shown : goal.push_taken-requires-clause-shown
 push_taken-requires-clause-shown c = rw c.request_rows.ensures (request_rows-shown c.args.command)
 
 pub returns-in-Ok : goal.returns-in-Ok
+unfolding request_lines
 returns-in-Ok c = record {
-  lines = rw (request_lines-read c.args.command c.args.bytes.now (Ok c.in-Ok.request) (sym c.in-Ok.is ∙ c.read.ensures.read))
-      (rw (c.request_rows.ensures, c.data_len.ensures.len) at c.push_taken.ensures.lines);
+  lines = rw (← c.read.ensures.read, c.in-Ok.is) (rw (c.request_rows.ensures, c.data_len.ensures.len) at c.push_taken.ensures.lines);
 }
 
 pub returns-in-Err : goal.returns-in-Err
-returns-in-Err c = record {
-  lines = rw (request_lines-read c.args.command c.args.bytes.now (Err c.in-Err.code) (sym c.in-Err.is ∙ c.read.ensures.read))
-      c.push_no_request.ensures.lines;
-}
+unfolding request_lines
+returns-in-Err c = record { lines = rw (← c.read.ensures.read, c.in-Err.is) c.push_no_request.ensures.lines }

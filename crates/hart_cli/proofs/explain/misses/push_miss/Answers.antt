@@ -1,12 +1,6 @@
 use Rattle.std.proofs.Common.{append_assoc, arith}
 use Rattle.hart_cli.proofs.explain.misses.push_miss.Goals as goal
 
-pub overflow_add-from : goal.overflow_add-from
-overflow_add-from c = let fits = rw c.in-Faulty.is at c.requires.fits in omega arith
-
-pub overflow_add-from-in-BadCheck : goal.overflow_add-from-in-BadCheck
-overflow_add-from-in-BadCheck c = let fits = rw c.in-BadCheck.is at c.requires.fits in omega arith
-
 pub returns-in-Faulty-clause-words : goal.returns-in-Faulty-clause-words
 returns-in-Faulty-clause-words c =
     rw (

@@ -1,10 +1,26 @@
+use Rattle.std.proofs.Common.{◌≡◌, ◌≤◌, ◌<◌, ◌++◌, ℕ, List, [], ◌∷◌, codes, drop, length, map, refl, arith}
+use Rattle.std.proofs.lemmas.Bool.Decides.{nat_tests}
+use Rattle.std.specs.List.{flat_map}
+use Rattle.hart_cli.specs.declared.explain.status.NamedBit as code
+use Rattle.hart_cli.specs.explain.Status.{code_words, comm_faults, device_states, further, names_words, seen, separated, set_names}
+use Rattle.hart_cli.specs.explain.Status.{status_lines}
 use Rattle.std.proofs.Common.{arith}
 use Rattle.std.proofs.lemmas.Grind.{common_steps}
 use Rattle.std.proofs.Common.{append_assoc, codes}
 use Rattle.hart_cli.specs.explain.Status.{code_words, device_states, names_words, set_names}
 use Rattle.hart_cli.specs.explain.Words.{said_line}
-use Rattle.hart_cli.proofs.lemmas.explain.Status.{status_lines-code, status_lines-faults}
 use Rattle.hart_cli.proofs.explain.status.push_status.Goals as goal
+
+-- a response code and a device status
+status_lines-code : (first second : ℕ) → first < 128
+    → status_lines first second ≡ said_line (codes "response code") (code_words first)
+    ++ said_line (codes "device status") (names_words (set_names second device_states))
+status_lines-code first second below = grind (arith, nat_tests)
+
+-- communication faults
+status_lines-faults : (first second : ℕ) → 128 ≤ first
+    → status_lines first second ≡ said_line (codes "communication faults") (names_words (set_names first comm_faults))
+status_lines-faults first second above = grind (arith, nat_tests)
 
 pub returns-then-first-lt128-clause-lines : goal.returns-then-first-lt128-clause-lines
 returns-then-first-lt128-clause-lines c =

@@ -1,17 +1,37 @@
+use Rattle.std.proofs.lemmas.Grind.{common_steps}
+use Rattle.std.proofs.Common.{◌≡◌, ◌∙◌, [], ap, arith, subst, codes, List, None, Option, option_map}
+use Rattle.std.proofs.Common.{Bool, Some, sym, true, ℕ, if◌then◌else◌}
+use Rattle.std.specs.Option.{option_and_then}
+use Rattle.std.proofs.lemmas.Bool.Decides.{nat_tests}
+use Rattle.clap.specs.Words.{App, HasKind, HasMatchesOf, Row, Text, app_of, fault_of, first_of, is_simple, is_simple_and_free}
+use Rattle.clap.specs.Words.{subcommand_name_of, subcommand_of, subcommand_rows_of}
+use Rattle.clap.specs.declared.builder.command.Command.{Command}
+use Rattle.clap.specs.declared.error.Error.{Error}
+use Rattle.clap.specs.declared.parser.matches.ArgMatches.{ArgMatches}
+use Rattle.hart_frame.specs.wire.Message.{IsPreambleCount}
+use Rattle.hart_cli.specs.program.CommandLine.{Calls, call_of, hart_app, message_words, preambles_of, words_of}
+use Rattle.hart_cli.specs.encode.MessageWords.{MessageWords}
+use Rattle.hart_cli.specs.program.Program.{HasPreambleCount}
+use Rattle.hart_cli.specs.declared.program.command_line.Call.{Call}
+use Rattle.hart_cli.specs.declared.program.command_line.Call.TheVariants.{Answer, Dump, Encode, Explain, Sim}
 use Rattle.std.proofs.Common.{map, string_bytes}
 use Rattle.std.proofs.lemmas.Result.{err_from_is_err_and}
-use Rattle.hart_cli.proofs.lemmas.program.CommandLine.{calls_given, gives_fault, meets_call}
 use Rattle.hart_cli.proofs.program.command_line.requested_call.Goals as goal
 
 pub returns-in_err-matches-clause-refused : goal.returns-in_err-matches-clause-refused
 returns-in_err-matches-clause-refused c =
     let given = err_from_is_err_and c.from_residual-in_err-matches.result c.from_residual-in_err-matches.ensures.1 in
+    let is = c.in_ok-hart_command.ensures in
     rw (given.1, given.2)
-    (gives_fault _ (map string_bytes c.args.words.now) c.in_err-matches.field-0.0 c.in_ok-hart_command.ensures
-    c.in_err-matches.ensures.kinds)
+    (subst (λ (a : App). HasKind (fault_of a (map string_bytes c.args.words.now)) c.in_err-matches.field-0.0) is
+    (c.in_err-matches.ensures.kinds (ap is_simple_and_free is)))
 
 pub returns-in-Some-clause-call : goal.returns-in-Some-clause-call
 returns-in-Some-clause-call c =
+    let words = map string_bytes c.args.words.now in
+    let is = c.in_ok-hart_command.ensures in
     let matched = c.in_ok-matches.ensures in
-    let meets = meets_call _ (map string_bytes c.args.words.now) _ c.in_ok-hart_command.ensures matched.kinds matched.matches in
-    calls_given _ _ _ meets c.in-Some.ensures
+    record {
+      no_fault = ap (λ a. fault_of a words) (sym is) ∙ matched.kinds (ap is_simple_and_free is);
+      gives = ap call_of (sym ((matched.matches (ap is_simple is)).1 ∙ ap (λ a. subcommand_of a words) is)) ∙ sym c.in-Some.ensures;
+    }

@@ -6,8 +6,5 @@ use Rattle.hart_cli.proofs.lemmas.text.HexText.{hex_items-first, hex_items-more}
 use Rattle.hart_cli.proofs.text.hex_text.push_hex_items.Goals as goal
 use Rattle.hart_cli.proofs.text.hex_text.push_hex_items.Goals.{then-index-gt0, else-index-gt0}
 
-pub loop-index-init : goal.loop-index-init
-loop-index-init g c = record { written = sym (append-nil _); few = omega arith }
-
 pub loop-index-preserved : goal.loop-index-preserved
 loop-index-preserved g c = grind (arith, common_steps, else-index-gt0, hex_items-first, hex_items-more, length-append, then-index-gt0)

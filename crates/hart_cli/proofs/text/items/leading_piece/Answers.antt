@@ -48,11 +48,5 @@ is_spelling text spelled (x ∷ tail) e long = absurd (omega (arith, length-appe
 pub returns-then-is_separator : goal.returns-then-is_separator
 returns-then-is_separator c = grind (arith, begins_as_separator c.args.text.now, c.in_ok-first.ensures.item)
 
-pub returns-in_err-item : goal.returns-in_err-item
-returns-in_err-item c = grind (arith, common_steps, no_piece_begins, iff_false)
-
-pub returns-then-item-text : goal.returns-then-item-text
-returns-then-item-text c = grind (arith, common_steps, is_spelling, no_piece_begins, iff_false, one_whole_item)
-
 pub returns : goal.returns
 returns c = begins_as_piece _ _ _ c.in_ok-item.ensures c.if-item-text.false

@@ -88,6 +88,3 @@ returns-then-text-gt6-clause-may c = grind (arith, common_steps, longer)
 
 pub returns-clause-may : goal.returns-clause-may
 returns-clause-may c = found_if _ _ _ _ c.is_some.ensures c.copy_from_slice.ensures.after c.requires c.leading_piece.ensures
-
-pub returns-clause-short : goal.returns-clause-short
-returns-clause-short c = grind (arith, common_steps, found_if, longer)

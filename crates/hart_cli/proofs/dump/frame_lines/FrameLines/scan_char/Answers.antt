@@ -5,9 +5,6 @@ use Rattle.hart_frame.specs.scan.Scanner.{Scan}
 use Rattle.hart_cli.proofs.lemmas.dump.FrameLines.{keeps_nothing, waits_for_more}
 use Rattle.hart_cli.proofs.dump.frame_lines.FrameLines.scan_char.Goals as goal
 
-pub returns-in_default : goal.returns-in_default
-returns-in_default c = rw c.in_default.is (record { scans = keeps_nothing _ _; waiting = c.requires.waiting })
-
 pub returns : goal.returns
 returns c =
     let going = ap (λ (scan : Scan). scan.finished) c.push.ensures.heard ∙ c.requires.waiting.going in

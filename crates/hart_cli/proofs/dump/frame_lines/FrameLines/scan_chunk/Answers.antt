@@ -6,9 +6,6 @@ use Rattle.hart_cli.proofs.lemmas.dump.FrameLines.{faultless_parts, keeps_no_fra
 use Rattle.hart_cli.proofs.lemmas.dump.FrameLines.{keeps_within, length-faultless, waits_for_more}
 use Rattle.hart_cli.proofs.dump.frame_lines.FrameLines.scan_chunk.Goals as goal
 
-pub loop-taken-init : goal.loop-taken-init
-loop-taken-init c = record { within = omega arith; scans = keeps_nothing _ _; waiting = c.requires.waiting }
-
 -- so much was heard of a chunk
 heard : (chunk : List ℕ) (n : ℕ) → n ≤ length chunk → length (faultless (take n chunk)) ≡ n
 heard chunk n within = length-faultless (take n chunk) ∙ length-take-le n chunk within

@@ -1,8 +1,44 @@
+use Rattle.std.proofs.lemmas.Grind.{common_steps}
+use Rattle.std.proofs.Common.{◌≡◌, ℕ, ◌+◌, ◌<◌, List, [], ◌∷◌, ◌++◌, length, take, get_or, refl, sym, ap, ◌∙◌}
+use Rattle.std.proofs.Common.{add-zero, arith, length-take}
+use Rattle.std.proofs.lemmas.List.{flat_map_more, take_more}
+use Rattle.std.specs.List.{enumerate_from, flat_map}
+use Rattle.hart_device.specs.Bench.{bench_process}
+use Rattle.hart_device.specs.Device.{DeviceState}
+use Rattle.hart_device.specs.declared.process.Process.{Process}
+use Rattle.hart_frame.proofs.lemmas.Laws.{bodies_are_unambiguous-one_body}
+use Rattle.hart_line.specs.world.Promises.{start_from}
+use Rattle.hart_line.specs.script.Rows.{IsScript}
+use Rattle.hart_master.specs.Master.{MasterState}
+use Rattle.hart_line.specs.world.Spoken.{AreSpoken, SpokenFrame}
+use Rattle.hart_line.specs.world.Step.{IsLast}
+use Rattle.hart_line.specs.world.World.{Start, World, state_of}
+use Rattle.hart_line.specs.declared.event.LineEvent.{LineEvent}
+use Rattle.hart_line.proofs.lemmas.Laws.{scripts_have_one_last_world-no_fault, scripts_have_one_last_world-one_fault}
+use Rattle.hart_line.proofs.lemmas.Laws.{scripts_have_one_last_world-one_world}
+use Rattle.hart_line.specs.declared.fault.LineFault.{LineFault}
+use Rattle.hart_line.specs.declared.fault.LineFault.TheVariants as line_faults
+use Rattle.hart_line.specs.declared.line.report.Spoken.{Spoken}
+use Rattle.hart_cli.specs.sim.Sim.{HasLineFault, IsSimulation, start_with}
+use Rattle.hart_cli.specs.sim.Text.{counter_line, image_line, outcome_line, spoken_line}
 use Rattle.std.proofs.Common.{◌+◌, ◌∙◌, ap, refl}
 use Rattle.hart_line.specs.declared.line.report.Outcome.{Outcome}
 use Rattle.hart_cli.specs.sim.Text.{outcome_line}
-use Rattle.hart_cli.proofs.lemmas.sim.Sim.{outcomes_more}
 use Rattle.hart_cli.proofs.sim.text.SimText.push_outcomes.Goals as goal
+
+-- the things of a list that goes on are numbered on
+numbered_on : {X : Type 0} (n : ℕ) (xs more : List X)
+    → enumerate_from n (xs ++ more) ≡ enumerate_from n xs ++ enumerate_from (n + length xs) more
+numbered_on n [] more = ap (λ (k : ℕ). enumerate_from k more) (sym (add-zero n))
+numbered_on n (x ∷ xs) more = grind (arith, numbered_on (n + 1) xs more)
+
+-- the line of one more submission
+outcomes_more : (text before line : List ℕ) (outcomes : List Outcome) (i : ℕ) (d : Outcome) → i < length outcomes
+    → text ≡ before ++ flat_map outcome_line (enumerate_from 1 (take i outcomes))
+    → line ≡ outcome_line (i + 1, get_or outcomes i d)
+    → text ++ line ≡ before ++ flat_map outcome_line (enumerate_from 1 (take (i + 1) outcomes))
+outcomes_more text before line outcomes i d below text_is line_is =
+    grind (arith, common_steps, flat_map_more, length-take, numbered_on, take_more)
 
 pub loop-index-preserved : goal.loop-index-preserved
 loop-index-preserved c = λ text keeps.

@@ -1,2 +1,0 @@
--- `hart sim`.
-pub mod Sim
