@@ -1,31 +1,19 @@
 use Rattle.std.proofs.Common.{arith}
-use Rattle.std.proofs.Common.{◌≡◌, ℕ, List, Option, None, Result, Err}
+use Rattle.std.proofs.Common.{◌≡◌, ℕ, List, Option, Result, Err}
 use Rattle.std.specs.Result.{IsErrAnd}
-use Rattle.hart_frame.specs.wire.FrameParts.{FrameParts}
-use Rattle.hart_device.specs.Bench.{bench_process}
-use Rattle.hart_device.specs.answer.Delivery.{Brings, Brought, answer_to}
-use Rattle.hart_device.specs.Device.{DeviceState}
-use Rattle.hart_device.specs.declared.process.Process.{Process}
-use Rattle.hart_cli.specs.declared.input.InputEnd.TheVariants.{Ended}
-use Rattle.hart_cli.specs.input.Input.{CameTo}
-use Rattle.hart_device.proofs.lemmas.Laws.{deliveries_bring_one-one}
-use Rattle.hart_cli.specs.Answer.{IsAnswer, IsAnswerText, IsTextFor}
-use Rattle.hart_cli.proofs.lemmas.text.MessageLine.{IsMessageLine-one}
 use Rattle.std.proofs.lemmas.Grind.{common_steps}
 use Rattle.std.proofs.Common.{◌≡◌, ℕ, List, [], ◌++◌, Option, Some, Err, arith}
 use Rattle.hart_frame.specs.heard.Character.{Character}
 use Rattle.hart_frame.specs.scan.Scanner.{Scan, finishing}
-use Rattle.hart_frame.proofs.lemmas.Laws.{frames_are_unambiguous-one_list}
 use Rattle.hart_cli.specs.declared.fault.CliFault.{CliFault}
 use Rattle.hart_cli.specs.declared.dump.frame_lines.FrameLines.{FrameLines}
-use Rattle.hart_cli.specs.dump.Dump.{AreFrameLines, DumpOutcome, HasDump, IsDump, StopsWriting}
+use Rattle.hart_cli.specs.dump.Dump.{DumpOutcome, HasDump}
 use Rattle.hart_cli.specs.dump.FrameLines.{GivesAll, ScansAll}
 use Rattle.hart_cli.specs.input.Input.{Ending}
 use Rattle.hart_cli.specs.text.InputChars.{HasChars}
-use Rattle.hart_cli.specs.stream.Stream.{FailsToWrite, Stream, WritesAll}
+use Rattle.hart_cli.specs.stream.Stream.{Stream, WritesAll}
 use Rattle.hart_cli.proofs.lemmas.dump.FrameLines.{all_lines}
 use Rattle.hart_cli.proofs.lemmas.dump.ScanInput.{stops_in}
-use Rattle.hart_cli.proofs.lemmas.text.InputChars.{one_input}
 use Rattle.hart_cli.proofs.lemmas.dump.Writes.{FailsToWrite-on, WritesAll-on}
 use Rattle.hart_cli.specs.declared.fault.CliFault.TheVariants.{Write}
 use Rattle.hart_cli.proofs.dump.dump.Goals as goal

@@ -1,9 +1,6 @@
 use Rattle.std.proofs.Common.{arith}
 use Rattle.std.proofs.lemmas.Grind.{common_steps}
-use Rattle.std.proofs.Common.{◌≡◌, ℕ, List}
-use Rattle.hart_frame.specs.wire.FrameParts.{FrameParts}
-use Rattle.hart_cli.specs.encode.Encode.{IsEncoding, IsRequestOf}
-use Rattle.hart_cli.specs.encode.MessageWords.{MessageWords}
+use Rattle.std.proofs.Common.{◌≡◌}
 use Rattle.hart_cli.proofs.lemmas.text.MessageLine.{IsMessageLine-one}
 use Rattle.hart_cli.proofs.encode.one_encoding.Goals as goal
 

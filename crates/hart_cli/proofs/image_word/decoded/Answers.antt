@@ -1,23 +1,15 @@
 use Rattle.std.proofs.lemmas.Grind.{common_steps}
-use Rattle.std.proofs.Common.{◌≡◌, ℕ, ◌+◌, ◌<◌, true, List, length, take, slice_index, Option, Some, None, subst, sym}
-use Rattle.std.proofs.Common.{◌∙◌, inl, inr, arith, refl, false, ◌/◌, ◌%◌, Result, Ok, Err}
+use Rattle.std.proofs.Common.{◌≡◌, ℕ, ◌+◌, ◌<◌, List, length, take, slice_index, subst, sym}
+use Rattle.std.proofs.Common.{◌∙◌, inl, inr, arith, false, ◌/◌, ◌%◌, Result, Ok, Err}
 use Rattle.std.specs.Prelude.{MatchResult}
 use Rattle.std.specs.List.{AllPass}
-use Rattle.std.proofs.lemmas.List.{get_or-take, length-take}
-use Rattle.std.proofs.lemmas.List.Elements.{All-get_or}
-use Rattle.std.proofs.lemmas.Bool.{cases_eq, cases_order}
+use Rattle.std.proofs.lemmas.Bool.{cases_eq}
 use Rattle.hex.specs.Hex.{decode_of, decode_sized, is_hex_digit}
 use Rattle.hex.specs.declared.error.FromHexError.{FromHexError}
 use Rattle.hex.specs.declared.error.FromHexError.TheVariants.{InvalidHexCharacter, OddLength}
-use Rattle.hex.proofs.HexLemmas.{decode_of-even, decode_of-odd, decode_of-ok, decode_of-same}
+use Rattle.hex.proofs.HexLemmas.{decode_of-even, decode_of-odd}
 use Rattle.hex.proofs.HexLemmas.{decode_pairs-err, decode_sized-odd, decode_sized-twice}
-use Rattle.hart_device.specs.Device.{DeviceState}
-use Rattle.hart_device.specs.image.Image.{IsImageOf, IsImageFault}
-use Rattle.hart_device.specs.declared.fault.DeviceFault.{DeviceFault}
-use Rattle.hart_device.proofs.lemmas.Laws.{images_have_no_fault}
-use Rattle.hart_cli.specs.declared.fault.CliFault.{CliFault}
-use Rattle.hart_cli.specs.declared.fault.CliFault.TheVariants.{BadHex, Image}
-use Rattle.hart_cli.specs.ImageWord.{HasImageFault, IsBadHexWord, IsDeviceOf, IsImageWord}
+use Rattle.hart_cli.specs.ImageWord.{IsBadHexWord}
 use Rattle.std.proofs.Common.{◌/◌, ◌∙◌, ap, inl, length}
 use Rattle.std.proofs.lemmas.List.{length-replicate}
 use Rattle.std.proofs.Common.{arith}

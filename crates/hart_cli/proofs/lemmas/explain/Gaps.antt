@@ -3,7 +3,7 @@ use Rattle.std.proofs.lemmas.Grind.{common_steps}
 use Rattle.std.proofs.Common.{◌≡◌, ◌≢◌, ◌≤◌, ◌<◌, ◌+◌, ◌-◌, ℕ, zero, suc, Bool, true, false, List, [], ◌∷◌, ◌++◌, length, get_or, drop}
 use Rattle.std.proofs.Common.{take}
 use Rattle.std.proofs.Common.{Option, None, Some, inl, inr, refl, sym, ap, append_assoc, arith, length-append, length-drop}
-use Rattle.std.specs.Prelude.{◌/◌, ◌%◌, ◌⊎◌, ◌==◌, All, AllPairs, Contains, IsSome, codes, decimal, not}
+use Rattle.std.specs.Prelude.{◌/◌, ◌%◌, ◌==◌, All, AllPairs, Contains, decimal, not}
 use Rattle.std.specs.List.{flat_map, list_all, range_with_len}
 use Rattle.std.specs.Option.{option_map_or}
 use Rattle.std.specs.Fmt.{digit_glyph, digits, digits_onto}
@@ -13,7 +13,7 @@ use Rattle.std.proofs.lemmas.Bool.Decides.{nat_tests}
 use Rattle.std.proofs.lemmas.List.{append-nil, get_or_past, length-take-le, take-append-drop}
 use Rattle.std.proofs.lemmas.List.Folds.{list_all-append, list_all_at}
 use Rattle.std.proofs.lemmas.List.Sums.{AllPass-from_list_all}
-use Rattle.std.proofs.lemmas.List.Elements.{All-drop, Contains-append_cases, Contains-append_left}
+use Rattle.std.proofs.lemmas.List.Elements.{Contains-append_cases, Contains-append_left}
 use Rattle.std.proofs.lemmas.List.Elements.{Contains-append_right, Contains-get_or}
 use Rattle.std.proofs.lemmas.List.Kept.{AllPairs-cons}
 use Rattle.hex.specs.Hex.{encode_with, upper_digits}
@@ -21,13 +21,12 @@ use Rattle.hart_frame.specs.heard.Character.{Character}
 use Rattle.hart_frame.specs.heard.Frames.{AreFrames, first, moved, none}
 use Rattle.hart_frame.specs.heard.Miss.{HasFrameAt, miss_of}
 use Rattle.hart_frame.specs.heard.Place.{StandsIn}
-use Rattle.hart_frame.specs.heard.Start.{IsStart}
 use Rattle.hart_frame.specs.declared.heard.found.Found.{Found}
 use Rattle.hart_frame.specs.declared.heard.miss.Miss.{Miss}
 use Rattle.hart_frame.specs.declared.heard.miss.Miss.TheVariants.{Burst, EndsBeforeByteCount}
 use Rattle.hart_frame.specs.declared.heard.miss.Miss.TheVariants.{OnePreamble}
-use Rattle.hart_cli.specs.explain.Gaps.{IsGap, IsOneLine, missed, missed_at, MissedPlace}
-use Rattle.hart_cli.specs.explain.Misses.{byte_digits, characters_word, gap_text, miss_line, miss_words, place_text}
+use Rattle.hart_cli.specs.explain.Gaps.{IsGap, missed, missed_at, MissedPlace}
+use Rattle.hart_cli.specs.explain.Misses.{byte_digits, characters_word, miss_line, miss_words, place_text}
 
 -- what is said of places is the lines of their misses
 said_of : (from place : ℕ) (found : Option Miss) → miss_line from place found

@@ -1,13 +1,10 @@
 use Rattle.std.proofs.lemmas.Grind.{common_steps}
-use Rattle.std.proofs.Common.{◌≡◌, ◌∙◌, [], ap, arith, subst, codes, List, None, Option, option_map}
-use Rattle.std.proofs.Common.{Bool, Some, sym, true, ℕ, if◌then◌else◌}
+use Rattle.std.proofs.Common.{◌≡◌, arith, codes, List, None, Option, option_map}
+use Rattle.std.proofs.Common.{Bool, Some, ℕ, if◌then◌else◌}
 use Rattle.std.specs.Option.{option_and_then}
 use Rattle.std.proofs.lemmas.Bool.Decides.{nat_tests}
-use Rattle.clap.specs.Words.{App, HasKind, HasMatchesOf, Row, Text, app_of, fault_of, first_of, is_simple, is_simple_and_free}
-use Rattle.clap.specs.Words.{subcommand_name_of, subcommand_of, subcommand_rows_of}
-use Rattle.clap.specs.declared.builder.command.Command.{Command}
-use Rattle.clap.specs.declared.error.Error.{Error}
-use Rattle.clap.specs.declared.parser.matches.ArgMatches.{ArgMatches}
+use Rattle.clap.specs.Words.{Row, Text, first_of}
+use Rattle.clap.specs.Words.{subcommand_of}
 use Rattle.hart_frame.specs.wire.Message.{IsPreambleCount}
 use Rattle.hart_cli.specs.program.CommandLine.{Calls, call_of, hart_app, message_words, preambles_of, words_of}
 use Rattle.hart_cli.specs.encode.MessageWords.{MessageWords}

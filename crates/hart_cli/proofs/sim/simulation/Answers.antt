@@ -1,26 +1,20 @@
 use Rattle.std.proofs.lemmas.Grind.{common_steps}
-use Rattle.std.proofs.Common.{◌≡◌, ℕ, ◌+◌, ◌<◌, List, [], ◌∷◌, ◌++◌, length, take, get_or, refl, sym, ap, ◌∙◌}
-use Rattle.std.proofs.Common.{add-zero, arith, length-take}
-use Rattle.std.proofs.lemmas.List.{flat_map_more, take_more}
+use Rattle.std.proofs.Common.{◌≡◌, ℕ, List, ◌++◌, refl}
+use Rattle.std.proofs.Common.{arith}
 use Rattle.std.specs.List.{enumerate_from, flat_map}
 use Rattle.hart_device.specs.Bench.{bench_process}
 use Rattle.hart_device.specs.Device.{DeviceState}
 use Rattle.hart_device.specs.declared.process.Process.{Process}
-use Rattle.hart_frame.proofs.lemmas.Laws.{bodies_are_unambiguous-one_body}
 use Rattle.hart_line.specs.world.Promises.{start_from}
 use Rattle.hart_line.specs.script.Rows.{IsScript}
 use Rattle.hart_master.specs.Master.{MasterState}
-use Rattle.hart_line.specs.world.Spoken.{AreSpoken, SpokenFrame}
+use Rattle.hart_line.specs.world.Spoken.{AreSpoken}
 use Rattle.hart_line.specs.world.Step.{IsLast}
 use Rattle.hart_line.specs.world.World.{Start, World, state_of}
 use Rattle.hart_line.specs.declared.event.LineEvent.{LineEvent}
-use Rattle.hart_line.proofs.lemmas.Laws.{scripts_have_one_last_world-no_fault, scripts_have_one_last_world-one_fault}
-use Rattle.hart_line.proofs.lemmas.Laws.{scripts_have_one_last_world-one_world}
-use Rattle.hart_line.specs.declared.fault.LineFault.{LineFault}
-use Rattle.hart_line.specs.declared.fault.LineFault.TheVariants as line_faults
 use Rattle.hart_line.specs.declared.line.report.Outcome.{Outcome}
 use Rattle.hart_line.specs.declared.line.report.Spoken.{Spoken}
-use Rattle.hart_cli.specs.sim.Sim.{HasLineFault, IsSimulation, start_with}
+use Rattle.hart_cli.specs.sim.Sim.{IsSimulation, start_with}
 use Rattle.hart_cli.specs.sim.Text.{counter_line, image_line, outcome_line, spoken_line}
 use Rattle.std.proofs.Common.{arith, inr}
 use Rattle.std.proofs.lemmas.Result.{err_from_is_err_and}

@@ -1,5 +1,4 @@
-use Rattle.std.proofs.lemmas.Grind.{common_steps}
-use Rattle.std.proofs.Common.{append_assoc, arith, length-append, length-drop}
+use Rattle.std.proofs.Common.{append_assoc}
 use Rattle.hart_cli.proofs.lemmas.explain.Fields.{request_rows-shown}
 use Rattle.hart_cli.proofs.explain.data.push_refused.Goals as goal
 

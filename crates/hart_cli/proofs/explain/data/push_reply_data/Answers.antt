@@ -1,14 +1,11 @@
 use Rattle.std.proofs.lemmas.Bool.Decides.{nat_tests}
-use Rattle.std.proofs.Common.{◌≡◌, ◌≤◌, ◌<◌, ℕ, Bool, true, false, List, [], ◌∷◌, drop, get_or, length, Option}
-use Rattle.std.proofs.Common.{refl, sym, ap, ◌∙◌, arith}
-use Rattle.std.specs.Prelude.{nat_lt, if◌then◌else◌}
+use Rattle.std.proofs.Common.{◌≡◌, ◌≤◌, ◌<◌, ℕ, true, false, List, [], ◌∷◌, drop, get_or, length}
+use Rattle.std.proofs.Common.{refl, arith}
+use Rattle.std.specs.Prelude.{nat_lt}
 use Rattle.hart_commands.specs.ReplyData.{reply_reading}
-use Rattle.hart_commands.specs.RequestData.{Reading, request_reading}
-use Rattle.hart_commands.specs.declared.reply.Reply.{Reply}
-use Rattle.hart_cli.specs.explain.Data.{ignored_line, read_lines, replied_lines, reply_lines}
-use Rattle.hart_cli.specs.explain.Data.{request_lines}
+use Rattle.hart_cli.specs.explain.Data.{ignored_line, replied_lines, reply_lines}
 use Rattle.std.proofs.lemmas.Grind.{common_steps}
-use Rattle.std.proofs.Common.{◌∙◌, None, Some, sym, arith}
+use Rattle.std.proofs.Common.{arith}
 use Rattle.std.proofs.lemmas.List.{append-nil, take_rest}
 use Rattle.hart_cli.proofs.explain.data.push_reply_data.Goals as goal
 
@@ -41,17 +38,17 @@ returns-then-first-gt127 c = grind (arith, common_steps, reply_lines-faults, tak
 pub returns-in-Some : goal.returns-in-Some
 returns-in-Some c = record {
   lines = rw (
-      reply_lines-read c.args.command c.args.payload.now c.in-len2-up.len_at_least (omega arith),
-      ← c.read.ensures.read,
-      c.in-Some.is,
-      ) (rw take_rest at c.push_replied.ensures.lines);
+    reply_lines-read c.args.command c.args.payload.now c.in-len2-up.len_at_least (omega arith),
+    ← c.read.ensures.read,
+    c.in-Some.is,
+  ) (rw take_rest at c.push_replied.ensures.lines);
 }
 
 pub returns-in-None : goal.returns-in-None
 returns-in-None c = record {
   lines = rw (
-      reply_lines-read c.args.command c.args.payload.now c.in-len2-up.len_at_least (omega arith),
-      ← c.read.ensures.read,
-      c.in-None.is,
-      ) (rw take_rest at c.push_no_reply.ensures.line);
+    reply_lines-read c.args.command c.args.payload.now c.in-len2-up.len_at_least (omega arith),
+    ← c.read.ensures.read,
+    c.in-None.is,
+  ) (rw take_rest at c.push_no_reply.ensures.line);
 }

@@ -1,13 +1,4 @@
-use Rattle.std.proofs.Common.{◌≡◌, ◌≤◌, ◌<◌, ℕ, Bool, true, false, List, [], ◌∷◌, drop, get_or, length, Option}
-use Rattle.std.proofs.Common.{refl, sym, ap, ◌∙◌, arith}
-use Rattle.std.specs.Prelude.{nat_lt, if◌then◌else◌}
-use Rattle.std.proofs.lemmas.Bool.Decides.{nat_tests}
-use Rattle.hart_commands.specs.ReplyData.{reply_reading}
-use Rattle.hart_commands.specs.RequestData.{Reading, request_reading}
-use Rattle.hart_commands.specs.declared.reply.Reply.{Reply}
-use Rattle.hart_cli.specs.explain.Data.{ignored_line, read_lines, replied_lines, reply_lines}
 use Rattle.hart_cli.specs.explain.Data.{request_lines}
-use Rattle.std.proofs.Common.{◌∙◌, Err, Ok, sym}
 use Rattle.hart_cli.proofs.lemmas.explain.Fields.{request_rows-shown}
 use Rattle.hart_cli.proofs.explain.data.push_request_data.Goals as goal
 

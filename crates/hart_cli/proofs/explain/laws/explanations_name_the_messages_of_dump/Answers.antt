@@ -5,12 +5,11 @@ use Rattle.hart_frame.specs.heard.Character.{Character}
 use Rattle.hart_frame.proofs.lemmas.Laws.{frames_are_unambiguous-one_list}
 use Rattle.hart_cli.specs.declared.fault.CliFault.{CliFault}
 use Rattle.hart_cli.specs.declared.input.InputEnd.{InputEnd}
-use Rattle.hart_cli.specs.dump.Dump.{AreFrameLines, IsDump}
+use Rattle.hart_cli.specs.dump.Dump.{AreFrameLines}
 use Rattle.hart_cli.specs.explain.Dumped.{AreOfOneHearing}
-use Rattle.hart_cli.specs.explain.Explain.{IsExplanation}
 use Rattle.hart_cli.specs.explain.Explanation.{IsExplanationOf}
 use Rattle.hart_cli.specs.explain.Heard.{IsHeard}
-use Rattle.hart_cli.specs.input.Input.{CameTo, Left}
+use Rattle.hart_cli.specs.input.Input.{Left}
 use Rattle.hart_cli.specs.text.InputChars.{HasChars, decided_bad_hex}
 use Rattle.hart_cli.proofs.lemmas.explain.Heard.{IsHeard-one}
 use Rattle.hart_cli.proofs.explain.laws.explanations_name_the_messages_of_dump.Goals as goal

@@ -1,4 +1,4 @@
-use Rattle.std.proofs.Common.{append_assoc, arith}
+use Rattle.std.proofs.Common.{append_assoc}
 use Rattle.hart_cli.proofs.explain.misses.push_miss.Goals as goal
 
 pub returns-in-Faulty-clause-words : goal.returns-in-Faulty-clause-words

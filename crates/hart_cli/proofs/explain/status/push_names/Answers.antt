@@ -1,9 +1,6 @@
-use Rattle.std.proofs.Common.{◌≡◌, ◌≤◌, ◌<◌, ◌++◌, ℕ, List, [], ◌∷◌, codes, drop, length, map, refl, arith}
-use Rattle.std.proofs.lemmas.Bool.Decides.{nat_tests}
+use Rattle.std.proofs.Common.{◌≡◌, ◌≤◌, ◌<◌, ℕ, List, [], ◌∷◌, codes, drop, length, map, refl, arith}
 use Rattle.hart_cli.specs.declared.explain.status.NamedBit as code
-use Rattle.hart_cli.specs.explain.Status.{code_words, comm_faults, device_states, further, names_words, seen, separated, set_names}
-use Rattle.hart_cli.specs.explain.Status.{status_lines}
-use Rattle.hart_cli.specs.explain.Words.{said_line}
+use Rattle.hart_cli.specs.explain.Status.{further, names_words, seen, separated, set_names}
 use Rattle.std.proofs.Common.{arith}
 use Rattle.std.proofs.lemmas.Grind.{common_steps}
 use Rattle.std.proofs.lemmas.List.{take_rest}

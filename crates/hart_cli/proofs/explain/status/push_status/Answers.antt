@@ -1,8 +1,6 @@
-use Rattle.std.proofs.Common.{◌≡◌, ◌≤◌, ◌<◌, ◌++◌, ℕ, List, [], ◌∷◌, codes, drop, length, map, refl, arith}
+use Rattle.std.proofs.Common.{◌≡◌, ◌≤◌, ◌<◌, ◌++◌, ℕ, codes, arith}
 use Rattle.std.proofs.lemmas.Bool.Decides.{nat_tests}
-use Rattle.std.specs.List.{flat_map}
-use Rattle.hart_cli.specs.declared.explain.status.NamedBit as code
-use Rattle.hart_cli.specs.explain.Status.{code_words, comm_faults, device_states, further, names_words, seen, separated, set_names}
+use Rattle.hart_cli.specs.explain.Status.{code_words, comm_faults, device_states, names_words, set_names}
 use Rattle.hart_cli.specs.explain.Status.{status_lines}
 use Rattle.std.proofs.Common.{arith}
 use Rattle.std.proofs.lemmas.Grind.{common_steps}

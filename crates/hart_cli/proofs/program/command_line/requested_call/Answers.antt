@@ -1,19 +1,8 @@
-use Rattle.std.proofs.lemmas.Grind.{common_steps}
-use Rattle.std.proofs.Common.{◌≡◌, ◌∙◌, [], ap, arith, subst, codes, List, None, Option, option_map}
-use Rattle.std.proofs.Common.{Bool, Some, sym, true, ℕ, if◌then◌else◌}
-use Rattle.std.specs.Option.{option_and_then}
-use Rattle.std.proofs.lemmas.Bool.Decides.{nat_tests}
-use Rattle.clap.specs.Words.{App, HasKind, HasMatchesOf, Row, Text, app_of, fault_of, first_of, is_simple, is_simple_and_free}
-use Rattle.clap.specs.Words.{subcommand_name_of, subcommand_of, subcommand_rows_of}
-use Rattle.clap.specs.declared.builder.command.Command.{Command}
-use Rattle.clap.specs.declared.error.Error.{Error}
-use Rattle.clap.specs.declared.parser.matches.ArgMatches.{ArgMatches}
-use Rattle.hart_frame.specs.wire.Message.{IsPreambleCount}
-use Rattle.hart_cli.specs.program.CommandLine.{Calls, call_of, hart_app, message_words, preambles_of, words_of}
-use Rattle.hart_cli.specs.encode.MessageWords.{MessageWords}
-use Rattle.hart_cli.specs.program.Program.{HasPreambleCount}
-use Rattle.hart_cli.specs.declared.program.command_line.Call.{Call}
-use Rattle.hart_cli.specs.declared.program.command_line.Call.TheVariants.{Answer, Dump, Encode, Explain, Sim}
+use Rattle.std.proofs.Common.{◌∙◌, ap, subst}
+use Rattle.std.proofs.Common.{sym}
+use Rattle.clap.specs.Words.{App, HasKind, fault_of, is_simple, is_simple_and_free}
+use Rattle.clap.specs.Words.{subcommand_of}
+use Rattle.hart_cli.specs.program.CommandLine.{call_of}
 use Rattle.std.proofs.Common.{map, string_bytes}
 use Rattle.std.proofs.lemmas.Result.{err_from_is_err_and}
 use Rattle.hart_cli.proofs.program.command_line.requested_call.Goals as goal

@@ -1,9 +1,5 @@
-use Rattle.std.proofs.Common.{◌≡◌, ℕ, List, [], ◌∷◌, ◌++◌, append_assoc}
-use Rattle.std.specs.List.{join_with_byte}
-use Rattle.std.proofs.Common.{◌≡◌, [], ◌∷◌, ◌++◌, List, ap, arith, codes, drop, length, length-append, length-drop, ℕ, ◌∙◌}
+use Rattle.std.proofs.Common.{append_assoc}
 use Rattle.std.proofs.lemmas.List.{take_rest}
-use Rattle.hex.specs.Hex.{encode_upper}
-use Rattle.hart_cli.specs.text.Words.{bytes_word}
 use Rattle.hart_cli.proofs.sim.text.push_answered.Goals as goal
 
 pub returns-clause-words : goal.returns-clause-words
