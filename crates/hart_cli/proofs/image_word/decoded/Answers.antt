@@ -1,3 +1,4 @@
+use Rattle.std.specs.Prelude.{replicate}
 use Rattle.std.proofs.lemmas.Grind.{common_steps}
 use Rattle.std.proofs.Common.{◌≡◌, ℕ, ◌+◌, ◌<◌, List, length, take, slice_index, subst, sym}
 use Rattle.std.proofs.Common.{◌∙◌, inl, inr, arith, false, ◌/◌, ◌%◌, Result, Ok, Err}
@@ -45,28 +46,28 @@ bad_hex word e refused =
     ]
 
 -- what fails to decode into that room does not decode
-decoded_err : (word : List ℕ) (room : ℕ) (r : Result Unit FromHexError) (out : List ℕ) (e : FromHexError) → room ≡ length word / 2
-    → MatchResult (decode_sized word room) (λ bytes. (r ≡ Ok tt) × (out ≡ bytes)) (λ f. r ≡ Err f) → r ≡ Err e → decode_of word ≡ Err e
-decoded_err word room r out e half given is = grind (arith, common_steps, half_sized)
+decoded_err : (word zeros slice out : List ℕ) (r : Result Unit FromHexError) (e : FromHexError) → slice ≡ zeros
+    → zeros ≡ replicate (length word / 2) 0
+    → MatchResult (decode_sized word (length slice)) (λ bytes. (r ≡ Ok tt) × (out ≡ bytes)) (λ f. r ≡ Err f) → r ≡ Err e
+    → decode_of word ≡ Err e
+decoded_err word zeros slice out r e same is given refused = grind (arith, common_steps, half_sized, length-replicate)
 
 pub returns-in-Err-InvalidHexCharacter-clause-fault : goal.returns-in-Err-InvalidHexCharacter-clause-fault
 returns-in-Err-InvalidHexCharacter-clause-fault c =
-    let room = ap length (c.as_mut_slice.ensures.value ∙ c.in_ok-bytes.ensures.zeros) ∙ length-replicate (length c.args.word.now / 2) 0 in
-    inl (bad_hex c.args.word.now _ (decoded_err _ _ _ _ _ room c.decode_to_slice.ensures.value
+    inl (bad_hex c.args.word.now _ (decoded_err _ _ _ _ _ _ c.as_mut_slice.ensures.value c.in_ok-bytes.ensures.zeros c.decode_to_slice.ensures.value
     (rw c.in-Err-InvalidHexCharacter.field-0-is at c.in-Err-InvalidHexCharacter.is)))
 
 pub returns-in-Err-OddLength-clause-fault : goal.returns-in-Err-OddLength-clause-fault
 returns-in-Err-OddLength-clause-fault c =
-    let room = ap length (c.as_mut_slice.ensures.value ∙ c.in_ok-bytes.ensures.zeros) ∙ length-replicate (length c.args.word.now / 2) 0 in
-    inl (bad_hex c.args.word.now _ (decoded_err _ _ _ _ _ room c.decode_to_slice.ensures.value
+    inl (bad_hex c.args.word.now _ (decoded_err _ _ _ _ _ _ c.as_mut_slice.ensures.value c.in_ok-bytes.ensures.zeros c.decode_to_slice.ensures.value
     (rw c.in-Err-OddLength.field-0-is at c.in-Err-OddLength.is)))
 
 pub unreachable-requires : goal.unreachable-requires
 unreachable-requires c =
-    let room = ap length (c.as_mut_slice.ensures.value ∙ c.in_ok-bytes.ensures.zeros) ∙ length-replicate (length c.args.word.now / 2) 0 in
-    grind (arith, decode_of-err _ _ (decoded_err c.args.word.now _ _ _ _ room c.decode_to_slice.ensures.value c.in-Err-InvalidStringLength.is))
+    grind (arith, decode_of-err _ _ (decoded_err c.args.word.now _ _ _ _ _ c.as_mut_slice.ensures.value
+    c.in_ok-bytes.ensures.zeros c.decode_to_slice.ensures.value c.in-Err-InvalidStringLength.is))
 
 pub unreachable-requires-in-Err-OutOfMemory : goal.unreachable-requires-in-Err-OutOfMemory
 unreachable-requires-in-Err-OutOfMemory c =
-    let room = ap length (c.as_mut_slice.ensures.value ∙ c.in_ok-bytes.ensures.zeros) ∙ length-replicate (length c.args.word.now / 2) 0 in
-    grind (arith, decode_of-err _ _ (decoded_err c.args.word.now _ _ _ _ room c.decode_to_slice.ensures.value c.in-Err-OutOfMemory.is))
+    grind (arith, decode_of-err _ _ (decoded_err c.args.word.now _ _ _ _ _ c.as_mut_slice.ensures.value
+    c.in_ok-bytes.ensures.zeros c.decode_to_slice.ensures.value c.in-Err-OutOfMemory.is))

@@ -5,7 +5,9 @@ use Rattle.std.proofs.Common.{ap, ◌∙◌, arith, append_assoc, inl, inr, leng
 use Rattle.std.proofs.KnownBytes.{Appends-nil, Consumes-nil}
 use Rattle.std.proofs.lemmas.List.{append-nil}
 use Rattle.hart_frame.specs.heard.Character.{Character}
-use Rattle.hart_frame.specs.scan.Scanner.{hearing, new_scan}
+use Rattle.hart_frame.specs.heard.Frames.{IsUndecided}
+use Rattle.hart_frame.specs.scan.Scanner.{Scan, hearing, new_scan}
+use Rattle.std.specs.Io.KnownBytes.{Appends}
 use Rattle.hart_cli.specs.declared.dump.NextStep.TheVariants.{ReadOn, Stop}
 use Rattle.hart_cli.specs.declared.fault.CliFault.{CliFault}
 use Rattle.hart_cli.specs.declared.dump.frame_lines.FrameLines.{FrameLines}
@@ -13,8 +15,8 @@ use Rattle.hart_cli.specs.declared.input.InputEnd.{InputEnd}
 use Rattle.hart_cli.specs.declared.input.InputEnd.TheVariants.{Ended, ReadFailed, TooLong}
 use Rattle.hart_cli.specs.dump.Dump.{AreFrameLines, AreScanned, StopsSoon, StopsWriting, WroteInTime, ended_text, most_ahead}
 use Rattle.hart_cli.specs.dump.FrameLines.{IsNextStep, IsWaiting, KeepsLines, ReadsAhead, ScansAll, ScansText}
-use Rattle.hart_cli.specs.input.Input.{CameTo, Ending, Left, Reads, ReadsPortion, ReadsTo, ReadsWell, ending_of, input_limit}
-use Rattle.hart_cli.specs.text.InputChars.{HasChars}
+use Rattle.hart_cli.specs.input.Input.{CameTo, Ending, Left, Reads, ReadsPortion, ReadsTo, ReadsWell, ending_of, input_limit, most_at_once}
+use Rattle.hart_cli.specs.text.InputChars.{HasChars, all, bad_hex, decided_bad_hex, failure}
 use Rattle.hart_cli.specs.text.Items.{MayBegin, NoPieceBegins, ReadsUpTo}
 use Rattle.hart_cli.specs.stream.Stream.{FailsToWrite, Stream, WritesAll}
 use Rattle.hart_cli.proofs.lemmas.dump.FrameLines.{keeps_after, keeps_nothing, keeps_on, stopped_lines}
@@ -68,6 +70,23 @@ pub scans_text : {r r1 w w1 : Stream} (frames : FrameLines) {end : Option InputE
     → KeepsLines (hearing new_scan scanned.chars) frames.scanner [] scanned.text
 scans_text frames scanned none = grind (arith, common_steps, append-nil)
 
+-- all lines of what was scanned were written before the last read
+in_time_of : (scan : Scan) (w w1 : Stream) (input last rest text : List ℕ) (chars : List Character) → length last ≤ most_at_once
+    → ReadsUpTo input chars rest → NoPieceBegins rest → MayBegin rest → KeepsLines (hearing new_scan chars) scan [] text
+    → IsUndecided scan.held → Appends w.bytes w1.bytes text → WroteInTime (input ++ last) w w1
+in_time_of scan w w1 input last rest text chars few reads no_piece may scans undecided wrote = record {
+  before = input;
+  last = last;
+  split = refl;
+  few = few;
+  chars = chars;
+  reads = record { rest = rest; reads = reads; no_piece = no_piece; open_end = may };
+  frames = scans.given;
+  decided = are_decided chars scan scans.given scans.moves undecided;
+  more = [];
+  written = rw append-nil (rw scans.lines at wrote);
+}
+
 -- before the first read nothing was scanned
 pub nothing_scanned : (r w : Stream) (frames : FrameLines) → frames.scanner ≡ new_scan → frames.lines ≡ []
     → ScannedUpTo r r w w frames None [] 0
@@ -85,37 +104,8 @@ nothing_scanned r w frames is_new none =
       scans = rw (is_new, none) (keeps_nothing new_scan []);
       waiting = rw is_new new_waits;
       wrote = (Appends-nil _, refl);
-      in_time = record {
-        before = [];
-        last = [];
-        split = refl;
-        few = omega arith;
-        chars = [];
-        reads = record { rest = []; reads = ReadsUpTo.nothing []; no_piece = NoPieceBegins-nil; open_end = may_begin-nil };
-        frames = [];
-        decided = are_decided [] new_scan [] (moves_nothing new_scan) new_waits.undecided;
-        more = [];
-        written = Appends-nil _;
-      };
-    }
-
--- all lines that were due were written before more was read
-due_in_time : {r r1 r2 w w1 : Stream} (frames : FrameLines) {place : ℕ} {ahead after : List ℕ} {room : ℕ} {end : Option InputEnd}
-    (due : ScannedUpTo r r1 w w1 frames None ahead place) → frames.lines ≡ [] → MayBegin ahead
-    → (more : ReadsAhead r1 r2 ahead after room end) → WroteInTime (due.input ++ more.bytes) w w1
-due_in_time {w = w} {w1 = w1} frames {ahead = ahead} due none may more =
-    let scans = scans_text frames due none in
-    record {
-      before = due.input;
-      last = more.bytes;
-      split = refl;
-      few = more.few;
-      chars = due.chars;
-      reads = record { rest = ahead; reads = due.reads; no_piece = due.no_piece; open_end = may };
-      frames = scans.given;
-      decided = are_decided due.chars frames.scanner scans.given scans.moves due.waiting.undecided;
-      more = [];
-      written = rw append-nil (rw scans.lines at due.wrote.0);
+      in_time = in_time_of new_scan w w [] [] [] [] [] (omega arith) (ReadsUpTo.nothing []) NoPieceBegins-nil may_begin-nil
+          (keeps_nothing new_scan []) new_waits.undecided (Appends-nil _);
     }
 
 -- a read and what it gave is scanned
@@ -148,7 +138,8 @@ scanned_step {r = r} {r1 = r1} {r2 = r2} {w = w} {w1 = w1} old new {place = plac
           due.waiting.going due.scans (keeps_after (hearing old.scanner scans.chars) new.scanner due.text old.lines new.lines scans.scans);
       waiting = waiting;
       wrote = due.wrote;
-      in_time = due_in_time old due none may more;
+      in_time = in_time_of old.scanner w w1 due.input more.bytes ahead due.text due.chars more.few due.reads due.no_piece may
+          (scans_text old due none) due.waiting.undecided due.wrote.0;
     }
 
 -- the lines that were kept are written
@@ -200,20 +191,11 @@ pub scans_all : {r r2 w w1 : Stream} {frames : FrameLines} (end : Option InputEn
     → ScannedUpTo r r2 w w1 frames end rest place → frames.lines ≡ [] → IsNextStep end rest place (Stop fault)
     → ScansAll r r2 w w1 frames fault
 scans_all None rest place fault scanned none step =
-    rw step.1 (scanned_to Left scanned none (inl scanned.read) scanned.reads
-    (HasChars.decided_bad_hex scanned.chars place (decided_rest scanned.input scanned.chars rest place scanned.reads scanned.placed step.0))
-    (omega (arith, scanned.placed, scanned.few)))
-scans_all (Some Ended) rest place None scanned none step =
-    scanned_to (CameTo Ended) scanned none scanned.read scanned.reads (HasChars.all scanned.chars (rw step at scanned.reads)) tt
-scans_all (Some Ended) rest place (Some fault) scanned none step =
-    rw step.1 (scanned_to (CameTo Ended) scanned none scanned.read scanned.reads
-    (HasChars.bad_hex scanned.chars place
-    (record { rest = rest; reads = scanned.reads; begins = scanned.placed; more = step.0; no_piece = scanned.no_piece }))
-    (omega (arith, scanned.placed, scanned.few, length-append scanned.input (32 ∷ []))))
+    grind (arith, common_steps, scanned_to {fault = fault} Left scanned none, decided_rest, decided_bad_hex)
+scans_all (Some Ended) rest place fault scanned none step =
+    grind (arith, common_steps, scanned_to {fault = fault} (CameTo Ended) scanned none, all, bad_hex, length-append)
 scans_all (Some ReadFailed) rest place fault scanned none step =
-    rw step (scanned_to (CameTo ReadFailed) scanned none scanned.read scanned.reads
-    (HasChars.failure scanned.chars
-    (record { rest = rest; reads = scanned.reads; no_piece = scanned.no_piece; open_end = scanned.still_open refl })) tt)
+    grind (arith, common_steps, scanned_to {fault = fault} (CameTo ReadFailed) scanned none, failure)
 scans_all (Some TooLong) rest place fault scanned none (inl (may, is)) =
     rw is (scanned_to (CameTo TooLong) scanned none scanned.read scanned.reads
     (HasChars.limit scanned.chars (record { rest = rest; reads = scanned.reads; no_piece = scanned.no_piece; open_end = may })) tt)

@@ -32,10 +32,7 @@ all_shown = refl
 rows_shown : (command : ℕ) (found : Option CommandRows) → rows_of command ≡ found
     → (are_shown (option_map_or (λ row. row.request) found []) ≡ true) × (are_shown (option_map_or (λ row. row.reply) found []) ≡ true)
 unfolding is_shown_command
-rows_shown command None is = (refl, refl)
-rows_shown command (Some row) is =
-    and_parts (are_shown row.request) (are_shown row.reply)
-    (passes_all is_shown_command (λ r. r.number == command) rows row all_shown is)
+rows_shown command found is = grind (arith, common_steps, passes_all, all_shown, and_parts)
 
 -- the fields of the data of requests can be shown
 pub request_rows-shown : (command : ℕ) → are_shown (request_rows command) ≡ true

@@ -17,38 +17,23 @@ use Rattle.hart_cli.proofs.lemmas.text.Items.{goes_on, one_reading, ReadsUpTo-fe
 pub is_heard : (input : List ℕ) (end : InputEnd) (chars : List Character) (rest : List ℕ) (place : ℕ) (fault : Option CliFault)
     → ReadsUpTo (ended_text input (CameTo end)) chars rest → place + length rest ≡ length (ended_text input (CameTo end))
     → NoPieceBegins rest → IsFaultAt end rest place fault → IsHeard input end chars fault
-is_heard input Ended chars rest place None reads placed stop is = inl (HasChars.all chars (rw is at reads))
-is_heard input Ended chars rest place (Some fault) reads placed stop is =
-    rw is.1 (inl (HasChars.bad_hex chars place
-    (record { rest = rest; reads = reads; begins = placed; more = is.0; no_piece = stop })))
-is_heard input ReadFailed chars rest place fault reads placed stop (inl (may, is)) =
-    rw is (inl (HasChars.failure chars (record { rest = rest; reads = reads; no_piece = stop; open_end = may })))
-is_heard input ReadFailed chars rest place fault reads placed stop (inr (never, is)) =
-    rw is (inr (HasChars.decided_bad_hex chars place (decided_rest input chars rest place reads placed never)))
-is_heard input TooLong chars rest place fault reads placed stop (inl (may, is)) =
-    rw is (inl (HasChars.limit chars (record { rest = rest; reads = reads; no_piece = stop; open_end = may })))
-is_heard input TooLong chars rest place fault reads placed stop (inr (never, is)) =
-    rw is (inr (HasChars.decided_bad_hex chars place (decided_rest input chars rest place reads placed never)))
+is_heard input end chars rest place fault reads placed stop is =
+    grind (arith, common_steps, decided_rest, all, bad_hex, decided_bad_hex, failure, limit)
 
 -- a reading that leaves as much as there was has read nothing
 reads_nothing : (text : List ℕ) (chars : List Character) (rest : List ℕ) → ReadsUpTo text chars rest → length rest ≡ length text
     → NoPieceBegins rest → (p : Piece) (tail : List ℕ) → BeginsWith text p tail → ⊥
-reads_nothing _ _ _ (nothing rest) long stop p tail begins = stop p tail begins
-reads_nothing _ _ _ (piece text first after chars rest h r) long stop p tail begins =
+reads_nothing text chars rest reads long stop p tail begins =
     grind (arith, common_steps, length-append, spelling-length, ReadsUpTo-few)
 
 -- what may go on has no bad hex that is decided
 not_decided : (text : List ℕ) (xs ys : List Character) (place : ℕ) → ReadsSoFarAs text xs → IsDecidedBadHexAt text ys place → ⊥
 not_decided text xs ys place h k =
-    let more = h.open_end.more in
     let now = as_it_stands text ys place k in
-    let later = k more in
+    let later = k h.open_end.more in
     let same = one_reading text xs h.rest ys now.rest h.reads now.reads h.no_piece now.no_piece in
-    let on = goes_on (text ++ more) xs (h.rest ++ more) ys later.rest (ReadsUpTo-more text xs h.rest more h.reads) later.reads
-    later.no_piece in
-    let long : length later.rest ≡ length (h.rest ++ more) =
-    omega (arith, later.begins, now.begins, ap (λ (xs : List ℕ). length xs) same.1, length-append text more, length-append h.rest more) in
-    reads_nothing (h.rest ++ more) on.between later.rest on.reads long later.no_piece h.open_end.piece h.open_end.tail h.open_end.begins
+    let on = goes_on (text ++ h.open_end.more) xs (h.rest ++ h.open_end.more) ys later.rest in
+    grind (arith, common_steps, length-append, reads_nothing, ReadsUpTo-more)
 
 -- an input that came to an end is not heard otherwise than if it had been left
 one_heard : (text : List ℕ) (end : InputEnd) (xs ys : List Character) (f g : Option CliFault)

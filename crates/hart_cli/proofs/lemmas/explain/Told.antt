@@ -43,5 +43,4 @@ tells_failure old new before after text P result failed fails = grind (arith, co
 -- what is kept is written at last
 pub writes_kept : {T : Type 0} (a b c : Stream) (kept text : List ℕ) (result : Result T Failed) → AddsText a b [] kept text
     → Writes b c kept result → Writes a c text result
-writes_kept a b c kept text (Ok done) h wrote = grind (arith, common_steps, WritesAll-on)
-writes_kept a b c kept text (Err fault) h fails = grind (arith, common_steps, FailsToWrite-on)
+writes_kept a b c kept text result h wrote = grind (arith, common_steps, WritesAll-on, FailsToWrite-on)

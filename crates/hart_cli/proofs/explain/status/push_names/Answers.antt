@@ -14,13 +14,11 @@ separated-names byte (named ∷ bits) = grind (arith, common_steps, separated-na
 
 -- without the first comma and space they are the words of the names
 names_words-rest : (names : List (List ℕ)) → 2 ≤ length (flat_map further names) → drop 2 (flat_map further names) ≡ names_words names
-names_words-rest [] some = absurd (omega arith)
-names_words-rest (name ∷ others) some = refl
+names_words-rest names some = grind (arith, common_steps)
 
 -- and if there are none the words are `none`
 names_words-none : (names : List (List ℕ)) → length (flat_map further names) < 2 → names_words names ≡ codes "none"
-names_words-none [] few = refl
-names_words-none (name ∷ others) few = absurd (omega arith)
+names_words-none names few = grind (arith, common_steps)
 
 pub returns-in_default-clause-words : goal.returns-in_default-clause-words
 returns-in_default-clause-words c = grind (arith, common_steps, flat_map, separated-names, names_words-none)

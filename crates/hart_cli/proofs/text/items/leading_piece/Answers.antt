@@ -31,18 +31,15 @@ begins_as_piece text char len b short = record {
 -- no piece begins if neither a separator stands nor an item short of the end
 no_piece_begins : (text : List ℕ) → (IsSeparator (get_or text 0 0) → ⊥)
     → ((item : items.Item) (tail : List ℕ) → BeginsWithItem text item tail → tail ≢ [] → ⊥) → NoPieceBegins text
-no_piece_begins text s n (Separator a) tail h = s (rw (h.spelled) (h.valid))
-no_piece_begins text s n (Item item) tail h = grind (arith, common_steps)
+no_piece_begins text s n p tail h = grind (arith, common_steps)
 
 -- if one item is a whole text, no other one is short of its end
 one_whole_item : (p q : items.Item) (tail : List ℕ) → item_spelling p ≡ item_spelling q ++ tail → EndsBefore tail q → tail ≢ [] → ⊥
-one_whole_item (Plain a b) q tail e d some = grind arith
-one_whole_item (Faulty a b c z) q tail e d some = grind arith
+one_whole_item p q tail e d some = grind (arith, common_steps)
 
 -- the text is the item if they are as long
 is_spelling : (text spelled tail : List ℕ) → text ≡ spelled ++ tail → length spelled ≡ length text → text ≡ spelled
-is_spelling text spelled [] e long = grind (arith, common_steps)
-is_spelling text spelled (x ∷ tail) e long = absurd (omega (arith, length-append spelled (x ∷ tail), ap length e))
+is_spelling text spelled tail e long = grind (arith, common_steps, length-append)
 
 pub returns-then-is_separator : goal.returns-then-is_separator
 returns-then-is_separator c = grind (arith, begins_as_separator c.args.text.now, c.in_ok-first.ensures.item)
