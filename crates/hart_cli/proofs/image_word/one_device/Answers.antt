@@ -36,28 +36,17 @@ IsBadHexWord-one word place other p q =
 bad_is_no_word : (word : List ℕ) (place : ℕ) (bytes : List ℕ) → IsBadHexWord word place → IsImageWord word bytes → ⊥
 bad_is_no_word word place bytes bad writes = grind (arith, bad_parts, All-get_or, decode_of-ok word bytes writes)
 
--- a call has one device
-IsDeviceOf-one : ((state other : DeviceState) (image : List ℕ) → IsImageOf state image → IsImageOf other image
-    → state.identity ≡ other.identity → state.cold_start ≡ other.cold_start → state ≡ other)
-    → (image : Option (List ℕ)) (device other : DeviceState) → IsDeviceOf image device → IsDeviceOf image other → device ≡ other
-IsDeviceOf-one states None device other p q = cc
-IsDeviceOf-one states (Some word) device other p q =
-    states device other q.2 (rw (decode_of-same word p.2 q.2 p.3 q.3) at p.4) q.4 (cc (p.0, q.0)) (cc (p.1, q.1))
-
--- an image with a device has no fault
-IsDeviceOf-faultless : (image : Option (List ℕ)) (device : DeviceState) (fault : CliFault) → IsDeviceOf image device
-    → HasImageFault image fault → ⊥
-IsDeviceOf-faultless (Some word) device (BadHex place) p q = bad_is_no_word word place p.2 q p.3
-IsDeviceOf-faultless (Some word) device (Image fault) p q =
-    let same = decode_of-same word p.2 q.0 p.3 q.1 in
-    images_have_no_fault device q.0 fault (subst (λ (image : List ℕ). IsImageOf device image) same p.4) q.2
-IsDeviceOf-faultless _ device _ p q = absurd q
-
 pub returns-clause-one : goal.returns-clause-one
-returns-clause-one c = IsDeviceOf-one c.images_have_one_state.ensures.one_state
+returns-clause-one c None device other p q = cc
+returns-clause-one c (Some word) device other p q =
+    c.images_have_one_state.ensures.one_state device other q.2 (rw (decode_of-same word p.2 q.2 p.3 q.3) at p.4) q.4 (cc (p.0, q.0)) (cc (p.1, q.1))
 
 pub returns-clause-one_fault : goal.returns-clause-one_fault
 returns-clause-one_fault c = grind (arith, common_steps, IsBadHexWord-one, bad_is_no_word, decode_of-same)
 
 pub returns-clause-no_fault : goal.returns-clause-no_fault
-returns-clause-no_fault c = IsDeviceOf-faultless
+returns-clause-no_fault c (Some word) device (BadHex place) p q = bad_is_no_word word place p.2 q p.3
+returns-clause-no_fault c (Some word) device (Image fault) p q =
+    let same = decode_of-same word p.2 q.0 p.3 q.1 in
+    images_have_no_fault device q.0 fault (subst (λ (image : List ℕ). IsImageOf device image) same p.4) q.2
+returns-clause-no_fault c _ device _ p q = absurd q

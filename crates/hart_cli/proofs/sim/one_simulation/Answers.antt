@@ -19,34 +19,19 @@ AreSpoken-one (said ∷ frames) (x ∷ xs) (y ∷ ys) p q =
     grind (arith, common_steps, AreSpoken-one frames xs ys p.1 q.1)
 AreSpoken-one _ xs ys p q = grind arith
 
--- an input has one text
-IsSimulation-one : (device : DeviceState) (input xs ys : List ℕ)
-    → IsSimulation device input xs → IsSimulation device input ys → xs ≡ ys
-IsSimulation-one device input xs ys p q =
+pub returns-clause-one_text : goal.returns-clause-one_text
+returns-clause-one_text c device input xs ys p q =
     grind (arith, scripts_have_one_last_world-one_world (start_with device) q.events p.world q.world, AreSpoken-one)
 
--- an input with a text has no fault
-IsSimulation-faultless : (device : DeviceState) (input text : List ℕ) (fault : LineFault)
-    → IsSimulation device input text → HasLineFault device input fault → ⊥
-IsSimulation-faultless device input text (line_faults.Undetected number leg) p damage =
-    scripts_have_one_last_world-no_fault (start_with device) damage.events p.world number leg
-    (rw (p.script.1 ∙ sym damage.script.1) at p.last) damage.is_fault
-IsSimulation-faultless device input text _ p bad = grind arith
-
--- an input has one fault
-HasLineFault-one : (device : DeviceState) (input : List ℕ)
-    (fault other : LineFault) → HasLineFault device input fault → HasLineFault device input other → fault ≡ other
-HasLineFault-one device input (line_faults.Undetected number leg) (line_faults.Undetected other another) p q =
+pub returns-clause-one_fault : goal.returns-clause-one_fault
+returns-clause-one_fault c device input (line_faults.Undetected number leg) (line_faults.Undetected other another) p q =
     let same = scripts_have_one_last_world-one_fault (start_with device) q.events number other leg another
     (rw (p.script.1 ∙ sym q.script.1) at p.is_fault) q.is_fault in
     cc (same.0, same.1)
-HasLineFault-one device input _ other p q = grind arith
-
-pub returns-clause-one_text : goal.returns-clause-one_text
-returns-clause-one_text c = IsSimulation-one
-
-pub returns-clause-one_fault : goal.returns-clause-one_fault
-returns-clause-one_fault c = HasLineFault-one
+returns-clause-one_fault c device input _ other p q = grind arith
 
 pub returns-clause-no_fault : goal.returns-clause-no_fault
-returns-clause-no_fault c = IsSimulation-faultless
+returns-clause-no_fault c device input text (line_faults.Undetected number leg) p damage =
+    scripts_have_one_last_world-no_fault (start_with device) damage.events p.world number leg
+    (rw (p.script.1 ∙ sym damage.script.1) at p.last) damage.is_fault
+returns-clause-no_fault c device input text _ p bad = grind arith

@@ -1,16 +1,9 @@
+use Rattle.std.proofs.Common.{arith}
 use Rattle.std.proofs.Common.{append_assoc}
 use Rattle.hart_cli.proofs.explain.misses.push_miss.Goals as goal
 
 pub returns-in-Faulty-clause-words : goal.returns-in-Faulty-clause-words
-returns-in-Faulty-clause-words c =
-    rw (
-      c.in-Faulty.is,
-      c.push_byte.ensures.digits,
-      c.push_text-in-Faulty-2.ensures.text,
-      c.push_text-in-Faulty.ensures.text,
-      c.format.ensures.text,
-      c.push_text.ensures.text,
-    ) (simp append_assoc)
+returns-in-Faulty-clause-words c = grind (arith, append_assoc)
 
 pub returns-in-Burst-clause-words : goal.returns-in-Burst-clause-words
 returns-in-Burst-clause-words c = rw c.in-Burst.is c.push_text-in-Burst.ensures.text
