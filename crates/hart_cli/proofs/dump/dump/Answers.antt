@@ -1,3 +1,4 @@
+use Rattle.std.proofs.lemmas.Result.{err_from_is_err_and}
 use Rattle.std.proofs.Common.{arith}
 use Rattle.std.proofs.Common.{◌≡◌, ℕ, List, Option, Result, Err}
 use Rattle.std.specs.Result.{IsErrAnd}
@@ -17,10 +18,6 @@ use Rattle.hart_cli.proofs.lemmas.dump.ScanInput.{stops_in}
 use Rattle.hart_cli.proofs.lemmas.dump.Writes.{FailsToWrite-on, WritesAll-on}
 use Rattle.hart_cli.specs.declared.fault.CliFault.TheVariants.{Write}
 use Rattle.hart_cli.proofs.dump.dump.Goals as goal
-
--- a fault that is made of its cause alone
-made_of : {T : Type 0} (result : Result T CliFault) (cause : CliFault) → IsErrAnd result (λ fault. fault ≡ cause) → result ≡ Err cause
-made_of result cause made = grind (arith, common_steps)
 
 -- an input was dumped up to its end or its first fault
 has_dump : {r r' w w1 : Stream} {frames : FrameLines} {fault : Option CliFault} {new : Scan} {lines : List ℕ} (w' : Stream)
@@ -49,7 +46,8 @@ pub returns-in_err-write_all : goal.returns-in_err-write_all
 returns-in_err-write_all g c =
     let all = c.in_ok-fault.ensures in
     let fails = rw c.as_slice.ensures.value at c.in_err-write_all.ensures in
-    rw (made_of c.from_residual-in_err-write_all.result Write c.from_residual-in_err-write_all.ensures.1)
+    let stop = err_from_is_err_and c.from_residual-in_err-write_all.result c.from_residual-in_err-write_all.ensures.1 in
+    rw (stop.1, stop.2)
     (stops_in _ all.input all.ending all.chars _ _ all.reads all.scanned (all_lines all.chars _ _ all.text _ all.scans c.finish.ensures)
     all.in_time (FailsToWrite-on _ _ _ all.text _ all.wrote fails) fails)
 

@@ -10,8 +10,5 @@ use Rattle.hart_cli.specs.text.MessageLine.{IsMessageLine}
 pub IsMessageLine-one : (f g : FrameParts) (preambles : ℕ) (xs ys : List ℕ) → f ≡ g → IsMessageLine f preambles xs
     → IsMessageLine g preambles ys → xs ≡ ys
 IsMessageLine-one f g preambles xs ys same p q =
-    let P : FrameParts → Type 0 = λ frame. IsBody frame p.is_message.body in
-    let body = subst P same p.is_message.is_body in
-    let bodies = bodies_are_unambiguous-one_body g p.is_message.body q.is_message.body body q.is_message.is_body in
-    let messages = p.is_message.parts ∙ ap (λ (body : List ℕ). replicate preambles 255 ++ body) bodies ∙ sym q.is_message.parts in
-    p.line ∙ ap hex_line messages ∙ sym q.line
+    let bodies =
+    bodies_are_unambiguous-one_body g p.is_message.body q.is_message.body (rw same at p.is_message.is_body) q.is_message.is_body in cc

@@ -20,11 +20,6 @@ use Rattle.std.proofs.Common.{arith, inr}
 use Rattle.std.proofs.lemmas.Result.{err_from_is_err_and}
 use Rattle.hart_cli.proofs.sim.simulation.Goals as goal
 
--- a script starts with the device
-same_start : (device : DeviceState) (process : Process) (primary secondary : MasterState) → process ≡ bench_process
-    → primary.retries ≡ 3 → secondary.retries ≡ 3 → start_from device process primary secondary ≡ start_with device
-same_start device process primary secondary is_process is_primary is_secondary = rw (is_process, is_primary, is_secondary) refl
-
 -- the text of a script that was carried out
 IsSimulation-run : (first : DeviceState) (input : List ℕ) (start : Start) (events : List LineEvent) (device : DeviceState)
     (outcomes : List Outcome) (world : World) (spoken : List Spoken) → start ≡ start_with first → IsScript input events
@@ -41,7 +36,7 @@ returns-clause-text c =
     let noted = ending.noted world ending.world.1 in
     rw (c.in_ok-finish.ensures.text _ (c.push_outcomes.ensures _ noted.2), c.as_slice-2.ensures)
     (IsSimulation-run c.args.device c.args.input.now _ c.as_slice.result.now c.in_ok-ending.ending.device c.in_ok-ending.ending.outcomes
-    world noted.0 (grind (arith, same_start)) (rw c.as_slice.ensures.value c.in_ok-events.ensures.events) ending.world.1
+    world noted.0 (grind arith) (rw c.as_slice.ensures.value c.in_ok-events.ensures.events) ending.world.1
     (ending.device world ending.world.1) (ending.outcomes world ending.world.1) noted.1)
 
 pub returns-in_err-finish-clause-fault : goal.returns-in_err-finish-clause-fault
@@ -51,7 +46,7 @@ returns-in_err-finish-clause-fault c =
     let noted = ending.noted world ending.world.1 in
     let stop = err_from_is_err_and c.from_residual-in_err-finish.result c.from_residual-in_err-finish.ensures.1 in
     let simulation = IsSimulation-run c.args.device c.args.input.now _ c.as_slice.result.now c.in_ok-ending.ending.device
-    c.in_ok-ending.ending.outcomes world noted.0 (grind (arith, same_start)) (rw c.as_slice.ensures.value c.in_ok-events.ensures.events)
+    c.in_ok-ending.ending.outcomes world noted.0 (grind arith) (rw c.as_slice.ensures.value c.in_ok-events.ensures.events)
     ending.world.1 (ending.device world ending.world.1) (ending.outcomes world ending.world.1) noted.1 in
     rw (stop.1, stop.2) (inr (inr (
       _,
