@@ -1,9 +1,6 @@
 use Rattle.std.proofs.lemmas.Result.{err_from_is_err_and}
-use Rattle.std.proofs.Common.{arith}
-use Rattle.std.proofs.Common.{◌≡◌, ℕ, List, Option, Result, Err}
-use Rattle.std.specs.Result.{IsErrAnd}
-use Rattle.std.proofs.lemmas.Grind.{common_steps}
-use Rattle.std.proofs.Common.{◌≡◌, ℕ, List, [], ◌++◌, Option, Some, Err, arith}
+use Rattle.std.proofs.Common.{ℕ, List, Option, Err}
+use Rattle.std.proofs.Common.{ℕ, List, [], ◌++◌, Option, Some, Err}
 use Rattle.hart_frame.specs.heard.Character.{Character}
 use Rattle.hart_frame.specs.scan.Scanner.{Scan, finishing}
 use Rattle.hart_cli.specs.declared.fault.CliFault.{CliFault}
@@ -16,7 +13,6 @@ use Rattle.hart_cli.specs.stream.Stream.{Stream, WritesAll}
 use Rattle.hart_cli.proofs.lemmas.dump.FrameLines.{all_lines}
 use Rattle.hart_cli.proofs.lemmas.dump.ScanInput.{stops_in}
 use Rattle.hart_cli.proofs.lemmas.dump.Writes.{FailsToWrite-on, WritesAll-on}
-use Rattle.hart_cli.specs.declared.fault.CliFault.TheVariants.{Write}
 use Rattle.hart_cli.proofs.dump.dump.Goals as goal
 
 -- an input was dumped up to its end or its first fault

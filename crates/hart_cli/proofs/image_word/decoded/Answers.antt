@@ -11,7 +11,7 @@ use Rattle.hex.specs.declared.error.FromHexError.TheVariants.{InvalidHexCharacte
 use Rattle.hex.proofs.HexLemmas.{decode_of-even, decode_of-odd}
 use Rattle.hex.proofs.HexLemmas.{decode_pairs-err, decode_sized-odd, decode_sized-twice}
 use Rattle.hart_cli.specs.ImageWord.{IsBadHexWord}
-use Rattle.std.proofs.Common.{◌/◌, ◌∙◌, ap, inl, length}
+use Rattle.std.proofs.Common.{◌/◌, ◌∙◌, inl, length}
 use Rattle.std.proofs.lemmas.List.{length-replicate}
 use Rattle.std.proofs.Common.{arith}
 use Rattle.hex.proofs.HexLemmas.{decode_of-err}
@@ -64,10 +64,16 @@ returns-in-Err-OddLength-clause-fault c =
 
 pub unreachable-requires : goal.unreachable-requires
 unreachable-requires c =
-    grind (arith, decode_of-err _ _ (decoded_err c.args.word.now _ _ _ _ _ c.as_mut_slice.ensures.value
-    c.in_ok-bytes.ensures.zeros c.decode_to_slice.ensures.value c.in-Err-InvalidStringLength.is))
+    grind (
+      arith,
+      decode_of-err _ _ (decoded_err c.args.word.now _ _ _ _ _ c.as_mut_slice.ensures.value
+          c.in_ok-bytes.ensures.zeros c.decode_to_slice.ensures.value c.in-Err-InvalidStringLength.is),
+    )
 
 pub unreachable-requires-in-Err-OutOfMemory : goal.unreachable-requires-in-Err-OutOfMemory
 unreachable-requires-in-Err-OutOfMemory c =
-    grind (arith, decode_of-err _ _ (decoded_err c.args.word.now _ _ _ _ _ c.as_mut_slice.ensures.value
-    c.in_ok-bytes.ensures.zeros c.decode_to_slice.ensures.value c.in-Err-OutOfMemory.is))
+    grind (
+      arith,
+      decode_of-err _ _ (decoded_err c.args.word.now _ _ _ _ _ c.as_mut_slice.ensures.value
+          c.in_ok-bytes.ensures.zeros c.decode_to_slice.ensures.value c.in-Err-OutOfMemory.is),
+    )

@@ -1,6 +1,6 @@
 -- An input that is read and scanned, step by step.
 use Rattle.std.proofs.lemmas.Grind.{common_steps}
-use Rattle.std.proofs.Common.{◌≡◌, ◌≤◌, ◌+◌, ◌-◌, ℕ, List, [], ◌∷◌, ◌++◌, length, Option, None, Some, refl}
+use Rattle.std.proofs.Common.{◌≡◌, ◌≤◌, ◌+◌, ◌-◌, ℕ, List, [], ◌++◌, length, Option, None, Some, refl}
 use Rattle.std.proofs.Common.{ap, ◌∙◌, arith, append_assoc, inl, inr, length-append}
 use Rattle.std.proofs.KnownBytes.{Appends-nil, Consumes-nil}
 use Rattle.std.proofs.lemmas.List.{append-nil}
@@ -20,7 +20,7 @@ use Rattle.hart_cli.specs.text.InputChars.{HasChars, all, bad_hex, decided_bad_h
 use Rattle.hart_cli.specs.text.Items.{MayBegin, NoPieceBegins, ReadsUpTo}
 use Rattle.hart_cli.specs.stream.Stream.{FailsToWrite, Stream, WritesAll}
 use Rattle.hart_cli.proofs.lemmas.dump.FrameLines.{keeps_after, keeps_nothing, keeps_on, stopped_lines}
-use Rattle.hart_cli.proofs.lemmas.dump.Moves.{are_decided, moves_nothing, new_waits}
+use Rattle.hart_cli.proofs.lemmas.dump.Moves.{are_decided, new_waits}
 use Rattle.hart_cli.proofs.lemmas.dump.Writes.{FailsToWrite-on, WritesAll-on, in_time_on}
 use Rattle.hart_cli.proofs.lemmas.text.InputChars.{decided_rest, may_begin-nil}
 use Rattle.hart_cli.proofs.lemmas.Input.{portion_last, portion_more}

@@ -1,15 +1,14 @@
 -- What was heard of an input: its fault, and that it is heard in one way.
 use Rattle.std.proofs.lemmas.Grind.{common_steps}
-use Rattle.std.proofs.Common.{◌≡◌, ℕ, ◌+◌, List, [], ◌∷◌, ◌++◌, length, inl, inr, Option, None, Some, ap, arith, length-append}
+use Rattle.std.proofs.Common.{◌≡◌, ℕ, ◌+◌, List, [], ◌∷◌, ◌++◌, length, Option, arith, length-append}
 use Rattle.hart_frame.specs.heard.Character.{Character}
 use Rattle.hart_cli.specs.declared.fault.CliFault.{CliFault}
 use Rattle.hart_cli.specs.declared.input.InputEnd.{InputEnd}
-use Rattle.hart_cli.specs.declared.input.InputEnd.TheVariants.{Ended, ReadFailed, TooLong}
 use Rattle.hart_cli.specs.dump.Dump.{ended_text}
 use Rattle.hart_cli.specs.explain.Heard.{IsFaultAt, IsHeard}
 use Rattle.hart_cli.specs.input.Input.{CameTo, Left}
 use Rattle.hart_cli.specs.text.InputChars.{all, bad_hex, decided_bad_hex, failure, HasChars, limit}
-use Rattle.hart_cli.specs.text.Items.{BeginsWith, closed, IsDecidedBadHexAt, NoPieceBegins, nothing, Piece, piece, ReadsSoFarAs, ReadsUpTo}
+use Rattle.hart_cli.specs.text.Items.{BeginsWith, closed, IsDecidedBadHexAt, NoPieceBegins, Piece, ReadsSoFarAs, ReadsUpTo}
 use Rattle.hart_cli.proofs.lemmas.text.InputChars.{as_it_stands, decided_rest, not_both, one_input, one_place}
 use Rattle.hart_cli.proofs.lemmas.text.Items.{goes_on, one_reading, ReadsUpTo-few, ReadsUpTo-more, spelling-length}
 

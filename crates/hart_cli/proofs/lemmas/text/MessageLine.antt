@@ -1,9 +1,7 @@
 -- A frame has one line.
-use Rattle.std.proofs.Common.{◌≡◌, ℕ, List, ◌++◌, replicate, sym, ap, ◌∙◌, subst}
+use Rattle.std.proofs.Common.{◌≡◌, ℕ, List}
 use Rattle.hart_frame.specs.wire.FrameParts.{FrameParts}
-use Rattle.hart_frame.specs.wire.Body.{IsBody}
 use Rattle.hart_frame.proofs.lemmas.Laws.{bodies_are_unambiguous-one_body}
-use Rattle.hart_cli.specs.text.HexText.{hex_line}
 use Rattle.hart_cli.specs.text.MessageLine.{IsMessageLine}
 
 -- equal frames have one line

@@ -1,13 +1,9 @@
 use Rattle.std.proofs.lemmas.Grind.{common_steps}
-use Rattle.std.proofs.Common.{◌≡◌, ℕ, List, ◌++◌, refl}
+use Rattle.std.proofs.Common.{◌≡◌, ℕ, List, ◌++◌}
 use Rattle.std.proofs.Common.{arith}
 use Rattle.std.specs.List.{enumerate_from, flat_map}
-use Rattle.hart_device.specs.Bench.{bench_process}
 use Rattle.hart_device.specs.Device.{DeviceState}
-use Rattle.hart_device.specs.declared.process.Process.{Process}
-use Rattle.hart_line.specs.world.Promises.{start_from}
 use Rattle.hart_line.specs.script.Rows.{IsScript}
-use Rattle.hart_master.specs.Master.{MasterState}
 use Rattle.hart_line.specs.world.Spoken.{AreSpoken}
 use Rattle.hart_line.specs.world.Step.{IsLast}
 use Rattle.hart_line.specs.world.World.{Start, World, state_of}
