@@ -1,6 +1,6 @@
 -- An input that is read and scanned, step by step.
 use Rattle.std.proofs.lemmas.Grind.{common_steps}
-use Rattle.std.proofs.Common.{◌≡◌, ◌≤◌, ◌+◌, ◌-◌, ℕ, List, [], ◌++◌, length, Option, None, Some, refl}
+use Rattle.std.proofs.Common.{◌≡◌, ◌≤◌, ◌+◌, ◌-◌, ℕ, List, [], ◌∷◌, ◌++◌, length, Option, None, Some, refl}
 use Rattle.std.proofs.Common.{ap, ◌∙◌, arith, append_assoc, inl, inr, length-append}
 use Rattle.std.proofs.KnownBytes.{Appends-nil, Consumes-nil}
 use Rattle.std.proofs.lemmas.List.{append-nil}
@@ -16,7 +16,7 @@ use Rattle.hart_cli.specs.declared.input.InputEnd.TheVariants.{Ended, ReadFailed
 use Rattle.hart_cli.specs.dump.Dump.{AreFrameLines, AreScanned, StopsSoon, StopsWriting, WroteInTime, ended_text, most_ahead}
 use Rattle.hart_cli.specs.dump.FrameLines.{IsNextStep, IsWaiting, KeepsLines, ReadsAhead, ScansAll, ScansText}
 use Rattle.hart_cli.specs.input.Input.{CameTo, Ending, Left, Reads, ReadsPortion, ReadsTo, ReadsWell, ending_of, input_limit, most_at_once}
-use Rattle.hart_cli.specs.text.InputChars.{HasChars, all, bad_hex, decided_bad_hex, failure}
+use Rattle.hart_cli.specs.text.InputChars.{HasChars}
 use Rattle.hart_cli.specs.text.Items.{MayBegin, NoPieceBegins, ReadsUpTo}
 use Rattle.hart_cli.specs.stream.Stream.{FailsToWrite, Stream, WritesAll}
 use Rattle.hart_cli.proofs.lemmas.dump.FrameLines.{keeps_after, keeps_nothing, keeps_on, stopped_lines}
@@ -191,11 +191,20 @@ pub scans_all : {r r2 w w1 : Stream} {frames : FrameLines} (end : Option InputEn
     → ScannedUpTo r r2 w w1 frames end rest place → frames.lines ≡ [] → IsNextStep end rest place (Stop fault)
     → ScansAll r r2 w w1 frames fault
 scans_all None rest place fault scanned none step =
-    grind (arith, common_steps, scanned_to {fault = fault} Left scanned none, decided_rest, decided_bad_hex)
-scans_all (Some Ended) rest place fault scanned none step =
-    grind (arith, common_steps, scanned_to {fault = fault} (CameTo Ended) scanned none, all, bad_hex, length-append)
+    rw step.1 (scanned_to Left scanned none (inl scanned.read) scanned.reads
+    (HasChars.decided_bad_hex scanned.chars place (decided_rest scanned.input scanned.chars rest place scanned.reads scanned.placed step.0))
+    (omega (arith, scanned.placed, scanned.few)))
+scans_all (Some Ended) rest place None scanned none step =
+    scanned_to (CameTo Ended) scanned none scanned.read scanned.reads (HasChars.all scanned.chars (rw step at scanned.reads)) tt
+scans_all (Some Ended) rest place (Some fault) scanned none step =
+    rw step.1 (scanned_to (CameTo Ended) scanned none scanned.read scanned.reads
+    (HasChars.bad_hex scanned.chars place
+    (record { rest = rest; reads = scanned.reads; begins = scanned.placed; more = step.0; no_piece = scanned.no_piece }))
+    (omega (arith, scanned.placed, scanned.few, length-append scanned.input (32 ∷ []))))
 scans_all (Some ReadFailed) rest place fault scanned none step =
-    grind (arith, common_steps, scanned_to {fault = fault} (CameTo ReadFailed) scanned none, failure)
+    rw step (scanned_to (CameTo ReadFailed) scanned none scanned.read scanned.reads
+    (HasChars.failure scanned.chars
+    (record { rest = rest; reads = scanned.reads; no_piece = scanned.no_piece; open_end = scanned.still_open refl })) tt)
 scans_all (Some TooLong) rest place fault scanned none (inl (may, is)) =
     rw is (scanned_to (CameTo TooLong) scanned none scanned.read scanned.reads
     (HasChars.limit scanned.chars (record { rest = rest; reads = scanned.reads; no_piece = scanned.no_piece; open_end = may })) tt)
