@@ -1,29 +1,35 @@
--- The laws of addresses, of packed texts and of dates, for the proofs of the crates above.
-use Rattle.std.proofs.Common.{◌≡◌, ℕ, Bool, true, List, rules}
+-- The laws of addresses, of packed texts and of dates, for the proofs of this crate and of those above.
+use Rattle.std.proofs.Common.{◌≡◌, ◌/◌, ℕ, Bool, true, List, arith, rules}
+use Rattle.std.proofs.lemmas.List.{ext_get_or}
 use Rattle.hart_values.specs.address.AddressBytes.{IsAddressBytes}
 use Rattle.hart_values.specs.hart_date.Calendar.{IsDateBytes, is_date}
 use Rattle.hart_values.specs.packed_text.Packing.{IsPacked}
 use Rattle.hart_values.specs.declared.address.Address.{Address}
 use Rattle.hart_values.specs.declared.master_id.MasterId.{MasterId}
-use Rattle.hart_values.proofs.lemmas.address.Address.{IsAddressBytes-one, IsAddressBytes-one_list}
-use Rattle.hart_values.proofs.lemmas.packed_text.Packing.{IsPacked-one_list, IsPacked-one_text}
 
+-- Bytes hold one master bit, one burst bit and one address.
 pub address_bytes_are_unambiguous-one_reading : (m n : MasterId) (b c : Bool) (x y : Address) (bytes : List ℕ)
     → IsAddressBytes m b x bytes → IsAddressBytes n c y bytes → (m ≡ n) × (b ≡ c) × (x ≡ y)
-address_bytes_are_unambiguous-one_reading m n b c x y bytes p q =
-    let same = IsAddressBytes-one m n b c x y bytes p q in (same.master, same.burst, same.address)
+address_bytes_are_unambiguous-one_reading m n b c x y bytes p q = grind arith
 
+-- An address has one list of bytes, for each master bit and burst bit.
 pub address_bytes_are_unambiguous-one_list : (m : MasterId) (b : Bool) (x : Address) (bytes others : List ℕ)
     → IsAddressBytes m b x bytes → IsAddressBytes m b x others → bytes ≡ others
-address_bytes_are_unambiguous-one_list = IsAddressBytes-one_list
+address_bytes_are_unambiguous-one_list m b x bytes others p q = grind arith
 
+-- A text has one list of bytes.
 pub packed_text_and_bytes_determine_each_other-one_list : (text bytes others : List ℕ)
     → IsPacked text bytes → IsPacked text others → bytes ≡ others
-packed_text_and_bytes_determine_each_other-one_list = IsPacked-one_list
+packed_text_and_bytes_determine_each_other-one_list text bytes others p q =
+    ext_get_or 0 bytes others (omega (arith, p.lengths, q.lengths))
+    (λ i h. grind (arith, p.groups (i / 3), q.groups (i / 3), p.lengths, p.bytes_fit, q.bytes_fit))
 
+-- Bytes have one text.
 pub packed_text_and_bytes_determine_each_other-one_text : (text others bytes : List ℕ)
     → IsPacked text bytes → IsPacked others bytes → text ≡ others
-packed_text_and_bytes_determine_each_other-one_text = IsPacked-one_text
+packed_text_and_bytes_determine_each_other-one_text text others bytes p q =
+    ext_get_or 0 text others (omega (arith, p.lengths, q.lengths))
+    (λ i h. grind (arith, p.groups (i / 4), q.groups (i / 4), p.lengths, q.lengths, p.characters, q.characters))
 
 pub dates_are_decided-date : (bytes : List ℕ) → ((is_date bytes ≡ true) → IsDateBytes bytes) × (IsDateBytes bytes → (is_date bytes ≡ true))
 dates_are_decided-date bytes = search rules

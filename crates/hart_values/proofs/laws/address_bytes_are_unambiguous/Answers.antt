@@ -2,7 +2,4 @@ use Rattle.hart_values.proofs.lemmas.Laws.{address_bytes_are_unambiguous-one_lis
 use Rattle.hart_values.proofs.laws.address_bytes_are_unambiguous.Goals as goal
 
 pub returns : goal.returns
-returns c = record {
-  one_reading = address_bytes_are_unambiguous-one_reading;
-  one_list = address_bytes_are_unambiguous-one_list;
-}
+returns c = search (address_bytes_are_unambiguous-one_list, address_bytes_are_unambiguous-one_reading)

@@ -3,7 +3,4 @@ use Rattle.hart_values.proofs.lemmas.Laws.{packed_text_and_bytes_determine_each_
 use Rattle.hart_values.proofs.laws.packed_text_and_bytes_determine_each_other.Goals as goal
 
 pub returns : goal.returns
-returns c = record {
-  one_list = packed_text_and_bytes_determine_each_other-one_list;
-  one_text = packed_text_and_bytes_determine_each_other-one_text;
-}
+returns c = search (packed_text_and_bytes_determine_each_other-one_list, packed_text_and_bytes_determine_each_other-one_text)

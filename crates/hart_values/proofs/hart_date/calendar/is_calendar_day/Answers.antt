@@ -7,6 +7,4 @@ returns-in-Ok-Ok c =
     let year = passed_year c.from.result c.args.year (omega arith) c.from.ensures in
     let month = passed_byte c.in-Ok-Ok.month c.args.month c.in-Ok-Ok.ensures.0 c.in-Ok-Ok.ensures.1 in
     let day = passed_byte c.in-Ok-Ok.day c.args.day c.in-Ok-Ok.ensures'.0 c.in-Ok-Ok.ensures'.1 in
-    let same = IsDate-iff _ _ _ c.args.day c.args.month (1900 + c.args.year) year month day (omega arith) in
-    let succeeds = c.new.ensures.succeeds in
-    rw c.is_ok.ensures.value (λ ok. same.0 (succeeds.0 ok), λ known. succeeds.1 (same.1 known))
+    let same = IsDate-iff _ _ _ c.args.day c.args.month (1900 + c.args.year) year month day (omega arith) in grind arith

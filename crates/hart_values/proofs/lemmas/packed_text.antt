@@ -1,2 +1,0 @@
--- Packed text.
-pub mod Packing
