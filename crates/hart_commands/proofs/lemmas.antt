@@ -1,5 +1,4 @@
 -- Lemmas, in the rooms of the code and the definitions.
-pub mod Test
 pub mod Rows
 pub mod Request
 pub mod Chunk

@@ -1,7 +1,7 @@
 -- The chunks of a list, n items each.
 use Rattle.std.proofs.lemmas.Grind.{common_steps}
-use Rattle.std.proofs.Common.{◌≡◌, ℕ, zero, suc, ◌+◌, ◌*◌, ◌≤◌, List, take, drop, length, map, refl, arith}
-use Rattle.std.proofs.Common.{length-take-le, length-drop}
+use Rattle.std.proofs.Common.{◌≡◌, ℕ, zero, suc, ◌*◌, ◌≤◌, List, take, drop, length, map, refl, arith}
+use Rattle.std.proofs.Common.{length-take-le}
 use Rattle.std.specs.List.{flat_map}
 use Rattle.std.specs.Simd.{first_chunks}
 use Rattle.std.proofs.Math.Seq.{take-add}
@@ -11,19 +11,13 @@ use Rattle.std.proofs.lemmas.List.{drop-take, take_at}
 pub chunks-bytes : {X : Type 0} (n count : ℕ) (of : List ℕ → X) (bytes_of : X → List ℕ)
     → ((xs : List ℕ) → length xs ≡ n → bytes_of (of xs) ≡ xs) → (bytes : List ℕ) → count * n ≤ length bytes
     → flat_map bytes_of (map of (first_chunks n count bytes)) ≡ take (count * n) bytes
-chunks-bytes n zero of bytes_of back bytes long = let none : 0 * n ≡ 0 = grind arith in rw none refl
+chunks-bytes n zero of bytes_of back bytes long = grind (arith, common_steps)
 chunks-bytes n (suc count) of bytes_of back bytes long =
-    let more : suc count * n ≡ n + count * n = grind arith in
-    let first : n ≤ length bytes = grind arith in
-    let others : count * n ≤ length (drop n bytes) = (let gone = length-drop n bytes in grind arith) in
-    grind (arith, common_steps, take-add, length-take-le, chunks-bytes n count of bytes_of back (drop n bytes) others)
+    let others = chunks-bytes n count of bytes_of back (drop n bytes) in grind (arith, common_steps, take-add, length-take-le)
 
 -- The front of a list has its chunks.
 pub chunks-take : (n count : ℕ) (bytes : List ℕ) → count * n ≤ length bytes
     → first_chunks n count (take (count * n) bytes) ≡ first_chunks n count bytes
 chunks-take n zero bytes long = refl
 chunks-take n (suc count) bytes long =
-    let more : suc count * n ≡ n + count * n = grind arith in
-    let first : n ≤ length bytes = grind arith in
-    let others : count * n ≤ length (drop n bytes) = (let gone = length-drop n bytes in grind arith) in
-    grind (arith, common_steps, take-add, take_at, length-take-le, drop-take, chunks-take n count (drop n bytes) others)
+    let others = chunks-take n count (drop n bytes) in grind (arith, common_steps, take-add, take_at, length-take-le, drop-take)

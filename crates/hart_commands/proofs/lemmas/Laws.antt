@@ -16,7 +16,7 @@ use Rattle.hart_commands.proofs.lemmas.Reply.{read-kept}
 use Rattle.hart_commands.proofs.lemmas.ReplyFields.{parts_of_reply}
 use Rattle.hart_commands.proofs.lemmas.RequestFields.{parts_of_request}
 use Rattle.hart_commands.proofs.lemmas.Request.{written_is_own}
-use Rattle.hart_commands.proofs.lemmas.RequestMade.{read-asked}
+pub use Rattle.hart_commands.proofs.lemmas.RequestMade.{requests_have_their_command}
 
 pub all_registers_are_listed_once-every : (register : Register) → Contains registers register
 all_registers_are_listed_once-every Polling = (0, lit< tt, refl)
@@ -41,10 +41,6 @@ fields_are_all_of_the_data-reply reply is = grind (arith, common_steps, bytes-ea
 
 pub overwrites_are_valid : (write : Request) (old : Contents) → IsRequest write → AreValid old → AreValid (overwritten write old)
 overwrites_are_valid write old made valid = search rules
-
-pub requests_have_their_command : (command : ℕ) (bytes : List ℕ) (request : Request) → request_reading command bytes ≡ Ok request
-    → (command_of request ≡ command) × IsRequest request
-requests_have_their_command = read-asked
 
 pub written_data_are_their_request : (request : Request) → IsRequest request
     → request_reading (command_of request) (request_data request) ≡ Ok request

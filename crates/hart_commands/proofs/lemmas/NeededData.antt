@@ -1,16 +1,16 @@
 -- Which data are too few for a command.
 use Rattle.std.proofs.lemmas.Grind.{common_steps}
-use Rattle.std.proofs.Common.{◌≡◌, ◌≢◌, ◌↔◌, ℕ, ◌<◌, ◌≤◌, List, ◌++◌, length, Option, Err, IfSome}
+use Rattle.std.proofs.Common.{◌≡◌, ◌≢◌, ◌↔◌, ℕ, ◌<◌, ◌≤◌, List, ◌++◌, length, Err}
 use Rattle.std.proofs.Common.{arith, false, eqb, length-append}
 use Rattle.std.specs.List.{AllByRecursion}
 use Rattle.std.specs.Option.{option_map_or}
 use Rattle.std.proofs.lemmas.Bool.Decides.{nat_tests}
 use Rattle.hart_commands.specs.declared.request.Request.{Request}
 use Rattle.hart_commands.specs.RequestReading.{Reading, needing}
-use Rattle.hart_commands.specs.Commands.{Asked, Always, Needing, AskedBy, CommandRow, asked, commands, command_row}
+use Rattle.hart_commands.specs.Commands.{Asked, Always, Needing, AskedBy, CommandRow, asked, commands}
 use Rattle.hart_commands.specs.NeededData.{AreTooFew, needed_as, needed_data, own_needed}
 use Rattle.hart_commands.specs.RequestData.{read_by, request_reading}
-use Rattle.hart_commands.proofs.lemmas.Rows.{found}
+use Rattle.hart_commands.proofs.lemmas.Rows.{by_row}
 
 -- data are refused with code 5 exactly if they are fewer than so many, but that Command 38 may have none
 abbrev pub Needs : ℕ → ℕ → (List ℕ → Reading) → Type 0
@@ -37,12 +37,10 @@ needs command request own bytes = grind (arith, needed)
 
 -- data are refused with code 5 exactly if they are too few
 pub exactly : (command : ℕ) (bytes : List ℕ) → (request_reading command bytes ≡ Err 5) ↔ AreTooFew command bytes
-exactly command bytes = go (command_row command) (found NeedsOwn commands command rows)
-  where
-    go : (row : Option CommandRow) → IfSome row (λ row. (row.number ≡ command) × NeedsOwn row)
-        → (read_by row bytes ≡ Err 5)
-        ↔ ((length bytes < option_map_or (λ row. needed_as row.number row.request) row 0) × (command ≡ 38 → 0 < length bytes))
-    go row own = grind (arith, common_steps, needs)
+exactly command bytes =
+    by_row NeedsOwn (λ row. (read_by row bytes ≡ Err 5)
+    ↔ ((length bytes < option_map_or (λ row. needed_as row.number row.request) row 0) × (command ≡ 38 → 0 < length bytes)))
+    commands command rows (grind arith) (λ row own is. grind (arith, needs))
 
 -- data of at least as many bytes as are needed are never refused with it
 pub enough : (command : ℕ) (bytes : List ℕ) → needed_data command ≤ length bytes → request_reading command bytes ≢ Err 5

@@ -1,33 +1,28 @@
 -- The fields of the data of a well-made reply are the parts of its content.
-use Rattle.std.proofs.Common.{Bool}
 use Rattle.std.proofs.lemmas.Grind.{common_steps}
 use Rattle.std.proofs.Common.{◌≡◌, ℕ, zero, suc, ◌*◌, ◌<◌, ◌≤◌, List, [], ◌∷◌, ◌++◌, take, length}
-use Rattle.std.proofs.Common.{map, Option, Some, None, IfSome, refl, arith, rules, eqb, ltb, length-append}
-use Rattle.std.proofs.Common.{length-drop, length-take-le, slice_index}
-use Rattle.std.specs.Prelude.{if◌then◌else◌}
+use Rattle.std.proofs.Common.{map, Option, Some, None, IfSome, refl, arith, rules, length-append}
+use Rattle.std.proofs.Common.{length-drop, length-take-le}
 use Rattle.std.specs.List.{AllByRecursion}
-use Rattle.std.specs.Option.{option_map}
 use Rattle.std.specs.Simd.{first_chunks}
 use Rattle.std.proofs.lemmas.Bool.Decides.{nat_tests}
 use Rattle.std.proofs.lemmas.List.{take_at, drop_at, take_all}
 use Rattle.hart_commands.specs.declared.content.ReplyContent.{ReplyContent}
-use Rattle.hart_commands.specs.declared.content.ReplyContent.TheVariants.{Identity, Dynamic, Refused}
+use Rattle.hart_commands.specs.declared.content.ReplyContent.TheVariants.{Dynamic, Refused}
 use Rattle.hart_commands.specs.declared.reply.Reply.{Reply}
 use Rattle.hart_commands.specs.FirstBytes.{having}
 use Rattle.hart_commands.specs.Fields.{CommandRows, Row, field_bytes, fields_of, reply_rows, rows, rows_of}
 use Rattle.hart_commands.specs.Fields as fields
 use Rattle.hart_commands.specs.Parts.{content_parts, one}
-use Rattle.hart_commands.specs.IdentityBytes.{identity_of}
 use Rattle.hart_commands.specs.Values.{float_at, unit_value_of}
 use Rattle.hart_commands.specs.ReplyReading.{identity_reading, dynamic_reading, variables_reading, more_reading}
-use Rattle.hart_commands.specs.Commands.{Replied, Saying, SaidBy, CommandRow, replied, commands, command_row, is_known}
-use Rattle.hart_commands.specs.ReplyData.{IsReply, content_by, content_bytes, content_reading, reply_reading}
-use Rattle.hart_commands.proofs.lemmas.Test.{is_one}
-use Rattle.hart_commands.proofs.lemmas.Parts.{spell, by_spelling, variable-bytes}
+use Rattle.hart_commands.specs.Commands.{Replied, Saying, SaidBy, replied, commands}
+use Rattle.hart_commands.specs.ReplyData.{IsReply, content_by, content_bytes, content_reading}
+use Rattle.hart_commands.proofs.lemmas.Parts.{spell, spelled, by_spelling, variable-bytes}
 use Rattle.hart_commands.proofs.lemmas.Chunk.{chunks-bytes, chunks-take}
-use Rattle.hart_commands.proofs.lemmas.Reply.{by_test, identity_in, three_tests}
+use Rattle.hart_commands.proofs.lemmas.Reply.{identity_in, says}
 use Rattle.hart_commands.proofs.lemmas.Named as names
-use Rattle.hart_commands.proofs.lemmas.Rows.{found}
+use Rattle.hart_commands.proofs.lemmas.Rows.{by_row}
 use Rattle.hart_commands.proofs.lemmas.RequestFields.{all_left}
 
 -- the fields that a command has of a content are its parts
@@ -45,25 +40,17 @@ said command size read each bytes =
     grind (arith, common_steps, nat_tests)
 
 identity : (command : ℕ) → reply_rows command ≡ fields.identity → Parts command identity_reading
-identity command same = said command 22 identity_in (λ xs.
-    by_test (eqb (slice_index xs 0) 254) (Some (Identity (identity_of (spell 22 xs)))) None (IsParted command)
-    (λ t. rw same refl) (λ f. tt))
+identity command same = said command 22 identity_in (λ xs. grind arith)
 
 -- a loop current and one to four variables, seen byte by byte
 in_groups : (groups : ℕ) → 0 < groups → groups ≤ 4 → (start rest : List ℕ) → length start ≡ 4 → length rest ≡ groups * 5
     → IsParted 3 (Dynamic (record { 0 = start }) (map unit_value_of (first_chunks 5 groups rest)))
 unfolding rows
-in_groups groups some few start rest four long =
-    by_spelling 4 (λ start. IsParted 3 (Dynamic (record { 0 = start }) (map unit_value_of (first_chunks 5 groups rest))))
-    (λ s. go groups some few s rest long) start four
-  where
-    go : (n : ℕ) → 0 < n → n ≤ 4 → (s rest : List ℕ) → length rest ≡ n * 5
-        → IsParted 3 (Dynamic (record { 0 = spell 4 s }) (map unit_value_of (first_chunks 5 n rest)))
-    go (suc zero) some few s = by_spelling 5 _ (λ xs. refl)
-    go (suc (suc zero)) some few s = by_spelling 10 _ (λ xs. refl)
-    go (suc (suc (suc zero))) some few s = by_spelling 15 _ (λ xs. refl)
-    go (suc (suc (suc (suc zero)))) some few s = by_spelling 20 _ (λ xs. refl)
-    go _ some few s = absurd (omega arith)
+in_groups (suc zero) some few start rest four long = rw (← spelled 4 start four, ← spelled 5 rest long) refl
+in_groups (suc (suc zero)) some few start rest four long = rw (← spelled 4 start four, ← spelled 10 rest long) refl
+in_groups (suc (suc (suc zero))) some few start rest four long = rw (← spelled 4 start four, ← spelled 15 rest long) refl
+in_groups (suc (suc (suc (suc zero)))) some few start rest four long = rw (← spelled 4 start four, ← spelled 20 rest long) refl
+in_groups _ some few start rest four long = absurd (omega arith)
 
 in_front : (bytes rest : List ℕ) (groups : ℕ) → 4 ≤ length bytes → 0 < groups → groups ≤ 4 → groups * 5 ≤ length rest
     → IsParted 3 (Dynamic (float_at bytes 0) (map unit_value_of (first_chunks 5 groups rest)))
@@ -83,8 +70,7 @@ cut status variables time_stamp some four =
     grind (arith, common_steps, nat_tests, length-append, take_at, drop_at, take_all)
 
 variables : Parts 9 variables_reading
-variables bytes =
-    grind (arith, common_steps, by_test, is_one, three_tests, cut, chunks-bytes, variable-bytes, length-take-le, length-drop)
+variables bytes = grind (arith, common_steps, nat_tests, cut, chunks-bytes, variable-bytes)
 
 more : Parts 48 more_reading
 unfolding rows
@@ -104,11 +90,9 @@ parts command (Saying size content) each = said command size (λ xs. Some (conte
 parts command (SaidBy reading) all = all
 
 content-parted : (command : ℕ) → Parts command (content_reading command)
-content-parted command bytes = go (command_row command) (found (λ row. Parted row.number row.reply) commands command parted)
-  where
-    go : (row : Option CommandRow) → IfSome row (λ row. (row.number ≡ command) × Parted row.number row.reply)
-        → IfSome (content_by row bytes) (IsParted command)
-    go row all = grind (arith, common_steps, parts)
+content-parted command bytes =
+    by_row (λ row. Parted row.number row.reply) (λ row. IfSome (content_by row bytes) (IsParted command)) commands command parted tt
+    (λ row own all. parts command row.reply (rw own at all) bytes)
 
 -- no data have no fields
 abbrev pub IsEmpty : List Row → Type 0
@@ -121,23 +105,9 @@ nothing = search rules
 none-parted : (command : ℕ) → IsParted command Refused
 none-parted command = grind (arith, names.found (λ command. IsEmpty command.reply) rows command nothing)
 
--- the same of a reply that was read
-by_reading : (command code status : ℕ) (content : Option ReplyContent) (is_known : Bool) → IfSome content (IsParted command)
-    → IsParted command Refused
-    → (let saying : ReplyContent → Reply =
-    λ content. record { command = command; code = code; status = record { 0 = status }; content = content } in
-    IfSome (if ltb 127 code then None
-    else if eqb code 0 then option_map saying content
-    else if is_known then Some (saying Refused)
-    else None) (λ reply. IsParted command reply.content))
-by_reading command code status content is_known all none = grind arith
-
-reading-parted : (command : ℕ) (payload : List ℕ) → IfSome (reply_reading command payload) (λ reply. IsParted command reply.content)
-reading-parted command [] = tt
-reading-parted command (code ∷ []) = tt
-reading-parted command (code ∷ status ∷ bytes) =
-    by_reading command code status _ _ (content-parted command bytes) (none-parted command)
-
 pub parts_of_reply : (reply : Reply) → IsReply reply
     → field_bytes (fields_of (reply_rows reply.command) (content_bytes reply.content)) ≡ content_parts reply.content
-parts_of_reply reply is = rw is.1 at (reading-parted reply.command is.0)
+parts_of_reply reply is =
+    let said = says reply.command is.0 reply is.1 in
+    let parted = content-parted reply.command said.bytes in
+    let none = none-parted reply.command in grind (arith, said.content_is)

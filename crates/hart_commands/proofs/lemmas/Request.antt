@@ -12,13 +12,12 @@ use Rattle.hart_commands.specs.declared.request.Request.TheVariants.{SetPolling,
 use Rattle.hart_commands.specs.declared.request.Request.TheVariants.{WriteAssembly, IdentifyByLongTag, WriteLongTag, ResetChanged}
 use Rattle.hart_commands.specs.RequestReading.{needing, tag_reading}
 use Rattle.hart_commands.specs.RequestData.{IsRequest, MayFollow, command_of, request_reading, request_data}
-use Rattle.hart_commands.proofs.lemmas.Test.{above}
 use Rattle.hart_commands.proofs.lemmas.Parts.{by_spelling}
 
 -- needed bytes are read, whatever follows
 needing-append : (size : ℕ) (asked : List ℕ → Request) (bytes rest : List ℕ) → length bytes ≡ size
     → needing size asked (bytes ++ rest) ≡ Ok (asked bytes)
-needing-append size asked bytes rest long = grind (arith, common_steps, above, length-append, take_at)
+needing-append size asked bytes rest long = grind (arith, common_steps, nat_tests, length-append, take_at)
 
 -- at most eight codes are read with what may follow
 take-codes : (codes rest : List ℕ) → length codes ≤ 8 → (length codes ≡ 8) ⊎ (rest ≡ []) → take 8 (codes ++ rest) ≡ codes

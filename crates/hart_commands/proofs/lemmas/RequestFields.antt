@@ -4,6 +4,7 @@ use Rattle.std.proofs.lemmas.Grind.{common_steps}
 use Rattle.std.proofs.Common.{◌≡◌, ℕ, ◌<◌, List, [], ◌∷◌, length, Some, None, refl, arith}
 use Rattle.std.specs.Prelude.{codes}
 use Rattle.std.proofs.lemmas.List.{take_all}
+use Rattle.std.proofs.lemmas.Bool.Decides.{nat_tests}
 use Rattle.hart_commands.specs.declared.fields.FieldKind.{FieldKind}
 use Rattle.hart_commands.specs.declared.fields.FieldKind.TheVariants.{Bytes}
 use Rattle.hart_commands.specs.declared.fields.FieldSize.TheVariants.{AllBut}
@@ -13,12 +14,11 @@ use Rattle.hart_commands.specs.declared.request.Request.TheVariants.{WriteAssemb
 use Rattle.hart_commands.specs.Fields.{field, field_bytes, fields_of, request_rows, rows}
 use Rattle.hart_commands.specs.Parts.{request_parts}
 use Rattle.hart_commands.specs.RequestData.{IsRequest, command_of, request_data}
-use Rattle.hart_commands.proofs.lemmas.Test.{below}
 
 -- a row that takes all bytes that are left has them
 pub all_left : (name : List ℕ) (kind : FieldKind) (bytes : List ℕ) → 0 < length bytes
     → field_bytes (fields_of (field name (AllBut 0) kind ∷ []) bytes) ≡ bytes ∷ []
-all_left name kind bytes some = grind (arith, common_steps, below, take_all)
+all_left name kind bytes some = grind (arith, common_steps, nat_tests, take_all)
 
 pub parts_of_request : (request : Request) → IsRequest request
     → field_bytes (fields_of (request_rows (command_of request)) (request_data request)) ≡ request_parts request

@@ -2,7 +2,7 @@
 use Rattle.std.proofs.lemmas.Bool.Decides.{nat_tests}
 use Rattle.std.proofs.lemmas.Grind.{common_steps}
 use Rattle.std.proofs.Common.{◌≡◌, ℕ, ◌<◌, ◌≤◌, ◌⊎◌, All, List, [], ◌++◌, take, drop, length, Ok}
-use Rattle.std.proofs.Common.{Option, Err, IfSome, refl, arith}
+use Rattle.std.proofs.Common.{Err, refl, arith}
 use Rattle.std.proofs.Common.{append_assoc}
 use Rattle.std.specs.List.{AllByRecursion}
 use Rattle.std.proofs.Math.Seq.{take-add}
@@ -11,12 +11,10 @@ use Rattle.hart_commands.specs.declared.request.Request.{Request}
 use Rattle.hart_commands.specs.TagBytes.{tag_in, descriptor_in, date_in}
 use Rattle.hart_commands.specs.RequestReading.{Reading, needing, polling_reading, codes_reading, tag_reading}
 use Rattle.hart_commands.specs.RequestReading.{reset_reading}
-use Rattle.hart_commands.specs.Commands.{Asked, Always, Needing, AskedBy, CommandRow, asked, commands, command_row}
+use Rattle.hart_commands.specs.Commands.{Asked, Always, Needing, AskedBy, CommandRow, asked, commands}
 use Rattle.hart_commands.specs.Fields.{fields_of, request_rows, rows}
 use Rattle.hart_commands.specs.RequestData.{read_by, request_data, request_reading}
-use Rattle.hart_commands.proofs.lemmas.Reply.{front}
-use Rattle.hart_commands.proofs.lemmas.RequestMade.{by_test}
-use Rattle.hart_commands.proofs.lemmas.Rows.{found}
+use Rattle.hart_commands.proofs.lemmas.Rows.{by_row}
 
 -- an address without the mode with which it is written
 pub record IsAlone (command : ℕ) (bytes written : List ℕ) : Type 0 where
@@ -36,16 +34,16 @@ Begins command read = (bytes : List ℕ) → All (λ byte. byte < 256) bytes →
 
 needed : (command size : ℕ) (request : List ℕ → Request) → ((xs : List ℕ) → request_data (request xs) ≡ xs)
     → Begins command (needing size request)
-needed command size request each bytes fit = grind (arith, common_steps, nat_tests, front)
+needed command size request each bytes fit = grind (arith, common_steps, nat_tests)
 
 polling : Begins 6 polling_reading
 polling bytes fit = grind (arith, common_steps, nat_tests)
 
 codes : Begins 9 codes_reading
-codes bytes fit = grind (arith, front)
+codes bytes fit = grind (arith, common_steps)
 
 tag : Begins 18 tag_reading
-tag bytes fit = grind (arith, common_steps, by_test, whole, front)
+tag bytes fit = grind (arith, common_steps, nat_tests, whole)
   where
     whole : tag_in bytes ++ descriptor_in bytes ++ date_in bytes ≡ take 21 bytes
     whole = rw (take-add 6 15 bytes, take-add 12 3 (drop 6 bytes), drop-drop 12 6 bytes, append_assoc) refl
@@ -70,11 +68,8 @@ begins command request own bytes fit = grind (arith, common_steps, needed, own, 
 
 begun : (command : ℕ) (bytes : List ℕ) (request : Request) → All (λ byte. byte < 256) bytes → request_reading command bytes ≡ Ok request
     → (take (length (request_data request)) bytes ≡ request_data request) ⊎ IsAlone command bytes (request_data request)
-begun command bytes request fit e = go (command_row command) e (found BeginsOwn commands command own)
-  where
-    go : (row : Option CommandRow) → read_by row bytes ≡ Ok request → IfSome row (λ row. (row.number ≡ command) × BeginsOwn row)
-        → IsBegun command bytes (Ok request)
-    go row e is = grind (arith, common_steps, begins)
+begun command bytes request fit = by_row BeginsOwn (λ row. read_by row bytes ≡ Ok request → IsBegun command bytes (Ok request))
+    commands command own (λ e. cc) (λ row same is e. grind (arith, common_steps, begins))
 
 -- data agree with those that their request is written as, as far as both go
 pub agree : (command : ℕ) (bytes : List ℕ) (request : Request) → All (λ byte. byte < 256) bytes → request_reading command bytes ≡ Ok request
@@ -86,27 +81,19 @@ pub whole : (command : ℕ) (bytes : List ℕ) (request : Request) → All (λ b
     → length (request_data request) ≤ length bytes → take (length (request_data request)) bytes ≡ request_data request
 whole command bytes request fit e enough = let is = begun command bytes request fit e in grind arith
 
--- fewer are an address alone
-alone : (command : ℕ) (bytes : List ℕ) (request : Request) → All (λ byte. byte < 256) bytes → request_reading command bytes ≡ Ok request
-    → length bytes < length (request_data request) → IsAlone command bytes (request_data request)
-alone command bytes request fit e fewer = let is = begun command bytes request fit e in grind (arith, common_steps)
-
-pub left_out : (command : ℕ) (bytes : List ℕ) (request : Request) → All (λ byte. byte < 256) bytes
-    → request_reading command bytes ≡ Ok request → length bytes < length (request_data request) → (command ≡ 6) × (length bytes ≡ 1)
-left_out command bytes request fit e fewer = let is = alone command bytes request fit e fewer in (is.own, is.one)
-
--- an address alone is the first field
 first_field : (written : List ℕ) → length written ≡ 2
     → fields_of (request_rows 6) (take 1 written) ≡ take 1 (fields_of (request_rows 6) written)
 unfolding rows
 first_field written two = grind arith
 
+-- fewer are an address alone, which is the first field
+pub left_out : (command : ℕ) (bytes : List ℕ) (request : Request) → All (λ byte. byte < 256) bytes
+    → request_reading command bytes ≡ Ok request → length bytes < length (request_data request) → (command ≡ 6) × (length bytes ≡ 1)
+left_out command bytes request fit e fewer = let is = begun command bytes request fit e in grind (arith, common_steps)
+
 pub fields : (command : ℕ) (bytes : List ℕ) (request : Request) → All (λ byte. byte < 256) bytes
     → request_reading command bytes ≡ Ok request → length bytes < length (request_data request)
     → fields_of (request_rows command) (take (length (request_data request)) bytes)
     ≡ take 1 (fields_of (request_rows command) (request_data request))
-fields command bytes request fit e fewer = go (request_data request) (alone command bytes request fit e fewer)
-  where
-    go : (written : List ℕ) → IsAlone command bytes written
-        → fields_of (request_rows command) (take (length written) bytes) ≡ take 1 (fields_of (request_rows command) written)
-    go written is = grind (arith, take_all, first_field)
+fields command bytes request fit e fewer =
+    let is = begun command bytes request fit e in grind (arith, common_steps, take_all, first_field)

@@ -1,7 +1,7 @@
 -- What is read of data is a well-made request of its command, or refused with another code than 64.
 use Rattle.std.proofs.lemmas.Grind.{common_steps}
-use Rattle.std.proofs.Common.{◌≡◌, ◌≢◌, ◌↔◌, ℕ, ◌≤◌, List, drop, length, Option, Ok, Err}
-use Rattle.std.proofs.Common.{IfSome, refl, arith, Bool, true, false, ltb, length-drop, length-take-le}
+use Rattle.std.proofs.Common.{◌≡◌, ◌≢◌, ◌↔◌, ℕ, ◌≤◌, List, drop, length, Ok, Err}
+use Rattle.std.proofs.Common.{refl, arith, Bool, true, false, ltb, length-drop, length-take-le}
 use Rattle.std.specs.Prelude.{if◌then◌else◌, is_some}
 use Rattle.std.specs.List.{AllByRecursion}
 use Rattle.std.proofs.lemmas.Bool.Decides.{nat_tests}
@@ -11,9 +11,9 @@ use Rattle.hart_commands.specs.declared.request.Request.TheVariants.{WriteTag}
 use Rattle.hart_commands.specs.TagBytes.{tag_in, descriptor_in, date_in}
 use Rattle.hart_commands.specs.RequestReading.{Reading, needing, polling_reading, codes_reading, tag_reading}
 use Rattle.hart_commands.specs.RequestReading.{reset_reading}
-use Rattle.hart_commands.specs.Commands.{Asked, Always, Needing, AskedBy, CommandRow, asked, commands, command_row, is_known}
+use Rattle.hart_commands.specs.Commands.{Asked, Always, Needing, AskedBy, CommandRow, asked, commands, is_known}
 use Rattle.hart_commands.specs.RequestData.{IsRequest, command_of, read_by, request_reading}
-use Rattle.hart_commands.proofs.lemmas.Rows.{found}
+use Rattle.hart_commands.proofs.lemmas.Rows.{by_row}
 
 -- a well-made request of a command, or a code other than 64
 abbrev pub IsGiven : ℕ → Reading → Type 0
@@ -69,24 +69,16 @@ pub rows : AllByRecursion AsksOwn commands
 rows = search (polling, codes, tag, reset)
 
 gives : (command : ℕ) (request : Asked) → Own command request → Gives command (asked request)
-gives command (Always request) own bytes = own
 gives command (Needing size request) own bytes = needed command size request own bytes
-gives command (AskedBy reading) own bytes = own bytes
+gives command _ own bytes = grind (arith, own)
 
 -- the same of what is read
-given_by : (command : ℕ) (row : Option CommandRow) (bytes : List ℕ) (request : Request)
-    → IfSome row (λ row. (row.number ≡ command) × AsksOwn row)
-    → read_by row bytes ≡ Ok request → IsGiven command (Ok request)
-given_by command row bytes request given e = grind (arith, common_steps, gives)
-
-pub read-asked : (command : ℕ) (bytes : List ℕ) (request : Request) → request_reading command bytes ≡ Ok request
+pub requests_have_their_command : (command : ℕ) (bytes : List ℕ) (request : Request) → request_reading command bytes ≡ Ok request
     → (command_of request ≡ command) × IsRequest request
-read-asked command bytes request = given_by command (command_row command) bytes request (found AsksOwn commands command rows)
+requests_have_their_command command bytes request = by_row AsksOwn (λ row. read_by row bytes ≡ Ok request → IsGiven command (Ok request))
+    commands command rows (λ e. cc) (λ row same is e. grind (arith, common_steps, gives))
 
 -- only a command that is not known is refused with code 64
-refused_by : (command : ℕ) (row : Option CommandRow) (bytes : List ℕ) → IfSome row (λ row. (row.number ≡ command) × AsksOwn row)
-    → (read_by row bytes ≡ Err 64) ↔ (is_some row ≡ false)
-refused_by command row bytes given = grind (arith, common_steps, gives)
-
 pub unknown-refused : (command : ℕ) (bytes : List ℕ) → (request_reading command bytes ≡ Err 64) ↔ (is_known command ≡ false)
-unknown-refused command bytes = refused_by command (command_row command) bytes (found AsksOwn commands command rows)
+unknown-refused command bytes = by_row AsksOwn (λ row. (read_by row bytes ≡ Err 64) ↔ (is_some row ≡ false))
+    commands command rows (grind arith) (λ row same is. grind (arith, common_steps, gives))

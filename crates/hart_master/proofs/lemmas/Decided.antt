@@ -13,7 +13,7 @@ use Rattle.hart_commands.specs.ReplyData.{reply_reading}
 use Rattle.hart_commands.specs.declared.request.Request.{Request}
 use Rattle.hart_commands.specs.declared.reply.Reply.{Reply}
 use Rattle.hart_master.specs.Acceptance.{MatchesRequest, IsReplyTo, IsAccepted}
-use Rattle.hart_master.proofs.lemmas.Acceptance.{IsAlone, NoOther, IsReplyTo-alone}
+use Rattle.hart_master.proofs.lemmas.Acceptance.{only_one, IsReplyTo-alone}
 
 -- a fact holds or does not
 abbrev Decided : Type 0 → Type 0
@@ -41,27 +41,15 @@ pub reply_decided : (id : MasterId) (address : Address) (request : Request) (fra
 reply_decided id address request frame =
     grind (arith, answers_decided id address request frame, reading_decided (reply_reading frame.command frame.payload))
 
--- so a delivery with that frame alone is accepted as that reply, or as none
-decided_alone : (id : MasterId) (address : Address) (request : Request) (chars : List Character) (found : Found)
-    → IsAlone chars found → NoOther chars found → OneOrNone (IsReplyTo id address request found.frame)
-    → OneOrNone (IsAccepted id address request chars)
-decided_alone id address request chars found alone no_other (inl one) =
-    inl (one.0, record { found = found; alone = alone; is_reply = one.1 })
-decided_alone id address request chars found alone no_other (inr nothing) =
-    inr (λ reply accepted. nothing reply (IsReplyTo-alone id address request chars found reply no_other accepted))
-
--- and one with no frame, or with several, as none
+-- so a delivery with that frame alone is accepted as that reply, or as none, and one with no frame, or with several, as none
 decided_by : (id : MasterId) (address : Address) (request : Request) (chars : List Character) (frames : List Found)
     → AreFrames chars 0 frames → OneOrNone (IsAccepted id address request chars)
-decided_by id address request chars [] are =
-    inr (λ reply accepted. let same = frames_are_unambiguous-one_list chars 0 [] (accepted.found ∷ []) are accepted.alone in cc)
-decided_by id address request chars (found ∷ []) are =
-    decided_alone id address request chars found are
-    (λ other alone. let same = frames_are_unambiguous-one_list chars 0 (other ∷ []) (found ∷ []) alone are in cc)
-    (reply_decided id address request found.frame)
-decided_by id address request chars (found ∷ second ∷ later) are =
-    inr (λ reply accepted.
-    let same = frames_are_unambiguous-one_list chars 0 (found ∷ second ∷ later) (accepted.found ∷ []) are accepted.alone in cc)
+decided_by id address request chars (found ∷ []) are = elim (reply_decided id address request found.frame) [
+  | inl one ↦ inl (one.0, record { found = found; alone = are; is_reply = one.1 })
+  | inr nothing ↦ inr (λ reply accepted. nothing reply (IsReplyTo-alone id address request chars found reply (only_one chars found are) accepted))
+]
+decided_by id address request chars frames are =
+    inr (λ reply accepted. let same = frames_are_unambiguous-one_list chars 0 frames (accepted.found ∷ []) are accepted.alone in cc)
 
 pub acceptance_decided : (id : MasterId) (address : Address) (request : Request) (chars : List Character)
     → OneOrNone (IsAccepted id address request chars)

@@ -24,8 +24,4 @@ brings_frame id hand chars found reply no_other accepted = grind (arith, IsReply
 pub heard_of_frame : (id : MasterId) (hand : Hand) (chars : List Character) (found : Found) (event : MasterEvent)
     → IsAlone chars found → NoOther chars found → IsHeard hand (FrameBrings id hand found.frame) event
     → IsHeard hand (DeliveryBrings id hand chars) event
-heard_of_frame id hand chars found (Answered reply sendings) alone no_other heard =
-    (frame_brings id hand chars found reply alone heard.0, heard.1)
-heard_of_frame id hand chars found Nothing alone no_other heard =
-    λ reply brings. heard reply (brings_frame id hand chars found reply no_other brings)
-heard_of_frame id hand chars found _ alone no_other never = absurd never
+heard_of_frame id hand chars found event alone no_other heard = grind (arith, frame_brings, brings_frame)

@@ -11,7 +11,7 @@ use Rattle.hart_frame.proofs.lemmas.Laws.{frames_are_unambiguous-one_list}
 use Rattle.hart_commands.specs.declared.reply.Reply.{Reply}
 use Rattle.hart_commands.specs.declared.request.Request.{Request}
 use Rattle.hart_master.specs.Acceptance.{IsAccepted, IsReplyTo}
-use Rattle.hart_master.proofs.lemmas.Acceptance.{IsReplyTo-alone, no_other}
+use Rattle.hart_master.proofs.lemmas.Acceptance.{IsReplyTo-alone, only_one}
 use Rattle.hart_master.proofs.lemmas.Decided.{never_read, reply_decided}
 
 pub replies_are_decided-one_reply : (id : MasterId) (address : Address) (request : Request) (frame : FrameParts) (r s : Reply)
@@ -26,9 +26,7 @@ pub acceptance_is_decided-by_its_frame : (id : MasterId) (address : Address) (re
     (found : Found) (reply : Reply) → AreFrames delivery 0 (found ∷ [])
     → IsAccepted id address request delivery reply → IsReplyTo id address request found.frame reply
 acceptance_is_decided-by_its_frame id address request delivery found reply alone =
-    let only = λ (frames : List Found) (are : AreFrames delivery 0 frames).
-    ap lone_of (frames_are_unambiguous-one_list delivery 0 (found ∷ []) frames alone are) in
-    IsReplyTo-alone id address request delivery found reply (no_other delivery found only)
+    IsReplyTo-alone id address request delivery found reply (only_one delivery found alone)
 
 pub communication_faults_are_no_reply-frame : (id : MasterId) (address : Address) (request : Request) (frame : FrameParts) (reply : Reply)
     → 128 ≤ slice_index frame.payload 0 → IsReplyTo id address request frame reply → ⊥

@@ -1,3 +1,4 @@
+use Rattle.std.proofs.Common.{arith}
 use Rattle.hart_master.proofs.lemmas.Acceptance.{no_other}
 use Rattle.hart_master.proofs.lemmas.Heard.{frame_brings, brings_frame, heard_of_frame}
 use Rattle.hart_master.proofs.master.Master.hear.Goals as goal
@@ -9,10 +10,7 @@ returns-in-Alone-clause-event c =
 
 pub returns-in-Alone-clause-answered : goal.returns-in-Alone-clause-answered
 returns-in-Alone-clause-answered c = λ reply brings.
-    c.receive.ensures.answered reply
-    (brings_frame _ _ _ c.in-Alone.found reply (no_other _ _ c.in-Alone.ensures.only) brings)
+    c.receive.ensures.answered reply (brings_frame _ _ _ c.in-Alone.found reply (no_other _ _ c.in-Alone.ensures.only) brings)
 
 pub returns-in-Alone-clause-nothing : goal.returns-in-Alone-clause-nothing
-returns-in-Alone-clause-nothing c = λ nothing.
-    c.receive.ensures.nothing
-    (λ reply brings. nothing reply (frame_brings _ _ _ c.in-Alone.found reply c.in-Alone.ensures.lone brings))
+returns-in-Alone-clause-nothing c = grind (arith, frame_brings, c.in-Alone.ensures.lone, c.receive.ensures.nothing)
