@@ -138,8 +138,7 @@ written_is_read reply is = (read-kept reply.command is.0 reply is.1).again
 -- a reply that was read is well made
 pub read-made : (command : ℕ) (payload : List ℕ) (reply : Reply) → reply_reading command payload ≡ Some reply
     → IsReply reply × (reply.command ≡ command)
-read-made command payload reply e =
-    let by : reply.command ≡ command = (read-kept command payload reply e).own in grind (arith, common_steps)
+read-made command payload reply e = let own = (says command payload reply e).own in ((payload, cc), own)
 
 pub result-made : (command : ℕ) (payload : List ℕ) (result : Option Reply) → result ≡ reply_reading command payload → IfSome result IsReply
 result-made command payload None e = tt

@@ -1,5 +1,4 @@
 -- Written data are read again.
-use Rattle.hart_commands.proofs.lemmas.Parts.{spell}
 use Rattle.std.proofs.lemmas.Grind.{common_steps}
 use Rattle.std.proofs.Common.{◌≡◌, ℕ, ◌≤◌, ◌⊎◌, inl, inr, List, [], ◌∷◌, ◌++◌, take, length, Ok, refl, ap, arith, true}
 use Rattle.std.proofs.Common.{length-append, append-nil}
@@ -12,7 +11,7 @@ use Rattle.hart_commands.specs.declared.request.Request.TheVariants.{SetPolling,
 use Rattle.hart_commands.specs.declared.request.Request.TheVariants.{WriteAssembly, IdentifyByLongTag, WriteLongTag, ResetChanged}
 use Rattle.hart_commands.specs.RequestReading.{needing, tag_reading}
 use Rattle.hart_commands.specs.RequestData.{IsRequest, MayFollow, command_of, request_reading, request_data}
-use Rattle.hart_commands.proofs.lemmas.Parts.{by_spelling}
+use Rattle.hart_commands.proofs.lemmas.Parts.{spelled}
 
 -- needed bytes are read, whatever follows
 needing-append : (size : ℕ) (asked : List ℕ → Request) (bytes rest : List ℕ) → length bytes ≡ size
@@ -28,10 +27,7 @@ take-codes codes rest few (inr none) = rw (none, append-nil) (take_all 8 codes f
 tag_reading-good : (tag descriptor date rest : List ℕ) → length tag ≡ 6 → length descriptor ≡ 12 → length date ≡ 3 → is_date date ≡ true
     → tag_reading (tag ++ descriptor ++ date ++ rest) ≡ Ok (WriteTag tag descriptor date)
 tag_reading-good tag descriptor date rest six twelve three =
-    by_spelling 6 (λ t. is_date date ≡ true → tag_reading (t ++ descriptor ++ date ++ rest) ≡ Ok (WriteTag t descriptor date)) (λ t.
-    by_spelling 12 (λ d. is_date date ≡ true → tag_reading (spell 6 t ++ d ++ date ++ rest) ≡ Ok (WriteTag (spell 6 t) d date)) (λ d.
-    by_spelling 3 (λ s. is_date s ≡ true → tag_reading (spell 6 t ++ spell 12 d ++ s ++ rest) ≡ Ok (WriteTag (spell 6 t) (spell 12 d) s))
-    (λ s good. grind (arith, nat_tests, good)) date three) descriptor twelve) tag six
+    rw (← spelled 6 tag six, ← spelled 12 descriptor twelve, ← spelled 3 date three) (λ good. grind (arith, nat_tests, good))
 
 pub written_is_read : (request : Request) (rest : List ℕ) → IsRequest request → MayFollow request rest
     → request_reading (command_of request) (request_data request ++ rest) ≡ Ok request

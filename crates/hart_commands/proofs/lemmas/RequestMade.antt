@@ -1,14 +1,12 @@
 -- What is read of data is a well-made request of its command, or refused with another code than 64.
 use Rattle.std.proofs.lemmas.Grind.{common_steps}
-use Rattle.std.proofs.Common.{◌≡◌, ◌≢◌, ◌↔◌, ℕ, ◌≤◌, List, drop, length, Ok, Err}
-use Rattle.std.proofs.Common.{refl, arith, Bool, true, false, ltb, length-drop, length-take-le}
-use Rattle.std.specs.Prelude.{if◌then◌else◌, is_some}
+use Rattle.std.proofs.Common.{◌≡◌, ◌≢◌, ◌↔◌, ℕ, List, drop, length, Ok, Err}
+use Rattle.std.proofs.Common.{arith, false, length-drop, length-take-le}
+use Rattle.std.specs.Prelude.{is_some}
 use Rattle.std.specs.List.{AllByRecursion}
 use Rattle.std.proofs.lemmas.Bool.Decides.{nat_tests}
 use Rattle.hart_values.proofs.lemmas.Laws.{dates_are_decided-date}
 use Rattle.hart_commands.specs.declared.request.Request.{Request}
-use Rattle.hart_commands.specs.declared.request.Request.TheVariants.{WriteTag}
-use Rattle.hart_commands.specs.TagBytes.{tag_in, descriptor_in, date_in}
 use Rattle.hart_commands.specs.RequestReading.{Reading, needing, polling_reading, codes_reading, tag_reading}
 use Rattle.hart_commands.specs.RequestReading.{reset_reading}
 use Rattle.hart_commands.specs.Commands.{Asked, Always, Needing, AskedBy, CommandRow, asked, commands, is_known}
@@ -24,10 +22,6 @@ IsGiven command (Err code) = code ≢ 64
 abbrev pub Gives : ℕ → (List ℕ → Reading) → Type 0
 Gives command asked = (bytes : List ℕ) → IsGiven command (asked bytes)
 
-pub by_test : (b : Bool) (x y : Reading) (P : Reading → Type 0) → (b ≡ true → P x) → (b ≡ false → P y) → P (if b then x else y)
-by_test true x y P then_x else_y = then_x refl
-by_test false x y P then_x else_y = else_y refl
-
 needed : (command size : ℕ) (request : List ℕ → Request) → ((xs : List ℕ) → length xs ≡ size → IsGiven command (Ok (request xs)))
     → Gives command (needing size request)
 needed command size request each bytes = grind (arith, common_steps, nat_tests)
@@ -40,18 +34,8 @@ codes bytes = grind (arith, common_steps)
 
 tag : Gives 18 tag_reading
 tag bytes =
-    by_test (ltb (length bytes) 21) (Err 5) _ (IsGiven 18) (λ t. omega arith) (λ f.
-    let enough : 21 ≤ length bytes = grind (arith, nat_tests) in
-    by_test _ (Ok (WriteTag (tag_in bytes) (descriptor_in bytes) (date_in bytes))) (Err 9) (IsGiven 18)
-    (λ t. (
-      grind (arith, common_steps),
-      (
-        grind (arith, common_steps, length-take-le),
-        length-take-le 12 (drop 6 bytes) (omega (arith, length-drop 6 bytes)),
-        (dates_are_decided-date (date_in bytes)).0 t,
-      ),
-    ))
-    (λ g. omega arith))
+    let six = length-take-le 6 bytes in
+    let twelve = length-take-le 12 (drop 6 bytes) in grind (arith, length-drop, nat_tests, dates_are_decided-date)
 
 reset : Gives 38 reset_reading
 reset bytes = grind arith

@@ -1,14 +1,9 @@
 -- What holds of every row of the table holds of the row that is found.
 use Rattle.std.proofs.lemmas.Bool.Decides.{nat_tests}
 use Rattle.std.proofs.Common.{arith}
-use Rattle.std.proofs.Common.{◌≡◌, ℕ, List, [], ◌∷◌, IfSome, Option, None, Some}
+use Rattle.std.proofs.Common.{◌≡◌, ℕ, List, [], ◌∷◌, Option, None, Some}
 use Rattle.std.specs.List.{AllByRecursion}
 use Rattle.hart_commands.specs.Commands.{CommandRow, row_in}
-
-pub found : (P : CommandRow → Type 0) (rows : List CommandRow) (command : ℕ) → AllByRecursion P rows
-    → IfSome (row_in rows command) (λ row. (row.number ≡ command) × P row)
-found P [] command all = tt
-found P (row ∷ rows) command all = grind (arith, nat_tests, all.0, found P rows command all.1)
 
 pub by_row : (P : CommandRow → Type 0) (Q : Option CommandRow → Type 0) (rows : List CommandRow) (command : ℕ) → AllByRecursion P rows
     → Q None → ((row : CommandRow) → row.number ≡ command → P row → Q (Some row)) → Q (row_in rows command)

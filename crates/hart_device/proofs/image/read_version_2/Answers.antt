@@ -1,8 +1,7 @@
-use Rattle.std.proofs.Common.{refl, ◌∙◌, ◌≡◌, length, arith}
+use Rattle.std.proofs.Common.{refl, ◌∙◌, arith}
 use Rattle.std.proofs.lemmas.Grind.{common_steps}
 use Rattle.hart_commands.specs.Registers.{registers}
 use Rattle.hart_commands.specs.declared.register.Register.TheVariants.{LongTag}
-use Rattle.hart_device.specs.registers.Ranges.{array_length}
 use Rattle.hart_commands.proofs.lemmas.Laws.{all_registers_are_listed_once-every}
 use Rattle.hart_device.proofs.lemmas.Laws.{range_within, ranges_fill}
 use Rattle.hart_device.proofs.lemmas.image.Image.{bad_field, before_others, read_is}
@@ -15,14 +14,13 @@ returns-then-rest-clause-refused c = (registers, refl, λ same. absurd (c.if-res
 pub returns-clause-refused : goal.returns-clause-refused
 returns-clause-refused c =
     let split = c.split_at.ensures in
-    let len : length c.split_at.result.0.now ≡ array_length = split.front_len in
     rw (c.ok_or.ensures.value, split.by_index.0) (refused_or _ c.read_parts.result _ c.read_parts.ensures.refused (λ bad. (
       registers,
       refl,
       grind (arith, common_steps, split.front_len, split.back_len, c.if-rest.false),
       bad_field 2 registers c.copy_from_slice.new.self c.split_at.result.0.now c.split_at.result.1.now
           (omega (arith, split.back_len, c.if-rest.false)) (λ register differ. all_registers_are_listed_once-every register)
-          (grind (arith, common_steps, range_within, before_others))
+          (grind (arith, common_steps, range_within, before_others, split.front_len))
           bad,
     )))
 

@@ -1,10 +1,10 @@
 -- What a device replies with code 0 to a well-made request is read again from its bytes.
 use Rattle.std.proofs.Common.{slice_index}
 use Rattle.std.proofs.lemmas.Grind.{elements}
-use Rattle.hart_commands.proofs.lemmas.Parts.{by_spelling, spell}
+use Rattle.hart_commands.proofs.lemmas.Parts.{by_spelling, spelled}
 use Rattle.std.proofs.lemmas.Grind.{common_steps}
 use Rattle.std.proofs.Common.{◌≡◌, ℕ, zero, suc, ◌*◌, ◌/◌, ◌<◌, ◌≤◌, List, [], ◌∷◌, ◌++◌, length, map, min}
-use Rattle.std.proofs.Common.{Option, Some, All, get_or, slice_get, unwrap_or, refl, arith, true, false, ltb, eqb}
+use Rattle.std.proofs.Common.{Option, Some, All, get_or, slice_get, unwrap_or, refl, arith}
 use Rattle.std.proofs.Common.{append_assoc, append-nil, length-append}
 use Rattle.std.specs.List.{flat_map}
 use Rattle.std.specs.Simd.{first_chunks}
@@ -34,15 +34,6 @@ use Rattle.hart_device.specs.Device.{DeviceState}
 use Rattle.hart_device.specs.Process.{IsFloat, IsProcess, dynamic_variables}
 
 -- LISTS
-pub above : (n limit : ℕ) → limit ≤ n → ltb n limit ≡ false
-above n limit more = grind (arith, nat_tests)
-
-below : (n limit : ℕ) → n < limit → ltb n limit ≡ true
-below n limit less = grind (arith, nat_tests)
-
-same : (n : ℕ) → eqb n n ≡ true
-same n = grind (arith, nat_tests)
-
 three : (xs : List ℕ) → length xs ≡ 3 → (a : ℕ) × (b : ℕ) × (c : ℕ) × (xs ≡ a ∷ b ∷ c ∷ [])
 three xs long = (slice_index xs 0, slice_index xs 1, slice_index xs 2, grind (arith, elements))
 
@@ -81,10 +72,7 @@ said size content bytes long = grind (arith, common_steps, nat_tests, take_all)
 tag_said : (tag descriptor date : List ℕ) → length tag ≡ 6 → length descriptor ≡ 12 → length date ≡ 3
     → saying 21 tag_of (tag ++ descriptor ++ date) ≡ Some (replied.Tag tag descriptor date)
 tag_said tag descriptor date of_tag of_descriptor of_date =
-    by_spelling 6 (λ xs. saying 21 tag_of (xs ++ descriptor ++ date) ≡ Some (replied.Tag xs descriptor date)) (λ xs.
-    by_spelling 12 (λ ys. saying 21 tag_of (spell 6 xs ++ ys ++ date) ≡ Some (replied.Tag (spell 6 xs) ys date)) (λ ys.
-    by_spelling 3 (λ zs. saying 21 tag_of (spell 6 xs ++ spell 12 ys ++ zs) ≡ Some (replied.Tag (spell 6 xs) (spell 12 ys) zs)) (λ zs. refl)
-    date of_date) descriptor of_descriptor) tag of_tag
+    rw (← spelled 6 tag of_tag, ← spelled 12 descriptor of_descriptor, ← spelled 3 date of_date) refl
 
 dynamic_said : (current : Bits32) (values : List UnitValue) → IsFloat current → 0 < length values → length values ≤ 4
     → All (λ v. IsFloat v.value) values
@@ -92,16 +80,10 @@ dynamic_said : (current : Bits32) (values : List UnitValue) → IsFloat current 
 dynamic_said current values float some few all =
     let groups = flat_map unit_value_bytes values in
     let each = end_to_end 5 unit_value_bytes unit_value_of (λ v. IsFloat v.value) (λ v is. omega arith)
-    (λ v is. let x = four v.value.0 is in rw x.4 refl) values [] all in
+    (λ v is. rw (← spelled 4 v.value.0 is) refl) values [] all in
     let read : map unit_value_of (first_chunks 5 (length values) groups) ≡ values = rw (append-nil groups) at each.1 in
     let count : min (length groups / 5) 4 ≡ length values = omega (arith, each.0) in
-    rw (
-      above (length (current.0 ++ groups)) 9 (omega (arith, length-append current.0 groups, each.0)),
-      take_at current.0 groups 4 float,
-      drop_at current.0 groups 4 float,
-      count,
-      read,
-    ) refl
+    rw (take_at current.0 groups 4 float, drop_at current.0 groups 4 float, count, read) (grind (arith, nat_tests, length-append, each.0))
 
 variables_said : (status : ℕ) (variables : List VariableReading) (time : List ℕ) → 0 < length variables → length variables ≤ 8
     → All (λ v. IsFloat v.value) variables → length time ≡ 4
@@ -109,8 +91,8 @@ variables_said : (status : ℕ) (variables : List VariableReading) (time : List 
 variables_said status variables time some few all float =
     let groups = flat_map variable_bytes variables in
     let each = end_to_end 8 variable_bytes variable_of (λ v. IsFloat v.value)
-    (λ v is. omega (arith, length-append v.value.0 (v.status ∷ []))) (λ v is. let x = four v.value.0 is in rw x.4 refl)
-    variables time all in grind (arith, common_steps, length-append, below, same, drop_at)
+    (λ v is. omega (arith, length-append v.value.0 (v.status ∷ []))) (λ v is. rw (← spelled 4 v.value.0 is) refl)
+    variables time all in grind (arith, common_steps, nat_tests, length-append, drop_at)
 
 -- The dynamic variables and the variable of each code have values of four bytes.
 dynamic_floats : (process : Process) → IsProcess process → All (λ variable. IsFloat variable.value) (dynamic_variables process)
@@ -132,27 +114,29 @@ variable_is_float process is code = grind (arith, at_place_is_float)
 -- What a device replies with code 0 to a well-made request is read again.
 pub content_again : (state : DeviceState) (process : Process) → AreValid state.contents → IsProcess process → (request : Request)
     → IsRequest request → IsReadAgain (command_of request) (reply_content state process request)
-content_again state process valid is requested.ReadPrimary made = grind (arith, common_steps, four)
-content_again state process valid is requested.ReadCurrent made = grind (arith, common_steps, four)
 content_again state process valid is requested.ReadDynamic made =
     dynamic_said process.loop_current (map unit_value (dynamic_variables process)) is.loop_current
-    (omega (arith, length-map (dynamic_variables process) unit_value))
-    (omega (arith, length-map (dynamic_variables process) unit_value, is.few))
+    (grind (arith, length-map)) (grind (arith, length-map, is.few))
     (All-map (λ (v : UnitValue). IsFloat v.value) unit_value (dynamic_variables process) (dynamic_floats process is))
 content_again state process valid is (requested.ReadVariables codes) made =
     variables_said _ (map (variable_reading process) codes) process.time_stamp
-    (omega (arith, length-map codes (variable_reading process), made.0))
-    (omega (arith, length-map codes (variable_reading process), made.1))
+    (grind (arith, length-map, made)) (grind (arith, length-map, made))
     (All-map (λ v. IsFloat v.value) (variable_reading process) codes (λ k d within. variable_is_float process is (get_or codes k d)))
     is.time_stamp
+content_again state process valid is requested.ReadSensor made = grind (arith, common_steps, three, four)
+content_again state process valid is requested.ReadOutput made =
+    rw (
+      ← spelled 4 process.output.upper_range_value.0 is.upper_range_value,
+      ← spelled 4 process.output.lower_range_value.0 is.lower_range_value,
+      ← spelled 4 process.output.damping.0 is.damping,
+    ) refl
+content_again state process valid is requested.ReadMore made =
+    by_spelling 25 (λ xs. IsReadAgain 48 (replied.More xs)) (λ xs. refl) process.additional_status is.additional_status
+content_again state process valid is requested.ReadPrimary made = grind (arith, common_steps, four)
+content_again state process valid is requested.ReadCurrent made = grind (arith, common_steps, four)
 content_again state process valid is requested.ReadMessage made = said 24 replied.Message _ (valid registers.Message).0
 content_again state process valid is requested.ReadTag made =
     tag_said _ _ _ (valid registers.Tag).0 (valid registers.Descriptor).0 (valid registers.Date).0
-content_again state process valid is requested.ReadSensor made = grind (arith, common_steps, three, four)
-content_again state process valid is requested.ReadOutput made =
-    let u = four process.output.upper_range_value.0 is.upper_range_value in
-    let l = four process.output.lower_range_value.0 is.lower_range_value in
-    let d = four process.output.damping.0 is.damping in rw (u.4, l.4, d.4) refl
 content_again state process valid is requested.ReadAssembly made = said 3 replied.Assembly _ (valid registers.Assembly).0
 content_again state process valid is (requested.WriteMessage message) made = said 24 replied.Message _ (valid registers.Message).0
 content_again state process valid is (requested.WriteTag tag descriptor date) made =
@@ -160,6 +144,4 @@ content_again state process valid is (requested.WriteTag tag descriptor date) ma
 content_again state process valid is (requested.WriteAssembly assembly) made = said 3 replied.Assembly _ (valid registers.Assembly).0
 content_again state process valid is requested.ReadLongTag made = said 32 replied.LongTag _ (valid registers.LongTag).0
 content_again state process valid is (requested.WriteLongTag long_tag) made = said 32 replied.LongTag _ (valid registers.LongTag).0
-content_again state process valid is requested.ReadMore made =
-    by_spelling 25 (λ xs. IsReadAgain 48 (replied.More xs)) (λ xs. refl) process.additional_status is.additional_status
 content_again state process valid is _ made = refl

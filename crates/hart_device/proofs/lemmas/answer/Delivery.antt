@@ -58,12 +58,11 @@ IsGarbledReply identity chars answer = MatchOption answer ((request : GarbledReq
 
 reply_by : (state : DeviceState) (process : Process) (chars : List Character) (brought : Brought) (answer : Option FrameParts)
     → BringsBy state.identity chars [] brought → IsGarbledReply state.identity chars answer → answer ≡ answer_to state process brought
-reply_by state process chars (OneFrame frame) answer never is = absurd never
-reply_by state process chars (Garbled request) None has none = absurd (none request has)
 reply_by state process chars (Garbled request) (Some reply) has is =
     ap Some (is.2 ∙ ap (garbled_reply state.identity) (garbled_one state.identity chars is.0 request is.1 has))
-reply_by state process chars NoMessage None nothing none = refl
 reply_by state process chars NoMessage (Some reply) nothing is = absurd (nothing is.0 is.1)
+reply_by state process chars (Garbled request) None has none = absurd (none request has)
+reply_by state process chars brought answer brings is = grind arith
 
 pub answer_without_frame : (state : DeviceState) (process : Process) (chars : List Character) (brought : Brought)
     (answer : Option FrameParts) → (brings : Brings state.identity chars brought) → NoFrame ≡ lone_of brings.frames

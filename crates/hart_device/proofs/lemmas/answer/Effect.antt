@@ -1,10 +1,9 @@
 -- What a command does to a device.
-use Rattle.std.proofs.lemmas.Grind.{common_steps}
 use Rattle.std.proofs.Common.{◌≡◌, ◌≢◌, ℕ, arith, slice_get}
 use Rattle.std.proofs.Common.{Bool, true, false, ◌==◌, ◌&&◌, if◌then◌else◌}
 use Rattle.std.proofs.Common.{Option, None, Some, IfSome, Ok, Err}
 use Rattle.std.proofs.lemmas.Bool.Decides.{nat_tests}
-use Rattle.hart_commands.specs.RequestCode.{counter_code, data_code}
+use Rattle.hart_commands.specs.RequestCode.{data_code}
 use Rattle.hart_commands.specs.RequestData.{IsRequest, Reading}
 use Rattle.hart_commands.proofs.lemmas.Laws.{requests_have_their_command}
 use Rattle.hart_values.specs.declared.master_id.MasterId.{MasterId}
@@ -26,42 +25,36 @@ pub effect_is_asked : (state : DeviceState) (frame : FrameParts) → is_answered
     → effect_of state frame ≡ asked_effect (judged_of state frame)
 effect_is_asked state frame answered = grind (arith, nat_tests)
 
--- Only a write executes an overwrite, and that is its own.
-executes_only : (reading : Reading) (overwrite : Overwrite) → asked_effect reading ≡ Executes overwrite
-    → (request : Request) × (reading ≡ Ok request) × (overwrite_of request ≡ Some overwrite)
-executes_only reading overwrite is = grind arith
-
 -- A write executes its overwrite.
 pub write_executes : (request : Request) (overwrite : Overwrite) → overwrite_of request ≡ Some overwrite
     → asked_effect (Ok request) ≡ Executes overwrite
 write_executes request overwrite is = grind arith
 
--- An effect is that of an answer with code 0, and is what was asked.
-done_if : (answered : Bool) (code : ℕ) (asked effect : Effect) → effect ≢ Nothing
-    → (if answered && (code == 0) then asked else Nothing) ≡ effect → (answered ≡ true) × (code ≡ 0) × (asked ≡ effect)
-done_if answered code asked effect some is = grind (arith, nat_tests)
+-- An effect is that of an answer with code 0, and is what was asked: only a write executes an overwrite, its own.
+executes_if : (reading : Reading) (answered : Bool) (code : ℕ) (overwrite : Overwrite)
+    → (if answered && (code == 0) then asked_effect reading else Nothing) ≡ Executes overwrite
+    → (answered ≡ true) × (code ≡ 0) × (request : Request) × (reading ≡ Ok request) × (overwrite_of request ≡ Some overwrite)
+executes_if reading answered code overwrite is = grind (arith, nat_tests)
+
+resets_if : (reading : Reading) (answered : Bool) (code counter : ℕ) → (code ≡ 0 → data_code reading counter ≡ 0)
+    → (if answered && (code == 0) then asked_effect reading else Nothing) ≡ Resets
+    → (answered ≡ true) × (code ≡ 0)
+    × (named : Option ℕ) × (reading ≡ Ok (ResetChanged named)) × IfSome named (λ n. n ≡ counter)
+resets_if reading answered code counter good is = grind (arith, nat_tests)
 
 pub writes_execute_their_overwrite-only : (state : DeviceState) (frame : FrameParts) (overwrite : Overwrite)
     → effect_of state frame ≡ Executes overwrite
     → (is_answered state frame ≡ true) × (code_of state frame ≡ 0)
     × (request : Request) × (reading_of frame ≡ Ok request) × (overwrite_of request ≡ Some overwrite)
-writes_execute_their_overwrite-only state frame overwrite is =
-    let done = done_if (is_answered state frame) (code_of state frame) (asked_effect (reading_of frame)) _ (λ no. cc) is in
-    let write = executes_only (reading_of frame) overwrite done.2 in
-    (done.0, done.1, write.0, write.1, write.2)
+writes_execute_their_overwrite-only state frame =
+    executes_if (reading_of frame) (is_answered state frame) (code_of state frame)
 
 -- An overwrite that is executed is a well-made request.
-own_overwrite : (request : Request) (overwrite : Overwrite) → overwrite_of request ≡ Some overwrite → request ≡ overwrite
-own_overwrite request overwrite is = grind arith
-
 pub writes_execute_their_overwrite-well_made : (state : DeviceState) (frame : FrameParts) (overwrite : Overwrite)
     → effect_of state frame ≡ Executes overwrite → IsRequest overwrite
 writes_execute_their_overwrite-well_made state frame overwrite is =
     let write = writes_execute_their_overwrite-only state frame overwrite is in
-    grind (arith, common_steps, own_overwrite, requests_have_their_command)
-
-asked_resets : (reading : Reading) → asked_effect reading ≡ Resets → (counter : Option ℕ) × (reading ≡ Ok (ResetChanged counter))
-asked_resets reading is = grind arith
+    grind (arith, requests_have_their_command)
 
 -- Code 0 is what the data and the counter say.
 pub code_good : (state : DeviceState) (frame : FrameParts) → code_of state frame ≡ 0 → data_code (reading_of frame) state.counter ≡ 0
@@ -75,17 +68,11 @@ code_if reading counter code good = grind (arith, nat_tests)
 pub judged_has_code : (state : DeviceState) (frame : FrameParts) → judged_code (judged_of state frame) ≡ code_of state frame
 judged_has_code state frame = code_if (reading_of frame) state.counter (code_of state frame) (code_good state frame)
 
-named_counter : (named : Option ℕ) (counter : ℕ) → counter_code (ResetChanged named) counter ≡ 0
-    → IfSome named (λ n. n ≡ counter)
-named_counter named counter is = grind (arith, nat_tests)
-
 pub resets_name_this_counter-only : (state : DeviceState) (frame : FrameParts) → effect_of state frame ≡ Resets
     → (is_answered state frame ≡ true) × (code_of state frame ≡ 0)
     × (counter : Option ℕ) × (reading_of frame ≡ Ok (ResetChanged counter)) × IfSome counter (λ n. n ≡ state.counter)
-resets_name_this_counter-only state frame is =
-    let parts = done_if (is_answered state frame) (code_of state frame) (asked_effect (reading_of frame)) Resets (λ no. cc) is in
-    let asked = asked_resets (reading_of frame) parts.2 in
-    (parts.0, parts.1, asked.0, asked.1, named_counter asked.0 state.counter (rw asked.1 at (code_good state frame parts.1)))
+resets_name_this_counter-only state frame =
+    resets_if (reading_of frame) (is_answered state frame) (code_of state frame) state.counter (code_good state frame)
 
 -- No effect changes who the device is, or whether it is protected.
 pub identity_stays : (answered : Bool) (master : MasterId) (effect : Effect) (state : DeviceState)

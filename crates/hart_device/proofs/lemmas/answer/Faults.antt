@@ -1,7 +1,7 @@
 -- The communication faults of characters, bit by bit.
 use Rattle.std.proofs.lemmas.Grind.{common_steps}
-use Rattle.std.proofs.Common.{◌≡◌, ℕ, ◌+◌, ◌%◌, ◌^◌, ◌<◌, ◌==◌, not, Bool, List, [], ◌∷◌}
-use Rattle.std.proofs.Common.{length, take, get_or, count_by, refl, arith, bit_and, bit_or, bit_xor}
+use Rattle.std.proofs.Common.{◌≡◌, ℕ, ◌+◌, ◌%◌, ◌^◌, ◌<◌, ◌==◌, not, List, [], ◌∷◌}
+use Rattle.std.proofs.Common.{length, take, get_or, count_by, refl, arith, bit_and, bit_xor}
 use Rattle.std.specs.Int.{bit_at}
 use Rattle.std.specs.List.{list_any}
 use Rattle.std.proofs.lemmas.Bool.Decides.{nat_tests}
@@ -9,15 +9,6 @@ use Rattle.std.proofs.lemmas.List.Sums.{sum_by_more}
 use Rattle.std.proofs.lemmas.Nat.Bits.{and_pow, bit_at_xor, bit_at-lt}
 use Rattle.hart_frame.specs.heard.Character.{Character}
 use Rattle.hart_device.specs.answer.Garbled.{has_fault, has_odd_bit}
-use Rattle.hart_device.specs.answer.Status.{bit_if}
-
--- the bits that stand for faults are joined by their sum
-pub joined : (a b c d e : Bool) → bit_or (bit_or (bit_or (bit_or (bit_if a 64) (bit_if b 32)) (bit_if c 16)) (bit_if d 8)) (bit_if e 2)
-    ≡ bit_if a 64 + bit_if b 32 + bit_if c 16 + bit_if d 8 + bit_if e 2
-joined a b c d e = grind arith
-
-pub sum_fits : (a b c d e : Bool) → bit_if a 64 + bit_if b 32 + bit_if c 16 + bit_if d 8 + bit_if e 2 < 128
-sum_fits a b c d e = grind arith
 
 -- a fault is heard where its bit is
 pub fault_found : (chars : List Character) (fault bit : ℕ) → fault ≡ 2 ^ bit

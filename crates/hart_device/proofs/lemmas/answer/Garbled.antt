@@ -1,8 +1,8 @@
 -- That a list of characters has one garbled request, or none, and that its address is the device's own.
 use Rattle.std.proofs.lemmas.Bool.Decides.{nat_tests}
 use Rattle.std.proofs.Common.{nat_lt, if◌then◌else◌, not}
-use Rattle.std.proofs.Common.{◌≡◌, ℕ, ◌<◌, ◌/◌, ◌%◌, ◌⊎◌, ◌↔◌, inl, inr, List, [], ◌∷◌, ◌++◌, All, drop, slice_index, Option, None, Some}
-use Rattle.std.proofs.Common.{Bool, IsTrue, refl, sym, ap, ◌∙◌, arith}
+use Rattle.std.proofs.Common.{◌≡◌, ℕ, ◌<◌, ◌%◌, ◌⊎◌, ◌↔◌, inl, inr, List, [], ◌∷◌, ◌++◌, All, drop, Option, None, Some}
+use Rattle.std.proofs.Common.{Bool, IsTrue, refl, arith}
 use Rattle.std.proofs.lemmas.Slice.Eq.{bytes_eq-Decides}
 use Rattle.hart_values.specs.address.AddressBytes.{IsAddressBytes, IsUniqueBytes, first_byte}
 use Rattle.hart_values.specs.address.DeviceNumbers.{DeviceNumbers}
@@ -26,14 +26,13 @@ has_at identity chars request start first has =
 pub garbled_one : (identity : IdentityParts) (chars : List Character) (request other : GarbledRequest)
     → HasGarbled identity chars request → HasGarbled identity chars other → request ≡ other
 garbled_one identity chars request other p q =
-    let same = sym (has_at identity chars request q.start q.first_start p) ∙ q.begins in cc
+    let same = has_at identity chars request q.start q.first_start p in cc
 
 decided_at : (identity : IdentityParts) (chars : List Character) (start : ℕ) → IsFirstStart start chars
     → (result : Option GarbledRequest) → garbled_request identity (drop start chars) ≡ result
     → ((request : GarbledRequest) × HasGarbled identity chars request)
     ⊎ ((request : GarbledRequest) → HasGarbled identity chars request → ⊥)
-decided_at identity chars start first None is = inr (λ request has.
-    let same = sym is ∙ has_at identity chars request start first has in cc)
+decided_at identity chars start first None is = inr (λ request has. let same = has_at identity chars request start first has in cc)
 decided_at identity chars start first (Some request) is = inl (request, record { start = start; first_start = first; begins = is })
 
 pub garbled_decided : (identity : IdentityParts) (chars : List Character)
@@ -52,24 +51,7 @@ unique_of : (first : ℕ) (others : List ℕ) (numbers : DeviceNumbers) → All 
     → first % 64 ∷ others ≡ two_bytes numbers.expanded_type ++ three_bytes numbers.device_id
     → (master : MasterId) × (burst : Bool) × IsUniqueBytes master burst numbers (first ∷ others)
 unique_of first others numbers small is =
-    let top = first_of first (small 0 0 (omega arith)) in
-    let high : first % 64 ≡ numbers.expanded_type / 256 = ap (λ xs. slice_index xs 0) is in
-    let rest = ap (drop 1) is in
-    let below = rw rest at small in (
-      top.0,
-      top.1,
-      record {
-        type_high = first % 64;
-        type_low = numbers.expanded_type % 256;
-        id_high = numbers.device_id / 65536;
-        id_middle = numbers.device_id / 256 % 256;
-        id_low = numbers.device_id % 256;
-        five = rw (← top.2, rest) refl;
-        ranges = (omega arith, omega arith, below 2 0 (omega arith), omega arith, omega arith);
-        expanded_type = omega (arith, high);
-        device_id = omega arith;
-      },
-    )
+    let top = first_of first (small 0 0 (omega arith)) in (top.0, top.1, grind (arith, top.2, small 3 0))
 
 pub own_named : (identity : IdentityParts) (master : MasterId) (burst : Bool) (bytes : List ℕ)
     → IsUniqueBytes master burst (own_numbers identity) bytes → IsTrue (is_own_address identity bytes)

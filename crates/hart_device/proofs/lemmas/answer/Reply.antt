@@ -1,8 +1,6 @@
 -- What a device replies to a command that is known is read again from its payload.
-use Rattle.std.proofs.Common.{IfSome, Option}
 use Rattle.hart_commands.specs.RequestData.{request_reading}
-use Rattle.hart_commands.specs.Commands.{command_row}
-use Rattle.hart_commands.proofs.lemmas.Rows.{found}
+use Rattle.hart_commands.proofs.lemmas.Rows.{by_row}
 use Rattle.std.proofs.lemmas.Grind.{common_steps}
 use Rattle.std.proofs.Common.{◌≡◌, ℕ, ◌<◌, List}
 use Rattle.std.proofs.Common.{◌==◌, Some, Ok, Err, refl, arith, Bool, true}
@@ -22,7 +20,7 @@ use Rattle.hart_device.specs.declared.process.Process.{Process}
 use Rattle.hart_device.specs.Device.{DeviceState, Effect, Executes, after}
 use Rattle.hart_device.specs.Process.{IsProcess}
 use Rattle.hart_device.proofs.lemmas.answer.Effect.{code_good, writes_execute_their_overwrite-well_made}
-use Rattle.hart_device.proofs.lemmas.answer.Content.{content_again, above}
+use Rattle.hart_device.proofs.lemmas.answer.Content.{content_again}
 
 -- CODES
 -- Data are read as a request, or refused with a code from 1 to 127.
@@ -37,10 +35,8 @@ rows_refuse : AllByRecursion Refuses commands
 rows_refuse = search (arith, nat_tests)
 
 reading_refuses : (command : ℕ) (bytes : List ℕ) → IsRefusal (request_reading command bytes)
-reading_refuses command bytes = by_row (command_row command) (found Refuses commands command rows_refuse)
-  where
-    by_row : (row : Option CommandRow) → IfSome row (λ row. (row.number ≡ command) × Refuses row) → IsRefusal (read_by row bytes)
-    by_row row refuses = grind arith
+reading_refuses command bytes =
+    by_row Refuses (λ row. IsRefusal (read_by row bytes)) commands command rows_refuse (omega arith) (λ row own refuses. refuses bytes)
 
 code_small : (command : ℕ) (reading : Reading) (protected : Bool) (counter : ℕ) → IsRefusal reading
     → request_code command reading protected counter < 128
@@ -67,7 +63,7 @@ reply_again : (state : DeviceState) (process : Process) (frame : FrameParts) (ju
     → IsProcess process → is_known frame.command ≡ true → IsJudged frame.command judged
     → reply_reading frame.command (reply_payload (reply_with state process frame judged)) ≡ Some (reply_with state process frame judged)
 reply_again state process frame (Ok request) valid is known made = grind (arith, common_steps, content_again)
-reply_again state process frame (Err code) valid is known made = grind (arith, common_steps, above)
+reply_again state process frame (Err code) valid is known made = grind (arith, nat_tests)
 
 -- A command leaves valid contents valid.
 after_valid : (master : MasterId) (effect : Effect) (state : DeviceState)

@@ -2,7 +2,7 @@
 use Rattle.hart_values.proofs.lemmas.Laws.{packed_text_and_bytes_determine_each_other-one_text}
 use Rattle.hart_commands.proofs.lemmas.Laws.{all_registers_are_listed_once-every}
 use Rattle.std.proofs.lemmas.List.{append_cancel_left}
-use Rattle.std.proofs.Common.{◌≡◌, ◌≢◌, ℕ, ◌-◌, ◌^◌, ◌<◌, ◌≤◌, ◌⊎◌, inl, inr, refl, sym, ap, ◌∙◌, subst}
+use Rattle.std.proofs.Common.{◌≡◌, ◌≢◌, ℕ, ◌-◌, ◌^◌, ◌<◌, ◌≤◌, ◌⊎◌, inl, inr, refl, sym, ◌∙◌, subst}
 use Rattle.std.proofs.Common.{arith, Bool, true, Some, List, [], ◌∷◌, ◌++◌, length}
 use Rattle.std.proofs.Common.{slice_index}
 use Rattle.std.specs.List.{Contains, flat_map}
@@ -139,9 +139,7 @@ pub bad_field : (version : ℕ) (listed : List Register) (array prefix end : Lis
     → ((register : Register) → register ≢ LongTag → Contains listed register)
     → ((register : Register) → register ≢ LongTag → standing_for register (prefix ++ end) ≡ standing_for register array)
     → HoldsInvalid array ⊎ (7 < slice_index end 2) → HasBadField listed (version ∷ (prefix ++ end))
-bad_field version listed array prefix end three has whole (inl (register, differs, bad)) =
-    inl (register, has register differs, λ valid. bad (rw (← whole register differs) valid))
-bad_field version listed array prefix end three has whole (inr above) = inr (rw (last_is version prefix end three) above)
+bad_field version listed array prefix end three has whole bad = grind (arith, has, whole, last_is)
 
 -- An image has no fault.
 pub images_have_no_fault : (state : DeviceState) (image : List ℕ) (fault : DeviceFault) → IsImageOf state image
@@ -153,19 +151,14 @@ images_have_no_fault state (version ∷ rest) BadLength is (listed, known, wrong
 images_have_no_fault state (version ∷ rest) BadField is (listed, known, len, inl (register, there, bad)) =
     bad (rw (held_in_image state version rest listed known is register there) (is.contents register))
 images_have_no_fault state (version ∷ rest) BadField is (listed, known, len, inr above) =
-    let after : rest ≡ flat_map (bytes_in state.contents) listed ++ image_ending state = (said state version rest listed known is).0 in
+    let after = (said state version rest listed known is).0 in
     let last = last_is version (flat_map (bytes_in state.contents) listed) (image_ending state) refl in
-    absurd (omega (arith, rw (after, last) at above, flags_of-le state.changed state.protected))
+    grind (arith, after, last, above, flags_of-le state.changed state.protected)
 images_have_no_fault state (version ∷ rest) _ is faulty = faulty
 
 -- Bytes have one fault.
 pub one_fault : (image : List ℕ) (fault other : DeviceFault) → IsImageFault image fault → IsImageFault image other → fault ≡ other
 one_fault image fault other p q = grind (arith, nat_tests)
-
--- A state is determined by its parts, of which an image ends with three.
-same_state : (state other : DeviceState) → state.identity ≡ other.identity → state.contents ≡ other.contents
-    → state.cold_start ≡ other.cold_start → image_ending state ≡ image_ending other → state ≡ other
-same_state state other identity contents cold_start ends = grind arith
 
 -- Contents are determined by what an image says of them.
 one_contents : (state other : DeviceState) (version : ℕ) (listed : List Register) → registers_of_version version ≡ Some listed
@@ -182,14 +175,12 @@ pub one_state : (state other : DeviceState) (image : List ℕ) → IsImageOf sta
 one_state state other [] is other_is identity cold_start = let none = is.written in cc
 one_state state other (version ∷ rest) is other_is identity cold_start =
     let listed = is.listed in
-    let written = is.written in
-    let known : registers_of_version version ≡ Some listed = cc in
+    let known : registers_of_version version ≡ Some listed = (let written = is.written in cc) in
     let says = said state version rest listed known is in
     let other_says = said other version rest listed known other_is in
     let contents : state.contents ≡ other.contents =
     one_contents state other version listed known (λ register there.
     sym (held_in_image state version rest listed known is register there)
     ∙ held_in_image other version rest listed known other_is register there) says.1 other_says.1 in
-    let front = ap (λ (c : Contents). flat_map (bytes_in c) listed) contents in
-    same_state state other identity contents cold_start
-    (append_cancel_left (flat_map (bytes_in other.contents) listed) _ _ (let a = says.0 in let b = other_says.0 in cc))
+    let ends : image_ending state ≡ image_ending other =
+    append_cancel_left (flat_map (bytes_in other.contents) listed) _ _ (let a = says.0 in let b = other_says.0 in cc) in grind arith

@@ -1,6 +1,6 @@
 -- What an image of version 1 says, whose registers are read of an array of them all.
 use Rattle.std.proofs.lemmas.Grind.{common_steps}
-use Rattle.std.proofs.Common.{◌≡◌, ◌≢◌, ◌≤◌, ℕ, List, [], ◌++◌, length, refl, sym, ◌∙◌, arith, rules}
+use Rattle.std.proofs.Common.{◌≡◌, ◌≢◌, ◌≤◌, ℕ, List, ◌++◌, length, refl, sym, arith, rules}
 use Rattle.std.proofs.Common.{Option, IfSome, IfNone, IfOk, IfErr}
 use Rattle.std.specs.List.{flat_map}
 use Rattle.std.specs.Option.{ok_or}
@@ -33,6 +33,14 @@ pub holds_prefix : (array prefix : List ℕ) → length prefix ≡ 50
     → ((register : Register) → register ≢ LongTag → standing_for register array ≡ standing_for register prefix)
     → flat_map (λ register. standing_for register array) registers_of_version_1 ≡ prefix
 holds_prefix array prefix len same =
-    (λ i. same Polling (λ e. cc) i ++ (same Mode (λ e. cc) i ++ (same Message (λ e. cc) i ++ (same Tag (λ e. cc) i
-    ++ (same Descriptor (λ e. cc) i ++ (same Date (λ e. cc) i ++ (same Assembly (λ e. cc) i ++ [])))))))
-    ∙ filled prefix 0 registers_of_version_1 refl (sym len)
+    let whole = filled prefix 0 registers_of_version_1 refl (sym len) in
+    cc (
+      same Polling (λ e. cc),
+      same Mode (λ e. cc),
+      same Message (λ e. cc),
+      same Tag (λ e. cc),
+      same Descriptor (λ e. cc),
+      same Date (λ e. cc),
+      same Assembly (λ e. cc),
+      whole,
+    )

@@ -1,6 +1,6 @@
 -- The registers that lists of overwrites leave.
 use Rattle.std.proofs.lemmas.Grind.{common_steps}
-use Rattle.std.proofs.Common.{◌≡◌, ℕ, ◌<◌, zero, suc, ap, sym, arith, Option, None, unwrap_or}
+use Rattle.std.proofs.Common.{◌≡◌, ℕ, ◌<◌, zero, suc, ap, arith, Option, unwrap_or}
 use Rattle.std.proofs.Common.{List, [], ◌∷◌, ◌++◌, length}
 use Rattle.std.specs.List.{Contains, slice_index_or}
 use Rattle.std.specs.Option.{option_or}
@@ -32,16 +32,13 @@ bytes_in-registers_of overwrites initial = grind (arith, common_steps, bytes_in-
 pub unwrap_or-option_or : {A : Type 0} (a b : Option A) (d : A) → unwrap_or (option_or a b) d ≡ unwrap_or a (unwrap_or b d)
 unwrap_or-option_or a b d = grind arith
 
-pub option_or-None : {A : Type 0} (a : Option A) → option_or a None ≡ a
-option_or-None a = grind arith
-
 pub option_or-assoc : {A : Type 0} (a b c : Option A) → option_or (option_or a b) c ≡ option_or a (option_or b c)
 option_or-assoc a b c = grind arith
 
 -- A new overwrite comes last.
 pub last_named-append : (overwrites : List Overwrite) (overwrite : Overwrite) (register : Register)
     → last_named (overwrites ++ overwrite ∷ []) register ≡ option_or (named_in overwrite register) (last_named overwrites register)
-last_named-append [] overwrite register = sym (option_or-None (named_in overwrite register))
+last_named-append [] overwrite register = grind arith
 last_named-append (o ∷ os) overwrite register = grind (arith, common_steps, option_or-assoc, last_named-append os overwrite register)
 
 -- One that comes again later changes nothing.
@@ -50,12 +47,9 @@ pub last_named-again : (later : List Overwrite) (overwrite : Overwrite) (registe
     → option_or (last_named later register) (named_in overwrite register) ≡ last_named later register
 last_named-again [] overwrite register k within there = absurd (omega arith)
 last_named-again (o ∷ os) overwrite register zero within there = grind (arith, common_steps)
-  where
-    twice : {A : Type 0} (a b : Option A) → option_or (option_or a b) b ≡ option_or a b
-    twice a b = grind arith
 last_named-again (o ∷ os) overwrite register (suc k) within there =
-    let earlier = last_named-again os overwrite register k (omega arith) there in
-    again_below (last_named os register) (named_in overwrite register) (named_in o register) earlier
+    again_below (last_named os register) (named_in overwrite register) (named_in o register)
+    (last_named-again os overwrite register k (omega arith) there)
   where
     again_below : {A : Type 0} (a b c : Option A) → option_or a b ≡ a → option_or (option_or a c) b ≡ option_or a c
     again_below a b c h = grind arith
@@ -63,12 +57,12 @@ last_named-again (o ∷ os) overwrite register (suc k) within there =
 pub registers_of_lists-first : (overwrite : Overwrite) (later : List Overwrite) (initial : Contents)
     → registers_of (overwrite ∷ later) initial ≡ registers_of later (overwritten overwrite initial)
 registers_of_lists-first overwrite later initial =
-    same_contents _ _ (λ register. grind (arith, bytes_in-registers_of, bytes_in-overwritten, unwrap_or-option_or))
+    grind (arith, same_contents, bytes_in-registers_of, bytes_in-overwritten, unwrap_or-option_or)
 
 pub registers_of_lists-last : (overwrites : List Overwrite) (overwrite : Overwrite) (initial : Contents)
     → registers_of (overwrites ++ overwrite ∷ []) initial ≡ overwritten overwrite (registers_of overwrites initial)
-registers_of_lists-last overwrites overwrite initial = same_contents _ _ (λ register.
-    grind (arith, last_named-append, bytes_in-registers_of, bytes_in-overwritten, unwrap_or-option_or))
+registers_of_lists-last overwrites overwrite initial =
+    grind (arith, same_contents, last_named-append, bytes_in-registers_of, bytes_in-overwritten, unwrap_or-option_or)
 
 pub registers_of_lists-again : (overwrite : Overwrite) (later : List Overwrite) (initial : Contents) → Contains later overwrite
     → registers_of (overwrite ∷ later) initial ≡ registers_of later initial

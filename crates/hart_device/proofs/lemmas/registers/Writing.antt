@@ -1,6 +1,6 @@
 -- Writing registers into an array, one after another.
 use Rattle.std.proofs.lemmas.Grind.{common_steps}
-use Rattle.std.proofs.Common.{◌≡◌, ◌≢◌, ℕ, ◌+◌, ◌-◌, ◌<◌, ◌≤◌, ◌⊎◌, inl, inr, ◌∙◌, arith}
+use Rattle.std.proofs.Common.{◌≡◌, ◌≢◌, ℕ, ◌+◌, ◌-◌, ◌<◌, ◌≤◌, ◌⊎◌, arith}
 use Rattle.std.proofs.Common.{List, length, nat_lt, if◌then◌else◌, Option, None, unwrap_or}
 use Rattle.std.specs.List.{AllPairs, Contains, slice_index_or, slice_range}
 use Rattle.std.proofs.lemmas.Bool.Decides.{nat_tests}
@@ -16,8 +16,8 @@ use Rattle.hart_device.specs.registers.Ranges.{standing_for}
 pub kept_apart : (array bytes : List ℕ) (start end other_start other_end : ℕ) → start ≤ end → end ≤ length array
     → length bytes ≡ end - start → other_start ≤ other_end → (end ≤ other_start) ⊎ (other_end ≤ start)
     → slice_range (put_mid start (end - start) array bytes) other_start other_end ≡ slice_range array other_start other_end
-kept_apart array bytes start end from to order fits size other (inl after) = grind (arith, common_steps, drop-put_mid)
-kept_apart array bytes start end from to order fits size other (inr before) = grind (arith, common_steps, between_is, take-put_mid_below)
+kept_apart array bytes start end from to order fits size other apart =
+    grind (arith, common_steps, between_is, take-put_mid_below, drop-put_mid)
 
 -- The register at a place of the list.
 abbrev pub register_at : ℕ → Register
@@ -33,11 +33,6 @@ AreWrittenBefore place given old now = (k : ℕ) → k < length registers
     → standing_for (register_at k) now
     ≡ (if nat_lt k place then given_to given old (register_at k) else standing_for (register_at k) old)
 
--- Registers at two places of the list are not the same.
-places_differ : AllPairs (λ register other. register ≢ other) registers → (j k : ℕ) → j < length registers → k < length registers → j ≢ k
-    → register_at j ≢ register_at k
-places_differ once j k j_within k_within differ same = grind (arith, once j k Polling, once k j Polling)
-
 -- After one more of them is written, one more stands written.
 pub one_more : (given : Register → Option (List ℕ)) (old now new : List ℕ) (place : ℕ) → place < length registers
     → AllPairs (λ register other. register ≢ other) registers
@@ -45,7 +40,7 @@ pub one_more : (given : Register → Option (List ℕ)) (old now new : List ℕ)
     → ((other : Register) → other ≢ register_at place → standing_for other new ≡ standing_for other now)
     → AreWrittenBefore place given old now → AreWrittenBefore (place + 1) given old new
 one_more given old now new place within once written others before k k_within =
-    grind (arith, nat_tests, written, places_differ once k place k_within within, others (register_at k), before k k_within)
+    grind (arith, nat_tests, written, once k place Polling, once place k Polling, others (register_at k), before k k_within)
 
 -- So it does also if it is given nothing.
 pub none_more : (given : Register → Option (List ℕ)) (old now : List ℕ) (place : ℕ) → given (register_at place) ≡ None
@@ -57,6 +52,4 @@ pub all_written : (given : Register → Option (List ℕ)) (old now : List ℕ) 
     → ((register : Register) → Contains registers register) → AreWrittenBefore place given old now
     → (register : Register) → standing_for register now ≡ given_to given old register
 all_written given old now place end every before register =
-    let listed = every register in
-    let same : register_at listed.0 ≡ register = get_or_default registers listed.0 Polling register listed.1 ∙ listed.2 in
-    grind (arith, nat_tests, before listed.0 listed.1, same)
+    let listed = every register in grind (arith, nat_tests, get_or_default, before listed.0 listed.1, listed.2)

@@ -2,14 +2,13 @@ use Rattle.std.proofs.Common.{◌≡◌, ◌<◌, ◌∙◌, ℕ, List, Bool, re
 use Rattle.hart_frame.specs.heard.Character.{Character}
 use Rattle.hart_device.specs.answer.Garbled.{communication_faults, has_fault, has_odd_bit}
 use Rattle.hart_device.specs.answer.Status.{bit_if}
-use Rattle.hart_device.proofs.lemmas.answer.Faults.{joined, sum_fits}
 use Rattle.hart_device.proofs.answer.garbled.communication_faults.Goals as goal
 
 -- the joined bits are those of the definition, and fit
 are : (chars : List Character) (a b c d e : ℕ) (odd : Bool) → a ≡ bit_if (has_fault 6 chars) 64 → b ≡ bit_if (has_fault 5 chars) 32
     → c ≡ bit_if (has_fault 4 chars) 16 → odd ≡ has_odd_bit chars → d ≡ bit_if odd 8 → e ≡ bit_if (has_fault 1 chars) 2
     → (bit_or (bit_or (bit_or (bit_or a b) c) d) e ≡ communication_faults chars) × (communication_faults chars < 128)
-are chars a b c d e odd p q r s t u = grind (arith, joined, sum_fits)
+are chars a b c d e odd p q r s t u = grind arith
 
 pub unwrap-requires : goal.unwrap-requires
 unwrap-requires c =
