@@ -4,7 +4,7 @@ use Rattle.std.proofs.lemmas.Grind.{elements}
 use Rattle.hart_commands.proofs.lemmas.Parts.{by_spelling, spelled}
 use Rattle.std.proofs.lemmas.Grind.{common_steps}
 use Rattle.std.proofs.Common.{◌≡◌, ℕ, zero, suc, ◌*◌, ◌/◌, ◌<◌, ◌≤◌, List, [], ◌∷◌, ◌++◌, length, map, min}
-use Rattle.std.proofs.Common.{Option, Some, All, get_or, slice_get, unwrap_or, refl, arith}
+use Rattle.std.proofs.Common.{Some, All, get_or, slice_get, refl, arith}
 use Rattle.std.proofs.Common.{append_assoc, append-nil, length-append}
 use Rattle.std.specs.List.{flat_map}
 use Rattle.std.specs.Simd.{first_chunks}
@@ -27,7 +27,7 @@ use Rattle.hart_commands.specs.declared.request.Request.TheVariants as requested
 use Rattle.hart_commands.specs.declared.value.UnitValue.{UnitValue}
 use Rattle.hart_commands.specs.declared.value.VariableReading.{VariableReading}
 use Rattle.hart_device.specs.answer.Content.{reply_content, unit_value}
-use Rattle.hart_device.specs.answer.Variables.{dynamic_at, missing_variable, variable_of_code, variable_reading}
+use Rattle.hart_device.specs.answer.Variables.{variable_of_code, variable_reading}
 use Rattle.hart_device.specs.declared.process.Process.{Process}
 use Rattle.hart_device.specs.declared.process.ProcessVariable.{ProcessVariable}
 use Rattle.hart_device.specs.Device.{DeviceState}
@@ -101,15 +101,10 @@ dynamic_floats process is = All-cons (λ (v : ProcessVariable). IsFloat v.value)
 dynamic_is_float : (process : Process) → IsProcess process → (place : ℕ) (variable : ProcessVariable)
     → slice_get (dynamic_variables process) place ≡ Some variable → IsFloat variable.value
 dynamic_is_float process is place variable found =
-    rw (get_or_from_slice_get (dynamic_variables process) place variable variable found)
-    at (dynamic_floats process is place variable (slice_get_within (dynamic_variables process) place variable found))
-
-at_place_is_float : (process : Process) → IsProcess process → (place : Option ℕ)
-    → IsFloat (unwrap_or (dynamic_at process place) missing_variable).value
-at_place_is_float process is place = grind (arith, dynamic_is_float)
+    grind (arith, dynamic_floats process is, get_or_from_slice_get, slice_get_within)
 
 variable_is_float : (process : Process) → IsProcess process → (code : ℕ) → IsFloat (variable_of_code process code).value
-variable_is_float process is code = grind (arith, at_place_is_float)
+variable_is_float process is code = grind (arith, dynamic_is_float)
 
 -- What a device replies with code 0 to a well-made request is read again.
 pub content_again : (state : DeviceState) (process : Process) → AreValid state.contents → IsProcess process → (request : Request)

@@ -47,10 +47,6 @@ deliveries_bring_one-brings identity chars =
     let frames = every_list_has_frames chars 0 in
     let brings = BringsBy-found identity chars frames.0 in grind (arith, common_steps, by_frames)
 
--- only no frames are no frame
-pub none_of : (frames : List Found) → NoFrame ≡ lone_of frames → frames ≡ []
-none_of frames is = grind arith
-
 -- so the reply to the garbled request of a delivery without a frame is the answer to what that brings
 abbrev pub IsGarbledReply : IdentityParts → List Character → Option FrameParts → Type 0
 IsGarbledReply identity chars answer = MatchOption answer ((request : GarbledRequest) → HasGarbled identity chars request → ⊥)
@@ -67,4 +63,4 @@ reply_by state process chars brought answer brings is = grind arith
 pub answer_without_frame : (state : DeviceState) (process : Process) (chars : List Character) (brought : Brought)
     (answer : Option FrameParts) → (brings : Brings state.identity chars brought) → NoFrame ≡ lone_of brings.frames
     → IsGarbledReply state.identity chars answer → answer ≡ answer_to state process brought
-answer_without_frame state process chars brought answer brings none is = grind (arith, common_steps, reply_by, none_of)
+answer_without_frame state process chars brought answer brings none is = grind (arith, common_steps, reply_by)

@@ -58,7 +58,7 @@ writes_execute_their_overwrite-well_made state frame overwrite is =
 
 -- Code 0 is what the data and the counter say.
 pub code_good : (state : DeviceState) (frame : FrameParts) → code_of state frame ≡ 0 → data_code (reading_of frame) state.counter ≡ 0
-code_good state frame is = grind (arith, nat_tests)
+code_good state frame is = grind arith
 
 -- A frame that is judged has its code.
 code_if : (reading : Reading) (counter code : ℕ) → (code ≡ 0 → data_code reading counter ≡ 0)

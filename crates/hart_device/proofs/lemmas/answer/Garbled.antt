@@ -1,7 +1,7 @@
 -- That a list of characters has one garbled request, or none, and that its address is the device's own.
 use Rattle.std.proofs.lemmas.Bool.Decides.{nat_tests}
 use Rattle.std.proofs.Common.{nat_lt, if◌then◌else◌, not}
-use Rattle.std.proofs.Common.{◌≡◌, ℕ, ◌<◌, ◌%◌, ◌⊎◌, ◌↔◌, inl, inr, List, [], ◌∷◌, ◌++◌, All, drop, Option, None, Some}
+use Rattle.std.proofs.Common.{◌≡◌, ℕ, ◌<◌, ◌%◌, ◌⊎◌, ◌↔◌, inl, inr, List, [], ◌∷◌, ◌++◌, All, drop, None, Some}
 use Rattle.std.proofs.Common.{Bool, IsTrue, refl, arith}
 use Rattle.std.proofs.lemmas.Slice.Eq.{bytes_eq-Decides}
 use Rattle.hart_values.specs.address.AddressBytes.{IsAddressBytes, IsUniqueBytes, first_byte}
@@ -28,19 +28,16 @@ pub garbled_one : (identity : IdentityParts) (chars : List Character) (request o
 garbled_one identity chars request other p q =
     let same = has_at identity chars request q.start q.first_start p in cc
 
-decided_at : (identity : IdentityParts) (chars : List Character) (start : ℕ) → IsFirstStart start chars
-    → (result : Option GarbledRequest) → garbled_request identity (drop start chars) ≡ result
-    → ((request : GarbledRequest) × HasGarbled identity chars request)
-    ⊎ ((request : GarbledRequest) → HasGarbled identity chars request → ⊥)
-decided_at identity chars start first None is = inr (λ request has. let same = has_at identity chars request start first has in cc)
-decided_at identity chars start first (Some request) is = inl (request, record { start = start; first_start = first; begins = is })
-
 pub garbled_decided : (identity : IdentityParts) (chars : List Character)
     → ((request : GarbledRequest) × HasGarbled identity chars request)
     ⊎ ((request : GarbledRequest) → HasGarbled identity chars request → ⊥)
 garbled_decided identity chars = elim (first_starts_are_decided-decided chars) [
   | inr none ↦ inr (λ request has. none has.start has.first_start.start)
-  | inl first ↦ decided_at identity chars first.0 first.1 _ refl
+  | inl first ↦ elim (garbled_request identity (drop first.0 chars)) as (λ result. garbled_request identity (drop first.0 chars) ≡ result
+      → ((request : GarbledRequest) × HasGarbled identity chars request) ⊎ ((request : GarbledRequest) → HasGarbled identity chars request → ⊥)) [
+        | None ↦ λ is. inr (λ request has. let same = has_at identity chars request first.0 first.1 has in cc)
+        | Some request ↦ λ is. inl (request, record { start = first.0; first_start = first.1; begins = is })
+      ] refl
 ]
 
 -- the bytes of numbers, below the two bits on top of the first, are those of a unique address

@@ -1,4 +1,4 @@
-use Rattle.std.proofs.Common.{◌≡◌, ℕ, List, drop, Option, Some, None, MatchOption, sym, ◌∙◌}
+use Rattle.std.proofs.Common.{◌≡◌, ℕ, List, drop, Option, Some, None, MatchOption, sym}
 use Rattle.std.proofs.lemmas.List.{take_rest}
 use Rattle.hart_frame.specs.heard.Character.{Character}
 use Rattle.hart_frame.specs.heard.Start.{IsFirstStart}
@@ -15,7 +15,7 @@ Has identity chars result =
 
 at_start : (identity : IdentityParts) (chars : List Character) (start : ℕ) (result : Option GarbledRequest) → IsFirstStart start chars
     → result ≡ garbled_request identity (drop start chars) → Has identity chars result
-at_start identity chars start None first is = λ request has. let same = is ∙ has_at identity chars request start first has in cc
+at_start identity chars start None first is = λ request has. let same = has_at identity chars request start first has in cc
 at_start identity chars start (Some request) first is = record { start = start; first_start = first; begins = sym is }
 
 pub returns-in_err-first_start : goal.returns-in_err-first_start

@@ -5,13 +5,10 @@ use Rattle.hart_device.proofs.lemmas.image.Image.{written_is}
 use Rattle.hart_device.proofs.lemmas.registers.Range.{next_size, next_written}
 use Rattle.hart_device.proofs.device.Device.image.Goals as goal
 
-pub returns-clause-written : goal.returns-clause-written
-returns-clause-written g c = grind (arith, common_steps)
-
 pub returns-clause-image : goal.returns-clause-image
 returns-clause-image g c =
     let counter : c.args.self.now.counter < 2 ^ 16 = grind (arith, c.counter-counter.ensures, c.counter-counter.type_inv) in
-    rw (returns-clause-written g c) (written_is c.args.self.now c.registers-registers.ensures.valid counter)
+    let is = written_is c.args.self.now c.registers-registers.ensures.valid counter in grind (arith, common_steps)
 
 pub loop-register-preserved : goal.loop-register-preserved
 loop-register-preserved g c = grind (arith, common_steps, next_written, next_size, slice_index_or)
