@@ -9,10 +9,6 @@ use Rattle.std.proofs.lemmas.Bool.Decides.{nat_tests}
 use Rattle.hart_commands.specs.Commands.{CommandRow, commands, is_known, row_in}
 use Rattle.hart_commands.specs.Fields.{CommandRows, command_name, rows, rows_of}
 
--- the tests of two rows with one number
-eqb_sym : (m n : ℕ) → eqb m n ≡ eqb n m
-eqb_sym m n = grind (arith, nat_tests)
-
 -- tables with the same numbers have a row for the same commands
 same : (named : List CommandRows) (others : List CommandRow) (command : ℕ) → map (λ row. row.number) named ≡ map (λ row. row.number) others
     → is_some (option_map (λ row. row.name) (find (λ row. eqb row.number command) named)) ≡ is_some (row_in others command)
@@ -22,7 +18,7 @@ same (row ∷ named) [] command e = cc
 same (row ∷ named) (other ∷ others) command e =
     let number : row.number ≡ other.number = cc in
     let rest : map (λ row. row.number) named ≡ map (λ row. row.number) others = cc in
-    grind (arith, common_steps, eqb_sym, same named others command rest)
+    grind (arith, common_steps, nat_tests, same named others command rest)
 
 pub known : (command : ℕ) → is_some (command_name command) ≡ is_known command
 unfolding rows

@@ -43,12 +43,8 @@ written_is_read (WriteLongTag long_tag) rest is may = needing-append 32 WriteLon
 written_is_read (ResetChanged counter) rest is may = grind arith
 written_is_read _ rest is may = refl
 
--- nothing may follow any request
-none-may : (request : Request) → MayFollow request []
-none-may request = grind arith
-
 -- the same with nothing after them
 pub written_is_own : (request : Request) → IsRequest request
     → request_reading (command_of request) (request_data request) ≡ Ok request
 written_is_own request is =
-    rw append-nil at (written_is_read request [] is (none-may request))
+    rw append-nil at (written_is_read request [] is (grind arith))

@@ -27,9 +27,8 @@ returns-clause-refused c =
 pub returns-clause-kept : goal.returns-clause-kept
 returns-clause-kept c =
     let read = c.read_parts.ensures in
-    let array = c.copy_from_slice.new.self in
     rw (c.ok_or.ensures.value, c.split_at.ensures.by_index.0)
     (kept_or _ _ _ _ c.read_parts.result _ read.registers read.valid read.ending (λ parts contents valid ends.
-    read_is 2 registers refl parts array c.split_at.result.0.now c.split_at.result.1.now
-    (ranges_fill array c.copy_from_slice.ensures.len ∙ c.copy_from_slice.ensures.after)
+    read_is 2 registers refl parts c.copy_from_slice.new.self c.split_at.result.0.now c.split_at.result.1.now
+    (ranges_fill _ c.copy_from_slice.ensures.len ∙ c.copy_from_slice.ensures.after)
     (λ not_listed. absurd (not_listed (all_registers_are_listed_once-every LongTag))) contents valid ends))

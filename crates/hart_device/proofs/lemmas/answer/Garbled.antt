@@ -21,7 +21,7 @@ use Rattle.hart_device.specs.declared.identity_parts.IdentityParts.{IdentityPart
 pub has_at : (identity : IdentityParts) (chars : List Character) (request : GarbledRequest) (start : ℕ) → IsFirstStart start chars
     → HasGarbled identity chars request → garbled_request identity (drop start chars) ≡ Some request
 has_at identity chars request start first has =
-    let same = first_starts_are_decided-one start has.start chars first has.first_start in rw same has.begins
+    rw (first_starts_are_decided-one start has.start chars first has.first_start) has.begins
 
 pub garbled_one : (identity : IdentityParts) (chars : List Character) (request other : GarbledRequest)
     → HasGarbled identity chars request → HasGarbled identity chars other → request ≡ other

@@ -24,6 +24,4 @@ returns-in_err-first_start c =
 
 pub returns : goal.returns
 returns c =
-    let chars = c.args.delivery.now in
-    at_start c.args.identity.now chars _ _ c.in_ok-first_start.ensures
-    (rw (take_rest chars _) at c.garbled_at.ensures)
+    at_start c.args.identity.now c.args.delivery.now _ _ c.in_ok-first_start.ensures (rw (take_rest c.args.delivery.now _) at c.garbled_at.ensures)
