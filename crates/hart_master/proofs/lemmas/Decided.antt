@@ -46,7 +46,8 @@ decided_by : (id : MasterId) (address : Address) (request : Request) (chars : Li
     → AreFrames chars 0 frames → OneOrNone (IsAccepted id address request chars)
 decided_by id address request chars (found ∷ []) are = elim (reply_decided id address request found.frame) [
   | inl one ↦ inl (one.0, record { found = found; alone = are; is_reply = one.1 })
-  | inr nothing ↦ inr (λ reply accepted. nothing reply (IsReplyTo-alone id address request chars found reply (only_one chars found are) accepted))
+  | inr nothing ↦ inr (λ reply accepted.
+      nothing reply (IsReplyTo-alone id address request chars found reply (only_one chars found are) accepted))
 ]
 decided_by id address request chars frames are =
     inr (λ reply accepted. let same = frames_are_unambiguous-one_list chars 0 frames (accepted.found ∷ []) are accepted.alone in cc)

@@ -5,7 +5,6 @@ use Rattle.hart_frame.specs.heard.Character.{Character}
 use Rattle.hart_frame.specs.declared.heard.found.Found.{Found}
 use Rattle.hart_commands.specs.declared.reply.Reply.{Reply}
 use Rattle.hart_master.specs.declared.event.MasterEvent.{MasterEvent}
-use Rattle.hart_master.specs.declared.event.MasterEvent.TheVariants.{Answered, Nothing}
 use Rattle.hart_master.specs.declared.hand.Hand.{Hand}
 use Rattle.hart_master.specs.Master.{DeliveryBrings, FrameBrings, IsHeard}
 use Rattle.hart_master.proofs.lemmas.Acceptance.{IsAlone, NoOther, IsReplyTo-alone}

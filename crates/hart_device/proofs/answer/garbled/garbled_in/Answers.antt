@@ -24,4 +24,5 @@ returns-in_err-first_start c =
 
 pub returns : goal.returns
 returns c =
-    at_start c.args.identity.now c.args.delivery.now _ _ c.in_ok-first_start.ensures (rw (take_rest c.args.delivery.now _) at c.garbled_at.ensures)
+    at_start c.args.identity.now c.args.delivery.now _ _ c.in_ok-first_start.ensures
+    (rw (take_rest c.args.delivery.now _) at c.garbled_at.ensures)
