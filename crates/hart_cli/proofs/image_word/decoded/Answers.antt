@@ -54,13 +54,13 @@ decoded_err word zeros slice out r e same is given refused = grind (arith, commo
 
 pub returns-in-Err-InvalidHexCharacter-clause-fault : goal.returns-in-Err-InvalidHexCharacter-clause-fault
 returns-in-Err-InvalidHexCharacter-clause-fault c =
-    inl (bad_hex c.args.word.now _ (decoded_err _ _ _ _ _ _ c.as_mut_slice.ensures.value c.in_ok-bytes.ensures.zeros c.decode_to_slice.ensures.value
-    (rw c.in-Err-InvalidHexCharacter.field-0-is at c.in-Err-InvalidHexCharacter.is)))
+    inl (bad_hex c.args.word.now _ (decoded_err _ _ _ _ _ _ c.as_mut_slice.ensures.value c.in_ok-bytes.ensures.zeros
+    c.decode_to_slice.ensures.value (rw c.in-Err-InvalidHexCharacter.field-0-is at c.in-Err-InvalidHexCharacter.is)))
 
 pub returns-in-Err-OddLength-clause-fault : goal.returns-in-Err-OddLength-clause-fault
 returns-in-Err-OddLength-clause-fault c =
-    inl (bad_hex c.args.word.now _ (decoded_err _ _ _ _ _ _ c.as_mut_slice.ensures.value c.in_ok-bytes.ensures.zeros c.decode_to_slice.ensures.value
-    (rw c.in-Err-OddLength.field-0-is at c.in-Err-OddLength.is)))
+    inl (bad_hex c.args.word.now _ (decoded_err _ _ _ _ _ _ c.as_mut_slice.ensures.value c.in_ok-bytes.ensures.zeros
+    c.decode_to_slice.ensures.value (rw c.in-Err-OddLength.field-0-is at c.in-Err-OddLength.is)))
 
 pub unreachable-requires : goal.unreachable-requires
 unreachable-requires c =

@@ -37,7 +37,8 @@ bad_is_no_word word place bytes bad writes = grind (arith, bad_parts, All-get_or
 pub returns-clause-one : goal.returns-clause-one
 returns-clause-one c None device other p q = cc
 returns-clause-one c (Some word) device other p q =
-    c.images_have_one_state.ensures.one_state device other q.2 (rw (decode_of-same word p.2 q.2 p.3 q.3) at p.4) q.4 (cc (p.0, q.0)) (cc (p.1, q.1))
+    c.images_have_one_state.ensures.one_state device other q.2 (rw (decode_of-same word p.2 q.2 p.3 q.3) at p.4) q.4 (cc (p.0, q.0))
+    (cc (p.1, q.1))
 
 pub returns-clause-one_fault : goal.returns-clause-one_fault
 returns-clause-one_fault c = grind (arith, common_steps, IsBadHexWord-one, bad_is_no_word, decode_of-same)

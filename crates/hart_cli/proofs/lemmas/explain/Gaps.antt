@@ -75,7 +75,8 @@ told_in_order f a (suc n) = elim (f a) as (λ miss. AllPairs (λ told later. tol
       | None ↦ told_in_order f (a + 1) n
       | Some m ↦
           AllPairs-cons (λ told later. told.place < later.place) (record { place = a; miss = m }) (told_from f (a + 1) n)
-          (λ k d within. omega (arith, told_is f (a + 1) n _ (Contains-get_or (told_from f (a + 1) n) k d within))) (told_in_order f (a + 1) n)
+          (λ k d within. omega (arith, told_is f (a + 1) n _ (Contains-get_or (told_from f (a + 1) n) k d within)))
+          (told_in_order f (a + 1) n)
     ]
 
 -- the code of a line feed is none of a text

@@ -35,7 +35,7 @@ garbled_decided identity chars = elim (first_starts_are_decided-decided chars) [
   | inr none ↦ inr (λ request has. none has.start has.first_start.start)
   | inl first ↦ elim (garbled_request identity (drop first.0 chars)) as (λ result. garbled_request identity (drop first.0 chars) ≡ result
       → ((request : GarbledRequest) × HasGarbled identity chars request)
-          ⊎ ((request : GarbledRequest) → HasGarbled identity chars request → ⊥)) [
+      ⊎ ((request : GarbledRequest) → HasGarbled identity chars request → ⊥)) [
         | None ↦ λ is. inr (λ request has. let same = has_at identity chars request first.0 first.1 has in cc)
         | Some request ↦ λ is. inl (request, record { start = first.0; first_start = first.1; begins = is })
       ] refl

@@ -167,7 +167,13 @@ one_contents : (state other : DeviceState) (version : ℕ) (listed : List Regist
     → ((Contains listed LongTag → ⊥) → IsLongTagOf other.contents.tag other.contents.long_tag)
     → state.contents ≡ other.contents
 one_contents state other version listed known same long_tag other_long_tag = same_contents _ _ (λ register.
-    grind (arith, packed_text_and_bytes_determine_each_other-one_text, listed_or_not version listed known register, same register, same Tag))
+    grind (
+      arith,
+      packed_text_and_bytes_determine_each_other-one_text,
+      listed_or_not version listed known register,
+      same register,
+      same Tag,
+    ))
 
 -- An image is of one state.
 pub one_state : (state other : DeviceState) (image : List ℕ) → IsImageOf state image → IsImageOf other image

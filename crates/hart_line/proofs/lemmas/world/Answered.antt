@@ -97,7 +97,8 @@ answered_last start events last run number reply sendings is = as_submitted star
         | inr new ↦ (
             let back = came_back _ _ down _ _ here.step.returns in
             let (arrived, answer, given, came, replies, sent) = answers_sent (state_of start.device before) start.process who s.held
-            here.step.brought here.step.returned here.step.accepted _ reply sendings s.known back (rw s.in_hand at here.step.accepts) new.1 in
+            here.step.brought here.step.returned here.step.accepted _ reply sendings s.known back
+            (rw s.in_hand at here.step.accepts) new.1 in
             record {
               before = before;
               next = next;

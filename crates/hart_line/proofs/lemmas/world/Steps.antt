@@ -86,7 +86,8 @@ pub along : (start : Start) (from : World) (events : List LineEvent) (world : Wo
     → P [] from → LeadsTo start from events world → P events world
 along start from [] world P keeps holds led = rw led holds
 along start from (event ∷ events) world P keeps holds led = along start led.0 events world (λ es w. P (event ∷ es) w)
-    (λ prefix before other next run. keeps (event ∷ prefix) before other next (led.0, led.1, run)) (keeps [] from event led.0 refl led.1 holds) led.2
+    (λ prefix before other next run. keeps (event ∷ prefix) before other next (led.0, led.1, run))
+    (keeps [] from event led.0 refl led.1 holds) led.2
 
 -- So does what each step of a whole script keeps.
 pub to_last : (start : Start) (from : World) (events : List LineEvent) (P : World → Type 0)

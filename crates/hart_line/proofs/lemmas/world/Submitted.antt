@@ -49,7 +49,8 @@ step_along submissions more start world next cases a = record {
   hands = λ id held own. held_more submissions more start world next id held cases a own;
 }
 
-submissions_of-append : (prefix suffix : List LineEvent) → submissions_of (prefix ++ suffix) ≡ submissions_of prefix ++ submissions_of suffix
+submissions_of-append : (prefix suffix : List LineEvent)
+    → submissions_of (prefix ++ suffix) ≡ submissions_of prefix ++ submissions_of suffix
 submissions_of-append [] suffix = refl
 submissions_of-append (event ∷ prefix) suffix = grind (arith, submissions_of-append prefix suffix)
 

@@ -26,7 +26,8 @@ frame_up_to chars from start stop place end (found, stands, begins, ends) place_
 char_in_rest : (chars : List Character) (from at : ℕ) (c : Character) → slice_get (drop from chars) at ≡ Some c
     → slice_get chars (from + at) ≡ Some c
 char_in_rest chars from at c is =
-    slice_get_read chars (length chars) (from + at) c refl (omega (arith, slice_get_within (drop from chars) at c is, length-drop from chars))
+    slice_get_read chars (length chars) (from + at) c refl
+    (omega (arith, slice_get_within (drop from chars) at c is, length-drop from chars))
     (sym (get_or_from_slice_get (drop from chars) at c c is) ∙ get_or-drop from chars at c)
 
 faults_in_rest : (chars : List Character) (from at faults : ℕ) → HasFaultsAt (drop from chars) at faults
