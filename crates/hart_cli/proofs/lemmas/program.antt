@@ -1,2 +1,2 @@
--- The program: which call the words make, and how it ends.
+-- The program: the commands that clap is given.
 pub mod Subcommand

@@ -1,4 +1,4 @@
--- Texts: hex items, and lines of words and bytes.
+-- Texts: hex items, and lines of bytes.
 pub mod InputChars
 pub mod HexText
 pub mod Items

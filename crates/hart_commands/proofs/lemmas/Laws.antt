@@ -1,4 +1,4 @@
--- The laws of requests, of fields, of registers and of overwrites, for the proofs of the crates above.
+-- The laws of requests, of replies, of fields, of registers and of overwrites, for the proofs of this crate and of those above.
 use Rattle.std.proofs.Common.{arith}
 use Rattle.std.proofs.lemmas.Grind.{common_steps}
 use Rattle.std.proofs.Common.{◌≡◌, ◌≢◌, ℕ, AllPairs, Contains, IsSome, IsTrue, List, Ok, Some, length, take, refl, lit<, rules}

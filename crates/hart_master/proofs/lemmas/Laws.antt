@@ -1,4 +1,4 @@
--- The laws of replies, for the proofs of the crates above.
+-- The laws of replies, for the proofs of this crate and of those above.
 use Rattle.std.proofs.Common.{◌≡◌, ◌≤◌, ◌⊎◌, ◌∷◌, [], List, rules, slice_index}
 use Rattle.hart_values.specs.declared.address.Address.{Address}
 use Rattle.hart_values.specs.declared.master_id.MasterId.{MasterId}

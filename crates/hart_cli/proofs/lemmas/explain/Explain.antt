@@ -1,4 +1,4 @@
--- The explanation of an input, of which there is one.
+-- How far an explanation was said.
 use Rattle.std.proofs.Common.{ℕ, List, [], ◌++◌}
 use Rattle.hart_frame.specs.heard.Character.{Character}
 use Rattle.hart_frame.specs.heard.Frames.{AreFrames}

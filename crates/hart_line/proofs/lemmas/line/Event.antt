@@ -1,4 +1,4 @@
--- A submission, the switch of protection and a restart on the line are those of the world.
+-- A submission on the line is that of the world.
 use Rattle.std.proofs.Common.{Option, [], ◌∷◌, ◌++◌, length, arith}
 use Rattle.hart_values.specs.declared.address.Address.{Address}
 use Rattle.hart_values.specs.declared.master_id.MasterId.{MasterId}

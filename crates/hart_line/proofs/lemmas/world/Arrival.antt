@@ -1,4 +1,4 @@
--- What arrives, what is accepted, and what is spoken.
+-- What is brought to the device, and what is spoken.
 use Rattle.std.proofs.Common.{◌≡◌, Option, None, Some, List, [], ◌∷◌, ◌++◌, ◌⊎◌}
 use Rattle.std.proofs.Common.{append-nil, arith}
 use Rattle.std.specs.Option.{option_to_list}

@@ -1,4 +1,4 @@
--- A script leads to one world, and has one fault at most.
+-- A script leads to one world, and past no undetected damage.
 use Rattle.std.proofs.lemmas.Grind.{common_steps}
 use Rattle.std.proofs.Common.{append-nil}
 use Rattle.std.proofs.Common.{◌≡◌, ℕ, ◌<◌, ◌∙◌, sym, subst, arith, Option, None, Some, List, [], ◌∷◌, ◌++◌, suc, pred, take, drop}
