@@ -1,4 +1,4 @@
--- The subcommands of a command.
+-- The arguments that a command hands on to its subcommands.
 use Rattle.std.proofs.Common.{◌≡◌, ◌∙◌, ap, false, true}
 use Rattle.clap.proofs.SimpleLemmas.{plain_fields}
 use Rattle.clap.specs.Words.{App, app_of}

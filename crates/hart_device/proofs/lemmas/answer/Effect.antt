@@ -92,6 +92,3 @@ pub answered_if : (holds : Bool) (frame reply : FrameParts) (answer : Reply)
     → (holds ≡ true) × (reply ≡ reply_parts frame reply.payload) × (slice_get reply.payload 0 ≡ Some answer.code)
     × (reply_payload answer ≡ reply.payload)
 answered_if holds frame reply answer is = grind arith
-
-cg : (state : DeviceState) (frame : FrameParts) → judged_code (judged_of state frame) ≡ code_of state frame
-cg state frame = code_if (reading_of frame) state.counter _ (λ is. grind arith)

@@ -102,7 +102,7 @@ faultless_fit heard fit =
 pub regrouped : (xs ys : List ℕ) (tail : List Character) → faultless (xs ++ ys) ++ tail ≡ faultless xs ++ (faultless ys ++ tail)
 regrouped xs ys tail = grind (arith, common_steps, map-append, append_assoc)
 
--- nor are the first of them
+-- the first faultless bytes are no more than what is heard
 pub length-front : (heard : List Character) (most : ℕ) (bytes : List ℕ) → bytes ≡ take most (faultless_bytes heard)
     → length bytes ≤ length heard
 length-front heard most bytes is = grind (arith, length-take, length-faultless_bytes)

@@ -27,7 +27,8 @@ returns g c =
           promises.accepted_reply_answers_last_sending world last number reply sendings (rw (done.outcomes world last) at is);
       registers_follow_last_executions = λ world last. ap (λ (d : DeviceState). d.contents) (done.device world last)
           ∙ promises.registers_follow_last_executions world last done.well_made;
-      counter_counts_executions = grind (arith, common_steps);
+      counter_counts_executions = λ world last. ap (λ (d : DeviceState). d.counter) (done.device world last)
+          ∙ promises.counter_counts_executions world;
       refused_commands_change_nothing = λ before next refused end.
           device_is ∙ promises.refused_commands_change_nothing world last before next refused end;
       refused_turns_change_nothing = promises.refused_turns_change_nothing;
