@@ -1,6 +1,6 @@
 -- That what a master hears has one outcome.
-use Rattle.std.proofs.lemmas.Grind.{common_steps}
 use Rattle.std.proofs.Common.{◌≡◌, ◌⊎◌, ℕ, List, Option, None, Some, arith, inl, inr, map, refl}
+use Rattle.std.proofs.lemmas.Grind.{common_steps}
 use Rattle.hart_values.specs.declared.address.Address.{Address}
 use Rattle.hart_values.specs.declared.master_id.MasterId.{MasterId}
 use Rattle.hart_frame.specs.heard.Character.{Character}
@@ -9,15 +9,15 @@ use Rattle.hart_frame.proofs.lemmas.Laws.{frames_are_unambiguous-one_list}
 use Rattle.hart_commands.specs.declared.reply.Reply.{Reply}
 use Rattle.hart_commands.specs.declared.request.Request.{Request}
 use Rattle.hart_master.proofs.lemmas.Laws.{replies_are_decided-one_reply}
+use Rattle.hart_c.specs.Encode.{IsEncodeFault, IsFrame}
+use Rattle.hart_c.specs.Find.{char_of}
+use Rattle.hart_c.specs.Frames.{found_in, frame_in}
+use Rattle.hart_c.specs.Master.{AcceptOutcome, Accepts, IsAcceptFault, IsAsked, IsSendFault, IsSent, IsShownReply}
 use Rattle.hart_c.specs.declared.fault.Fault.{Fault}
 use Rattle.hart_c.specs.declared.fault.Fault.TheVariants.{BadFaultBits, NoRequest, TooLong, WrongAddress}
 use Rattle.hart_c.specs.declared.find.HartChar.{HartChar}
 use Rattle.hart_c.specs.declared.frame.HartFrame.{HartFrame}
 use Rattle.hart_c.specs.declared.master.HartAcceptance.{HartAcceptance}
-use Rattle.hart_c.specs.Encode.{IsEncodeFault, IsFrame}
-use Rattle.hart_c.specs.Find.{char_of}
-use Rattle.hart_c.specs.Frames.{found_in, frame_in}
-use Rattle.hart_c.specs.Master.{AcceptOutcome, Accepts, IsAcceptFault, IsAsked, IsSendFault, IsSent, IsShownReply}
 use Rattle.hart_c.proofs.Outcomes.{one_encode_fault}
 
 -- what a frame asks is one request

@@ -8,13 +8,13 @@ use Rattle.hart_master.specs.Master.{MasterState, hand_sent, hand_submitted, res
 use Rattle.hart_master.specs.Pairing.{may_ask}
 use Rattle.hart_master.specs.declared.fault.Rejected.{Rejected}
 use Rattle.hart_master.specs.declared.hand.Hand.TheVariants.{Empty}
+use Rattle.hart_c.specs.Encode.{IsEncodeFault, IsFrame}
+use Rattle.hart_c.specs.Frames.{frame_in}
+use Rattle.hart_c.specs.Master.{IsAcceptFault, IsAsked, IsAwaiting, IsSendFault}
 use Rattle.hart_c.specs.declared.fault.Fault.{Fault}
 use Rattle.hart_c.specs.declared.fault.Fault.TheVariants.{BadFaultBits, TooLong}
 use Rattle.hart_c.specs.declared.find.HartChar.{HartChar}
 use Rattle.hart_c.specs.declared.frame.HartFrame.{HartFrame}
-use Rattle.hart_c.specs.Encode.{IsEncodeFault, IsFrame}
-use Rattle.hart_c.specs.Frames.{frame_in}
-use Rattle.hart_c.specs.Master.{IsAcceptFault, IsAsked, IsAwaiting, IsSendFault}
 
 -- a fault of the frame is one of the request
 pub frame_fault : (numbers : HartFrame) (fault : Fault) → ((preambles room : ℕ) → IsEncodeFault numbers preambles room fault)

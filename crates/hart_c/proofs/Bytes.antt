@@ -1,21 +1,21 @@
 -- What the bytes of an image that is kept say.
-use Rattle.std.proofs.lemmas.Grind.{common_steps}
-use Rattle.std.proofs.Common.{◌≡◌, ◌∙◌, ◌≤◌, ◌+◌, ◌-◌, ◌%◌, ◌<◌, ◌++◌, ◌∷◌, [], ℕ, Bool, List, Some, arith, length}
-use Rattle.std.proofs.Common.{append_assoc, slice_index, take}
-use Rattle.std.specs.Prelude.{if◌then◌else◌, ◌/◌}
-use Rattle.std.specs.List.{flat_map}
-use Rattle.std.proofs.lemmas.List.{take-append-drop}
+use Rattle.std.proofs.Common.{◌≡◌, ◌∙◌, ◌≤◌, ◌+◌, ◌-◌, ◌%◌, ◌<◌, ◌++◌, ◌∷◌, [], ℕ, Bool, List, Some, arith, length, append_assoc}
+use Rattle.std.proofs.Common.{slice_index, take}
 use Rattle.std.proofs.Math.Seq.{drop-append_seam, take-append_seam}
+use Rattle.std.proofs.lemmas.Grind.{common_steps}
+use Rattle.std.proofs.lemmas.List.{take-append-drop}
+use Rattle.std.specs.List.{flat_map}
+use Rattle.std.specs.Prelude.{if◌then◌else◌, ◌/◌}
 use Rattle.hart_values.specs.declared.each_master.EachMaster.{EachMaster}
 use Rattle.hart_commands.specs.Registers.{bytes_in}
 use Rattle.hart_commands.specs.declared.register.Register.{Register}
 use Rattle.hart_commands.specs.declared.register.Register.TheVariants.{Mode, Polling}
 use Rattle.hart_device.specs.Device.{DeviceState}
 use Rattle.hart_device.specs.Identity.{two_bytes}
-use Rattle.hart_device.specs.image.Image.{flags_of, image_bytes, registers_of_version}
 use Rattle.hart_device.specs.declared.identity_parts.IdentityParts.{IdentityParts}
-use Rattle.hart_c.specs.declared.device.HartDevice.{HartDevice}
+use Rattle.hart_device.specs.image.Image.{flags_of, image_bytes, registers_of_version}
 use Rattle.hart_c.specs.Device.{IsKept, with_protection}
+use Rattle.hart_c.specs.declared.device.HartDevice.{HartDevice}
 
 -- what stands before the last byte, and that byte
 last_is : (image front : List ℕ) (len flags : ℕ) → length image ≡ 86 → len ≤ 86 → take len image ≡ front ++ flags ∷ []

@@ -1,24 +1,23 @@
 -- What is found in characters that are heard in pieces, and what is left of them.
-use Rattle.std.proofs.lemmas.Grind.{common_steps}
-use Rattle.std.proofs.Common.{◌≡◌, ◌+◌, ◌<◌, ◌≤◌, ◌⊎◌, false, Bool, ℕ, IsTrue, List, [], ◌∷◌, ◌++◌, All, arith, ap, sym}
-use Rattle.std.proofs.Common.{◌∙◌, append_assoc, drop, inl, length, refl, map, slice_index_or, take}
-use Rattle.std.proofs.lemmas.Bool.{false≢true}
-use Rattle.std.proofs.lemmas.List.{append-nil, drop-append-le, length-take, map-append, take-append-drop}
-use Rattle.std.proofs.lemmas.List.{take-map, take_more}
+use Rattle.std.proofs.Common.{◌≡◌, ◌+◌, ◌<◌, ◌≤◌, ◌⊎◌, false, Bool, ℕ, IsTrue, List, [], ◌∷◌, ◌++◌, All, arith, ap, sym, ◌∙◌, append_assoc}
+use Rattle.std.proofs.Common.{drop, inl, length, refl, map, slice_index_or, take}
 use Rattle.std.proofs.Math.Seq.{drop-length, take-length}
+use Rattle.std.proofs.lemmas.Bool.{false≢true}
+use Rattle.std.proofs.lemmas.Grind.{common_steps}
+use Rattle.std.proofs.lemmas.List.{append-nil, drop-append-le, length-take, map-append, take-append-drop, take-map, take_more}
+use Rattle.hart_frame.specs.declared.heard.found.Found.{Found}
 use Rattle.hart_frame.specs.heard.Character.{Character}
 use Rattle.hart_frame.specs.heard.Frames.{AreFrames, IsUndecided, none}
 use Rattle.hart_frame.specs.scan.Scanner.{Scan, hearing}
 use Rattle.hart_frame.specs.scan.Streamed.{IsHistory, push}
-use Rattle.hart_frame.specs.declared.heard.found.Found.{Found}
 use Rattle.hart_frame.proofs.lemmas.Laws.{frames_are_streamed-pushed, frames_are_unambiguous-one_list}
 use Rattle.hart_frame.proofs.lemmas.Laws.{held_characters_have_the_later_frames-held, held_characters_have_the_later_frames-later}
 use Rattle.hart_frame.proofs.lemmas.Laws.{messages_have_their_frame_alone-nothing}
+use Rattle.hart_c.specs.Find.{AreNext, Finds, char_of}
+use Rattle.hart_c.specs.Frames.{IsTidy, found_in_first}
 use Rattle.hart_c.specs.declared.find.HartChar.{HartChar}
 use Rattle.hart_c.specs.declared.find.HartSearch.{HartSearch}
 use Rattle.hart_c.specs.declared.frame.HartFrame.{HartFrame}
-use Rattle.hart_c.specs.Find.{AreNext, Finds, char_of}
-use Rattle.hart_c.specs.Frames.{IsTidy, found_in_first}
 
 -- a further character was heard
 pub history_one : (n : ℕ) (heard : List HartChar) (other : HartChar) (character : Character) (old new : Scan) (shown : List Found)

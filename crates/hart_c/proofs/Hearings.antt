@@ -1,13 +1,17 @@
 -- That what a device or a master hears has one outcome.
+use Rattle.std.proofs.Common.{◌≡◌, ◌∙◌, ℕ, List, Option, None, Some, arith, inl, inr, length, map, refl, sym}
 use Rattle.std.proofs.lemmas.Grind.{common_steps}
-use Rattle.std.proofs.Common.{◌≡◌, ◌∙◌, ℕ, List, Option, None, Some, arith, inl, inr, length}
-use Rattle.std.proofs.Common.{map, refl, sym}
 use Rattle.hart_frame.specs.wire.FrameParts.{FrameParts}
-use Rattle.hart_device.specs.image.Image.{IsImageFault}
 use Rattle.hart_device.specs.declared.fault.DeviceFault.{DeviceFault}
 use Rattle.hart_device.specs.declared.identity_parts.IdentityParts.{IdentityParts}
 use Rattle.hart_device.specs.declared.process.Process.{Process}
+use Rattle.hart_device.specs.image.Image.{IsImageFault}
 use Rattle.hart_device.proofs.lemmas.Laws.{deliveries_bring_one-one, images_have_no_fault}
+use Rattle.hart_c.specs.Device.{HasNoRoom, HearOutcome, Hears, IsHearFault, IsHearing, IsInState, IsSaid, IsStateFault, NewDeviceOutcome}
+use Rattle.hart_c.specs.Device.{image_in}
+use Rattle.hart_c.specs.Find.{char_of}
+use Rattle.hart_c.specs.Identity.{parts_of}
+use Rattle.hart_c.specs.Process.{IsProcessOf}
 use Rattle.hart_c.specs.declared.device.HartDevice.{HartDevice}
 use Rattle.hart_c.specs.declared.fault.Fault.{Fault}
 use Rattle.hart_c.specs.declared.fault.Fault.TheVariants.{Device, NoRoom}
@@ -16,11 +20,6 @@ use Rattle.hart_c.specs.declared.find.HartChar.{HartChar}
 use Rattle.hart_c.specs.declared.identity.HartIdentity.{HartIdentity}
 use Rattle.hart_c.specs.declared.process.HartProcess.{HartProcess}
 use Rattle.hart_c.specs.declared.registers.HartRegisters.{HartRegisters}
-use Rattle.hart_c.specs.Device.{HasNoRoom, HearOutcome, Hears, IsHearFault, IsHearing, IsInState, IsSaid, IsStateFault}
-use Rattle.hart_c.specs.Device.{NewDeviceOutcome, image_in}
-use Rattle.hart_c.specs.Find.{char_of}
-use Rattle.hart_c.specs.Identity.{parts_of}
-use Rattle.hart_c.specs.Process.{IsProcessOf}
 use Rattle.hart_c.proofs.Kept.{devices_are_kept-one_state}
 use Rattle.hart_c.proofs.Outcomes.{one_message}
 

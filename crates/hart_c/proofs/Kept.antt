@@ -1,16 +1,15 @@
 -- What is kept of a device.
-use Rattle.std.proofs.lemmas.Grind.{common_steps}
 use Rattle.std.proofs.Common.{◌≡◌, ◌≢◌, refl, ◌∙◌, ap, arith, length, sym, take, ℕ}
 use Rattle.std.proofs.Math.Seq.{take-length}
-use Rattle.hart_device.specs.Device.{DeviceState, IsDevice}
-use Rattle.hart_device.specs.image.Image.{image_of}
-use Rattle.hart_device.specs.declared.identity_parts.IdentityParts.{IdentityParts}
-use Rattle.hart_device.proofs.lemmas.Laws.{devices_are_kept_whole-either_version, images_have_no_fault}
-use Rattle.hart_device.specs.declared.fault.DeviceFault.TheVariants.{BadLength}
+use Rattle.std.proofs.lemmas.Grind.{common_steps}
 use Rattle.hart_commands.specs.Registers.{registers}
-use Rattle.hart_device.proofs.lemmas.Laws.{devices_are_kept_whole-image}
-use Rattle.hart_c.specs.declared.device.HartDevice.{HartDevice}
+use Rattle.hart_device.specs.Device.{DeviceState, IsDevice}
+use Rattle.hart_device.specs.declared.fault.DeviceFault.TheVariants.{BadLength}
+use Rattle.hart_device.specs.declared.identity_parts.IdentityParts.{IdentityParts}
+use Rattle.hart_device.specs.image.Image.{image_of}
+use Rattle.hart_device.proofs.lemmas.Laws.{devices_are_kept_whole-either_version, images_have_no_fault, devices_are_kept_whole-image}
 use Rattle.hart_c.specs.Device.{IsKept, device_of, image_in}
+use Rattle.hart_c.specs.declared.device.HartDevice.{HartDevice}
 
 -- an image of version 2 has 86 bytes
 image_len : (state : DeviceState) → IsDevice state → length (image_of state) ≡ 86

@@ -5,9 +5,9 @@ use Rattle.hart_frame.specs.heard.Character.{Character, faultless}
 use Rattle.hart_frame.specs.heard.Frames.{IsUndecided}
 use Rattle.hart_frame.specs.scan.Next.{LeadsOn}
 use Rattle.hart_frame.proofs.lemmas.Laws.{next_frames_are_all-rest}
-use Rattle.hart_c.specs.declared.frame.HartFrame.{HartFrame}
 use Rattle.hart_c.specs.Find.{Finds}
 use Rattle.hart_c.specs.Frames.{IsTidy, found_in_first}
+use Rattle.hart_c.specs.declared.frame.HartFrame.{HartFrame}
 
 -- a byte that was heard without faults
 abbrev of_byte : ℕ → Character

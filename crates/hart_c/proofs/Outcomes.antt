@@ -1,26 +1,25 @@
 -- That a call has one outcome.
+use Rattle.std.proofs.Common.{◌≡◌, ◌∙◌, ◌⊎◌, ℕ, List, Option, arith, length, sym}
 use Rattle.std.proofs.lemmas.Grind.{common_steps}
-use Rattle.std.proofs.Common.{◌≡◌, ◌∙◌, ◌⊎◌, ℕ, List, Option, arith, length}
-use Rattle.std.proofs.Common.{sym}
+use Rattle.hart_frame.specs.declared.wire.fault.FrameFault.{FrameFault}
 use Rattle.hart_frame.specs.wire.Body.{BeginsWithBody}
 use Rattle.hart_frame.specs.wire.FrameParts.{FrameParts}
 use Rattle.hart_frame.specs.wire.Message.{IsMessage}
 use Rattle.hart_frame.specs.wire.Refusal.{IsRefusedWith}
-use Rattle.hart_frame.specs.declared.wire.fault.FrameFault.{FrameFault}
 use Rattle.hart_frame.proofs.lemmas.Laws.{bodies_are_unambiguous-one_body, bodies_are_unambiguous-one_prefix}
 use Rattle.hart_commands.specs.RequestData.{Reading}
 use Rattle.hart_commands.specs.declared.reply.Reply.{Reply}
+use Rattle.hart_c.specs.Data.{ReplyShown, RequestShown}
+use Rattle.hart_c.specs.Decode.{DecodeOutcome}
+use Rattle.hart_c.specs.Encode.{EncodeOutcome, IsEncodeFault, IsWritten}
+use Rattle.hart_c.specs.Faults.{frame_fault_number, number_of}
+use Rattle.hart_c.specs.Frames.{found_in, frame_in}
+use Rattle.hart_c.specs.Names.{NameOutcome}
 use Rattle.hart_c.specs.declared.data.HartField.{HartField}
 use Rattle.hart_c.specs.declared.data.HartReading.{HartReading}
 use Rattle.hart_c.specs.declared.fault.Fault.{Fault}
 use Rattle.hart_c.specs.declared.fault.HartOutcome.{HartOutcome}
 use Rattle.hart_c.specs.declared.frame.HartFrame.{HartFrame}
-use Rattle.hart_c.specs.Decode.{DecodeOutcome}
-use Rattle.hart_c.specs.Data.{ReplyShown, RequestShown}
-use Rattle.hart_c.specs.Encode.{EncodeOutcome, IsEncodeFault, IsWritten}
-use Rattle.hart_c.specs.Faults.{frame_fault_number, number_of}
-use Rattle.hart_c.specs.Frames.{found_in, frame_in}
-use Rattle.hart_c.specs.Names.{NameOutcome}
 
 -- what is told is one if the length and the number of the fault are
 pub outcome_is : (outcome other : HartOutcome) → outcome.len ≡ other.len → outcome.fault ≡ other.fault → outcome ≡ other

@@ -1,7 +1,6 @@
 -- Where fields stand, one after another, and how they are shown.
-use Rattle.std.proofs.Common.{◌≡◌, ◌<◌, ◌+◌, ℕ, List, [], ◌∷◌, ◌++◌, drop, take, map, get_or, length, slice_set, suc, zero}
-use Rattle.std.proofs.Common.{Some}
-use Rattle.std.proofs.Common.{refl, ap, arith}
+use Rattle.std.proofs.Common.{◌≡◌, ◌<◌, ◌+◌, ℕ, List, [], ◌∷◌, ◌++◌, drop, take, map, get_or, length, slice_set, suc, zero, Some, refl, ap}
+use Rattle.std.proofs.Common.{arith}
 use Rattle.std.proofs.lemmas.Grind.{common_steps}
 use Rattle.std.proofs.lemmas.List.{take-append-drop}
 use Rattle.hart_commands.specs.Fields.{Field, Row, fields_of, seen, split}

@@ -1,8 +1,7 @@
 -- How many fields there are at most, and how long names are.
-use Rattle.std.proofs.Common.{◌≢◌, ◌≤◌, ℕ, zero, suc, List, [], ◌∷◌, length, slice_get}
-use Rattle.std.proofs.Common.{arith, rules, Bool, IfSome}
-use Rattle.std.specs.Prelude.{option_map, ◌==◌}
+use Rattle.std.proofs.Common.{◌≢◌, ◌≤◌, ℕ, zero, suc, List, [], ◌∷◌, length, slice_get, arith, rules, Bool, IfSome}
 use Rattle.std.specs.List.{AllByRecursion, find}
+use Rattle.std.specs.Prelude.{option_map, ◌==◌}
 use Rattle.hart_commands.specs.Fields.{CommandRows, Row, command_name, fields_of, reply_rows, request_rows, rows, rows_of}
 use Rattle.hart_c.specs.Data.{ReplyOutcome, RequestOutcome}
 use Rattle.hart_c.specs.Names.{NameOutcome, field_name, rows_for}

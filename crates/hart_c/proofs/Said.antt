@@ -6,16 +6,16 @@ use Rattle.hart_device.specs.Device.{DeviceState, IsDevice}
 use Rattle.hart_device.specs.answer.Delivery.{Brings, Brought, answer_to, state_after_delivery}
 use Rattle.hart_device.specs.declared.process.Process.{Process}
 use Rattle.hart_device.proofs.lemmas.Laws.{deliveries_bring_one-brings, frames_leave_identity_and_protection-identity}
-use Rattle.hart_c.specs.declared.device.HartDevice.{HartDevice}
-use Rattle.hart_c.specs.declared.fault.Fault.TheVariants.{NoRoom}
-use Rattle.hart_c.specs.declared.find.HartChar.{HartChar}
-use Rattle.hart_c.specs.declared.identity.HartIdentity.{HartIdentity}
-use Rattle.hart_c.specs.declared.process.HartProcess.{HartProcess}
 use Rattle.hart_c.specs.Device.{HasNoRoom, Hears, IsHearFault, IsHearing, IsKept, IsSaid, device_of}
 use Rattle.hart_c.specs.Find.{char_of}
 use Rattle.hart_c.specs.Heard.{IsDelivery}
 use Rattle.hart_c.specs.Identity.{parts_of}
 use Rattle.hart_c.specs.Process.{IsProcessOf}
+use Rattle.hart_c.specs.declared.device.HartDevice.{HartDevice}
+use Rattle.hart_c.specs.declared.fault.Fault.TheVariants.{NoRoom}
+use Rattle.hart_c.specs.declared.find.HartChar.{HartChar}
+use Rattle.hart_c.specs.declared.identity.HartIdentity.{HartIdentity}
+use Rattle.hart_c.specs.declared.process.HartProcess.{HartProcess}
 use Rattle.hart_c.proofs.Kept.{devices_are_kept-kept}
 
 -- who a device is stays after a delivery, as after a frame

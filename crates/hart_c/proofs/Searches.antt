@@ -1,12 +1,12 @@
 -- What is found by one search after another.
-use Rattle.std.proofs.lemmas.Grind.{common_steps}
-use Rattle.std.proofs.Common.{◌≡◌, ◌+◌, ◌≤◌, false, true, Bool, ℕ, List, [], ◌∷◌, ◌++◌, arith, append_assoc, drop, length}
-use Rattle.std.proofs.Common.{IsTrue, map, refl}
-use Rattle.std.proofs.lemmas.List.{append-nil, drop-append-le, drop-drop, map-append}
+use Rattle.std.proofs.Common.{◌≡◌, ◌+◌, ◌≤◌, false, true, Bool, ℕ, List, [], ◌∷◌, ◌++◌, arith, append_assoc, drop, length, IsTrue, map}
+use Rattle.std.proofs.Common.{refl}
 use Rattle.std.proofs.Math.Seq.{drop-length}
+use Rattle.std.proofs.lemmas.Grind.{common_steps}
+use Rattle.std.proofs.lemmas.List.{append-nil, drop-append-le, drop-drop, map-append}
+use Rattle.hart_frame.specs.declared.heard.found.Found.{Found}
 use Rattle.hart_frame.specs.heard.Character.{Character}
 use Rattle.hart_frame.specs.heard.Frames.{AreFrames, moved}
-use Rattle.hart_frame.specs.declared.heard.found.Found.{Found}
 use Rattle.hart_frame.proofs.lemmas.Laws.{messages_have_their_frame_alone-nothing}
 use Rattle.hart_c.specs.Find.{AreNext, IsSearchedSoFar, begin, search}
 

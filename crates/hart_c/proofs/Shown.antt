@@ -1,16 +1,16 @@
 -- Frames that are shown one after another.
-use Rattle.std.proofs.lemmas.Grind.{common_steps}
-use Rattle.std.proofs.Common.{◌≡◌, ◌+◌, ◌<◌, ◌≤◌, ◌-◌, ℕ, false, List, [], ◌∷◌, ◌++◌, All, length, take, drop, slice_set, sym, ◌∙◌}
-use Rattle.std.proofs.Common.{arith, inl, inr}
+use Rattle.std.proofs.Common.{◌≡◌, ◌+◌, ◌<◌, ◌≤◌, ◌-◌, ℕ, false, List, [], ◌∷◌, ◌++◌, All, length, take, drop, slice_set, sym, ◌∙◌, arith}
+use Rattle.std.proofs.Common.{inl, inr}
 use Rattle.std.proofs.lemmas.Bool.{false≢true}
+use Rattle.std.proofs.lemmas.Grind.{common_steps}
 use Rattle.std.proofs.lemmas.List.{drop-drop, map-append, take-set, take_more_set}
 use Rattle.std.proofs.lemmas.List.Elements.{All-append}
+use Rattle.hart_frame.specs.declared.heard.found.Found.{Found}
 use Rattle.hart_frame.specs.heard.Character.{Character}
 use Rattle.hart_frame.specs.scan.Scanner.{Gives, GivesNothing, Scan}
 use Rattle.hart_frame.specs.scan.Streamed.{IsHistory, take_view, wait}
-use Rattle.hart_frame.specs.declared.heard.found.Found.{Found}
-use Rattle.hart_c.specs.declared.frame.HartFrame.{HartFrame}
 use Rattle.hart_c.specs.Frames.{IsTidy, found_in, found_in_first}
+use Rattle.hart_c.specs.declared.frame.HartFrame.{HartFrame}
 
 -- one more is shown
 pub shown_more : (count : ℕ) (frames : List HartFrame) (frame : HartFrame) (found : Found) → count < length frames

@@ -1,18 +1,17 @@
 -- Where the fields that are shown stand.
-use Rattle.std.proofs.lemmas.Grind.{common_steps}
-use Rattle.std.proofs.Common.{◌≡◌, ◌<◌, ◌+◌, ℕ, zero, suc, List, [], ◌∷◌, ◌++◌, drop, take, length, slice_get, Option, Some}
-use Rattle.std.proofs.Common.{refl, ap, subst, append_assoc, arith, length-append}
-use Rattle.std.proofs.Common.{Bool, true, false, Ok, Err}
-use Rattle.std.specs.Prelude.{if◌then◌else◌, ◌==◌}
-use Rattle.std.proofs.lemmas.List.{take-append-drop}
+use Rattle.std.proofs.Common.{◌≡◌, ◌<◌, ◌+◌, ℕ, zero, suc, List, [], ◌∷◌, ◌++◌, drop, take, length, slice_get, Option, Some, refl, ap}
+use Rattle.std.proofs.Common.{subst, append_assoc, arith, length-append, Bool, true, false, Ok, Err}
 use Rattle.std.proofs.Math.Seq.{drop-append-add, drop-append_seam, take-append_seam}
+use Rattle.std.proofs.lemmas.Grind.{common_steps}
+use Rattle.std.proofs.lemmas.List.{take-append-drop}
+use Rattle.std.specs.Prelude.{if◌then◌else◌, ◌==◌}
 use Rattle.hart_commands.specs.Commands.{content_bytes}
 use Rattle.hart_commands.specs.Fields.{Field, Row, bytes_of, fields_of}
 use Rattle.hart_commands.specs.ReplyData.{reply_reading}
 use Rattle.hart_commands.specs.RequestData.{Reading, request_data, request_reading}
 use Rattle.hart_commands.specs.declared.reply.Reply.{Reply}
-use Rattle.hart_c.specs.Data.{IsShown, ReplyOutcome, ReplyShown, RequestOutcome, RequestShown, StandsAt, kind_number, placed}
-use Rattle.hart_c.specs.Data.{reply_fields, request_fields, written_over}
+use Rattle.hart_c.specs.Data.{IsShown, ReplyOutcome, ReplyShown, RequestOutcome, RequestShown, StandsAt, kind_number, placed, reply_fields}
+use Rattle.hart_c.specs.Data.{request_fields, written_over}
 use Rattle.hart_c.specs.Names.{rows_for}
 use Rattle.hart_c.specs.declared.data.HartField.{HartField}
 use Rattle.hart_c.specs.declared.data.HartReading.{HartReading}

@@ -1,11 +1,10 @@
 -- The chunks of a list, n items each.
+use Rattle.std.proofs.Common.{◌≡◌, ℕ, zero, suc, ◌*◌, ◌≤◌, List, take, drop, length, map, refl, arith, length-take-le}
+use Rattle.std.proofs.Math.Seq.{take-add}
 use Rattle.std.proofs.lemmas.Grind.{common_steps}
-use Rattle.std.proofs.Common.{◌≡◌, ℕ, zero, suc, ◌*◌, ◌≤◌, List, take, drop, length, map, refl, arith}
-use Rattle.std.proofs.Common.{length-take-le}
+use Rattle.std.proofs.lemmas.List.{drop-take, take_at}
 use Rattle.std.specs.List.{flat_map}
 use Rattle.std.specs.Simd.{first_chunks}
-use Rattle.std.proofs.Math.Seq.{take-add}
-use Rattle.std.proofs.lemmas.List.{drop-take, take_at}
 
 -- Things that are written as the chunks that they are read from, end to end, are written as the front of the list.
 pub chunks-bytes : {X : Type 0} (n count : ℕ) (of : List ℕ → X) (bytes_of : X → List ℕ)

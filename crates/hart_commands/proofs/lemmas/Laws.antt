@@ -1,12 +1,11 @@
 -- The laws of requests, of replies, of fields, of registers and of overwrites, for the proofs of this crate and of those above.
-use Rattle.std.proofs.Common.{arith}
+use Rattle.std.proofs.Common.{arith, ◌≡◌, ◌≢◌, ℕ, AllPairs, Contains, IsSome, IsTrue, List, Ok, Some, length, take, refl, lit<, rules}
 use Rattle.std.proofs.lemmas.Grind.{common_steps}
-use Rattle.std.proofs.Common.{◌≡◌, ◌≢◌, ℕ, AllPairs, Contains, IsSome, IsTrue, List, Ok, Some, length, take, refl, lit<, rules}
 use Rattle.hart_commands.specs.Fields.{bytes_of, fields_of, reply_rows, request_rows}
+use Rattle.hart_commands.specs.Registers.{AreValid, Contents, overwrite_of, overwritten, registers}
 use Rattle.hart_commands.specs.ReplyData.{IsReply, content_bytes, reply_payload, reply_reading}
 use Rattle.hart_commands.specs.RequestCode.{is_write}
 use Rattle.hart_commands.specs.RequestData.{IsRequest, command_of, request_data, request_reading}
-use Rattle.hart_commands.specs.Registers.{AreValid, Contents, overwrite_of, overwritten, registers}
 use Rattle.hart_commands.specs.declared.register.Register.{Register}
 use Rattle.hart_commands.specs.declared.register.Register.TheVariants.{Polling, Mode, Message, Tag, Descriptor, Date, Assembly, LongTag}
 use Rattle.hart_commands.specs.declared.reply.Reply.{Reply}
@@ -14,8 +13,8 @@ use Rattle.hart_commands.specs.declared.request.Request.{Request}
 use Rattle.hart_commands.proofs.lemmas.Parted.{bytes-each, content-parts, request-parts}
 use Rattle.hart_commands.proofs.lemmas.Reply.{read-kept}
 use Rattle.hart_commands.proofs.lemmas.ReplyFields.{parts_of_reply}
-use Rattle.hart_commands.proofs.lemmas.RequestFields.{parts_of_request}
 use Rattle.hart_commands.proofs.lemmas.Request.{written_is_own}
+use Rattle.hart_commands.proofs.lemmas.RequestFields.{parts_of_request}
 pub use Rattle.hart_commands.proofs.lemmas.RequestMade.{requests_have_their_command}
 
 pub all_registers_are_listed_once-every : (register : Register) → Contains registers register

@@ -1,11 +1,10 @@
 -- Every command that is known has a name of its own.
+use Rattle.std.proofs.Common.{◌≡◌, rules, ℕ, List, [], ◌∷◌, map, Option, Some, None, IfSome, IsSome, refl, ◌∙◌, sym, arith, eqb, is_some}
+use Rattle.std.proofs.lemmas.Bool.Decides.{nat_tests}
 use Rattle.std.proofs.lemmas.Grind.{common_steps}
-use Rattle.std.proofs.Common.{◌≡◌, rules, ℕ, List, [], ◌∷◌, map, Option, Some, None, IfSome, IsSome, refl}
-use Rattle.std.proofs.Common.{◌∙◌, sym, arith, eqb, is_some}
-use Rattle.std.specs.Prelude.{bytes_eq}
 use Rattle.std.specs.List.{AllByRecursion, find}
 use Rattle.std.specs.Option.{option_map}
-use Rattle.std.proofs.lemmas.Bool.Decides.{nat_tests}
+use Rattle.std.specs.Prelude.{bytes_eq}
 use Rattle.hart_commands.specs.Commands.{CommandRow, commands, is_known, row_in}
 use Rattle.hart_commands.specs.Fields.{CommandRows, command_name, rows, rows_of}
 

@@ -1,15 +1,14 @@
 -- Which data are too few for a command.
+use Rattle.std.proofs.Common.{◌≡◌, ◌≢◌, ◌↔◌, ℕ, ◌<◌, ◌≤◌, List, ◌++◌, length, Err, arith, false, eqb, length-append}
+use Rattle.std.proofs.lemmas.Bool.Decides.{nat_tests}
 use Rattle.std.proofs.lemmas.Grind.{common_steps}
-use Rattle.std.proofs.Common.{◌≡◌, ◌≢◌, ◌↔◌, ℕ, ◌<◌, ◌≤◌, List, ◌++◌, length, Err}
-use Rattle.std.proofs.Common.{arith, false, eqb, length-append}
 use Rattle.std.specs.List.{AllByRecursion}
 use Rattle.std.specs.Option.{option_map_or}
-use Rattle.std.proofs.lemmas.Bool.Decides.{nat_tests}
-use Rattle.hart_commands.specs.declared.request.Request.{Request}
-use Rattle.hart_commands.specs.RequestReading.{Reading, needing}
 use Rattle.hart_commands.specs.Commands.{Asked, Always, Needing, AskedBy, CommandRow, asked, commands}
 use Rattle.hart_commands.specs.NeededData.{AreTooFew, needed_as, needed_data, own_needed}
 use Rattle.hart_commands.specs.RequestData.{read_by, request_reading}
+use Rattle.hart_commands.specs.RequestReading.{Reading, needing}
+use Rattle.hart_commands.specs.declared.request.Request.{Request}
 use Rattle.hart_commands.proofs.lemmas.Rows.{by_row}
 
 -- data are refused with code 5 exactly if they are fewer than so many, but that Command 38 may have none

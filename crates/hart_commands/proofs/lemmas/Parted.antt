@@ -1,15 +1,14 @@
 -- The parts of data, one after another, are the data.
-use Rattle.std.proofs.Common.{arith}
-use Rattle.std.proofs.Common.{◌≡◌, ℕ, List, [], ◌∷◌, ◌++◌, map, refl, ap, append_assoc, append-nil}
+use Rattle.std.proofs.Common.{arith, ◌≡◌, ℕ, List, [], ◌∷◌, ◌++◌, map, refl, ap, append_assoc, append-nil}
 use Rattle.std.specs.List.{concat, flat_map}
-use Rattle.hart_commands.specs.declared.content.ReplyContent.{ReplyContent}
-use Rattle.hart_commands.specs.declared.request.Request.{Request}
-use Rattle.hart_commands.specs.declared.value.UnitValue.{UnitValue}
 use Rattle.hart_commands.specs.Commands.{content_bytes}
 use Rattle.hart_commands.specs.Fields.{Field, bytes_of, field_bytes}
 use Rattle.hart_commands.specs.Parts.{content_parts, one, request_parts, unit_value_parts}
 use Rattle.hart_commands.specs.RequestData.{request_data}
 use Rattle.hart_commands.specs.Values.{unit_value_bytes}
+use Rattle.hart_commands.specs.declared.content.ReplyContent.{ReplyContent}
+use Rattle.hart_commands.specs.declared.request.Request.{Request}
+use Rattle.hart_commands.specs.declared.value.UnitValue.{UnitValue}
 
 -- the parts of values
 values : (vs : List UnitValue) → concat (flat_map unit_value_parts vs) ≡ flat_map unit_value_bytes vs

@@ -1,24 +1,23 @@
 -- What is read of a payload is written as the front of it, and read again.
-use Rattle.std.proofs.lemmas.Grind.{common_steps}
-use Rattle.std.proofs.Common.{◌≡◌, ℕ, ◌*◌, ◌/◌, ◌<◌, ◌≤◌, List, [], ◌∷◌, ◌++◌, take, length}
-use Rattle.std.proofs.Common.{map, min, Option, Some, None, IfSome, ap, arith, Bool, true, ltb, eqb}
-use Rattle.std.proofs.Common.{◌≢◌, sym, ◌⊎◌, length-append, length-take, length-take-le, slice_index}
-use Rattle.std.specs.Prelude.{if◌then◌else◌}
-use Rattle.std.specs.List.{flat_map, AllByRecursion}
-use Rattle.std.specs.Option.{option_map}
-use Rattle.std.specs.Simd.{first_chunks}
+use Rattle.std.proofs.Common.{◌≡◌, ℕ, ◌*◌, ◌/◌, ◌<◌, ◌≤◌, List, [], ◌∷◌, ◌++◌, take, length, map, min, Option, Some, None, IfSome, ap}
+use Rattle.std.proofs.Common.{arith, Bool, true, ltb, eqb, ◌≢◌, sym, ◌⊎◌, length-append, length-take, length-take-le, slice_index}
 use Rattle.std.proofs.Math.Seq.{take-add}
 use Rattle.std.proofs.lemmas.Bool.Decides.{nat_tests}
+use Rattle.std.proofs.lemmas.Grind.{common_steps}
 use Rattle.std.proofs.lemmas.List.{take_at, drop_at, take_all}
+use Rattle.std.specs.List.{flat_map, AllByRecursion}
+use Rattle.std.specs.Option.{option_map}
+use Rattle.std.specs.Prelude.{if◌then◌else◌}
+use Rattle.std.specs.Simd.{first_chunks}
+use Rattle.hart_commands.specs.Commands.{Replied, Saying, SaidBy, replied, commands, is_known}
+use Rattle.hart_commands.specs.FirstBytes.{having}
+use Rattle.hart_commands.specs.IdentityBytes.{identity_of}
+use Rattle.hart_commands.specs.ReplyData.{IsReply, content_by, content_reading, content_bytes, reply_reading, reply_payload}
+use Rattle.hart_commands.specs.ReplyReading.{saying, identity_reading, dynamic_reading, variables_reading, more_reading}
+use Rattle.hart_commands.specs.Values.{unit_value_of}
 use Rattle.hart_commands.specs.declared.content.ReplyContent.{ReplyContent}
 use Rattle.hart_commands.specs.declared.content.ReplyContent.TheVariants.{Identity, Dynamic, More, Refused}
 use Rattle.hart_commands.specs.declared.reply.Reply.{Reply}
-use Rattle.hart_commands.specs.FirstBytes.{having}
-use Rattle.hart_commands.specs.Values.{unit_value_of}
-use Rattle.hart_commands.specs.IdentityBytes.{identity_of}
-use Rattle.hart_commands.specs.ReplyReading.{saying, identity_reading, dynamic_reading, variables_reading, more_reading}
-use Rattle.hart_commands.specs.Commands.{Replied, Saying, SaidBy, replied, commands, is_known}
-use Rattle.hart_commands.specs.ReplyData.{IsReply, content_by, content_reading, content_bytes, reply_reading, reply_payload}
 use Rattle.hart_commands.proofs.lemmas.Chunk.{chunks-bytes, chunks-take}
 use Rattle.hart_commands.proofs.lemmas.Parts.{spell, by_spelling, unit_value-bytes, variable-bytes}
 use Rattle.hart_commands.proofs.lemmas.Rows.{by_row}

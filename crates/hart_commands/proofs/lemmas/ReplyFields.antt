@@ -1,29 +1,28 @@
 -- The fields of the data of a well-made reply are the parts of its content.
+use Rattle.std.proofs.Common.{◌≡◌, ℕ, zero, suc, ◌*◌, ◌<◌, ◌≤◌, List, [], ◌∷◌, ◌++◌, take, length, map, Option, Some, None, IfSome, refl}
+use Rattle.std.proofs.Common.{arith, rules, length-append, length-drop, length-take-le}
+use Rattle.std.proofs.lemmas.Bool.Decides.{nat_tests}
 use Rattle.std.proofs.lemmas.Grind.{common_steps}
-use Rattle.std.proofs.Common.{◌≡◌, ℕ, zero, suc, ◌*◌, ◌<◌, ◌≤◌, List, [], ◌∷◌, ◌++◌, take, length}
-use Rattle.std.proofs.Common.{map, Option, Some, None, IfSome, refl, arith, rules, length-append}
-use Rattle.std.proofs.Common.{length-drop, length-take-le}
+use Rattle.std.proofs.lemmas.List.{take_at, drop_at, take_all}
 use Rattle.std.specs.List.{AllByRecursion}
 use Rattle.std.specs.Simd.{first_chunks}
-use Rattle.std.proofs.lemmas.Bool.Decides.{nat_tests}
-use Rattle.std.proofs.lemmas.List.{take_at, drop_at, take_all}
+use Rattle.hart_commands.specs.Commands.{Replied, Saying, SaidBy, replied, commands}
+use Rattle.hart_commands.specs.Fields.{CommandRows, Row, field_bytes, fields_of, reply_rows, rows, rows_of}
+use Rattle.hart_commands.specs.FirstBytes.{having}
+use Rattle.hart_commands.specs.Parts.{content_parts, one}
+use Rattle.hart_commands.specs.ReplyData.{IsReply, content_by, content_bytes, content_reading}
+use Rattle.hart_commands.specs.ReplyReading.{identity_reading, dynamic_reading, variables_reading, more_reading}
+use Rattle.hart_commands.specs.Values.{float_at, unit_value_of}
 use Rattle.hart_commands.specs.declared.content.ReplyContent.{ReplyContent}
 use Rattle.hart_commands.specs.declared.content.ReplyContent.TheVariants.{Dynamic, Refused}
 use Rattle.hart_commands.specs.declared.reply.Reply.{Reply}
-use Rattle.hart_commands.specs.FirstBytes.{having}
-use Rattle.hart_commands.specs.Fields.{CommandRows, Row, field_bytes, fields_of, reply_rows, rows, rows_of}
-use Rattle.hart_commands.specs.Fields as fields
-use Rattle.hart_commands.specs.Parts.{content_parts, one}
-use Rattle.hart_commands.specs.Values.{float_at, unit_value_of}
-use Rattle.hart_commands.specs.ReplyReading.{identity_reading, dynamic_reading, variables_reading, more_reading}
-use Rattle.hart_commands.specs.Commands.{Replied, Saying, SaidBy, replied, commands}
-use Rattle.hart_commands.specs.ReplyData.{IsReply, content_by, content_bytes, content_reading}
-use Rattle.hart_commands.proofs.lemmas.Parts.{spell, spelled, by_spelling, variable-bytes}
 use Rattle.hart_commands.proofs.lemmas.Chunk.{chunks-bytes, chunks-take}
+use Rattle.hart_commands.proofs.lemmas.Parts.{spell, spelled, by_spelling, variable-bytes}
 use Rattle.hart_commands.proofs.lemmas.Reply.{identity_in, says}
-use Rattle.hart_commands.proofs.lemmas.Named as names
-use Rattle.hart_commands.proofs.lemmas.Rows.{by_row}
 use Rattle.hart_commands.proofs.lemmas.RequestFields.{all_left}
+use Rattle.hart_commands.proofs.lemmas.Rows.{by_row}
+use Rattle.hart_commands.specs.Fields as fields
+use Rattle.hart_commands.proofs.lemmas.Named as names
 
 -- the fields that a command has of a content are its parts
 abbrev pub IsParted : ℕ → ReplyContent → Type 0

@@ -1,16 +1,16 @@
 -- Written data are read again.
-use Rattle.std.proofs.lemmas.Grind.{common_steps}
-use Rattle.std.proofs.Common.{◌≡◌, ℕ, ◌≤◌, ◌⊎◌, inl, inr, List, [], ◌∷◌, ◌++◌, take, length, Ok, refl, ap, arith, true}
-use Rattle.std.proofs.Common.{length-append, append-nil}
-use Rattle.std.proofs.lemmas.List.{take_at, take_all}
+use Rattle.std.proofs.Common.{◌≡◌, ℕ, ◌≤◌, ◌⊎◌, inl, inr, List, [], ◌∷◌, ◌++◌, take, length, Ok, refl, ap, arith, true, length-append}
+use Rattle.std.proofs.Common.{append-nil}
 use Rattle.std.proofs.lemmas.Bool.Decides.{nat_tests}
-use Rattle.hart_values.proofs.lemmas.Laws.{dates_are_decided-date}
+use Rattle.std.proofs.lemmas.Grind.{common_steps}
+use Rattle.std.proofs.lemmas.List.{take_at, take_all}
 use Rattle.hart_values.specs.hart_date.Calendar.{is_date}
+use Rattle.hart_values.proofs.lemmas.Laws.{dates_are_decided-date}
+use Rattle.hart_commands.specs.RequestData.{IsRequest, MayFollow, command_of, request_reading, request_data}
+use Rattle.hart_commands.specs.RequestReading.{needing, tag_reading}
 use Rattle.hart_commands.specs.declared.request.Request.{Request}
 use Rattle.hart_commands.specs.declared.request.Request.TheVariants.{SetPolling, ReadVariables, IdentifyByTag, WriteMessage, WriteTag}
 use Rattle.hart_commands.specs.declared.request.Request.TheVariants.{WriteAssembly, IdentifyByLongTag, WriteLongTag, ResetChanged}
-use Rattle.hart_commands.specs.RequestReading.{needing, tag_reading}
-use Rattle.hart_commands.specs.RequestData.{IsRequest, MayFollow, command_of, request_reading, request_data}
 use Rattle.hart_commands.proofs.lemmas.Parts.{spelled}
 
 -- needed bytes are read, whatever follows

@@ -1,19 +1,19 @@
 -- The fields of the data of a well-made request are its parts.
-use Rattle.hart_commands.proofs.lemmas.Parts.{spelled}
-use Rattle.std.proofs.lemmas.Grind.{common_steps}
 use Rattle.std.proofs.Common.{◌≡◌, ℕ, ◌<◌, List, [], ◌∷◌, length, Some, None, refl, arith}
-use Rattle.std.specs.Prelude.{codes}
-use Rattle.std.proofs.lemmas.List.{take_all}
 use Rattle.std.proofs.lemmas.Bool.Decides.{nat_tests}
+use Rattle.std.proofs.lemmas.Grind.{common_steps}
+use Rattle.std.proofs.lemmas.List.{take_all}
+use Rattle.std.specs.Prelude.{codes}
+use Rattle.hart_commands.specs.Fields.{field, field_bytes, fields_of, request_rows, rows}
+use Rattle.hart_commands.specs.Parts.{request_parts}
+use Rattle.hart_commands.specs.RequestData.{IsRequest, command_of, request_data}
 use Rattle.hart_commands.specs.declared.fields.FieldKind.{FieldKind}
 use Rattle.hart_commands.specs.declared.fields.FieldKind.TheVariants.{Bytes}
 use Rattle.hart_commands.specs.declared.fields.FieldSize.TheVariants.{AllBut}
 use Rattle.hart_commands.specs.declared.request.Request.{Request}
-use Rattle.hart_commands.specs.declared.request.Request.TheVariants.{ReadVariables, IdentifyByTag, WriteMessage, WriteTag}
-use Rattle.hart_commands.specs.declared.request.Request.TheVariants.{WriteAssembly, IdentifyByLongTag, WriteLongTag, ResetChanged}
-use Rattle.hart_commands.specs.Fields.{field, field_bytes, fields_of, request_rows, rows}
-use Rattle.hart_commands.specs.Parts.{request_parts}
-use Rattle.hart_commands.specs.RequestData.{IsRequest, command_of, request_data}
+use Rattle.hart_commands.specs.declared.request.Request.TheVariants.{ReadVariables, IdentifyByTag, WriteMessage, WriteTag, WriteAssembly}
+use Rattle.hart_commands.specs.declared.request.Request.TheVariants.{IdentifyByLongTag, WriteLongTag, ResetChanged}
+use Rattle.hart_commands.proofs.lemmas.Parts.{spelled}
 
 -- a row that takes all bytes that are left has them
 pub all_left : (name : List ℕ) (kind : FieldKind) (bytes : List ℕ) → 0 < length bytes

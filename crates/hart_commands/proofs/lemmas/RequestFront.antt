@@ -1,19 +1,16 @@
 -- Data that are read as a request begin with those that it is written as, but for the mode that Command 6 may leave out.
+use Rattle.std.proofs.Common.{◌≡◌, ℕ, ◌<◌, ◌≤◌, ◌⊎◌, All, List, [], ◌++◌, take, drop, length, Ok, Err, refl, arith, append_assoc}
+use Rattle.std.proofs.Math.Seq.{take-add}
 use Rattle.std.proofs.lemmas.Bool.Decides.{nat_tests}
 use Rattle.std.proofs.lemmas.Grind.{common_steps}
-use Rattle.std.proofs.Common.{◌≡◌, ℕ, ◌<◌, ◌≤◌, ◌⊎◌, All, List, [], ◌++◌, take, drop, length, Ok}
-use Rattle.std.proofs.Common.{Err, refl, arith}
-use Rattle.std.proofs.Common.{append_assoc}
-use Rattle.std.specs.List.{AllByRecursion}
-use Rattle.std.proofs.Math.Seq.{take-add}
 use Rattle.std.proofs.lemmas.List.{drop-drop, take_all}
-use Rattle.hart_commands.specs.declared.request.Request.{Request}
-use Rattle.hart_commands.specs.TagBytes.{tag_in, descriptor_in, date_in}
-use Rattle.hart_commands.specs.RequestReading.{Reading, needing, polling_reading, codes_reading, tag_reading}
-use Rattle.hart_commands.specs.RequestReading.{reset_reading}
+use Rattle.std.specs.List.{AllByRecursion}
 use Rattle.hart_commands.specs.Commands.{Asked, Always, Needing, AskedBy, CommandRow, asked, commands}
 use Rattle.hart_commands.specs.Fields.{fields_of, request_rows, rows}
 use Rattle.hart_commands.specs.RequestData.{read_by, request_data, request_reading}
+use Rattle.hart_commands.specs.RequestReading.{Reading, needing, polling_reading, codes_reading, tag_reading, reset_reading}
+use Rattle.hart_commands.specs.TagBytes.{tag_in, descriptor_in, date_in}
+use Rattle.hart_commands.specs.declared.request.Request.{Request}
 use Rattle.hart_commands.proofs.lemmas.Rows.{by_row}
 
 -- an address without the mode with which it is written

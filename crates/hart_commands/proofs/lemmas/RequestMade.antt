@@ -1,16 +1,14 @@
 -- What is read of data is a well-made request of its command, or refused with another code than 64.
-use Rattle.std.proofs.lemmas.Grind.{common_steps}
-use Rattle.std.proofs.Common.{◌≡◌, ◌≢◌, ◌↔◌, ℕ, List, drop, length, Ok, Err}
-use Rattle.std.proofs.Common.{arith, false, length-drop, length-take-le}
-use Rattle.std.specs.Prelude.{is_some}
-use Rattle.std.specs.List.{AllByRecursion}
+use Rattle.std.proofs.Common.{◌≡◌, ◌≢◌, ◌↔◌, ℕ, List, drop, length, Ok, Err, arith, false, length-drop, length-take-le}
 use Rattle.std.proofs.lemmas.Bool.Decides.{nat_tests}
+use Rattle.std.proofs.lemmas.Grind.{common_steps}
+use Rattle.std.specs.List.{AllByRecursion}
+use Rattle.std.specs.Prelude.{is_some}
 use Rattle.hart_values.proofs.lemmas.Laws.{dates_are_decided-date}
-use Rattle.hart_commands.specs.declared.request.Request.{Request}
-use Rattle.hart_commands.specs.RequestReading.{Reading, needing, polling_reading, codes_reading, tag_reading}
-use Rattle.hart_commands.specs.RequestReading.{reset_reading}
 use Rattle.hart_commands.specs.Commands.{Asked, Always, Needing, AskedBy, CommandRow, asked, commands, is_known}
 use Rattle.hart_commands.specs.RequestData.{IsRequest, command_of, read_by, request_reading}
+use Rattle.hart_commands.specs.RequestReading.{Reading, needing, polling_reading, codes_reading, tag_reading, reset_reading}
+use Rattle.hart_commands.specs.declared.request.Request.{Request}
 use Rattle.hart_commands.proofs.lemmas.Rows.{by_row}
 
 -- a well-made request of a command, or a code other than 64

@@ -1,7 +1,6 @@
 -- What holds of every row of the table holds of the row that is found.
+use Rattle.std.proofs.Common.{arith, ◌≡◌, ℕ, List, [], ◌∷◌, Option, None, Some}
 use Rattle.std.proofs.lemmas.Bool.Decides.{nat_tests}
-use Rattle.std.proofs.Common.{arith}
-use Rattle.std.proofs.Common.{◌≡◌, ℕ, List, [], ◌∷◌, Option, None, Some}
 use Rattle.std.specs.List.{AllByRecursion}
 use Rattle.hart_commands.specs.Commands.{CommandRow, row_in}
 

@@ -1,8 +1,6 @@
 -- The laws of devices, for the proofs of this crate and of those above.
-use Rattle.std.proofs.Common.{arith}
+use Rattle.std.proofs.Common.{arith, ◌≡◌, ◌≢◌, ◌≤◌, ◌⊎◌, refl, rules, false, true, ℕ, List, [], length, sym, Ok, Some, slice_get}
 use Rattle.std.proofs.lemmas.Grind.{common_steps}
-use Rattle.std.proofs.Common.{◌≡◌, ◌≢◌, ◌≤◌, ◌⊎◌, refl, rules, false, true, ℕ, List, [], length, sym}
-use Rattle.std.proofs.Common.{Ok, Some, slice_get}
 use Rattle.std.specs.List.{flat_map}
 use Rattle.hart_frame.specs.wire.FrameParts.{FrameParts, reply_parts}
 use Rattle.hart_commands.specs.Registers.{AreValid, Contents, Overwrite, overwrite_of, registers, registers_of}
@@ -13,13 +11,13 @@ use Rattle.hart_commands.specs.declared.request.Request.{Request}
 use Rattle.hart_device.specs.Device.{DeviceState, Executes, IsDevice, Nothing}
 use Rattle.hart_device.specs.Process.{IsProcess}
 use Rattle.hart_device.specs.answer.Answer.{answer_of, code_of, effect_of, is_answered, reading_of, reply_of, state_after}
+use Rattle.hart_device.specs.declared.process.Process.{Process}
 use Rattle.hart_device.specs.image.Image.{IsImageOf, image_of}
 use Rattle.hart_device.specs.registers.Ranges.{array_length, end_of, standing_for, start_of}
-use Rattle.hart_device.specs.declared.process.Process.{Process}
-use Rattle.hart_device.proofs.lemmas.answer.Reply.{reply_read}
-use Rattle.hart_device.proofs.lemmas.registers.Range.{filled}
 use Rattle.hart_device.proofs.lemmas.answer.Effect.{answered_if, identity_stays, judged_has_code, refused}
+use Rattle.hart_device.proofs.lemmas.answer.Reply.{reply_read}
 use Rattle.hart_device.proofs.lemmas.image.Image.{one_state, written_is}
+use Rattle.hart_device.proofs.lemmas.registers.Range.{filled}
 pub use Rattle.hart_device.proofs.lemmas.answer.Delivery.{deliveries_bring_one-brings, deliveries_bring_one-one}
 pub use Rattle.hart_device.proofs.lemmas.answer.Effect.{resets_name_this_counter-only}
 pub use Rattle.hart_device.proofs.lemmas.answer.Effect.{writes_execute_their_overwrite-only, writes_execute_their_overwrite-well_made}

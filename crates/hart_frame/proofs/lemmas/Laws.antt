@@ -1,9 +1,10 @@
 -- The laws of bodies, of frames, of scanners, of first starts and of damage, for the proofs of this crate and of those above.
-use Rattle.std.proofs.lemmas.Grind.{common_steps}
 use Rattle.std.proofs.Common.{arith, ◌≡◌, ◌+◌, ◌≤◌, ◌⊎◌, ◌↔◌, ℕ, Bool, false, IsTrue, List, [], ◌∷◌, ◌++◌, drop, length, map, refl, sym}
 use Rattle.std.proofs.Common.{append_assoc, length-append}
+use Rattle.std.proofs.lemmas.Grind.{common_steps}
 use Rattle.std.proofs.lemmas.List.{append-nil, drop-append-le}
 use Rattle.hart_values.proofs.lemmas.Laws.{address_bytes_are_unambiguous-one_list, address_bytes_are_unambiguous-one_reading}
+use Rattle.hart_frame.specs.declared.heard.found.Found.{Found}
 use Rattle.hart_frame.specs.heard.Character.{Character, faultless}
 use Rattle.hart_frame.specs.heard.Damage.{IsCheckDamage, IsMarkedDamage}
 use Rattle.hart_frame.specs.heard.Frames.{AreFrames, IsFirst, moved}
@@ -14,7 +15,6 @@ use Rattle.hart_frame.specs.scan.Streamed.{IsHistory, IsWholeHistory}
 use Rattle.hart_frame.specs.wire.Body.{BeginsWithBody, IsBody}
 use Rattle.hart_frame.specs.wire.FrameParts.{FrameParts}
 use Rattle.hart_frame.specs.wire.Message.{IsMessage}
-use Rattle.hart_frame.specs.declared.heard.found.Found.{Found}
 use Rattle.hart_frame.proofs.lemmas.heard.Damage.{AreFrames-check, AreFrames-marked}
 use Rattle.hart_frame.proofs.lemmas.heard.FramesFound.{AreFrames-found}
 use Rattle.hart_frame.proofs.lemmas.heard.Message.{AreFrames-message, AreFrames-nothing}

@@ -1,7 +1,7 @@
 -- The address in the identity of a device.
-use Rattle.std.proofs.lemmas.Grind.{common_steps}
 use Rattle.std.proofs.Common.{◌≡◌, ℕ, Some, arith}
 use Rattle.std.proofs.lemmas.Bool.Decides.{nat_tests}
+use Rattle.std.proofs.lemmas.Grind.{common_steps}
 use Rattle.hart_values.specs.declared.address.Address.TheVariants.{Unique}
 use Rattle.hart_commands.specs.declared.content.ReplyContent.TheVariants.{Identity}
 use Rattle.hart_commands.specs.declared.reply.Reply.{Reply}

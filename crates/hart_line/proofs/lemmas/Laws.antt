@@ -1,21 +1,21 @@
 -- The laws of scripts and of their worlds, for the proofs of this crate and of those above.
-use Rattle.hart_line.proofs.lemmas.world.Basics.{some_one}
-use Rattle.hart_device.proofs.lemmas.Laws.{registers_of_lists-none}
-use Rattle.std.proofs.Math.Nat.{mod-eq_of_lt}
-use Rattle.std.proofs.lemmas.Option.{slice_get_within}
-use Rattle.std.proofs.lemmas.List.{take_all}
-use Rattle.std.proofs.lemmas.Grind.{common_steps}
 use Rattle.std.proofs.Common.{arith, length, ◌≡◌, ◌<◌, ◌^◌, ℕ, List}
+use Rattle.std.proofs.Math.Nat.{mod-eq_of_lt}
+use Rattle.std.proofs.lemmas.Grind.{common_steps}
+use Rattle.std.proofs.lemmas.List.{take_all}
+use Rattle.std.proofs.lemmas.Option.{slice_get_within}
 use Rattle.hart_device.specs.answer.Answer.{after_refusal}
+use Rattle.hart_device.proofs.lemmas.Laws.{registers_of_lists-none}
+use Rattle.hart_line.specs.declared.event.LineEvent.{LineEvent}
+use Rattle.hart_line.specs.declared.fault.Leg.{Leg}
+use Rattle.hart_line.specs.declared.fault.LineFault.TheVariants.{Undetected}
 use Rattle.hart_line.specs.world.Faults.{AreAllDetected, IsFault}
 use Rattle.hart_line.specs.world.Kept.{KeepsPromises}
 use Rattle.hart_line.specs.world.Promises.{IsRefusedByDevice}
 use Rattle.hart_line.specs.world.Step.{IsLast}
 use Rattle.hart_line.specs.world.World.{Start, World, first_world, state_of}
-use Rattle.hart_line.specs.declared.event.LineEvent.{LineEvent}
-use Rattle.hart_line.specs.declared.fault.Leg.{Leg}
-use Rattle.hart_line.specs.declared.fault.LineFault.TheVariants.{Undetected}
 use Rattle.hart_line.proofs.lemmas.world.Answered.{answered_last}
+use Rattle.hart_line.proofs.lemmas.world.Basics.{some_one}
 use Rattle.hart_line.proofs.lemmas.world.Count.{executed_at_most}
 use Rattle.hart_line.proofs.lemmas.world.Detected.{fault_not_detectable, leads_exists}
 use Rattle.hart_line.proofs.lemmas.world.Last.{registers_last}

@@ -1,15 +1,15 @@
 -- Deliveries with exactly one frame, and what they are accepted as.
 use Rattle.std.proofs.Common.{arith, ◌≡◌, List, [], ◌∷◌}
-use Rattle.hart_values.specs.declared.master_id.MasterId.{MasterId}
 use Rattle.hart_values.specs.declared.address.Address.{Address}
+use Rattle.hart_values.specs.declared.master_id.MasterId.{MasterId}
+use Rattle.hart_frame.specs.declared.heard.delivery.LoneFrame.TheVariants.{Alone}
+use Rattle.hart_frame.specs.declared.heard.found.Found.{Found}
 use Rattle.hart_frame.specs.heard.Character.{Character}
 use Rattle.hart_frame.specs.heard.Delivery.{lone_of}
 use Rattle.hart_frame.specs.heard.Frames.{AreFrames}
-use Rattle.hart_frame.specs.declared.heard.delivery.LoneFrame.TheVariants.{Alone}
-use Rattle.hart_frame.specs.declared.heard.found.Found.{Found}
-use Rattle.hart_commands.specs.declared.request.Request.{Request}
-use Rattle.hart_commands.specs.declared.reply.Reply.{Reply}
 use Rattle.hart_frame.proofs.lemmas.Laws.{frames_are_unambiguous-one_list}
+use Rattle.hart_commands.specs.declared.reply.Reply.{Reply}
+use Rattle.hart_commands.specs.declared.request.Request.{Request}
 use Rattle.hart_master.specs.Acceptance.{IsReplyTo, IsAccepted}
 
 -- a frame is the only one of a delivery

@@ -1,12 +1,12 @@
 -- A delivery with exactly one frame brings what this frame brings.
 use Rattle.std.proofs.Common.{List, arith}
 use Rattle.hart_values.specs.declared.master_id.MasterId.{MasterId}
-use Rattle.hart_frame.specs.heard.Character.{Character}
 use Rattle.hart_frame.specs.declared.heard.found.Found.{Found}
+use Rattle.hart_frame.specs.heard.Character.{Character}
 use Rattle.hart_commands.specs.declared.reply.Reply.{Reply}
+use Rattle.hart_master.specs.Master.{DeliveryBrings, FrameBrings, IsHeard}
 use Rattle.hart_master.specs.declared.event.MasterEvent.{MasterEvent}
 use Rattle.hart_master.specs.declared.hand.Hand.{Hand}
-use Rattle.hart_master.specs.Master.{DeliveryBrings, FrameBrings, IsHeard}
 use Rattle.hart_master.proofs.lemmas.Acceptance.{IsAlone, NoOther, IsReplyTo-alone}
 
 -- what its frame brings, a delivery brings

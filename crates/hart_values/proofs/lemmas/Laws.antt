@@ -2,10 +2,10 @@
 use Rattle.std.proofs.Common.{◌≡◌, ◌/◌, ℕ, Bool, true, List, arith, rules}
 use Rattle.std.proofs.lemmas.List.{ext_get_or}
 use Rattle.hart_values.specs.address.AddressBytes.{IsAddressBytes}
-use Rattle.hart_values.specs.hart_date.Calendar.{IsDateBytes, is_date}
-use Rattle.hart_values.specs.packed_text.Packing.{IsPacked}
 use Rattle.hart_values.specs.declared.address.Address.{Address}
 use Rattle.hart_values.specs.declared.master_id.MasterId.{MasterId}
+use Rattle.hart_values.specs.hart_date.Calendar.{IsDateBytes, is_date}
+use Rattle.hart_values.specs.packed_text.Packing.{IsPacked}
 
 -- Bytes hold one master bit, one burst bit and one address.
 pub address_bytes_are_unambiguous-one_reading : (m n : MasterId) (b c : Bool) (x y : Address) (bytes : List ℕ)

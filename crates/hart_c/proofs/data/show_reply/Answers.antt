@@ -1,5 +1,5 @@
-use Rattle.std.proofs.lemmas.Grind.{common_steps}
 use Rattle.std.proofs.Common.{List, ℕ, ap, arith, length}
+use Rattle.std.proofs.lemmas.Grind.{common_steps}
 use Rattle.std.proofs.lemmas.List.{length-take}
 use Rattle.hart_commands.proofs.lemmas.Laws.{written_payloads_are_read_again-kept}
 use Rattle.hart_c.proofs.data.show_reply.Goals as goal

@@ -1,7 +1,7 @@
 use Rattle.std.proofs.Common.{◌≡◌, ◌∙◌, Err, arith, length, rules}
 use Rattle.std.proofs.lemmas.Grind.{common_steps}
-use Rattle.hart_c.specs.declared.fault.Fault.TheVariants.{NoRoom}
 use Rattle.hart_c.specs.Process.{IsProcessOf}
+use Rattle.hart_c.specs.declared.fault.Fault.TheVariants.{NoRoom}
 use Rattle.hart_c.proofs.Said.{hears, no_room}
 use Rattle.hart_c.proofs.device.hear.Goals as goal
 

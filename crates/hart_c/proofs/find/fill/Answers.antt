@@ -1,5 +1,5 @@
-use Rattle.std.proofs.lemmas.Grind.{common_steps}
 use Rattle.std.proofs.Common.{◌+◌, ◌∙◌, arith, refl}
+use Rattle.std.proofs.lemmas.Grind.{common_steps}
 use Rattle.std.proofs.lemmas.List.{drop-set-lt, length-set}
 use Rattle.hart_c.proofs.Shown.{history_shown, untouched_on, tidy_more, waits_or_ends}
 use Rattle.hart_c.proofs.find.fill.Goals as goal

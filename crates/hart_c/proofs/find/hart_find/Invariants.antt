@@ -1,8 +1,8 @@
 use Rattle.std.proofs.Common.{◌≡◌, ◌<◌, ◌≤◌, ◌-◌, false, IsTrue, All, drop, length, map, take}
 use Rattle.hart_frame.specs.heard.Character.{AreFaultBits}
-use Rattle.hart_c.specs.Find.{char_of}
 use Rattle.hart_frame.specs.heard.Frames.{IsUndecided}
 use Rattle.hart_frame.specs.scan.Streamed.{IsHistory}
+use Rattle.hart_c.specs.Find.{char_of}
 use Rattle.hart_c.specs.Frames.{IsTidy, found_in_first}
 use Rattle.hart_c.proofs.find.hart_find.Given as goal
 

@@ -1,15 +1,13 @@
-use Rattle.std.proofs.Common.{arith}
+use Rattle.std.proofs.Common.{arith, ◌≡◌, ℕ, List, Option, None, Some}
 use Rattle.std.proofs.lemmas.Grind.{common_steps}
-use Rattle.std.proofs.Common.{◌≡◌, ℕ, List, Option, None}
 use Rattle.hart_frame.specs.heard.Character.{Character}
 use Rattle.hart_frame.specs.wire.FrameParts.{FrameParts}
 use Rattle.hart_device.specs.Bench.{bench_process}
-use Rattle.hart_device.specs.answer.Delivery.{Brings, Brought, answer_to}
 use Rattle.hart_device.specs.Device.{DeviceState}
+use Rattle.hart_device.specs.answer.Delivery.{Brings, Brought, answer_to}
 use Rattle.hart_device.specs.declared.process.Process.{Process}
-use Rattle.hart_cli.specs.Answer.{IsAnswerText, IsTextFor}
-use Rattle.std.proofs.Common.{None, Some}
 use Rattle.hart_device.proofs.lemmas.Laws.{deliveries_bring_one-brings}
+use Rattle.hart_cli.specs.Answer.{IsAnswerText, IsTextFor}
 use Rattle.hart_cli.proofs.answer.answer_line.Goals as goal
 
 -- what a device answers has its text

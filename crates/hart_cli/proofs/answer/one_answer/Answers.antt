@@ -1,13 +1,12 @@
-use Rattle.std.proofs.Common.{arith}
+use Rattle.std.proofs.Common.{arith, ◌≡◌, ℕ, List, Option, None}
 use Rattle.std.proofs.lemmas.Grind.{common_steps}
-use Rattle.std.proofs.Common.{◌≡◌, ℕ, List, Option, None}
 use Rattle.hart_frame.specs.wire.FrameParts.{FrameParts}
 use Rattle.hart_device.specs.Device.{DeviceState}
+use Rattle.hart_device.proofs.lemmas.Laws.{deliveries_bring_one-one}
+use Rattle.hart_cli.specs.Answer.{IsAnswerText}
 use Rattle.hart_cli.specs.declared.input.InputEnd.TheVariants.{Ended}
 use Rattle.hart_cli.specs.input.Input.{CameTo}
-use Rattle.hart_device.proofs.lemmas.Laws.{deliveries_bring_one-one}
 use Rattle.hart_cli.specs.text.InputChars.{HasChars}
-use Rattle.hart_cli.specs.Answer.{IsAnswerText}
 use Rattle.hart_cli.proofs.lemmas.text.InputChars.{one_input}
 use Rattle.hart_cli.proofs.lemmas.text.MessageLine.{IsMessageLine-one}
 use Rattle.hart_cli.proofs.answer.one_answer.Goals as goal

@@ -1,15 +1,14 @@
+use Rattle.std.proofs.Common.{ℕ, List, Option, Err, [], ◌++◌, Some}
 use Rattle.std.proofs.lemmas.Result.{err_from_is_err_and}
-use Rattle.std.proofs.Common.{ℕ, List, Option, Err}
-use Rattle.std.proofs.Common.{ℕ, List, [], ◌++◌, Option, Some, Err}
 use Rattle.hart_frame.specs.heard.Character.{Character}
 use Rattle.hart_frame.specs.scan.Scanner.{Scan, finishing}
-use Rattle.hart_cli.specs.declared.fault.CliFault.{CliFault}
 use Rattle.hart_cli.specs.declared.dump.frame_lines.FrameLines.{FrameLines}
+use Rattle.hart_cli.specs.declared.fault.CliFault.{CliFault}
 use Rattle.hart_cli.specs.dump.Dump.{DumpOutcome, HasDump}
 use Rattle.hart_cli.specs.dump.FrameLines.{GivesAll, ScansAll}
 use Rattle.hart_cli.specs.input.Input.{Ending}
-use Rattle.hart_cli.specs.text.InputChars.{HasChars}
 use Rattle.hart_cli.specs.stream.Stream.{Stream, WritesAll}
+use Rattle.hart_cli.specs.text.InputChars.{HasChars}
 use Rattle.hart_cli.proofs.lemmas.dump.FrameLines.{all_lines}
 use Rattle.hart_cli.proofs.lemmas.dump.ScanInput.{stops_in}
 use Rattle.hart_cli.proofs.lemmas.dump.Writes.{FailsToWrite-on, WritesAll-on}

@@ -1,14 +1,13 @@
-use Rattle.std.proofs.lemmas.Grind.{common_steps}
 use Rattle.std.proofs.Common.{◌≡◌, ◌+◌, ◌-◌, [], length, refl, ◌∙◌, arith}
+use Rattle.std.proofs.lemmas.Grind.{common_steps}
 use Rattle.std.proofs.lemmas.Result.{err_from_is_err_and}
 use Rattle.hart_frame.specs.scan.Scanner.{new_scan}
-use Rattle.hart_cli.proofs.lemmas.text.InputChars.{may_begin-nil}
-use Rattle.hart_cli.proofs.lemmas.text.Items.{ReadsUpTo-few}
-use Rattle.hart_cli.proofs.lemmas.dump.FrameLines.{keeps_within}
-use Rattle.hart_cli.proofs.lemmas.dump.ScanInput.{ScannedUpTo, goes_on, nothing_scanned, scanned_step, scans_all}
-use Rattle.hart_cli.proofs.lemmas.dump.ScanInput.{stopped_writing, written}
 use Rattle.hart_cli.proofs.dump.scan_input.Given.{Over}
 use Rattle.hart_cli.proofs.dump.scan_input.Goals.{After-scan_text-rest}
+use Rattle.hart_cli.proofs.lemmas.dump.FrameLines.{keeps_within}
+use Rattle.hart_cli.proofs.lemmas.dump.ScanInput.{ScannedUpTo, goes_on, nothing_scanned, scanned_step, scans_all, stopped_writing, written}
+use Rattle.hart_cli.proofs.lemmas.text.InputChars.{may_begin-nil}
+use Rattle.hart_cli.proofs.lemmas.text.Items.{ReadsUpTo-few}
 use Rattle.hart_cli.proofs.dump.scan_input.Goals as goal
 
 pub loop-frames-init : goal.loop-frames-init

@@ -1,7 +1,7 @@
 use Rattle.std.proofs.Common.{◌≡◌, ◌≤◌, ◌+◌, ◌-◌, [], None, length}
+use Rattle.hart_cli.specs.declared.input.TheConstants.{PORTION_LEN}
 use Rattle.hart_cli.specs.input.Input.{input_limit}
 use Rattle.hart_cli.specs.text.Items.{MayBegin}
-use Rattle.hart_cli.specs.declared.input.TheConstants.{PORTION_LEN}
 use Rattle.hart_cli.proofs.lemmas.dump.ScanInput.{ScannedUpTo}
 use Rattle.hart_cli.proofs.dump.scan_input.Given as goal
 

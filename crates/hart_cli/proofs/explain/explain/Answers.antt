@@ -1,13 +1,12 @@
-use Rattle.std.proofs.Common.{ℕ, List, inl, inr, Some, Err}
+use Rattle.std.proofs.Common.{ℕ, List, inl, inr, Some, Err, arith}
+use Rattle.std.proofs.lemmas.Grind.{common_steps}
 use Rattle.hart_frame.specs.heard.Character.{Character}
 use Rattle.hart_cli.specs.declared.fault.CliFault.{CliFault}
 use Rattle.hart_cli.specs.declared.input.InputEnd.{InputEnd}
 use Rattle.hart_cli.specs.explain.Explain.{ExplainOutcome, HasExplanation}
 use Rattle.hart_cli.specs.explain.Heard.{IsHeard}
-use Rattle.hart_cli.specs.text.InputChars.{HasChars}
 use Rattle.hart_cli.specs.stream.Stream.{Stream, WritesAll}
-use Rattle.std.proofs.Common.{arith}
-use Rattle.std.proofs.lemmas.Grind.{common_steps}
+use Rattle.hart_cli.specs.text.InputChars.{HasChars}
 use Rattle.hart_cli.proofs.explain.explain.Goals as goal
 
 -- only these faults end an input

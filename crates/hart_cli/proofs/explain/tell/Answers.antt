@@ -1,19 +1,16 @@
-use Rattle.std.proofs.Common.{ℕ, List, [], ◌∷◌, ◌++◌, append_assoc}
-use Rattle.std.proofs.Common.{arith}
+use Rattle.std.proofs.Common.{ℕ, List, [], ◌∷◌, ◌++◌, append_assoc, arith}
 use Rattle.std.proofs.lemmas.Grind.{common_steps}
+use Rattle.std.proofs.lemmas.Result.{err_from_is_err_and}
+use Rattle.hart_frame.specs.declared.heard.found.Found.{Found}
 use Rattle.hart_frame.specs.heard.Character.{Character}
 use Rattle.hart_frame.specs.heard.Frames.{first, IsFirst, none}
-use Rattle.hart_frame.specs.declared.heard.found.Found.{Found}
 use Rattle.hart_frame.proofs.lemmas.Laws.{every_list_has_frames}
 use Rattle.hart_cli.specs.explain.Explanation.{explanation}
 use Rattle.hart_cli.specs.explain.Message.{paragraph}
-use Rattle.hart_cli.proofs.lemmas.dump.Writes.{FailsToWrite-longer}
-use Rattle.hart_cli.proofs.lemmas.explain.Told.{adds_then, fails_then}
-use Rattle.hart_cli.proofs.lemmas.explain.Explain.{GoesOn}
-use Rattle.std.proofs.Common.{[], ◌++◌, arith}
-use Rattle.std.proofs.lemmas.Result.{err_from_is_err_and}
 use Rattle.hart_cli.specs.explain.Misses.{gap_text}
-use Rattle.hart_cli.proofs.lemmas.explain.Told.{adds_then, writes_kept}
+use Rattle.hart_cli.proofs.lemmas.dump.Writes.{FailsToWrite-longer}
+use Rattle.hart_cli.proofs.lemmas.explain.Explain.{GoesOn}
+use Rattle.hart_cli.proofs.lemmas.explain.Told.{adds_then, fails_then, writes_kept}
 use Rattle.hart_cli.proofs.explain.tell.Goals as goal
 
 -- it goes on after the next message

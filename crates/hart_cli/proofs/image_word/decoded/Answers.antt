@@ -1,20 +1,15 @@
-use Rattle.std.specs.Prelude.{replicate}
-use Rattle.std.proofs.lemmas.Grind.{common_steps}
-use Rattle.std.proofs.Common.{◌≡◌, ℕ, ◌+◌, ◌<◌, List, length, take, slice_index, subst, sym}
-use Rattle.std.proofs.Common.{◌∙◌, inl, inr, arith, false, ◌/◌, ◌%◌, Result, Ok, Err}
-use Rattle.std.specs.Prelude.{MatchResult}
-use Rattle.std.specs.List.{AllPass}
+use Rattle.std.proofs.Common.{◌≡◌, ℕ, ◌+◌, ◌<◌, List, length, take, slice_index, subst, sym, ◌∙◌, inl, inr, arith, false, ◌/◌, ◌%◌, Result}
+use Rattle.std.proofs.Common.{Ok, Err}
 use Rattle.std.proofs.lemmas.Bool.{cases_eq}
+use Rattle.std.proofs.lemmas.Grind.{common_steps}
+use Rattle.std.proofs.lemmas.List.{length-replicate}
+use Rattle.std.specs.List.{AllPass}
+use Rattle.std.specs.Prelude.{replicate, MatchResult}
 use Rattle.hex.specs.Hex.{decode_of, decode_sized, is_hex_digit}
 use Rattle.hex.specs.declared.error.FromHexError.{FromHexError}
 use Rattle.hex.specs.declared.error.FromHexError.TheVariants.{InvalidHexCharacter, OddLength}
-use Rattle.hex.proofs.HexLemmas.{decode_of-even, decode_of-odd}
-use Rattle.hex.proofs.HexLemmas.{decode_pairs-err, decode_sized-odd, decode_sized-twice}
+use Rattle.hex.proofs.HexLemmas.{decode_of-even, decode_of-odd, decode_pairs-err, decode_sized-odd, decode_sized-twice, decode_of-err}
 use Rattle.hart_cli.specs.ImageWord.{IsBadHexWord}
-use Rattle.std.proofs.Common.{◌/◌, ◌∙◌, inl, length}
-use Rattle.std.proofs.lemmas.List.{length-replicate}
-use Rattle.std.proofs.Common.{arith}
-use Rattle.hex.proofs.HexLemmas.{decode_of-err}
 use Rattle.hart_cli.proofs.image_word.decoded.Goals as goal
 
 -- a word decodes into room for half as many bytes as if there were more

@@ -1,16 +1,14 @@
-use Rattle.std.proofs.Common.{◌⊎◌}
+use Rattle.std.proofs.Common.{◌⊎◌, ◌≡◌, ℕ, ◌<◌, true, List, length, take, slice_index, Some, None, subst, inl, inr, arith, refl, false, ◌%◌}
 use Rattle.std.proofs.lemmas.Grind.{common_steps}
-use Rattle.std.proofs.Common.{◌≡◌, ℕ, ◌<◌, true, List, length, take, slice_index, Some, None, subst}
-use Rattle.std.proofs.Common.{inl, inr, arith, refl, false, ◌%◌}
-use Rattle.std.specs.List.{AllPass}
 use Rattle.std.proofs.lemmas.List.{get_or-take, length-take}
 use Rattle.std.proofs.lemmas.List.Elements.{All-get_or}
+use Rattle.std.specs.List.{AllPass}
 use Rattle.hex.specs.Hex.{is_hex_digit}
 use Rattle.hex.proofs.HexLemmas.{decode_of-ok, decode_of-same}
 use Rattle.hart_device.specs.image.Image.{IsImageOf}
 use Rattle.hart_device.proofs.lemmas.Laws.{images_have_no_fault}
-use Rattle.hart_cli.specs.declared.fault.CliFault.TheVariants.{BadHex, Image}
 use Rattle.hart_cli.specs.ImageWord.{IsBadHexWord, IsImageWord}
+use Rattle.hart_cli.specs.declared.fault.CliFault.TheVariants.{BadHex, Image}
 use Rattle.hart_cli.proofs.image_word.one_device.Goals as goal
 
 -- what makes a word bad hex at a place

@@ -1,5 +1,5 @@
-use Rattle.std.proofs.lemmas.Grind.{common_steps}
 use Rattle.std.proofs.Common.{arith}
+use Rattle.std.proofs.lemmas.Grind.{common_steps}
 use Rattle.hart_cli.proofs.lemmas.Input.{portion_last}
 use Rattle.hart_cli.proofs.input.read_into.Goals as goal
 

@@ -1,21 +1,19 @@
 -- The lines that are kept while characters are scanned.
-use Rattle.std.proofs.lemmas.Grind.{common_steps}
-use Rattle.std.proofs.Common.{◌≡◌, ◌≤◌, ◌+◌, ◌*◌, ℕ, List, [], ◌++◌, false, length}
-use Rattle.std.proofs.Common.{sym, append_assoc, arith, length-append, drop, take}
+use Rattle.std.proofs.Common.{◌≡◌, ◌≤◌, ◌+◌, ◌*◌, ℕ, List, [], ◌++◌, false, length, sym, append_assoc, arith, length-append, drop, take}
 use Rattle.std.proofs.Math.Seq.{take-add}
+use Rattle.std.proofs.lemmas.Grind.{common_steps}
 use Rattle.std.proofs.lemmas.List.{append-nil, length-map, map-append}
+use Rattle.hart_frame.specs.declared.heard.found.Found.{Found}
 use Rattle.hart_frame.specs.heard.Character.{Character, faultless}
 use Rattle.hart_frame.specs.scan.Scanner.{MovesPast, Scan, Waits, finishing, hearing, new_scan}
-use Rattle.hart_frame.specs.declared.heard.found.Found.{Found}
 use Rattle.hart_cli.specs.declared.dump.frame_lines.FrameLines.{FrameLines}
 use Rattle.hart_cli.specs.dump.Dump.{AreFrameLines, most_ahead}
-use Rattle.hart_cli.specs.dump.Text.{dump_text}
 use Rattle.hart_cli.specs.dump.FrameLines.{GivesAll, IsWaiting, KeepsLines, ScansText}
-use Rattle.hart_cli.proofs.lemmas.dump.Moves.{all_frames, moves_hearing, moves_nothing, moves_on}
-use Rattle.hart_cli.proofs.lemmas.dump.Moves.{moves_then, some_frames}
-use Rattle.hart_cli.proofs.lemmas.dump.Writes.{FailsToWrite-longer}
+use Rattle.hart_cli.specs.dump.Text.{dump_text}
 use Rattle.hart_cli.specs.stream.Stream.{FailsToWrite, Stream}
 use Rattle.hart_cli.specs.text.Items.{ReadsUpTo}
+use Rattle.hart_cli.proofs.lemmas.dump.Moves.{all_frames, moves_hearing, moves_nothing, moves_on, moves_then, some_frames}
+use Rattle.hart_cli.proofs.lemmas.dump.Writes.{FailsToWrite-longer}
 use Rattle.hart_cli.proofs.lemmas.text.Items.{ReadsUpTo-few, ReadsUpTo-on}
 
 -- the text of frames and of more frames

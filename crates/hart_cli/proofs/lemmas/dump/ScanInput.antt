@@ -1,29 +1,29 @@
 -- An input that is read and scanned, step by step.
-use Rattle.std.proofs.lemmas.Grind.{common_steps}
-use Rattle.std.proofs.Common.{◌≡◌, ◌≤◌, ◌+◌, ◌-◌, ℕ, List, [], ◌∷◌, ◌++◌, length, Option, None, Some, refl}
-use Rattle.std.proofs.Common.{ap, ◌∙◌, arith, append_assoc, inl, inr, length-append}
+use Rattle.std.proofs.Common.{◌≡◌, ◌≤◌, ◌+◌, ◌-◌, ℕ, List, [], ◌∷◌, ◌++◌, length, Option, None, Some, refl, ap, ◌∙◌, arith, append_assoc}
+use Rattle.std.proofs.Common.{inl, inr, length-append}
 use Rattle.std.proofs.KnownBytes.{Appends-nil, Consumes-nil}
+use Rattle.std.proofs.lemmas.Grind.{common_steps}
 use Rattle.std.proofs.lemmas.List.{append-nil}
+use Rattle.std.specs.Io.KnownBytes.{Appends}
 use Rattle.hart_frame.specs.heard.Character.{Character}
 use Rattle.hart_frame.specs.heard.Frames.{IsUndecided}
 use Rattle.hart_frame.specs.scan.Scanner.{Scan, hearing, new_scan}
-use Rattle.std.specs.Io.KnownBytes.{Appends}
 use Rattle.hart_cli.specs.declared.dump.NextStep.TheVariants.{ReadOn, Stop}
-use Rattle.hart_cli.specs.declared.fault.CliFault.{CliFault}
 use Rattle.hart_cli.specs.declared.dump.frame_lines.FrameLines.{FrameLines}
+use Rattle.hart_cli.specs.declared.fault.CliFault.{CliFault}
 use Rattle.hart_cli.specs.declared.input.InputEnd.{InputEnd}
 use Rattle.hart_cli.specs.declared.input.InputEnd.TheVariants.{Ended, ReadFailed, TooLong}
 use Rattle.hart_cli.specs.dump.Dump.{AreFrameLines, AreScanned, StopsSoon, StopsWriting, WroteInTime, ended_text, most_ahead}
 use Rattle.hart_cli.specs.dump.FrameLines.{IsNextStep, IsWaiting, KeepsLines, ReadsAhead, ScansAll, ScansText}
 use Rattle.hart_cli.specs.input.Input.{CameTo, Ending, Left, Reads, ReadsPortion, ReadsTo, ReadsWell, ending_of, input_limit, most_at_once}
+use Rattle.hart_cli.specs.stream.Stream.{FailsToWrite, Stream, WritesAll}
 use Rattle.hart_cli.specs.text.InputChars.{HasChars}
 use Rattle.hart_cli.specs.text.Items.{MayBegin, NoPieceBegins, ReadsUpTo}
-use Rattle.hart_cli.specs.stream.Stream.{FailsToWrite, Stream, WritesAll}
+use Rattle.hart_cli.proofs.lemmas.Input.{portion_last, portion_more}
 use Rattle.hart_cli.proofs.lemmas.dump.FrameLines.{keeps_after, keeps_nothing, keeps_on, stopped_lines}
 use Rattle.hart_cli.proofs.lemmas.dump.Moves.{are_decided, new_waits}
 use Rattle.hart_cli.proofs.lemmas.dump.Writes.{FailsToWrite-on, WritesAll-on, in_time_on}
 use Rattle.hart_cli.proofs.lemmas.text.InputChars.{decided_rest, may_begin-nil}
-use Rattle.hart_cli.proofs.lemmas.Input.{portion_last, portion_more}
 use Rattle.hart_cli.proofs.lemmas.text.Items.{NoPieceBegins-nil, ReadsUpTo-few, ReadsUpTo-more, ReadsUpTo-on, stays}
 
 -- an input gave this text so far, or before it came to its end

@@ -1,9 +1,8 @@
 -- Texts that are written one after another, and lines that were written in time.
-use Rattle.std.proofs.Common.{arith}
-use Rattle.std.proofs.lemmas.Grind.{common_steps}
-use Rattle.std.proofs.Common.{◌≢◌, ℕ, List, [], ◌∷◌, ◌++◌, refl, ◌∙◌, append_assoc}
-use Rattle.std.specs.Io.KnownBytes.{Appends}
+use Rattle.std.proofs.Common.{arith, ◌≢◌, ℕ, List, [], ◌∷◌, ◌++◌, refl, ◌∙◌, append_assoc}
 use Rattle.std.proofs.KnownBytes.{Appends-trans}
+use Rattle.std.proofs.lemmas.Grind.{common_steps}
+use Rattle.std.specs.Io.KnownBytes.{Appends}
 use Rattle.hart_cli.specs.dump.Dump.{WroteInTime}
 use Rattle.hart_cli.specs.stream.Stream.{FailsToWrite, Stream, WritesAll}
 

@@ -1,8 +1,8 @@
 -- How far an explanation was said.
 use Rattle.std.proofs.Common.{ℕ, List, [], ◌++◌}
+use Rattle.hart_frame.specs.declared.heard.found.Found.{Found}
 use Rattle.hart_frame.specs.heard.Character.{Character}
 use Rattle.hart_frame.specs.heard.Frames.{AreFrames}
-use Rattle.hart_frame.specs.declared.heard.found.Found.{Found}
 use Rattle.hart_cli.specs.explain.Explanation.{explanation, IsExplanationOf}
 use Rattle.hart_cli.specs.explain.Told.{AddsText}
 use Rattle.hart_cli.specs.stream.Stream.{Stream}

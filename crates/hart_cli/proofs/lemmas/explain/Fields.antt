@@ -1,17 +1,17 @@
 -- The fields of data: that every row of the table can be shown, and one field after another.
-use Rattle.std.proofs.Common.{◌≡◌, ◌≤◌, ◌<◌, ◌+◌, ℕ, Bool, true, List, [], ◌∷◌, ◌++◌, drop, take, map, get_or, length, Option}
-use Rattle.std.proofs.Common.{Some, refl, sym, ap, ◌∙◌, append_assoc, arith, length-append, length-drop, nat_le}
-use Rattle.std.specs.Prelude.{◌&&◌}
-use Rattle.std.proofs.lemmas.Grind.{common_steps}
+use Rattle.std.proofs.Common.{◌≡◌, ◌≤◌, ◌<◌, ◌+◌, ℕ, Bool, true, List, [], ◌∷◌, ◌++◌, drop, take, map, get_or, length, Option, Some, refl}
+use Rattle.std.proofs.Common.{sym, ap, ◌∙◌, append_assoc, arith, length-append, length-drop, nat_le}
 use Rattle.std.proofs.lemmas.Bool.{and_parts}
 use Rattle.std.proofs.lemmas.Bool.Decides.{nat_tests}
+use Rattle.std.proofs.lemmas.Grind.{common_steps}
 use Rattle.std.proofs.lemmas.List.{drop-drop, length-take-le}
-use Rattle.std.specs.List.{list_all}
 use Rattle.std.proofs.lemmas.List.Folds.{list_all-map}
 use Rattle.std.proofs.lemmas.List.Sums.{AllPass-from_list_all}
+use Rattle.std.specs.List.{list_all}
 use Rattle.std.specs.Option.{option_map_or}
-use Rattle.hart_commands.specs.Fields.{bytes_of, CommandRows, Field, fields_of, reply_rows, request_rows, Row, rows, rows_of, seen}
-use Rattle.hart_commands.specs.Fields.{size_in, split}
+use Rattle.std.specs.Prelude.{◌&&◌}
+use Rattle.hart_commands.specs.Fields.{bytes_of, CommandRows, Field, fields_of, reply_rows, request_rows, Row, rows, rows_of, seen, size_in}
+use Rattle.hart_commands.specs.Fields.{split}
 use Rattle.hart_commands.specs.declared.fields.FieldKind.{FieldKind}
 use Rattle.hart_commands.specs.declared.fields.FieldRow.{FieldRow}
 use Rattle.hart_commands.specs.declared.fields.FieldSize.{FieldSize}

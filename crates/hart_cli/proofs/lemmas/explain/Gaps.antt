@@ -1,30 +1,26 @@
 -- The places that no message holds: which of them have a miss, and the lines of these.
-use Rattle.std.proofs.lemmas.Grind.{common_steps}
 use Rattle.std.proofs.Common.{◌≡◌, ◌≢◌, ◌≤◌, ◌<◌, ◌+◌, ◌-◌, ℕ, zero, suc, Bool, true, false, List, [], ◌∷◌, ◌++◌, length, get_or, drop}
-use Rattle.std.proofs.Common.{take}
-use Rattle.std.proofs.Common.{Option, None, Some, inl, inr, refl, sym, ap, append_assoc, arith, length-append, length-drop}
-use Rattle.std.specs.Prelude.{◌/◌, ◌%◌, ◌==◌, All, AllPairs, Contains, decimal, not}
-use Rattle.std.specs.List.{flat_map, list_all, range_with_len}
-use Rattle.std.specs.Option.{option_map_or}
-use Rattle.std.specs.Fmt.{digit_glyph, digits, digits_onto}
-use Rattle.std.proofs.lemmas.Grind.{flat_map-append}
+use Rattle.std.proofs.Common.{take, Option, None, Some, inl, inr, refl, sym, ap, append_assoc, arith, length-append, length-drop}
 use Rattle.std.proofs.lemmas.Bool.{cases_lt}
 use Rattle.std.proofs.lemmas.Bool.Decides.{nat_tests}
+use Rattle.std.proofs.lemmas.Grind.{common_steps, flat_map-append}
 use Rattle.std.proofs.lemmas.List.{append-nil, get_or_past, length-take-le, take-append-drop}
+use Rattle.std.proofs.lemmas.List.Elements.{Contains-append_cases, Contains-append_left, Contains-append_right, Contains-get_or}
 use Rattle.std.proofs.lemmas.List.Folds.{list_all-append, list_all_at}
-use Rattle.std.proofs.lemmas.List.Sums.{AllPass-from_list_all}
-use Rattle.std.proofs.lemmas.List.Elements.{Contains-append_cases, Contains-append_left}
-use Rattle.std.proofs.lemmas.List.Elements.{Contains-append_right, Contains-get_or}
 use Rattle.std.proofs.lemmas.List.Kept.{AllPairs-cons}
+use Rattle.std.proofs.lemmas.List.Sums.{AllPass-from_list_all}
+use Rattle.std.specs.Fmt.{digit_glyph, digits, digits_onto}
+use Rattle.std.specs.List.{flat_map, list_all, range_with_len}
+use Rattle.std.specs.Option.{option_map_or}
+use Rattle.std.specs.Prelude.{◌/◌, ◌%◌, ◌==◌, All, AllPairs, Contains, decimal, not}
 use Rattle.hex.specs.Hex.{encode_with, upper_digits}
+use Rattle.hart_frame.specs.declared.heard.found.Found.{Found}
+use Rattle.hart_frame.specs.declared.heard.miss.Miss.{Miss}
+use Rattle.hart_frame.specs.declared.heard.miss.Miss.TheVariants.{Burst, EndsBeforeByteCount, OnePreamble}
 use Rattle.hart_frame.specs.heard.Character.{Character}
 use Rattle.hart_frame.specs.heard.Frames.{AreFrames, first, moved, none}
 use Rattle.hart_frame.specs.heard.Miss.{HasFrameAt, miss_of}
 use Rattle.hart_frame.specs.heard.Place.{StandsIn}
-use Rattle.hart_frame.specs.declared.heard.found.Found.{Found}
-use Rattle.hart_frame.specs.declared.heard.miss.Miss.{Miss}
-use Rattle.hart_frame.specs.declared.heard.miss.Miss.TheVariants.{Burst, EndsBeforeByteCount}
-use Rattle.hart_frame.specs.declared.heard.miss.Miss.TheVariants.{OnePreamble}
 use Rattle.hart_cli.specs.explain.Gaps.{IsGap, missed, missed_at, MissedPlace}
 use Rattle.hart_cli.specs.explain.Misses.{byte_digits, characters_word, miss_line, miss_words, place_text}
 

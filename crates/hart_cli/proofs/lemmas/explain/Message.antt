@@ -1,7 +1,7 @@
 -- The name of a command is short.
 use Rattle.std.proofs.Common.{◌≡◌, ◌≤◌, ℕ, Bool, true, List, [], ◌∷◌, length, Some, refl, arith, nat_le}
-use Rattle.std.proofs.lemmas.Grind.{common_steps}
 use Rattle.std.proofs.lemmas.Bool.Decides.{nat_tests}
+use Rattle.std.proofs.lemmas.Grind.{common_steps}
 use Rattle.std.specs.List.{find, list_all}
 use Rattle.hart_commands.specs.Fields.{command_name, CommandRows, rows}
 

@@ -1,13 +1,12 @@
 -- What is said of the places between two messages.
-use Rattle.std.proofs.Common.{◌≡◌, ◌≤◌, ◌+◌, ◌-◌, ℕ, Option, drop, zero, suc, List, [], ◌∷◌, ◌++◌, refl, sym, ap}
-use Rattle.std.proofs.Common.{arith, false, None}
-use Rattle.std.specs.Prelude.{is_none, not, slice_get}
-use Rattle.std.specs.Option.{option_map_or}
+use Rattle.std.proofs.Common.{◌≡◌, ◌≤◌, ◌+◌, ◌-◌, ℕ, Option, drop, zero, suc, List, [], ◌∷◌, ◌++◌, refl, sym, ap, arith, false, None}
 use Rattle.std.proofs.lemmas.Grind.{common_steps, flat_map-append}
 use Rattle.std.proofs.lemmas.List.{append-nil}
 use Rattle.std.specs.List.{flat_map, range_with_len}
-use Rattle.hart_frame.specs.heard.Character.{Character}
+use Rattle.std.specs.Option.{option_map_or}
+use Rattle.std.specs.Prelude.{is_none, not, slice_get}
 use Rattle.hart_frame.specs.declared.heard.miss.Miss.{Miss}
+use Rattle.hart_frame.specs.heard.Character.{Character}
 use Rattle.hart_frame.specs.heard.Miss.{body_miss, is_preamble, miss_of}
 use Rattle.hart_cli.specs.explain.Misses.{ArePlacesBelow, gap_text, is_asked, miss_line, place_text}
 

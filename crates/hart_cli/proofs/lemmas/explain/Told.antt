@@ -1,7 +1,7 @@
 -- A text that is told piece by piece.
 use Rattle.std.proofs.Common.{◌≡◌, ℕ, List, [], ◌++◌, Result, refl, sym, append_assoc, arith, subst}
-use Rattle.std.proofs.lemmas.Grind.{common_steps}
 use Rattle.std.proofs.KnownBytes.{Appends-nil}
+use Rattle.std.proofs.lemmas.Grind.{common_steps}
 use Rattle.std.proofs.lemmas.List.{append-nil}
 use Rattle.std.specs.Result.{IsErrAnd}
 use Rattle.hart_cli.specs.declared.stream.Failed.{Failed}

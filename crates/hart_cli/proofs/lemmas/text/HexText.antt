@@ -1,14 +1,14 @@
 -- Upper case hex, and one more byte in a line of it.
-use Rattle.std.proofs.lemmas.Grind.{common_steps}
-use Rattle.std.proofs.Common.{◌≡◌, ℕ, ◌<◌, ◌≤◌, ◌+◌, List, [], ◌∷◌, ◌++◌, length, take, map, get_or, refl, sym}
-use Rattle.std.proofs.Common.{append_assoc, arith, length-append}
+use Rattle.std.proofs.Common.{◌≡◌, ℕ, ◌<◌, ◌≤◌, ◌+◌, List, [], ◌∷◌, ◌++◌, length, take, map, get_or, refl, sym, append_assoc, arith}
+use Rattle.std.proofs.Common.{length-append}
 use Rattle.std.proofs.Math.ListN.{get_or-map}
+use Rattle.std.proofs.lemmas.Grind.{common_steps}
+use Rattle.std.proofs.lemmas.List.{map_more}
 use Rattle.std.specs.Char.{to_ascii_uppercase}
 use Rattle.std.specs.List.{join_with_byte}
-use Rattle.std.proofs.lemmas.List.{map_more}
-use Rattle.hart_cli.specs.text.HexText.{hex_items}
-use Rattle.hex.proofs.HexLemmas.{length-encode_with}
 use Rattle.hex.specs.Hex.{encode_lower, encode_upper, encode_with, lower_digits, upper_digits}
+use Rattle.hex.proofs.HexLemmas.{length-encode_with}
+use Rattle.hart_cli.specs.text.HexText.{hex_items}
 
 -- a digit in upper case
 upper_digit : (n : ℕ) → to_ascii_uppercase (get_or lower_digits n 0) ≡ get_or upper_digits n 0

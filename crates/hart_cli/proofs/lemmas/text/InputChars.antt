@@ -1,12 +1,12 @@
 -- An input has one list of characters.
-use Rattle.std.proofs.lemmas.Grind.{common_steps}
 use Rattle.std.proofs.Common.{◌≡◌, ℕ, ◌+◌, List, [], ◌∷◌, ◌++◌, length, inl, Option, refl, subst, arith}
+use Rattle.std.proofs.lemmas.Grind.{common_steps}
 use Rattle.std.proofs.lemmas.List.{append-nil, length-append}
 use Rattle.hart_frame.specs.heard.Character.{Character}
+use Rattle.hart_cli.specs.declared.fault.CliFault.{CliFault}
 use Rattle.hart_cli.specs.input.Input.{Ending}
 use Rattle.hart_cli.specs.text.InputChars.{all, bad_hex, decided_bad_hex, failure, HasChars, limit}
 use Rattle.hart_cli.specs.text.Items.{closed, HasBadHex, IsDecidedBadHexAt, MayBegin, ReadsSoFarAs, ReadsUpTo, Separator}
-use Rattle.hart_cli.specs.declared.fault.CliFault.{CliFault}
 use Rattle.hart_cli.proofs.lemmas.text.Items.{NoPieceBegins-nil, one_reading, ReadsUpTo-more}
 
 -- bad hex is at one place, after the same characters

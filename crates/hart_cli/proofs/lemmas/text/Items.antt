@@ -1,15 +1,15 @@
 -- Texts of items: a text reads in one way, and what follows a text leaves what was read.
-use Rattle.std.proofs.lemmas.Grind.{common_steps}
-use Rattle.std.proofs.Common.{◌≡◌, ℕ, ◌+◌, ◌<◌, ◌≤◌, ◌-◌, true, List, [], ◌∷◌, ◌++◌, length, take, drop, Option, refl, sym}
-use Rattle.std.proofs.Common.{◌*◌, subst, arith}
-use Rattle.std.proofs.lemmas.List.{append-nil, append_assoc, drop-drop, length-append, take_rest}
-use Rattle.hart_frame.specs.heard.Character.{Character}
-use Rattle.hart_cli.specs.text.Items.{BeginsAs, BeginsWith, IsSeparator, IsWholeBefore, Item, meaning, NoPieceBegins, nothing}
-use Rattle.hart_cli.specs.text.Items.{Piece, piece, ReadsUpTo, spelling}
-use Rattle.hart_line.specs.script.Items.{Plain}
+use Rattle.std.proofs.Common.{◌≡◌, ℕ, ◌+◌, ◌<◌, ◌≤◌, ◌-◌, true, List, [], ◌∷◌, ◌++◌, length, take, drop, Option, refl, sym, ◌*◌, subst}
+use Rattle.std.proofs.Common.{arith}
 use Rattle.std.proofs.Math.Seq.{drop-append_seam}
+use Rattle.std.proofs.lemmas.Grind.{common_steps}
+use Rattle.std.proofs.lemmas.List.{append-nil, append_assoc, drop-drop, length-append, take_rest}
 use Rattle.std.specs.Option.{option_to_list}
 use Rattle.hex.specs.Hex.{is_hex_digit}
+use Rattle.hart_frame.specs.heard.Character.{Character}
+use Rattle.hart_line.specs.script.Items.{Plain}
+use Rattle.hart_cli.specs.text.Items.{BeginsAs, BeginsWith, IsSeparator, IsWholeBefore, Item, meaning, NoPieceBegins, nothing, Piece, piece}
+use Rattle.hart_cli.specs.text.Items.{ReadsUpTo, spelling}
 
 -- a separator is not the high digit of an item
 separator_is_no_high : (a h : ℕ) → IsSeparator a → is_hex_digit h ≡ true → a ≡ h → ⊥

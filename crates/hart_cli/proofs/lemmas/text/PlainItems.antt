@@ -1,11 +1,11 @@
 -- Items that are read several at a time.
 use Rattle.std.proofs.Common.{◌≢◌, ◌≤◌, ℕ, List, [], ◌∷◌, length, get_or, IsTrue, refl, arith}
+use Rattle.hex.specs.Hex.{is_hex_digit}
 use Rattle.hart_frame.specs.heard.Character.{faultless}
-use Rattle.hart_line.specs.script.Items.{Plain}
 use Rattle.hart_line.specs.script.Digits.{AreDigitsOf}
+use Rattle.hart_line.specs.script.Items.{Plain}
 use Rattle.hart_cli.specs.text.Items.{IsSeparator, Item, ReadsUpTo, Separator, nothing, piece}
 use Rattle.hart_cli.specs.text.Reading.{ReadsFirst}
-use Rattle.hex.specs.Hex.{is_hex_digit}
 
 -- a separator is no `!`
 no_mark : (byte : ℕ) → IsSeparator byte → byte ≢ 33

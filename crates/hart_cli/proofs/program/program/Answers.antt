@@ -1,16 +1,14 @@
-use Rattle.std.proofs.lemmas.Grind.{common_steps}
-use Rattle.std.proofs.Common.{◌≡◌, arith, codes, List, None, Option, option_map}
-use Rattle.std.proofs.Common.{Bool, Some, ℕ, if◌then◌else◌}
-use Rattle.std.specs.Option.{option_and_then}
+use Rattle.std.proofs.Common.{◌≡◌, arith, codes, List, None, Option, option_map, Bool, Some, ℕ, if◌then◌else◌}
 use Rattle.std.proofs.lemmas.Bool.Decides.{nat_tests}
-use Rattle.clap.specs.Words.{Row, Text, first_of}
-use Rattle.clap.specs.Words.{subcommand_of}
+use Rattle.std.proofs.lemmas.Grind.{common_steps}
+use Rattle.std.specs.Option.{option_and_then}
+use Rattle.clap.specs.Words.{Row, Text, first_of, subcommand_of}
 use Rattle.hart_frame.specs.wire.Message.{IsPreambleCount}
-use Rattle.hart_cli.specs.program.CommandLine.{Calls, call_of, hart_app, message_words, preambles_of, words_of}
-use Rattle.hart_cli.specs.encode.MessageWords.{MessageWords}
-use Rattle.hart_cli.specs.program.Program.{HasPreambleCount}
 use Rattle.hart_cli.specs.declared.program.command_line.Call.{Call}
 use Rattle.hart_cli.specs.declared.program.command_line.Call.TheVariants.{Answer, Dump, Encode, Explain, Sim}
+use Rattle.hart_cli.specs.encode.MessageWords.{MessageWords}
+use Rattle.hart_cli.specs.program.CommandLine.{Calls, call_of, hart_app, message_words, preambles_of, words_of}
+use Rattle.hart_cli.specs.program.Program.{HasPreambleCount}
 use Rattle.hart_cli.proofs.program.program.Goals as goal
 
 -- the number of preamble bytes of `encode` is one that a sender may put

@@ -1,13 +1,12 @@
+use Rattle.std.proofs.Common.{◌≡◌, List, ◌∷◌, sym, ◌∙◌, arith}
 use Rattle.std.proofs.lemmas.Grind.{common_steps}
-use Rattle.std.proofs.Common.{◌≡◌, List, ◌∷◌, sym, ◌∙◌}
-use Rattle.std.proofs.Common.{arith}
 use Rattle.hart_frame.proofs.lemmas.Laws.{bodies_are_unambiguous-one_body}
+use Rattle.hart_line.specs.declared.line.report.Spoken.{Spoken}
 use Rattle.hart_line.specs.world.Spoken.{AreSpoken, SpokenFrame}
 use Rattle.hart_line.proofs.lemmas.Laws.{scripts_have_one_last_world-no_fault, scripts_have_one_last_world-one_fault}
 use Rattle.hart_line.proofs.lemmas.Laws.{scripts_have_one_last_world-one_world}
-use Rattle.hart_line.specs.declared.fault.LineFault.TheVariants as line_faults
-use Rattle.hart_line.specs.declared.line.report.Spoken.{Spoken}
 use Rattle.hart_cli.specs.sim.Sim.{start_with}
+use Rattle.hart_line.specs.declared.fault.LineFault.TheVariants as line_faults
 use Rattle.hart_cli.proofs.sim.one_simulation.Goals as goal
 
 -- frames are spoken in one way

@@ -1,19 +1,17 @@
+use Rattle.std.proofs.Common.{◌≡◌, ℕ, List, ◌++◌, arith, inr}
 use Rattle.std.proofs.lemmas.Grind.{common_steps}
-use Rattle.std.proofs.Common.{◌≡◌, ℕ, List, ◌++◌}
-use Rattle.std.proofs.Common.{arith}
+use Rattle.std.proofs.lemmas.Result.{err_from_is_err_and}
 use Rattle.std.specs.List.{enumerate_from, flat_map}
 use Rattle.hart_device.specs.Device.{DeviceState}
+use Rattle.hart_line.specs.declared.event.LineEvent.{LineEvent}
+use Rattle.hart_line.specs.declared.line.report.Outcome.{Outcome}
+use Rattle.hart_line.specs.declared.line.report.Spoken.{Spoken}
 use Rattle.hart_line.specs.script.Rows.{IsScript}
 use Rattle.hart_line.specs.world.Spoken.{AreSpoken}
 use Rattle.hart_line.specs.world.Step.{IsLast}
 use Rattle.hart_line.specs.world.World.{Start, World, state_of}
-use Rattle.hart_line.specs.declared.event.LineEvent.{LineEvent}
-use Rattle.hart_line.specs.declared.line.report.Outcome.{Outcome}
-use Rattle.hart_line.specs.declared.line.report.Spoken.{Spoken}
 use Rattle.hart_cli.specs.sim.Sim.{IsSimulation, start_with}
 use Rattle.hart_cli.specs.sim.Text.{counter_line, image_line, outcome_line, spoken_line}
-use Rattle.std.proofs.Common.{arith, inr}
-use Rattle.std.proofs.lemmas.Result.{err_from_is_err_and}
 use Rattle.hart_cli.proofs.sim.simulation.Goals as goal
 
 -- the text of a script that was carried out

@@ -1,6 +1,6 @@
-use Rattle.hart_commands.proofs.lemmas.Reply.{written_is_read, read-made, says}
 use Rattle.std.proofs.Common.{arith}
 use Rattle.hart_commands.proofs.lemmas.Laws.{written_payloads_are_read_again-kept}
+use Rattle.hart_commands.proofs.lemmas.Reply.{written_is_read, read-made, says}
 use Rattle.hart_commands.proofs.laws.written_payloads_are_read_again.Goals as goal
 
 pub returns : goal.returns

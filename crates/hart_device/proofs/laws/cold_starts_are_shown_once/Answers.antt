@@ -1,14 +1,14 @@
-use Rattle.hart_device.proofs.lemmas.answer.Effect.{answered_if}
 use Rattle.std.proofs.Common.{if◌then◌else◌, ◌≡◌, Some, IsSomeAnd, slice_get}
 use Rattle.std.specs.Int.{bit_at}
 use Rattle.hart_values.specs.EachMaster.{of_master}
 use Rattle.hart_frame.specs.wire.FrameParts.{FrameParts}
-use Rattle.hart_device.specs.answer.Answer.{after_command, answer_of, effect_of, is_answered, reply_of, state_after}
 use Rattle.hart_device.specs.Device.{DeviceState}
 use Rattle.hart_device.specs.Process.{has_more_status}
+use Rattle.hart_device.specs.answer.Answer.{after_command, answer_of, effect_of, is_answered, reply_of, state_after}
 use Rattle.hart_device.specs.answer.Status.{is_loop_current_fixed}
 use Rattle.hart_device.specs.declared.process.Process.{Process}
 use Rattle.hart_device.proofs.lemmas.answer.ColdStart.{bit_in_status, cleared, effect_keeps, with_this}
+use Rattle.hart_device.proofs.lemmas.answer.Effect.{answered_if}
 use Rattle.hart_device.proofs.laws.cold_starts_are_shown_once.Goals as goal
 
 shown : (state : DeviceState) (process : Process) (frame reply : FrameParts) → answer_of state process frame ≡ Some reply

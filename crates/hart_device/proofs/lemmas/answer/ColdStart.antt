@@ -1,10 +1,10 @@
 -- What a frame and a reply do to the cold start bits.
 use Rattle.std.proofs.Common.{◌≡◌, ℕ, arith, bit_and, bit_or, Bool, true, false, if◌then◌else◌}
-use Rattle.std.specs.Int.{bit_at}
 use Rattle.std.proofs.lemmas.Nat.Bits.{bit_at_and, bit_at_or}
-use Rattle.hart_values.specs.declared.master_id.MasterId.{MasterId}
+use Rattle.std.specs.Int.{bit_at}
 use Rattle.hart_values.specs.EachMaster.{of_master, with_master}
 use Rattle.hart_values.specs.declared.each_master.EachMaster.{EachMaster}
+use Rattle.hart_values.specs.declared.master_id.MasterId.{MasterId}
 use Rattle.hart_device.specs.Device.{DeviceState, Effect, Nothing, after, after_reply}
 use Rattle.hart_device.specs.answer.Status.{bit_if}
 

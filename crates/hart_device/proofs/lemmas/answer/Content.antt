@@ -1,37 +1,34 @@
 -- What a device replies with code 0 to a well-made request is read again from its bytes.
-use Rattle.std.proofs.Common.{slice_index}
-use Rattle.std.proofs.lemmas.Grind.{elements}
-use Rattle.hart_commands.proofs.lemmas.Parts.{by_spelling, spelled}
-use Rattle.std.proofs.lemmas.Grind.{common_steps}
-use Rattle.std.proofs.Common.{◌≡◌, ℕ, zero, suc, ◌*◌, ◌/◌, ◌<◌, ◌≤◌, List, [], ◌∷◌, ◌++◌, length, map, min}
-use Rattle.std.proofs.Common.{Some, All, get_or, slice_get, refl, arith}
-use Rattle.std.proofs.Common.{append_assoc, append-nil, length-append}
-use Rattle.std.specs.List.{flat_map}
-use Rattle.std.specs.Simd.{first_chunks}
+use Rattle.std.proofs.Common.{slice_index, ◌≡◌, ℕ, zero, suc, ◌*◌, ◌/◌, ◌<◌, ◌≤◌, List, [], ◌∷◌, ◌++◌, length, map, min, Some, All, get_or}
+use Rattle.std.proofs.Common.{slice_get, refl, arith, append_assoc, append-nil, length-append}
 use Rattle.std.proofs.lemmas.Bool.Decides.{nat_tests}
+use Rattle.std.proofs.lemmas.Grind.{elements, common_steps}
 use Rattle.std.proofs.lemmas.List.{length-map, take_at, drop_at, take_all}
 use Rattle.std.proofs.lemmas.List.Elements.{All-cons, All-map}
 use Rattle.std.proofs.lemmas.Option.{get_or_from_slice_get, slice_get_within}
+use Rattle.std.specs.List.{flat_map}
+use Rattle.std.specs.Simd.{first_chunks}
 use Rattle.hart_values.specs.declared.bits32.Bits32.{Bits32}
 use Rattle.hart_commands.specs.Commands.{content_bytes}
 use Rattle.hart_commands.specs.Registers.{AreValid}
-use Rattle.hart_commands.specs.Values.{unit_value_of, unit_value_bytes, variable_of, variable_bytes}
 use Rattle.hart_commands.specs.ReplyData.{content_reading}
 use Rattle.hart_commands.specs.ReplyReading.{dynamic_reading, saying, tag_of, variables_reading}
 use Rattle.hart_commands.specs.RequestData.{IsRequest, command_of}
+use Rattle.hart_commands.specs.Values.{unit_value_of, unit_value_bytes, variable_of, variable_bytes}
 use Rattle.hart_commands.specs.declared.content.ReplyContent.{ReplyContent}
-use Rattle.hart_commands.specs.declared.content.ReplyContent.TheVariants as replied
-use Rattle.hart_commands.specs.declared.register.Register.TheVariants as registers
 use Rattle.hart_commands.specs.declared.request.Request.{Request}
-use Rattle.hart_commands.specs.declared.request.Request.TheVariants as requested
 use Rattle.hart_commands.specs.declared.value.UnitValue.{UnitValue}
 use Rattle.hart_commands.specs.declared.value.VariableReading.{VariableReading}
+use Rattle.hart_commands.proofs.lemmas.Parts.{by_spelling, spelled}
+use Rattle.hart_device.specs.Device.{DeviceState}
+use Rattle.hart_device.specs.Process.{IsFloat, IsProcess, dynamic_variables}
 use Rattle.hart_device.specs.answer.Content.{reply_content, unit_value}
 use Rattle.hart_device.specs.answer.Variables.{variable_of_code, variable_reading}
 use Rattle.hart_device.specs.declared.process.Process.{Process}
 use Rattle.hart_device.specs.declared.process.ProcessVariable.{ProcessVariable}
-use Rattle.hart_device.specs.Device.{DeviceState}
-use Rattle.hart_device.specs.Process.{IsFloat, IsProcess, dynamic_variables}
+use Rattle.hart_commands.specs.declared.content.ReplyContent.TheVariants as replied
+use Rattle.hart_commands.specs.declared.register.Register.TheVariants as registers
+use Rattle.hart_commands.specs.declared.request.Request.TheVariants as requested
 
 -- LISTS
 three : (xs : List ℕ) → length xs ≡ 3 → (a : ℕ) × (b : ℕ) × (c : ℕ) × (xs ≡ a ∷ b ∷ c ∷ [])

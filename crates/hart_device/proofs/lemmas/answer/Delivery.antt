@@ -1,16 +1,16 @@
 -- A delivery brings a device one thing.
-use Rattle.std.proofs.lemmas.Grind.{common_steps}
 use Rattle.std.proofs.Common.{◌≡◌, inl, inr, List, [], ◌∷◌, ap, ◌∙◌, refl, Option, None, Some, arith}
+use Rattle.std.proofs.lemmas.Grind.{common_steps}
 use Rattle.std.specs.Option.{MatchOption}
-use Rattle.hart_frame.specs.heard.Character.{Character}
-use Rattle.hart_frame.specs.wire.FrameParts.{FrameParts}
-use Rattle.hart_frame.specs.heard.Frames.{AreFrames}
-use Rattle.hart_frame.specs.heard.Delivery.{lone_of}
 use Rattle.hart_frame.specs.declared.heard.delivery.LoneFrame.TheVariants.{NoFrame}
 use Rattle.hart_frame.specs.declared.heard.found.Found.{Found}
+use Rattle.hart_frame.specs.heard.Character.{Character}
+use Rattle.hart_frame.specs.heard.Delivery.{lone_of}
+use Rattle.hart_frame.specs.heard.Frames.{AreFrames}
+use Rattle.hart_frame.specs.wire.FrameParts.{FrameParts}
 use Rattle.hart_frame.proofs.lemmas.Laws.{every_list_has_frames, frames_are_unambiguous-one_list}
-use Rattle.hart_device.specs.answer.Delivery.{Brings, BringsBy, Brought, Garbled, NoMessage, OneFrame, answer_to}
 use Rattle.hart_device.specs.Device.{DeviceState}
+use Rattle.hart_device.specs.answer.Delivery.{Brings, BringsBy, Brought, Garbled, NoMessage, OneFrame, answer_to}
 use Rattle.hart_device.specs.answer.Garbled.{HasGarbled, garbled_reply}
 use Rattle.hart_device.specs.declared.answer.garbled.GarbledRequest.{GarbledRequest}
 use Rattle.hart_device.specs.declared.identity_parts.IdentityParts.{IdentityParts}

@@ -1,20 +1,19 @@
 -- What a command does to a device.
-use Rattle.std.proofs.Common.{◌≡◌, ◌≢◌, ℕ, arith, slice_get}
-use Rattle.std.proofs.Common.{Bool, true, false, ◌==◌, ◌&&◌, if◌then◌else◌}
-use Rattle.std.proofs.Common.{Option, None, Some, IfSome, Ok, Err}
+use Rattle.std.proofs.Common.{◌≡◌, ◌≢◌, ℕ, arith, slice_get, Bool, true, false, ◌==◌, ◌&&◌, if◌then◌else◌, Option, None, Some, IfSome, Ok}
+use Rattle.std.proofs.Common.{Err}
 use Rattle.std.proofs.lemmas.Bool.Decides.{nat_tests}
-use Rattle.hart_commands.specs.RequestCode.{data_code}
-use Rattle.hart_commands.specs.RequestData.{IsRequest, Reading}
-use Rattle.hart_commands.proofs.lemmas.Laws.{requests_have_their_command}
 use Rattle.hart_values.specs.declared.master_id.MasterId.{MasterId}
 use Rattle.hart_frame.specs.wire.FrameParts.{FrameParts, reply_parts}
-use Rattle.hart_commands.specs.ReplyData.{reply_payload}
-use Rattle.hart_commands.specs.declared.reply.Reply.{Reply}
 use Rattle.hart_commands.specs.Registers.{Overwrite, overwrite_of}
+use Rattle.hart_commands.specs.ReplyData.{reply_payload}
+use Rattle.hart_commands.specs.RequestCode.{data_code}
+use Rattle.hart_commands.specs.RequestData.{IsRequest, Reading}
+use Rattle.hart_commands.specs.declared.reply.Reply.{Reply}
 use Rattle.hart_commands.specs.declared.request.Request.{Request}
 use Rattle.hart_commands.specs.declared.request.Request.TheVariants.{ResetChanged}
-use Rattle.hart_device.specs.answer.Answer.{asked_effect, code_of, effect_of, is_answered, judged_code, judged_of, reading_of}
+use Rattle.hart_commands.proofs.lemmas.Laws.{requests_have_their_command}
 use Rattle.hart_device.specs.Device.{DeviceState, Effect, Nothing, Executes, Resets, after, after_reply}
+use Rattle.hart_device.specs.answer.Answer.{asked_effect, code_of, effect_of, is_answered, judged_code, judged_of, reading_of}
 
 pub refused : (answered : Bool) (code : ℕ) (effect : Effect) → code ≢ 0
     → (if answered && (code == 0) then effect else Nothing) ≡ Nothing

@@ -1,13 +1,11 @@
 -- The form that a whole request has as a garbled one.
-use Rattle.hart_device.proofs.lemmas.answer.Garbled.{own_named}
-use Rattle.std.proofs.lemmas.Nat.Bits.{bit_at-zero}
-use Rattle.std.proofs.lemmas.Grind.{common_steps}
-use Rattle.std.proofs.Common.{◌≡◌, ℕ, ◌<◌, ◌==◌, false, List, [], ◌∷◌, Some}
-use Rattle.std.proofs.Common.{if◌then◌else◌, nat_lt, count_by, refl, arith}
-use Rattle.std.specs.Int.{bit_at}
+use Rattle.std.proofs.Common.{◌≡◌, ℕ, ◌<◌, ◌==◌, false, List, [], ◌∷◌, Some, if◌then◌else◌, nat_lt, count_by, refl, arith}
 use Rattle.std.proofs.lemmas.Bool.Decides.{nat_tests}
+use Rattle.std.proofs.lemmas.Grind.{common_steps}
 use Rattle.std.proofs.lemmas.List.{length-map, length-append, take_all}
 use Rattle.std.proofs.lemmas.List.Sums.{sum_by-cons}
+use Rattle.std.proofs.lemmas.Nat.Bits.{bit_at-zero}
+use Rattle.std.specs.Int.{bit_at}
 use Rattle.hart_values.specs.address.AddressBytes.{first_byte}
 use Rattle.hart_values.specs.declared.address.Address.TheVariants.{Unique}
 use Rattle.hart_values.specs.declared.master_id.MasterId.{MasterId}
@@ -19,6 +17,7 @@ use Rattle.hart_frame.specs.wire.Parity.{HasEvenParity, bit_count}
 use Rattle.hart_device.specs.Identity.{own_numbers}
 use Rattle.hart_device.specs.answer.Garbled.{communication_faults, garbled_request, has_fault, is_odd}
 use Rattle.hart_device.specs.declared.identity_parts.IdentityParts.{IdentityParts}
+use Rattle.hart_device.proofs.lemmas.answer.Garbled.{own_named}
 
 -- bytes without faults have no fault bit
 no_fault : (bit : ℕ) (bytes : List ℕ) → has_fault bit (faultless bytes) ≡ false

@@ -1,8 +1,7 @@
 -- That a list of characters has one garbled request, or none, and that its address is the device's own.
-use Rattle.std.proofs.lemmas.Bool.Decides.{nat_tests}
-use Rattle.std.proofs.Common.{nat_lt, if◌then◌else◌, not}
-use Rattle.std.proofs.Common.{◌≡◌, ℕ, ◌<◌, ◌%◌, ◌⊎◌, ◌↔◌, inl, inr, List, [], ◌∷◌, ◌++◌, All, drop, None, Some}
+use Rattle.std.proofs.Common.{nat_lt, if◌then◌else◌, not, ◌≡◌, ℕ, ◌<◌, ◌%◌, ◌⊎◌, ◌↔◌, inl, inr, List, [], ◌∷◌, ◌++◌, All, drop, None, Some}
 use Rattle.std.proofs.Common.{Bool, IsTrue, refl, arith}
+use Rattle.std.proofs.lemmas.Bool.Decides.{nat_tests}
 use Rattle.std.proofs.lemmas.Slice.Eq.{bytes_eq-Decides}
 use Rattle.hart_values.specs.address.AddressBytes.{IsAddressBytes, IsUniqueBytes, first_byte}
 use Rattle.hart_values.specs.address.DeviceNumbers.{DeviceNumbers}

@@ -1,26 +1,24 @@
 -- What a device replies to a command that is known is read again from its payload.
-use Rattle.hart_commands.specs.RequestData.{request_reading}
-use Rattle.hart_commands.proofs.lemmas.Rows.{by_row}
-use Rattle.std.proofs.lemmas.Grind.{common_steps}
-use Rattle.std.proofs.Common.{◌≡◌, ℕ, ◌<◌, List}
-use Rattle.std.proofs.Common.{◌==◌, Some, Ok, Err, refl, arith, Bool, true}
-use Rattle.std.specs.Prelude.{if◌then◌else◌}
-use Rattle.std.specs.List.{AllByRecursion}
+use Rattle.std.proofs.Common.{◌≡◌, ℕ, ◌<◌, List, ◌==◌, Some, Ok, Err, refl, arith, Bool, true}
 use Rattle.std.proofs.lemmas.Bool.Decides.{nat_tests}
+use Rattle.std.proofs.lemmas.Grind.{common_steps}
+use Rattle.std.specs.List.{AllByRecursion}
+use Rattle.std.specs.Prelude.{if◌then◌else◌}
 use Rattle.hart_values.specs.declared.master_id.MasterId.{MasterId}
 use Rattle.hart_frame.specs.wire.FrameParts.{FrameParts}
 use Rattle.hart_commands.specs.Commands.{CommandRow, asked, commands, is_known}
 use Rattle.hart_commands.specs.Registers.{AreValid, Overwrite}
 use Rattle.hart_commands.specs.ReplyData.{reply_payload, reply_reading}
 use Rattle.hart_commands.specs.RequestCode.{data_code, request_code}
-use Rattle.hart_commands.specs.RequestData.{IsRequest, Reading, command_of, read_by}
+use Rattle.hart_commands.specs.RequestData.{request_reading, IsRequest, Reading, command_of, read_by}
 use Rattle.hart_commands.proofs.lemmas.Laws.{overwrites_are_valid, requests_have_their_command}
-use Rattle.hart_device.specs.answer.Answer.{after_command, code_of, effect_of, judged_of, reading_of, reply_of, reply_with}
-use Rattle.hart_device.specs.declared.process.Process.{Process}
+use Rattle.hart_commands.proofs.lemmas.Rows.{by_row}
 use Rattle.hart_device.specs.Device.{DeviceState, Effect, Executes, after}
 use Rattle.hart_device.specs.Process.{IsProcess}
-use Rattle.hart_device.proofs.lemmas.answer.Effect.{code_good, writes_execute_their_overwrite-well_made}
+use Rattle.hart_device.specs.answer.Answer.{after_command, code_of, effect_of, judged_of, reading_of, reply_of, reply_with}
+use Rattle.hart_device.specs.declared.process.Process.{Process}
 use Rattle.hart_device.proofs.lemmas.answer.Content.{content_again}
+use Rattle.hart_device.proofs.lemmas.answer.Effect.{code_good, writes_execute_their_overwrite-well_made}
 
 -- CODES
 -- Data are read as a request, or refused with a code from 1 to 127.

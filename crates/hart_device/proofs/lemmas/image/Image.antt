@@ -1,30 +1,28 @@
 -- What an image says, and that it says one thing.
-use Rattle.hart_values.proofs.lemmas.Laws.{packed_text_and_bytes_determine_each_other-one_text}
-use Rattle.hart_commands.proofs.lemmas.Laws.{all_registers_are_listed_once-every}
-use Rattle.std.proofs.lemmas.List.{append_cancel_left}
-use Rattle.std.proofs.Common.{◌≡◌, ◌≢◌, ℕ, ◌-◌, ◌^◌, ◌<◌, ◌≤◌, ◌⊎◌, inl, inr, refl, sym, ◌∙◌, subst}
-use Rattle.std.proofs.Common.{arith, Bool, true, Some, List, [], ◌∷◌, ◌++◌, length}
-use Rattle.std.proofs.Common.{slice_index}
-use Rattle.std.specs.List.{Contains, flat_map}
+use Rattle.std.proofs.Common.{◌≡◌, ◌≢◌, ℕ, ◌-◌, ◌^◌, ◌<◌, ◌≤◌, ◌⊎◌, inl, inr, refl, sym, ◌∙◌, subst, arith, Bool, true, Some, List, [], ◌∷◌}
+use Rattle.std.proofs.Common.{◌++◌, length, slice_index}
 use Rattle.std.proofs.lemmas.Bool.Decides.{nat_tests}
 use Rattle.std.proofs.lemmas.Grind.{common_steps, elements}
-use Rattle.std.proofs.lemmas.List.{take-append-le}
+use Rattle.std.proofs.lemmas.List.{append_cancel_left, take-append-le}
 use Rattle.std.proofs.lemmas.Slice.{between_is}
+use Rattle.std.specs.List.{Contains, flat_map}
 use Rattle.hart_values.specs.declared.each_master.EachMaster.{EachMaster}
+use Rattle.hart_values.proofs.lemmas.Laws.{packed_text_and_bytes_determine_each_other-one_text}
 use Rattle.hart_commands.specs.Registers.{AreValid, Contents, bytes_in, registers}
 use Rattle.hart_commands.specs.declared.register.Register.{Register}
 use Rattle.hart_commands.specs.declared.register.Register.TheVariants.{Tag, LongTag}
-use Rattle.hart_device.specs.declared.fault.DeviceFault.{DeviceFault}
-use Rattle.hart_device.specs.declared.fault.DeviceFault.TheVariants.{BadField, BadLength, BadVersion}
+use Rattle.hart_commands.proofs.lemmas.Laws.{all_registers_are_listed_once-every}
 use Rattle.hart_device.specs.Device.{DeviceState}
 use Rattle.hart_device.specs.Identity.{two_bytes}
+use Rattle.hart_device.specs.declared.fault.DeviceFault.{DeviceFault}
+use Rattle.hart_device.specs.declared.fault.DeviceFault.TheVariants.{BadField, BadLength, BadVersion}
+use Rattle.hart_device.specs.declared.identity_parts.IdentityParts.{IdentityParts}
+use Rattle.hart_device.specs.declared.image.ImageParts.{ImageParts}
 use Rattle.hart_device.specs.image.Image.{HasBadField, IsImageOf, IsImageFault, IsLongTagOf, flags_of, image_ending, image_of}
 use Rattle.hart_device.specs.image.Image.{registers_of_version, registers_of_version_1}
 use Rattle.hart_device.specs.image.ImageParts.{state_with}
 use Rattle.hart_device.specs.registers.Ranges.{HoldsInvalid, contents_in, end_of, standing_for}
 use Rattle.hart_device.specs.registers.Values.{values_of}
-use Rattle.hart_device.specs.declared.identity_parts.IdentityParts.{IdentityParts}
-use Rattle.hart_device.specs.declared.image.ImageParts.{ImageParts}
 use Rattle.hart_device.proofs.lemmas.registers.Range.{end_to_end, length_written, written}
 use Rattle.hart_device.proofs.lemmas.registers.Registers.{bytes_in-contents_by, same_contents}
 

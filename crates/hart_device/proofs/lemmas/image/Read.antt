@@ -1,7 +1,6 @@
 -- What an image of version 1 says, whose registers are read of an array of them all.
+use Rattle.std.proofs.Common.{◌≡◌, ◌≢◌, ◌≤◌, ℕ, List, ◌++◌, length, refl, sym, arith, rules, Option, IfSome, IfNone, IfOk, IfErr}
 use Rattle.std.proofs.lemmas.Grind.{common_steps}
-use Rattle.std.proofs.Common.{◌≡◌, ◌≢◌, ◌≤◌, ℕ, List, ◌++◌, length, refl, sym, arith, rules}
-use Rattle.std.proofs.Common.{Option, IfSome, IfNone, IfOk, IfErr}
 use Rattle.std.specs.List.{flat_map}
 use Rattle.std.specs.Option.{ok_or}
 use Rattle.hart_commands.specs.declared.register.Register.{Register}

@@ -1,11 +1,9 @@
 -- The registers that lists of overwrites leave.
+use Rattle.std.proofs.Common.{◌≡◌, ℕ, ◌<◌, zero, suc, ap, arith, Option, unwrap_or, List, [], ◌∷◌, ◌++◌, length}
 use Rattle.std.proofs.lemmas.Grind.{common_steps}
-use Rattle.std.proofs.Common.{◌≡◌, ℕ, ◌<◌, zero, suc, ap, arith, Option, unwrap_or}
-use Rattle.std.proofs.Common.{List, [], ◌∷◌, ◌++◌, length}
 use Rattle.std.specs.List.{Contains, slice_index_or}
 use Rattle.std.specs.Option.{option_or}
-use Rattle.hart_commands.specs.Registers.{Contents, Overwrite, bytes_in, contents_by, named_in, overwritten}
-use Rattle.hart_commands.specs.Registers.{last_named, registers_of}
+use Rattle.hart_commands.specs.Registers.{Contents, Overwrite, bytes_in, contents_by, named_in, overwritten, last_named, registers_of}
 use Rattle.hart_commands.specs.declared.register.Register.{Register}
 
 pub bytes_in-contents_by : (bytes : Register → List ℕ) (register : Register) → bytes_in (contents_by bytes) register ≡ bytes register

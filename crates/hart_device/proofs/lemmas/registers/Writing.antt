@@ -1,12 +1,11 @@
 -- Writing registers into an array, one after another.
-use Rattle.std.proofs.lemmas.Grind.{common_steps}
-use Rattle.std.proofs.Common.{◌≡◌, ◌≢◌, ℕ, ◌+◌, ◌-◌, ◌<◌, ◌≤◌, ◌⊎◌, arith}
-use Rattle.std.proofs.Common.{List, length, nat_lt, if◌then◌else◌, Option, None, unwrap_or}
-use Rattle.std.specs.List.{AllPairs, Contains, slice_index_or, slice_range}
+use borrow.Rule.Slice.PartMut.{put_mid}
+use Rattle.std.proofs.Common.{◌≡◌, ◌≢◌, ℕ, ◌+◌, ◌-◌, ◌<◌, ◌≤◌, ◌⊎◌, arith, List, length, nat_lt, if◌then◌else◌, Option, None, unwrap_or}
 use Rattle.std.proofs.lemmas.Bool.Decides.{nat_tests}
+use Rattle.std.proofs.lemmas.Grind.{common_steps}
 use Rattle.std.proofs.lemmas.List.{get_or_default}
 use Rattle.std.proofs.lemmas.Slice.{between_is, take-put_mid_below, drop-put_mid}
-use borrow.Rule.Slice.PartMut.{put_mid}
+use Rattle.std.specs.List.{AllPairs, Contains, slice_index_or, slice_range}
 use Rattle.hart_commands.specs.Registers.{registers}
 use Rattle.hart_commands.specs.declared.register.Register.{Register}
 use Rattle.hart_commands.specs.declared.register.Register.TheVariants.{Polling}

@@ -1,25 +1,25 @@
 -- What damage of a message leaves of its frame: the place of the delimiter is the only one where a body can stand.
-use Rattle.std.proofs.lemmas.Option.{slice_get-get_or}
-use Rattle.std.proofs.lemmas.Slice.Zip.{AllZip-left, AllZip-long}
+use Rattle.std.proofs.Common.{◌≡◌, ◌≢◌, ℕ, ◌+◌, ◌<◌, ◌≤◌, ◌⊎◌, inl, inr, List, [], ◌∷◌, ◌++◌, length, drop, get_or, replicate, refl, ap}
+use Rattle.std.proofs.Common.{◌∙◌, arith, append_assoc, length-append}
 use Rattle.std.proofs.lemmas.Grind.{common_steps}
-use Rattle.std.proofs.Common.{◌≡◌, ◌≢◌, ℕ, ◌+◌, ◌<◌, ◌≤◌, ◌⊎◌, inl, inr, List, [], ◌∷◌, ◌++◌, length, drop, get_or, replicate}
-use Rattle.std.proofs.Common.{refl, ap, ◌∙◌, arith, append_assoc, length-append}
-use Rattle.std.specs.List.{AllZip}
 use Rattle.std.proofs.lemmas.List.{append-nil, drop_at, drop-append-le, get_or-append-add, get_or_append_left, get_or-replicate}
 use Rattle.std.proofs.lemmas.List.{length-replicate, nil_from_length}
-use Rattle.hart_frame.specs.wire.FrameParts.{FrameParts}
-use Rattle.hart_frame.specs.wire.Body.{IsBody}
+use Rattle.std.proofs.lemmas.Option.{slice_get-get_or}
+use Rattle.std.proofs.lemmas.Slice.Zip.{AllZip-left, AllZip-long}
+use Rattle.std.specs.List.{AllZip}
+use Rattle.hart_frame.specs.declared.heard.found.Found.{Found}
 use Rattle.hart_frame.specs.heard.Character.{Character, faultless}
 use Rattle.hart_frame.specs.heard.Damage.{HasNoTwoPreambles, IsCheckDamage, IsHeardOrMarked, IsMarkedDamage, after_delimiter}
-use Rattle.hart_frame.specs.wire.Delimiter.{delimiter_of}
 use Rattle.hart_frame.specs.heard.Frames.{AreFrames, HasNoFrame, none, first}
-use Rattle.hart_frame.specs.wire.Layout.{body_length, delimiter_in}
 use Rattle.hart_frame.specs.heard.Place.{StandsIn}
-use Rattle.hart_frame.specs.declared.heard.found.Found.{Found}
-use Rattle.hart_frame.proofs.lemmas.wire.UnambiguousBodies.{BeginsWithBody-append}
+use Rattle.hart_frame.specs.wire.Body.{IsBody}
+use Rattle.hart_frame.specs.wire.Delimiter.{delimiter_of}
+use Rattle.hart_frame.specs.wire.FrameParts.{FrameParts}
+use Rattle.hart_frame.specs.wire.Layout.{body_length, delimiter_in}
 use Rattle.hart_frame.proofs.lemmas.heard.FramesFound.{AreFrames-found}
 use Rattle.hart_frame.proofs.lemmas.heard.Place.{HasNoFrame-end, preamble}
 use Rattle.hart_frame.proofs.lemmas.wire.Refusal.{IsDelimiter-of, Says, says}
+use Rattle.hart_frame.proofs.lemmas.wire.UnambiguousBodies.{BeginsWithBody-append}
 
 -- a faultless character
 abbrev pub clear : ℕ → Character

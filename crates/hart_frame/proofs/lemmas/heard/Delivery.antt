@@ -1,12 +1,11 @@
 -- The frames of a delivery, by the first of them.
-use Rattle.std.proofs.Common.{arith}
-use Rattle.std.proofs.Common.{◌≡◌, ℕ, List, [], ◌∷◌, Option, None, Some, true, false}
+use Rattle.std.proofs.Common.{arith, ◌≡◌, ℕ, List, [], ◌∷◌, Option, None, Some, true, false}
 use Rattle.std.specs.Option.{MatchOption, is_some}
+use Rattle.hart_frame.specs.declared.heard.delivery.LoneFrame.{LoneFrame}
+use Rattle.hart_frame.specs.declared.heard.found.Found.{Found}
 use Rattle.hart_frame.specs.heard.Character.{Character}
 use Rattle.hart_frame.specs.heard.Delivery.{IsLone, lone_of}
 use Rattle.hart_frame.specs.heard.Frames.{AreFrames, HasNoFrame, IsFirst, none, first}
-use Rattle.hart_frame.specs.declared.heard.delivery.LoneFrame.{LoneFrame}
-use Rattle.hart_frame.specs.declared.heard.found.Found.{Found}
 
 -- a list of characters has one list of frames
 abbrev pub OneList : Type 0

@@ -1,22 +1,21 @@
 -- The request that shows what damage is.
-use Rattle.std.proofs.Common.{◌⊎◌}
-use Rattle.std.proofs.Common.{◌≡◌, ℕ, zero, suc, ◌<◌, inl, List, [], ◌∷◌, ◌++◌, length, drop, get_or, replicate, refl, ap, ◌∙◌, arith}
+use Rattle.std.proofs.Common.{◌⊎◌, ◌≡◌, ℕ, zero, suc, ◌<◌, inl, List, [], ◌∷◌, ◌++◌, length, drop, get_or, replicate, refl, ap, ◌∙◌, arith}
 use Rattle.std.proofs.Common.{length-append, subst}
-use Rattle.std.specs.Int.{bit_at}
-use Rattle.std.specs.List.{AllByRecursion}
 use Rattle.std.proofs.lemmas.List.{drop_at, length-replicate}
 use Rattle.std.proofs.lemmas.List.Elements.{All-from_recursion}
-use Rattle.hart_frame.specs.wire.Body.{IsBody}
+use Rattle.std.specs.Int.{bit_at}
+use Rattle.std.specs.List.{AllByRecursion}
 use Rattle.hart_frame.specs.heard.Character.{Character, IsFaultBit, faultless}
 use Rattle.hart_frame.specs.heard.Damage.{HasNoTwoPreambles, IsCheckDamage, IsHeardOrMarked, IsMarkedDamage, after_delimiter}
 use Rattle.hart_frame.specs.heard.DamageExamples.{faulty_address, identity_request, other_address, other_request, preamble_in_body}
+use Rattle.hart_frame.specs.wire.Body.{IsBody}
 use Rattle.hart_frame.specs.wire.FrameParts.{FrameParts}
 use Rattle.hart_frame.specs.wire.Parity.{HasEvenParity}
-use Rattle.hart_frame.proofs.lemmas.wire.Body.{IsBody-push}
-use Rattle.hart_frame.proofs.lemmas.heard.Damage.{clear_is, length-heard}
 use Rattle.hart_frame.proofs.lemmas.heard.Body.{faultless-one}
-use Rattle.hart_frame.proofs.lemmas.wire.Parity.{IsCheckByte-fold, even-check}
+use Rattle.hart_frame.proofs.lemmas.heard.Damage.{clear_is, length-heard}
 use Rattle.hart_frame.proofs.lemmas.heard.Place.{preamble}
+use Rattle.hart_frame.proofs.lemmas.wire.Body.{IsBody-push}
+use Rattle.hart_frame.proofs.lemmas.wire.Parity.{IsCheckByte-fold, even-check}
 
 -- the body that is sent
 abbrev request_body : List ℕ

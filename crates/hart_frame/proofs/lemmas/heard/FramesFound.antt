@@ -1,24 +1,18 @@
 -- Every list of characters has its frames.
-use Rattle.std.proofs.Common.{ap}
-use Rattle.std.proofs.Common.{append_assoc, length-drop}
-use Rattle.hart_frame.specs.heard.Frames.{none, first}
+use Rattle.std.proofs.Common.{ap, append_assoc, length-drop, ◌≡◌, ℕ, zero, suc, ◌+◌, ◌≤◌, ◌⊎◌, inl, inr, List, [], ◌∷◌, length, take, drop}
+use Rattle.std.proofs.Common.{◌∙◌, arith, ◌++◌, sym}
 use Rattle.std.proofs.lemmas.Grind.{common_steps}
-use Rattle.std.proofs.Common.{◌≡◌, ℕ, zero, suc, ◌+◌, ◌≤◌, ◌⊎◌, inl, inr, List, [], ◌∷◌, length, take, drop}
-use Rattle.std.proofs.Common.{◌∙◌, arith}
 use Rattle.std.proofs.lemmas.List.{take-append-drop, length-take-le}
-use Rattle.hart_frame.specs.wire.FrameParts.{FrameParts}
-use Rattle.hart_frame.specs.wire.Body.{BeginsWithBody}
-use Rattle.hart_frame.specs.heard.Character.{Character, faultless}
-use Rattle.hart_frame.specs.heard.Body.{BeginsWithHeard}
-use Rattle.hart_frame.specs.heard.Place.{StandsIn}
-use Rattle.hart_frame.specs.heard.Frames.{AreFrames}
 use Rattle.hart_frame.specs.declared.heard.found.Found.{Found}
-use Rattle.hart_frame.proofs.lemmas.wire.BodiesFound.{body_decided}
-use Rattle.hart_frame.proofs.lemmas.heard.Place.{preamble, StandsIn-at, StandsIn-from, StandsIn-within}
-use Rattle.hart_frame.proofs.lemmas.heard.Place.{HasNoFrame-end}
-use Rattle.std.proofs.Common.{◌++◌, sym}
-use Rattle.hart_frame.specs.heard.Character.{faultless_bytes}
+use Rattle.hart_frame.specs.heard.Body.{BeginsWithHeard}
+use Rattle.hart_frame.specs.heard.Character.{Character, faultless, faultless_bytes}
+use Rattle.hart_frame.specs.heard.Frames.{none, first, AreFrames}
+use Rattle.hart_frame.specs.heard.Place.{StandsIn}
+use Rattle.hart_frame.specs.wire.Body.{BeginsWithBody}
+use Rattle.hart_frame.specs.wire.FrameParts.{FrameParts}
 use Rattle.hart_frame.proofs.lemmas.heard.Front.{heard_parts, regrouped, faultless_bytes-append}
+use Rattle.hart_frame.proofs.lemmas.heard.Place.{preamble, StandsIn-at, StandsIn-from, StandsIn-within, HasNoFrame-end}
+use Rattle.hart_frame.proofs.lemmas.wire.BodiesFound.{body_decided}
 use Rattle.hart_frame.proofs.lemmas.wire.UnambiguousBodies.{BeginsWithBody-append}
 
 -- characters begin with some body that is heard

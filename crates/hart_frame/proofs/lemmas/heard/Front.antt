@@ -1,16 +1,14 @@
 -- The bytes up to the first character with fault bits.
-use Rattle.std.proofs.lemmas.List.{get_or_append_left, get_or-map}
+use Rattle.std.proofs.Common.{◌≡◌, ◌≢◌, ℕ, zero, suc, not, ◌+◌, ◌<◌, ◌≤◌, List, [], ◌∷◌, ◌++◌, length, take, drop, get_or, min, None, Some}
+use Rattle.std.proofs.Common.{refl, arith, append_assoc, length-append, ◌==◌}
+use Rattle.std.proofs.lemmas.Bool.Decides.{nat_tests}
 use Rattle.std.proofs.lemmas.Grind.{common_steps}
-use Rattle.std.proofs.Common.{◌≡◌, ◌≢◌, ℕ, zero, suc, not, ◌+◌, ◌<◌, ◌≤◌, List, [], ◌∷◌, ◌++◌, length, take, drop, get_or, min}
-use Rattle.std.proofs.Common.{None, Some, refl, arith, append_assoc, length-append, ◌==◌}
-use Rattle.std.specs.List.{All, position_or_len, slice_get}
-use Rattle.std.proofs.lemmas.List.{append-nil, drop_more, drop_all, get_or-take, length-map, length-take, map-append, take_at, take_all}
-use Rattle.std.proofs.lemmas.List.{take_min}
-use Rattle.std.proofs.lemmas.List.{take-append-le, take-map}
+use Rattle.std.proofs.lemmas.List.{get_or_append_left, get_or-map, append-nil, drop_more, drop_all, get_or-take, length-map, length-take}
+use Rattle.std.proofs.lemmas.List.{map-append, take_at, take_all, take_min, take-append-le, take-map}
 use Rattle.std.proofs.lemmas.List.Elements.{All-from_get_or, All-map, All-tail}
 use Rattle.std.proofs.lemmas.List.Sums.{take_while-cons}
 use Rattle.std.proofs.lemmas.Option.{none-some, slice_get-get_or}
-use Rattle.std.proofs.lemmas.Bool.Decides.{nat_tests}
+use Rattle.std.specs.List.{All, position_or_len, slice_get}
 use Rattle.hart_frame.specs.heard.Body.{bytes_of}
 use Rattle.hart_frame.specs.heard.Character.{Character, faultless, faultless_bytes}
 use Rattle.hart_frame.proofs.lemmas.heard.Place.{preamble}

@@ -1,47 +1,38 @@
 -- What a miss names is what stands in the way of a frame.
-use Rattle.hart_frame.proofs.lemmas.heard.FramesFound.{HeardAhead}
-use Rattle.std.proofs.lemmas.Grind.{common_steps}
 use Rattle.std.proofs.Common.{◌≡◌, ◌≢◌, ℕ, zero, suc, fold, bit_xor, ◌+◌, ◌-◌, ◌<◌, ◌≤◌, ◌⊎◌, inl, inr, List, [], ◌∷◌, ◌++◌, length, take}
-use Rattle.std.proofs.Common.{drop, get_or, set}
-use Rattle.std.proofs.Common.{true, Some, refl, sym, ap, ◌∙◌, arith, append_assoc, length-append}
-use Rattle.std.specs.List.{All, insert, slice_get}
-use Rattle.std.specs.Option.{IsSome, is_some}
-use Rattle.std.proofs.lemmas.List.{append-nil, drop_at, drop_more, get_or-set_same, get_or-take}
-use Rattle.std.proofs.lemmas.List.{length-map, length-take-le, map-append, set_at, take-append-drop, take_more}
+use Rattle.std.proofs.Common.{drop, get_or, set, true, Some, refl, sym, ap, ◌∙◌, arith, append_assoc, length-append, ◌↔◌}
+use Rattle.std.proofs.lemmas.Bool.{false≢true}
+use Rattle.std.proofs.lemmas.Bool.Decides.{nat_tests}
+use Rattle.std.proofs.lemmas.Grind.{common_steps}
+use Rattle.std.proofs.lemmas.List.{append-nil, drop_at, drop_more, get_or-set_same, get_or-take, length-map, length-take-le, map-append}
+use Rattle.std.proofs.lemmas.List.{set_at, take-append-drop, take_more}
 use Rattle.std.proofs.lemmas.List.Elements.{All-append, All-drop, All-take}
 use Rattle.std.proofs.lemmas.Option.{get_or_from_slice_get, slice_get_within}
-use Rattle.std.proofs.lemmas.Bool.{false≢true}
+use Rattle.std.specs.List.{All, insert, slice_get}
+use Rattle.std.specs.Option.{IsSome, is_some}
+use Rattle.hart_frame.specs.declared.heard.found.Found.{Found}
+use Rattle.hart_frame.specs.declared.heard.miss.Miss.TheVariants.{BadCheck, Faulty, Missing, OnePreamble}
+use Rattle.hart_frame.specs.heard.Character.{Character, faultless, faultless_bytes}
+use Rattle.hart_frame.specs.heard.InTheWay.{bytes_from, FollowsOnePreamble, HasBodyAt}
+use Rattle.hart_frame.specs.heard.Miss.{HasFrameAt, HasFrameUpTo, body_miss, check_byte_in, fitting_check_byte, follows_one_preamble}
+use Rattle.hart_frame.specs.heard.Miss.{miss_of, is_start}
+use Rattle.hart_frame.specs.heard.Place.{StandsIn}
+use Rattle.hart_frame.specs.heard.Start.{IsStart}
+use Rattle.hart_frame.specs.wire.Body.{IsBody, BeginsWithBody}
 use Rattle.hart_frame.specs.wire.FrameParts.{FrameParts}
-use Rattle.hart_frame.specs.wire.Body.{IsBody}
 use Rattle.hart_frame.specs.wire.Layout.{body_length, byte_count_place}
 use Rattle.hart_frame.specs.wire.Parity.{IsCheckByte}
 use Rattle.hart_frame.specs.wire.Refusal.{HasCheckByte, HasGoodByteCount}
-use Rattle.hart_frame.specs.heard.Character.{Character, faultless, faultless_bytes}
-use Rattle.hart_frame.specs.heard.Miss.{HasFrameAt, HasFrameUpTo, body_miss, check_byte_in, fitting_check_byte}
-use Rattle.hart_frame.specs.heard.InTheWay.{bytes_from}
-use Rattle.hart_frame.specs.heard.Miss.{follows_one_preamble, miss_of}
-use Rattle.hart_frame.specs.heard.Place.{StandsIn}
-use Rattle.hart_frame.specs.heard.Start.{IsStart}
-use Rattle.hart_frame.specs.declared.heard.found.Found.{Found}
-use Rattle.hart_frame.specs.declared.heard.miss.Miss.TheVariants.{BadCheck, Faulty, Missing, OnePreamble}
-use Rattle.hart_frame.proofs.lemmas.heard.Front.{after_faultless, faultless_fit, length-faultless_bytes, nothing_follows}
-use Rattle.hart_frame.proofs.lemmas.heard.Front.{take_heard}
-use Rattle.hart_frame.proofs.lemmas.heard.Miss.{told_of}
-use Rattle.hart_frame.proofs.lemmas.heard.Miss.{other_check}
-use Rattle.hart_frame.proofs.lemmas.heard.Missed.{miss_of-some, miss_of-start, not_at_front, one_before_place}
-use Rattle.hart_frame.proofs.lemmas.heard.Place.{preamble}
-use Rattle.hart_frame.proofs.lemmas.wire.Prefix.{HasGoodByteCount-more, length_more}
-use Rattle.hart_frame.proofs.lemmas.wire.Parity.{IsCheckByte-fold}
-use Rattle.hart_frame.proofs.lemmas.wire.Truncated.{fits_at, fitted}
+use Rattle.hart_frame.proofs.lemmas.heard.FramesFound.{HeardAhead, heard_whole}
+use Rattle.hart_frame.proofs.lemmas.heard.Front.{after_faultless, faultless_fit, length-faultless_bytes, nothing_follows, take_heard}
 use Rattle.hart_frame.proofs.lemmas.heard.InTheWay.{way_of, fits-is, rest_at, nothing_at_end}
-use Rattle.std.proofs.lemmas.Bool.Decides.{nat_tests}
-use Rattle.hart_frame.specs.heard.Miss.{is_start}
-use Rattle.hart_frame.specs.heard.InTheWay.{FollowsOnePreamble, HasBodyAt}
-use Rattle.std.proofs.Common.{◌↔◌}
-use Rattle.hart_frame.specs.wire.Body.{BeginsWithBody}
-use Rattle.hart_frame.proofs.lemmas.heard.Missed.{is_start-yes, miss_of-one, one_preamble-is, one_preamble-yes}
-use Rattle.hart_frame.proofs.lemmas.heard.FramesFound.{heard_whole}
-use Rattle.hart_frame.proofs.lemmas.heard.Missed.{none_of}
+use Rattle.hart_frame.proofs.lemmas.heard.Miss.{told_of, other_check}
+use Rattle.hart_frame.proofs.lemmas.heard.Missed.{miss_of-some, miss_of-start, not_at_front, one_before_place, is_start-yes, miss_of-one}
+use Rattle.hart_frame.proofs.lemmas.heard.Missed.{one_preamble-is, one_preamble-yes, none_of}
+use Rattle.hart_frame.proofs.lemmas.heard.Place.{preamble}
+use Rattle.hart_frame.proofs.lemmas.wire.Parity.{IsCheckByte-fold}
+use Rattle.hart_frame.proofs.lemmas.wire.Prefix.{HasGoodByteCount-more, length_more}
+use Rattle.hart_frame.proofs.lemmas.wire.Truncated.{fits_at, fitted}
 
 -- a frame stands where its body stands after two preamble bytes
 pub frame_up_to : (chars prefix rest : List Character) (body : List ℕ) (f : FrameParts) (place stop : ℕ) → IsBody f body

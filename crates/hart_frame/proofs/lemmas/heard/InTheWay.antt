@@ -1,33 +1,30 @@
 -- A miss where a body may start is what stands in the way there.
-use Rattle.hart_frame.proofs.lemmas.heard.Front.{char_at}
-use Rattle.std.proofs.lemmas.Grind.{common_steps}
-use Rattle.std.proofs.Common.{◌≡◌, ◌≢◌, ℕ, ◌+◌, ◌-◌, ◌<◌, ◌≤◌, ◌⊎◌, inl, inr, List, length, take}
-use Rattle.std.proofs.Common.{◌↔◌, drop, fold, get_or, bit_xor, None, Some, refl, sym, ap, subst, ◌∙◌, arith}
-use Rattle.std.specs.List.{All, slice_get}
+use Rattle.std.proofs.Common.{◌≡◌, ◌≢◌, ℕ, ◌+◌, ◌-◌, ◌<◌, ◌≤◌, ◌⊎◌, inl, inr, List, length, take, ◌↔◌, drop, fold, get_or, bit_xor, None}
+use Rattle.std.proofs.Common.{Some, refl, sym, ap, subst, ◌∙◌, arith}
 use Rattle.std.proofs.lemmas.Bool.Decides.{nat_tests}
+use Rattle.std.proofs.lemmas.Grind.{common_steps}
 use Rattle.std.proofs.lemmas.List.{get_or-drop, length-append, length-drop}
 use Rattle.std.proofs.lemmas.List.Elements.{All-drop, All-take}
 use Rattle.std.proofs.lemmas.Option.{none-some, same_Some, slice_get-get_or, slice_get_cases, slice_get_past}
-use Rattle.hart_frame.specs.wire.Layout.{body_length}
-use Rattle.hart_frame.specs.wire.Parity.{IsCheckByte}
-use Rattle.hart_frame.specs.wire.Refusal.{IsDelimiter, IsTruncated}
-use Rattle.hart_frame.specs.heard.Character.{Character, faultless_bytes}
-use Rattle.hart_frame.specs.heard.InTheWay.{ComeToTheEnd, HasFaultsAt, IsBurstDelimiter}
-use Rattle.hart_frame.specs.heard.InTheWay.{IsInTheWay, bytes_from}
-use Rattle.hart_frame.specs.heard.Miss.{body_miss, check_byte_in, delimiter_miss, faulty_or, fitting_check_byte}
-use Rattle.hart_frame.specs.heard.Miss.{miss_of}
-use Rattle.hart_frame.specs.heard.Start.{IsStart}
+use Rattle.std.specs.List.{All, slice_get}
 use Rattle.hart_frame.specs.declared.heard.miss.Miss.{Miss}
 use Rattle.hart_frame.specs.declared.heard.miss.Miss.TheVariants.{BadCheck, BadDelimiter, Burst, EndsBeforeByteCount, Faulty, Missing}
 use Rattle.hart_frame.specs.declared.heard.miss.Miss.TheVariants.{OnePreamble, ShortReply}
-use Rattle.hart_frame.proofs.lemmas.wire.Parity.{HasEvenParity-push, IsCheckByte-fold, even-is}
-use Rattle.hart_frame.proofs.lemmas.wire.Truncated.{fits_at}
-use Rattle.hart_frame.proofs.lemmas.heard.Front.{after_faultless, faultless_fit, length-faultless_bytes}
+use Rattle.hart_frame.specs.heard.Character.{Character, faultless_bytes}
+use Rattle.hart_frame.specs.heard.InTheWay.{ComeToTheEnd, HasFaultsAt, IsBurstDelimiter, IsInTheWay, bytes_from}
+use Rattle.hart_frame.specs.heard.Miss.{body_miss, check_byte_in, delimiter_miss, faulty_or, fitting_check_byte, miss_of}
+use Rattle.hart_frame.specs.heard.Start.{IsStart}
+use Rattle.hart_frame.specs.wire.Layout.{body_length}
+use Rattle.hart_frame.specs.wire.Parity.{IsCheckByte}
+use Rattle.hart_frame.specs.wire.Refusal.{IsDelimiter, IsTruncated}
+use Rattle.hart_frame.proofs.lemmas.heard.Front.{char_at, after_faultless, faultless_fit, length-faultless_bytes}
 use Rattle.hart_frame.proofs.lemmas.heard.Miss.{Told, begun, counted, empty, faulty_or-is, miss_in-begun, miss_in-counted, miss_in-none}
-use Rattle.hart_frame.proofs.lemmas.heard.Miss.{miss_in-other, miss_in-short, miss_in-whole, other, other_check}
-use Rattle.hart_frame.proofs.lemmas.heard.Miss.{same_check, short, told_of, whole}
+use Rattle.hart_frame.proofs.lemmas.heard.Miss.{miss_in-other, miss_in-short, miss_in-whole, other, other_check, same_check, short, told_of}
+use Rattle.hart_frame.proofs.lemmas.heard.Miss.{whole}
 use Rattle.hart_frame.proofs.lemmas.heard.Missed.{miss_of-some, miss_of-start}
 use Rattle.hart_frame.proofs.lemmas.heard.Place.{preamble}
+use Rattle.hart_frame.proofs.lemmas.wire.Parity.{HasEvenParity-push, IsCheckByte-fold, even-is}
+use Rattle.hart_frame.proofs.lemmas.wire.Truncated.{fits_at}
 
 -- a character of the rest of a list
 pub rest_at : (chars : List Character) (start n : ℕ) → slice_get (drop start chars) n ≡ slice_get chars (start + n)

@@ -1,20 +1,20 @@
 -- A message that is heard without faults has its frame alone.
-use Rattle.std.proofs.Common.{◌≡◌, ℕ, ◌+◌, ◌-◌, ◌<◌, ◌≤◌, ◌⊎◌, List, [], ◌∷◌, ◌++◌, length, get_or, replicate}
-use Rattle.std.proofs.Common.{arith, append_assoc, length-append}
+use Rattle.std.proofs.Common.{◌≡◌, ℕ, ◌+◌, ◌-◌, ◌<◌, ◌≤◌, ◌⊎◌, List, [], ◌∷◌, ◌++◌, length, get_or, replicate, arith, append_assoc}
+use Rattle.std.proofs.Common.{length-append}
 use Rattle.std.proofs.Math.ListN.{get_or-append}
 use Rattle.std.proofs.lemmas.List.{append-nil, map-append, length-map, length-replicate, replicate-append-replicate, get_or-replicate}
 use Rattle.std.proofs.lemmas.List.{get_or-append-add}
-use Rattle.hart_frame.specs.wire.FrameParts.{FrameParts}
-use Rattle.hart_frame.specs.wire.Delimiter.{delimiter_of}
-use Rattle.hart_frame.specs.heard.Character.{faultless}
-use Rattle.hart_frame.specs.heard.Body.{bytes_of}
-use Rattle.hart_frame.specs.wire.Message.{IsMessage}
-use Rattle.hart_frame.specs.heard.Place.{StandsIn}
-use Rattle.hart_frame.specs.heard.Frames.{AreFrames}
 use Rattle.hart_frame.specs.declared.heard.found.Found.{Found}
-use Rattle.hart_frame.proofs.lemmas.wire.UnambiguousBodies.{address_type-lt, kind_code-is, spread}
+use Rattle.hart_frame.specs.heard.Body.{bytes_of}
+use Rattle.hart_frame.specs.heard.Character.{faultless}
+use Rattle.hart_frame.specs.heard.Frames.{AreFrames}
+use Rattle.hart_frame.specs.heard.Place.{StandsIn}
+use Rattle.hart_frame.specs.wire.Delimiter.{delimiter_of}
+use Rattle.hart_frame.specs.wire.FrameParts.{FrameParts}
+use Rattle.hart_frame.specs.wire.Message.{IsMessage}
 use Rattle.hart_frame.proofs.lemmas.heard.Body.{bytes_of-faultless}
 use Rattle.hart_frame.proofs.lemmas.heard.Place.{HasNoFrame-end}
+use Rattle.hart_frame.proofs.lemmas.wire.UnambiguousBodies.{address_type-lt, kind_code-is, spread}
 
 -- a delimiter is no preamble byte
 pub delimiter_of-lt : (f : FrameParts) → length f.expansion ≤ 3 → delimiter_of f < 255

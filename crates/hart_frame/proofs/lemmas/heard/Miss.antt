@@ -1,23 +1,22 @@
 -- Why no body begins at a start: by its bytes, and by the characters that are heard there.
+use Rattle.std.proofs.Common.{◌≡◌, ◌≢◌, ℕ, ◌+◌, ◌-◌, ◌*◌, ◌/◌, ◌%◌, ◌<◌, ◌≤◌, List, ◌++◌, length, take, drop, get_or, min, ◌⊎◌, true}
+use Rattle.std.proofs.Common.{Option, None, Some, sym, ap, ◌∙◌, arith}
+use Rattle.std.proofs.lemmas.Bool.Decides.{nat_tests}
 use Rattle.std.proofs.lemmas.Grind.{common_steps}
-use Rattle.std.proofs.Common.{◌≡◌, ◌≢◌, ℕ, ◌+◌, ◌-◌, ◌*◌, ◌/◌, ◌%◌, ◌<◌, ◌≤◌, List, ◌++◌, length, take, drop, get_or, min}
-use Rattle.std.proofs.Common.{◌⊎◌, true, Option, None, Some, sym, ap, ◌∙◌, arith}
 use Rattle.std.proofs.lemmas.List.{get_or_append_left, length-map, length-take, length-take-le, take-append-drop, take-append-le}
 use Rattle.std.proofs.lemmas.Option.{slice_get-get_or}
 use Rattle.std.specs.List.{All, slice_get}
 use Rattle.std.specs.Option.{MatchOption}
-use Rattle.std.proofs.lemmas.Bool.Decides.{nat_tests}
+use Rattle.hart_frame.specs.declared.heard.miss.Miss.{Miss}
+use Rattle.hart_frame.specs.declared.heard.miss.Miss.TheVariants.{BadCheck, EndsBeforeByteCount, Faulty, Missing, ShortReply}
+use Rattle.hart_frame.specs.heard.Body.{bytes_of}
 use Rattle.hart_frame.specs.heard.Character.{Character, faultless_bytes}
 use Rattle.hart_frame.specs.heard.Miss.{body_miss, check_byte_in, check_miss, fitting_check_byte, delimiter_miss, faulty_or, is_delimiter}
 use Rattle.hart_frame.specs.heard.Miss.{EndsEarly, miss_in}
-use Rattle.hart_frame.specs.heard.Body.{bytes_of}
 use Rattle.hart_frame.specs.wire.Layout.{body_length, byte_count_in, byte_count_place, delimiter_in}
 use Rattle.hart_frame.specs.wire.Refusal.{HasByteCount, HasCheckByte, HasDelimiter, HasGoodByteCount, IsDelimiter}
-use Rattle.hart_frame.specs.declared.heard.miss.Miss.{Miss}
-use Rattle.hart_frame.specs.declared.heard.miss.Miss.TheVariants.{BadCheck, EndsBeforeByteCount, Faulty, Missing}
-use Rattle.hart_frame.specs.declared.heard.miss.Miss.TheVariants.{ShortReply}
-use Rattle.hart_frame.proofs.lemmas.heard.Front.{char_at, faultless_all, faultless_bytes-all}
-use Rattle.hart_frame.proofs.lemmas.heard.Front.{faultless_bytes-take, length-faultless_bytes, take_heard}
+use Rattle.hart_frame.proofs.lemmas.heard.Front.{char_at, faultless_all, faultless_bytes-all, faultless_bytes-take, length-faultless_bytes}
+use Rattle.hart_frame.proofs.lemmas.heard.Front.{take_heard}
 use Rattle.hart_frame.proofs.lemmas.heard.Place.{preamble}
 use Rattle.hart_frame.proofs.lemmas.wire.Prefix.{HasCheckByte-prefix, length_more}
 

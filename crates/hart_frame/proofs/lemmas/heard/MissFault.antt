@@ -1,26 +1,24 @@
 -- A miss comes from the fault with which bytes are refused.
+use Rattle.std.proofs.Common.{◌≡◌, ◌≢◌, ℕ, ◌<◌, List, take, drop, Option, Some, refl, ◌∙◌, arith}
+use Rattle.std.proofs.lemmas.Bool.Decides.{nat_tests}
 use Rattle.std.proofs.lemmas.Grind.{common_steps}
-use Rattle.std.proofs.Common.{◌≡◌, ◌≢◌, ℕ, ◌<◌, List, take, drop}
-use Rattle.std.proofs.Common.{Option, Some, refl, ◌∙◌, arith}
-use Rattle.std.specs.List.{All}
 use Rattle.std.proofs.lemmas.List.{take_more}
 use Rattle.std.proofs.lemmas.List.Elements.{All-drop, All-take}
+use Rattle.std.specs.List.{All}
+use Rattle.hart_frame.specs.declared.heard.miss.Miss.{Miss}
+use Rattle.hart_frame.specs.declared.heard.miss.Miss.TheVariants.{OnePreamble}
+use Rattle.hart_frame.specs.declared.wire.fault.FrameFault.{FrameFault}
+use Rattle.hart_frame.specs.heard.Character.{Character, faultless_bytes}
+use Rattle.hart_frame.specs.heard.Miss.{check_byte_in, fault_of, fitting_check_byte, miss_in, miss_of, body_miss}
+use Rattle.hart_frame.specs.heard.Start.{IsStart}
 use Rattle.hart_frame.specs.wire.Layout.{body_length}
 use Rattle.hart_frame.specs.wire.Parity.{HasEvenParity}
 use Rattle.hart_frame.specs.wire.Refusal.{HasCheckByte, IsRefusedWith}
-use Rattle.hart_frame.specs.declared.wire.fault.FrameFault.{FrameFault}
-use Rattle.hart_frame.specs.heard.Character.{Character, faultless_bytes}
-use Rattle.hart_frame.specs.heard.Miss.{check_byte_in, fault_of, fitting_check_byte, miss_in, miss_of}
-use Rattle.hart_frame.specs.heard.Start.{IsStart}
-use Rattle.hart_frame.specs.declared.heard.miss.Miss.{Miss}
 use Rattle.hart_frame.proofs.lemmas.heard.Front.{faultless_fit}
+use Rattle.hart_frame.proofs.lemmas.heard.Hint.{never_one_preamble}
 use Rattle.hart_frame.proofs.lemmas.heard.Missed.{miss_of-start}
 use Rattle.hart_frame.proofs.lemmas.wire.Parity.{even-is}
 use Rattle.hart_frame.proofs.lemmas.wire.Truncated.{fits_at}
-use Rattle.std.proofs.lemmas.Bool.Decides.{nat_tests}
-use Rattle.hart_frame.specs.heard.Miss.{body_miss}
-use Rattle.hart_frame.proofs.lemmas.heard.Hint.{never_one_preamble}
-use Rattle.hart_frame.specs.declared.heard.miss.Miss.TheVariants.{OnePreamble}
 
 -- a check byte that does not fit makes the parity odd
 odd : (bytes : List ℕ) → All (λ byte. byte < 256) bytes → HasCheckByte bytes → check_byte_in bytes ≢ fitting_check_byte bytes

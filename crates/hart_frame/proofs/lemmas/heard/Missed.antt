@@ -1,38 +1,33 @@
 -- The miss of a place by what stands before it, and that there is none where a frame stands.
-use Rattle.std.proofs.lemmas.List.{get_or_append_left, get_or_past}
-use Rattle.hart_frame.proofs.lemmas.wire.Refusal.{has_check}
-use Rattle.hart_frame.proofs.lemmas.heard.Miss.{miss_in-whole}
-use Rattle.std.proofs.lemmas.Grind.{common_steps}
 use Rattle.std.proofs.Common.{◌≡◌, ◌≢◌, ℕ, zero, suc, ◌+◌, ◌-◌, ◌<◌, ◌⊎◌, inl, inr, List, [], ◌∷◌, ◌++◌, length, take, drop, get_or}
-use Rattle.std.proofs.Common.{bit_xor}
-use Rattle.std.proofs.Common.{Bool, true, false, Option, None, Some, not, ◌∙◌, arith, ◌&&◌, append_assoc}
-use Rattle.std.proofs.Common.{length-append}
+use Rattle.std.proofs.Common.{bit_xor, Bool, true, false, Option, None, Some, not, ◌∙◌, arith, ◌&&◌, append_assoc, length-append}
+use Rattle.std.proofs.Math.Seq.{append_snoc, drop-cons, get_or-append_seam, take-append_seam, take-suc}
+use Rattle.std.proofs.lemmas.Bool.Decides.{nat_tests}
+use Rattle.std.proofs.lemmas.Grind.{common_steps}
+use Rattle.std.proofs.lemmas.List.{get_or_append_left, get_or_past, drop_at, get_or_at, get_or-take, length-take-le, take-append-drop}
+use Rattle.std.proofs.lemmas.List.{take_at, take-take}
+use Rattle.std.proofs.lemmas.Option.{slice_get-get_or, slice_get_cases}
 use Rattle.std.specs.List.{slice_get}
 use Rattle.std.specs.Option.{is_some, option_map_or}
-use Rattle.std.proofs.lemmas.List.{drop_at, get_or_at, get_or-take, length-take-le, take-append-drop, take_at, take-take}
-use Rattle.std.proofs.Math.Seq.{append_snoc, drop-cons, get_or-append_seam, take-append_seam, take-suc}
-use Rattle.std.proofs.lemmas.Option.{slice_get-get_or, slice_get_cases}
-use Rattle.std.proofs.lemmas.Bool.Decides.{nat_tests}
-use Rattle.hart_frame.specs.wire.FrameParts.{FrameParts}
-use Rattle.hart_frame.specs.wire.Body.{BeginsWithBody, IsBody}
-use Rattle.hart_frame.specs.wire.Layout.{body_length}
-use Rattle.hart_frame.specs.heard.Character.{Character, faultless, faultless_bytes}
-use Rattle.hart_frame.specs.heard.InTheWay.{FollowsOnePreamble}
-use Rattle.hart_frame.specs.heard.Start.{IsStart}
-use Rattle.hart_frame.specs.heard.Miss.{HasFrameAt, body_miss, check_byte_in, fitting_check_byte, miss_in, miss_of, follows_one_preamble}
-use Rattle.hart_frame.specs.heard.Miss.{follows_preamble, is_preamble, is_start}
 use Rattle.hart_frame.specs.declared.heard.miss.Miss.{Miss}
 use Rattle.hart_frame.specs.declared.heard.miss.Miss.TheVariants.{OnePreamble}
-use Rattle.hart_frame.proofs.lemmas.wire.Parity.{even-is}
-use Rattle.hart_frame.proofs.lemmas.wire.Refusal.{says}
-use Rattle.hart_frame.proofs.lemmas.wire.Truncated.{fits_at}
-use Rattle.hart_frame.proofs.lemmas.wire.UnambiguousBodies.{BeginsWithBody-append}
+use Rattle.hart_frame.specs.heard.Character.{Character, faultless, faultless_bytes}
+use Rattle.hart_frame.specs.heard.InTheWay.{FollowsOnePreamble, HasBodyAt}
+use Rattle.hart_frame.specs.heard.Miss.{HasFrameAt, body_miss, check_byte_in, fitting_check_byte, miss_in, miss_of, follows_one_preamble}
+use Rattle.hart_frame.specs.heard.Miss.{follows_preamble, is_preamble, is_start}
+use Rattle.hart_frame.specs.heard.Start.{IsStart}
+use Rattle.hart_frame.specs.wire.Body.{BeginsWithBody, IsBody}
+use Rattle.hart_frame.specs.wire.FrameParts.{FrameParts}
+use Rattle.hart_frame.specs.wire.Layout.{body_length}
 use Rattle.hart_frame.proofs.lemmas.heard.Front.{faultless_bytes-append}
 use Rattle.hart_frame.proofs.lemmas.heard.Message.{delimiter_of-lt}
-use Rattle.hart_frame.proofs.lemmas.heard.Miss.{other, same_check}
+use Rattle.hart_frame.proofs.lemmas.heard.Miss.{miss_in-whole, other, same_check}
 use Rattle.hart_frame.proofs.lemmas.heard.Place.{preamble}
 use Rattle.hart_frame.proofs.lemmas.heard.Start.{is_start_from, starts_at}
-use Rattle.hart_frame.specs.heard.InTheWay.{HasBodyAt}
+use Rattle.hart_frame.proofs.lemmas.wire.Parity.{even-is}
+use Rattle.hart_frame.proofs.lemmas.wire.Refusal.{has_check, says}
+use Rattle.hart_frame.proofs.lemmas.wire.Truncated.{fits_at}
+use Rattle.hart_frame.proofs.lemmas.wire.UnambiguousBodies.{BeginsWithBody-append}
 
 -- the tests of what stands at a place
 first_test : (chars : List Character) (k : ℕ) → option_map_or is_preamble (slice_get chars k) false ≡ true

@@ -1,13 +1,13 @@
 -- An open place can begin a frame.
 use Rattle.std.proofs.Common.{◌≡◌, ℕ, suc, ◌+◌, ◌<◌, List, ◌∷◌, ◌++◌, length, take, drop, refl, sym, ap, ◌∙◌, arith, subst, append_assoc}
-use Rattle.std.specs.List.{All}
 use Rattle.std.proofs.lemmas.List.{drop_at, length-map, get_or-map, map-append, take-append-drop}
 use Rattle.std.proofs.lemmas.List.Elements.{All-drop, All-from_get_or}
-use Rattle.hart_frame.specs.wire.Body.{CanBecomeBody}
+use Rattle.std.specs.List.{All}
+use Rattle.hart_frame.specs.declared.heard.found.Found.{Found}
 use Rattle.hart_frame.specs.heard.Character.{Character, faultless}
 use Rattle.hart_frame.specs.heard.Place.{IsOpen, StandsIn}
+use Rattle.hart_frame.specs.wire.Body.{CanBecomeBody}
 use Rattle.hart_frame.specs.wire.Refusal.{IsTruncated}
-use Rattle.hart_frame.specs.declared.heard.found.Found.{Found}
 use Rattle.hart_frame.proofs.lemmas.heard.Place.{preamble}
 
 -- the bytes of characters whose bytes fit

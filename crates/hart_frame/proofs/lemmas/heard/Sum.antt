@@ -1,14 +1,14 @@
 -- What the bytes and the fault bits of characters come to, character by character.
 use Rattle.std.proofs.Common.{◌≡◌, List, [], ◌∷◌, ◌++◌, length-append, bit_xor, fold, refl, arith}
 use Rattle.std.proofs.lemmas.List.{get_or_append_left, get_or_at, map-append}
-use Rattle.std.proofs.lemmas.List.Sums.{fold-append}
 use Rattle.std.proofs.lemmas.List.Elements.{All-push}
+use Rattle.std.proofs.lemmas.List.Sums.{fold-append}
 use Rattle.std.proofs.lemmas.Nat.{le_or_l, le_or_r}
 use Rattle.std.specs.Int.Bits.{bit_or}
 use Rattle.std.specs.List.{All}
+use Rattle.hart_frame.specs.declared.heard.character.Sum.{Sum}
 use Rattle.hart_frame.specs.heard.Body.{bytes_of}
 use Rattle.hart_frame.specs.heard.Character.{Character}
-use Rattle.hart_frame.specs.declared.heard.character.Sum.{Sum}
 
 pub record IsSum (chars : List Character) (sum : Sum) : Type 0 where
   pub check : sum.check ≡ fold bit_xor 0 (bytes_of chars)

@@ -1,12 +1,12 @@
 -- A list of characters has one first frame at most from a place on, and one list of frames.
 use Rattle.std.proofs.Common.{◌≡◌, ℕ, ◌-◌, List, length, take, drop, refl, sym, ◌∙◌, arith}
-use Rattle.hart_frame.specs.wire.FrameParts.{FrameParts}
-use Rattle.hart_frame.specs.wire.Body.{BeginsWithBody}
-use Rattle.hart_frame.specs.heard.Character.{Character}
-use Rattle.hart_frame.specs.heard.Body.{bytes_of}
-use Rattle.hart_frame.specs.heard.Place.{StandsIn}
-use Rattle.hart_frame.specs.heard.Frames.{IsFirst, AreFrames, none, first}
 use Rattle.hart_frame.specs.declared.heard.found.Found.{Found}
+use Rattle.hart_frame.specs.heard.Body.{bytes_of}
+use Rattle.hart_frame.specs.heard.Character.{Character}
+use Rattle.hart_frame.specs.heard.Frames.{IsFirst, AreFrames, none, first}
+use Rattle.hart_frame.specs.heard.Place.{StandsIn}
+use Rattle.hart_frame.specs.wire.Body.{BeginsWithBody}
+use Rattle.hart_frame.specs.wire.FrameParts.{FrameParts}
 use Rattle.hart_frame.proofs.lemmas.heard.Body.{BeginsWithBody-heard}
 use Rattle.hart_frame.proofs.lemmas.heard.Place.{StandsIn-hears}
 

@@ -1,17 +1,16 @@
 -- A buffer stays sound, and what it stands for then.
-use Rattle.std.proofs.lemmas.Grind.{common_steps}
-use Rattle.std.proofs.Common.{◌≡◌, ℕ, ◌+◌, ◌-◌, ◌≤◌, true, IsTrue, List, [], ◌++◌, length}
-use Rattle.std.proofs.Common.{take, drop, None, sym, arith}
+use Rattle.std.proofs.Common.{◌≡◌, ℕ, ◌+◌, ◌-◌, ◌≤◌, true, IsTrue, List, [], ◌++◌, length, take, drop, None, sym, arith}
 use Rattle.std.proofs.Math.Seq.{drop-append-add, drop-append_seam}
+use Rattle.std.proofs.lemmas.Grind.{common_steps}
 use Rattle.std.proofs.lemmas.List.{append-nil, drop-append-le, drop-drop, drop-take}
+use Rattle.hart_frame.specs.declared.scan.buffer.Buffer.{Buffer}
+use Rattle.hart_frame.specs.declared.scan.buffer.State.{State}
+use Rattle.hart_frame.specs.declared.scan.buffer.State.TheVariants.{Busy, Drained}
 use Rattle.hart_frame.specs.heard.Character.{faultless}
 use Rattle.hart_frame.specs.heard.Frames.{IsUndecided}
 use Rattle.hart_frame.specs.scan.Buffer.{IsSound, IsWaiting, held_bytes, is_drained, scan_of}
 use Rattle.hart_frame.specs.scan.Decision.{NoneBeginHeld}
 use Rattle.hart_frame.specs.scan.Scanner.{GivesNothing, Scan, MovesPast, Waits}
-use Rattle.hart_frame.specs.declared.scan.buffer.Buffer.{Buffer}
-use Rattle.hart_frame.specs.declared.scan.buffer.State.{State}
-use Rattle.hart_frame.specs.declared.scan.buffer.State.TheVariants.{Busy, Drained}
 use Rattle.hart_frame.proofs.lemmas.scan.Candidate.{undecided_open}
 use Rattle.hart_frame.proofs.lemmas.scan.Scan.{moves_none, moves_places}
 use Rattle.hart_frame.proofs.lemmas.scan.Search.{take_both}

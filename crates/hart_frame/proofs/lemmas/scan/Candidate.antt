@@ -1,35 +1,32 @@
 -- What is known of bytes by how they begin.
-use Rattle.hart_frame.specs.declared.heard.found.Found.{Found}
-use Rattle.hart_frame.specs.heard.Place.{StandsIn}
-use Rattle.hart_frame.proofs.lemmas.wire.Truncated.{truncated_check}
-use Rattle.std.proofs.Common.{◌≡◌, ◌≢◌, ℕ, zero, suc, ◌+◌, ◌<◌, ◌≤◌, inl, inr, List, [], ◌∷◌, ◌++◌, length, take, drop, get_or, refl}
-use Rattle.std.proofs.Common.{sym, arith, subst, append_assoc}
-use Rattle.std.proofs.lemmas.List.{append-nil, map-append, get_or-take}
-use Rattle.std.proofs.lemmas.List.{length-take, length-take-le, take-append-drop, take_all}
-use Rattle.std.proofs.lemmas.List.Elements.{All-from_get_or}
+use Rattle.std.proofs.Common.{◌≡◌, ◌≢◌, ℕ, zero, suc, ◌+◌, ◌<◌, ◌≤◌, inl, inr, List, [], ◌∷◌, ◌++◌, length, take, drop, get_or, refl, sym}
+use Rattle.std.proofs.Common.{arith, subst, append_assoc}
 use Rattle.std.proofs.Math.Seq.{take-append-add}
-use Rattle.hart_frame.specs.wire.FrameParts.{FrameParts}
+use Rattle.std.proofs.lemmas.List.{append-nil, map-append, get_or-take, length-take, length-take-le, take-append-drop, take_all}
+use Rattle.std.proofs.lemmas.List.Elements.{All-from_get_or}
+use Rattle.hart_frame.specs.declared.heard.found.Found.{Found}
+use Rattle.hart_frame.specs.declared.scan.candidate.Candidate.TheVariants.{Never, Whole}
+use Rattle.hart_frame.specs.declared.wire.fault.FrameFault.TheVariants.{BadCheck, Truncated}
+use Rattle.hart_frame.specs.declared.wire.layout.Layout.{Layout}
+use Rattle.hart_frame.specs.heard.Body.{bytes_of, BeginsWithHeard}
+use Rattle.hart_frame.specs.heard.Character.{Character, faultless, faultless_bytes}
+use Rattle.hart_frame.specs.heard.Frames.{IsUndecided}
+use Rattle.hart_frame.specs.heard.Place.{StandsIn}
+use Rattle.hart_frame.specs.scan.Candidate.{BeginWithNone, IsBodyCandidate, IsCandidate, IsWholeBody, MayBegin, MayBeginBefore}
+use Rattle.hart_frame.specs.scan.Candidate.{NothingFollows, NeverBecomeBody, NeverBegin}
 use Rattle.hart_frame.specs.wire.Body.{IsBody}
+use Rattle.hart_frame.specs.wire.FrameParts.{FrameParts}
 use Rattle.hart_frame.specs.wire.Layout.{Describes, body_length, layout_length}
 use Rattle.hart_frame.specs.wire.Parity.{HasEvenParity, IsCheckByte}
 use Rattle.hart_frame.specs.wire.Refusal.{HasCheckByte, IsTruncated}
-use Rattle.hart_frame.specs.heard.Character.{Character, faultless}
-use Rattle.hart_frame.specs.heard.Body.{bytes_of, BeginsWithHeard}
-use Rattle.hart_frame.specs.heard.Frames.{IsUndecided}
-use Rattle.hart_frame.specs.scan.Candidate.{BeginWithNone, IsBodyCandidate, IsCandidate, IsWholeBody}
-use Rattle.hart_frame.specs.scan.Candidate.{MayBegin, MayBeginBefore, NothingFollows}
-use Rattle.hart_frame.specs.scan.Candidate.{NeverBecomeBody, NeverBegin}
-use Rattle.hart_frame.specs.declared.wire.fault.FrameFault.TheVariants.{BadCheck, Truncated}
-use Rattle.hart_frame.specs.declared.wire.layout.Layout.{Layout}
-use Rattle.hart_frame.specs.declared.scan.candidate.Candidate.TheVariants.{Never, Whole}
 use Rattle.hart_frame.proofs.lemmas.heard.Body.{BeginsWithBody-heard, bytes_of-faultless}
-use Rattle.hart_frame.proofs.lemmas.wire.Prefix.{Describes-prefix, HasCheckByte-prefix, refused_more}
-use Rattle.hart_frame.proofs.lemmas.heard.Place.{StandsIn-within, preamble}
-use Rattle.hart_frame.proofs.lemmas.wire.Parity.{check-even, even-check}
-use Rattle.hart_frame.proofs.lemmas.wire.Refusal.{not_refused}
-use Rattle.hart_frame.proofs.lemmas.scan.Scan.{skip_one}
-use Rattle.hart_frame.specs.heard.Character.{faultless_bytes}
 use Rattle.hart_frame.proofs.lemmas.heard.Front.{faultless_bytes-append, faultless_bytes-end}
+use Rattle.hart_frame.proofs.lemmas.heard.Place.{StandsIn-within, preamble}
+use Rattle.hart_frame.proofs.lemmas.scan.Scan.{skip_one}
+use Rattle.hart_frame.proofs.lemmas.wire.Parity.{check-even, even-check}
+use Rattle.hart_frame.proofs.lemmas.wire.Prefix.{Describes-prefix, HasCheckByte-prefix, refused_more}
+use Rattle.hart_frame.proofs.lemmas.wire.Refusal.{not_refused}
+use Rattle.hart_frame.proofs.lemmas.wire.Truncated.{truncated_check}
 use Rattle.hart_frame.proofs.lemmas.wire.UnambiguousBodies.{BeginsWithBody-append}
 
 bytes_of_append : (xs : List ℕ) (tail : List Character) → bytes_of (faultless xs ++ tail) ≡ xs ++ bytes_of tail

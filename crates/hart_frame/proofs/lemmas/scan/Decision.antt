@@ -1,11 +1,13 @@
 -- What is decided of a buffer, and what is given then.
-use Rattle.hart_frame.proofs.lemmas.scan.Next.{body_at_place}
-use Rattle.std.proofs.Common.{◌≡◌, ◌≢◌, ℕ, ◌+◌, ◌-◌, ◌≤◌, ◌⊎◌, ◌↔◌, inl, inr, Bool, true, false, IsTrue, List, [], ◌∷◌, ◌++◌, length}
-use Rattle.std.proofs.Common.{take, drop, Option, Some, None, refl, ap, ◌∙◌, arith, subst, append_assoc, length-append, length-drop}
-use Rattle.std.specs.Option.{IfSome, MatchOption, is_some, option_to_list}
+use Rattle.std.proofs.Common.{◌≡◌, ◌≢◌, ℕ, ◌+◌, ◌-◌, ◌≤◌, ◌⊎◌, ◌↔◌, inl, inr, Bool, true, false, IsTrue, List, [], ◌∷◌, ◌++◌, length, take}
+use Rattle.std.proofs.Common.{drop, Option, Some, None, refl, ap, ◌∙◌, arith, subst, append_assoc, length-append, length-drop}
 use Rattle.std.proofs.lemmas.List.{drop_at, map-append}
-use Rattle.hart_frame.specs.wire.Body.{IsCheckedPart}
-use Rattle.hart_frame.specs.wire.Layout.{body_length, layout_length}
+use Rattle.std.specs.Option.{IfSome, MatchOption, is_some, option_to_list}
+use Rattle.hart_frame.specs.declared.scan.buffer.Buffer.{Buffer}
+use Rattle.hart_frame.specs.declared.scan.buffer.Span.{Span}
+use Rattle.hart_frame.specs.declared.scan.buffer.State.TheVariants.{Busy, Drained, Stands}
+use Rattle.hart_frame.specs.declared.scan.search.Sighting.{Sighting}
+use Rattle.hart_frame.specs.declared.wire.layout.Layout.{Layout}
 use Rattle.hart_frame.specs.heard.Character.{Character, faultless}
 use Rattle.hart_frame.specs.scan.Buffer.{IsEnded, IsSound, IsWaiting, held_bytes, is_drained, scan_of}
 use Rattle.hart_frame.specs.scan.Candidate.{IsWhole, NothingFollows}
@@ -13,17 +15,15 @@ use Rattle.hart_frame.specs.scan.Chunk.{BeginsWithFrame}
 use Rattle.hart_frame.specs.scan.Decision.{GivesSpan, HoldsWhole, IsHeldOpen, IsHeldSearched}
 use Rattle.hart_frame.specs.scan.Scanner.{Scan, MovesPast, GivesNothing}
 use Rattle.hart_frame.specs.scan.Search.{IsLeftOpen, IsSearchedToEnd}
-use Rattle.hart_frame.specs.declared.wire.layout.Layout.{Layout}
-use Rattle.hart_frame.specs.declared.scan.buffer.Buffer.{Buffer}
-use Rattle.hart_frame.specs.declared.scan.buffer.Span.{Span}
-use Rattle.hart_frame.specs.declared.scan.buffer.State.TheVariants.{Busy, Drained, Stands}
-use Rattle.hart_frame.specs.declared.scan.search.Sighting.{Sighting}
-use Rattle.hart_frame.proofs.lemmas.wire.BodiesFound.{held_frame}
-use Rattle.hart_frame.proofs.lemmas.wire.Body.{IsBody-whole}
+use Rattle.hart_frame.specs.wire.Body.{IsCheckedPart}
+use Rattle.hart_frame.specs.wire.Layout.{body_length, layout_length}
 use Rattle.hart_frame.proofs.lemmas.heard.Place.{preamble}
 use Rattle.hart_frame.proofs.lemmas.scan.Buffer.{held_passed, moves_passed, passed, waits}
+use Rattle.hart_frame.proofs.lemmas.scan.Next.{body_at_place}
 use Rattle.hart_frame.proofs.lemmas.scan.Scan.{moves_drop, moves_frame, moves_none, moves_then}
 use Rattle.hart_frame.proofs.lemmas.scan.Undecided.{nothing_before}
+use Rattle.hart_frame.proofs.lemmas.wire.BodiesFound.{held_frame}
+use Rattle.hart_frame.proofs.lemmas.wire.Body.{IsBody-whole}
 
 -- after what is held nothing follows that a frame can have, if it is ended
 ends_by : (o : Option Character) (finished : Bool) (more : List Character) → IfSome o (λ c. c.faults ≢ 0)

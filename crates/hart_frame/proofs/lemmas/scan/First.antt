@@ -1,24 +1,22 @@
 -- The first frame of a list, by what a scanner gave of it.
-use Rattle.hart_frame.proofs.lemmas.heard.Rest.{first_moved}
-use Rattle.std.proofs.Common.{add-zero}
-use Rattle.std.proofs.lemmas.Grind.{common_steps}
-use Rattle.std.proofs.Common.{◌≡◌, ℕ, ◌+◌, ◌≤◌, false, IsTrue, Option, Some, None, List, [], ◌∷◌, ◌++◌, length, take, drop}
-use Rattle.std.proofs.Common.{refl, sym, ap, ◌∙◌, arith}
-use Rattle.std.specs.Option.{MatchOption}
-use Rattle.std.proofs.lemmas.Bool.{false≢true}
-use Rattle.std.proofs.lemmas.List.{append-nil, length-take-le, take-append-drop}
+use Rattle.std.proofs.Common.{add-zero, ◌≡◌, ℕ, ◌+◌, ◌≤◌, false, IsTrue, Option, Some, None, List, [], ◌∷◌, ◌++◌, length, take, drop, refl}
+use Rattle.std.proofs.Common.{sym, ap, ◌∙◌, arith}
 use Rattle.std.proofs.Math.Seq.{take-length}
+use Rattle.std.proofs.lemmas.Bool.{false≢true}
+use Rattle.std.proofs.lemmas.Grind.{common_steps}
+use Rattle.std.proofs.lemmas.List.{append-nil, length-take-le, take-append-drop}
+use Rattle.std.specs.Option.{MatchOption}
+use Rattle.hart_frame.specs.declared.heard.found.Found.{Found}
 use Rattle.hart_frame.specs.heard.Character.{Character}
 use Rattle.hart_frame.specs.heard.Frames.{HasNoFrame, IsFirst}
 use Rattle.hart_frame.specs.scan.Chunk.{StopsAt}
 use Rattle.hart_frame.specs.scan.First.{IsFirstIn}
 use Rattle.hart_frame.specs.scan.Scanner.{Scan, Gives, GivesNothing, MovesPast, finishing, hearing, new_scan}
 use Rattle.hart_frame.specs.scan.Streamed.{IsHistory, begin, finish, push_chars, take_view, wait}
-use Rattle.hart_frame.specs.declared.heard.found.Found.{Found}
 use Rattle.hart_frame.proofs.lemmas.Laws.{frames_are_unambiguous-one_list}
 use Rattle.hart_frame.proofs.lemmas.heard.FramesFound.{AreFrames-found}
 use Rattle.hart_frame.proofs.lemmas.heard.Place.{StandsIn-within}
-use Rattle.hart_frame.proofs.lemmas.heard.Rest.{stands_in}
+use Rattle.hart_frame.proofs.lemmas.heard.Rest.{first_moved, stands_in}
 use Rattle.hart_frame.proofs.lemmas.scan.Stream.{history_all, history_first}
 use Rattle.hart_frame.proofs.lemmas.scan.Undecided.{head_first, holds_gives, no_frames, waits_only}
 

@@ -1,21 +1,21 @@
 -- The next frame of bytes, as that of a scanner that holds the rest of them.
+use Rattle.std.proofs.Common.{◌≡◌, ℕ, ◌+◌, ◌-◌, ◌≤◌, Bool, false, List, [], ◌∷◌, ◌++◌, Some, None, length, take, drop, inl, ◌∙◌, ap, arith}
+use Rattle.std.proofs.Common.{append_assoc, length-append, length-drop, refl, sym, take-append-drop}
 use Rattle.std.proofs.lemmas.Grind.{common_steps}
-use Rattle.std.proofs.Common.{◌≡◌, ℕ, ◌+◌, ◌-◌, ◌≤◌, Bool, false, List, [], ◌∷◌, ◌++◌, Some, None, length, take, drop, inl}
-use Rattle.std.proofs.Common.{◌∙◌, ap, arith, append_assoc, length-append, length-drop, refl, sym, take-append-drop}
-use Rattle.std.specs.List.{slice_range}
 use Rattle.std.proofs.lemmas.List.{append-nil, drop-drop, drop_all, drop_at, length-map, length-take-le, map-append, take_at}
+use Rattle.std.specs.List.{slice_range}
+use Rattle.hart_frame.specs.declared.heard.found.Found.{Found}
+use Rattle.hart_frame.specs.declared.scan.search.Sighting.{Sighting}
+use Rattle.hart_frame.specs.declared.wire.layout.Layout.{Layout}
 use Rattle.hart_frame.specs.heard.Character.{Character, faultless}
 use Rattle.hart_frame.specs.heard.Frames.{IsUndecided}
-use Rattle.hart_frame.specs.wire.Body.{IsBody}
-use Rattle.hart_frame.specs.wire.FrameParts.{FrameParts}
-use Rattle.hart_frame.specs.wire.Layout.{layout_length}
 use Rattle.hart_frame.specs.scan.Candidate.{IsWhole}
 use Rattle.hart_frame.specs.scan.Next.{LeadsOn}
 use Rattle.hart_frame.specs.scan.Scanner.{CanHear, MovesPast, Scan}
 use Rattle.hart_frame.specs.scan.Search.{IsSearchedToEnd, NoneBeginThen}
-use Rattle.hart_frame.specs.declared.heard.found.Found.{Found}
-use Rattle.hart_frame.specs.declared.wire.layout.Layout.{Layout}
-use Rattle.hart_frame.specs.declared.scan.search.Sighting.{Sighting}
+use Rattle.hart_frame.specs.wire.Body.{IsBody}
+use Rattle.hart_frame.specs.wire.FrameParts.{FrameParts}
+use Rattle.hart_frame.specs.wire.Layout.{layout_length}
 use Rattle.hart_frame.proofs.lemmas.scan.Candidate.{undecided_open}
 use Rattle.hart_frame.proofs.lemmas.scan.Scan.{moves_frame, moves_places, moves_then}
 

@@ -1,22 +1,21 @@
 -- What is known of bytes while they are searched, and of a search that is joined of two.
-use Rattle.hart_frame.proofs.lemmas.wire.Truncated.{truncated_check, truncated_count}
-use Rattle.std.proofs.lemmas.Grind.{common_steps}
 use Rattle.std.proofs.Common.{Some, None, ◌≡◌, ◌≢◌, ℕ, zero, suc, ◌+◌, ◌-◌, ◌<◌, ◌≤◌, ◌⊎◌, inl, inr, List, [], ◌∷◌, ◌++◌, length, take}
-use Rattle.std.proofs.Common.{drop, get_or, refl, sym, ap, ◌∙◌, max, arith, subst, append_assoc, length-append, length-drop}
-use Rattle.std.specs.List.{All}
-use Rattle.std.proofs.lemmas.List.{drop-append-le, drop-take, drop_all, drop_more, get_or-drop, get_or-take, length-take-le, take_rest}
+use Rattle.std.proofs.Common.{drop, get_or, refl, sym, ap, ◌∙◌, max, arith, subst, append_assoc, length-append, length-drop, Option}
+use Rattle.std.proofs.Common.{add-zero}
 use Rattle.std.proofs.Math.Seq.{take-add, take-append-add}
-use Rattle.std.proofs.Common.{Option, add-zero}
+use Rattle.std.proofs.lemmas.Grind.{common_steps}
+use Rattle.std.proofs.lemmas.List.{drop-append-le, drop-take, drop_all, drop_more, get_or-drop, get_or-take, length-take-le, take_rest}
+use Rattle.std.specs.List.{All}
 use Rattle.std.specs.Option.{MatchOption}
-use Rattle.hart_frame.specs.scan.Search.{IsOpenAll}
-use Rattle.hart_frame.specs.wire.Layout.{layout_length}
-use Rattle.hart_frame.specs.wire.Refusal.{IsTruncated}
-use Rattle.hart_frame.specs.scan.Candidate.{IsCandidate, IsWhole, MayBegin, MayBeginBefore, NeverBecomeBody, NeverBegin}
-use Rattle.hart_frame.specs.scan.Search.{HasThree, IsNextCandidate, IsOpenBefore, IsOpenFrom, IsSearched, NoneBegin}
+use Rattle.hart_frame.specs.declared.scan.candidate.Candidate.TheVariants.{Never}
 use Rattle.hart_frame.specs.declared.wire.fault.FrameFault.TheVariants.{BadDelimiter}
 use Rattle.hart_frame.specs.declared.wire.layout.Layout.{Layout}
-use Rattle.hart_frame.specs.declared.scan.candidate.Candidate.TheVariants.{Never}
+use Rattle.hart_frame.specs.scan.Candidate.{IsCandidate, IsWhole, MayBegin, MayBeginBefore, NeverBecomeBody, NeverBegin}
+use Rattle.hart_frame.specs.scan.Search.{IsOpenAll, HasThree, IsNextCandidate, IsOpenBefore, IsOpenFrom, IsSearched, NoneBegin}
+use Rattle.hart_frame.specs.wire.Layout.{layout_length}
+use Rattle.hart_frame.specs.wire.Refusal.{IsTruncated}
 use Rattle.hart_frame.proofs.lemmas.scan.Candidate.{may_begin_before, never_after, never_first, never_more}
+use Rattle.hart_frame.proofs.lemmas.wire.Truncated.{truncated_check, truncated_count}
 
 -- what lies after a place of the first bytes of a list
 pub drop_take : (xs : List ℕ) (n m : ℕ) → n ≤ m → drop n (take m xs) ≡ take (m - n) (drop n xs)

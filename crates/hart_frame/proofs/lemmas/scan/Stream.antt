@@ -1,13 +1,12 @@
 -- The frames given since a scanner was new are the first of what was pushed, and all of them after the finish.
+use Rattle.std.proofs.Common.{◌≡◌, ◌+◌, false, IsTrue, List, [], ◌∷◌, ◌++◌, length, map, drop, refl, append_assoc, arith, length-append}
 use Rattle.std.proofs.lemmas.Grind.{common_steps}
-use Rattle.std.proofs.Common.{◌≡◌, ◌+◌, false, IsTrue, List, [], ◌∷◌, ◌++◌, length, map, drop, refl, append_assoc, arith}
-use Rattle.std.proofs.Common.{length-append}
 use Rattle.std.proofs.lemmas.List.{append-nil, drop-append-le, drop_at}
+use Rattle.hart_frame.specs.declared.heard.found.Found.{Found}
 use Rattle.hart_frame.specs.heard.Character.{Character, faultless}
 use Rattle.hart_frame.specs.heard.Frames.{AreFrames, moved}
 use Rattle.hart_frame.specs.scan.Scanner.{Scan, CanHear, MovesPast, hearing}
 use Rattle.hart_frame.specs.scan.Streamed.{IsHistory, IsWholeHistory, begin, push, push_bytes, push_chars, take_view, wait, finish}
-use Rattle.hart_frame.specs.declared.heard.found.Found.{Found}
 use Rattle.hart_frame.proofs.lemmas.heard.Delivery.{OneList}
 use Rattle.hart_frame.proofs.lemmas.heard.FramesFound.{AreFrames-found}
 use Rattle.hart_frame.proofs.lemmas.heard.Rest.{rest_frames}

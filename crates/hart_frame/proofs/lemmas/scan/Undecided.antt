@@ -1,17 +1,17 @@
 -- What a scanner keeps of what it is to decide.
+use Rattle.std.proofs.Common.{◌≡◌, ℕ, ◌+◌, ◌-◌, ◌<◌, ◌≤◌, ◌⊎◌, inl, inr, false, List, [], ◌∷◌, ◌++◌, length, replicate, drop, refl, sym, ap}
+use Rattle.std.proofs.Common.{◌∙◌, arith, append_assoc, length-append, length-drop}
 use Rattle.std.proofs.lemmas.Grind.{common_steps}
-use Rattle.std.proofs.Common.{◌≡◌, ℕ, ◌+◌, ◌-◌, ◌<◌, ◌≤◌, ◌⊎◌, inl, inr, false, List, [], ◌∷◌, ◌++◌, length, replicate, drop, refl}
-use Rattle.std.proofs.Common.{sym, ap, ◌∙◌, arith, append_assoc, length-append, length-drop}
 use Rattle.std.proofs.lemmas.List.{append-nil, drop_at, drop-append-le, get_or_at, get_or_append_left, get_or-replicate, length-replicate}
-use Rattle.hart_frame.specs.heard.Character.{Character, faultless}
-use Rattle.hart_frame.proofs.lemmas.heard.Rest.{stands_after, stands_in}
-use Rattle.hart_frame.specs.heard.Place.{StandsIn}
-use Rattle.hart_frame.specs.heard.Frames.{AreFrames, HasNoFrame, IsFirst, IsUndecided, none, first}
-use Rattle.hart_frame.specs.scan.Scanner.{Scan, CanHear, MovesPast, Gives, Waits, GivesNothing}
-use Rattle.hart_frame.specs.scan.Chunk.{BeginsWithFrame}
 use Rattle.hart_frame.specs.declared.heard.found.Found.{Found}
+use Rattle.hart_frame.specs.heard.Character.{Character, faultless}
+use Rattle.hart_frame.specs.heard.Frames.{AreFrames, HasNoFrame, IsFirst, IsUndecided, none, first}
+use Rattle.hart_frame.specs.heard.Place.{StandsIn}
+use Rattle.hart_frame.specs.scan.Chunk.{BeginsWithFrame}
+use Rattle.hart_frame.specs.scan.Scanner.{Scan, CanHear, MovesPast, Gives, Waits, GivesNothing}
 use Rattle.hart_frame.proofs.lemmas.heard.FramesFound.{AreFrames-found}
 use Rattle.hart_frame.proofs.lemmas.heard.Place.{preamble, StandsIn-within}
+use Rattle.hart_frame.proofs.lemmas.heard.Rest.{stands_after, stands_in}
 
 -- a character that is no preamble byte
 abbrev other : Character

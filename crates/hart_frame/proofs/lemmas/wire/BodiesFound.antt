@@ -1,29 +1,27 @@
 -- Whether bytes begin with a body is decided.
-use Rattle.hart_frame.proofs.lemmas.wire.Refusal.{has_check}
-use Rattle.std.proofs.lemmas.Grind.{common_steps}
-use Rattle.std.proofs.Common.{◌≡◌, ℕ, zero, suc, fold, bit_xor, ◌+◌, ◌-◌, ◌*◌, ◌/◌, ◌%◌, ◌<◌, ◌≤◌, ◌⊎◌, inl, inr, Bool}
-use Rattle.std.proofs.Common.{List, [], ◌∷◌, length, take, get_or, refl, ap, ◌∙◌, arith}
+use Rattle.std.proofs.Common.{◌≡◌, ℕ, zero, suc, fold, bit_xor, ◌+◌, ◌-◌, ◌*◌, ◌/◌, ◌%◌, ◌<◌, ◌≤◌, ◌⊎◌, inl, inr, Bool, List, [], ◌∷◌}
+use Rattle.std.proofs.Common.{length, take, get_or, refl, ap, ◌∙◌, arith}
+use Rattle.std.proofs.lemmas.Grind.{common_steps, get_or_after_one}
+use Rattle.std.proofs.lemmas.List.{get_or-take, get_or_past, length-take-le}
+use Rattle.std.proofs.lemmas.List.Elements.{All-from_get_or, All-get_or}
 use Rattle.std.specs.List.{All, slice_range}
 use Rattle.hart_values.specs.address.AddressBytes.{IsAddressBytes, first_byte}
-use Rattle.hart_values.specs.declared.master_id.MasterId.{MasterId}
 use Rattle.hart_values.specs.declared.address.Address.{Address}
 use Rattle.hart_values.specs.declared.address.Address.TheVariants.{Polling, Unique}
-use Rattle.std.proofs.lemmas.List.Elements.{All-from_get_or, All-get_or}
-use Rattle.std.proofs.lemmas.List.{get_or-take, get_or_past, length-take-le}
-use Rattle.std.proofs.lemmas.Grind.{get_or_after_one}
+use Rattle.hart_values.specs.declared.master_id.MasterId.{MasterId}
+use Rattle.hart_frame.specs.declared.wire.fault.FrameFault.TheVariants.{BadCheck}
 use Rattle.hart_frame.specs.declared.wire.kind.FrameKind.{FrameKind}
 use Rattle.hart_frame.specs.declared.wire.layout.Layout.{Layout}
-use Rattle.hart_frame.specs.wire.FrameParts.{FrameParts, IsLongEnough}
-use Rattle.hart_frame.specs.wire.Delimiter.{kind_code}
 use Rattle.hart_frame.specs.wire.Body.{IsCheckedPart, BeginsWithBody, HasNoBody}
+use Rattle.hart_frame.specs.wire.Delimiter.{kind_code}
+use Rattle.hart_frame.specs.wire.FrameParts.{FrameParts, IsLongEnough}
 use Rattle.hart_frame.specs.wire.Layout.{Describes, delimiter_in, address_end, command_place, byte_count_in, body_length}
-use Rattle.hart_frame.specs.wire.Refusal.{IsDelimiter, HasCheckByte}
 use Rattle.hart_frame.specs.wire.Parity.{IsCheckByte}
-use Rattle.hart_frame.specs.declared.wire.fault.FrameFault.TheVariants.{BadCheck}
-use Rattle.hart_frame.proofs.lemmas.wire.Parity.{IsCheckByte-fold, check-even}
+use Rattle.hart_frame.specs.wire.Refusal.{IsDelimiter, HasCheckByte}
 use Rattle.hart_frame.proofs.lemmas.wire.Body.{BeginsWithBody-prefix}
-use Rattle.hart_frame.proofs.lemmas.wire.Refusal.{says, not_refused}
 use Rattle.hart_frame.proofs.lemmas.wire.Layout.{IsCheckedPart-in, StandsByLayout, length-slice_range}
+use Rattle.hart_frame.proofs.lemmas.wire.Parity.{IsCheckByte-fold, check-even}
+use Rattle.hart_frame.proofs.lemmas.wire.Refusal.{has_check, says, not_refused}
 
 -- what the first byte of an address holds
 pub record FirstByte (byte : ℕ) : Type 0 where

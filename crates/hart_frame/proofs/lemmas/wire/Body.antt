@@ -1,12 +1,12 @@
 -- What a body consists of.
-use Rattle.std.proofs.lemmas.Grind.{common_steps}
 use Rattle.std.proofs.Common.{ℕ, ◌-◌, ◌<◌, ◌≤◌, List, [], ◌∷◌, ◌++◌, length, take, arith}
-use Rattle.std.specs.List.{All}
-use Rattle.std.proofs.lemmas.List.Elements.{All-push}
+use Rattle.std.proofs.lemmas.Grind.{common_steps}
 use Rattle.std.proofs.lemmas.List.{take_more, take_all}
+use Rattle.std.proofs.lemmas.List.Elements.{All-push}
+use Rattle.std.specs.List.{All}
+use Rattle.hart_frame.specs.wire.Body.{IsBody, IsCheckedPart, BeginsWithBody}
 use Rattle.hart_frame.specs.wire.FrameParts.{FrameParts}
 use Rattle.hart_frame.specs.wire.Parity.{IsCheckByte, HasEvenParity}
-use Rattle.hart_frame.specs.wire.Body.{IsBody, IsCheckedPart, BeginsWithBody}
 use Rattle.hart_frame.proofs.lemmas.wire.Parity.{HasEvenParity-push, even-check}
 
 -- a check byte after the checked part makes a body

@@ -1,8 +1,8 @@
 -- How long bodies and messages are at most.
 use Rattle.std.proofs.Common.{◌≤◌, ℕ, List, [], length, replicate, ap, arith, length-append}
 use Rattle.std.proofs.lemmas.List.{append-nil, length-replicate}
-use Rattle.hart_frame.specs.wire.FrameParts.{FrameParts}
 use Rattle.hart_frame.specs.wire.Body.{IsBody}
+use Rattle.hart_frame.specs.wire.FrameParts.{FrameParts}
 use Rattle.hart_frame.specs.wire.Layout.{byte_count_place}
 use Rattle.hart_frame.specs.wire.Message.{IsMessage}
 use Rattle.hart_frame.proofs.lemmas.wire.Refusal.{says}

@@ -1,11 +1,11 @@
 -- What bytes say does not change when more bytes follow.
-use Rattle.std.proofs.lemmas.Grind.{common_steps}
 use Rattle.std.proofs.Common.{◌≡◌, ◌≢◌, ℕ, ◌<◌, ◌≤◌, List, ◌++◌, length, arith, length-append}
+use Rattle.std.proofs.lemmas.Grind.{common_steps}
 use Rattle.std.proofs.lemmas.List.{get_or_append_left, take-append-le}
 use Rattle.hart_frame.specs.declared.wire.fault.FrameFault.{FrameFault}
 use Rattle.hart_frame.specs.declared.wire.fault.FrameFault.TheVariants.{Truncated}
-use Rattle.hart_frame.specs.wire.Layout.{Describes, delimiter_in, byte_count_place, byte_count_in, body_length}
 use Rattle.hart_frame.specs.declared.wire.layout.Layout.{Layout}
+use Rattle.hart_frame.specs.wire.Layout.{Describes, delimiter_in, byte_count_place, byte_count_in, body_length}
 use Rattle.hart_frame.specs.wire.Refusal.{IsRefusedWith, HasByteCount, HasGoodByteCount, HasCheckByte}
 
 pub delimiter_more : (xs ys : List ℕ) → 0 < length xs → delimiter_in (xs ++ ys) ≡ delimiter_in xs

@@ -1,20 +1,16 @@
 -- What begins with a body is not refused.
-use Rattle.std.proofs.Common.{◌%◌, ◌⊎◌}
-use Rattle.hart_frame.specs.declared.wire.kind.FrameKind.{FrameKind}
-use Rattle.hart_frame.specs.wire.FrameParts.{IsLongEnough}
-use Rattle.hart_frame.specs.wire.Delimiter.{kind_code}
-use Rattle.hart_frame.specs.wire.Refusal.{HasCheckByte}
+use Rattle.std.proofs.Common.{◌%◌, ◌⊎◌, ◌≡◌, ℕ, ◌+◌, ◌*◌, ◌<◌, ◌≤◌, List, [], ◌∷◌, ◌++◌, length, take, drop, get_or, sym, ap, ◌∙◌, arith}
+use Rattle.std.proofs.Common.{append_assoc, length-append, Result, Ok, Err}
 use Rattle.std.proofs.lemmas.Grind.{common_steps}
-use Rattle.std.proofs.Common.{◌≡◌, ℕ, ◌+◌, ◌*◌, ◌<◌, ◌≤◌, List, [], ◌∷◌, ◌++◌, length, take, drop, get_or, sym, ap}
-use Rattle.std.proofs.Common.{◌∙◌, arith, append_assoc, length-append, Result, Ok, Err}
-use Rattle.std.specs.Result.{IfOk, IfErr}
 use Rattle.std.proofs.lemmas.List.{length-take-le, take-append-drop, get_or_at}
+use Rattle.std.specs.Result.{IfOk, IfErr}
 use Rattle.hart_frame.specs.declared.wire.fault.FrameFault.{FrameFault}
-use Rattle.hart_frame.specs.wire.FrameParts.{FrameParts}
-use Rattle.hart_frame.specs.wire.Delimiter.{delimiter_of, address_type}
-use Rattle.hart_frame.specs.wire.Layout.{delimiter_in, byte_count_place, byte_count_in, body_length}
-use Rattle.hart_frame.specs.wire.Refusal.{IsRefusedWith, IsDelimiter}
+use Rattle.hart_frame.specs.declared.wire.kind.FrameKind.{FrameKind}
 use Rattle.hart_frame.specs.wire.Body.{BeginsWithBody}
+use Rattle.hart_frame.specs.wire.Delimiter.{kind_code, delimiter_of, address_type}
+use Rattle.hart_frame.specs.wire.FrameParts.{IsLongEnough, FrameParts}
+use Rattle.hart_frame.specs.wire.Layout.{delimiter_in, byte_count_place, byte_count_in, body_length}
+use Rattle.hart_frame.specs.wire.Refusal.{HasCheckByte, IsRefusedWith, IsDelimiter}
 use Rattle.hart_frame.proofs.lemmas.wire.UnambiguousBodies.{length-address, address_type-lt, kind_code-is, spread}
 
 -- what a list that begins with a frame's body says of it

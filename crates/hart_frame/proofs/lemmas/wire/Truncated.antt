@@ -1,23 +1,21 @@
 -- Bytes that end too early are those that can become a body.
-use Rattle.std.proofs.Math.Seq.{take-append_seam}
-use Rattle.std.proofs.lemmas.List.{get_or-take, length-take-le}
-use Rattle.hart_frame.proofs.lemmas.wire.Refusal.{has_check}
-use Rattle.std.proofs.lemmas.Grind.{common_steps}
 use Rattle.std.proofs.Common.{◌≡◌, ℕ, fold, bit_xor, ◌+◌, ◌-◌, ◌<◌, ◌≤◌, ◌⊎◌, inl, inr, List, [], ◌∷◌, ◌++◌, length, take, get_or}
 use Rattle.std.proofs.Common.{replicate, refl, sym, ◌∙◌, arith, append_assoc, length-append}
-use Rattle.std.specs.List.{All}
-use Rattle.std.proofs.lemmas.List.{take_at, take_all, take-append-le, get_or_at, get_or_past, length-replicate}
+use Rattle.std.proofs.Math.Seq.{take-append_seam}
+use Rattle.std.proofs.lemmas.Grind.{common_steps}
+use Rattle.std.proofs.lemmas.List.{get_or-take, length-take-le, take_at, take_all, take-append-le, get_or_at, get_or_past, length-replicate}
 use Rattle.std.proofs.lemmas.List.Elements.{All-append, All-replicate, All-push, All-get_or}
-use Rattle.hart_frame.specs.wire.FrameParts.{FrameParts}
+use Rattle.std.specs.List.{All}
 use Rattle.hart_frame.specs.wire.Body.{IsBody, BeginsWithBody, HasNoBody, CanBecomeBody}
+use Rattle.hart_frame.specs.wire.FrameParts.{FrameParts}
 use Rattle.hart_frame.specs.wire.Layout.{byte_count_place, byte_count_in, body_length}
 use Rattle.hart_frame.specs.wire.Parity.{IsCheckByte}
 use Rattle.hart_frame.specs.wire.Refusal.{HasDelimiter, HasGoodByteCount, IsTruncated}
-use Rattle.hart_frame.proofs.lemmas.wire.Parity.{IsCheckByte-fold}
-use Rattle.hart_frame.proofs.lemmas.wire.Body.{IsBody-push}
-use Rattle.hart_frame.proofs.lemmas.wire.Refusal.{says}
 use Rattle.hart_frame.proofs.lemmas.wire.BodiesFound.{held_frame, Fit}
+use Rattle.hart_frame.proofs.lemmas.wire.Body.{IsBody-push}
+use Rattle.hart_frame.proofs.lemmas.wire.Parity.{IsCheckByte-fold}
 use Rattle.hart_frame.proofs.lemmas.wire.Prefix.{HasGoodByteCount-more, count_more, count_place_more, delimiter_more}
+use Rattle.hart_frame.proofs.lemmas.wire.Refusal.{has_check, says}
 
 -- every element is a byte
 abbrev AreBytes : List ℕ → Type 0

@@ -1,19 +1,19 @@
 -- A list of bytes begins with one body at most, and that body has one frame at most.
-use Rattle.std.proofs.lemmas.Grind.{common_steps}
 use Rattle.std.proofs.Common.{◌≡◌, ℕ, ◌+◌, ◌*◌, ◌<◌, ◌≤◌, Bool, List, [], ◌∷◌, ◌++◌, length, take, drop, refl, sym, ◌∙◌, arith}
 use Rattle.std.proofs.Common.{append_assoc, length-append}
+use Rattle.std.proofs.lemmas.Grind.{common_steps}
 use Rattle.std.proofs.lemmas.List.{take_at, drop_at, append_cancel_right, take-append-drop, length-take-le}
-use Rattle.std.specs.List.{All}
 use Rattle.std.proofs.lemmas.List.Elements.{All-same, All-drop, All-head}
-use Rattle.hart_values.specs.declared.master_id.MasterId.{MasterId}
-use Rattle.hart_values.specs.declared.address.Address.{Address}
+use Rattle.std.specs.List.{All}
 use Rattle.hart_values.specs.address.AddressBytes.{IsAddressBytes}
+use Rattle.hart_values.specs.declared.address.Address.{Address}
+use Rattle.hart_values.specs.declared.master_id.MasterId.{MasterId}
 use Rattle.hart_frame.specs.declared.wire.kind.FrameKind.{FrameKind}
 use Rattle.hart_frame.specs.declared.wire.kind.FrameKind.TheVariants.{Stx, Ack}
-use Rattle.hart_frame.specs.wire.FrameParts.{FrameParts}
-use Rattle.hart_frame.specs.wire.Delimiter.{delimiter_of, kind_code, address_type}
-use Rattle.hart_frame.proofs.lemmas.wire.Parity.{check-one}
 use Rattle.hart_frame.specs.wire.Body.{IsBody, BeginsWithBody}
+use Rattle.hart_frame.specs.wire.Delimiter.{delimiter_of, kind_code, address_type}
+use Rattle.hart_frame.specs.wire.FrameParts.{FrameParts}
+use Rattle.hart_frame.proofs.lemmas.wire.Parity.{check-one}
 
 -- address bytes hold one master bit, one burst bit and one address
 abbrev pub OneReading : Type 0

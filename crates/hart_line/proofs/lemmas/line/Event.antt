@@ -1,16 +1,16 @@
 -- A submission on the line is that of the world.
 use Rattle.std.proofs.Common.{Option, [], ◌∷◌, ◌++◌, length, arith}
+use Rattle.hart_values.specs.EachMaster.{of_master, with_master}
 use Rattle.hart_values.specs.declared.address.Address.{Address}
 use Rattle.hart_values.specs.declared.master_id.MasterId.{MasterId}
-use Rattle.hart_values.specs.EachMaster.{of_master, with_master}
 use Rattle.hart_commands.specs.declared.request.Request.{Request}
 use Rattle.hart_master.specs.declared.fault.MasterFault.{MasterFault}
+use Rattle.hart_line.specs.declared.line.masters.Masters.{Masters}
+use Rattle.hart_line.specs.declared.line.report.Outcome.{Outcome}
 use Rattle.hart_line.specs.line.Line.{LineState, Stands}
 use Rattle.hart_line.specs.line.Masters.{AreHeld, Submits}
 use Rattle.hart_line.specs.world.Step.{submitted}
 use Rattle.hart_line.specs.world.World.{Start, World}
-use Rattle.hart_line.specs.declared.line.masters.Masters.{Masters}
-use Rattle.hart_line.specs.declared.line.report.Outcome.{Outcome}
 
 pub submitted_stands : (start : Start) (world : World) (who : MasterId) (address : Address) (request : Request)
     (fault : Option MasterFault) (outcome : Outcome) (line : LineState) (masters : Masters) → Stands start world line

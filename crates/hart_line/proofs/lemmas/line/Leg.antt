@@ -1,29 +1,28 @@
 -- What arrives in a leg, what it brings the device, and what is spoken.
+use Rattle.std.proofs.Common.{◌≡◌, ℕ, ◌≤◌, ap, refl, arith, length-append, Option, None, Some, List, [], ◌∷◌, ◌++◌, length, replicate}
 use Rattle.std.proofs.lemmas.Grind.{common_steps}
-use Rattle.std.proofs.Common.{◌≡◌, ℕ, ◌≤◌, ap, refl, arith, length-append, Option, None, Some, List, [], ◌∷◌, ◌++◌, length}
-use Rattle.std.proofs.Common.{replicate}
+use Rattle.std.specs.Option.{MatchOption}
+use Rattle.hart_values.specs.declared.master_id.MasterId.{MasterId}
 use Rattle.hart_frame.specs.heard.Character.{Character, faultless}
 use Rattle.hart_frame.specs.wire.FrameParts.{FrameParts}
 use Rattle.hart_frame.specs.wire.Message.{IsMessage}
 use Rattle.hart_frame.proofs.lemmas.Laws.{messages_have_their_frame_alone-message, messages_have_their_frame_alone-nothing}
-use Rattle.std.specs.Option.{MatchOption}
-use Rattle.hart_values.specs.declared.master_id.MasterId.{MasterId}
-use Rattle.hart_device.specs.answer.Delivery.{Brought, BringsBy, Garbled, NoMessage, OneFrame}
 use Rattle.hart_device.specs.Device.{DeviceState}
+use Rattle.hart_device.specs.answer.Delivery.{Brought, BringsBy, Garbled, NoMessage, OneFrame}
 use Rattle.hart_device.specs.answer.Garbled.{HasGarbled, garbled_reply}
 use Rattle.hart_device.specs.declared.answer.garbled.GarbledRequest.{GarbledRequest}
 use Rattle.hart_device.specs.declared.identity_parts.IdentityParts.{IdentityParts}
 use Rattle.hart_device.specs.declared.process.Process.{Process}
-use Rattle.hart_line.specs.world.Damage.{AreHeard, Arrives, ArrivesAmong, Reaches, ReachesAmong}
-use Rattle.hart_line.specs.line.Leg.{AnswersTo, IsSent, IsSpeakable}
-use Rattle.hart_line.specs.line.Masters.{Sends}
-use Rattle.hart_line.specs.world.Spoken.{SpokenFrame, Speaks, frame_of, master_preambles, party_of, spoken_by}
-use Rattle.hart_line.specs.world.Step.{sent_by}
-use Rattle.hart_line.specs.world.World.{InHand}
 use Rattle.hart_line.specs.declared.event.Heard.{Heard}
 use Rattle.hart_line.specs.declared.event.Heard.TheVariants.{Clean}
 use Rattle.hart_line.specs.declared.line.report.Party.{Party}
 use Rattle.hart_line.specs.declared.line.report.Spoken.{Spoken}
+use Rattle.hart_line.specs.line.Leg.{AnswersTo, IsSent, IsSpeakable}
+use Rattle.hart_line.specs.line.Masters.{Sends}
+use Rattle.hart_line.specs.world.Damage.{AreHeard, Arrives, ArrivesAmong, Reaches, ReachesAmong}
+use Rattle.hart_line.specs.world.Spoken.{SpokenFrame, Speaks, frame_of, master_preambles, party_of, spoken_by}
+use Rattle.hart_line.specs.world.Step.{sent_by}
+use Rattle.hart_line.specs.world.World.{InHand}
 
 -- WHAT CHARACTERS BRING
 -- A frame that arrives is brought.

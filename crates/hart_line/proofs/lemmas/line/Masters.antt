@@ -1,6 +1,6 @@
 -- What the masters of a line do is what the world says of their hands.
-use Rattle.std.proofs.lemmas.Grind.{common_steps}
 use Rattle.std.proofs.Common.{◌≡◌, ℕ, List, Option, Err, arith}
+use Rattle.std.proofs.lemmas.Grind.{common_steps}
 use Rattle.hart_values.specs.declared.address.Address.{Address}
 use Rattle.hart_values.specs.declared.master_id.MasterId.{MasterId}
 use Rattle.hart_frame.specs.wire.FrameParts.{FrameParts}
@@ -8,11 +8,11 @@ use Rattle.hart_commands.specs.declared.request.Request.{Request}
 use Rattle.hart_master.specs.Master.{hand_submitted, result_submitted}
 use Rattle.hart_master.specs.declared.fault.MasterFault.{MasterFault}
 use Rattle.hart_master.specs.declared.fault.Rejected.{Rejected}
+use Rattle.hart_line.specs.declared.line.report.Outcome.{Outcome}
+use Rattle.hart_line.specs.declared.line.report.Outcome.TheVariants.{Refused}
 use Rattle.hart_line.specs.line.Masters.{Concludes, Sends, Submits, hand_of}
 use Rattle.hart_line.specs.world.Step.{submission_fault}
 use Rattle.hart_line.specs.world.World.{InHand}
-use Rattle.hart_line.specs.declared.line.report.Outcome.{Outcome}
-use Rattle.hart_line.specs.declared.line.report.Outcome.TheVariants.{Refused}
 
 -- A submission that the master refuses is the one that the world refuses, and the hand stays.
 pub refused_submits : (held : Option InHand) (place : ℕ) (address : Address) (request : Request) (rejected : Rejected)

@@ -1,7 +1,6 @@
 -- How far a script has come.
-use Rattle.std.proofs.Common.{◌∷◌, arith}
+use Rattle.std.proofs.Common.{◌∷◌, arith, ◌≡◌, ℕ, ◌+◌, ◌≤◌, ◌<◌, sym, refl, subst, List, [], length, take, get_or, rules}
 use Rattle.std.proofs.lemmas.Grind.{common_steps}
-use Rattle.std.proofs.Common.{◌≡◌, ℕ, ◌+◌, ◌≤◌, ◌<◌, sym, refl, subst, List, [], length, take, get_or}
 use Rattle.std.proofs.lemmas.List.{take_all, take_more}
 use Rattle.std.proofs.lemmas.Option.{slice_get-get_or}
 use Rattle.hart_values.specs.declared.master_id.MasterId.TheVariants.{Primary, Secondary}
@@ -9,20 +8,18 @@ use Rattle.hart_device.specs.Device.{DeviceState}
 use Rattle.hart_device.specs.declared.process.Process.{Process}
 use Rattle.hart_master.specs.Master.{MasterState}
 use Rattle.hart_master.specs.declared.hand.Hand.TheVariants.{Empty}
-use Rattle.hart_line.specs.world.Faults.{HasUndetected, IsFault}
-use Rattle.hart_line.specs.line.Line.{LineState, Stands, Stepped}
-use Rattle.hart_line.specs.world.Promises.{start_from}
-use Rattle.hart_line.specs.world.Step.{IsLast}
-use Rattle.hart_line.specs.world.Promises.{AreWellMade}
-use Rattle.std.proofs.Common.{rules}
-use Rattle.hart_line.proofs.lemmas.world.Submitted.{made_more}
-use Rattle.hart_line.specs.world.World.{MarksWithin, Start, World, first_world, state_of}
 use Rattle.hart_line.specs.declared.event.LineEvent.{LineEvent}
 use Rattle.hart_line.specs.declared.fault.Leg.{Leg}
 use Rattle.hart_line.specs.declared.fault.LineFault.TheVariants.{Undetected}
+use Rattle.hart_line.specs.line.Line.{LineState, Stands, Stepped}
+use Rattle.hart_line.specs.world.Faults.{HasUndetected, IsFault}
+use Rattle.hart_line.specs.world.Promises.{start_from, AreWellMade}
+use Rattle.hart_line.specs.world.Step.{IsLast}
+use Rattle.hart_line.specs.world.World.{MarksWithin, Start, World, first_world, state_of}
 use Rattle.hart_line.proofs.lemmas.world.Leads.{leads_one}
-use Rattle.hart_line.proofs.lemmas.world.Steps.{leads_more}
 use Rattle.hart_line.proofs.lemmas.world.Marks.{step_marks}
+use Rattle.hart_line.proofs.lemmas.world.Steps.{leads_more}
+use Rattle.hart_line.proofs.lemmas.world.Submitted.{made_more}
 
 -- The line stands for a world that the events, which are well made, lead to.
 pub record IsReached (start : Start) (events : List LineEvent) (line : LineState) : Type 0 where

@@ -1,11 +1,11 @@
 -- The room on the line, event by event.
-use Rattle.std.proofs.lemmas.Grind.{common_steps}
 use Rattle.std.proofs.Common.{◌≡◌, ℕ, ◌+◌, ◌<◌, Bool, List, [], ◌∷◌, cond, arith, count_by, drop, get_or, length}
+use Rattle.std.proofs.lemmas.Grind.{common_steps}
 use Rattle.std.proofs.lemmas.List.{drop_more}
 use Rattle.std.proofs.lemmas.List.Sums.{sum_by-append}
+use Rattle.hart_line.specs.declared.event.LineEvent.{LineEvent}
 use Rattle.hart_line.specs.line.Line.{LineState}
 use Rattle.hart_line.specs.line.Room.{HasRoomFor, HasRoomForEach, LeavesRoom}
-use Rattle.hart_line.specs.declared.event.LineEvent.{LineEvent}
 
 -- The first of some events is counted with the others.
 count_first : (p : LineEvent → Bool) (event : LineEvent) (events : List LineEvent)

@@ -1,16 +1,15 @@
 -- What a line keeps of what was spoken may be noted and let go: its events lead on as they would from the whole.
-use Rattle.hart_line.proofs.lemmas.world.Arrival.{AreSpoken-append}
+use Rattle.std.proofs.Common.{◌≡◌, arith, append-nil, List, [], ◌++◌}
 use Rattle.std.proofs.lemmas.Grind.{common_steps}
-use Rattle.std.proofs.Common.{◌≡◌, arith, append-nil}
-use Rattle.std.proofs.Common.{List, [], ◌++◌}
+use Rattle.hart_line.specs.declared.event.LineEvent.{LineEvent}
+use Rattle.hart_line.specs.declared.fault.Leg.{Leg}
+use Rattle.hart_line.specs.declared.line.report.Spoken.{Spoken}
 use Rattle.hart_line.specs.line.Line.{LineState, Stands, Stepped}
 use Rattle.hart_line.specs.world.Faults.{HasUndetected}
 use Rattle.hart_line.specs.world.Spoken.{AreSpoken, SpokenFrame}
 use Rattle.hart_line.specs.world.Step.{Step}
 use Rattle.hart_line.specs.world.World.{Start, World}
-use Rattle.hart_line.specs.declared.event.LineEvent.{LineEvent}
-use Rattle.hart_line.specs.declared.fault.Leg.{Leg}
-use Rattle.hart_line.specs.declared.line.report.Spoken.{Spoken}
+use Rattle.hart_line.proofs.lemmas.world.Arrival.{AreSpoken-append}
 
 -- A WORLD WITHOUT WHAT WAS SPOKEN
 -- A world as it is, but for what was spoken in it.

@@ -1,29 +1,28 @@
 -- A turn of the line is a turn of the world.
+use Rattle.std.proofs.Common.{◌≡◌, ◌&&◌, Bool, false, if◌then◌else◌, ◌∙◌, refl, Option, None, Some, List, ◌++◌, ◌⊎◌, append_assoc, arith}
 use Rattle.std.proofs.lemmas.Grind.{common_steps}
-use Rattle.std.proofs.Common.{◌≡◌, ◌&&◌, Bool, false, if◌then◌else◌, ◌∙◌, refl, Option, None, Some, List, ◌++◌}
-use Rattle.std.proofs.Common.{◌⊎◌, append_assoc, arith}
 use Rattle.std.specs.Option.{option_to_list}
+use Rattle.hart_values.specs.EachMaster.{of_master, with_master}
 use Rattle.hart_values.specs.declared.master_id.MasterId.{MasterId}
 use Rattle.hart_frame.specs.wire.FrameParts.{FrameParts}
-use Rattle.hart_values.specs.EachMaster.{of_master, with_master}
+use Rattle.hart_frame.specs.wire.Message.{IsPreambleCount}
 use Rattle.hart_device.specs.Device.{DeviceState, Effect, Nothing, after, after_reply}
 use Rattle.hart_device.specs.answer.Delivery.{Brought, OneFrame, state_after_delivery}
 use Rattle.hart_device.specs.declared.process.Process.{Process}
-use Rattle.hart_line.specs.world.Damage.{Arrives, Reaches}
-use Rattle.hart_frame.specs.wire.Message.{IsPreambleCount}
+use Rattle.hart_line.specs.declared.event.Heard.{Heard}
+use Rattle.hart_line.specs.declared.event.LineEvent.TheVariants.{Turn}
+use Rattle.hart_line.specs.declared.line.report.Spoken.{Spoken}
 use Rattle.hart_line.specs.line.Leg.{AnswersTo, IsSent}
 use Rattle.hart_line.specs.line.Line.{LineState, Stands, Stepped}
 use Rattle.hart_line.specs.line.Masters.{AreHeld, Concludes}
+use Rattle.hart_line.specs.world.Damage.{Arrives, Reaches}
 use Rattle.hart_line.specs.world.Spoken.{AreSpoken, SpokenFrame, Speaks, spoken_by}
 use Rattle.hart_line.specs.world.Step.{cold_start_after, effect_on, replied, spoken_request, sent_back, sent_by, turned}
 use Rattle.hart_line.specs.world.World.{InHand, Start, World, state_of, MarksWithin}
-use Rattle.hart_line.specs.declared.event.Heard.{Heard}
-use Rattle.hart_line.specs.declared.event.LineEvent.TheVariants.{Turn}
-use Rattle.hart_line.specs.declared.line.report.Party.TheVariants as parties
-use Rattle.hart_line.specs.declared.line.report.Spoken.{Spoken}
 use Rattle.hart_line.proofs.lemmas.line.Leg.{speaks_sent}
 use Rattle.hart_line.proofs.lemmas.world.Arrival.{AreSpoken-more, frame_in, none_reaches, reaches_sent}
 use Rattle.hart_line.proofs.lemmas.world.State.{state-after}
+use Rattle.hart_line.specs.declared.line.report.Party.TheVariants as parties
 
 -- What the device answered to what this leg brought it was spoken after what was said in it.
 pub record IsAnswered (start : Start) (world : World) (heard : Heard) (said : Option SpokenFrame) (answer : Option FrameParts)

@@ -1,11 +1,10 @@
 -- The byte that two hex digits write.
-use Rattle.std.proofs.Common.{◌≡◌, ℕ, ◌+◌, ◌*◌, Bool, true, List, [], ◌∷◌, get_or, Option, Some, None, Ok, is_some, unwrap_or}
-use Rattle.std.proofs.Common.{◌∙◌, arith}
+use Rattle.std.proofs.Common.{◌≡◌, ℕ, ◌+◌, ◌*◌, Bool, true, List, [], ◌∷◌, get_or, Option, Some, None, Ok, is_some, unwrap_or, ◌∙◌, arith}
 use Rattle.std.proofs.Math.Nat.{mul_comm}
 use Rattle.std.specs.Prelude.{◌&&◌, if◌then◌else◌}
 use Rattle.std.specs.Result.{result_ok}
-use Rattle.hart_line.specs.script.Items.{AreDigits, byte_of}
 use Rattle.hex.specs.Hex.{decode_pairs, digit_or_error, hex_digit_value, is_hex_digit, ◌>>=◌}
+use Rattle.hart_line.specs.script.Items.{AreDigits, byte_of}
 
 -- what `hex` reads of two bytes whose values as digits these are
 pair_read : (high low : ℕ) (a b : Option ℕ)

@@ -1,18 +1,18 @@
 -- Texts that are items end to end.
+use Rattle.std.proofs.Common.{◌≡◌, ◌≢◌, ℕ, ◌+◌, ◌-◌, ◌<◌, ◌≤◌, Bool, true, false, List, [], ◌∷◌, ◌++◌, get_or, length, take, drop, None}
+use Rattle.std.proofs.Common.{Option, Some, refl, ap, ◌∙◌, arith}
+use Rattle.std.proofs.Math.Seq.{drop-append_seam}
+use Rattle.std.proofs.lemmas.Bool.Decides.{nat_tests}
 use Rattle.std.proofs.lemmas.Grind.{common_steps}
-use Rattle.std.proofs.Common.{◌≡◌, ◌≢◌, ℕ, ◌+◌, ◌-◌, ◌<◌, ◌≤◌, Bool, true, false, List, [], ◌∷◌, ◌++◌, get_or, length, take, drop}
-use Rattle.std.proofs.Common.{None, Option, Some, refl, ap, ◌∙◌, arith}
+use Rattle.std.proofs.lemmas.List.{append-nil, append_assoc, length-append, take_rest}
+use Rattle.std.proofs.lemmas.Nat.Bits.{bit_at-lt}
 use Rattle.std.specs.Int.{bit_at}
 use Rattle.std.specs.Option.{option_map}
 use Rattle.std.specs.Prelude.{◌==◌, ◌&&◌}
-use Rattle.std.proofs.lemmas.Bool.Decides.{nat_tests}
-use Rattle.std.proofs.lemmas.List.{append-nil, append_assoc, length-append, take_rest}
-use Rattle.std.proofs.lemmas.Nat.Bits.{bit_at-lt}
-use Rattle.std.proofs.Math.Seq.{drop-append_seam}
 use Rattle.hart_frame.specs.heard.Character.{AreFaultBits, Character, IsFaultBit}
 use Rattle.hart_line.specs.script.Items.{AreDigits, are_some_fault_bits, BeginsAsItem, BeginsWithItem, byte_of, EndsBefore, Faulty}
-use Rattle.hart_line.specs.script.Items.{is_valid_item, IsValidItem}
-use Rattle.hart_line.specs.script.Items.{Item, item_before, item_meaning, item_spelling, items_of, NoItemBegins, Plain}
+use Rattle.hart_line.specs.script.Items.{is_valid_item, IsValidItem, Item, item_before, item_meaning, item_spelling, items_of, NoItemBegins}
+use Rattle.hart_line.specs.script.Items.{Plain}
 
 -- a bit that is set is none of those that are not
 set_bit : (faults bit : ℕ) → bit < 8 → bit_at faults bit ≡ 1 → bit_at faults 0 ≡ 0 → bit_at faults 2 ≡ 0 → bit_at faults 3 ≡ 0

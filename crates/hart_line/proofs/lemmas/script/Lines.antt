@@ -1,10 +1,10 @@
 -- The first word of a line.
-use Rattle.std.proofs.lemmas.Grind.{common_steps}
-use Rattle.std.proofs.Common.{◌≡◌, ℕ, ◌+◌, ◌<◌, suc, Bool, true, false, cond, ltb, List, [], ◌∷◌, get_or, length, take, drop, Option}
-use Rattle.std.proofs.Common.{Some, None, unwrap_or, refl, arith}
-use Rattle.std.specs.List.{filter, onto_first, position_or_len, slice_split}
+use Rattle.std.proofs.Common.{◌≡◌, ℕ, ◌+◌, ◌<◌, suc, Bool, true, false, cond, ltb, List, [], ◌∷◌, get_or, length, take, drop, Option, Some}
+use Rattle.std.proofs.Common.{None, unwrap_or, refl, arith}
 use Rattle.std.proofs.lemmas.Bool.Decides.{nat_tests}
+use Rattle.std.proofs.lemmas.Grind.{common_steps}
 use Rattle.std.proofs.lemmas.List.Sums.{prefix_len-le-length}
+use Rattle.std.specs.List.{filter, onto_first, position_or_len, slice_split}
 use Rattle.hart_line.specs.script.Lines.{has_bytes, is_blank, words_of}
 
 pub place_or_length : (p : ℕ → Bool) (xs : List ℕ) (found : Option ℕ) (result : ℕ) → result ≡ unwrap_or found (length xs)

@@ -1,10 +1,10 @@
 -- What the words of a line say.
 use Rattle.std.proofs.Common.{◌≡◌, ℕ, ◌<◌, List, [], ◌∷◌, get_or, length, Option, None, Err, arith, refl}
 use Rattle.std.proofs.lemmas.Slice.Eq.{bytes_eq-Decides}
-use Rattle.hart_line.specs.script.Rows.{leg_of, ReadsWords}
-use Rattle.hart_line.specs.script.Words.{named_in}
 use Rattle.hart_line.specs.declared.event.LineEvent.{LineEvent}
 use Rattle.hart_line.specs.declared.script.rows.RowFault.{RowFault}
+use Rattle.hart_line.specs.script.Rows.{leg_of, ReadsWords}
+use Rattle.hart_line.specs.script.Words.{named_in}
 
 -- a word differs from each one of a table
 abbrev pub OtherThan : {T : Type 0} → List ℕ → List (List ℕ × T) → Type 0

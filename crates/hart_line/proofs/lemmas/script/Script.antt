@@ -1,20 +1,18 @@
 -- Scripts: what the lines of a text say, line by line.
-use Rattle.std.proofs.lemmas.Grind.{common_steps}
-use Rattle.std.proofs.Common.{◌≡◌, ℕ, ◌+◌, ◌<◌, suc, Bool, List, [], ◌∷◌, ◌++◌, get_or, length, Option, Ok}
-use Rattle.std.proofs.Common.{Err, ap, drop, take, arith}
-use Rattle.std.specs.Prelude.{IsTrue, ◌==◌}
-use Rattle.std.specs.List.{position_from, slice_split}
-use Rattle.std.specs.Option.{option_or, option_to_list}
-use Rattle.std.specs.Str.Lines.{strip_carriage_return}
+use Rattle.std.proofs.Common.{◌≡◌, ℕ, ◌+◌, ◌<◌, suc, Bool, List, [], ◌∷◌, ◌++◌, get_or, length, Option, Ok, Err, ap, drop, take, arith}
+use Rattle.std.proofs.Math.Seq.{drop-cons}
 use Rattle.std.proofs.lemmas.Bool.Decides.{nat_tests}
+use Rattle.std.proofs.lemmas.Grind.{common_steps}
 use Rattle.std.proofs.lemmas.List.{get_or-map, length-map, length-take-le, take-append-drop, take_more}
 use Rattle.std.proofs.lemmas.List.Elements.{filter_map-append}
-use Rattle.std.proofs.Math.Seq.{drop-cons}
-use Rattle.hart_line.specs.script.Lines.{lines_of, words_of}
-use Rattle.hart_line.specs.script.Rows.{AreEvents, HasFirstBadLine, is_bad_line}
-use Rattle.hart_line.specs.script.Rows.{IsScriptFault, lines_in_words, SaysLine}
+use Rattle.std.specs.List.{position_from, slice_split}
+use Rattle.std.specs.Option.{option_or, option_to_list}
+use Rattle.std.specs.Prelude.{IsTrue, ◌==◌}
+use Rattle.std.specs.Str.Lines.{strip_carriage_return}
 use Rattle.hart_line.specs.declared.event.LineEvent.{LineEvent}
 use Rattle.hart_line.specs.declared.fault.LineFault.{LineFault}
+use Rattle.hart_line.specs.script.Lines.{lines_of, words_of}
+use Rattle.hart_line.specs.script.Rows.{AreEvents, HasFirstBadLine, is_bad_line, IsScriptFault, lines_in_words, SaysLine}
 
 -- the first place in some elements and more is one in the first ones, or else in the others
 position_from-append : {X : Type 0} (p : X → Bool) (i : ℕ) (xs ys : List X)

@@ -1,33 +1,29 @@
 -- Each accepted reply was accepted in the turn of the last sending.
+use Rattle.std.proofs.Common.{◌≡◌, ℕ, ◌+◌, ap, ◌∙◌, sym, arith, slice_index, Option, None, Some, List, [], ◌∷◌, slice_set, ◌⊎◌, inl, inr}
 use Rattle.std.proofs.lemmas.Grind.{common_steps}
-use Rattle.std.proofs.Common.{◌≡◌, ℕ, ◌+◌, ap, ◌∙◌, sym, arith, slice_index, Option, None, Some}
-use Rattle.std.proofs.Common.{List, [], ◌∷◌, slice_set, ◌⊎◌, inl, inr}
 use Rattle.std.specs.List.{slice_get}
+use Rattle.hart_values.specs.declared.address.Address.{Address}
 use Rattle.hart_values.specs.declared.master_id.MasterId.{MasterId}
 use Rattle.hart_frame.specs.wire.FrameParts.{FrameParts}
 use Rattle.hart_commands.specs.declared.reply.Reply.{Reply}
+use Rattle.hart_commands.specs.declared.request.Request.{Request}
+use Rattle.hart_device.specs.Device.{DeviceState}
 use Rattle.hart_device.specs.answer.Answer.{answer_of}
 use Rattle.hart_device.specs.answer.Delivery.{Brought, Garbled, OneFrame, answer_to}
-use Rattle.hart_device.specs.Device.{DeviceState}
 use Rattle.hart_device.specs.declared.process.Process.{Process}
 use Rattle.hart_master.specs.Acceptance.{IsReplyTo}
-use Rattle.hart_master.proofs.lemmas.Laws.{communication_faults_are_no_reply-frame}
-use Rattle.hart_values.specs.declared.address.Address.{Address}
-use Rattle.hart_commands.specs.declared.request.Request.{Request}
 use Rattle.hart_master.specs.declared.fault.MasterFault.{MasterFault}
-use Rattle.hart_line.specs.world.Step.{submitted}
-use Rattle.hart_line.specs.declared.event.LineEvent.TheVariants.{Submit}
+use Rattle.hart_master.proofs.lemmas.Laws.{communication_faults_are_no_reply-frame}
+use Rattle.hart_line.specs.declared.event.Heard.{Heard}
+use Rattle.hart_line.specs.declared.event.LineEvent.{LineEvent}
+use Rattle.hart_line.specs.declared.event.LineEvent.TheVariants.{Submit, Turn}
+use Rattle.hart_line.specs.declared.line.report.Outcome.TheVariants.{Answered}
+use Rattle.hart_line.specs.declared.line.report.Party.{Party}
 use Rattle.hart_line.specs.world.Damage.{Arrives}
 use Rattle.hart_line.specs.world.Promises.{AnswersLastSending, AnswersLastSendingFrom, IsStepOf, submissions_of}
 use Rattle.hart_line.specs.world.Spoken.{spoken_by}
-use Rattle.hart_line.specs.world.Step.{Accepts, IsLast, spoken_request}
-use Rattle.hart_line.specs.world.Step.{outcome_of}
+use Rattle.hart_line.specs.world.Step.{submitted, Accepts, IsLast, spoken_request, outcome_of}
 use Rattle.hart_line.specs.world.World.{InHand, Start, World, first_world, state_of}
-use Rattle.hart_line.specs.declared.event.Heard.{Heard}
-use Rattle.hart_line.specs.declared.event.LineEvent.{LineEvent}
-use Rattle.hart_line.specs.declared.event.LineEvent.TheVariants.{Turn}
-use Rattle.hart_line.specs.declared.line.report.Outcome.TheVariants.{Answered}
-use Rattle.hart_line.specs.declared.line.report.Party.{Party}
 use Rattle.hart_line.proofs.lemmas.world.Arrival.{frame_in}
 use Rattle.hart_line.proofs.lemmas.world.Basics.{slice_get-cases, some_one}
 use Rattle.hart_line.proofs.lemmas.world.Steps.{to_last, turn_cases}

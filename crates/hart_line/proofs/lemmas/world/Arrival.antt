@@ -1,16 +1,15 @@
 -- What is brought to the device, and what is spoken.
-use Rattle.std.proofs.Common.{◌≡◌, Option, None, Some, List, [], ◌∷◌, ◌++◌, ◌⊎◌}
-use Rattle.std.proofs.Common.{append-nil, arith}
+use Rattle.std.proofs.Common.{◌≡◌, Option, None, Some, List, [], ◌∷◌, ◌++◌, ◌⊎◌, append-nil, arith}
 use Rattle.std.specs.Option.{option_to_list}
 use Rattle.hart_frame.specs.wire.FrameParts.{FrameParts}
-use Rattle.hart_device.specs.answer.Delivery.{Brought, Garbled, NoMessage, OneFrame}
 use Rattle.hart_device.specs.Device.{DeviceState, Nothing}
+use Rattle.hart_device.specs.answer.Delivery.{Brought, Garbled, NoMessage, OneFrame}
 use Rattle.hart_device.specs.declared.identity_parts.IdentityParts.{IdentityParts}
-use Rattle.hart_line.specs.world.Damage.{Reaches}
-use Rattle.hart_line.specs.world.Step.{effect_on}
-use Rattle.hart_line.specs.world.Spoken.{AreSpoken, SpokenFrame, Speaks}
 use Rattle.hart_line.specs.declared.event.Heard.{Heard}
 use Rattle.hart_line.specs.declared.line.report.Spoken.{Spoken}
+use Rattle.hart_line.specs.world.Damage.{Reaches}
+use Rattle.hart_line.specs.world.Spoken.{AreSpoken, SpokenFrame, Speaks}
+use Rattle.hart_line.specs.world.Step.{effect_on}
 
 -- A frame that is brought to the device is the one that was sent.
 abbrev pub frame_in : Brought → Option FrameParts

@@ -1,18 +1,17 @@
 -- A submission is executed at most as often as it is sent.
-use Rattle.std.proofs.Common.{◌≡◌, ℕ, ◌+◌, ◌≤◌, ◌==◌, arith, Some}
-use Rattle.std.proofs.Common.{List, [], ◌∷◌, ◌++◌, slice_set, if◌then◌else◌}
-use Rattle.std.specs.List.{slice_get}
-use Rattle.std.proofs.lemmas.List.Sums.{sum_by-append}
+use Rattle.std.proofs.Common.{◌≡◌, ℕ, ◌+◌, ◌≤◌, ◌==◌, arith, Some, List, [], ◌∷◌, ◌++◌, slice_set, if◌then◌else◌}
 use Rattle.std.proofs.lemmas.Bool.Decides.{nat_tests}
 use Rattle.std.proofs.lemmas.Grind.{common_steps}
+use Rattle.std.proofs.lemmas.List.Sums.{sum_by-append}
+use Rattle.std.specs.List.{slice_get}
 use Rattle.hart_device.specs.Device.{Effect}
+use Rattle.hart_line.specs.declared.event.LineEvent.{LineEvent}
+use Rattle.hart_line.specs.declared.line.report.Outcome.{Outcome}
+use Rattle.hart_line.specs.declared.line.report.Outcome.TheVariants.{Unfinished}
 use Rattle.hart_line.specs.world.Executions.{times_executed}
 use Rattle.hart_line.specs.world.Promises.{sendings_in}
 use Rattle.hart_line.specs.world.Step.{IsLast, LeadsTo, Step, effect_on, executions_after}
 use Rattle.hart_line.specs.world.World.{Execution, InHand, Start, World, first_world, state_of}
-use Rattle.hart_line.specs.declared.event.LineEvent.{LineEvent}
-use Rattle.hart_line.specs.declared.line.report.Outcome.{Outcome}
-use Rattle.hart_line.specs.declared.line.report.Outcome.TheVariants.{Unfinished}
 use Rattle.hart_line.proofs.lemmas.world.Basics.{slice_get-append, slice_get-set_other, slice_get-set_same}
 use Rattle.hart_line.proofs.lemmas.world.Steps.{Submits, Sends, Stays, along, step_cases}
 use Rattle.hart_line.proofs.lemmas.world.Submitted.{held_before}

@@ -1,35 +1,34 @@
 -- Detectable damage is detected, and a script of which all damage is detected has a last world.
+use Rattle.std.proofs.Common.{◌≡◌, ◌≤◌, refl, subst, arith, Option, None, Some, List, [], ◌∷◌, length, inl, inr}
 use Rattle.std.proofs.lemmas.Grind.{common_steps}
-use Rattle.std.proofs.Common.{◌≡◌, ◌≤◌, refl, subst, arith, Option, None, Some, List, [], ◌∷◌, length, inl}
-use Rattle.std.proofs.Common.{inr}
-use Rattle.hart_values.specs.declared.master_id.MasterId.{MasterId}
-use Rattle.hart_frame.specs.heard.Character.{Character, faultless}
-use Rattle.hart_frame.specs.wire.FrameParts.{FrameParts}
-use Rattle.hart_frame.specs.heard.Frames.{AreFrames}
-use Rattle.hart_frame.specs.declared.heard.found.Found.{Found}
 use Rattle.hart_values.specs.EachMaster.{of_master}
+use Rattle.hart_values.specs.declared.master_id.MasterId.{MasterId}
+use Rattle.hart_frame.specs.declared.heard.found.Found.{Found}
+use Rattle.hart_frame.specs.heard.Character.{Character, faultless}
+use Rattle.hart_frame.specs.heard.Frames.{AreFrames}
+use Rattle.hart_frame.specs.wire.FrameParts.{FrameParts}
+use Rattle.hart_frame.proofs.lemmas.Laws.{damaged_messages_have_no_other_frame-check, damaged_messages_have_no_other_frame-marked}
+use Rattle.hart_frame.proofs.lemmas.Laws.{frames_are_unambiguous-one_list, messages_have_their_frame_alone-message}
+use Rattle.hart_frame.proofs.lemmas.Laws.{messages_have_their_frame_alone-nothing}
 use Rattle.hart_commands.specs.declared.reply.Reply.{Reply}
 use Rattle.hart_device.specs.answer.Delivery.{BringsBy, Brought}
 use Rattle.hart_device.specs.declared.identity_parts.IdentityParts.{IdentityParts}
 use Rattle.hart_device.proofs.lemmas.Laws.{deliveries_bring_one-brings}
-use Rattle.hart_frame.proofs.lemmas.Laws.{damaged_messages_have_no_other_frame-check, damaged_messages_have_no_other_frame-marked}
-use Rattle.hart_frame.proofs.lemmas.Laws.{frames_are_unambiguous-one_list, messages_have_their_frame_alone-message}
-use Rattle.hart_frame.proofs.lemmas.Laws.{messages_have_their_frame_alone-nothing}
 use Rattle.hart_master.proofs.lemmas.Laws.{replies_are_decided-decided}
-use Rattle.hart_line.specs.world.Damage.{Arrives, IsDetectable, IsDetected, IsUndetected, Reaches}
-use Rattle.hart_line.specs.world.Faults.{AreAllDetected, HasDetectable, HasUndetected, IsFault, IsNotDetectable, LegsAreDetected}
-use Rattle.hart_line.specs.world.Spoken.{SpokenFrame, frame_of}
-use Rattle.hart_line.specs.world.Step.{Accepts, LeadsTo, Step, sent_by}
-use Rattle.hart_line.specs.world.World.{InHand, Start, World}
 use Rattle.hart_line.specs.declared.event.Heard.{Heard}
 use Rattle.hart_line.specs.declared.event.Heard.TheVariants.{Clean, Chars}
 use Rattle.hart_line.specs.declared.event.LineEvent.{LineEvent}
 use Rattle.hart_line.specs.declared.event.LineEvent.TheVariants.{Turn, Noise}
 use Rattle.hart_line.specs.declared.fault.Leg.{Leg}
-use Rattle.hart_line.specs.declared.fault.Leg.TheVariants as legs
 use Rattle.hart_line.specs.declared.fault.LineFault.{LineFault}
 use Rattle.hart_line.specs.declared.fault.LineFault.TheVariants.{Undetected}
+use Rattle.hart_line.specs.world.Damage.{Arrives, IsDetectable, IsDetected, IsUndetected, Reaches}
+use Rattle.hart_line.specs.world.Faults.{AreAllDetected, HasDetectable, HasUndetected, IsFault, IsNotDetectable, LegsAreDetected}
+use Rattle.hart_line.specs.world.Spoken.{SpokenFrame, frame_of}
+use Rattle.hart_line.specs.world.Step.{Accepts, LeadsTo, Step, sent_by}
+use Rattle.hart_line.specs.world.World.{InHand, Start, World}
 use Rattle.hart_line.proofs.lemmas.world.Leads.{Reaches-one, leads_one}
+use Rattle.hart_line.specs.declared.fault.Leg.TheVariants as legs
 
 -- DETECTABLE DAMAGE
 -- A frame that a sender puts on the line has preamble bytes.

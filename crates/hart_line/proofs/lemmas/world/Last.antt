@@ -1,24 +1,23 @@
 -- The registers of all executions are those of the last ones.
-use Rattle.std.proofs.Common.{inl, inr}
-use Rattle.std.proofs.lemmas.Bool.Decides.{nat_tests}
+use Rattle.std.proofs.Common.{inl, inr, ◌≡◌, ℕ, suc, ◌∙◌, sym, refl, arith, Ok, Some, Bool, true, false, List, [], ◌∷◌, ◌++◌, if◌then◌else◌}
+use Rattle.std.proofs.Common.{None, ◌⊎◌}
 use Rattle.std.proofs.lemmas.Bool.{cases_eq}
+use Rattle.std.proofs.lemmas.Bool.Decides.{nat_tests}
 use Rattle.std.proofs.lemmas.Grind.{common_steps}
-use Rattle.std.proofs.Common.{◌≡◌, ℕ, suc, ◌∙◌, sym, refl, arith, Ok, Some, Bool, true, false, List}
-use Rattle.std.proofs.Common.{[], ◌∷◌, ◌++◌, if◌then◌else◌, inl, inr, None, ◌⊎◌}
 use Rattle.std.specs.List.{AllByRecursion, Contains, slice_get}
 use Rattle.hart_values.specs.declared.master_id.MasterId.{MasterId}
 use Rattle.hart_commands.specs.Registers.{Contents, Overwrite, overwrite_of, overwritten, registers_of}
 use Rattle.hart_commands.specs.declared.request.Request.{Request}
 use Rattle.hart_commands.proofs.lemmas.Laws.{written_data_are_their_request}
+use Rattle.hart_device.specs.Device.{DeviceState, Effect, Executes}
 use Rattle.hart_device.specs.answer.Answer.{reading_of}
 use Rattle.hart_device.specs.answer.Delivery.{Brought, OneFrame}
-use Rattle.hart_device.specs.Device.{DeviceState, Effect, Executes}
 use Rattle.hart_device.proofs.lemmas.Laws.{registers_of_lists-again, registers_of_lists-first, writes_execute_their_overwrite-only}
+use Rattle.hart_line.specs.declared.event.LineEvent.{LineEvent}
 use Rattle.hart_line.specs.world.Executions.{has_execution_of, last_executions}
 use Rattle.hart_line.specs.world.Promises.{AreWellMade, IsStepOf, requests_of}
 use Rattle.hart_line.specs.world.Step.{IsLast, effect_on, executions_after, spoken_request}
 use Rattle.hart_line.specs.world.World.{Execution, InHand, Start, World, first_world, overwrites_of, state_of}
-use Rattle.hart_line.specs.declared.event.LineEvent.{LineEvent}
 use Rattle.hart_line.proofs.lemmas.world.Arrival.{frame_in, no_effect}
 use Rattle.hart_line.proofs.lemmas.world.Steps.{Submits, Sends, Stays, step_cases, to_last}
 use Rattle.hart_line.proofs.lemmas.world.Submitted.{held_in, made_of, request_there}

@@ -1,30 +1,30 @@
 -- A script leads to one world, and past no undetected damage.
+use Rattle.std.proofs.Common.{append-nil, ◌≡◌, ℕ, ◌<◌, ◌∙◌, sym, subst, arith, Option, None, Some, List, [], ◌∷◌, ◌++◌, suc, pred, take}
+use Rattle.std.proofs.Common.{drop}
 use Rattle.std.proofs.lemmas.Grind.{common_steps}
-use Rattle.std.proofs.Common.{append-nil}
-use Rattle.std.proofs.Common.{◌≡◌, ℕ, ◌<◌, ◌∙◌, sym, subst, arith, Option, None, Some, List, [], ◌∷◌, ◌++◌, suc, pred, take, drop}
 use Rattle.std.specs.List.{slice_get}
+use Rattle.hart_values.specs.EachMaster.{of_master}
 use Rattle.hart_values.specs.declared.master_id.MasterId.{MasterId}
 use Rattle.hart_frame.specs.heard.Character.{Character}
 use Rattle.hart_frame.specs.wire.FrameParts.{FrameParts}
 use Rattle.hart_frame.proofs.lemmas.Laws.{bodies_are_unambiguous-one_body, frames_are_unambiguous-one_list}
-use Rattle.hart_values.specs.EachMaster.{of_master}
 use Rattle.hart_commands.specs.declared.reply.Reply.{Reply}
 use Rattle.hart_device.specs.answer.Delivery.{Brings, Brought}
 use Rattle.hart_device.specs.declared.identity_parts.IdentityParts.{IdentityParts}
 use Rattle.hart_device.proofs.lemmas.Laws.{deliveries_bring_one-one}
 use Rattle.hart_master.proofs.lemmas.Laws.{replies_are_decided-one_reply}
-use Rattle.hart_line.specs.world.Damage.{AreHeard, Arrives, IsUndetected, Reaches, ReachesAmong}
-use Rattle.hart_line.specs.world.Spoken.{SpokenFrame}
-use Rattle.hart_line.specs.world.Step.{Accepts, IsLast, LeadsTo, Step, sent_back, sent_by}
-use Rattle.hart_line.specs.world.World.{InHand, Start, World, first_world}
 use Rattle.hart_line.specs.declared.event.Heard.{Heard}
 use Rattle.hart_line.specs.declared.event.Heard.TheVariants.{Clean, Chars}
 use Rattle.hart_line.specs.declared.event.LineEvent.{LineEvent}
 use Rattle.hart_line.specs.declared.event.LineEvent.TheVariants.{Turn, Noise}
 use Rattle.hart_line.specs.declared.fault.Leg.{Leg}
-use Rattle.hart_line.specs.declared.fault.Leg.TheVariants as legs
-use Rattle.hart_line.specs.world.Faults.{HasUndetected, IsFault}
 use Rattle.hart_line.specs.declared.fault.LineFault.TheVariants.{Undetected}
+use Rattle.hart_line.specs.world.Damage.{AreHeard, Arrives, IsUndetected, Reaches, ReachesAmong}
+use Rattle.hart_line.specs.world.Faults.{HasUndetected, IsFault}
+use Rattle.hart_line.specs.world.Spoken.{SpokenFrame}
+use Rattle.hart_line.specs.world.Step.{Accepts, IsLast, LeadsTo, Step, sent_back, sent_by}
+use Rattle.hart_line.specs.world.World.{InHand, Start, World, first_world}
+use Rattle.hart_line.specs.declared.fault.Leg.TheVariants as legs
 
 AreHeard-one : (heard : Heard) (sent : Option SpokenFrame) (a b : List Character) → AreHeard heard sent a
     → AreHeard heard sent b → a ≡ b

@@ -1,14 +1,14 @@
 -- No mark is greater than the number of executions.
-use Rattle.std.proofs.lemmas.Grind.{common_steps}
 use Rattle.std.proofs.Common.{◌≡◌, ℕ, ◌≤◌, arith, List, length, Option, Some}
+use Rattle.std.proofs.lemmas.Grind.{common_steps}
 use Rattle.std.proofs.lemmas.List.{length-append}
+use Rattle.hart_values.specs.EachMaster.{of_master}
 use Rattle.hart_values.specs.declared.each_master.EachMaster.{EachMaster}
 use Rattle.hart_values.specs.declared.master_id.MasterId.{MasterId}
-use Rattle.hart_values.specs.EachMaster.{of_master}
 use Rattle.hart_device.specs.Device.{Effect}
+use Rattle.hart_line.specs.declared.event.LineEvent.{LineEvent}
 use Rattle.hart_line.specs.world.Step.{Step, executions_after, marks_after}
 use Rattle.hart_line.specs.world.World.{Execution, MarksWithin, Start, World}
-use Rattle.hart_line.specs.declared.event.LineEvent.{LineEvent}
 use Rattle.hart_line.proofs.lemmas.world.Basics.{with_master-cases}
 use Rattle.hart_line.proofs.lemmas.world.Steps.{entered}
 

@@ -1,24 +1,24 @@
 -- What holds since a master's last reset, and after a refused command.
-use Rattle.std.proofs.lemmas.Grind.{common_steps}
-use Rattle.std.proofs.Common.{◌≡◌, ◌≢◌, ℕ, nat_lt, ap, ◌∙◌, sym, refl, subst, arith, Option, Some, IfSome, Ok, false}
-use Rattle.std.proofs.Common.{List, [], ◌∷◌, ◌++◌, length, append_assoc, append-nil, ◌⊎◌, inl, inr}
-use Rattle.std.proofs.lemmas.List.{length-append}
+use Rattle.std.proofs.Common.{◌≡◌, ◌≢◌, ℕ, nat_lt, ap, ◌∙◌, sym, refl, subst, arith, Option, Some, IfSome, Ok, false, List, [], ◌∷◌, ◌++◌}
+use Rattle.std.proofs.Common.{length, append_assoc, append-nil, ◌⊎◌, inl, inr}
 use Rattle.std.proofs.lemmas.Bool.Decides.{nat_tests}
+use Rattle.std.proofs.lemmas.Grind.{common_steps}
+use Rattle.std.proofs.lemmas.List.{length-append}
+use Rattle.hart_values.specs.EachMaster.{of_master}
 use Rattle.hart_values.specs.declared.master_id.MasterId.{MasterId}
 use Rattle.hart_frame.specs.wire.FrameParts.{FrameParts}
-use Rattle.hart_values.specs.EachMaster.{of_master}
 use Rattle.hart_commands.specs.Registers.{registers_of}
 use Rattle.hart_commands.specs.declared.request.Request.TheVariants.{ResetChanged}
-use Rattle.hart_device.specs.answer.Answer.{after_refusal, code_of, effect_of, is_answered, reading_of}
 use Rattle.hart_device.specs.Device.{DeviceState, Effect, Nothing, Resets}
+use Rattle.hart_device.specs.answer.Answer.{after_refusal, code_of, effect_of, is_answered, reading_of}
 use Rattle.hart_device.proofs.lemmas.Laws.{refused_commands_change_nothing-refused, refused_commands_change_nothing-silent}
 use Rattle.hart_device.proofs.lemmas.Laws.{resets_name_this_counter-only}
-use Rattle.hart_line.specs.world.Promises.{HasNoReset, IsLastReset, IsRefusedByDevice, IsStepOf}
-use Rattle.hart_line.specs.world.Step.{IsLast, IsTurn, LeadsTo, effect_on, executions_after}
-use Rattle.hart_line.specs.world.World.{Execution, Start, World, first_world, overwrites_of, state_of}
 use Rattle.hart_line.specs.declared.event.Heard.{Heard}
 use Rattle.hart_line.specs.declared.event.LineEvent.{LineEvent}
 use Rattle.hart_line.specs.declared.event.LineEvent.TheVariants.{Turn}
+use Rattle.hart_line.specs.world.Promises.{HasNoReset, IsLastReset, IsRefusedByDevice, IsStepOf}
+use Rattle.hart_line.specs.world.Step.{IsLast, IsTurn, LeadsTo, effect_on, executions_after}
+use Rattle.hart_line.specs.world.World.{Execution, Start, World, first_world, overwrites_of, state_of}
 use Rattle.hart_line.proofs.lemmas.world.Arrival.{no_effect}
 use Rattle.hart_line.proofs.lemmas.world.Leads.{leads_on, step_one}
 use Rattle.hart_line.proofs.lemmas.world.Steps.{entered, to_last, turn_cases}

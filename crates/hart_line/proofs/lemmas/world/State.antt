@@ -1,17 +1,16 @@
 -- The state of the device in a world, after an effect.
-use Rattle.std.proofs.lemmas.Grind.{common_steps}
-use Rattle.std.proofs.Common.{◌≡◌, ℕ, ◌+◌, ◌%◌, ◌≤◌, ap, ◌∙◌, refl, arith, Option, Some, Bool, true}
-use Rattle.std.proofs.Common.{List, [], ◌∷◌, ◌++◌, length}
-use Rattle.std.proofs.lemmas.List.{map-append}
+use Rattle.std.proofs.Common.{◌≡◌, ℕ, ◌+◌, ◌%◌, ◌≤◌, ap, ◌∙◌, refl, arith, Option, Some, Bool, true, List, [], ◌∷◌, ◌++◌, length}
 use Rattle.std.proofs.Math.Nat.{mod-add-mod}
 use Rattle.std.proofs.lemmas.Bool.Decides.{nat_tests}
+use Rattle.std.proofs.lemmas.Grind.{common_steps}
+use Rattle.std.proofs.lemmas.List.{map-append}
 use Rattle.hart_values.specs.declared.master_id.MasterId.{MasterId}
 use Rattle.hart_values.specs.declared.master_id.MasterId.TheVariants.{Primary, Secondary}
 use Rattle.hart_commands.specs.Registers.{Contents, registers_of, overwritten}
 use Rattle.hart_device.specs.Device.{DeviceState, Effect, Executes, after}
 use Rattle.hart_device.proofs.lemmas.Laws.{registers_of_lists-last}
-use Rattle.hart_line.specs.world.World.{World, Execution, state_of, overwrites_of, is_changed, MarksWithin}
 use Rattle.hart_line.specs.world.Step.{executions_after, marks_after}
+use Rattle.hart_line.specs.world.World.{World, Execution, state_of, overwrites_of, is_changed, MarksWithin}
 
 -- A mark lies before one execution more.
 is_changed-more : (initially : Bool) (mark : Option ℕ) (count : ℕ) → ((m : ℕ) → mark ≡ Some m → m ≤ count)

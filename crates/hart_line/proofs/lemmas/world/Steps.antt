@@ -1,26 +1,23 @@
 -- The steps of a script: what holds at its beginning and is kept by every step of it holds of every world of it.
-use Rattle.std.proofs.Common.{arith}
-use Rattle.std.proofs.Common.{◌≡◌, Bool, ◌∙◌, refl, subst, sym, append-nil, append_assoc, Option, None, Some, List, [], ◌∷◌, ◌++◌, ◌⊎◌, inl, inr}
+use Rattle.std.proofs.Common.{arith, ◌≡◌, Bool, ◌∙◌, refl, subst, sym, append-nil, append_assoc, Option, None, Some, List, [], ◌∷◌, ◌++◌}
+use Rattle.std.proofs.Common.{◌⊎◌, inl, inr, ℕ, length}
+use Rattle.hart_values.specs.EachMaster.{of_master}
 use Rattle.hart_values.specs.declared.each_master.EachMaster.{EachMaster}
 use Rattle.hart_values.specs.declared.master_id.MasterId.{MasterId}
-use Rattle.hart_values.specs.EachMaster.{of_master}
-use Rattle.hart_commands.specs.declared.reply.Reply.{Reply}
-use Rattle.hart_master.specs.declared.fault.MasterFault.{MasterFault}
-use Rattle.hart_line.specs.world.Promises.{IsStepOf, Submission, submissions_of}
-use Rattle.hart_line.specs.world.Spoken.{SpokenFrame}
-use Rattle.hart_line.specs.world.Step.{IsTurn, LeadsTo, Step, replied, spoken_request, submitted}
-use Rattle.hart_line.specs.world.Step.{turned}
-use Rattle.hart_device.specs.answer.Delivery.{Brought, NoMessage, OneFrame}
-use Rattle.hart_line.specs.world.Step.{effect_on, executions_after, marks_after}
-use Rattle.hart_line.specs.world.World.{state_of}
 use Rattle.hart_values.specs.declared.master_id.MasterId.TheVariants.{Primary}
-use Rattle.hart_line.proofs.lemmas.world.Basics.{none_or_some}
-use Rattle.std.proofs.Common.{ℕ, length}
-use Rattle.hart_line.specs.world.World.{InHand, Start, World}
+use Rattle.hart_commands.specs.declared.reply.Reply.{Reply}
+use Rattle.hart_device.specs.answer.Delivery.{Brought, NoMessage, OneFrame}
+use Rattle.hart_master.specs.declared.fault.MasterFault.{MasterFault}
 use Rattle.hart_line.specs.declared.event.Heard.{Heard}
 use Rattle.hart_line.specs.declared.event.LineEvent.{LineEvent}
 use Rattle.hart_line.specs.declared.event.LineEvent.TheVariants.{Submit, Turn, Protect, Noise, Restart}
+use Rattle.hart_line.specs.world.Promises.{IsStepOf, Submission, submissions_of}
+use Rattle.hart_line.specs.world.Spoken.{SpokenFrame}
+use Rattle.hart_line.specs.world.Step.{IsTurn, LeadsTo, Step, replied, spoken_request, submitted, turned, effect_on, executions_after}
+use Rattle.hart_line.specs.world.Step.{marks_after}
+use Rattle.hart_line.specs.world.World.{state_of, InHand, Start, World}
 use Rattle.hart_line.proofs.lemmas.world.Arrival.{frame_in, none_reaches, reaches_sent}
+use Rattle.hart_line.proofs.lemmas.world.Basics.{none_or_some}
 
 -- ONE STEP
 -- A turn with a request in hand, which brings the device the frame of this request or none.

@@ -1,23 +1,21 @@
 -- A request in hand is unfinished, and is the one that was submitted under its number, to its master and for its address.
+use Rattle.std.proofs.Common.{◌≡◌, ℕ, ◌+◌, ◌<◌, refl, Some, List, [], ◌∷◌, ◌++◌, get_or, length, slice_set, take, arith}
 use Rattle.std.proofs.lemmas.Grind.{common_steps}
-use Rattle.std.proofs.Common.{◌≡◌, ℕ, ◌+◌, ◌<◌, refl, Some, List, [], ◌∷◌, ◌++◌}
-use Rattle.std.proofs.lemmas.List.{append-nil, map-append}
-use Rattle.std.proofs.Common.{get_or, length, slice_set, take, arith}
-use Rattle.std.specs.List.{slice_get}
-use Rattle.std.proofs.lemmas.List.{take_more}
+use Rattle.std.proofs.lemmas.List.{append-nil, map-append, take_more}
 use Rattle.std.proofs.lemmas.List.Elements.{All-append, All-get_or}
 use Rattle.std.proofs.lemmas.Option.{get_or_from_slice_get, slice_get-map, slice_get_within}
-use Rattle.hart_values.specs.declared.master_id.MasterId.{MasterId}
+use Rattle.std.specs.List.{slice_get}
 use Rattle.hart_values.specs.EachMaster.{of_master}
+use Rattle.hart_values.specs.declared.master_id.MasterId.{MasterId}
 use Rattle.hart_commands.specs.RequestData.{IsRequest}
-use Rattle.hart_line.specs.world.Promises.{AreWellMade, IsStepOf, Submission, requests_of, submission_in, submissions_of}
-use Rattle.hart_line.specs.world.Step.{LeadsTo}
-use Rattle.hart_line.specs.world.World.{InHand, Start, World, first_world}
 use Rattle.hart_line.specs.declared.event.LineEvent.{LineEvent}
 use Rattle.hart_line.specs.declared.line.report.Outcome.{Outcome}
 use Rattle.hart_line.specs.declared.line.report.Outcome.TheVariants.{Unfinished}
-use Rattle.hart_line.proofs.lemmas.world.Basics.{slice_get-append, slice_get-last, slice_get-set_other}
-use Rattle.hart_line.proofs.lemmas.world.Basics.{slice_get-set_same, some_one, with_master-cases}
+use Rattle.hart_line.specs.world.Promises.{AreWellMade, IsStepOf, Submission, requests_of, submission_in, submissions_of}
+use Rattle.hart_line.specs.world.Step.{LeadsTo}
+use Rattle.hart_line.specs.world.World.{InHand, Start, World, first_world}
+use Rattle.hart_line.proofs.lemmas.world.Basics.{slice_get-append, slice_get-last, slice_get-set_other, slice_get-set_same, some_one}
+use Rattle.hart_line.proofs.lemmas.world.Basics.{with_master-cases}
 use Rattle.hart_line.proofs.lemmas.world.Steps.{StepCases, Submits, Sends, Stays, along, step_cases}
 
 -- EVENT BY EVENT

@@ -1,18 +1,18 @@
 -- In every world of a script the device's registers hold valid bytes, and an accepted reply is the one that it made.
-use Rattle.std.proofs.lemmas.Grind.{common_steps}
 use Rattle.std.proofs.Common.{◌≡◌, ℕ, List, arith, refl, subst, sym}
+use Rattle.std.proofs.lemmas.Grind.{common_steps}
 use Rattle.hart_commands.specs.Registers.{AreValid, Contents, Overwrite, registers_of}
 use Rattle.hart_commands.specs.RequestData.{IsRequest}
 use Rattle.hart_commands.specs.declared.reply.Reply.{Reply}
 use Rattle.hart_commands.proofs.lemmas.Laws.{overwrites_are_valid}
+use Rattle.hart_device.specs.Device.{DeviceState, Effect, Executes}
 use Rattle.hart_device.specs.answer.Answer.{reply_of}
 use Rattle.hart_device.specs.answer.Delivery.{Brought}
-use Rattle.hart_device.specs.Device.{DeviceState, Effect, Executes}
 use Rattle.hart_device.proofs.lemmas.Laws.{answers_are_replies-read, registers_of_lists-none, writes_execute_their_overwrite-well_made}
+use Rattle.hart_line.specs.declared.event.LineEvent.{LineEvent}
 use Rattle.hart_line.specs.world.Promises.{AnswersLastSendingFrom, IsWellMadeStart}
 use Rattle.hart_line.specs.world.Step.{LeadsTo, effect_on, executions_after, spoken_request}
 use Rattle.hart_line.specs.world.World.{Execution, Start, World, first_world, overwrites_of, state_of}
-use Rattle.hart_line.specs.declared.event.LineEvent.{LineEvent}
 use Rattle.hart_line.proofs.lemmas.world.Basics.{some_one}
 use Rattle.hart_line.proofs.lemmas.world.State.{contents-more}
 use Rattle.hart_line.proofs.lemmas.world.Steps.{entered, to_last}

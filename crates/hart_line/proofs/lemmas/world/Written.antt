@@ -1,28 +1,27 @@
 -- Unrefused writes are executed in their turn, and nothing else is.
+use Rattle.std.proofs.Common.{◌≡◌, ℕ, ap, ◌∙◌, sym, refl, Some, IsTrue, List, inl, inr, arith}
 use Rattle.std.proofs.lemmas.Grind.{common_steps}
-use Rattle.std.proofs.Common.{◌≡◌, ℕ, ap, ◌∙◌, sym, refl, Some, IsTrue}
-use Rattle.std.proofs.Common.{List, inl, inr, arith}
 use Rattle.std.specs.List.{slice_get}
 use Rattle.hart_values.specs.declared.master_id.MasterId.{MasterId}
 use Rattle.hart_commands.specs.Registers.{Overwrite, overwrite_of}
 use Rattle.hart_commands.specs.ReplyData.{reply_reading}
 use Rattle.hart_commands.specs.RequestCode.{is_write}
 use Rattle.hart_commands.specs.RequestData.{command_of}
-use Rattle.hart_commands.proofs.lemmas.Laws.{requests_have_their_command, writes_have_overwrites-exactly, written_data_are_their_request}
 use Rattle.hart_commands.specs.declared.reply.Reply.{Reply}
 use Rattle.hart_commands.specs.declared.request.Request.{Request}
+use Rattle.hart_commands.proofs.lemmas.Laws.{requests_have_their_command, writes_have_overwrites-exactly, written_data_are_their_request}
+use Rattle.hart_device.specs.Device.{DeviceState, Effect, Executes}
 use Rattle.hart_device.specs.answer.Answer.{code_of}
 use Rattle.hart_device.specs.answer.Delivery.{Brought, OneFrame}
-use Rattle.hart_device.specs.Device.{DeviceState, Effect, Executes}
 use Rattle.hart_device.proofs.lemmas.Laws.{answers_give_their_code-answered, writes_execute_their_overwrite-executes}
 use Rattle.hart_device.proofs.lemmas.Laws.{writes_execute_their_overwrite-only}
+use Rattle.hart_line.specs.declared.event.Heard.{Heard}
+use Rattle.hart_line.specs.declared.event.LineEvent.{LineEvent}
+use Rattle.hart_line.specs.declared.event.LineEvent.TheVariants.{Turn}
 use Rattle.hart_line.specs.world.Promises.{AnswersLastSending, AreWellMade, IsExecutedFromHand, IsExecutedInItsTurn, IsStepOf}
 use Rattle.hart_line.specs.world.Promises.{IsUnrefusedWrite, brought_in_step, requests_of}
 use Rattle.hart_line.specs.world.Step.{effect_on, executions_after, spoken_request, submitted}
 use Rattle.hart_line.specs.world.World.{Execution, Start, World, first_world, state_of}
-use Rattle.hart_line.specs.declared.event.Heard.{Heard}
-use Rattle.hart_line.specs.declared.event.LineEvent.{LineEvent}
-use Rattle.hart_line.specs.declared.event.LineEvent.TheVariants.{Turn}
 use Rattle.hart_line.proofs.lemmas.world.Basics.{some_one}
 use Rattle.hart_line.proofs.lemmas.world.Steps.{turn_cases}
 use Rattle.hart_line.proofs.lemmas.world.Submitted.{held_in, made_of, request_there}

@@ -1,6 +1,5 @@
 -- The calendar of `jiff` has the same days.
-use Rattle.std.proofs.Common.{◌≡◌, ℕ, ◌+◌, ◌-◌, ◌<◌, ◌≤◌, get_or, arith, ℤ, pos, ◌+ℤ◌, FitsSigned, w8, w16, to_z}
-use Rattle.std.proofs.Common.{of_z, ◌↔◌}
+use Rattle.std.proofs.Common.{◌≡◌, ℕ, ◌+◌, ◌-◌, ◌<◌, ◌≤◌, get_or, arith, ℤ, pos, ◌+ℤ◌, FitsSigned, w8, w16, to_z, of_z, ◌↔◌}
 use Rattle.std.proofs.lemmas.Bool.Decides.{nat_tests}
 use Rattle.std.proofs.lemmas.Int.{ints, to_z-of_z, to_z_pos}
 use Rattle.jiff.specs.Words.{IsDate, days_in_month}

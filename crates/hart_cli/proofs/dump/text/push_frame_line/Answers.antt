@@ -1,8 +1,6 @@
-use Rattle.std.proofs.Common.{◌≡◌, ℕ, List, [], ◌∷◌, ◌++◌, append_assoc}
-use Rattle.std.specs.List.{join_with_byte}
-use Rattle.std.proofs.Common.{arith}
+use Rattle.std.proofs.Common.{◌≡◌, ℕ, List, [], ◌∷◌, ◌++◌, append_assoc, arith, decimal}
 use Rattle.std.proofs.lemmas.Grind.{common_steps}
-use Rattle.std.proofs.Common.{decimal}
+use Rattle.std.specs.List.{join_with_byte}
 use Rattle.hart_cli.proofs.dump.text.push_frame_line.Goals as goal
 
 -- nine words, each but the last with a space after it, and a line feed

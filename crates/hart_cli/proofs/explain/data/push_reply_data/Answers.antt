@@ -1,12 +1,10 @@
+use Rattle.std.proofs.Common.{◌≡◌, ◌≤◌, ◌<◌, ℕ, true, false, List, [], ◌∷◌, drop, get_or, length, refl, arith}
 use Rattle.std.proofs.lemmas.Bool.Decides.{nat_tests}
-use Rattle.std.proofs.Common.{◌≡◌, ◌≤◌, ◌<◌, ℕ, true, false, List, [], ◌∷◌, drop, get_or, length}
-use Rattle.std.proofs.Common.{refl, arith}
+use Rattle.std.proofs.lemmas.Grind.{common_steps}
+use Rattle.std.proofs.lemmas.List.{append-nil, take_rest}
 use Rattle.std.specs.Prelude.{nat_lt}
 use Rattle.hart_commands.specs.ReplyData.{reply_reading}
 use Rattle.hart_cli.specs.explain.Data.{ignored_line, replied_lines, reply_lines}
-use Rattle.std.proofs.lemmas.Grind.{common_steps}
-use Rattle.std.proofs.Common.{arith}
-use Rattle.std.proofs.lemmas.List.{append-nil, take_rest}
 use Rattle.hart_cli.proofs.explain.data.push_reply_data.Goals as goal
 
 -- fewer than two bytes are no payload of a reply

@@ -1,5 +1,5 @@
-use Rattle.std.proofs.lemmas.Grind.{common_steps}
 use Rattle.std.proofs.Common.{sym, arith}
+use Rattle.std.proofs.lemmas.Grind.{common_steps}
 use Rattle.hart_cli.proofs.lemmas.explain.Fields.{few_more, row_at-lines, row_at-rest, row_at-short, row_at-suits}
 use Rattle.hart_cli.proofs.explain.fields.push_fields.Goals as goal
 

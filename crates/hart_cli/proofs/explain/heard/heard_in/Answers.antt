@@ -1,5 +1,5 @@
-use Rattle.std.proofs.lemmas.Grind.{common_steps}
 use Rattle.std.proofs.Common.{arith}
+use Rattle.std.proofs.lemmas.Grind.{common_steps}
 use Rattle.std.proofs.lemmas.List.{length-drop, take_rest}
 use Rattle.hart_cli.proofs.lemmas.explain.Heard.{is_heard}
 use Rattle.hart_cli.proofs.explain.heard.heard_in.Goals as goal

@@ -1,12 +1,12 @@
 use Rattle.std.proofs.Common.{◌-◌, ◌++◌, ◌<◌, drop, inl, inr, refl, codes, decimal, arith}
-use Rattle.std.specs.List.{range_with_len}
-use Rattle.std.proofs.lemmas.List.Folds.{list_all-append}
 use Rattle.std.proofs.lemmas.List.Elements.{All-drop}
+use Rattle.std.proofs.lemmas.List.Folds.{list_all-append}
+use Rattle.std.specs.List.{range_with_len}
 use Rattle.hart_frame.specs.heard.Character.{Character}
 use Rattle.hart_frame.specs.heard.Miss.{miss_of}
 use Rattle.hart_cli.specs.explain.Misses.{miss_words}
-use Rattle.hart_cli.proofs.lemmas.explain.Gaps.{missed_are, no_frame_in_gap, said_of_places, told_has, told_in_order}
-use Rattle.hart_cli.proofs.lemmas.explain.Gaps.{unbroken-all, unbroken-decimal, unbroken-miss_words}
+use Rattle.hart_cli.proofs.lemmas.explain.Gaps.{missed_are, no_frame_in_gap, said_of_places, told_has, told_in_order, unbroken-all}
+use Rattle.hart_cli.proofs.lemmas.explain.Gaps.{unbroken-decimal, unbroken-miss_words}
 use Rattle.hart_cli.proofs.explain.laws.every_start_outside_messages_has_one_line.Goals as goal
 
 pub returns : goal.returns

@@ -1,6 +1,5 @@
-use Rattle.std.proofs.Common.{arith}
+use Rattle.std.proofs.Common.{arith, ◌≡◌, ◌++◌, ℕ, List, Option, append_assoc, inl, inr}
 use Rattle.std.proofs.lemmas.Grind.{common_steps}
-use Rattle.std.proofs.Common.{◌≡◌, ◌++◌, ℕ, List, Option, append_assoc, inl, inr}
 use Rattle.hart_frame.specs.heard.Character.{Character}
 use Rattle.hart_frame.proofs.lemmas.Laws.{frames_are_unambiguous-one_list}
 use Rattle.hart_cli.specs.declared.fault.CliFault.{CliFault}

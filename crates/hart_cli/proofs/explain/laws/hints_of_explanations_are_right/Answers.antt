@@ -1,17 +1,16 @@
+use Rattle.std.proofs.Common.{◌≡◌, ◌+◌, ◌-◌, ◌<◌, ◌≤◌, ℕ, inl, inr, List, [], ◌∷◌, ◌++◌, length, drop, set, Some, refl, sym, ap, ◌∙◌, arith}
+use Rattle.std.proofs.Common.{length-append, length-drop}
 use Rattle.std.proofs.lemmas.Grind.{common_steps}
-use Rattle.std.proofs.Common.{◌≡◌, ◌+◌, ◌-◌, ◌<◌, ◌≤◌, ℕ, inl, inr, List, [], ◌∷◌, ◌++◌, length, drop, set}
-use Rattle.std.proofs.Common.{Some, refl, sym, ap, ◌∙◌, arith, length-append, length-drop}
-use Rattle.std.specs.List.{slice_get}
 use Rattle.std.proofs.lemmas.List.{drop-append-le, drop-drop, drop-set-add, get_or-drop}
 use Rattle.std.proofs.lemmas.List.Elements.{All-drop}
 use Rattle.std.proofs.lemmas.Option.{get_or_from_slice_get, slice_get_read, slice_get_within}
+use Rattle.std.specs.List.{slice_get}
+use Rattle.hart_frame.specs.declared.heard.miss.Miss.{Miss}
+use Rattle.hart_frame.specs.declared.heard.miss.Miss.TheVariants.{BadCheck, Faulty, Missing, OnePreamble}
 use Rattle.hart_frame.specs.heard.Character.{Character, faultless}
 use Rattle.hart_frame.specs.heard.InTheWay.{HasBodyAt, HasFaultsAt, IsInTheWay, bytes_from}
 use Rattle.hart_frame.specs.heard.Miss.{HasFrameUpTo}
 use Rattle.hart_frame.specs.heard.Start.{IsStart}
-use Rattle.hart_frame.specs.declared.heard.miss.Miss.{Miss}
-use Rattle.hart_frame.specs.declared.heard.miss.Miss.TheVariants.{BadCheck, Faulty, Missing}
-use Rattle.hart_frame.specs.declared.heard.miss.Miss.TheVariants.{OnePreamble}
 use Rattle.hart_cli.specs.explain.Misses.{miss_in_whole}
 use Rattle.hart_cli.proofs.lemmas.explain.Gaps.{missed_are, stands_in_rest}
 use Rattle.hart_cli.proofs.explain.laws.hints_of_explanations_are_right.Goals as goal

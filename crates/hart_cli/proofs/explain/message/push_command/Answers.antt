@@ -1,5 +1,5 @@
-use Rattle.std.proofs.lemmas.Grind.{common_steps}
 use Rattle.std.proofs.Common.{arith}
+use Rattle.std.proofs.lemmas.Grind.{common_steps}
 use Rattle.hart_cli.proofs.lemmas.explain.Message.{command_name-short}
 use Rattle.hart_cli.proofs.explain.message.push_command.Goals as goal
 

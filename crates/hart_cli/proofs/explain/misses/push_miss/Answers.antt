@@ -1,5 +1,4 @@
-use Rattle.std.proofs.Common.{arith}
-use Rattle.std.proofs.Common.{append_assoc}
+use Rattle.std.proofs.Common.{arith, append_assoc}
 use Rattle.hart_cli.proofs.explain.misses.push_miss.Goals as goal
 
 pub returns-in-Faulty-clause-words : goal.returns-in-Faulty-clause-words

@@ -1,5 +1,5 @@
-use Rattle.std.proofs.lemmas.Grind.{common_steps}
 use Rattle.std.proofs.Common.{◌+◌, arith}
+use Rattle.std.proofs.lemmas.Grind.{common_steps}
 use Rattle.hart_cli.specs.explain.Misses.{gap_text, place_text}
 use Rattle.hart_cli.proofs.lemmas.explain.Misses.{gap_begins, gap_more}
 use Rattle.hart_cli.proofs.lemmas.explain.Told.{adds_then, fails_first, fails_then, tells_failure}

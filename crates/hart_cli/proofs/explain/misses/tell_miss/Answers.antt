@@ -1,20 +1,14 @@
-use Rattle.std.proofs.Common.{◌≡◌, ◌≤◌, ◌<◌, ◌+◌, ℕ, Bool, List, Option, None, Some, drop, length, arith}
-use Rattle.std.proofs.Common.{length-drop, nat_le, nat_lt}
-use Rattle.std.specs.Prelude.{◌&&◌, if◌then◌else◌, is_none, slice_get}
+use Rattle.std.proofs.Common.{◌≡◌, ◌≤◌, ◌<◌, ◌+◌, ℕ, Bool, List, Option, None, Some, drop, length, arith, length-drop, nat_le, nat_lt, ◌++◌}
+use Rattle.std.proofs.Common.{◌-◌, [], append_assoc, sym, ◌∙◌}
 use Rattle.std.proofs.lemmas.Grind.{common_steps}
-use Rattle.std.proofs.lemmas.List.{length-map, length-take}
+use Rattle.std.proofs.lemmas.List.{length-map, length-take, take_rest}
 use Rattle.std.proofs.lemmas.Option.{slice_get_within}
-use Rattle.hart_frame.specs.heard.Character.{Character, faultless_bytes}
-use Rattle.hart_frame.specs.heard.Miss.{body_miss}
-use Rattle.hart_frame.specs.heard.Miss.{follows_one_preamble}
-use Rattle.hart_frame.specs.heard.Miss.{is_start, miss_in, miss_of}
+use Rattle.std.specs.Prelude.{◌&&◌, if◌then◌else◌, is_none, slice_get}
 use Rattle.hart_frame.specs.declared.heard.miss.Miss.{Miss}
 use Rattle.hart_frame.specs.declared.heard.miss.Miss.TheVariants.{OnePreamble}
-use Rattle.hart_cli.specs.explain.Misses.{ArePlacesBelow}
-use Rattle.std.proofs.Common.{◌≡◌, ◌++◌, ◌-◌, [], drop, None, Some, arith, append_assoc, sym, ◌∙◌}
-use Rattle.std.proofs.Common.{length-drop}
-use Rattle.std.proofs.lemmas.List.{take_rest}
-use Rattle.hart_cli.specs.explain.Misses.{miss_line}
+use Rattle.hart_frame.specs.heard.Character.{Character, faultless_bytes}
+use Rattle.hart_frame.specs.heard.Miss.{body_miss, follows_one_preamble, is_start, miss_in, miss_of}
+use Rattle.hart_cli.specs.explain.Misses.{ArePlacesBelow, miss_line}
 use Rattle.hart_cli.proofs.lemmas.explain.Misses.{below_more, place_text-miss}
 use Rattle.hart_cli.proofs.lemmas.explain.Told.{adds_kept, adds_nothing, adds_then, fails_first, tells_failure}
 use Rattle.hart_cli.proofs.explain.misses.tell_miss.Goals as goal

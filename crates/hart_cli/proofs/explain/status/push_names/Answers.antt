@@ -1,10 +1,9 @@
 use Rattle.std.proofs.Common.{◌≡◌, ◌≤◌, ◌<◌, ℕ, List, [], ◌∷◌, codes, drop, length, map, refl, arith}
-use Rattle.hart_cli.specs.declared.explain.status.NamedBit as code
-use Rattle.hart_cli.specs.explain.Status.{further, names_words, seen, separated, set_names}
-use Rattle.std.proofs.Common.{arith}
 use Rattle.std.proofs.lemmas.Grind.{common_steps}
 use Rattle.std.proofs.lemmas.List.{take_rest}
 use Rattle.std.specs.List.{flat_map}
+use Rattle.hart_cli.specs.explain.Status.{further, names_words, seen, separated, set_names}
+use Rattle.hart_cli.specs.declared.explain.status.NamedBit as code
 use Rattle.hart_cli.proofs.explain.status.push_names.Goals as goal
 
 -- the names of the bits that are set, each with a comma and a space before it

@@ -1,11 +1,7 @@
-use Rattle.std.proofs.Common.{◌≡◌, ◌≤◌, ◌<◌, ◌++◌, ℕ, codes, arith}
+use Rattle.std.proofs.Common.{◌≡◌, ◌≤◌, ◌<◌, ◌++◌, ℕ, codes, arith, append_assoc}
 use Rattle.std.proofs.lemmas.Bool.Decides.{nat_tests}
-use Rattle.hart_cli.specs.explain.Status.{code_words, comm_faults, device_states, names_words, set_names}
-use Rattle.hart_cli.specs.explain.Status.{status_lines}
-use Rattle.std.proofs.Common.{arith}
 use Rattle.std.proofs.lemmas.Grind.{common_steps}
-use Rattle.std.proofs.Common.{append_assoc, codes}
-use Rattle.hart_cli.specs.explain.Status.{code_words, device_states, names_words, set_names}
+use Rattle.hart_cli.specs.explain.Status.{code_words, comm_faults, device_states, names_words, set_names, status_lines}
 use Rattle.hart_cli.specs.explain.Words.{said_line}
 use Rattle.hart_cli.proofs.explain.status.push_status.Goals as goal
 

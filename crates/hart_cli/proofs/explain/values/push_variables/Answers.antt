@@ -1,11 +1,8 @@
-use Rattle.std.proofs.Common.{◌≡◌, ◌≤◌, ◌<◌, ◌+◌, ℕ, List, [], ◌∷◌, ◌++◌, length, take, get_or}
-use Rattle.std.proofs.Common.{append_assoc, arith}
-use Rattle.std.specs.List.{join_by}
+use Rattle.std.proofs.Common.{◌≡◌, ◌≤◌, ◌<◌, ◌+◌, ℕ, List, [], ◌∷◌, ◌++◌, length, take, get_or, append_assoc, arith, length-append}
 use Rattle.std.proofs.lemmas.Grind.{common_steps, flat_map-append}
-use Rattle.std.proofs.Common.{arith, length-append}
-use Rattle.std.proofs.lemmas.Grind.{common_steps}
-use Rattle.hart_cli.proofs.explain.values.push_variables.Goals as goal
+use Rattle.std.specs.List.{join_by}
 use Rattle.hart_cli.proofs.explain.values.push_variables.Goals.{then-index-gt0, else-index-gt0}
+use Rattle.hart_cli.proofs.explain.values.push_variables.Goals as goal
 
 -- one more part after the last of one or more
 join_by-push : {X : Type 0} (f : X → List ℕ) (sep : List ℕ) (x : X) (xs : List X) (y : X)

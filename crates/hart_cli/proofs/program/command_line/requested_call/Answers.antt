@@ -1,10 +1,7 @@
-use Rattle.std.proofs.Common.{◌∙◌, ap, subst}
-use Rattle.std.proofs.Common.{sym}
-use Rattle.clap.specs.Words.{App, HasKind, fault_of, is_simple, is_simple_and_free}
-use Rattle.clap.specs.Words.{subcommand_of}
-use Rattle.hart_cli.specs.program.CommandLine.{call_of}
-use Rattle.std.proofs.Common.{map, string_bytes}
+use Rattle.std.proofs.Common.{◌∙◌, ap, subst, sym, map, string_bytes}
 use Rattle.std.proofs.lemmas.Result.{err_from_is_err_and}
+use Rattle.clap.specs.Words.{App, HasKind, fault_of, is_simple, is_simple_and_free, subcommand_of}
+use Rattle.hart_cli.specs.program.CommandLine.{call_of}
 use Rattle.hart_cli.proofs.program.command_line.requested_call.Goals as goal
 
 pub returns-in_err-matches-clause-refused : goal.returns-in_err-matches-clause-refused

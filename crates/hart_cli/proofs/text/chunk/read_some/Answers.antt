@@ -1,12 +1,10 @@
-use Rattle.std.proofs.Common.{◌≡◌, ℕ, List, ◌++◌, drop, Option, subst, sym}
+use Rattle.std.proofs.Common.{◌≡◌, ℕ, List, ◌++◌, drop, Option, subst, sym, [], ◌∷◌, ap, ◌∙◌}
+use Rattle.std.proofs.lemmas.List.{append-nil}
+use Rattle.std.specs.Option.{option_to_list}
 use Rattle.hart_frame.specs.heard.Character.{Character, faultless}
 use Rattle.hart_cli.specs.text.Chunk.{ReadsMore}
 use Rattle.hart_cli.specs.text.Items.{BeginsAs, ReadsUpTo}
 use Rattle.hart_cli.proofs.lemmas.text.Items.{begins_reads}
-use Rattle.std.proofs.Common.{[], ◌∷◌, ◌++◌, ℕ, Option, sym, ap, ◌∙◌}
-use Rattle.std.proofs.lemmas.List.{append-nil}
-use Rattle.std.specs.Option.{option_to_list}
-use Rattle.hart_frame.specs.heard.Character.{Character}
 use Rattle.hart_cli.proofs.text.chunk.read_some.Goals as goal
 
 -- one piece is read

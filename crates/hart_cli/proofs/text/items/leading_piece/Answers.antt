@@ -2,9 +2,9 @@ use Rattle.std.proofs.Common.{◌≡◌, ◌≢◌, ◌<◌, ℕ, List, length, 
 use Rattle.std.proofs.lemmas.Grind.{common_steps}
 use Rattle.std.proofs.lemmas.List.{length-append}
 use Rattle.hart_frame.specs.heard.Character.{Character}
-use Rattle.hart_line.specs.script.Items as items
 use Rattle.hart_line.specs.script.Items.{BeginsAsItem, BeginsWithItem, EndsBefore, Faulty, item_spelling, Plain}
 use Rattle.hart_cli.specs.text.Items.{BeginsAs, IsSeparator, Item, NoPieceBegins, Separator}
+use Rattle.hart_line.specs.script.Items as items
 use Rattle.hart_cli.proofs.text.items.leading_piece.Goals as goal
 
 -- a separator begins a text

@@ -1,12 +1,11 @@
-use Rattle.std.proofs.Common.{◌≡◌, ◌≢◌, inl, inr, ℕ, zero, suc, ◌+◌, ◌*◌, ◌<◌, List, [], ◌∷◌, ◌++◌, length, drop, Option, Some, None}
-use Rattle.std.proofs.Common.{Bool, is_some, IsTrue, MatchOption, refl, arith}
+use Rattle.std.proofs.Common.{◌≡◌, ◌≢◌, inl, inr, ℕ, zero, suc, ◌+◌, ◌*◌, ◌<◌, List, [], ◌∷◌, ◌++◌, length, drop, Option, Some, None, Bool}
+use Rattle.std.proofs.Common.{is_some, IsTrue, MatchOption, refl, arith}
 use Rattle.std.proofs.lemmas.Grind.{common_steps}
 use Rattle.std.specs.Int.{bit_at}
 use Rattle.hart_frame.specs.heard.Character.{AreFaultBits, IsFaultBit}
 use Rattle.hart_line.specs.script.Items.{AreDigits, byte_of, Faulty, hex_value, Plain}
-use Rattle.hart_cli.specs.text.Items.{BeginsAs, BeginsWith, Item, MayBegin, NoPieceBegins, Piece}
-use Rattle.hart_cli.specs.text.Items.{Separator, spelling}
 use Rattle.hart_cli.specs.declared.text.items.LeadingPiece.{LeadingPiece}
+use Rattle.hart_cli.specs.text.Items.{BeginsAs, BeginsWith, Item, MayBegin, NoPieceBegins, Piece, Separator, spelling}
 use Rattle.hart_cli.proofs.text.items.may_begin.Goals as goal
 
 -- what fills the beginning of an item up to an item: `00!02` and a space

@@ -1,7 +1,7 @@
 use Rattle.std.proofs.Common.{◌≡◌, ◌≢◌, ◌≤◌, ℕ, List, ◌∷◌, length, get_or, IfSome, None, Option, Some, refl, arith}
 use Rattle.hart_frame.specs.heard.Character.{Character}
-use Rattle.hart_line.specs.script.Items.{Plain}
 use Rattle.hart_line.specs.script.Digits.{AreDigitsOf}
+use Rattle.hart_line.specs.script.Items.{Plain}
 use Rattle.hart_cli.specs.text.Items.{BeginsAs, Item}
 use Rattle.hart_cli.proofs.text.items.plain_char.Goals as goal
 

@@ -1,9 +1,8 @@
-use Rattle.std.proofs.Common.{nat_lt, true, false}
-use Rattle.std.proofs.lemmas.Grind.{common_steps}
-use Rattle.std.proofs.Common.{◌≡◌, ◌+◌, ◌-◌, ◌<◌, List, ◌∷◌, length, take, drop, get_or, length-drop}
-use Rattle.std.proofs.Common.{Option, Some, arith, ap, ◌∙◌}
+use Rattle.std.proofs.Common.{nat_lt, true, false, ◌≡◌, ◌+◌, ◌-◌, ◌<◌, List, ◌∷◌, length, take, drop, get_or, length-drop, Option, Some}
+use Rattle.std.proofs.Common.{arith, ap, ◌∙◌}
 use Rattle.std.proofs.Math.Seq.{drop-cons}
 use Rattle.std.proofs.lemmas.Bool.Decides.{nat_tests}
+use Rattle.std.proofs.lemmas.Grind.{common_steps}
 use Rattle.hart_values.specs.declared.master_id.MasterId.{MasterId}
 use Rattle.hart_frame.specs.heard.Character.{Character}
 use Rattle.hart_device.specs.answer.Garbled.{asking_master, communication_faults, garbled_after, garbled_request}

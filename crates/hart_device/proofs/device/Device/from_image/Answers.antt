@@ -1,5 +1,5 @@
-use Rattle.std.proofs.lemmas.Grind.{common_steps}
 use Rattle.std.proofs.Common.{arith}
+use Rattle.std.proofs.lemmas.Grind.{common_steps}
 use Rattle.hart_device.proofs.lemmas.Laws.{images_have_no_fault}
 use Rattle.hart_device.proofs.device.Device.from_image.Goals as goal
 

@@ -1,6 +1,6 @@
 use Rattle.std.proofs.Common.{◌<◌, ◌^◌, arith}
-use Rattle.std.specs.List.{slice_index_or}
 use Rattle.std.proofs.lemmas.Grind.{common_steps}
+use Rattle.std.specs.List.{slice_index_or}
 use Rattle.hart_device.proofs.lemmas.image.Image.{written_is}
 use Rattle.hart_device.proofs.lemmas.registers.Range.{next_size, next_written}
 use Rattle.hart_device.proofs.device.Device.image.Goals as goal

@@ -1,5 +1,5 @@
-use Rattle.std.proofs.lemmas.Grind.{common_steps}
 use Rattle.std.proofs.Common.{arith}
+use Rattle.std.proofs.lemmas.Grind.{common_steps}
 use Rattle.std.proofs.lemmas.List.{length-take}
 use Rattle.hart_frame.proofs.lemmas.heard.Front.{Front-all, Front-end, Front-more, within}
 use Rattle.hart_frame.proofs.heard.character.faultless_front.Goals as goal

@@ -1,6 +1,6 @@
 use Rattle.std.proofs.Common.{◌≡◌, bit_xor, rules}
-use Rattle.std.specs.Int.Bits.{bit_or}
 use Rattle.std.proofs.lemmas.Fn.{fold_over, fronts, slice_gives}
+use Rattle.std.specs.Int.Bits.{bit_or}
 use Rattle.hart_frame.proofs.lemmas.heard.Sum.{IsSum, IsSum-more, IsSum-none}
 use Rattle.hart_frame.proofs.heard.character.sum_of.Goals as goal
 

@@ -1,5 +1,5 @@
-use Rattle.std.proofs.lemmas.Grind.{common_steps}
 use Rattle.std.proofs.Common.{arith, rules}
+use Rattle.std.proofs.lemmas.Grind.{common_steps}
 use Rattle.hart_frame.specs.wire.Refusal.{IsDelimiter}
 use Rattle.hart_frame.proofs.lemmas.heard.Miss.{BeginsWithCount, begins_with_count, good_count, short_reply}
 use Rattle.hart_frame.proofs.heard.miss.body_miss.Goals as goal

@@ -1,10 +1,10 @@
+use Rattle.std.proofs.Common.{◌<◌, arith, length, ◌∙◌}
 use Rattle.std.proofs.Math.Nat.{sub-zero}
 use Rattle.std.proofs.lemmas.Grind.{common_steps}
-use Rattle.std.proofs.Common.{◌<◌, arith, length, ◌∙◌}
 use Rattle.hart_frame.specs.heard.Character.{faultless_bytes}
+use Rattle.hart_frame.proofs.heard.miss.counted_miss.Goals.{in-Some+else-sum-eq0, in_default}
 use Rattle.hart_frame.proofs.lemmas.heard.Front.{length-faultless_bytes}
 use Rattle.hart_frame.proofs.lemmas.heard.Miss.{counted_early, counted_whole, front_length, not_whole, whole_front}
-use Rattle.hart_frame.proofs.heard.miss.counted_miss.Goals.{in-Some+else-sum-eq0, in_default}
 use Rattle.hart_frame.proofs.heard.miss.counted_miss.Goals as goal
 
 pub check_miss-requires-clause-whole : goal.check_miss-requires-clause-whole

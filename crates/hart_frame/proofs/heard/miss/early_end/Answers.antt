@@ -1,5 +1,5 @@
-use Rattle.std.proofs.lemmas.Grind.{common_steps}
 use Rattle.std.proofs.Common.{arith, length}
+use Rattle.std.proofs.lemmas.Grind.{common_steps}
 use Rattle.hart_frame.specs.heard.Character.{faultless_bytes}
 use Rattle.hart_frame.proofs.lemmas.heard.Front.{length-faultless_bytes}
 use Rattle.hart_frame.proofs.lemmas.heard.Miss.{cut_front}

@@ -1,12 +1,12 @@
-use Rattle.std.proofs.lemmas.Grind.{common_steps}
 use Rattle.std.proofs.Common.{◌≡◌, true, false, rules, ◌∙◌, arith}
+use Rattle.std.proofs.lemmas.Grind.{common_steps}
 use Rattle.std.proofs.lemmas.List.{take_rest}
 use Rattle.std.specs.Option.{is_some}
 use Rattle.hart_frame.specs.heard.Miss.{body_miss, follows_one_preamble}
 use Rattle.hart_frame.specs.heard.Start.{IsStart}
-use Rattle.hart_frame.proofs.lemmas.heard.Missed.{miss_of-nothing, miss_of-one, miss_of-start}
 use Rattle.hart_frame.proofs.heard.miss.why_none.Goals.{else-follows_one_preamble-via-then-follows_one_preamble+else-is_none}
 use Rattle.hart_frame.proofs.heard.miss.why_none.Goals.{else-follows_one_preamble-via-else-follows_one_preamble}
+use Rattle.hart_frame.proofs.lemmas.heard.Missed.{miss_of-nothing, miss_of-one, miss_of-start}
 use Rattle.hart_frame.proofs.heard.miss.why_none.Goals as goal
 
 pub returns-then-is_start : goal.returns-then-is_start

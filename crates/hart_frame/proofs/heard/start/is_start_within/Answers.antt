@@ -1,7 +1,7 @@
-use Rattle.std.proofs.Common.{◌≡◌, ◌≢◌, ◌&&◌, not, nat_eq, ℕ, ◌<◌, List, length, Bool, true, false, Option, Some, IfSome}
-use Rattle.std.proofs.Common.{sym, ◌∙◌, arith, get_or}
-use Rattle.std.proofs.lemmas.List.{get_or_default}
+use Rattle.std.proofs.Common.{◌≡◌, ◌≢◌, ◌&&◌, not, nat_eq, ℕ, ◌<◌, List, length, Bool, true, false, Option, Some, IfSome, sym, ◌∙◌, arith}
+use Rattle.std.proofs.Common.{get_or}
 use Rattle.std.proofs.lemmas.Bool.Decides.{nat_tests}
+use Rattle.std.proofs.lemmas.List.{get_or_default}
 use Rattle.hart_frame.specs.heard.Character.{Character}
 use Rattle.hart_frame.proofs.lemmas.heard.Place.{preamble}
 use Rattle.hart_frame.proofs.lemmas.heard.Start.{is_start_from, starts_at}

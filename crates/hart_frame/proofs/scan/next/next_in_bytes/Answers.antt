@@ -1,5 +1,5 @@
-use Rattle.std.proofs.lemmas.Grind.{common_steps}
 use Rattle.std.proofs.Common.{ℕ, List, arith}
+use Rattle.std.proofs.lemmas.Grind.{common_steps}
 use Rattle.hart_frame.specs.scan.Candidate.{IsWholeBody}
 use Rattle.hart_frame.specs.scan.View.{parts_of}
 use Rattle.hart_frame.proofs.lemmas.scan.Next.{body_at_place, ends_within, leads_nowhere, leads_past, stands_by, undecided_left}

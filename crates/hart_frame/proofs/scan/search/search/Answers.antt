@@ -1,8 +1,8 @@
 use Rattle.std.proofs.Common.{◌-◌, ◌<◌, inl, ℕ, List, length, drop, take, arith, subst, length-drop}
 use Rattle.std.proofs.lemmas.List.{drop_all, take_rest}
-use Rattle.hart_frame.specs.scan.Candidate.{IsCandidate}
 use Rattle.hart_frame.specs.declared.scan.candidate.Candidate.{Candidate}
 use Rattle.hart_frame.specs.declared.scan.candidate.Candidate.TheVariants.{Never, Open, Whole}
+use Rattle.hart_frame.specs.scan.Candidate.{IsCandidate}
 use Rattle.hart_frame.proofs.lemmas.scan.Search.{searched_open, searched_stands, searching_never, searching_next, searching_others}
 use Rattle.hart_frame.proofs.scan.search.search.Goals as goal
 

@@ -1,6 +1,6 @@
 use Rattle.std.proofs.Common.{◌∙◌, None, Some, ◌≡◌, Option, false, not, arith, ap, refl, sym}
-use Rattle.std.specs.Option.{is_some}
 use Rattle.std.proofs.lemmas.Bool.{false≢true}
+use Rattle.std.specs.Option.{is_some}
 use Rattle.hart_frame.specs.declared.wire.layout.Layout.{Layout}
 use Rattle.hart_frame.proofs.lemmas.scan.ToEnd.{looked_first, looked_on, searched_to_end}
 use Rattle.hart_frame.proofs.scan.search.search_to_end.Goals as goal

@@ -1,10 +1,10 @@
-use Rattle.std.proofs.lemmas.Grind.{common_steps}
 use Rattle.std.proofs.Common.{◌<◌, ℕ, take, subst, sym, arith}
-use Rattle.std.specs.List.{All}
+use Rattle.std.proofs.lemmas.Grind.{common_steps}
 use Rattle.std.proofs.lemmas.List.Elements.{All-from_get_or, All-take}
+use Rattle.std.specs.List.{All}
 use Rattle.hart_frame.specs.wire.Parity.{HasEvenParity}
-use Rattle.hart_frame.proofs.lemmas.wire.Parity.{check-even}
 use Rattle.hart_frame.proofs.lemmas.wire.Body.{BeginsWithBody-prefix}
+use Rattle.hart_frame.proofs.lemmas.wire.Parity.{check-even}
 use Rattle.hart_frame.proofs.wire.body.read_body.Goals as goal
 
 pub returns-then-check_byte-ne0-clause-refused : goal.returns-then-check_byte-ne0-clause-refused

@@ -1,8 +1,8 @@
 use Rattle.std.proofs.Common.{◌≡◌, ◌*◌, ◌/◌, ◌<◌, ◌∙◌, ap, fold, bit_xor, rules, arith, length, []}
 use Rattle.std.specs.List.{slice_index_or}
 use Rattle.std.specs.Simd.Lanes.{fold_l}
-use Rattle.hart_frame.proofs.lemmas.wire.Parity.{IsCheckByte-fold}
 use Rattle.hart_frame.proofs.lemmas.wire.Lane.{xor_of-block, xor_of-rest, first_chunks-at}
+use Rattle.hart_frame.proofs.lemmas.wire.Parity.{IsCheckByte-fold}
 use Rattle.hart_frame.proofs.wire.parity.check_byte.Goals as goal
 
 pub loop-block-preserved : goal.loop-block-preserved

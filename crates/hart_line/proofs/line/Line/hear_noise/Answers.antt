@@ -1,8 +1,7 @@
-use Rattle.std.proofs.Common.{arith}
+use Rattle.std.proofs.Common.{arith, None, refl}
 use Rattle.std.proofs.lemmas.Grind.{common_steps}
-use Rattle.std.proofs.Common.{None, refl}
-use Rattle.hart_line.specs.world.Step.{replied}
 use Rattle.hart_line.specs.declared.event.Heard.TheVariants.{Chars}
+use Rattle.hart_line.specs.world.Step.{replied}
 use Rattle.hart_line.proofs.lemmas.line.Turn.{answered, replied_stands}
 use Rattle.hart_line.proofs.line.Line.hear_noise.Goals as goal
 

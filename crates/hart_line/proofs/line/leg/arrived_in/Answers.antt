@@ -1,6 +1,5 @@
-use Rattle.hart_line.proofs.lemmas.line.Leg.{message_arrives}
 use Rattle.std.proofs.Common.{arith}
-use Rattle.hart_line.proofs.lemmas.line.Leg.{nothing_arrives}
+use Rattle.hart_line.proofs.lemmas.line.Leg.{message_arrives, nothing_arrives}
 use Rattle.hart_line.proofs.line.leg.arrived_in.Goals as goal
 
 pub returns-in-Clean-clause-arrives : goal.returns-in-Clean-clause-arrives

@@ -1,7 +1,7 @@
 use Rattle.std.proofs.Common.{List, drop, take}
+use Rattle.hart_line.specs.declared.line.report.Spoken.{Spoken}
 use Rattle.hart_line.specs.line.Room.{HasRoomForEach}
 use Rattle.hart_line.specs.world.Promises.{start_from}
-use Rattle.hart_line.specs.declared.line.report.Spoken.{Spoken}
 use Rattle.hart_line.proofs.lemmas.line.Reached.{IsReached}
 use Rattle.hart_line.proofs.line.logged.run_logged.Given as goal
 

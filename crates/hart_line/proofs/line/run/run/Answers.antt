@@ -1,10 +1,9 @@
-use Rattle.std.proofs.Common.{arith}
+use Rattle.std.proofs.Common.{arith, ap, ◌∙◌}
 use Rattle.std.proofs.lemmas.Grind.{common_steps}
-use Rattle.std.proofs.Common.{ap, ◌∙◌}
 use Rattle.std.proofs.lemmas.Result.{err_from_is_err_and}
 use Rattle.hart_device.specs.Device.{DeviceState}
-use Rattle.hart_line.specs.world.Promises.{start_from}
 use Rattle.hart_line.specs.declared.fault.LineFault.TheVariants.{Undetected}
+use Rattle.hart_line.specs.world.Promises.{start_from}
 use Rattle.hart_line.proofs.lemmas.Laws.{scripts_keep_their_promises-kept}
 use Rattle.hart_line.proofs.line.run.run.Goals as goal
 

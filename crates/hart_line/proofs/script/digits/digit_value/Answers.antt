@@ -1,7 +1,7 @@
 use Rattle.std.proofs.Common.{arith, ◌≡◌, ℕ, true, [], ◌∷◌, refl}
 use Rattle.hex.specs.Hex.{is_hex_digit}
-use Rattle.hart_line.specs.script.Items.{NoItemBegins, Plain}
 use Rattle.hart_line.specs.script.Digits.{value_of_digit}
+use Rattle.hart_line.specs.script.Items.{NoItemBegins, Plain}
 use Rattle.hart_line.proofs.script.digits.digit_value.Goals as goal
 
 -- a byte that is no item after a 0 is no digit

@@ -1,8 +1,8 @@
-use Rattle.std.proofs.lemmas.Grind.{common_steps}
 use Rattle.std.proofs.Common.{arith}
-use Rattle.std.specs.List.{slice_split}
+use Rattle.std.proofs.lemmas.Grind.{common_steps}
 use Rattle.std.proofs.lemmas.List.{length-map}
 use Rattle.std.proofs.lemmas.List.Splits.{length-slice_split}
+use Rattle.std.specs.List.{slice_split}
 use Rattle.hart_line.proofs.script.lines.count_lines.Goals as goal
 
 pub returns : goal.returns

@@ -1,6 +1,5 @@
-use Rattle.std.proofs.Common.{arith}
+use Rattle.std.proofs.Common.{arith, ◌∙◌, ap}
 use Rattle.std.proofs.lemmas.Grind.{common_steps}
-use Rattle.std.proofs.Common.{◌∙◌, ap}
 use Rattle.hart_frame.specs.scan.Scanner.{Scan}
 use Rattle.hart_cli.proofs.lemmas.dump.FrameLines.{waits_for_more}
 use Rattle.hart_cli.proofs.dump.frame_lines.FrameLines.scan_char.Goals as goal

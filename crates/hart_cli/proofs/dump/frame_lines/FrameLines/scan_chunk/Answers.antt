@@ -1,9 +1,9 @@
-use Rattle.std.proofs.lemmas.Grind.{common_steps}
 use Rattle.std.proofs.Common.{◌≡◌, ◌≤◌, ◌-◌, List, ℕ, [], take, drop, length, ap, ◌∙◌, arith}
+use Rattle.std.proofs.lemmas.Grind.{common_steps}
 use Rattle.std.proofs.lemmas.List.{length-drop, length-take-le, take_rest}
 use Rattle.hart_frame.specs.heard.Character.{faultless}
-use Rattle.hart_cli.proofs.lemmas.dump.FrameLines.{faultless_parts, keeps_no_frame, keeps_on, keeps_then}
-use Rattle.hart_cli.proofs.lemmas.dump.FrameLines.{keeps_within, length-faultless, waits_for_more}
+use Rattle.hart_cli.proofs.lemmas.dump.FrameLines.{faultless_parts, keeps_no_frame, keeps_on, keeps_then, keeps_within, length-faultless}
+use Rattle.hart_cli.proofs.lemmas.dump.FrameLines.{waits_for_more}
 use Rattle.hart_cli.proofs.dump.frame_lines.FrameLines.scan_chunk.Goals as goal
 
 -- so much was heard of a chunk

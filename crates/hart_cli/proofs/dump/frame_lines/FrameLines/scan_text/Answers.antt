@@ -1,12 +1,12 @@
-use Rattle.std.proofs.lemmas.Grind.{common_steps}
 use Rattle.std.proofs.Common.{◌-◌, [], drop, take, length, arith}
+use Rattle.std.proofs.lemmas.Grind.{common_steps}
 use Rattle.std.proofs.lemmas.List.{take_rest}
 use Rattle.std.specs.Option.{option_to_list}
 use Rattle.hart_cli.specs.dump.FrameLines.{ScansText}
 use Rattle.hart_cli.specs.text.Items.{nothing}
+use Rattle.hart_cli.proofs.dump.frame_lines.FrameLines.scan_text.Goals.{After-scan_chunk}
 use Rattle.hart_cli.proofs.lemmas.dump.FrameLines.{keeps_nothing, length-faultless, text_on, text_room}
 use Rattle.hart_cli.proofs.lemmas.text.Items.{ReadsUpTo-few, begins_reads, few_read}
-use Rattle.hart_cli.proofs.dump.frame_lines.FrameLines.scan_text.Goals.{After-scan_chunk}
 use Rattle.hart_cli.proofs.dump.frame_lines.FrameLines.scan_text.Goals as goal
 
 pub loop-lead-init : goal.loop-lead-init

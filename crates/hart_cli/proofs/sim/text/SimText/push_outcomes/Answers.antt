@@ -1,10 +1,7 @@
+use Rattle.std.proofs.Common.{◌≡◌, ℕ, ◌+◌, ◌<◌, List, [], ◌∷◌, ◌++◌, length, take, get_or, refl, sym, ap, ◌∙◌, add-zero, arith, length-take}
 use Rattle.std.proofs.lemmas.Grind.{common_steps}
-use Rattle.std.proofs.Common.{◌≡◌, ℕ, ◌+◌, ◌<◌, List, [], ◌∷◌, ◌++◌, length, take, get_or, refl, sym, ap, ◌∙◌}
-use Rattle.std.proofs.Common.{add-zero, arith, length-take}
 use Rattle.std.proofs.lemmas.List.{flat_map_more, take_more}
 use Rattle.std.specs.List.{enumerate_from, flat_map}
-use Rattle.hart_cli.specs.sim.Text.{outcome_line}
-use Rattle.std.proofs.Common.{◌+◌, ◌∙◌, ap, refl}
 use Rattle.hart_line.specs.declared.line.report.Outcome.{Outcome}
 use Rattle.hart_cli.specs.sim.Text.{outcome_line}
 use Rattle.hart_cli.proofs.sim.text.SimText.push_outcomes.Goals as goal

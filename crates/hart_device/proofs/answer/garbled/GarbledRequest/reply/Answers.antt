@@ -1,6 +1,5 @@
-use Rattle.std.proofs.lemmas.Grind.{common_steps}
 use Rattle.std.proofs.Common.{arith, refl}
-use Rattle.std.proofs.lemmas.Grind.{elements}
+use Rattle.std.proofs.lemmas.Grind.{common_steps, elements}
 use Rattle.hart_device.proofs.answer.garbled.GarbledRequest.reply.Goals as goal
 
 pub returns : goal.returns

@@ -1,6 +1,6 @@
+use Rattle.std.proofs.Common.{arith}
 use Rattle.std.proofs.lemmas.Bool.Decides.{nat_tests}
 use Rattle.std.proofs.lemmas.Nat.Bits.{and_pow}
-use Rattle.std.proofs.Common.{arith}
 use Rattle.hart_device.proofs.image.flags.Flags.from_byte.Goals as goal
 
 pub returns-clause-kept : goal.returns-clause-kept

@@ -1,5 +1,5 @@
-use Rattle.std.proofs.lemmas.Grind.{common_steps}
 use Rattle.std.proofs.Common.{arith}
+use Rattle.std.proofs.lemmas.Grind.{common_steps}
 use Rattle.hart_commands.specs.declared.register.Register.TheVariants.{Polling, Mode, Date}
 use Rattle.hart_device.proofs.registers.image_registers.ImageRegisters.values.Goals as goal
 

@@ -1,5 +1,5 @@
-use Rattle.std.proofs.lemmas.Grind.{common_steps}
 use Rattle.std.proofs.Common.{arith}
+use Rattle.std.proofs.lemmas.Grind.{common_steps}
 use Rattle.std.proofs.lemmas.Slice.{between-put_mid}
 use Rattle.hart_device.proofs.lemmas.Laws.{range_within, ranges_apart}
 use Rattle.hart_device.proofs.lemmas.registers.Writing.{kept_apart}

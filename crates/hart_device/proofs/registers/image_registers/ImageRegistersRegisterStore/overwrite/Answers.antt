@@ -1,11 +1,11 @@
 use Rattle.std.proofs.Common.{ap, sym, option_map, unwrap_or, ◌∙◌}
 use Rattle.hart_commands.specs.Registers.{named_in}
-use Rattle.hart_device.specs.registers.Ranges.{standing_for}
 use Rattle.hart_commands.proofs.lemmas.Laws.{all_registers_are_listed_once-every, all_registers_are_listed_once-once}
+use Rattle.hart_device.specs.registers.Ranges.{standing_for}
 use Rattle.hart_device.proofs.lemmas.registers.Registers.{bytes_in-contents_by}
 use Rattle.hart_device.proofs.lemmas.registers.Writing.{all_written, none_more, one_more}
-use Rattle.hart_device.proofs.registers.image_registers.ImageRegistersRegisterStore.overwrite.Goals as goal
 use Rattle.hart_device.proofs.registers.image_registers.ImageRegistersRegisterStore.overwrite.Goals.{in-Some, in_default}
+use Rattle.hart_device.proofs.registers.image_registers.ImageRegistersRegisterStore.overwrite.Goals as goal
 
 pub returns : goal.returns
 returns c = λ register.

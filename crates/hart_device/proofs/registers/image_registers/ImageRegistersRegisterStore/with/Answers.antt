@@ -1,11 +1,10 @@
-use Rattle.std.proofs.Common.{arith}
+use Rattle.std.proofs.Common.{arith, ◌≡◌, Some, ◌∙◌}
 use Rattle.std.proofs.lemmas.Grind.{common_steps}
-use Rattle.std.proofs.Common.{◌≡◌, Some, ◌∙◌}
 use Rattle.hart_commands.specs.Registers.{bytes_in}
 use Rattle.hart_commands.specs.declared.register.Register.{Register}
+use Rattle.hart_commands.proofs.lemmas.Laws.{all_registers_are_listed_once-every, all_registers_are_listed_once-once}
 use Rattle.hart_device.specs.registers.Ranges.{contents_in, standing_for}
 use Rattle.hart_device.specs.registers.Values.{values_of}
-use Rattle.hart_commands.proofs.lemmas.Laws.{all_registers_are_listed_once-every, all_registers_are_listed_once-once}
 use Rattle.hart_device.proofs.lemmas.registers.Registers.{bytes_in-contents_by}
 use Rattle.hart_device.proofs.lemmas.registers.Writing.{all_written, one_more}
 use Rattle.hart_device.proofs.registers.image_registers.ImageRegistersRegisterStore.with.Goals as goal

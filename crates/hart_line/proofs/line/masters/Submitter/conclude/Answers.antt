@@ -1,7 +1,7 @@
 use Rattle.std.proofs.Common.{arith}
 use Rattle.std.proofs.lemmas.Grind.{common_steps}
-use Rattle.hart_line.proofs.line.masters.Submitter.conclude.Goals as goal
 use Rattle.hart_line.proofs.line.masters.Submitter.conclude.Goals.{in-Some, in-None}
+use Rattle.hart_line.proofs.line.masters.Submitter.conclude.Goals as goal
 
 pub returns-clause-concludes : goal.returns-clause-concludes
 returns-clause-concludes c = λ id retries held awaits. elim c.match-hear.branch [
