@@ -73,5 +73,4 @@ first_bytes parts device state long is =
     let polling = one_byte state.contents.polling (is.image.contents Polling).0 in
     let mode = one_byte state.contents.mode (is.image.contents Mode).0 in
     let (rest, listed) = first_registers is.image.version is.image.listed is.image.known in
-    let written = is.image.written in
-    grind (arith, polling, mode, listed, written, take-append-drop device.image_len device.image)
+    grind (arith, polling, mode, listed, take-append-drop device.image_len device.image)

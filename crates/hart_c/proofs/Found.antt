@@ -37,7 +37,6 @@ GoesOn n chars ended scan = (scan.finished ≡ false) ⊎ (IsTrue ended × (n �
 next_frames : (n : ℕ) (chars : List Character) (ended : Bool) (scan : Scan) (given : List Found)
     → n ≤ length chars → GoesOn n chars ended scan → IsHistory (take n chars) scan given → AreNext chars ended given scan.first
 next_frames n chars ended scan given fits goes history more later ends frames =
-    let closed : IsTrue scan.finished → drop n chars ++ more ≡ [] = grind (arith, common_steps, drop-length) in
     let split = take-append-drop n chars in
     grind (arith, common_steps, frames_are_streamed-pushed, drop-append-le, append_assoc, held_characters_have_the_later_frames-later)
 
@@ -52,18 +51,17 @@ pub finds_more : (n count : ℕ) (chars : List Character) (ended : Bool) (before
     → IsHistory (take n chars) scan (found_in_first count after) → length scan.held ≤ 269
     → (count < length after → (n ≡ length chars) × (ended ≡ false) × IsUndecided scan.held) → Finds chars ended before after search
 finds_more n count chars ended before after scan search used_is count_is fault fits room untouched tidy goes history few waits =
-    let all_held = frames_are_streamed-pushed (take n chars) scan (found_in_first count after) history in
     let held = held_characters_have_the_later_frames-held (take n chars) scan (found_in_first count after) history in
     let is : search ≡ record { used = scan.first; count = count; fault = 0 } = grind (arith, used_is, count_is, fault) in
     rw is (record {
       within = room;
       untouched = untouched;
       tidy = tidy;
-      used = omega (arith, all_held, length-take n chars, fits);
+      used = grind (arith, frames_are_streamed-pushed, length-take n chars, fits);
       are_next = next_frames n chars ended scan (found_in_first count after) fits goes history;
       fault = refl;
       undecided = λ fewer going. rw (rw (take_all n chars (waits fewer).0) at held) (waits fewer).2;
-      few = grind (arith, all_held, length-take n chars);
+      few = grind (arith, frames_are_streamed-pushed, length-take n chars);
       all = λ fewer ends. absurd (false≢true (sym (waits fewer).1 ∙ ends));
     })
 

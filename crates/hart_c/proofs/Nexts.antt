@@ -29,8 +29,7 @@ pub finds_next : (bytes : List ℕ) (ended : Bool) (before after : List HartFram
     × (ended ≡ false → IsUndecided (faultless (drop used bytes))))
     → Finds (faultless bytes) ended before after (record { used = used; count = count; fault = 0 })
 finds_next bytes ended before after used count found left =
-    let size : length (faultless bytes) ≡ length bytes = length-map bytes of_byte in
-    let within : used ≤ length (faultless bytes) = omega (arith, size, found.within) in
+    let within : used ≤ length (faultless bytes) = grind (arith, length-map, found.within) in
     record {
       within = found.room;
       untouched = found.untouched;
@@ -38,8 +37,8 @@ finds_next bytes ended before after used count found left =
       used = within;
       are_next = λ more later.
           next_frames_are_all-rest (faultless bytes) more ended (found_in_first count after) later used within found.leads;
-      few = λ fewer. omega (arith, size, (left fewer).0);
-      all = λ fewer ends. omega (arith, size, (left fewer).1 ends);
+      few = λ fewer. grind (arith, length-map, (left fewer).0);
+      all = λ fewer ends. grind (arith, length-map, (left fewer).1 ends);
       undecided = λ fewer going. rw (drop-map of_byte used bytes) ((left fewer).2 going);
       fault = refl;
     }

@@ -15,7 +15,6 @@ same [] [] command e = refl
 same [] (other ∷ others) command e = cc
 same (row ∷ named) [] command e = cc
 same (row ∷ named) (other ∷ others) command e =
-    let number : row.number ≡ other.number = cc in
     let rest : map (λ row. row.number) named ≡ map (λ row. row.number) others = cc in
     grind (arith, common_steps, nat_tests, same named others command rest)
 

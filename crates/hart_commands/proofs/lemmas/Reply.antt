@@ -1,5 +1,5 @@
 -- What is read of a payload is written as the front of it, and read again.
-use Rattle.std.proofs.Common.{◌≡◌, ℕ, ◌*◌, ◌/◌, ◌<◌, ◌≤◌, List, [], ◌∷◌, ◌++◌, take, length, map, min, Option, Some, None, IfSome, ap}
+use Rattle.std.proofs.Common.{◌≡◌, ℕ, ◌*◌, ◌<◌, ◌≤◌, List, [], ◌∷◌, ◌++◌, take, length, map, Option, Some, None, IfSome, ap}
 use Rattle.std.proofs.Common.{arith, Bool, true, ltb, eqb, ◌≢◌, sym, ◌⊎◌, length-append, length-take, length-take-le, slice_index}
 use Rattle.std.proofs.Math.Seq.{take-add}
 use Rattle.std.proofs.lemmas.Bool.Decides.{nat_tests}
@@ -57,7 +57,6 @@ dynamic-again : (start rest : List ℕ) (groups : ℕ) → length start ≡ 4 �
     ≡ Some (Dynamic (record { 0 = start }) (map unit_value_of (first_chunks 5 groups rest)))
 dynamic-again start rest groups four some few long =
     let size : length (take (groups * 5) rest) ≡ groups * 5 = length-take-le (groups * 5) rest long in
-    let count : min (groups * 5 / 5) 4 ≡ groups = omega arith in
     let again = chunks-take 5 groups rest long in
     rw (take_at start (take (groups * 5) rest) 4 four, drop_at start (take (groups * 5) rest) 4 four)
     (grind (arith, nat_tests, length-append))

@@ -32,7 +32,6 @@ codes bytes = grind (arith, common_steps)
 
 tag : Gives 18 tag_reading
 tag bytes =
-    let six = length-take-le 6 bytes in
     let twelve = length-take-le 12 (drop 6 bytes) in grind (arith, length-drop, nat_tests, dates_are_decided-date)
 
 reset : Gives 38 reset_reading

@@ -77,7 +77,6 @@ pub waits_for_more : (old new : Scan) (p q : List ℕ) → old.finished ≡ fals
     → KeepsLines old new p q × IsWaiting new
 waits_for_more old new p q going few all =
     let waits : Waits all.last new = grind (arith, all.same_finish, all.nothing) in
-    let first = moves_on old all.last all.keeps.given all.keeps.moves in
     let then = moves_on all.last new [] waits.moves in
     let moves = moves_then old all.last new all.keeps.given [] all.keeps.moves waits.moves in grind (arith, common_steps, append-nil)
 

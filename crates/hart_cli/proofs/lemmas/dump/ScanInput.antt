@@ -120,7 +120,6 @@ scanned_step {r = r} {r1 = r1} {r2 = r2} {w = w} {w1 = w1} old new {place = plac
     let added = ended_text more.bytes (ending_of end) in
     let all = ended_on due.input more.bytes (ending_of end) in
     let reads = rw more.added at scans.reads in
-    let left = ReadsUpTo-few after scans.chars rest scans.reads in
     let size = ap (λ (xs : List ℕ). length xs) more.added ∙ length-append ahead added in
     let total = ap (λ (xs : List ℕ). length xs) all ∙ length-append due.input added in
     record {
@@ -130,9 +129,9 @@ scanned_step {r = r} {r1 = r1} {r2 = r2} {w = w} {w1 = w1} old new {place = plac
       read = read_more r r1 r2 due.input more.bytes room end due.read.0 full more.reads;
       reads = rw all (ReadsUpTo-on (due.input ++ added) due.chars (ahead ++ added) scans.chars rest
           (ReadsUpTo-more due.input due.chars ahead added due.reads) reads);
-      placed = omega (arith, due.placed, left, size, total);
+      placed = grind (arith, due.placed, ReadsUpTo-few, size, total);
       no_piece = stops;
-      few = omega (arith, left, few);
+      few = grind (arith, ReadsUpTo-few, few);
       still_open = open_after_failure r1 r2 ahead more.bytes scans.chars rest room end more.reads due.no_piece may reads;
       scans = keeps_on new_scan old.scanner new.scanner due.chars scans.chars [] (due.text ++ old.lines) (due.text ++ new.lines) refl
           due.waiting.going due.scans (keeps_after (hearing old.scanner scans.chars) new.scanner due.text old.lines new.lines scans.scans);

@@ -55,5 +55,4 @@ append_nil_left (x ∷ xs) ys e = cc e
 pub decided_rest : (text : List ℕ) (chars : List Character) (rest : List ℕ) (place : ℕ) → ReadsUpTo text chars rest
     → place + length rest ≡ length text → (MayBegin rest → ⊥) → IsDecidedBadHexAt text chars place
 decided_rest text chars rest place r e n = λ more.
-    let all = length-append text more in
     let after = length-append rest more in grind (arith, common_steps, ReadsUpTo-more, append_nil_left, may_begin-nil)

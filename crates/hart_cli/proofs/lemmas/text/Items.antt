@@ -66,12 +66,7 @@ goes_on _ _ _ ys last (nothing rest) k n = record { between = ys; reads = k; cha
 goes_on _ _ _ _ _ (piece text p s cs rest h r) (nothing last) n = absurd (n p s h)
 goes_on _ _ _ _ _ (piece text p s cs rest h r) (piece _ q t ds last k l) n =
     let same = same_piece text p q s t h k in
-    grind (
-      arith,
-      common_steps,
-      append_assoc,
-      goes_on s cs rest ds last r (subst (λ (us : List ℕ). ReadsUpTo us ds last) (sym same.1) l) n,
-    )
+    grind (arith, common_steps, append_assoc, goes_on s cs rest ds last r (subst (λ (us : List ℕ). ReadsUpTo us ds last) (sym same.1) l) n)
 
 -- nothing is read if no piece begins
 pub stays : (rest : List ℕ) (chars : List Character) (last : List ℕ) → ReadsUpTo rest chars last → NoPieceBegins rest
@@ -102,7 +97,6 @@ few_read text char len b = grind (arith, common_steps, few_meant)
 pub begins_reads : (text : List ℕ) (char : Option Character) (len : ℕ) → BeginsAs text char len
     → (0 < len) × (len ≤ length text) × ReadsUpTo text (option_to_list char) (drop len text)
 begins_reads text char len b =
-    let some = spelling-length b.piece in
     let long = length-append (spelling b.piece) b.tail in
     let tail : drop len text ≡ b.tail = rw (← b.long, b.begins.spelled) (drop-append_seam (spelling b.piece) b.tail) in
     let read = piece text b.piece b.tail [] b.tail b.begins (nothing b.tail) in grind (arith, common_steps, append-nil)

@@ -86,7 +86,6 @@ variables_said : (status : ℕ) (variables : List VariableReading) (time : List 
     → All (λ v. IsFloat v.value) variables → length time ≡ 4
     → variables_reading (status ∷ (flat_map variable_bytes variables ++ time)) ≡ Some (replied.Variables status variables time)
 variables_said status variables time some few all float =
-    let groups = flat_map variable_bytes variables in
     let each = end_to_end 8 variable_bytes variable_of (λ v. IsFloat v.value)
     (λ v is. omega (arith, length-append v.value.0 (v.status ∷ []))) (λ v is. rw (← spelled 4 v.value.0 is) refl)
     variables time all in grind (arith, common_steps, nat_tests, length-append, drop_at)

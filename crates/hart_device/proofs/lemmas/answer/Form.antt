@@ -49,7 +49,6 @@ pub has_form : (identity : IdentityParts) (master : MasterId) (command : ℕ) (p
 has_form identity master command payload body is =
     let bytes = is.checked_part.address_bytes in
     let named = own_named identity master false _ bytes in
-    let five = bytes.five in
     let parts = is.checked_part.parts in
     let whole = is.parts in
     let after = length-append payload (is.check ∷ []) in

@@ -149,9 +149,8 @@ images_have_no_fault state (version ∷ rest) BadLength is (listed, known, wrong
 images_have_no_fault state (version ∷ rest) BadField is (listed, known, len, inl (register, there, bad)) =
     bad (rw (held_in_image state version rest listed known is register there) (is.contents register))
 images_have_no_fault state (version ∷ rest) BadField is (listed, known, len, inr above) =
-    let after = (said state version rest listed known is).0 in
     let last = last_is version (flat_map (bytes_in state.contents) listed) (image_ending state) refl in
-    grind (arith, after, last, above, flags_of-le state.changed state.protected)
+    grind (arith, last, above, flags_of-le state.changed state.protected)
 images_have_no_fault state (version ∷ rest) _ is faulty = faulty
 
 -- Bytes have one fault.

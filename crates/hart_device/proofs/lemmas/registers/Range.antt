@@ -1,5 +1,5 @@
 -- Registers that stand one after the other in an array.
-use Rattle.std.proofs.Common.{◌≡◌, ℕ, ◌+◌, ◌-◌, ◌<◌, zero, suc, refl, arith, Bool, true, ◌==◌, ◌&&◌, List, [], ◌∷◌, ◌++◌, length, take}
+use Rattle.std.proofs.Common.{◌≡◌, ℕ, ◌+◌, ◌<◌, zero, suc, refl, arith, Bool, true, ◌==◌, ◌&&◌, List, [], ◌∷◌, ◌++◌, length, take}
 use Rattle.std.proofs.Common.{drop, append_assoc, drop-drop, take-append-drop}
 use Rattle.std.proofs.lemmas.Bool.Decides.{nat_tests}
 use Rattle.std.proofs.lemmas.Grind.{common_steps}
@@ -27,8 +27,7 @@ filled array from (register ∷ later) ends spans =
     let first = starts from register later ends in
     let sum = sum_by-cons size_of register later in
     let rest = filled array (end_of register) later first.1 (omega (arith, spans, sum, first.0)) in
-    let size : end_of register - start_of register ≡ size_of register = omega arith in
-    grind (arith, common_steps, drop-drop, rest, size, first.0, take-append-drop (size_of register) (drop from array))
+    grind (arith, common_steps, drop-drop, rest, first.0, take-append-drop (size_of register) (drop from array))
 
 -- What is written for each register, one after the other, stands in its range.
 pub written : (bytes : Register → List ℕ) (before after : List ℕ) (held : List Register) → end_to_end (length before) held ≡ true

@@ -37,8 +37,7 @@ heard_whole chars f len begins =
 
 heard_bytes : (chars : List Character) (f : FrameParts) (len : ℕ) → BeginsWithHeard chars f len
     → BeginsWithBody (faultless_bytes chars) f len
-heard_bytes chars f len heard =
-    grind (arith, faultless_bytes-append heard.body heard.rest, BeginsWithBody-append f heard.body (faultless_bytes heard.rest))
+heard_bytes chars f len heard = grind (arith, common_steps, faultless_bytes-append, BeginsWithBody-append)
 
 heard_decided : (chars : List Character) → HeardAhead chars ⊎ NothingHeard chars
 heard_decided chars = elim (body_decided (faultless_bytes chars)) [

@@ -4,7 +4,7 @@ use Rattle.std.proofs.Common.{drop, get_or, set, true, Some, refl, sym, ap, ◌�
 use Rattle.std.proofs.lemmas.Bool.{false≢true}
 use Rattle.std.proofs.lemmas.Bool.Decides.{nat_tests}
 use Rattle.std.proofs.lemmas.Grind.{common_steps}
-use Rattle.std.proofs.lemmas.List.{append-nil, drop_at, drop_more, get_or-set_same, get_or-take, length-map, length-take-le, map-append}
+use Rattle.std.proofs.lemmas.List.{append-nil, drop_at, drop_more, get_or-set_same, get_or-take, length-take-le, map-append}
 use Rattle.std.proofs.lemmas.List.{set_at, take-append-drop, take_more}
 use Rattle.std.proofs.lemmas.List.Elements.{All-append, All-drop, All-take}
 use Rattle.std.proofs.lemmas.Option.{get_or_from_slice_get, slice_get_within}
@@ -63,9 +63,8 @@ WholeBody bytes = (frame : FrameParts) × IsBody frame (take (body_length bytes 
 pub whole_body : (bytes : List ℕ) → All (λ byte. byte < 256) bytes → HasCheckByte bytes → WholeBody bytes
 whole_body bytes fit has =
     let n = body_length bytes - 1 in
-    let long = length-take-le n bytes (omega (arith, has.1)) in
     let good = good_prefix bytes n has (omega arith) (omega (arith, has.1)) in
-    fitted (take n bytes) (All-take (λ byte. byte < 256) n bytes fit) good.0 (omega (arith, good.1, long))
+    fitted (take n bytes) (All-take (λ byte. byte < 256) n bytes fit) good.0 (grind (arith, good.1, length-take-le))
 
 heard_body : (heard : List Character) → All (λ c. c.byte < 256) heard → HasCheckByte (faultless_bytes heard)
     → check_byte_in (faultless_bytes heard) ≡ fitting_check_byte (faultless_bytes heard) → HeardAhead heard
@@ -109,7 +108,6 @@ with_preamble chars zero one found = absurd (not_at_front chars one)
 with_preamble chars (suc k) one found =
     let at = one_before_place chars k one in
     let heard = drop (suc k) chars in
-    let next : suc k ≡ k + 1 = omega arith in
     let last : take (suc k) chars ≡ take k chars ++ preamble ∷ [] = grind (arith, common_steps, take_more, preamble) in
     let split : insert chars (suc k) preamble ≡ take k chars ++ (preamble ∷ preamble ∷ heard) =
     ap (λ (cs : List Character). cs ++ preamble ∷ heard) last ∙ append_assoc (take k chars) (preamble ∷ []) (preamble ∷ heard) in
@@ -155,8 +153,6 @@ bad_check_fits start place byte fits chars fit is =
     grind (arith, take-append-drop n heard, take_heard heard n, drop_more heard n preamble, length-faultless_bytes) in
     let front : List Character = at.prefix ++ (preamble ∷ preamble ∷ faultless checked) in
     let split : chars ≡ front ++ get_or heard n preamble ∷ others = grind (arith, common_steps, preamble, append_assoc) in
-    let size : length front ≡ place =
-    omega (arith, length-append at.prefix (preamble ∷ preamble ∷ faultless checked), length-map checked make, long, way.1.1, at.at) in
     let body = whole_body bytes bytes_fit has in
     let fits_is = fits-is checked fits (All-take (λ byte. byte < 256) n bytes bytes_fit) way.1.3 in
     let changed : set chars place (make fits) ≡ at.prefix ++ faultless (255 ∷ 255 ∷ (checked ++ fits ∷ [])) ++ others =
@@ -186,7 +182,6 @@ pub fault_is_gone : (start place faults byte others : ℕ) (chars : List Charact
     → miss_of (set chars place (record { byte = byte; faults = 0 })) start ≢ Some (Faulty place others)
 fault_is_gone start place faults byte others chars is again =
     let c : Character = record { byte = byte; faults = 0 } in
-    let at = faulty_at start place faults chars is in
     let still = faulty_at start place others (set chars place c) again in grind (arith, common_steps, get_or-set_same, preamble)
 
 -- with the bytes that are missing a frame stands there
@@ -204,9 +199,8 @@ missing_fits start count chars more fit more_fit is long =
     let fits = faultless_fit heard (All-drop (λ (x : Character). x.byte < 256) start chars fit) in
     let checked_fit = All-append (λ byte. byte < 256) bytes more fits more_fit in
     let good = HasGoodByteCount-more bytes more way.1.0 in
-    let same = length_more bytes more way.1.0.0.1 in
     let size = length-append bytes more in
-    let body = fitted checked checked_fit good (omega (arith, same, size, way.1.2, long)) in
+    let body = fitted checked checked_fit good (grind (arith, length_more, size, way.1.2, long)) in
     let all : heard ≡ faultless bytes = nothing_follows heard (nothing_at_end chars start way.1.3) in
     let split : chars ≡ at.prefix ++ (preamble ∷ preamble ∷ faultless bytes) = grind (arith, common_steps, preamble) in
     let regroup : (at.prefix ++ (preamble ∷ preamble ∷ faultless bytes)) ++ faultless (more ++ last ∷ [])

@@ -137,7 +137,6 @@ only chars start (BadCheck place byte fits) fit (has, is, at, check, differ) =
     let place_is : place ≡ start + n = omega (arith, is) in
     let here = front_at (drop start chars) n (omega (arith, has.1)) in
     let there = rest_at chars start n ∙ ap (slice_get chars) (sym place_is) ∙ at in
-    let byte_is : check_byte_in bytes ≡ byte = ap (λ (c : Character). c.byte) (same_Some _ _ (sym here ∙ there)) in
     let fits_is : fits ≡ fitting_check_byte bytes = fits-is (take n bytes) fits (All-take (λ byte. byte < 256) n bytes fit) check in
     grind (arith, common_steps, miss_in-whole, other_check)
 only chars start OnePreamble fit way = absurd way

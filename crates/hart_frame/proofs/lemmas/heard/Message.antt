@@ -1,5 +1,5 @@
 -- A message that is heard without faults has its frame alone.
-use Rattle.std.proofs.Common.{◌≡◌, ℕ, ◌+◌, ◌-◌, ◌<◌, ◌≤◌, ◌⊎◌, List, [], ◌∷◌, ◌++◌, length, get_or, replicate, arith, append_assoc}
+use Rattle.std.proofs.Common.{◌≡◌, ℕ, ◌+◌, ◌-◌, ◌<◌, ◌≤◌, List, [], ◌∷◌, ◌++◌, length, get_or, replicate, arith, append_assoc}
 use Rattle.std.proofs.Common.{length-append}
 use Rattle.std.proofs.Math.ListN.{get_or-append}
 use Rattle.std.proofs.lemmas.List.{append-nil, map-append, length-map, length-replicate, replicate-append-replicate, get_or-replicate}
@@ -41,7 +41,6 @@ starts bytes found from stands =
 starts-after : (bytes body : List ℕ) (preambles : ℕ) (found : Found) (from : ℕ) → bytes ≡ replicate preambles 255 ++ body
     → StandsIn found (faultless bytes) from → preambles ≤ found.start
 starts-after bytes body preambles found from parts stands =
-    let cases : (preambles ≤ found.start) ⊎ (found.start < preambles) = grind arith in
     let low = delimiter_of-lt found.frame stands.is_body.checked_part.expansion_fits in
     grind (arith, length-replicate, get_or-append, get_or-replicate, starts bytes found from stands)
 

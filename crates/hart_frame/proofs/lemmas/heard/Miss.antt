@@ -67,9 +67,8 @@ pub missed_whole : (bytes : List ℕ) (len : ℕ) (faulty : Option Character) (p
     → check_miss (take len bytes) start ≡ miss_in bytes faulty place start
 missed_whole bytes len faulty place start has long =
     let parts = take-append-drop len bytes in
-    let length_is : length (take len bytes) ≡ len = length-take-le len bytes (omega (arith, has.1, long)) in
     let cut = HasCheckByte-prefix (take len bytes) (drop len bytes) (rw parts has)
-    (rw parts (omega (arith, long, length_is))) in
+    (rw parts (grind (arith, long, length-take-le))) in
     sym (check_miss-more (take len bytes) (drop len bytes) start cut.0) ∙ ap (λ (xs : List ℕ). check_miss xs start) parts
     ∙ sym (miss_in-whole bytes faulty place start has)
 
@@ -104,7 +103,6 @@ pub record IsWholeFront (heard body : List Character) (len : ℕ) : Type 0 where
 pub whole_front : (heard body : List Character) (len : ℕ) → len ≤ length heard → body ≡ take len heard → All (λ c. c.faults ≡ 0) body
     → IsWholeFront heard body len
 whole_front heard body len within is all =
-    let byte = λ (c : Character). c.byte in
     let bytes : bytes_of body ≡ take len (faultless_bytes heard) =
     sym (faultless_bytes-all body all) ∙ ap faultless_bytes is ∙ faultless_bytes-take len heard in
     grind (arith, common_steps, length-map, length-take-le, length-take)

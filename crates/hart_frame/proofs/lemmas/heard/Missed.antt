@@ -5,7 +5,6 @@ use Rattle.std.proofs.Math.Seq.{append_snoc, drop-cons, get_or-append_seam, take
 use Rattle.std.proofs.lemmas.Bool.Decides.{nat_tests}
 use Rattle.std.proofs.lemmas.Grind.{common_steps}
 use Rattle.std.proofs.lemmas.List.{get_or_append_left, get_or_past, drop_at, get_or_at, get_or-take, length-take-le, take-append-drop}
-use Rattle.std.proofs.lemmas.List.{take_at, take-take}
 use Rattle.std.proofs.lemmas.Option.{slice_get-get_or, slice_get_cases}
 use Rattle.std.specs.List.{slice_get}
 use Rattle.std.specs.Option.{is_some, option_map_or}
@@ -122,8 +121,7 @@ no_second chars prefix rest (suc j) split place alone passes =
     let at = first_test chars j passes in search (arith, common_steps, take-append_seam, preamble, take-suc)
 
 pub one_preamble-yes : (chars : List Character) (place : ℕ) → FollowsOnePreamble chars place → follows_one_preamble chars place ≡ true
-one_preamble-yes chars zero is = absurd (omega (arith, is.place_is))
-one_preamble-yes chars (suc k) is =
+one_preamble-yes chars place is =
     grind (arith, common_steps, preamble, append_snoc, length-append, get_or-append_seam, no_second, both, first_tests)
 
 -- the first byte of a body is no preamble byte
@@ -142,7 +140,6 @@ body_fits bytes f len begins =
     let n = length body.checked in
     let long : len ≡ n + 1 = grind (arith, common_steps, length-take-le, length-append) in
     let whole : body_length bytes - 1 ≡ n = omega (arith, (says bytes f len begins).whole, long) in
-    let checked : take n bytes ≡ body.checked = grind (arith, take-take n len bytes, take_at body.checked (body.check ∷ []) n) in
     let check : get_or bytes n 0 ≡ body.check = grind (arith, common_steps, get_or-take, get_or_at) in
     let fits = fits_at (body.checked ++ body.check ∷ []) (rw body.parts at body.bytes_fit) in
     let first : (i : ℕ) → get_or body.checked i 0 < 256 = grind (arith, fits, get_or_append_left, get_or_past) in

@@ -72,8 +72,7 @@ all_moved_one n (x ∷ xs) (y ∷ ys) same = grind (arith, common_steps, all_mov
 -- from the end of a list on there are no frames
 frames_none : (chars : List Character) (place : ℕ) (frames : List Found) → length chars ≤ place → AreFrames chars place frames
     → frames ≡ []
-frames_none chars place frames end (none n empty) = refl
-frames_none chars place frames end (first n g later is rest) = absurd (HasNoFrame-end chars place end g is.stands)
+frames_none chars place frames end given_4 = grind (arith, common_steps, HasNoFrame-end)
 
 -- the rest of a list gives the frames from its place on
 pub rest_frames : OneList → (place : ℕ) (chars : List Character) (frames : List Found) → AreFrames (drop place chars) 0 frames

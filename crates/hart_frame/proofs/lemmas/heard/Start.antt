@@ -25,7 +25,6 @@ starts_at chars place d is = grind (arith, common_steps, preamble, append_assoc,
 pub is_start_from : (chars : List Character) (place : ℕ) (d : Character) → StartsAt chars place d → IsStart place chars
 is_start_from chars place d at =
     let k : ℕ = place - 2 in
-    let before = length-take-le k chars (omega (arith, at.after_two, at.within)) in
     let last : List Character = drop (suc (suc (suc k))) chars in
     let dropped : drop k chars ≡ preamble ∷ preamble ∷ get_or chars place d ∷ last =
     grind (arith, drop-cons, preamble) in
@@ -35,7 +34,7 @@ is_start_from chars place d at =
       rest = last;
       split = sym (take-append-drop k chars) ∙ ap (λ (xs : List Character). take k chars ++ xs) dropped
           ∙ sym (append_assoc (take k chars) (preamble ∷ preamble ∷ []) (get_or chars place d ∷ last));
-      place_is = omega (arith, at.after_two, before);
+      place_is = grind (arith, at.after_two, length-take-le);
       other = at.other;
     }
 

@@ -59,7 +59,6 @@ pub kept_past : (held chunk bytes new : List ℕ) (from place stop count : ℕ) 
 kept_past held chunk bytes new from place stop count end long past order is =
     let size = place - count in
     let more = stop - count - size in
-    let there : place ≡ length held + size = omega (arith, long, past) in
     let all : stop - count ≡ size + more = omega (arith, past, order) in
     let both = first_both held chunk stop count long (omega (arith, past, order)) in
     let after = drop-append-add held (take (stop - count) chunk) size in

@@ -160,8 +160,7 @@ room_left old now heard chunk n long hears room =
 pub part_heard : (old new : Scan) (chunk part : List Character) (n count : ℕ) → part ≡ take n chunk → n ≤ length chunk → 0 < n
     → Hears old new part count → HearsPart old new chunk count
 part_heard old new chunk part n count is within some hears =
-    let size = ap length is ∙ length-take-le n chunk within in
-    let few : count ≤ n = omega (arith, hears.within, size) in
+    let few : count ≤ n = grind (arith, hears.within, length-take-le) in
     let first : (k : ℕ) → k ≤ n → take k part ≡ take k chunk = λ k less. ap (take k) is ∙ take-take k n chunk less in
     let before : (fewer : ℕ) → fewer < count → IsUndecided (old.held ++ take fewer chunk) =
     λ fewer below. rw (← first fewer (omega (arith, below, few))) (hears.before fewer below) in grind (arith, common_steps)

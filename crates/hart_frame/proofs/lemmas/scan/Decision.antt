@@ -1,6 +1,6 @@
 -- What is decided of a buffer, and what is given then.
 use Rattle.std.proofs.Common.{◌≡◌, ◌≢◌, ℕ, ◌+◌, ◌-◌, ◌≤◌, ◌⊎◌, ◌↔◌, inl, inr, Bool, true, false, IsTrue, List, [], ◌∷◌, ◌++◌, length, take}
-use Rattle.std.proofs.Common.{drop, Option, Some, None, refl, ap, ◌∙◌, arith, subst, append_assoc, length-append, length-drop}
+use Rattle.std.proofs.Common.{drop, Option, Some, None, refl, arith, subst, append_assoc, length-append, length-drop}
 use Rattle.std.proofs.lemmas.List.{drop_at, map-append}
 use Rattle.std.specs.Option.{IfSome, MatchOption, is_some, option_to_list}
 use Rattle.hart_frame.specs.declared.scan.buffer.Buffer.{Buffer}
@@ -64,9 +64,8 @@ pub gives_span : (b : Buffer) (layout : Layout) → IsSound b → is_drained b.s
     → GivesSpan b (released b layout) (span_of b layout)
 gives_span b layout sound busy whole =
     let body = body_at_place b.bytes b.from (layout_length layout) layout whole refl in
-    let held = ap length whole.parts ∙ length-append (255 ∷ 255 ∷ whole.body) whole.rest in
     record {
-      within = omega (arith, held, length-drop b.from b.bytes, whole.whole.exact, sound.stored.within);
+      within = grind (arith, length-append, length-drop b.from b.bytes, whole.whole.exact, sound.stored.within);
       body = rw body whole.whole;
       given = λ frame is. record {
         moves = moves_frame (scan_of b) (scan_of (released b layout)) frame whole.body (held_whole b layout whole) (rw body at is)

@@ -66,8 +66,7 @@ stands_by bytes from ended found layout is some = grind (arith, common_steps)
 pub ends_within : (bytes : List ℕ) (place : ℕ) (layout : Layout) → IsWhole layout (drop place bytes)
     → place + 2 + layout_length layout ≤ length bytes
 ends_within bytes place layout whole =
-    let size = ap length whole.parts ∙ length-append (255 ∷ 255 ∷ whole.body) whole.rest in
-    omega (arith, size, length-drop place bytes, whole.whole.exact)
+    grind (arith, length-append, length-drop place bytes, whole.whole.exact)
 
 -- and is the next one
 pub leads_past : (bytes : List ℕ) (ended : Bool) (from len : ℕ) (found : Sighting) (layout : Layout) (frame : FrameParts)

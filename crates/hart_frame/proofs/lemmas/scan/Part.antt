@@ -83,7 +83,6 @@ hears_kept old new part found m kept same =
     let counts : found.decided ≡ n + count = omega (arith, is.late, same) in
     let both = take found.decided total in
     let long = length-map part make in
-    let all = length-append held part in
     let size = length-take-le found.decided total is.within in
     let heard : (fewer : ℕ) → (scan_of old).held ++ take fewer (faultless part) ≡ faultless (take (n + fewer) total) =
     λ fewer. heard_bytes old part fewer kept.waiting in
@@ -100,7 +99,7 @@ hears_kept old new part found m kept same =
     ]) in
     let Stops : ℕ → Type 0 = λ k. StopsAt (scan_of new) count k in
     record {
-      within = omega (arith, long, counts, is.within, all);
+      within = grind (arith, long, counts, is.within, length-append);
       some = λ any. omega (arith, is.late, counts);
       moves = moves_places (hearing (scan_of old) (take count (faultless part))) (scan_of new) both [] found.place first last kept.firsts
           kept.finished (omega (arith, size, is.order)) (λ here below more _. is.none here (omega arith) below more);

@@ -61,7 +61,6 @@ open_before : (xs : List ℕ) (from seen place decided more count : ℕ) → IsS
     → more ≤ length xs → (more ≤ decided) ⊎ (more ≤ place + count) → MayBeginBefore count (drop place xs) → IsOpenBefore xs from seen more
 open_before xs from seen place decided more count searching order within either may fewer late early =
     let all : fewer ≤ length xs = omega (arith, early, within) in
-    let long = length-take-le fewer xs all in
     let cases : (fewer < decided) ⊎ (decided ≤ fewer) = grind arith in
     let reached : (place ≤ fewer) ⊎ (fewer < place) = grind arith in
     elim cases [
@@ -72,11 +71,11 @@ open_before xs from seen place decided more count searching order within either 
           searching.none fewer here not all since (omega (arith, below, some)) (omega (arith, below, any)) in
           elim reached [
             | inl there ↦
-                open_here (take fewer xs) from place searching.after (omega (arith, long, there)) (none place (omega arith) there)
+                open_here (take fewer xs) from place searching.after (grind (arith, length-take-le, there)) (none place (omega arith) there)
                 (rw (drop_take xs place fewer there) (grind arith))
             | inr short ↦
-                open_here (take fewer xs) from fewer (omega (arith, order, late)) (omega (arith, long))
-                (none fewer (omega (arith, short)) (omega arith)) (inl (drop_all fewer (take fewer xs) (omega (arith, long))))
+                open_here (take fewer xs) from fewer (omega (arith, order, late)) (grind (arith, length-take-le))
+                (none fewer (omega (arith, short)) (omega arith)) (inl (drop_all fewer (take fewer xs) (grind (arith, length-take-le))))
           ]
     ]
 
@@ -218,8 +217,7 @@ pub searched_stands : (xs : List ℕ) (from seen place decided more : ℕ) (layo
     → IsSearched xs from seen (record { place = place; decided = more; layout = Some layout })
 searched_stands xs from seen place decided more layout searching order whole may short is =
     let n = 2 + layout_length layout in
-    let long : length (drop place xs) ≡ n + length whole.rest = grind (arith, common_steps, length-append) in
-    let fits : more ≤ length xs = omega (arith, is, long, length-drop place xs, searching.within) in
+    let fits : more ≤ length xs = grind (arith, is, length-append, length-drop place xs, searching.within) in
     searched_at xs from seen place decided more n (Some layout) searching order (omega (arith, is)) (omega (arith, is)) fits
     (omega (arith, is, searching.few, short)) (grind (arith, is)) may
     (grind (arith, common_steps, drop_take, whole_take, length-drop))

@@ -100,7 +100,6 @@ undecided_before s t moves undecided = elim undecided [
       let rest = faultless (255 ∷ 255 ∷ opened.bytes) in
       let all : sample s ≡ prefix ++ rest = grind (arith, common_steps, append-nil, append_assoc) in
       let late = preamble_held s prefix (faultless (255 ∷ opened.bytes)) all in
-      let size = length-append after.prefix opened.prefix in
       let dropped = length-drop s.first prefix in
       inr (
         length (drop s.first prefix) + 2,
@@ -115,7 +114,7 @@ undecided_before s t moves undecided = elim undecided [
         },
         λ found stands.
             let there = still_stands s t moves found stands in
-            omega (arith, before there.0 there.1, there.2, opened.start, size, dropped, after.place, late),
+            grind (arith, before there.0 there.1, there.2, opened.start, length-append, dropped, after.place, late),
       )
 ]
 
@@ -141,16 +140,7 @@ moves_length a b given moves =
     let old = hears_sample a in
     let new = moves.heard [] (sample a) old in
     let all = ap length (sym old.split ∙ new.split) in
-    omega (
-      arith,
-      all,
-      old.place,
-      new.place,
-      length-append old.prefix (a.held ++ []),
-      length-append new.prefix (b.held ++ []),
-      length-append a.held ([]),
-      length-append b.held ([]),
-    )
+    grind (arith, common_steps, length-append)
 
 -- a scanner that gives a frame holds less after it
 pub gives_onward : (old new : Scan) (found : Found) → Gives old new found → length new.held < length old.held

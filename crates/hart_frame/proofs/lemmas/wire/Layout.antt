@@ -3,7 +3,7 @@ use Rattle.std.proofs.Common.{◌≡◌, ℕ, suc, ◌+◌, ◌-◌, ◌*◌, �
 use Rattle.std.proofs.Common.{length-drop}
 use Rattle.std.proofs.Math.Seq.{take-add}
 use Rattle.std.proofs.lemmas.Grind.{common_steps}
-use Rattle.std.proofs.lemmas.List.{drop-drop, drop_more, length-take-le}
+use Rattle.std.proofs.lemmas.List.{drop-drop, length-take-le}
 use Rattle.std.specs.List.{slice_range}
 use Rattle.hart_values.specs.address.AddressBytes.{IsAddressBytes}
 use Rattle.hart_frame.specs.declared.wire.layout.Layout.{Layout}
@@ -19,7 +19,6 @@ slice_range-join xs a b c ab bc = grind (arith, take-add (b - a) (c - b) (drop a
 -- a range is its first element and the rest
 slice_range-first : (xs : List ℕ) (a c : ℕ) → a < c → a < length xs → get_or xs a 0 ∷ slice_range xs (a + 1) c ≡ slice_range xs a c
 slice_range-first xs a c ac within =
-    let rest = drop_more xs a 0 within in
     let count : c - a ≡ suc (c - (a + 1)) = omega arith in grind (arith, common_steps)
 
 -- a prefix of some bytes: one byte, a range, a range, two bytes, and a range
@@ -65,7 +64,6 @@ IsCheckedPart-in bytes layout frame describes whole stands =
     let i = layout.address_end in
     let j = layout.command_place in
     let n = layout.byte_count in
-    let long : j + 3 + n ≤ length bytes = omega (arith, whole.1, describes.address, describes.command, describes.count) in
     let expansion_len : length frame.expansion ≡ j - i = grind (arith, common_steps, length-slice_range) in
     let payload_len : length frame.payload ≡ n = grind (arith, common_steps, length-slice_range) in
     let range_len = length-slice_range bytes 1 i (omega (arith, describes.address)) (omega (arith, describes.address, describes.command)) in

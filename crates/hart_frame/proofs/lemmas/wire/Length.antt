@@ -1,9 +1,9 @@
 -- How long bodies and messages are at most.
+use Rattle.std.proofs.lemmas.Grind.{common_steps}
 use Rattle.std.proofs.Common.{◌≤◌, ℕ, List, [], length, replicate, ap, arith, length-append}
 use Rattle.std.proofs.lemmas.List.{append-nil, length-replicate}
 use Rattle.hart_frame.specs.wire.Body.{IsBody}
 use Rattle.hart_frame.specs.wire.FrameParts.{FrameParts}
-use Rattle.hart_frame.specs.wire.Layout.{byte_count_place}
 use Rattle.hart_frame.specs.wire.Message.{IsMessage}
 use Rattle.hart_frame.proofs.lemmas.wire.Refusal.{says}
 use Rattle.hart_frame.proofs.lemmas.wire.Truncated.{fits_at}
@@ -12,15 +12,7 @@ use Rattle.hart_frame.proofs.lemmas.wire.UnambiguousBodies.{BeginsWithBody-appen
 pub short_body : (f : FrameParts) (body : List ℕ) → IsBody f body → length body ≤ 267
 short_body f body is =
     let told = says body f (length body) (rw (append-nil body) at (BeginsWithBody-append f body [] is)) in
-    omega (
-      arith,
-      told.whole,
-      told.place,
-      told.count,
-      fits_at body is.bytes_fit (byte_count_place body),
-      address_type-lt f.address,
-      is.checked_part.expansion_fits,
-    )
+    grind (arith, common_steps, fits_at, address_type-lt)
 
 pub short_message : (f : FrameParts) (preambles : ℕ) (message : List ℕ) → preambles ≤ 20 → IsMessage f preambles message
     → length message ≤ 287

@@ -1,5 +1,5 @@
 -- What begins with a body is not refused.
-use Rattle.std.proofs.Common.{◌%◌, ◌⊎◌, ◌≡◌, ℕ, ◌+◌, ◌*◌, ◌<◌, ◌≤◌, List, [], ◌∷◌, ◌++◌, length, take, drop, get_or, sym, ap, ◌∙◌, arith}
+use Rattle.std.proofs.Common.{◌%◌, ◌⊎◌, ◌≡◌, ℕ, ◌+◌, ◌*◌, ◌<◌, ◌≤◌, List, [], ◌∷◌, ◌++◌, length, take, drop, sym, ◌∙◌, arith}
 use Rattle.std.proofs.Common.{append_assoc, length-append, Result, Ok, Err}
 use Rattle.std.proofs.lemmas.Grind.{common_steps}
 use Rattle.std.proofs.lemmas.List.{length-take-le, take-append-drop, get_or_at}
@@ -30,7 +30,6 @@ says bytes f len begins =
     let part = begins.body.checked_part in
     let rest = drop len bytes in
     let whole = sym (take-append-drop len bytes) ∙ spread f (take len bytes) rest begins.body in
-    let delimiter : delimiter_in bytes ≡ delimiter_of f = ap (λ (xs : List ℕ). get_or xs 0 0) whole in
     let few : address_type f.address < 2 = address_type-lt f.address in
     let kind = kind_code-is f.kind in
     let prefix : List ℕ = delimiter_of f ∷ part.address ++ f.expansion ++ f.command ∷ [] in

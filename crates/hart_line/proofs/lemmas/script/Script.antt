@@ -33,7 +33,6 @@ parts_of text = slice_split (λ byte. byte == 10) text
 pub stands_at : (text : List ℕ) (n : ℕ) (part line : List ℕ) → n < length (parts_of text) → part ≡ get_or (parts_of text) n part
     → line ≡ strip_carriage_return part → StandsAt text n (words_of line)
 stands_at text n part line short is stripped =
-    let long = length-map (lines_of text) words_of in
     let parts = length-map (parts_of text) strip_carriage_return in
     let here : get_or (lines_of text) n line ≡ line = grind (arith, common_steps, get_or-map) in grind (arith, common_steps, get_or-map)
 

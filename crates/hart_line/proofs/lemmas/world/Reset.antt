@@ -90,7 +90,6 @@ unseen start events last run who before given r clear =
     let here = reset_marks start before who r.up r.down r.next r.turn.step resets in
     let marked = leads_kept start r.turn.suffix r.next last who after r.last ∙ here.0 in
     let grows = leads_grows start r.turn.suffix r.next last after in
-    let since : last.executions ≡ before.executions ++ grows.more = cc (grows.is, here.1) in
     let bit : nat_lt (length before.executions) (length last.executions) ≡ false = grind arith in
     let same : last.executions ≡ before.executions = grind (arith, common_steps, none_more) in
     let counter : (state_of start.device last).counter ≡ (state_of start.device before).counter = grind (arith, common_steps) in (
