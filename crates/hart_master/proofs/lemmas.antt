@@ -1,4 +1,4 @@
--- Lemmas, in the rooms of the code and the definitions.
+-- Lemmas, each file named after what it speaks of.
 pub mod Acceptance
 pub mod Decided
 pub mod Heard
