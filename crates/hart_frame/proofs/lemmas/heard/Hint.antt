@@ -26,7 +26,6 @@ use Rattle.hart_frame.specs.wire.Refusal.{HasCheckByte, HasGoodByteCount}
 use Rattle.hart_frame.proofs.lemmas.heard.FramesFound.{HeardAhead, heard_whole}
 use Rattle.hart_frame.proofs.lemmas.heard.Front.{after_faultless, faultless_fit, length-faultless_bytes, nothing_follows, take_heard}
 use Rattle.hart_frame.proofs.lemmas.heard.InTheWay.{way_of, fits-is, rest_at, nothing_at_end}
-use Rattle.hart_frame.proofs.lemmas.heard.Miss.{told_of, other_check}
 use Rattle.hart_frame.proofs.lemmas.heard.Missed.{miss_of-some, miss_of-start, not_at_front, one_before_place, is_start-yes, miss_of-one}
 use Rattle.hart_frame.proofs.lemmas.heard.Missed.{one_preamble-is, one_preamble-yes, none_of}
 use Rattle.hart_frame.proofs.lemmas.heard.Place.{preamble}
@@ -79,7 +78,7 @@ heard_body heard fit has same =
 -- what is heard begins with a body, or misses something of it
 pub heard_or_miss : (heard : List Character) (start : ℕ) → All (λ c. c.byte < 256) heard
     → HeardAhead heard ⊎ (is_some (body_miss start heard) ≡ true)
-heard_or_miss heard start fit = grind (arith, told_of heard start, heard_body heard fit, other_check)
+heard_or_miss heard start fit = grind (arith, nat_tests, heard_body heard fit)
 
 pub never_one_preamble : (start : ℕ) (heard : List Character) → body_miss start heard ≡ Some OnePreamble → ⊥
 never_one_preamble start heard miss = grind (arith, nat_tests)

@@ -8,13 +8,13 @@ use Rattle.std.proofs.lemmas.Option.{slice_get-get_or}
 use Rattle.std.specs.List.{All, slice_get}
 use Rattle.std.specs.Option.{MatchOption}
 use Rattle.hart_frame.specs.declared.heard.miss.Miss.{Miss}
-use Rattle.hart_frame.specs.declared.heard.miss.Miss.TheVariants.{BadCheck, EndsBeforeByteCount, Faulty, Missing, ShortReply}
+use Rattle.hart_frame.specs.declared.heard.miss.Miss.TheVariants.{BadCheck, Missing, ShortReply}
 use Rattle.hart_frame.specs.heard.Body.{bytes_of}
 use Rattle.hart_frame.specs.heard.Character.{Character, faultless_bytes}
-use Rattle.hart_frame.specs.heard.Miss.{body_miss, check_byte_in, check_miss, fitting_check_byte, delimiter_miss, faulty_or, is_delimiter}
+use Rattle.hart_frame.specs.heard.Miss.{body_miss, check_byte_in, check_miss, fitting_check_byte, faulty_or, is_delimiter}
 use Rattle.hart_frame.specs.heard.Miss.{EndsEarly, miss_in}
 use Rattle.hart_frame.specs.wire.Layout.{body_length, byte_count_in, byte_count_place, delimiter_in}
-use Rattle.hart_frame.specs.wire.Refusal.{HasByteCount, HasCheckByte, HasDelimiter, HasGoodByteCount, IsDelimiter}
+use Rattle.hart_frame.specs.wire.Refusal.{HasByteCount, HasCheckByte, HasGoodByteCount, IsDelimiter}
 use Rattle.hart_frame.proofs.lemmas.heard.Front.{char_at, faultless_all, faultless_bytes-all, faultless_bytes-take, length-faultless_bytes}
 use Rattle.hart_frame.proofs.lemmas.heard.Front.{take_heard}
 use Rattle.hart_frame.proofs.lemmas.heard.Place.{preamble}
@@ -25,18 +25,6 @@ is_delimiter-yes : (byte : ℕ) → IsDelimiter byte → is_delimiter byte ≡ t
 is_delimiter-yes byte is = grind (arith, nat_tests)
 
 -- why none begins, case by case
-pub miss_in-none : (bytes : List ℕ) (faulty : Option Character) (place start : ℕ) → length bytes ≡ 0
-    → miss_in bytes faulty place start ≡ Some (faulty_or faulty place EndsBeforeByteCount)
-miss_in-none bytes faulty place start none = grind (arith, nat_tests)
-
-pub miss_in-other : (bytes : List ℕ) (faulty : Option Character) (place start : ℕ) → 0 < length bytes
-    → (IsDelimiter (delimiter_in bytes) → ⊥) → miss_in bytes faulty place start ≡ Some (delimiter_miss (delimiter_in bytes))
-miss_in-other bytes faulty place start some other = grind (arith, nat_tests)
-
-pub miss_in-begun : (bytes : List ℕ) (faulty : Option Character) (place start : ℕ) → HasDelimiter bytes
-    → length bytes ≤ byte_count_place bytes → miss_in bytes faulty place start ≡ Some (faulty_or faulty place EndsBeforeByteCount)
-miss_in-begun bytes faulty place start has short = grind (arith, nat_tests, is_delimiter-yes)
-
 pub miss_in-short : (bytes : List ℕ) (faulty : Option Character) (place start : ℕ) → HasByteCount bytes → delimiter_in bytes % 8 ≡ 6
     → byte_count_in bytes < 2 → miss_in bytes faulty place start ≡ Some (ShortReply (byte_count_in bytes))
 miss_in-short bytes faulty place start has ack few = grind (arith, nat_tests, is_delimiter-yes)
@@ -71,29 +59,6 @@ missed_whole bytes len faulty place start has long =
     (rw parts (grind (arith, long, length-take-le))) in
     sym (check_miss-more (take len bytes) (drop len bytes) start cut.0) ∙ ap (λ (xs : List ℕ). check_miss xs start) parts
     ∙ sym (miss_in-whole bytes faulty place start has)
-
--- which case holds of some bytes, and the reason then
-pub data Told (bytes : List ℕ) (faulty : Option Character) (place start : ℕ) : Type 0 where
-  empty : length bytes ≡ 0 → miss_in bytes faulty place start ≡ Some (faulty_or faulty place EndsBeforeByteCount)
-      → Told bytes faulty place start
-  other : 0 < length bytes → (IsDelimiter (delimiter_in bytes) → ⊥)
-      → miss_in bytes faulty place start ≡ Some (delimiter_miss (delimiter_in bytes)) → Told bytes faulty place start
-  begun : HasDelimiter bytes → length bytes ≤ byte_count_place bytes
-      → miss_in bytes faulty place start ≡ Some (faulty_or faulty place EndsBeforeByteCount) → Told bytes faulty place start
-  short : HasByteCount bytes → delimiter_in bytes % 8 ≡ 6 → byte_count_in bytes < 2
-      → miss_in bytes faulty place start ≡ Some (ShortReply (byte_count_in bytes)) → Told bytes faulty place start
-  counted : HasGoodByteCount bytes → length bytes < body_length bytes
-      → miss_in bytes faulty place start ≡ Some (faulty_or faulty place (Missing (body_length bytes - length bytes)))
-      → Told bytes faulty place start
-  whole : HasCheckByte bytes → miss_in bytes faulty place start ≡ check_miss bytes start → Told bytes faulty place start
-
-pub told : (bytes : List ℕ) (faulty : Option Character) (place start : ℕ) → Told bytes faulty place start
-told bytes faulty place start = grind (arith, nat_tests, empty, other, begun, short, counted, whole)
-
--- of what is heard from a start on
-pub told_of : (heard : List Character) (start : ℕ)
-    → Told (faultless_bytes heard) (slice_get heard (length (faultless_bytes heard))) (start + length (faultless_bytes heard)) start
-told_of heard start = grind (arith, common_steps, told)
 
 -- so many first characters without fault bits are as many faultless bytes
 pub record IsWholeFront (heard body : List Character) (len : ℕ) : Type 0 where
@@ -162,8 +127,3 @@ short_reply heard first place count start begins is bad = grind (arith, common_s
 pub cut_front : (heard : List Character) (count end : ℕ) → end ≡ length (faultless_bytes (take count heard))
     → end ≡ min count (length (faultless_bytes heard))
 cut_front heard count end is = is ∙ ap length (faultless_bytes-take count heard) ∙ length-take count (faultless_bytes heard)
-
--- which case a miss comes from
-pub faulty_or-is : (faulty : Option Character) (place : ℕ) (at_end miss : Miss) → faulty_or faulty place at_end ≡ miss
-    → ((faulty ≡ None) × (at_end ≡ miss)) ⊎ ((c : Character) × (faulty ≡ Some c) × (miss ≡ Faulty place c.faults))
-faulty_or-is faulty place at_end miss is = grind arith

@@ -20,7 +20,7 @@ use Rattle.hart_frame.specs.wire.FrameParts.{FrameParts}
 use Rattle.hart_frame.specs.wire.Layout.{body_length}
 use Rattle.hart_frame.proofs.lemmas.heard.Front.{faultless_bytes-append}
 use Rattle.hart_frame.proofs.lemmas.heard.Message.{delimiter_of-lt}
-use Rattle.hart_frame.proofs.lemmas.heard.Miss.{miss_in-whole, other, same_check}
+use Rattle.hart_frame.proofs.lemmas.heard.Miss.{miss_in-whole, same_check}
 use Rattle.hart_frame.proofs.lemmas.heard.Place.{preamble}
 use Rattle.hart_frame.proofs.lemmas.heard.Start.{is_start_from, starts_at}
 use Rattle.hart_frame.proofs.lemmas.wire.Parity.{even-is}
@@ -168,4 +168,4 @@ no_miss place chars (found, stands, at) =
     let front : List Character = stands.prefix ++ (preamble ∷ preamble ∷ []) in
     let after : List Character = faultless body ++ stands.rest in
     let split : chars ≡ front ++ after = grind (arith, common_steps, append_assoc, preamble) in
-    grind (arith, common_steps, drop_at, length-append, other, miss_of-start, none_of)
+    grind (arith, common_steps, drop_at, length-append, miss_of-start, none_of)
