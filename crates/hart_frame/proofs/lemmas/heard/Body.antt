@@ -1,11 +1,13 @@
 -- Characters that begin with a body, and their bytes.
-use Rattle.std.proofs.Common.{◌≡◌, ℕ, List, [], ◌∷◌, refl, sym, ap, ◌∙◌, arith}
+use Rattle.std.proofs.Common.{◌≡◌, ◌<◌, ℕ, List, [], ◌∷◌, refl, sym, ap, ◌∙◌, arith}
+use Rattle.std.proofs.lemmas.Grind.{common_steps}
 use Rattle.std.proofs.lemmas.List.{map-append}
 use Rattle.hart_frame.specs.heard.Body.{bytes_of, BeginsWithHeard}
 use Rattle.hart_frame.specs.heard.Character.{Character, faultless}
-use Rattle.hart_frame.specs.wire.Body.{BeginsWithBody}
+use Rattle.hart_frame.specs.wire.Body.{BeginsWithBody, IsBody}
+use Rattle.hart_frame.specs.wire.Delimiter.{delimiter_of}
 use Rattle.hart_frame.specs.wire.FrameParts.{FrameParts}
-use Rattle.hart_frame.proofs.lemmas.wire.UnambiguousBodies.{BeginsWithBody-append}
+use Rattle.hart_frame.proofs.lemmas.wire.UnambiguousBodies.{BeginsWithBody-append, address_type-lt, kind_code-is}
 
 -- faultless characters have the bytes that they were made of
 pub bytes_of-faultless : (bytes : List ℕ) → bytes_of (faultless bytes) ≡ bytes
@@ -21,3 +23,8 @@ pub BeginsWithBody-heard : (chars : List Character) (f : FrameParts) (len : ℕ)
     → BeginsWithBody (bytes_of chars) f len
 BeginsWithBody-heard chars f len heard =
     grind (arith, map-append, bytes_of-faultless heard.body, BeginsWithBody-append f heard.body (bytes_of heard.rest) heard.is_body)
+
+-- a body begins with its delimiter, which is no preamble byte
+pub head_of : (f : FrameParts) (body : List ℕ) → IsBody f body
+    → (others : List ℕ) × (body ≡ delimiter_of f ∷ others) × (delimiter_of f < 255)
+head_of f body is = grind (arith, common_steps, kind_code-is, address_type-lt)

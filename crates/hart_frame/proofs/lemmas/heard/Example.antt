@@ -3,6 +3,7 @@ use Rattle.std.proofs.Common.{◌⊎◌, ◌≡◌, ℕ, zero, suc, ◌<◌, inl
 use Rattle.std.proofs.Common.{length-append, subst}
 use Rattle.std.proofs.lemmas.List.{drop_at, length-replicate}
 use Rattle.std.proofs.lemmas.List.Elements.{All-from_recursion}
+use Rattle.std.proofs.lemmas.Slice.Zip.{AllZip-long}
 use Rattle.std.specs.Int.{bit_at}
 use Rattle.std.specs.List.{AllByRecursion}
 use Rattle.hart_frame.specs.heard.Character.{Character, IsFaultBit, faultless}
@@ -12,7 +13,7 @@ use Rattle.hart_frame.specs.wire.Body.{IsBody}
 use Rattle.hart_frame.specs.wire.FrameParts.{FrameParts}
 use Rattle.hart_frame.specs.wire.Parity.{HasEvenParity}
 use Rattle.hart_frame.proofs.lemmas.heard.Body.{faultless-one}
-use Rattle.hart_frame.proofs.lemmas.heard.Damage.{clear_is, length-heard}
+use Rattle.hart_frame.proofs.lemmas.heard.Damage.{clear_is}
 use Rattle.hart_frame.proofs.lemmas.heard.Place.{preamble}
 use Rattle.hart_frame.proofs.lemmas.wire.Body.{IsBody-push}
 use Rattle.hart_frame.proofs.lemmas.wire.Parity.{IsCheckByte-fold, even-check}
@@ -95,7 +96,7 @@ abbrev pub OneBody : Type 0
 OneBody = (f : FrameParts) (bytes others : List ℕ) → IsBody f bytes → IsBody f others → bytes ≡ others
 
 pub other_is_not_marked : OneBody → IsMarkedDamage identity_request 5 other_address → ⊥
-other_is_not_marked one_body damage = grind (arith, request_is, length-heard, length-append, length-replicate, clear_is)
+other_is_not_marked one_body damage = grind (arith, request_is, AllZip-long, length-append, length-replicate, clear_is)
 
 -- of what is as long as these two preamble bytes are left
 two_left : OneBody → (row : List ℕ) → length row ≡ 7 → (damage : IsCheckDamage identity_request 5 (faultless row)) → damage.left ≡ 2

@@ -1,48 +1,18 @@
 -- A message that is heard without faults has its frame alone.
-use Rattle.std.proofs.Common.{◌≡◌, ℕ, ◌+◌, ◌-◌, ◌<◌, ◌≤◌, List, [], ◌∷◌, ◌++◌, length, get_or, replicate, arith, append_assoc}
+use Rattle.std.proofs.Common.{subst, ◌≡◌, ℕ, ◌+◌, ◌-◌, ◌≤◌, List, [], ◌∷◌, ◌++◌, length, replicate, arith, append_assoc}
 use Rattle.std.proofs.Common.{length-append}
-use Rattle.std.proofs.Math.ListN.{get_or-append}
-use Rattle.std.proofs.lemmas.List.{append-nil, map-append, length-map, length-replicate, replicate-append-replicate, get_or-replicate}
-use Rattle.std.proofs.lemmas.List.{get_or-append-add}
+use Rattle.std.proofs.lemmas.List.{append-nil, map-append, length-map, length-replicate, replicate-append-replicate}
+use Rattle.std.specs.List.{AllZip}
 use Rattle.hart_frame.specs.declared.heard.found.Found.{Found}
-use Rattle.hart_frame.specs.heard.Body.{bytes_of}
 use Rattle.hart_frame.specs.heard.Character.{faultless}
+use Rattle.hart_frame.specs.heard.Damage.{IsHeardOrMarked}
 use Rattle.hart_frame.specs.heard.Frames.{AreFrames}
 use Rattle.hart_frame.specs.heard.Place.{StandsIn}
-use Rattle.hart_frame.specs.wire.Delimiter.{delimiter_of}
 use Rattle.hart_frame.specs.wire.FrameParts.{FrameParts}
 use Rattle.hart_frame.specs.wire.Message.{IsMessage}
-use Rattle.hart_frame.proofs.lemmas.heard.Body.{bytes_of-faultless}
+use Rattle.hart_frame.proofs.lemmas.heard.Body.{head_of}
+use Rattle.hart_frame.proofs.lemmas.heard.Damage.{heard_faultless, stood}
 use Rattle.hart_frame.proofs.lemmas.heard.Place.{HasNoFrame-end}
-use Rattle.hart_frame.proofs.lemmas.wire.UnambiguousBodies.{address_type-lt, kind_code-is, spread}
-
--- a delimiter is no preamble byte
-pub delimiter_of-lt : (f : FrameParts) → length f.expansion ≤ 3 → delimiter_of f < 255
-delimiter_of-lt f few = omega (arith, kind_code-is f.kind, address_type-lt f.address, few)
-
--- the bytes of a list that a frame stands in
-bytes-split : (bytes : List ℕ) (found : Found) (from : ℕ) (stands : StandsIn found (faultless bytes) from)
-    → bytes ≡ bytes_of stands.prefix ++ (255 ∷ 255 ∷ (stands.body ++ bytes_of stands.rest))
-bytes-split bytes found from stands = grind (arith, bytes_of-faultless bytes, map-append, append_assoc, bytes_of-faultless)
-
--- a frame starts with its delimiter
-starts : (bytes : List ℕ) (found : Found) (from : ℕ) → StandsIn found (faultless bytes) from
-    → get_or bytes found.start 0 ≡ delimiter_of found.frame
-starts bytes found from stands =
-    grind (
-      arith,
-      length-map,
-      bytes-split bytes found from stands,
-      get_or-append-add,
-      spread found.frame stands.body (bytes_of stands.rest) stands.is_body,
-    )
-
--- so none starts among the preamble bytes
-starts-after : (bytes body : List ℕ) (preambles : ℕ) (found : Found) (from : ℕ) → bytes ≡ replicate preambles 255 ++ body
-    → StandsIn found (faultless bytes) from → preambles ≤ found.start
-starts-after bytes body preambles found from parts stands =
-    let low = delimiter_of-lt found.frame stands.is_body.checked_part.expansion_fits in
-    grind (arith, length-replicate, get_or-append, get_or-replicate, starts bytes found from stands)
 
 -- the frame of a message, and where it stands in what is heard
 abbrev found_in : FrameParts → ℕ → List ℕ → Found
@@ -62,7 +32,10 @@ pub AreFrames-message : (f : FrameParts) (preambles : ℕ) (bytes : List ℕ) �
 AreFrames-message f preambles bytes two message =
     AreFrames.first 0 (found_in f preambles bytes) [] (record {
       stands = stands_in f preambles (preambles - 2) bytes (omega (arith, two)) message;
-      least = λ other stands. starts-after bytes message.body preambles other 0 message.parts stands;
+      least = λ other stands.
+          let (others, begins, low) = head_of f message.body message.is_body in
+          let heard = subst (λ sent. AllZip IsHeardOrMarked sent (faultless bytes)) message.parts (heard_faultless bytes) in
+          let after = stood preambles message.body (faultless bytes) other 0 (grind arith) heard stands in omega (arith, after, stands.start);
     }) (AreFrames.none (length bytes) (HasNoFrame-end (faultless bytes) (length bytes) (grind (arith, length-map))))
 
 pub AreFrames-nothing : AreFrames [] 0 []

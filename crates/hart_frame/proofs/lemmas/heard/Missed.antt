@@ -15,11 +15,11 @@ use Rattle.hart_frame.specs.heard.InTheWay.{FollowsOnePreamble, HasBodyAt}
 use Rattle.hart_frame.specs.heard.Miss.{HasFrameAt, body_miss, check_byte_in, fitting_check_byte, miss_in, miss_of, follows_one_preamble}
 use Rattle.hart_frame.specs.heard.Miss.{follows_preamble, is_preamble, is_start}
 use Rattle.hart_frame.specs.heard.Start.{IsStart}
-use Rattle.hart_frame.specs.wire.Body.{BeginsWithBody, IsBody}
+use Rattle.hart_frame.specs.wire.Body.{BeginsWithBody}
 use Rattle.hart_frame.specs.wire.FrameParts.{FrameParts}
 use Rattle.hart_frame.specs.wire.Layout.{body_length}
 use Rattle.hart_frame.proofs.lemmas.heard.Front.{faultless_bytes-append}
-use Rattle.hart_frame.proofs.lemmas.heard.Message.{delimiter_of-lt}
+use Rattle.hart_frame.proofs.lemmas.heard.Body.{head_of}
 use Rattle.hart_frame.proofs.lemmas.heard.Miss.{miss_in-whole, same_check}
 use Rattle.hart_frame.proofs.lemmas.heard.Place.{preamble}
 use Rattle.hart_frame.proofs.lemmas.heard.Start.{is_start_from, starts_at}
@@ -124,16 +124,7 @@ pub one_preamble-yes : (chars : List Character) (place : ℕ) → FollowsOnePrea
 one_preamble-yes chars place is =
     grind (arith, common_steps, preamble, append_snoc, length-append, get_or-append_seam, no_second, both, first_tests)
 
--- the first byte of a body is no preamble byte
-record Head (body : List ℕ) : Type 0 where
-  pub first : ℕ
-  pub others : List ℕ
-  pub is : body ≡ first ∷ others
-  pub low : first < 255
-
-head_of : (f : FrameParts) (body : List ℕ) → IsBody f body → Head body
-head_of f body is = grind (arith, common_steps, delimiter_of-lt)
-
+-- the check byte of a body fits
 body_fits : (bytes : List ℕ) (f : FrameParts) (len : ℕ) → BeginsWithBody bytes f len → check_byte_in bytes ≡ fitting_check_byte bytes
 body_fits bytes f len begins =
     let body = begins.body in
