@@ -15,5 +15,4 @@ pub mod Sum
 pub mod Miss
 pub mod Missed
 pub mod Hint
-pub mod MissFault
 pub mod InTheWay

@@ -1,7 +1,7 @@
 -- What a miss names is what stands in the way of a frame.
-use Rattle.std.proofs.Common.{◌≡◌, ◌≢◌, ℕ, zero, suc, fold, bit_xor, ◌+◌, ◌-◌, ◌<◌, ◌≤◌, ◌⊎◌, inl, inr, List, [], ◌∷◌, ◌++◌, length, take}
-use Rattle.std.proofs.Common.{drop, get_or, set, true, Some, refl, sym, ap, ◌∙◌, arith, append_assoc, length-append, ◌↔◌}
-use Rattle.std.proofs.lemmas.Bool.{false≢true}
+use Rattle.std.proofs.Common.{◌≡◌, ◌≢◌, ℕ, fold, bit_xor, ◌+◌, ◌-◌, ◌<◌, ◌≤◌, ◌⊎◌, inl, inr, List, [], ◌∷◌, ◌++◌, length, take}
+use Rattle.std.proofs.Common.{drop, get_or, set, true, Some, refl, ap, ◌∙◌, arith, append_assoc, length-append, ◌↔◌}
+use Rattle.std.proofs.lemmas.List.{take_at}
 use Rattle.std.proofs.lemmas.Bool.Decides.{nat_tests}
 use Rattle.std.proofs.lemmas.Grind.{common_steps}
 use Rattle.std.proofs.lemmas.List.{append-nil, drop_at, drop_more, get_or-set_same, get_or-take, length-take-le, map-append}
@@ -23,10 +23,10 @@ use Rattle.hart_frame.specs.wire.FrameParts.{FrameParts}
 use Rattle.hart_frame.specs.wire.Layout.{body_length, byte_count_place}
 use Rattle.hart_frame.specs.wire.Parity.{IsCheckByte}
 use Rattle.hart_frame.specs.wire.Refusal.{HasCheckByte, HasGoodByteCount}
-use Rattle.hart_frame.proofs.lemmas.heard.FramesFound.{HeardAhead, heard_whole}
+use Rattle.hart_frame.proofs.lemmas.heard.FramesFound.{heard_whole}
 use Rattle.hart_frame.proofs.lemmas.heard.Front.{after_faultless, faultless_fit, length-faultless_bytes, nothing_follows, take_heard}
-use Rattle.hart_frame.proofs.lemmas.heard.InTheWay.{way_of, fits-is, rest_at, nothing_at_end}
-use Rattle.hart_frame.proofs.lemmas.heard.Missed.{miss_of-some, miss_of-start, not_at_front, one_before_place, is_start-yes, miss_of-one}
+use Rattle.hart_frame.proofs.lemmas.heard.InTheWay.{way_of, rest_at, fits-is, nothing_at_end}
+use Rattle.hart_frame.proofs.lemmas.heard.Missed.{miss_of-some, miss_of-start}
 use Rattle.hart_frame.proofs.lemmas.heard.Missed.{one_preamble-is, one_preamble-yes, none_of}
 use Rattle.hart_frame.proofs.lemmas.heard.Place.{preamble}
 use Rattle.hart_frame.proofs.lemmas.wire.Parity.{IsCheckByte-fold}
@@ -65,72 +65,68 @@ whole_body bytes fit has =
     let good = good_prefix bytes n has (omega arith) (omega (arith, has.1)) in
     fitted (take n bytes) (All-take (λ byte. byte < 256) n bytes fit) good.0 (grind (arith, good.1, length-take-le))
 
-heard_body : (heard : List Character) → All (λ c. c.byte < 256) heard → HasCheckByte (faultless_bytes heard)
-    → check_byte_in (faultless_bytes heard) ≡ fitting_check_byte (faultless_bytes heard) → HeardAhead heard
-heard_body heard fit has same =
-    let bytes = faultless_bytes heard in
-    let (frame, body) = whole_body bytes (faultless_fit heard fit) has in
-    let begin : take (body_length bytes) bytes ≡ take (body_length bytes - 1) bytes ++ fitting_check_byte bytes ∷ [] =
-    grind (arith, common_steps, take_more) in
-    let begins : BeginsWithBody bytes frame (body_length bytes) = grind arith in
-    (frame, body_length bytes, heard_whole heard frame (body_length bytes) begins)
+heard_body : (chars : List Character) (start : ℕ) → All (λ byte. byte < 256) (bytes_from chars start)
+    → HasCheckByte (bytes_from chars start) → check_byte_in (bytes_from chars start) ≡ fitting_check_byte (bytes_from chars start)
+    → HasBodyAt chars start
+heard_body chars start fits has same =
+    let bytes = bytes_from chars start in
+    let n = body_length bytes in
+    let (frame, body) = whole_body bytes fits has in
+    let begin : take n bytes ≡ take (n - 1) bytes ++ fitting_check_byte bytes ∷ [] = grind (arith, common_steps, take_more) in
+    let begins : BeginsWithBody bytes frame n = grind arith in
+    let heard = heard_whole (drop start chars) frame n begins in
+    record { frame = frame; body = heard.body; rest = heard.rest; is_body = heard.is_body; parts = heard.split }
 
--- what is heard begins with a body, or misses something of it
-pub heard_or_miss : (heard : List Character) (start : ℕ) → All (λ c. c.byte < 256) heard
-    → HeardAhead heard ⊎ (is_some (body_miss start heard) ≡ true)
-heard_or_miss heard start fit = grind (arith, nat_tests, heard_body heard fit)
+-- at a place a body begins, or something of it is missed
+body_or_miss : (chars : List Character) (start : ℕ) → All (λ c. c.byte < 256) chars
+    → HasBodyAt chars start ⊎ (is_some (body_miss start (drop start chars)) ≡ true)
+body_or_miss chars start fit =
+    let fits = faultless_fit (drop start chars) (All-drop (λ (c : Character). c.byte < 256) start chars fit) in
+    grind (arith, nat_tests, heard_body chars start fits)
 
 pub never_one_preamble : (start : ℕ) (heard : List Character) → body_miss start heard ≡ Some OnePreamble → ⊥
 never_one_preamble start heard miss = grind (arith, nat_tests)
 
--- a body that is heard after two preamble bytes is a frame there
-heard_frame : (chars prefix heard : List Character) (place : ℕ) → chars ≡ prefix ++ (preamble ∷ preamble ∷ heard)
-    → place ≡ length prefix + 2 → HeardAhead heard → HasFrameAt chars place
-heard_frame chars prefix heard place split at (f, len, body) =
-    let all : chars ≡ prefix ++ faultless (255 ∷ 255 ∷ body.body) ++ body.rest = grind (arith, common_steps, preamble, append_assoc) in
-    let found = frame_up_to chars prefix body.rest body.body f place (place + length body.body) body.is_body all at refl in
+-- a body where one may start is that of a frame
+body_frame : (chars : List Character) (start : ℕ) → IsStart start chars → HasBodyAt chars start → HasFrameAt chars start
+body_frame chars start is has =
+    let at = starts chars start is in
+    let split : chars ≡ at.prefix ++ faultless (255 ∷ 255 ∷ has.body) ++ has.rest = grind (arith, common_steps, preamble, append_assoc) in
+    let found = frame_up_to chars at.prefix has.rest has.body has.frame start (start + length has.body) has.is_body split at.at refl in
     (found.0, found.1, found.2)
 
 pub frame_or_miss : (place : ℕ) (chars : List Character) → All (λ c. c.byte < 256) chars → IsStart place chars
     → HasFrameAt chars place ⊎ IsSome (miss_of chars place)
 frame_or_miss place chars fit is =
-    let heard = drop place chars in
-    let at = starts chars place is in
-    elim (heard_or_miss heard place (All-drop (λ (c : Character). c.byte < 256) place chars fit)) [
-      | inl found ↦ inl (heard_frame chars at.prefix heard place at.split at.at found)
-      | inr some ↦ inr (ap is_some (sym (miss_of-start chars heard place refl is)) ∙ some)
-    ]
+    grind (arith, body_or_miss chars place fit, body_frame chars place is, miss_of-start chars (drop place chars) place refl is)
 
-with_preamble : (chars : List Character) (start : ℕ) → follows_one_preamble chars start ≡ true → HeardAhead (drop start chars)
-    → HasFrameAt (insert chars start preamble) (start + 1)
-with_preamble chars zero one found = absurd (not_at_front chars one)
-with_preamble chars (suc k) one found =
-    let at = one_before_place chars k one in
-    let heard = drop (suc k) chars in
-    let last : take (suc k) chars ≡ take k chars ++ preamble ∷ [] = grind (arith, common_steps, take_more, preamble) in
-    let split : insert chars (suc k) preamble ≡ take k chars ++ (preamble ∷ preamble ∷ heard) =
-    ap (λ (cs : List Character). cs ++ preamble ∷ heard) last ∙ append_assoc (take k chars) (preamble ∷ []) (preamble ∷ heard) in
-    let long = length-take-le k chars (omega (arith, at.0)) in
-    heard_frame (insert chars (suc k) preamble) (take k chars) heard (suc k + 1) split (omega (arith, long)) found
+never_both : (chars : List Character) (start : ℕ) → follows_one_preamble chars start ≡ true → is_start chars start ≡ true → ⊥
+never_both chars start one is = grind arith
 
 -- after one preamble byte alone a whole body stands
-alone_is : (start : ℕ) (chars : List Character) → All (λ c. c.byte < 256) chars → miss_of chars start ≡ Some OnePreamble
-    → (follows_one_preamble chars start ≡ true) × HeardAhead (drop start chars)
-alone_is start chars fit is =
-    let heard = drop start chars in
-    elim (miss_of-some chars start OnePreamble is) [
-      | inl (here, miss) ↦ absurd (never_one_preamble start heard miss)
-      | inr (same, one, no_miss) ↦
-          elim (heard_or_miss heard start (All-drop (λ (c : Character). c.byte < 256) start chars fit)) [
-            | inl found ↦ (one, found)
-            | inr some ↦ absurd (false≢true (sym no_miss ∙ some))
-          ]
-    ]
+pub one_alone : (start : ℕ) (chars : List Character) → All (λ c. c.byte < 256) chars
+    → (miss_of chars start ≡ Some OnePreamble) ↔ (FollowsOnePreamble chars start × HasBodyAt chars start)
+one_alone start chars fit = (
+  λ is. grind (
+    arith,
+    miss_of-some chars start OnePreamble is,
+    never_one_preamble start (drop start chars),
+    body_or_miss chars start fit,
+    one_preamble-is chars start,
+  ),
+  λ both. grind (arith, one_preamble-yes chars start both.0, never_both chars start, none_of chars start both.1),
+)
 
 -- with another preamble byte before the one a frame stands there
 pub one_preamble_fits : (start : ℕ) (chars : List Character) → All (λ c. c.byte < 256) chars → miss_of chars start ≡ Some OnePreamble
     → HasFrameAt (insert chars start preamble) (start + 1)
-one_preamble_fits start chars fit is = grind (arith, common_steps, alone_is, with_preamble)
+one_preamble_fits start chars fit is =
+    let (one, has) = (one_alone start chars fit).0 is in
+    let split : insert chars start preamble ≡ one.prefix ++ faultless (255 ∷ 255 ∷ has.body) ++ has.rest =
+    grind (arith, common_steps, preamble, append_assoc, take_at) in
+    let found = frame_up_to (insert chars start preamble) one.prefix has.rest has.body has.frame (start + 1) _ has.is_body split
+    (grind arith) refl in
+    (found.0, found.1, found.2)
 
 -- with the byte that would fit a frame stands there
 pub bad_check_fits : (start place byte fits : ℕ) (chars : List Character) → All (λ c. c.byte < 256) chars
@@ -211,13 +207,3 @@ missing_fits start count chars more fit more_fit is long =
           body.1 (ap (λ (cs : List Character). cs ++ faultless (more ++ last ∷ [])) split ∙ regroup) at.at
           (omega (arith, way.1.2, way.1.3, length-append checked (last ∷ []), size, long)),
     )
-
-never_both : (chars : List Character) (start : ℕ) → follows_one_preamble chars start ≡ true → is_start chars start ≡ true → ⊥
-never_both chars start one is = grind arith
-
-pub one_alone : (start : ℕ) (chars : List Character) → All (λ c. c.byte < 256) chars
-    → (miss_of chars start ≡ Some OnePreamble) ↔ (FollowsOnePreamble chars start × HasBodyAt chars start)
-one_alone start chars fit = (
-  λ is. let (one, found) = alone_is start chars fit is in (one_preamble-is chars start one, grind arith),
-  λ both. let one = one_preamble-yes chars start both.0 in grind (arith, common_steps, miss_of-one, never_both, is_start-yes, none_of),
-)

@@ -1,6 +1,12 @@
--- A miss where a body may start is what stands in the way there.
+-- A miss where a body may start is what stands in the way there, and comes from the fault with which the bytes there are refused.
 use Rattle.std.proofs.Common.{◌≡◌, ◌≢◌, ℕ, ◌+◌, ◌-◌, ◌<◌, ◌≤◌, ◌⊎◌, List, length, take, ◌↔◌, drop, fold, get_or, bit_xor, None}
 use Rattle.std.proofs.Common.{Some, refl, sym, arith}
+use Rattle.std.proofs.Common.{Option, ◌∙◌}
+use Rattle.std.proofs.lemmas.List.{take_more}
+use Rattle.hart_frame.specs.declared.wire.fault.FrameFault.{FrameFault}
+use Rattle.hart_frame.specs.heard.Miss.{check_byte_in, fault_of, miss_in}
+use Rattle.hart_frame.specs.wire.Parity.{HasEvenParity}
+use Rattle.hart_frame.specs.wire.Refusal.{HasCheckByte, IsRefusedWith}
 use Rattle.std.proofs.lemmas.Bool.Decides.{nat_tests}
 use Rattle.std.proofs.lemmas.Grind.{common_steps}
 use Rattle.std.proofs.lemmas.List.{get_or-drop, length-append, length-drop}
@@ -73,6 +79,10 @@ stops chars start at_end within =
 pub fits-is : (bytes : List ℕ) (fits : ℕ) → All (λ byte. byte < 256) bytes → IsCheckByte bytes fits → fits ≡ fold bit_xor 0 bytes
 fits-is bytes fits fit is = even-is bytes fits (fits_at bytes fit) is.byte (HasEvenParity-push bytes fits is)
 
+-- a body starts within the list
+start_within : (chars : List Character) (start : ℕ) → IsStart start chars → start ≤ length chars
+start_within chars start is = grind (arith, common_steps, length-append, preamble)
+
 -- what is said stands in the way
 said : (chars : List Character) (start : ℕ) (miss : Miss) → All (λ byte. byte < 256) (bytes_from chars start) → start ≤ length chars
     → body_miss start (drop start chars) ≡ Some miss → IsInTheWay chars start miss
@@ -101,10 +111,33 @@ pub in_the_way : (start : ℕ) (chars : List Character) (miss : Miss) → All (�
 in_the_way start chars miss fit is =
     let heard = drop start chars in
     let fits = faultless_fit heard (All-drop (λ (c : Character). c.byte < 256) start chars fit) in
-    let within : start ≤ length chars = grind (arith, common_steps, length-append, preamble) in
+    let within = start_within chars start is in
     rw (sym (miss_of-start chars heard start refl is)) (said chars start miss fits within, only chars start miss fits within)
 
 -- a miss but that of one preamble byte is of a place where a body may start
 pub way_of : (start : ℕ) (chars : List Character) (miss : Miss) → All (λ c. c.byte < 256) chars → miss_of chars start ≡ Some miss
     → miss ≢ OnePreamble → IsStart start chars × IsInTheWay chars start miss
 way_of start chars miss fit is two = grind (arith, miss_of-some chars start miss is, in_the_way start chars miss fit)
+
+-- a check byte that does not fit makes the parity odd
+odd : (bytes : List ℕ) → All (λ byte. byte < 256) bytes → HasCheckByte bytes → check_byte_in bytes ≢ fitting_check_byte bytes
+    → HasEvenParity (take (body_length bytes) bytes) → ⊥
+odd bytes is has holds so = grind (arith, common_steps, take_more, even-is, fits_at, All-take)
+
+-- a miss has the fault with which the bytes are refused, but that of one preamble byte has none
+has_fault : (miss : Miss) → miss ≢ OnePreamble → (fault : FrameFault) × (fault_of miss ≡ Some fault)
+has_fault miss two = grind arith
+
+refused_so : (bytes : List ℕ) (faulty : Option Character) (end start : ℕ) (miss : Miss) → All (λ byte. byte < 256) bytes
+    → miss_in bytes faulty end start ≡ Some miss → (fault : FrameFault) → fault_of miss ≡ Some fault → IsRefusedWith bytes fault
+refused_so bytes faulty end start miss fit told fault is = grind (arith, nat_tests, odd bytes fit)
+
+pub miss_is_fault : (start : ℕ) (chars : List Character) (miss : Miss) → All (λ c. c.byte < 256) chars → IsStart start chars
+    → miss_of chars start ≡ Some miss
+    → (fault : FrameFault) × (fault_of miss ≡ Some fault) × IsRefusedWith (faultless_bytes (drop start chars)) fault
+miss_is_fault start chars miss fit is miss_is =
+    let heard = drop start chars in
+    let fits = faultless_fit heard (All-drop (λ (c : Character). c.byte < 256) start chars fit) in
+    let way = (in_the_way start chars miss fit is).0 miss_is in
+    let (fault, same) = has_fault miss (λ same. rw same at way) in
+    (fault, same, refused_so (faultless_bytes heard) _ _ start miss fits (miss_of-start chars heard start refl is ∙ miss_is) fault same)

@@ -1,6 +1,6 @@
 -- The miss of a place by what stands before it, and that there is none where a frame stands.
-use Rattle.std.proofs.Common.{◌≡◌, ◌≢◌, ℕ, zero, suc, ◌+◌, ◌-◌, ◌<◌, ◌⊎◌, inl, inr, List, [], ◌∷◌, ◌++◌, length, take, drop, get_or}
-use Rattle.std.proofs.Common.{bit_xor, Bool, true, false, Option, None, Some, not, ◌∙◌, arith, ◌&&◌, append_assoc, length-append}
+use Rattle.std.proofs.Common.{◌↔◌, ◌≤◌, refl, ◌≡◌, ◌≢◌, ℕ, zero, suc, ◌+◌, ◌-◌, ◌<◌, ◌⊎◌, inl, inr, List, [], ◌∷◌, ◌++◌, length, take, drop, get_or}
+use Rattle.std.proofs.Common.{bit_xor, true, false, Option, None, Some, not, ◌∙◌, arith, append_assoc, length-append}
 use Rattle.std.proofs.Math.Seq.{append_snoc, drop-cons, get_or-append_seam, take-append_seam, take-suc}
 use Rattle.std.proofs.lemmas.Bool.Decides.{nat_tests}
 use Rattle.std.proofs.lemmas.Grind.{common_steps}
@@ -28,57 +28,40 @@ use Rattle.hart_frame.proofs.lemmas.wire.Refusal.{has_check, says}
 use Rattle.hart_frame.proofs.lemmas.wire.Truncated.{fits_at}
 use Rattle.hart_frame.proofs.lemmas.wire.UnambiguousBodies.{BeginsWithBody-append}
 
--- the tests of what stands at a place
-first_test : (chars : List Character) (k : ℕ) → option_map_or is_preamble (slice_get chars k) false ≡ true
-    → (k < length chars) × (get_or chars k preamble ≡ preamble)
-first_test chars k passes = grind (arith, nat_tests, slice_get_cases chars k, slice_get-get_or chars k preamble, preamble)
-
-first_tests : (chars : List Character) (k : ℕ) → k < length chars → get_or chars k preamble ≡ preamble
-    → option_map_or is_preamble (slice_get chars k) false ≡ true
-first_tests chars k within is = grind (arith, nat_tests, slice_get-get_or chars k preamble within, preamble)
-
-other_test : (chars : List Character) (k : ℕ) → option_map_or (λ (c : Character). not (is_preamble c)) (slice_get chars k) false ≡ true
-    → (k < length chars) × (get_or chars k preamble ≢ preamble)
-other_test chars k passes = grind (arith, nat_tests, slice_get_cases chars k, slice_get-get_or chars k preamble, preamble)
-
-both : {a b : Bool} → a ≡ true → b ≡ false → a && not b ≡ true
-both is none = cc
+-- what stands at a place: a preamble byte, another character, or nothing
+tested : (chars : List Character) (k : ℕ)
+    → ((option_map_or is_preamble (slice_get chars k) false ≡ true) × (k < length chars) × (get_or chars k preamble ≡ preamble)
+    × (option_map_or (λ (c : Character). not (is_preamble c)) (slice_get chars k) false ≡ false))
+    ⊎ ((option_map_or is_preamble (slice_get chars k) false ≡ false) × (k < length chars) × (get_or chars k preamble ≢ preamble)
+    × (option_map_or (λ (c : Character). not (is_preamble c)) (slice_get chars k) false ≡ true))
+    ⊎ ((option_map_or is_preamble (slice_get chars k) false ≡ false) × (length chars ≤ k)
+    × (option_map_or (λ (c : Character). not (is_preamble c)) (slice_get chars k) false ≡ false))
+tested chars k = grind (arith, nat_tests, slice_get_cases chars k, slice_get-get_or chars k preamble, preamble)
 
 -- the test of a start
-pub is_start-yes : (chars : List Character) (place : ℕ) → IsStart place chars → is_start chars place ≡ true
-is_start-yes chars place is =
-    grind (
-      arith,
-      starts_at chars place preamble is,
-      first_tests chars (place - 1),
-      first_tests chars (place - 2),
-      nat_tests,
-      slice_get-get_or,
-      preamble,
-    )
-
-pub is_start-is : (chars : List Character) (place : ℕ) → is_start chars place ≡ true → IsStart place chars
-is_start-is chars place passes =
+pub start_test : (chars : List Character) (place : ℕ) → (is_start chars place ≡ true) ↔ IsStart place chars
+start_test chars place =
     grind (
       arith,
       is_start_from chars place preamble,
-      first_test chars (place - 1),
-      first_test chars (place - 2),
-      other_test chars place,
+      starts_at chars place preamble,
+      tested chars (place - 1),
+      tested chars (place - 2),
+      tested chars place,
     )
 
 -- what the miss of a place is, where a body may start, after one preamble byte, and elsewhere
 pub miss_of-start : (chars heard : List Character) (start : ℕ) → heard ≡ drop start chars → IsStart start chars
     → body_miss start heard ≡ miss_of chars start
-miss_of-start chars heard start is starts = grind (arith, is_start-yes)
+miss_of-start chars heard start is starts = grind (arith, start_test chars start)
 
 pub miss_of-one : (chars heard : List Character) (start : ℕ) → heard ≡ drop start chars → (IsStart start chars → ⊥)
     → follows_one_preamble chars start ≡ true → is_some (body_miss start heard) ≡ false → Some OnePreamble ≡ miss_of chars start
-miss_of-one chars heard start is not one none = grind (arith, is_start-is chars start)
+miss_of-one chars heard start is not one none = grind (arith, start_test chars start)
 
 pub miss_of-nothing : (chars heard : List Character) (start : ℕ) → heard ≡ drop start chars → (IsStart start chars → ⊥)
     → (follows_one_preamble chars start ≡ false) ⊎ (is_some (body_miss start heard) ≡ true) → None ≡ miss_of chars start
-miss_of-nothing chars heard start is not cases = grind (arith, is_start-is chars start)
+miss_of-nothing chars heard start is not cases = grind (arith, start_test chars start)
 
 -- which misses there are where a body may start, and after one preamble byte
 pub miss_of-some : (chars : List Character) (start : ℕ) (miss : Miss) → miss_of chars start ≡ Some miss
@@ -86,43 +69,35 @@ pub miss_of-some : (chars : List Character) (start : ℕ) (miss : Miss) → miss
     ⊎ ((miss ≡ OnePreamble) × (follows_one_preamble chars start ≡ true) × (is_some (body_miss start (drop start chars)) ≡ false))
 miss_of-some chars start miss is =
     let cases : (is_start chars start ≡ true) ⊎ (is_start chars start ≡ false) = grind arith in
-    elim cases [
-      | inl here ↦ inl (is_start-is chars start here, grind arith)
-      | inr not_here ↦ inr (grind arith)
-    ]
-
--- one preamble byte before a place
-pub one_before_place : (chars : List Character) (k : ℕ) → follows_one_preamble chars (suc k) ≡ true
-    → (k < length chars) × (get_or chars k preamble ≡ preamble)
-one_before_place chars k one = grind (arith, first_test chars k)
-
-pub not_at_front : (chars : List Character) → follows_one_preamble chars zero ≡ true → ⊥
-not_at_front chars one = grind arith
+    elim cases [ inl here ↦ inl ((start_test chars start).0 here, grind arith) | inr not_here ↦ inr (grind arith) ]
 
 -- one preamble byte alone, as the lists say it
 pub one_preamble-is : (chars : List Character) (place : ℕ) → follows_one_preamble chars place ≡ true → FollowsOnePreamble chars place
-one_preamble-is chars zero one = absurd (not_at_front chars one)
+one_preamble-is chars zero one = absurd (grind arith)
 one_preamble-is chars (suc k) one =
-    let at = one_before_place chars k one in
+    let at = tested chars k in
+    let within : k < length chars = grind arith in
     record {
       prefix = take k chars;
       rest = drop (suc k) chars;
       split = grind (arith, common_steps, take-append-drop, drop-cons, preamble, append_snoc);
-      place_is = omega (arith, at.0, length-take-le k chars (omega (arith, at.0)));
+      place_is = omega (arith, within, length-take-le k chars (omega (arith, within)));
       alone = λ earlier is.
-          grind (arith, common_steps, length-append, preamble, length-take-le, get_or-take, get_or-append_seam, first_tests);
+          let before = tested chars (length earlier) in
+          grind (arith, common_steps, length-append, preamble, length-take-le, get_or-take, get_or-append_seam);
     }
 
 -- and the other way round
 no_second : (chars prefix rest : List Character) (k : ℕ) → chars ≡ prefix ++ preamble ∷ rest → k ≡ length prefix
-    → ((earlier : List Character) → prefix ≢ earlier ++ preamble ∷ []) → follows_preamble chars k ≡ true → ⊥
-no_second chars prefix rest zero split place alone passes = cc
-no_second chars prefix rest (suc j) split place alone passes =
-    let at = first_test chars j passes in search (arith, common_steps, take-append_seam, preamble, take-suc)
+    → ((earlier : List Character) → prefix ≢ earlier ++ preamble ∷ []) → follows_preamble chars k ≡ false
+no_second chars prefix rest zero split place alone = refl
+no_second chars prefix rest (suc j) split place alone =
+    let at = tested chars j in search (arith, common_steps, take-append_seam, preamble, take-suc)
 
 pub one_preamble-yes : (chars : List Character) (place : ℕ) → FollowsOnePreamble chars place → follows_one_preamble chars place ≡ true
 one_preamble-yes chars place is =
-    grind (arith, common_steps, preamble, append_snoc, length-append, get_or-append_seam, no_second, both, first_tests)
+    let at = tested chars (length is.prefix) in
+    grind (arith, no_second chars is.prefix is.rest, length-append, preamble, append_assoc, get_or-append_seam)
 
 -- the check byte of a body fits
 body_fits : (bytes : List ℕ) (f : FrameParts) (len : ℕ) → BeginsWithBody bytes f len → check_byte_in bytes ≡ fitting_check_byte bytes
