@@ -1,8 +1,9 @@
 -- A buffer stays sound, and what it stands for then.
-use Rattle.std.proofs.Common.{◌≡◌, ℕ, ◌+◌, ◌-◌, ◌≤◌, true, IsTrue, List, [], ◌++◌, length, take, drop, None, sym, arith}
+use Rattle.std.proofs.Common.{◌≡◌, ℕ, ◌+◌, ◌-◌, ◌≤◌, true, IsTrue, List, [], ◌++◌, length, take, drop, None, sym, refl, arith, append_assoc, length-append}
 use Rattle.std.proofs.Math.Seq.{drop-append-add, drop-append_seam}
 use Rattle.std.proofs.lemmas.Grind.{common_steps}
-use Rattle.std.proofs.lemmas.List.{append-nil, drop-append-le, drop-drop, drop-take}
+use Rattle.std.proofs.lemmas.List.{append-nil, drop-append-le, drop-drop, drop-map, drop-take, length-map}
+use Rattle.std.specs.Option.{option_to_list}
 use Rattle.hart_frame.specs.declared.scan.buffer.Buffer.{Buffer}
 use Rattle.hart_frame.specs.declared.scan.buffer.State.{State}
 use Rattle.hart_frame.specs.declared.scan.buffer.State.TheVariants.{Busy, Drained}
@@ -12,7 +13,7 @@ use Rattle.hart_frame.specs.scan.Buffer.{IsSound, IsWaiting, held_bytes, is_drai
 use Rattle.hart_frame.specs.scan.Decision.{NoneBeginHeld}
 use Rattle.hart_frame.specs.scan.Scanner.{GivesNothing, Scan, MovesPast, Waits}
 use Rattle.hart_frame.proofs.lemmas.scan.Candidate.{undecided_open}
-use Rattle.hart_frame.proofs.lemmas.scan.Scan.{moves_none, moves_places}
+use Rattle.hart_frame.proofs.lemmas.scan.Scan.{moves_none, moves_past}
 use Rattle.hart_frame.proofs.lemmas.scan.Search.{take_both}
 
 -- a buffer that let its first bytes go
@@ -24,7 +25,12 @@ held_passed b count = sym (drop-drop count b.from b.bytes)
 
 pub moves_passed : (b : Buffer) (count : ℕ) → count ≤ length (held_bytes b) → NoneBeginHeld b count
     → MovesPast (scan_of b) (scan_of (passed b count)) []
-moves_passed b count within none = grind (arith, moves_places, held_passed)
+moves_passed b count within none =
+    let held : (n : ℕ) → n ≤ count → drop n (scan_of b).held ≡ faultless (drop n (held_bytes b)) ++ option_to_list b.damaged =
+    λ n below. grind (arith, drop-append-le, drop-map, length-map) in
+    moves_past (scan_of b) (scan_of (passed b count)) count (grind (arith, length-append, length-map))
+    (grind (arith, held, held_passed)) refl refl
+    (λ place below more ended. rw (held place (omega (arith, below)), append_assoc) (none place below more ended))
 
 -- what is held without faults
 pub held_clear : (b : Buffer) → b.damaged ≡ None → (scan_of b).held ≡ faultless (held_bytes b)

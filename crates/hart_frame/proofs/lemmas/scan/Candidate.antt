@@ -21,8 +21,7 @@ use Rattle.hart_frame.specs.wire.Parity.{HasEvenParity, IsCheckByte}
 use Rattle.hart_frame.specs.wire.Refusal.{HasCheckByte, IsTruncated}
 use Rattle.hart_frame.proofs.lemmas.heard.Body.{BeginsWithBody-heard, bytes_of-faultless}
 use Rattle.hart_frame.proofs.lemmas.heard.Front.{faultless_bytes-append, faultless_bytes-end}
-use Rattle.hart_frame.proofs.lemmas.heard.Place.{StandsIn-within, preamble}
-use Rattle.hart_frame.proofs.lemmas.scan.Scan.{skip_one}
+use Rattle.hart_frame.proofs.lemmas.heard.Place.{StandsIn-at, StandsIn-within, preamble}
 use Rattle.hart_frame.proofs.lemmas.wire.Parity.{check-even, even-check}
 use Rattle.hart_frame.proofs.lemmas.wire.Prefix.{Describes-prefix, HasCheckByte-prefix, refused_more}
 use Rattle.hart_frame.proofs.lemmas.wire.Refusal.{not_refused}
@@ -73,22 +72,24 @@ nothing_open xs tail may ends f body rest is same =
 
 later_open : (xs : List ℕ) → MayBegin xs → (found : Found) → StandsIn found (faultless xs) 0 → 2 < found.start
 later_open xs may found stands =
-    let later = skip_one (faultless xs) 0 (rw append-nil at (nothing_open xs [] may (inl refl))) found stands in
-    grind (arith, StandsIn-within found (faultless xs) 1 later)
+    grind (
+      arith,
+      StandsIn-within,
+      append-nil,
+      StandsIn-at (faultless xs) 0 0 found stands,
+      nothing_open xs [] may (inl refl) found.frame stands.body stands.rest stands.is_body,
+    )
 
 -- what may begin a frame is undecided
 pub undecided_open : (xs : List ℕ) → MayBegin xs → IsUndecided (faultless xs)
-undecided_open xs may =
-    elim may [
-      | inl none ↦ inl (λ found stands. grind (arith, StandsIn-within found (faultless xs) 0 stands))
-      | inr (inl one) ↦ inl (λ found stands. grind (arith, StandsIn-within found (faultless xs) 0 stands))
-      | inr (inr (after, two, truncated)) ↦
-          inr (
-            2,
-            record { prefix = []; bytes = after; split = grind arith; start = refl; truncated = truncated },
-            later_open xs (inr (inr (after, two, truncated))),
-          )
-    ]
+undecided_open (x ∷ y ∷ after) may =
+    let truncated : IsTruncated after = grind arith in
+    inr (
+      2,
+      record { prefix = []; bytes = after; split = grind arith; start = refl; truncated = truncated },
+      later_open (x ∷ y ∷ after) may,
+    )
+undecided_open xs may = inl (λ found stands. grind (arith, StandsIn-within found (faultless xs) 0 stands))
 
 -- fewer bytes than so many of a list may begin a frame if two preamble bytes come first, and fewer after them end too early
 pub may_begin_before : (count : ℕ) (xs : List ℕ) → ((fewer : ℕ) → fewer < count → IsTruncated (take fewer xs))

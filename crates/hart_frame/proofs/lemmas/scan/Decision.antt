@@ -1,8 +1,8 @@
 -- What is decided of a buffer, and what is given then.
 use Rattle.std.proofs.Common.{◌≡◌, ◌≢◌, ℕ, ◌+◌, ◌-◌, ◌≤◌, ◌⊎◌, ◌↔◌, inl, inr, Bool, true, false, IsTrue, List, [], ◌∷◌, ◌++◌, length, take}
-use Rattle.std.proofs.Common.{drop, Option, Some, None, refl, arith, subst, append_assoc, length-append, length-drop}
+use Rattle.std.proofs.Common.{drop, Option, None, refl, arith, subst, append_assoc, length-append, length-drop}
 use Rattle.std.proofs.lemmas.List.{drop_at, map-append}
-use Rattle.std.specs.Option.{IfSome, MatchOption, is_some, option_to_list}
+use Rattle.std.specs.Option.{IfSome, MatchOption, option_to_list}
 use Rattle.hart_frame.specs.declared.scan.buffer.Buffer.{Buffer}
 use Rattle.hart_frame.specs.declared.scan.buffer.Span.{Span}
 use Rattle.hart_frame.specs.declared.scan.buffer.State.TheVariants.{Busy, Drained, Stands}
@@ -17,10 +17,9 @@ use Rattle.hart_frame.specs.scan.Scanner.{Scan, MovesPast, GivesNothing}
 use Rattle.hart_frame.specs.scan.Search.{IsLeftOpen, IsSearchedToEnd}
 use Rattle.hart_frame.specs.wire.Body.{IsCheckedPart}
 use Rattle.hart_frame.specs.wire.Layout.{body_length, layout_length}
-use Rattle.hart_frame.proofs.lemmas.heard.Place.{preamble}
 use Rattle.hart_frame.proofs.lemmas.scan.Buffer.{held_passed, moves_passed, passed, waits}
 use Rattle.hart_frame.proofs.lemmas.scan.Next.{body_at_place}
-use Rattle.hart_frame.proofs.lemmas.scan.Scan.{moves_drop, moves_frame, moves_none, moves_then}
+use Rattle.hart_frame.proofs.lemmas.scan.Scan.{moves_frame, moves_none, moves_then}
 use Rattle.hart_frame.proofs.lemmas.scan.Undecided.{nothing_before}
 use Rattle.hart_frame.proofs.lemmas.wire.BodiesFound.{held_frame}
 use Rattle.hart_frame.proofs.lemmas.wire.Body.{IsBody-whole}
@@ -116,13 +115,6 @@ holds_frame b layout whole =
       },
       refl,
     )
-
--- a character with faults is let go
-pub moves_damaged : (o : Option Character) (old new : Scan) → IfSome o (λ c. c.faults ≢ 0) → is_some o ≡ true → old.held ≡ option_to_list o
-    → new.held ≡ [] → new.first ≡ old.first + 1 → new.finished ≡ old.finished → MovesPast old new []
-moves_damaged None old new faulty some held empty firsts finished = absurd cc
-moves_damaged (Some c) old new faulty some held empty firsts finished =
-    moves_drop old new c (grind arith) firsts finished (λ more ended. grind (arith, preamble))
 
 -- nothing is given if nothing is held from a place on, before which no frame begins
 pub given_nothing : (b mid : Buffer) (found : Sighting) (new : Scan) → IsHeldSearched b found → mid ≡ passed b found.place

@@ -26,7 +26,7 @@ given_first : (past more : List Character) (scan : Scan) (found : Found) → IsH
 given_first past more scan found history ended =
     let are = AreFrames-found (past ++ more) 0 in
     let is = history_first frames_are_unambiguous-one_list past more scan (found ∷ []) are.0 history ended are.1 in
-    head_first (past ++ more) 0 are.0 are.1 found is.0 is.1
+    head_first (past ++ more) 0 found is.0 (rw is.1 at are.1)
 
 -- it lies in the list
 first_in : (found : Found) (chars : List Character) → IsFirst found chars 0 → IsFirstIn found chars
@@ -50,12 +50,7 @@ last_given : (chars : List Character) (waiting new : Scan) (given : Option Found
     → MatchOption given (GivesNothing (finishing waiting) new) (Gives (finishing waiting) new)
     → MatchOption given (HasNoFrame chars 0) (λ found. IsFirstIn found chars)
 last_given chars waiting new None history nothing =
-    grind (
-      arith,
-      no_frames chars 0 []
-          (grind (arith, common_steps, history_all))
-          refl,
-    )
+    no_frames chars 0 (grind (arith, common_steps, history_all))
 last_given chars waiting new (Some found) history gives =
     first_in found chars (rw (append-nil chars) at (given_first chars [] new found
     (take_view chars (finishing waiting) new [] found history gives) (λ _. refl)))

@@ -2,7 +2,7 @@
 use Rattle.std.proofs.Common.{◌≡◌, ℕ, ◌+◌, ◌-◌, ◌≤◌, Bool, false, List, [], ◌∷◌, ◌++◌, Some, None, length, take, drop, inl, ◌∙◌, ap, arith}
 use Rattle.std.proofs.Common.{append_assoc, length-append, length-drop, refl, sym, take-append-drop}
 use Rattle.std.proofs.lemmas.Grind.{common_steps}
-use Rattle.std.proofs.lemmas.List.{append-nil, drop-drop, drop_all, drop_at, length-map, length-take-le, map-append, take_at}
+use Rattle.std.proofs.lemmas.List.{drop-drop, drop_all, drop_at, length-map, length-take-le, map-append, take_at}
 use Rattle.std.specs.List.{slice_range}
 use Rattle.hart_frame.specs.declared.heard.found.Found.{Found}
 use Rattle.hart_frame.specs.declared.scan.search.Sighting.{Sighting}
@@ -41,9 +41,8 @@ leads_on bytes ended from to given within moves more later closed =
 moves_to : (bytes : List ℕ) (ended : Bool) (from to : ℕ) → from ≤ to → to ≤ length bytes → NoneBeginThen bytes ended from to
     → MovesPast (scan_at bytes ended from) (scan_at bytes ended to) []
 moves_to bytes ended from to order within none =
-    moves_places (scan_at bytes ended from) (scan_at bytes ended to) (drop from bytes) [] (to - from)
-    (sym (append-nil (faultless (drop from bytes)))) (grind (arith, common_steps, drop-drop, append-nil))
-    (let there : to ≡ from + (to - from) = omega (arith, order) in there) refl (omega (arith, within, length-drop from bytes))
+    moves_places (scan_at bytes ended from) (scan_at bytes ended to) (drop from bytes) (to - from) refl
+    (grind (arith, common_steps, drop-drop)) (omega (arith, order)) refl (omega (arith, within, length-drop from bytes))
     (λ place below more closed.
     rw (drop-drop place from bytes) (none (from + place) (omega arith) (omega (arith, below)) more (λ over. inl (closed over))))
 

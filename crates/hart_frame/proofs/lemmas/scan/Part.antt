@@ -1,9 +1,9 @@
 -- What a part of bytes is to a scanner that searches it together with what it holds.
-use Rattle.std.proofs.Common.{◌≡◌, ℕ, ◌+◌, ◌-◌, ◌<◌, ◌⊎◌, inl, inr, false, List, [], ◌++◌, length, take, Option, None, Some, drop, refl}
+use Rattle.std.proofs.Common.{◌≡◌, ℕ, ◌+◌, ◌-◌, ◌<◌, ◌⊎◌, inl, inr, false, List, ◌++◌, length, take, Option, None, Some, drop, refl}
 use Rattle.std.proofs.Common.{sym, ap, arith, subst, length-append, length-drop}
 use Rattle.std.proofs.Math.Seq.{take-append-add, take-append_seam, take-length}
 use Rattle.std.proofs.lemmas.Grind.{common_steps}
-use Rattle.std.proofs.lemmas.List.{append-nil, map-append, take-map, length-map, length-take-le}
+use Rattle.std.proofs.lemmas.List.{map-append, take-map, length-map, length-take-le}
 use Rattle.std.specs.Option.{MatchOption}
 use Rattle.hart_frame.specs.declared.scan.buffer.Buffer.{Buffer}
 use Rattle.hart_frame.specs.declared.scan.search.Sighting.{Sighting}
@@ -27,8 +27,8 @@ undecided_from xs ends =
     let old : Scan = record { first = 0; held = faultless xs; finished = false; drained = false } in
     let new : Scan = record { first = ends.place; held = faultless (drop ends.place xs); finished = false; drained = false } in
     undecided_before old new
-    (moves_places old new xs [] ends.place (sym (append-nil (faultless xs))) (sym (append-nil (faultless (drop ends.place xs))))
-    (let e : ends.place ≡ 0 + ends.place = omega arith in e) refl ends.within
+    (moves_places old new xs ends.place refl refl
+    (omega arith) refl ends.within
     (λ place below more _. ends.none place (omega arith) below more)) (undecided_open (drop ends.place xs) ends.may)
 
 -- what is held and the first of a chunk after it, as the first of both
@@ -86,8 +86,8 @@ hears_kept old new part found m kept same =
     let size = length-take-le found.decided total is.within in
     let heard : (fewer : ℕ) → (scan_of old).held ++ take fewer (faultless part) ≡ faultless (take (n + fewer) total) =
     λ fewer. heard_bytes old part fewer kept.waiting in
-    let first : (scan_of old).held ++ take count (faultless part) ≡ faultless both ++ [] = grind (arith, append-nil, heard count) in
-    let last : (scan_of new).held ≡ faultless (drop found.place both) ++ [] = grind (arith, append-nil, held_clear new kept.clear) in
+    let first : (scan_of old).held ++ take count (faultless part) ≡ faultless both = grind (arith, heard count) in
+    let last : (scan_of new).held ≡ faultless (drop found.place both) = grind (arith, held_clear new kept.clear) in
     let before : (fewer : ℕ) → fewer < count → IsUndecided ((scan_of old).held ++ take fewer (faultless part)) =
     λ fewer below.
     let cases : (fewer ≡ 0) ⊎ (0 < fewer) = grind arith in
@@ -101,7 +101,7 @@ hears_kept old new part found m kept same =
     record {
       within = grind (arith, long, counts, is.within, length-append);
       some = λ any. omega (arith, is.late, counts);
-      moves = moves_places (hearing (scan_of old) (take count (faultless part))) (scan_of new) both [] found.place first last kept.firsts
+      moves = moves_places (hearing (scan_of old) (take count (faultless part))) (scan_of new) both found.place first last kept.firsts
           kept.finished (omega (arith, size, is.order)) (λ here below more _. is.none here (omega arith) below more);
       before = before;
       stops = subst Stops (sym long) (search (arith, common_steps, stops_kept, holds_kept));

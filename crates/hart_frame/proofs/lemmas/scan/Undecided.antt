@@ -1,5 +1,5 @@
 -- What a scanner keeps of what it is to decide.
-use Rattle.std.proofs.Common.{◌≡◌, ℕ, ◌+◌, ◌-◌, ◌<◌, ◌≤◌, ◌⊎◌, inl, inr, false, List, [], ◌∷◌, ◌++◌, length, replicate, drop, refl, sym, ap}
+use Rattle.std.proofs.Common.{◌≡◌, ℕ, ◌+◌, ◌-◌, ◌<◌, ◌≤◌, inl, inr, false, List, [], ◌∷◌, ◌++◌, length, replicate, drop, refl, sym, ap}
 use Rattle.std.proofs.Common.{◌∙◌, arith, append_assoc, length-append, length-drop}
 use Rattle.std.proofs.lemmas.Grind.{common_steps}
 use Rattle.std.proofs.lemmas.List.{append-nil, drop_at, drop-append-le, get_or_at, get_or_append_left, get_or-replicate, length-replicate}
@@ -24,15 +24,20 @@ sample scan = replicate scan.first other ++ (scan.held ++ [])
 hears_sample : (scan : Scan) → CanHear scan [] (sample scan)
 hears_sample scan = grind (arith, common_steps, length-replicate)
 
--- the frames of a list are none, or the first and others
-frames_cases : (chars : List Character) (from : ℕ) (frames : List Found) → AreFrames chars from frames
-    → ((frames ≡ []) × HasNoFrame chars from) ⊎ ((g : Found) × (later : List Found) × (frames ≡ g ∷ later) × IsFirst g chars from)
-frames_cases chars from frames (none n empty) = inl (refl, empty)
-frames_cases chars from frames (first n g later is rest) = inr (g, later, refl, is)
+-- the frames of a list are none if none stands in it, and begin with the first
+pub no_frames : (chars : List Character) (from : ℕ) → AreFrames chars from [] → HasNoFrame chars from
+no_frames chars from (none n empty) = empty
 
-pub head_first : (chars : List Character) (from : ℕ) (frames : List Found) → AreFrames chars from frames
-    → (g : Found) (later : List Found) → frames ≡ g ∷ later → IsFirst g chars from
-head_first chars from frames are g later same = grind (arith, frames_cases chars from frames are)
+pub head_first : (chars : List Character) (from : ℕ) (g : Found) (later : List Found) → AreFrames chars from (g ∷ later)
+    → IsFirst g chars from
+head_first chars from g later (first n h others is rest) = is
+
+-- where a list has the same frames from two places on, one stands from the second on that starts no later than one from the first on
+same_first : (chars : List Character) (from to : ℕ) (frames : List Found) (found : Found) → AreFrames chars from frames
+    → AreFrames chars to frames → StandsIn found chars from → (g : Found) × StandsIn g chars to × (g.start ≤ found.start)
+same_first chars from to [] found old new stands = absurd (no_frames chars from old found stands)
+same_first chars from to (g ∷ later) found old new stands =
+    (g, (head_first chars to g later new).stands, (head_first chars from g later old).least found stands)
 
 -- what a scanner holds, stands in all that it heard
 pub held_stands : (s : Scan) (found : Found) → StandsIn found s.held 0
@@ -44,47 +49,26 @@ pub stands_held : (s : Scan) (chars : List Character) (found : Found) → CanHea
     → StandsIn (record { start = found.start - s.first; stop = found.stop - s.first; frame = found.frame }) s.held 0
 stands_held s chars found hears stands = grind (arith, stands_in, append-nil)
 
-pub no_frames : (chars : List Character) (from : ℕ) (frames : List Found) → AreFrames chars from frames → frames ≡ []
-    → HasNoFrame chars from
-no_frames chars from frames (none n empty) same = empty
-no_frames chars from frames (first n g later is rest) same = absurd cc
-
 other_preamble : other ≡ preamble → ⊥
 other_preamble same = let bytes : 0 ≡ 255 = ap (λ (c : Character). c.byte) same in absurd (omega (arith, bytes))
 
 -- no preamble byte is among what was let go
 preamble_held : (s : Scan) (prefix rest : List Character) → sample s ≡ prefix ++ preamble ∷ rest → s.first ≤ length prefix
 preamble_held s prefix rest same =
-    grind (
-      arith,
-      get_or_append_left (replicate s.first other) (s.held ++ []) other (length prefix),
-      length-replicate s.first other,
-      get_or-replicate s.first (length prefix) other other,
-      preamble,
-      get_or_at prefix preamble rest other (length prefix) refl,
-      other_preamble,
-    )
+    let at = get_or_at prefix preamble rest other (length prefix) refl in
+    grind (arith, get_or_append_left, length-replicate, get_or-replicate)
 
 -- if a frame stands in what was held before some characters were passed, one that starts no later stands in what is held then
 still_stands : (s t : Scan) → MovesPast s t [] → (found : Found) → StandsIn found s.held 0
     → (g : Found) × StandsIn g t.held 0 × (t.first + g.start ≤ s.first + found.start)
 still_stands s t moves found stands =
-    let after = moves.heard [] (sample s) (hears_sample s) in
     let later = AreFrames-found (sample s) t.first in
     let frames = moves.frames [] (sample s) later.0 (hears_sample s) later.1 in
-    let there = held_stands s found stands in
-    elim (frames_cases (sample s) t.first later.0 later.1) [
-      | inl (nil, empty) ↦ absurd (no_frames (sample s) s.first later.0 frames nil _ there)
-      | inr (g, others, parts, is) ↦ (
-        _,
-        stands_held t (sample s) g after is.stands,
-        omega (
-          arith,
-          (head_first (sample s) s.first later.0 frames g others parts).least _ there,
-          (StandsIn-within g (sample s) t.first is.stands).after,
-        ),
-      )
-    ]
+    let (g, there, early) = same_first (sample s) s.first t.first later.0 _ frames later.1 (held_stands s found stands) in (
+      _,
+      stands_held t (sample s) g (moves.heard [] (sample s) (hears_sample s)) there,
+      omega (arith, early, (StandsIn-within g (sample s) t.first there).after),
+    )
 
 -- what holds no frame after some characters are passed held none before
 pub nothing_before : (s t : Scan) → MovesPast s t [] → HasNoFrame t.held 0 → HasNoFrame s.held 0
@@ -100,35 +84,25 @@ undecided_before s t moves undecided = elim undecided [
       let rest = faultless (255 ∷ 255 ∷ opened.bytes) in
       let all : sample s ≡ prefix ++ rest = grind (arith, common_steps, append-nil, append_assoc) in
       let late = preamble_held s prefix (faultless (255 ∷ opened.bytes)) all in
-      let dropped = length-drop s.first prefix in
+      let front = drop_at (replicate s.first other) (s.held ++ []) s.first (length-replicate s.first other) in
+      let split : s.held ≡ drop s.first prefix ++ rest = grind (arith, append-nil, front, drop-append-le s.first prefix rest late) in
       inr (
         length (drop s.first prefix) + 2,
-        record {
-          prefix = drop s.first prefix;
-          bytes = opened.bytes;
-          split = sym (append-nil s.held)
-              ∙ sym (drop_at (replicate s.first other) (s.held ++ []) s.first (length-replicate s.first other))
-              ∙ ap (drop s.first) all ∙ drop-append-le s.first prefix rest late;
-          start = refl;
-          truncated = opened.truncated;
-        },
+        record { prefix = drop s.first prefix; bytes = opened.bytes; split = split; start = refl; truncated = opened.truncated },
         λ found stands.
             let there = still_stands s t moves found stands in
-            grind (arith, before there.0 there.1, there.2, opened.start, length-append, dropped, after.place, late),
+            grind (arith, before there.0 there.1, there.2, opened.start, length-append, length-drop s.first prefix, after.place, late),
       )
-]
-
--- a frame that begins what is held is decided
-frame_decided : (chars : List Character) (found : Found) → StandsIn found chars 0 → found.start ≡ 2 → IsUndecided chars → ⊥
-frame_decided chars found stands start undecided = elim undecided [
-  | inl empty ↦ empty found stands
-  | inr (place, opened, before) ↦ omega (arith, before found stands, start, opened.start)
 ]
 
 -- a scanner whose characters begin with a frame gives one
 pub holds_gives : (old new : Scan) → BeginsWithFrame old → GivesNothing old new → ⊥
 holds_gives old new (found, stands, start) nothing =
-    grind (arith, frame_decided old.held found stands start, undecided_before old new)
+    let undecided : IsUndecided old.held = grind (arith, undecided_before old new) in
+    elim undecided [
+      | inl empty ↦ empty found stands
+      | inr (place, opened, before) ↦ omega (arith, before found stands, start, opened.start)
+    ]
 
 -- nothing is given before the finish
 pub waits_only : (old new : Scan) → old.finished ≡ false → GivesNothing old new → Waits old new
