@@ -27,8 +27,7 @@ undecided_from xs ends =
     let old : Scan = record { first = 0; held = faultless xs; finished = false; drained = false } in
     let new : Scan = record { first = ends.place; held = faultless (drop ends.place xs); finished = false; drained = false } in
     undecided_before old new
-    (moves_places old new xs ends.place refl refl
-    (omega arith) refl ends.within
+    (moves_places old new xs ends.place refl refl (omega arith) refl ends.within
     (λ place below more _. ends.none place (omega arith) below more)) (undecided_open (drop ends.place xs) ends.may)
 
 -- what is held and the first of a chunk after it, as the first of both

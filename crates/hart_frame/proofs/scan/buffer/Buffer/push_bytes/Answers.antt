@@ -1,30 +1,30 @@
-use Rattle.std.proofs.Common.{◌∙◌, sym, arith}
+use Rattle.std.proofs.Common.{◌≡◌, ℕ, List, length, drop, ◌∙◌, sym, arith}
 use Rattle.std.proofs.lemmas.Bool.{false≢true}
-use Rattle.std.proofs.lemmas.List.{length-map}
+use Rattle.std.proofs.lemmas.List.{drop-map, length-map, take_rest}
+use Rattle.std.specs.List.{slice_range}
 use Rattle.hart_frame.specs.heard.Character.{faultless}
-use Rattle.hart_frame.specs.scan.Buffer.{scan_of}
-use Rattle.hart_frame.proofs.lemmas.scan.Buffer.{drained_is}
-use Rattle.hart_frame.proofs.lemmas.scan.Chunk.{hearing_on, hears_all, hears_until, rest_heard, room_left}
+use Rattle.hart_frame.proofs.lemmas.scan.Chunk.{hearing_on, hears_all, hears_until, room_left}
 use Rattle.hart_frame.proofs.scan.buffer.Buffer.push_bytes.Goals as goal
+
+-- the characters of the rest of a chunk are the rest of its characters
+rest_of : (chunk : List ℕ) (n : ℕ) → faultless (slice_range chunk n (length chunk)) ≡ drop n (faultless chunk)
+rest_of chunk n = grind (arith, take_rest, drop-map)
 
 pub push_part-taken-requires-clause-room : goal.push_part-taken-requires-clause-room
 push_part-taken-requires-clause-room c = grind (arith, room_left, length-map)
 
 pub returns-then-not-is_drained-clause-hears : goal.returns-then-not-is_drained-clause-hears
 returns-then-not-is_drained-clause-hears c =
-    let new = c.push_part-taken.new.self in
-    hears_until c.args.self.now c.loop-taken.self new (faultless c.args.chunk.now) c.loop-taken.taken c.push_part-taken.result
-    c.loop-taken.invariant (λ is. false≢true (sym c.if-not-is_drained.true ∙ c.is_drained.ensures.1 (drained_is new.state is)))
-    (rest_heard (scan_of c.loop-taken.self) (scan_of new) c.args.chunk.now c.loop-taken.taken c.push_part-taken.result
-    c.push_part-taken.ensures.hears)
+    let (sound, drained, so) = c.loop-taken.invariant in
+    hears_until c.args.self.now c.loop-taken.self c.push_part-taken.new.self (faultless c.args.chunk.now) _ c.loop-taken.taken
+    c.push_part-taken.result so sound drained (λ is. false≢true (sym c.if-not-is_drained.true ∙ c.is_drained.ensures.1 is))
+    (rest_of c.args.chunk.now c.loop-taken.taken) c.push_part-taken.ensures.hears
 
 pub loop-taken-preserved : goal.loop-taken-preserved
 loop-taken-preserved c =
-    let new = c.push_part-taken.new.self in
-    hearing_on c.args.self.now c.loop-taken.self new (faultless c.args.chunk.now) c.loop-taken.taken c.push_part-taken.result
-    c.loop-taken.invariant c.push_part-taken.ensures.sound (c.is_drained.ensures.0 c.if-not-is_drained.false)
-    (rest_heard (scan_of c.loop-taken.self) (scan_of new) c.args.chunk.now c.loop-taken.taken c.push_part-taken.result
-    c.push_part-taken.ensures.hears)
+    let on = hearing_on c.args.self.now c.loop-taken.self c.push_part-taken.new.self (faultless c.args.chunk.now) _ c.loop-taken.taken
+    c.push_part-taken.result c.loop-taken.invariant.2 (rest_of c.args.chunk.now c.loop-taken.taken) c.push_part-taken.ensures.hears in
+    grind arith
 
 pub returns-clause-hears : goal.returns-clause-hears
 returns-clause-hears c = grind (arith, hears_all, length-map)

@@ -1,9 +1,11 @@
-use Rattle.std.proofs.Common.{◌-◌, length}
+use Rattle.std.proofs.Common.{◌≡◌, ◌-◌, length}
+use Rattle.hart_frame.specs.declared.scan.buffer.State.TheVariants.{Drained}
+use Rattle.hart_frame.specs.scan.Buffer.{IsSound}
 use Rattle.hart_frame.proofs.lemmas.scan.Chunk.{IsHearing}
 use Rattle.hart_frame.proofs.scan.buffer.Buffer.push_chars.Given as goal
 
 abbrev pub invariant-loop-taken : goal.invariant-loop-taken
-invariant-loop-taken l = IsHearing l.initial.self l.self l.chunk l.taken
+invariant-loop-taken l = IsSound l.self × (l.self.state ≡ Drained) × IsHearing l.initial.self l.self l.chunk l.taken
 
 abbrev pub decreases-loop-taken : goal.decreases-loop-taken
 decreases-loop-taken l = length l.chunk - l.taken
