@@ -24,7 +24,7 @@ abbrev of_byte : ℕ → Character
 of_byte byte = record { byte = byte; faults = 0 }
 
 -- a scanner that holds the bytes from a place on
-abbrev scan_at : List ℕ → Bool → ℕ → Scan
+abbrev pub scan_at : List ℕ → Bool → ℕ → Scan
 scan_at bytes ended place = record { first = place; held = faultless (drop place bytes); finished = ended; drained = false }
 
 -- what it moves past are the next frames of the bytes
@@ -38,7 +38,7 @@ leads_on bytes ended from to given within moves more later closed =
     moves.frames more (faultless bytes ++ more) later hears
 
 -- places are passed at which no frame begins
-moves_to : (bytes : List ℕ) (ended : Bool) (from to : ℕ) → from ≤ to → to ≤ length bytes → NoneBeginThen bytes ended from to
+pub moves_to : (bytes : List ℕ) (ended : Bool) (from to : ℕ) → from ≤ to → to ≤ length bytes → NoneBeginThen bytes ended from to
     → MovesPast (scan_at bytes ended from) (scan_at bytes ended to) []
 moves_to bytes ended from to order within none =
     moves_places (scan_at bytes ended from) (scan_at bytes ended to) (drop from bytes) (to - from) refl

@@ -12,5 +12,7 @@ returns-clause-sound c = grind (arith, sound_kept, kept)
 
 pub returns-clause-hears : goal.returns-clause-hears
 returns-clause-hears c =
-    hears_kept c.args.self.now (record c.keep.new.self { state = c.state_of-self.result }) c.args.part.now c.args.found
-    (length c.held-held.result.now) (kept c) (ap length c.held-held.ensures.held)
+    let found = c.args.found in
+    let is = kept c in
+    hears_kept c.args.self.now _ c.args.part.now found _ (returns-clause-sound c) is
+    (omega (arith, is.searched.late, ap length c.held-held.ensures.held))
