@@ -1,45 +1,31 @@
 -- The laws of bodies, of frames, of scanners, of first starts and of damage, for the proofs of this crate and of those above.
-use Rattle.std.proofs.Common.{arith, ◌≡◌, ◌+◌, ◌≤◌, ◌⊎◌, ◌↔◌, ℕ, Bool, false, IsTrue, List, [], ◌∷◌, ◌++◌, drop, length, map, refl, sym}
+use Rattle.std.proofs.Common.{arith, ◌≡◌, ◌+◌, ◌≤◌, ◌⊎◌, ◌↔◌, ℕ, Bool, false, IsTrue, List, [], ◌∷◌, ◌++◌, drop, length, map}
 use Rattle.std.proofs.Common.{append_assoc, length-append}
 use Rattle.std.proofs.lemmas.Grind.{common_steps}
 use Rattle.std.proofs.lemmas.List.{append-nil, drop-append-le}
-use Rattle.hart_values.proofs.lemmas.Laws.{address_bytes_are_unambiguous-one_list, address_bytes_are_unambiguous-one_reading}
 use Rattle.hart_frame.specs.declared.heard.found.Found.{Found}
-use Rattle.hart_frame.specs.heard.Character.{Character, faultless}
-use Rattle.hart_frame.specs.heard.Damage.{IsCheckDamage, IsMarkedDamage}
+use Rattle.hart_frame.specs.heard.Character.{Character}
+use Rattle.hart_frame.specs.heard.Damage.{IsMarkedDamage}
 use Rattle.hart_frame.specs.heard.Frames.{AreFrames, IsFirst, moved}
-use Rattle.hart_frame.specs.heard.Start.{HasNoStart, IsFirstStart}
 use Rattle.hart_frame.specs.scan.Next.{LeadsOn}
 use Rattle.hart_frame.specs.scan.Scanner.{Scan}
-use Rattle.hart_frame.specs.scan.Streamed.{IsHistory, IsWholeHistory}
-use Rattle.hart_frame.specs.wire.Body.{BeginsWithBody, IsBody}
+use Rattle.hart_frame.specs.scan.Streamed.{IsHistory}
 use Rattle.hart_frame.specs.wire.FrameParts.{FrameParts}
-use Rattle.hart_frame.specs.wire.Message.{IsMessage}
-use Rattle.hart_frame.proofs.lemmas.heard.Damage.{AreFrames-check, AreFrames-marked}
-use Rattle.hart_frame.proofs.lemmas.heard.FramesFound.{AreFrames-found}
-use Rattle.hart_frame.proofs.lemmas.heard.Message.{AreFrames-message, AreFrames-nothing}
+use Rattle.hart_frame.proofs.lemmas.heard.Damage.{AreFrames-marked}
 use Rattle.hart_frame.proofs.lemmas.heard.Place.{HasNoFrame-end}
 use Rattle.hart_frame.proofs.lemmas.heard.Rest.{rest_frames, rest_only}
-use Rattle.hart_frame.proofs.lemmas.heard.Start.{IsFirstStart-one, first_start_decided}
 use Rattle.hart_frame.proofs.lemmas.heard.UnambiguousFrames.{AreFrames-one, IsFirst-one}
-use Rattle.hart_frame.proofs.lemmas.scan.Stream.{history_all, history_held, history_length, history_rest}
-use Rattle.hart_frame.proofs.lemmas.wire.UnambiguousBodies.{BeginsWithBody-one, IsBody-one, same_bodies}
-
-pub bodies_are_unambiguous-one_frame : (f g : FrameParts) (bytes : List ℕ) → IsBody f bytes → IsBody g bytes → f ≡ g
-bodies_are_unambiguous-one_frame f g bytes p q =
-    (same_bodies address_bytes_are_unambiguous-one_reading f g bytes bytes [] [] p q refl).frames
-
-pub bodies_are_unambiguous-one_body : (f : FrameParts) (bytes others : List ℕ) → IsBody f bytes → IsBody f others → bytes ≡ others
-bodies_are_unambiguous-one_body = IsBody-one address_bytes_are_unambiguous-one_list
-
-pub bodies_are_unambiguous-no_proper_prefix : (f g : FrameParts) (bytes rest : List ℕ)
-    → IsBody f bytes → IsBody g (bytes ++ rest) → rest ≡ []
-bodies_are_unambiguous-no_proper_prefix f g bytes rest p q =
-    (same_bodies address_bytes_are_unambiguous-one_reading f g bytes (bytes ++ rest) rest [] p q (sym (append-nil (bytes ++ rest)))).rests
-
-pub bodies_are_unambiguous-one_prefix : (f g : FrameParts) (bytes : List ℕ) (m n : ℕ)
-    → BeginsWithBody bytes f m → BeginsWithBody bytes g n → (f ≡ g) × (m ≡ n)
-bodies_are_unambiguous-one_prefix = BeginsWithBody-one address_bytes_are_unambiguous-one_reading
+use Rattle.hart_frame.proofs.lemmas.scan.Stream.{history_rest}
+pub use Rattle.hart_frame.proofs.lemmas.heard.Damage.{AreFrames-check as damaged_messages_have_no_other_frame-check}
+pub use Rattle.hart_frame.proofs.lemmas.heard.FramesFound.{AreFrames-found as every_list_has_frames}
+pub use Rattle.hart_frame.proofs.lemmas.heard.Message.{AreFrames-message as messages_have_their_frame_alone-message}
+pub use Rattle.hart_frame.proofs.lemmas.heard.Message.{AreFrames-nothing as messages_have_their_frame_alone-nothing}
+pub use Rattle.hart_frame.proofs.lemmas.heard.Start.{IsFirstStart-one as first_starts_are_decided-one}
+pub use Rattle.hart_frame.proofs.lemmas.heard.Start.{first_start_decided as first_starts_are_decided-decided}
+pub use Rattle.hart_frame.proofs.lemmas.scan.Stream.{history_all as frames_are_streamed-all, history_length as frames_are_streamed-pushed}
+pub use Rattle.hart_frame.proofs.lemmas.scan.Stream.{history_held as held_characters_have_the_later_frames-held}
+pub use Rattle.hart_frame.proofs.lemmas.wire.UnambiguousBodies.{bodies_are_unambiguous-no_proper_prefix, bodies_are_unambiguous-one_body}
+pub use Rattle.hart_frame.proofs.lemmas.wire.UnambiguousBodies.{bodies_are_unambiguous-one_frame, bodies_are_unambiguous-one_prefix}
 
 pub frames_are_unambiguous-one_first : (f g : Found) (chars : List Character) (from : ℕ) → IsFirst f chars from → IsFirst g chars from
     → f ≡ g
@@ -49,23 +35,9 @@ pub frames_are_unambiguous-one_list : (chars : List Character) (from : ℕ) (xs 
     → AreFrames chars from ys → xs ≡ ys
 frames_are_unambiguous-one_list = AreFrames-one bodies_are_unambiguous-one_prefix
 
-pub every_list_has_frames : (chars : List Character) (from : ℕ) → (frames : List Found) × AreFrames chars from frames
-every_list_has_frames = AreFrames-found
-
 pub the_rest_has_the_later_frames : (place : ℕ) (chars : List Character) (frames : List Found)
     → AreFrames (drop place chars) 0 frames ↔ AreFrames chars place (map (moved place) frames)
 the_rest_has_the_later_frames place chars frames = grind (arith, common_steps, rest_frames, frames_are_unambiguous-one_list, rest_only)
-
-pub frames_are_streamed-all : (past : List Character) (given : List Found) → IsWholeHistory past given → AreFrames past 0 given
-frames_are_streamed-all = history_all
-
-pub frames_are_streamed-pushed : (past : List Character) (scan : Scan) (given : List Found) → IsHistory past scan given
-    → scan.first + length scan.held ≡ length past
-frames_are_streamed-pushed = history_length
-
-pub held_characters_have_the_later_frames-held : (past : List Character) (scan : Scan) (given : List Found) → IsHistory past scan given
-    → drop scan.first past ≡ scan.held
-held_characters_have_the_later_frames-held = history_held
 
 pub held_characters_have_the_later_frames-later : (past more : List Character) (scan : Scan) (given later : List Found)
     → IsHistory past scan given → (IsTrue scan.finished → more ≡ []) → AreFrames (drop scan.first past ++ more) 0 later
@@ -94,21 +66,6 @@ next_frames_are_all-all chars ended given leads =
     AreFrames.none (length chars) (HasNoFrame-end (chars ++ []) (length chars) (omega (arith, length-append chars ([])))) in
     grind (arith, common_steps, append-nil)
 
-pub messages_have_their_frame_alone-message : (frame : FrameParts) (preambles : ℕ) (bytes : List ℕ) → 2 ≤ preambles
-    → IsMessage frame preambles bytes
-    → AreFrames (faultless bytes) 0 (record { start = preambles; stop = length bytes; frame = frame } ∷ [])
-messages_have_their_frame_alone-message = AreFrames-message
-
-pub messages_have_their_frame_alone-nothing : AreFrames [] 0 []
-messages_have_their_frame_alone-nothing = AreFrames-nothing
-
-pub first_starts_are_decided-one : (place other : ℕ) (chars : List Character) → IsFirstStart place chars → IsFirstStart other chars
-    → place ≡ other
-first_starts_are_decided-one = IsFirstStart-one
-
-pub first_starts_are_decided-decided : (chars : List Character) → ((place : ℕ) × IsFirstStart place chars) ⊎ HasNoStart chars
-first_starts_are_decided-decided = first_start_decided
-
 pub damaged_messages_have_no_other_frame-marked : (frame : FrameParts) (preambles : ℕ) (chars : List Character)
     (damage : IsMarkedDamage frame preambles chars)
     → AreFrames chars 0 [] ⊎ AreFrames chars 0 (record { start = damage.left; stop = length chars; frame = frame } ∷ [])
@@ -118,7 +75,3 @@ damaged_messages_have_no_other_frame-marked =
       AreFrames-marked
           (record { one_frame = bodies_are_unambiguous-one_frame; no_proper_prefix = bodies_are_unambiguous-no_proper_prefix }),
     )
-
-pub damaged_messages_have_no_other_frame-check : (frame : FrameParts) (preambles : ℕ) (chars : List Character)
-    → IsCheckDamage frame preambles chars → AreFrames chars 0 []
-damaged_messages_have_no_other_frame-check = AreFrames-check

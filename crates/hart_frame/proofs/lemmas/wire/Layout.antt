@@ -1,5 +1,5 @@
 -- The parts that a layout cuts out of bytes are, joined again, the bytes.
-use Rattle.std.proofs.Common.{◌≡◌, ℕ, suc, ◌+◌, ◌-◌, ◌*◌, ◌/◌, ◌%◌, ◌<◌, ◌≤◌, List, ◌∷◌, ◌++◌, length, take, drop, get_or, arith}
+use Rattle.std.proofs.Common.{◌≡◌, ℕ, suc, ◌+◌, ◌-◌, ◌<◌, ◌≤◌, List, ◌∷◌, ◌++◌, length, take, drop, get_or, arith}
 use Rattle.std.proofs.Common.{length-drop}
 use Rattle.std.proofs.Math.Seq.{take-add}
 use Rattle.std.proofs.lemmas.Grind.{common_steps}
@@ -8,9 +8,10 @@ use Rattle.std.specs.List.{slice_range}
 use Rattle.hart_values.specs.address.AddressBytes.{IsAddressBytes}
 use Rattle.hart_frame.specs.declared.wire.layout.Layout.{Layout}
 use Rattle.hart_frame.specs.wire.Body.{IsCheckedPart}
+use Rattle.hart_frame.specs.wire.Delimiter.{delimiter_of}
 use Rattle.hart_frame.specs.wire.FrameParts.{FrameParts, IsLongEnough}
 use Rattle.hart_frame.specs.wire.Layout.{Describes, body_length}
-use Rattle.hart_frame.specs.wire.Refusal.{HasCheckByte, IsDelimiter}
+use Rattle.hart_frame.specs.wire.Refusal.{HasCheckByte}
 
 -- a range and the next range are one range
 slice_range-join : (xs : List ℕ) (a b c : ℕ) → a ≤ b → b ≤ c → slice_range xs a b ++ slice_range xs b c ≡ slice_range xs a c
@@ -27,11 +28,11 @@ cut : (xs : List ℕ) (i j k : ℕ) → 1 ≤ i → i ≤ j → j + 2 ≤ k → 
 cut xs i j k low middle high within =
     grind (
       arith,
-      slice_range-first xs 0 i (omega arith) (omega arith),
-      slice_range-join xs 0 i j (omega arith) middle,
-      slice_range-first xs (j + 1) k (omega arith) (omega arith),
-      slice_range-first xs j k (omega arith) (omega arith),
-      slice_range-join xs 0 j k (omega arith) (omega arith),
+      slice_range-first xs 0 i,
+      slice_range-join xs 0 i j,
+      slice_range-first xs (j + 1) k,
+      slice_range-first xs j k,
+      slice_range-join xs 0 j k,
     )
 
 -- what stands in the bytes where the layout says
@@ -47,24 +48,16 @@ pub record StandsByLayout (bytes : List ℕ) (layout : Layout) (frame : FramePar
 pub length-slice_range : (xs : List ℕ) (a b : ℕ) → a ≤ b → b ≤ length xs → length (slice_range xs a b) ≡ b - a
 length-slice_range xs a b ab within = length-take-le (b - a) (drop a xs) (omega (arith, length-drop a xs))
 
--- a delimiter that is decoded is made of its parts
-delimiter-parts : (delimiter : ℕ) → IsDelimiter delimiter
-    → delimiter ≡ 128 * (delimiter / 128) + 32 * (delimiter / 32 % 4) + delimiter % 8
-delimiter-parts delimiter taken = omega (arith, taken.0)
-
--- equal parts join to equal lists
-joined : (address : List ℕ) {d e c f l m : ℕ} {xs ys ps qs : List ℕ} → d ≡ e → xs ≡ ys → c ≡ f → l ≡ m → ps ≡ qs
-    → d ∷ address ++ xs ++ c ∷ l ∷ ps ≡ e ∷ address ++ ys ++ f ∷ m ∷ qs
-joined address {d} {e} {c} {f} {l} {m} {xs} {ys} {ps} {qs} delimiters expansions commands counts payloads = grind arith
-
 -- what stands in the bytes by their layout is what the check byte covers
 pub IsCheckedPart-in : (bytes : List ℕ) (layout : Layout) (frame : FrameParts) → Describes layout bytes → HasCheckByte bytes
     → StandsByLayout bytes layout frame → IsCheckedPart frame (take (body_length bytes - 1) bytes)
 IsCheckedPart-in bytes layout frame describes whole stands =
     let i = layout.address_end in
     let j = layout.command_place in
-    let n = layout.byte_count in
+    let k = j + 2 + layout.byte_count in
     let expansion_len : length frame.expansion ≡ j - i = grind (arith, common_steps, length-slice_range) in
-    let payload_len : length frame.payload ≡ n = grind (arith, common_steps, length-slice_range) in
-    let range_len = length-slice_range bytes 1 i (omega (arith, describes.address)) (omega (arith, describes.address, describes.command)) in
-    grind (arith, delimiter-parts, cut, joined)
+    let payload_len : length frame.payload ≡ layout.byte_count = grind (arith, common_steps, length-slice_range) in
+    let address_len = length-slice_range bytes 1 i (omega (arith, describes.address)) (omega arith) in
+    let delimiter : delimiter_of frame ≡ get_or bytes 0 0 = grind arith in
+    let checked_len : body_length bytes - 1 ≡ k = omega arith in
+    grind (arith, cut bytes i j k)

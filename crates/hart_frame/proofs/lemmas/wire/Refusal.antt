@@ -1,17 +1,17 @@
 -- What begins with a body is not refused.
-use Rattle.std.proofs.Common.{◌%◌, ◌⊎◌, ◌≡◌, ℕ, ◌+◌, ◌*◌, ◌<◌, ◌≤◌, List, [], ◌∷◌, ◌++◌, length, take, drop, sym, ◌∙◌, arith}
+use Rattle.std.proofs.Common.{◌≡◌, ℕ, ◌+◌, ◌*◌, ◌≤◌, List, [], ◌∷◌, ◌++◌, length, take, drop, sym, ◌∙◌, arith}
 use Rattle.std.proofs.Common.{append_assoc, length-append, Result, Ok, Err}
 use Rattle.std.proofs.lemmas.Grind.{common_steps}
 use Rattle.std.proofs.lemmas.List.{length-take-le, take-append-drop, get_or_at}
 use Rattle.std.specs.Result.{IfOk, IfErr}
 use Rattle.hart_frame.specs.declared.wire.fault.FrameFault.{FrameFault}
-use Rattle.hart_frame.specs.declared.wire.kind.FrameKind.{FrameKind}
 use Rattle.hart_frame.specs.wire.Body.{BeginsWithBody}
-use Rattle.hart_frame.specs.wire.Delimiter.{kind_code, delimiter_of, address_type}
-use Rattle.hart_frame.specs.wire.FrameParts.{IsLongEnough, FrameParts}
+use Rattle.hart_frame.specs.wire.Delimiter.{delimiter_of, address_type}
+use Rattle.hart_frame.specs.wire.FrameParts.{FrameParts}
 use Rattle.hart_frame.specs.wire.Layout.{delimiter_in, byte_count_place, byte_count_in, body_length}
 use Rattle.hart_frame.specs.wire.Refusal.{HasCheckByte, IsRefusedWith, IsDelimiter}
-use Rattle.hart_frame.proofs.lemmas.wire.UnambiguousBodies.{length-address, address_type-lt, kind_code-is, spread}
+use Rattle.hart_frame.proofs.lemmas.wire.UnambiguousBodies.{address_type-lt, bodies_are_unambiguous-one_prefix, kind_code-is}
+use Rattle.hart_frame.proofs.lemmas.wire.UnambiguousBodies.{length-address, spread}
 
 -- what a list that begins with a frame's body says of it
 pub record Says (bytes : List ℕ) (f : FrameParts) (len : ℕ) : Type 0 where
@@ -30,36 +30,27 @@ says bytes f len begins =
     let part = begins.body.checked_part in
     let rest = drop len bytes in
     let whole = sym (take-append-drop len bytes) ∙ spread f (take len bytes) rest begins.body in
-    let few : address_type f.address < 2 = address_type-lt f.address in
-    let kind = kind_code-is f.kind in
     let prefix : List ℕ = delimiter_of f ∷ part.address ++ f.expansion ++ f.command ∷ [] in
     let regrouped : bytes ≡ prefix ++ length f.payload ∷ (f.payload ++ begins.body.check ∷ rest) = whole ∙ simp append_assoc in
-    let address = length-address _ _ _ _ part.address_bytes in
     let prefix_len : length prefix ≡ byte_count_place bytes =
-    grind (arith, length-append) in search (arith, common_steps, get_or_at, length-take-le, length-append, length-address)
-
--- the byte count of a frame is none that is refused
-enough : (kind : FrameKind) (payload : List ℕ) (byte count : ℕ) → byte % 8 ≡ kind_code kind → count ≡ length payload
-    → IsLongEnough kind payload → (byte % 8 ≡ 2) ⊎ (2 ≤ count)
-enough kind payload byte count low is long = grind arith
+    grind (arith, length-append, address_type-lt, kind_code-is, length-address) in
+    search (arith, common_steps, get_or_at, length-take-le, length-append, length-address, address_type-lt)
 
 -- a list that begins with a body goes on to its check byte
 pub has_check : (bytes : List ℕ) (f : FrameParts) (len : ℕ) → BeginsWithBody bytes f len → HasCheckByte bytes
-has_check bytes f len begins = grind (arith, says bytes f len begins, IsDelimiter-of, kind_code-is, address_type-lt f.address, enough)
+has_check bytes f len begins = grind (arith, says bytes f len begins, IsDelimiter-of, address_type-lt f.address)
 
 -- so it is refused with no fault
 pub not_refused : (bytes : List ℕ) (f : FrameParts) (len : ℕ) (fault : FrameFault)
     → BeginsWithBody bytes f len → IsRefusedWith bytes fault → ⊥
 not_refused bytes f len fault begins refused = grind (arith, says bytes f len begins, has_check bytes f len begins)
 
-pub only : ((f g : FrameParts) (bytes : List ℕ) (m n : ℕ) → BeginsWithBody bytes f m → BeginsWithBody bytes g n → (f ≡ g) × (m ≡ n))
-    → (bytes : List ℕ) (result : Result (FrameParts × ℕ) FrameFault)
+-- what is decoded is the body that the bytes begin with
+pub only : (bytes : List ℕ) (result : Result (FrameParts × ℕ) FrameFault)
     → IfOk result (λ found. BeginsWithBody bytes found.0 found.1) → IfErr result (IsRefusedWith bytes)
     → (f : FrameParts) (len : ℕ) → BeginsWithBody bytes f len → result ≡ Ok (f, len)
-only law bytes (Ok found) accepts refused f len begins =
-    let same = law found.0 f bytes found.1 len accepts begins in
-    grind arith
-only law bytes (Err fault) accepts refused f len begins = absurd (not_refused bytes f len fault begins refused)
+only bytes (Ok found) accepts refused f len begins = grind (arith, bodies_are_unambiguous-one_prefix found.0 f bytes found.1 len)
+only bytes (Err fault) accepts refused f len begins = absurd (not_refused bytes f len fault begins refused)
 
 -- bytes are refused with one fault at most
 pub refused_once : (bytes : List ℕ) (fault other : FrameFault) → IsRefusedWith bytes fault → IsRefusedWith bytes other → fault ≡ other

@@ -1,10 +1,9 @@
 -- A list of bytes begins with one body at most, and that body has one frame at most.
-use Rattle.std.proofs.Common.{◌≡◌, ℕ, ◌+◌, ◌*◌, ◌<◌, ◌≤◌, Bool, List, [], ◌∷◌, ◌++◌, length, take, drop, refl, sym, ◌∙◌, arith}
+use Rattle.std.proofs.Common.{◌≡◌, ℕ, ◌+◌, ◌*◌, ◌<◌, ◌≤◌, Bool, List, [], ◌∷◌, ◌++◌, fold, bit_xor, length, take, drop, refl, arith}
 use Rattle.std.proofs.Common.{append_assoc, length-append}
-use Rattle.std.proofs.lemmas.Grind.{common_steps}
-use Rattle.std.proofs.lemmas.List.{take_at, drop_at, append_cancel_right, take-append-drop, length-take-le}
-use Rattle.std.proofs.lemmas.List.Elements.{All-same, All-drop, All-head}
-use Rattle.std.specs.List.{All}
+use Rattle.std.proofs.lemmas.List.{append-nil, append_cancel_right, take_at, drop_at, take-append-drop, length-take-le}
+use Rattle.std.proofs.lemmas.List.{get_or_append_left, get_or_at, get_or_past}
+use Rattle.hart_values.proofs.lemmas.Laws.{address_bytes_are_unambiguous-one_list, address_bytes_are_unambiguous-one_reading}
 use Rattle.hart_values.specs.address.AddressBytes.{IsAddressBytes}
 use Rattle.hart_values.specs.declared.address.Address.{Address}
 use Rattle.hart_values.specs.declared.master_id.MasterId.{MasterId}
@@ -13,27 +12,18 @@ use Rattle.hart_frame.specs.declared.wire.kind.FrameKind.TheVariants.{Stx, Ack}
 use Rattle.hart_frame.specs.wire.Body.{IsBody, BeginsWithBody}
 use Rattle.hart_frame.specs.wire.Delimiter.{delimiter_of, kind_code, address_type}
 use Rattle.hart_frame.specs.wire.FrameParts.{FrameParts}
-use Rattle.hart_frame.proofs.lemmas.wire.Parity.{check-one}
-
--- address bytes hold one master bit, one burst bit and one address
-abbrev pub OneReading : Type 0
-OneReading = (m n : MasterId) (b c : Bool) (x y : Address) (bytes : List ℕ)
-    → IsAddressBytes m b x bytes → IsAddressBytes n c y bytes → (m ≡ n) × (b ≡ c) × (x ≡ y)
+use Rattle.hart_frame.proofs.lemmas.wire.Parity.{even-is, fits_at}
 
 -- prefixes of one length split equal lists alike
-pub record SameParts (prefix other : List ℕ) (back rest : List ℕ) : Type 0 where
-  pub prefixes : prefix ≡ other
-  pub backs : back ≡ rest
-
 same_parts : (prefix other back rest : List ℕ) → length prefix ≡ length other → prefix ++ back ≡ other ++ rest
-    → SameParts prefix other back rest
+    → (prefix ≡ other) × (back ≡ rest)
 same_parts prefix other back rest lengths whole =
     grind (
       arith,
-      take_at prefix back (length prefix) refl,
-      take_at other rest (length prefix) (sym lengths),
-      drop_at prefix back (length prefix) refl,
-      drop_at other rest (length prefix) (sym lengths),
+      take_at prefix back (length prefix),
+      take_at other rest (length prefix),
+      drop_at prefix back (length prefix),
+      drop_at other rest (length prefix),
     )
 
 -- a kind's code is 2 or 6
@@ -50,13 +40,8 @@ pub length-address : (m : MasterId) (b : Bool) (a : Address) (bytes : List ℕ) 
 length-address m b a bytes is = grind arith
 
 -- the same kind, address type and number of expansion bytes
-record SameDelimiter (f g : FrameParts) : Type 0 where
-  pub kind : f.kind ≡ g.kind
-  pub form : address_type f.address ≡ address_type g.address
-  pub expansion : length f.expansion ≡ length g.expansion
-
-same_delimiter : (f g : FrameParts) → length f.expansion ≤ 3 → length g.expansion ≤ 3
-    → delimiter_of f ≡ delimiter_of g → SameDelimiter f g
+same_delimiter : (f g : FrameParts) → length f.expansion ≤ 3 → length g.expansion ≤ 3 → delimiter_of f ≡ delimiter_of g
+    → (f.kind ≡ g.kind) × (address_type f.address ≡ address_type g.address) × (length f.expansion ≡ length g.expansion)
 same_delimiter f g few fewer same = grind (arith, kind_code-is, address_type-lt)
 
 -- a body and what follows it, part by part
@@ -66,40 +51,50 @@ pub spread : (f : FrameParts) (body rest : List ℕ) (is : IsBody f body)
 spread f body rest is = rw (is.parts, is.checked_part.parts) (simp append_assoc)
 
 -- the same body of the same frame, and the same rest
-pub record SameBodies (f g : FrameParts) (body other rest more : List ℕ) : Type 0 where
-  pub frames : f ≡ g
-  pub bodies : body ≡ other
-  pub rests : rest ≡ more
-
-pub same_bodies : OneReading → (f g : FrameParts) (body other rest more : List ℕ)
-    → IsBody f body → IsBody g other → body ++ rest ≡ other ++ more → SameBodies f g body other rest more
-same_bodies law f g body other rest more p q whole =
-    grind (arith, spread f body rest p, spread g other more q, same_delimiter, same_parts, length-address, append_cancel_right)
-
--- an address has one list of bytes, for each master bit and burst bit
-abbrev pub OneList : Type 0
-OneList = (m : MasterId) (b : Bool) (x : Address) (bytes others : List ℕ)
-    → IsAddressBytes m b x bytes → IsAddressBytes m b x others → bytes ≡ others
-
--- the last of some bytes is a byte
-last_fits : (bytes : List ℕ) (last : ℕ) → All (λ byte. byte < 256) (bytes ++ last ∷ []) → last < 256
-last_fits bytes last fit = search (arith, common_steps, All-head, All-same, drop_at, All-drop)
-
--- a frame has one body
-pub IsBody-one : OneList → (f : FrameParts) (body other : List ℕ) → IsBody f body → IsBody f other → body ≡ other
-IsBody-one law f body other p q = grind (arith, check-one, last_fits, All-same)
-
--- one prefix of a list at most is a body, of one frame
-pub BeginsWithBody-one : OneReading → (f g : FrameParts) (bytes : List ℕ) (m n : ℕ)
-    → BeginsWithBody bytes f m → BeginsWithBody bytes g n → (f ≡ g) × (m ≡ n)
-BeginsWithBody-one law f g bytes m n p q =
+same_bodies : (f g : FrameParts) (body other rest more : List ℕ) → IsBody f body → IsBody g other → body ++ rest ≡ other ++ more
+    → (f ≡ g) × (body ≡ other) × (rest ≡ more)
+same_bodies f g body other rest more p q whole =
     grind (
       arith,
-      same_bodies law f g (take m bytes) (take n bytes) (drop m bytes) (drop n bytes) p.body q.body
-          (take-append-drop m bytes ∙ sym (take-append-drop n bytes)),
-      length-take-le m bytes p.within,
-      length-take-le n bytes q.within,
+      spread f body rest p,
+      spread g other more q,
+      same_delimiter,
+      same_parts,
+      length-address,
+      address_bytes_are_unambiguous-one_reading,
+      append_cancel_right,
     )
+
+pub bodies_are_unambiguous-one_frame : (f g : FrameParts) (bytes : List ℕ) → IsBody f bytes → IsBody g bytes → f ≡ g
+bodies_are_unambiguous-one_frame f g bytes p q = (same_bodies f g bytes bytes [] [] p q refl).0
+
+pub bodies_are_unambiguous-no_proper_prefix : (f g : FrameParts) (bytes rest : List ℕ)
+    → IsBody f bytes → IsBody g (bytes ++ rest) → rest ≡ []
+bodies_are_unambiguous-no_proper_prefix f g bytes rest p q =
+    grind (arith, append-nil, same_bodies f g bytes (bytes ++ rest) rest [])
+
+pub bodies_are_unambiguous-one_prefix : (f g : FrameParts) (bytes : List ℕ) (m n : ℕ)
+    → BeginsWithBody bytes f m → BeginsWithBody bytes g n → (f ≡ g) × (m ≡ n)
+bodies_are_unambiguous-one_prefix f g bytes m n p q =
+    grind (
+      arith,
+      same_bodies f g (take m bytes) (take n bytes) (drop m bytes) (drop n bytes),
+      take-append-drop,
+      length-take-le m bytes,
+      length-take-le n bytes,
+    )
+
+-- the check byte of a body is the exclusive or of the bytes before it
+check_is : (f : FrameParts) (body : List ℕ) (is : IsBody f body) → is.check ≡ fold bit_xor 0 is.checked
+check_is f body is =
+    let fits = fits_at (is.checked ++ is.check ∷ []) (rw is.parts at is.bytes_fit) in
+    let last = fits (length is.checked) in
+    grind (arith, even-is, fits, get_or_append_left, get_or_past, get_or_at)
+
+pub bodies_are_unambiguous-one_body : (f : FrameParts) (bytes others : List ℕ) → IsBody f bytes → IsBody f others → bytes ≡ others
+bodies_are_unambiguous-one_body f bytes others p q =
+    let address = address_bytes_are_unambiguous-one_list f.master f.burst f.address _ _ p.checked_part.address_bytes
+    q.checked_part.address_bytes in grind (arith, check_is f bytes p, check_is f others q)
 
 -- a body is the prefix of any list that begins with it
 pub BeginsWithBody-append : (f : FrameParts) (body rest : List ℕ) → IsBody f body → BeginsWithBody (body ++ rest) f (length body)
