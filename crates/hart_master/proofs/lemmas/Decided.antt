@@ -1,6 +1,5 @@
 -- Whether a delivery is accepted is decided.
-use Rattle.std.proofs.Common.{◌≡◌, ◌≤◌, ℕ, List, [], ◌∷◌, ◌⊎◌, inl, inr, Option, None, Some, refl, slice_index, arith}
-use Rattle.std.proofs.lemmas.Bool.Decides.{nat_tests}
+use Rattle.std.proofs.Common.{◌≡◌, ℕ, List, [], ◌∷◌, ◌⊎◌, inl, inr, Option, None, Some, refl, arith}
 use Rattle.hart_values.specs.declared.address.Address.{Address}
 use Rattle.hart_values.specs.declared.master_id.MasterId.{MasterId}
 use Rattle.hart_frame.specs.declared.heard.found.Found.{Found}
@@ -11,28 +10,23 @@ use Rattle.hart_frame.proofs.lemmas.Laws.{every_list_has_frames, frames_are_unam
 use Rattle.hart_commands.specs.ReplyData.{reply_reading}
 use Rattle.hart_commands.specs.declared.reply.Reply.{Reply}
 use Rattle.hart_commands.specs.declared.request.Request.{Request}
-use Rattle.hart_master.specs.Acceptance.{MatchesRequest, IsReplyTo, IsAccepted}
-use Rattle.hart_master.proofs.lemmas.Acceptance.{only_one, IsReplyTo-alone}
-
--- a fact holds or does not
-abbrev Decided : Type 0 → Type 0
-Decided P = P ⊎ (P → ⊥)
+use Rattle.hart_master.specs.Acceptance.{IsReplyTo, IsAccepted, MatchesRequest}
 
 -- there is a reply with this, or none
 abbrev pub OneOrNone : (Reply → Type 0) → Type 0
 OneOrNone P = ((reply : Reply) × P reply) ⊎ ((reply : Reply) → P reply → ⊥)
 
-expansion_decided : (bytes : List ℕ) → Decided (bytes ≡ [])
+expansion_decided : (bytes : List ℕ) → (bytes ≡ []) ⊎ (bytes ≡ [] → ⊥)
 expansion_decided [] = inl refl
 expansion_decided (byte ∷ bytes) = inr (λ is. cc)
-
-answers_decided : (id : MasterId) (address : Address) (request : Request) (frame : FrameParts)
-    → Decided (MatchesRequest id address request frame)
-answers_decided id address request frame = grind (arith, expansion_decided frame.expansion)
 
 reading_decided : (read : Option Reply) → OneOrNone (λ reply. read ≡ Some reply)
 reading_decided None = inr (λ reply is. cc)
 reading_decided (Some reply) = inl (reply, refl)
+
+answers_decided : (id : MasterId) (address : Address) (request : Request) (frame : FrameParts)
+    → MatchesRequest id address request frame ⊎ (MatchesRequest id address request frame → ⊥)
+answers_decided id address request frame = grind (arith, expansion_decided frame.expansion)
 
 -- so a frame is a reply or none
 pub reply_decided : (id : MasterId) (address : Address) (request : Request) (frame : FrameParts)
@@ -40,24 +34,26 @@ pub reply_decided : (id : MasterId) (address : Address) (request : Request) (fra
 reply_decided id address request frame =
     grind (arith, answers_decided id address request frame, reading_decided (reply_reading frame.command frame.payload))
 
--- so a delivery with that frame alone is accepted as that reply, or as none, and one with no frame, or with several, as none
+-- a delivery with one frame alone is accepted as what the frame is
+pub acceptance_is_decided-by_its_frame : (id : MasterId) (address : Address) (request : Request) (delivery : List Character)
+    (found : Found) (reply : Reply) → AreFrames delivery 0 (found ∷ [])
+    → IsAccepted id address request delivery reply → IsReplyTo id address request found.frame reply
+acceptance_is_decided-by_its_frame id address request delivery found reply alone accepted =
+    grind (arith, frames_are_unambiguous-one_list delivery 0 (found ∷ []) (accepted.found ∷ []))
+
+-- and one with no frame, or with several, as none
 decided_by : (id : MasterId) (address : Address) (request : Request) (chars : List Character) (frames : List Found)
     → AreFrames chars 0 frames → OneOrNone (IsAccepted id address request chars)
-decided_by id address request chars (found ∷ []) are = elim (reply_decided id address request found.frame) [
-  | inl one ↦ inl (one.0, record { found = found; alone = are; is_reply = one.1 })
-  | inr nothing ↦ inr (λ reply accepted.
-      nothing reply (IsReplyTo-alone id address request chars found reply (only_one chars found are) accepted))
-]
+decided_by id address request chars (found ∷ []) are =
+    let is = acceptance_is_decided-by_its_frame id address request chars found in
+    elim (reply_decided id address request found.frame) [
+      | inl one ↦ inl (one.0, record { found = found; alone = are; is_reply = one.1 })
+      | inr nothing ↦ inr (λ reply accepted. nothing reply (is reply are accepted))
+    ]
 decided_by id address request chars frames are =
     inr (λ reply accepted. let same = frames_are_unambiguous-one_list chars 0 frames (accepted.found ∷ []) are accepted.alone in cc)
 
 pub acceptance_decided : (id : MasterId) (address : Address) (request : Request) (chars : List Character)
     → OneOrNone (IsAccepted id address request chars)
 acceptance_decided id address request chars =
-    let frames = every_list_has_frames chars 0 in
-    decided_by id address request chars frames.0 frames.1
-
--- a payload whose first byte is above 127 is read as no reply
-pub never_read : (command : ℕ) (payload : List ℕ) (reply : Reply) → 128 ≤ slice_index payload 0
-    → reply_reading command payload ≡ Some reply → ⊥
-never_read command payload reply above read = grind (arith, nat_tests)
+    let (frames, are) = every_list_has_frames chars 0 in decided_by id address request chars frames are

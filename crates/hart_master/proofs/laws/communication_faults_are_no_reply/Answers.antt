@@ -1,4 +1,3 @@
-use Rattle.hart_master.proofs.lemmas.Decided.{never_read}
 use Rattle.hart_master.proofs.lemmas.Laws.{communication_faults_are_no_reply-frame}
 use Rattle.hart_master.proofs.laws.communication_faults_are_no_reply.Goals as goal
 
@@ -7,5 +6,5 @@ returns-clause-frame c = communication_faults_are_no_reply-frame
 
 pub returns-clause-delivery : goal.returns-clause-delivery
 returns-clause-delivery c = λ id address request delivery found reply alone above accepted.
-    let is = c.acceptance_is_decided.ensures.by_its_frame id address request delivery found reply alone accepted in
-    never_read found.frame.command found.frame.payload reply above is.read
+    communication_faults_are_no_reply-frame id address request found.frame reply above
+    (c.acceptance_is_decided.ensures.by_its_frame id address request delivery found reply alone accepted)
