@@ -11,8 +11,7 @@ use Rattle.hart_commands.specs.declared.register.Register.TheVariants.{Polling, 
 use Rattle.hart_commands.specs.declared.reply.Reply.{Reply}
 use Rattle.hart_commands.specs.declared.request.Request.{Request}
 use Rattle.hart_commands.proofs.lemmas.Parted.{bytes-each, content-parts, request-parts}
-use Rattle.hart_commands.proofs.lemmas.Reply.{read-kept}
-use Rattle.hart_commands.proofs.lemmas.ReplyFields.{parts_of_reply}
+use Rattle.hart_commands.proofs.lemmas.Reply.{kept, parts_of_reply}
 use Rattle.hart_commands.proofs.lemmas.Request.{written_is_own}
 use Rattle.hart_commands.proofs.lemmas.RequestFields.{parts_of_request}
 pub use Rattle.hart_commands.proofs.lemmas.RequestMade.{requests_have_their_command}
@@ -47,7 +46,7 @@ written_data_are_their_request = written_is_own
 
 pub written_payloads_are_read_again-kept : (command : ℕ) (payload : List ℕ) (reply : Reply) → reply_reading command payload ≡ Some reply
     → reply_payload reply ≡ take (length (reply_payload reply)) payload
-written_payloads_are_read_again-kept command payload reply read = (read-kept command payload reply read).written
+written_payloads_are_read_again-kept command payload reply read = (kept command payload reply read).written
 
 pub writes_have_overwrites-exactly : (request : Request)
     → (IsTrue (is_write (command_of request)) → IsSome (overwrite_of request))

@@ -1,12 +1,12 @@
 -- Every command that is known has a name of its own.
-use Rattle.std.proofs.Common.{◌≡◌, rules, ℕ, List, [], ◌∷◌, map, Option, Some, None, IfSome, IsSome, refl, ◌∙◌, sym, arith, eqb, is_some}
+use Rattle.std.proofs.Common.{◌≡◌, rules, ℕ, List, [], ◌∷◌, map, Option, Some, IfSome, IsSome, refl, arith, eqb, is_some}
 use Rattle.std.proofs.lemmas.Bool.Decides.{nat_tests}
 use Rattle.std.proofs.lemmas.Grind.{common_steps}
 use Rattle.std.specs.List.{AllByRecursion, find}
 use Rattle.std.specs.Option.{option_map}
 use Rattle.std.specs.Prelude.{bytes_eq}
 use Rattle.hart_commands.specs.Commands.{CommandRow, commands, is_known, row_in}
-use Rattle.hart_commands.specs.Fields.{CommandRows, command_name, rows, rows_of}
+use Rattle.hart_commands.specs.Fields.{CommandRows, command_name, rows}
 
 -- tables with the same numbers have a row for the same commands
 same : (named : List CommandRows) (others : List CommandRow) (command : ℕ) → map (λ row. row.number) named ≡ map (λ row. row.number) others
@@ -39,17 +39,5 @@ pub found : (P : CommandRows → Type 0) (rows : List CommandRows) (command : �
 found P [] command all = tt
 found P (row ∷ others) command all = grind (arith, nat_tests, all.0, found P others command all.1)
 
--- a name is that of the command only whose number it has
-by_row : (command : ℕ) (name : List ℕ) (row : Option CommandRows) → IfSome row (λ row. (row.number ≡ command) × IsNamed row)
-    → option_map (λ row. row.name) row ≡ Some name → number_of name ≡ Some command
-by_row command name row is e = grind (arith, common_steps)
-
-number-name : (command : ℕ) (name : List ℕ) → command_name command ≡ Some name → number_of name ≡ Some command
-number-name command name = by_row command name (rows_of command) (found IsNamed rows command named)
-
 pub different : (command other : ℕ) → IsSome (command_name command) → command_name command ≡ command_name other → command ≡ other
-different command other some e = go (command_name command) refl some
-  where
-    go : (name : Option (List ℕ)) → command_name command ≡ name → IsSome name → command ≡ other
-    go None is some = cc
-    go (Some name) is some = let first = number-name command name is in let second = number-name other name (sym e ∙ is) in cc
+different command other some e = grind (arith, common_steps, found IsNamed rows command named, found IsNamed rows other named)

@@ -1,142 +1,143 @@
--- What is read of a payload is written as the front of it, and read again.
-use Rattle.std.proofs.Common.{◌≡◌, ℕ, ◌*◌, ◌<◌, ◌≤◌, List, [], ◌∷◌, ◌++◌, take, length, map, Option, Some, None, IfSome, ap}
-use Rattle.std.proofs.Common.{arith, Bool, true, ltb, eqb, ◌≢◌, sym, ◌⊎◌, length-append, length-take, length-take-le, slice_index}
-use Rattle.std.proofs.Math.Seq.{take-add}
+-- What is read of a payload is written as the front of it, and read again, and its fields are its parts.
+use Rattle.std.proofs.Common.{◌≡◌, ◌≢◌, ℕ, ◌-◌, ◌/◌, zero, suc, ◌+◌, ◌*◌, ◌<◌, ◌≤◌, List, [], ◌∷◌, take, drop, length, map, Option, Some, None, IfSome, refl, ap}
+use Rattle.std.proofs.Common.{arith, true, ltb, eqb, sym, length-take, slice_index}
 use Rattle.std.proofs.lemmas.Bool.Decides.{nat_tests}
 use Rattle.std.proofs.lemmas.Grind.{common_steps}
-use Rattle.std.proofs.lemmas.List.{take_at, drop_at, take_all}
-use Rattle.std.specs.List.{flat_map, AllByRecursion}
+use Rattle.std.proofs.lemmas.List.{take_all}
+use Rattle.std.specs.List.{AllByRecursion}
 use Rattle.std.specs.Option.{option_map}
-use Rattle.std.specs.Prelude.{if◌then◌else◌}
+use Rattle.std.specs.Prelude.{if◌then◌else◌, is_some, codes}
 use Rattle.std.specs.Simd.{first_chunks}
-use Rattle.hart_commands.specs.Commands.{Replied, Saying, SaidBy, replied, commands, is_known}
+use Rattle.hart_commands.specs.Commands.{CommandRow, replied, commands, command_row}
+use Rattle.hart_commands.specs.Fields.{field_bytes, fields_of, reply_rows, rows}
 use Rattle.hart_commands.specs.FirstBytes.{having}
 use Rattle.hart_commands.specs.IdentityBytes.{identity_of}
-use Rattle.hart_commands.specs.ReplyData.{IsReply, content_by, content_reading, content_bytes, reply_reading, reply_payload}
+use Rattle.hart_commands.specs.Parts.{content_parts}
+use Rattle.hart_commands.specs.ReplyData.{IsReply, content_by, content_bytes, reply_reading, reply_payload}
 use Rattle.hart_commands.specs.ReplyReading.{saying, identity_reading, dynamic_reading, variables_reading, more_reading}
-use Rattle.hart_commands.specs.Values.{unit_value_of}
+use Rattle.hart_commands.specs.Values.{float_at, unit_value_of}
 use Rattle.hart_commands.specs.declared.content.ReplyContent.{ReplyContent}
 use Rattle.hart_commands.specs.declared.content.ReplyContent.TheVariants.{Identity, Dynamic, More, Refused}
+use Rattle.hart_commands.specs.declared.fields.FieldKind.TheVariants.{Bytes}
 use Rattle.hart_commands.specs.declared.reply.Reply.{Reply}
-use Rattle.hart_commands.proofs.lemmas.Chunk.{chunks-bytes, chunks-take}
-use Rattle.hart_commands.proofs.lemmas.Parts.{spell, by_spelling, unit_value-bytes, variable-bytes}
+use Rattle.hart_commands.proofs.lemmas.Parts.{spell, spelled, spelled_front, by_spelling}
+use Rattle.hart_commands.proofs.lemmas.RequestFields.{all_left}
 use Rattle.hart_commands.proofs.lemmas.Rows.{by_row}
+use Rattle.hart_commands.specs.Fields as fields
 
--- a content that was read of some bytes is written as the front of them, and read again
-abbrev pub IsKept : (List ℕ → Option ReplyContent) → List ℕ → ReplyContent → Type 0
-IsKept read bytes content =
+-- the fields that a command has of a content are its parts
+abbrev pub IsParted : ℕ → ReplyContent → Type 0
+IsParted command content = field_bytes (fields_of (reply_rows command) (content_bytes content)) ≡ content_parts content
+
+-- a content that was read of some bytes is written as the front of them, is read again, and its fields are its parts
+abbrev pub IsKept : ℕ → (List ℕ → Option ReplyContent) → List ℕ → ReplyContent → Type 0
+IsKept command read bytes content =
     (content_bytes content ≡ take (length (content_bytes content)) bytes) × (read (content_bytes content) ≡ Some content)
+    × IsParted command content
 
-abbrev pub Keeps : (List ℕ → Option ReplyContent) → Type 0
-Keeps read = (bytes : List ℕ) → IfSome (read bytes) (IsKept read bytes)
+abbrev pub Keeps : ℕ → (List ℕ → Option ReplyContent) → Type 0
+Keeps command read = (bytes : List ℕ) → IfSome (read bytes) (IsKept command read bytes)
+
+-- so many bytes that say a content, seen byte by byte, are what it is written as
+said : (command size : ℕ) (read : List ℕ → Option ReplyContent)
+    → ((xs : List ℕ) → IfSome (read (spell size xs)) (λ content. (content_bytes content ≡ spell size xs) × IsParted command content))
+    → Keeps command (having size None read)
+said command size read each bytes =
+    let whole = by_spelling size (λ xs. IfSome (read xs) (λ content. (content_bytes content ≡ xs) × IsParted command content))
+    each (take size bytes) in grind (arith, common_steps, nat_tests)
+
+saying_said : (command size : ℕ) (content : List ℕ → ReplyContent)
+    → ((xs : List ℕ) → (content_bytes (content (spell size xs)) ≡ spell size xs) × IsParted command (content (spell size xs)))
+    → Keeps command (saying size content)
+saying_said command size content each = said command size (λ xs. Some (content xs)) each
+
+identity : (command : ℕ) → reply_rows command ≡ fields.identity → Keeps command identity_reading
+identity command same =
+    said command 22 (λ xs. if eqb (slice_index xs 0) 254 then Some (Identity (identity_of xs)) else None) (λ xs. grind (arith, nat_tests))
+
+-- a loop current and one to four variables, whatever follows them
+in_groups : (groups : ℕ) → 0 < groups → groups ≤ 4 → (bytes : List ℕ) → 4 + groups * 5 ≤ length bytes
+    → IsKept 3 dynamic_reading bytes (Dynamic (float_at bytes 0) (map unit_value_of (first_chunks 5 groups (drop 4 bytes))))
+unfolding rows
+in_groups (suc zero) some few bytes long = rw (← spelled_front 9 bytes long) (refl, refl, refl)
+in_groups (suc (suc zero)) some few bytes long = rw (← spelled_front 14 bytes long) (refl, refl, refl)
+in_groups (suc (suc (suc zero))) some few bytes long = rw (← spelled_front 19 bytes long) (refl, refl, refl)
+in_groups (suc (suc (suc (suc zero)))) some few bytes long = rw (← spelled_front 24 bytes long) (refl, refl, refl)
+in_groups _ some few bytes long = absurd (omega arith)
+
+dynamic : Keeps 3 dynamic_reading
+dynamic bytes = grind (arith, common_steps, nat_tests, in_groups)
+
+-- an extended device status, one to eight variables and a time stamp
+in_variables : (groups : ℕ) → 0 < groups → groups < 9 → (bytes : List ℕ) → length bytes ≡ 5 + 8 * groups
+    → IfSome (variables_reading bytes) (IsKept 9 variables_reading bytes)
+unfolding rows
+in_variables (suc zero) some few bytes long = rw (← spelled 13 bytes long) (refl, refl, refl)
+in_variables (suc (suc zero)) some few bytes long = rw (← spelled 21 bytes long) (refl, refl, refl)
+in_variables (suc (suc (suc zero))) some few bytes long = rw (← spelled 29 bytes long) (refl, refl, refl)
+in_variables (suc (suc (suc (suc zero)))) some few bytes long = rw (← spelled 37 bytes long) (refl, refl, refl)
+in_variables (suc (suc (suc (suc (suc zero))))) some few bytes long = rw (← spelled 45 bytes long) (refl, refl, refl)
+in_variables (suc (suc (suc (suc (suc (suc zero)))))) some few bytes long = rw (← spelled 53 bytes long) (refl, refl, refl)
+in_variables (suc (suc (suc (suc (suc (suc (suc zero))))))) some few bytes long = rw (← spelled 61 bytes long) (refl, refl, refl)
+in_variables (suc (suc (suc (suc (suc (suc (suc (suc zero)))))))) some few bytes long = rw (← spelled 69 bytes long) (refl, refl, refl)
+in_variables _ some few bytes long = absurd (omega arith)
+
+variables : Keeps 9 variables_reading
+variables bytes = grind (arith, common_steps, nat_tests, in_variables ((length bytes - 5) / 8))
 
 -- the front of a list is as many of its items as it has
-pub front : (n : ℕ) (xs : List ℕ) → take n xs ≡ take (length (take n xs)) xs
+front : (n : ℕ) (xs : List ℕ) → take n xs ≡ take (length (take n xs)) xs
 front n xs = grind (arith, common_steps)
 
--- so many bytes that say a content are what it is written as
-said : (size : ℕ) (read : List ℕ → Option ReplyContent)
-    → ((xs : List ℕ) → length xs ≡ size → IfSome (read xs) (λ content. content_bytes content ≡ xs)) → Keeps (having size None read)
-said size read each bytes = grind (arith, common_steps, nat_tests)
-
--- the same, seen byte by byte
-spelt : (size : ℕ) (content : List ℕ → ReplyContent) → ((xs : List ℕ) → content_bytes (content (spell size xs)) ≡ spell size xs)
-    → Keeps (saying size content)
-spelt size content each =
-    said size (λ xs. Some (content xs)) (by_spelling size (λ xs. content_bytes (content xs) ≡ xs) each)
-
--- what 22 bytes say, if they begin with 254
-abbrev pub identity_in : List ℕ → Option ReplyContent
-identity_in xs = if eqb (slice_index xs 0) 254 then Some (Identity (identity_of xs)) else None
-
-identity : Keeps identity_reading
-identity = said 22 identity_in (by_spelling 22 _ (λ xs. grind (arith, nat_tests)))
-
-dynamic-again : (start rest : List ℕ) (groups : ℕ) → length start ≡ 4 → 0 < groups → groups ≤ 4 → groups * 5 ≤ length rest
-    → dynamic_reading (start ++ take (groups * 5) rest)
-    ≡ Some (Dynamic (record { 0 = start }) (map unit_value_of (first_chunks 5 groups rest)))
-dynamic-again start rest groups four some few long =
-    let size : length (take (groups * 5) rest) ≡ groups * 5 = length-take-le (groups * 5) rest long in
-    let again = chunks-take 5 groups rest long in
-    rw (take_at start (take (groups * 5) rest) 4 four, drop_at start (take (groups * 5) rest) 4 four)
-    (grind (arith, nat_tests, length-append))
-
-dynamic : Keeps dynamic_reading
-dynamic bytes = grind (arith, common_steps, nat_tests, chunks-bytes, unit_value-bytes, take-add, dynamic-again)
-
-variables : Keeps variables_reading
-variables bytes = grind (arith, common_steps, nat_tests, flat_map, chunks-bytes, variable-bytes)
-
-more : Keeps more_reading
+more : Keeps 48 more_reading
+unfolding rows
 more [] = tt
-more (byte ∷ bytes) =
-    (front 25 (byte ∷ bytes), ap (λ xs. Some (More (byte ∷ xs))) (take_all 24 (take 24 bytes) (omega (arith, length-take 24 bytes))))
+more (byte ∷ bytes) = (
+  front 25 (byte ∷ bytes),
+  ap (λ xs. Some (More (byte ∷ xs))) (take_all 24 (take 24 bytes) (omega (arith, length-take 24 bytes))),
+  all_left (codes "additional status") Bytes (take 25 (byte ∷ bytes)) (omega arith),
+)
 
--- what is to be seen of a row, so that it keeps what it reads of replies
-abbrev pub Seen : Replied → Type 0
-Seen (Saying size content) = (xs : List ℕ) → content_bytes (content (spell size xs)) ≡ spell size xs
-Seen (SaidBy reading) = Keeps reading
+-- every row of the table keeps what it reads of replies
+abbrev pub KeepsOwn : CommandRow → Type 0
+KeepsOwn row = Keeps row.number (replied row.reply) × IsParted row.number Refused
 
-rows : AllByRecursion (λ row. Seen row.reply) commands
-rows = search (identity, dynamic, variables, more)
+own : AllByRecursion KeepsOwn commands
+unfolding rows
+own = search (identity, dynamic, variables, more, saying_said)
 
-keeps : (reply : Replied) → Seen reply → Keeps (replied reply)
-keeps (Saying size content) seen bytes = spelt size content seen bytes
-keeps (SaidBy reading) seen bytes = seen bytes
-
--- so does the whole table
-content-kept : (command : ℕ) → Keeps (content_reading command)
-content-kept command bytes =
-    by_row (λ row. Seen row.reply) (λ row. IfSome (content_by row bytes) (IsKept (content_by row) bytes)) commands command rows tt
-    (λ row own seen. keeps row.reply seen bytes)
-
--- what a payload says that is read as a reply
-pub record IsSaid (command : ℕ) (payload : List ℕ) (reply : Reply) : Type 0 where
-  pub bytes : List ℕ
-  pub payload_is : payload ≡ reply.code ∷ reply.status.0 ∷ bytes
-  pub own : reply.command ≡ command
-  pub small : reply.code < 128
-  pub content_is : ((reply.code ≡ 0) × (content_reading command bytes ≡ Some reply.content))
-      ⊎ ((reply.code ≢ 0) × (is_known command ≡ true) × (reply.content ≡ Refused))
-
-said_by : (content : Option ReplyContent) (known : Bool) (command code status : ℕ) (reply : Reply)
-    → (let saying : ReplyContent → Reply =
+-- a reply is read of a payload by a row of the table, or is refused
+abbrev pub reply_by : Option CommandRow → ℕ → List ℕ → Option Reply
+reply_by row command (code ∷ status ∷ bytes) =
+    let saying : ReplyContent → Reply =
     λ content. record { command = command; code = code; status = record { 0 = status }; content = content } in
     if ltb 127 code then None
-    else if eqb code 0 then option_map saying content
-    else if known then Some (saying Refused)
-    else None) ≡ Some reply
-    → (reply.command ≡ command) × (reply.code ≡ code) × (reply.status.0 ≡ status) × (code < 128)
-    × (((code ≡ 0) × (content ≡ Some reply.content)) ⊎ ((code ≢ 0) × (known ≡ true) × (reply.content ≡ Refused)))
-said_by content known command code status reply e = grind (arith, nat_tests)
+    else if eqb code 0 then option_map saying (content_by row bytes)
+    else if is_some row then Some (saying Refused)
+    else None
+reply_by row command _ = None
 
-pub says : (command : ℕ) (payload : List ℕ) (reply : Reply) → reply_reading command payload ≡ Some reply → IsSaid command payload reply
-says command [] reply e = cc
-says command (code ∷ []) reply e = cc
-says command (code ∷ status ∷ bytes) reply e =
-    let is = said_by (content_reading command bytes) (is_known command) command code status reply e in
-    record { bytes = bytes; payload_is = cc; own = is.0; small = omega (arith, is.1, is.3); content_is = grind arith }
-
--- a reply is to the command, is written as the front of its payload, and is read again
-pub record IsReplyKept (command : ℕ) (payload : List ℕ) (reply : Reply) : Type 0 where
+-- what is to be known of a reply that was read of a payload
+pub record IsReplyKept (command : ℕ) (row : Option CommandRow) (payload : List ℕ) (reply : Reply) : Type 0 where
   pub own : reply.command ≡ command
   pub written : reply_payload reply ≡ take (length (reply_payload reply)) payload
-  pub again : reply_reading command (reply_payload reply) ≡ Some reply
+  pub again : reply_by row command (reply_payload reply) ≡ Some reply
+  pub known : (is_some row ≡ true) × (reply.code < 128)
+  pub refused : reply.code ≢ 0 → reply.content ≡ Refused
+  pub parted : IsParted command reply.content
 
--- the same of a reply that was read
-pub read-kept : (command : ℕ) (payload : List ℕ) (reply : Reply) → reply_reading command payload ≡ Some reply
-    → IsReplyKept command payload reply
-read-kept command payload reply e =
-    let is = says command payload reply e in
-    let kept = content-kept command is.bytes in grind (arith, common_steps, is.payload_is, is.own, is.small, is.content_is)
+pub kept : (command : ℕ) (payload : List ℕ) (reply : Reply) → reply_reading command payload ≡ Some reply
+    → IsReplyKept command (command_row command) payload reply
+kept command payload reply = by_row KeepsOwn (λ row. reply_by row command payload ≡ Some reply → IsReplyKept command row payload reply)
+    commands command own (grind arith) (λ row same keeps. rw (← same) (grind (arith, common_steps, nat_tests, keeps)))
 
-pub written_is_read : (reply : Reply) → IsReply reply → reply_reading reply.command (reply_payload reply) ≡ Some reply
-written_is_read reply is = (read-kept reply.command is.0 reply is.1).again
+pub parts_of_reply : (reply : Reply) → IsReply reply → IsParted reply.command reply.content
+parts_of_reply reply is = (kept reply.command is.0 reply is.1).parted
 
 -- a reply that was read is well made
 pub read-made : (command : ℕ) (payload : List ℕ) (reply : Reply) → reply_reading command payload ≡ Some reply
     → IsReply reply × (reply.command ≡ command)
-read-made command payload reply e = let own = (says command payload reply e).own in ((payload, cc), own)
+read-made command payload reply e = let own = (kept command payload reply e).own in ((payload, cc), own)
 
 pub result-made : (command : ℕ) (payload : List ℕ) (result : Option Reply) → result ≡ reply_reading command payload → IfSome result IsReply
 result-made command payload None e = tt

@@ -1,65 +1,81 @@
--- What is read of data is a well-made request of its command, or refused with another code than 64.
-use Rattle.std.proofs.Common.{◌≡◌, ◌≢◌, ◌↔◌, ℕ, List, drop, length, Ok, Err, arith, false, length-drop, length-take-le}
+-- What is read of data: a well-made request of its command, with which they begin, or the code that refuses them.
+use Rattle.std.proofs.Common.{◌≡◌, ◌↔◌, ℕ, Bool, true, false, ◌<◌, ◌≤◌, ◌⊎◌, All, List, [], ◌++◌, get_or, take, drop, length, Ok, Err, refl, arith}
+use Rattle.std.proofs.Common.{append_assoc, eqb, length-drop, length-take-le}
+use Rattle.std.proofs.Math.Seq.{take-add}
 use Rattle.std.proofs.lemmas.Bool.Decides.{nat_tests}
 use Rattle.std.proofs.lemmas.Grind.{common_steps}
+use Rattle.std.proofs.lemmas.List.{drop-drop}
 use Rattle.std.specs.List.{AllByRecursion}
+use Rattle.std.specs.Option.{option_map_or}
 use Rattle.std.specs.Prelude.{is_some}
 use Rattle.hart_values.proofs.lemmas.Laws.{dates_are_decided-date}
-use Rattle.hart_commands.specs.Commands.{Asked, Always, Needing, AskedBy, CommandRow, asked, commands, is_known}
-use Rattle.hart_commands.specs.RequestData.{IsRequest, command_of, read_by, request_reading}
+use Rattle.hart_commands.specs.Commands.{Asked, Always, asked, commands, is_known}
+use Rattle.hart_commands.specs.NeededData.{needed_as, needed_data}
+use Rattle.hart_commands.specs.RequestData.{IsRequest, command_of, read_by, request_data, request_reading}
 use Rattle.hart_commands.specs.RequestReading.{Reading, needing, polling_reading, codes_reading, tag_reading, reset_reading}
+use Rattle.hart_commands.specs.TagBytes.{tag_in, descriptor_in, date_in}
 use Rattle.hart_commands.specs.declared.request.Request.{Request}
 use Rattle.hart_commands.proofs.lemmas.Rows.{by_row}
 
--- a well-made request of a command, or a code other than 64
-abbrev pub IsGiven : ℕ → Reading → Type 0
-IsGiven command (Ok request) = (command_of request ≡ command) × IsRequest request
-IsGiven command (Err code) = code ≢ 64
+-- data begin with those that a request is written as, or are an address without the mode with which it is written
+abbrev pub AreBegun : ℕ → List ℕ → List ℕ → Type 0
+AreBegun command bytes written =
+    (take (length written) bytes ≡ written) ⊎ ((command ≡ 6) × (length bytes ≡ 1) × (length written ≡ 2) × (bytes ≡ take 1 written))
+
+-- what is read of data, if a command is known and needs so many bytes
+abbrev pub IsGiven : Bool → ℕ → ℕ → List ℕ → Reading → Type 0
+IsGiven known size command bytes (Ok request) =
+    (command_of request ≡ command) × IsRequest request × (known ≡ true)
+    × ((size ≤ length bytes) ⊎ ((command ≡ 38) × (length bytes ≡ 0)))
+    × (get_or bytes 1 0 < 256 → AreBegun command bytes (request_data request))
+IsGiven known size command bytes (Err code) =
+    ((code ≡ 64) ↔ (known ≡ false)) × ((code ≡ 5) ↔ ((length bytes < size) × (command ≡ 38 → 0 < length bytes)))
 
 -- that of all data
-abbrev pub Gives : ℕ → (List ℕ → Reading) → Type 0
-Gives command asked = (bytes : List ℕ) → IsGiven command (asked bytes)
+abbrev pub Gives : ℕ → ℕ → (List ℕ → Reading) → Type 0
+Gives size command asked = (bytes : List ℕ) → IsGiven true size command bytes (asked bytes)
 
-needed : (command size : ℕ) (request : List ℕ → Request) → ((xs : List ℕ) → length xs ≡ size → IsGiven command (Ok (request xs)))
-    → Gives command (needing size request)
-needed command size request each bytes = grind (arith, common_steps, nat_tests)
+needed : (size command : ℕ) (request : List ℕ → Request) → eqb command 38 ≡ false
+    → ((xs : List ℕ) → length xs ≡ size → (command_of (request xs) ≡ command) × IsRequest (request xs) × (request_data (request xs) ≡ xs))
+    → Gives size command (needing size request)
+needed size command request differs each bytes = grind (arith, common_steps, nat_tests)
 
-polling : Gives 6 polling_reading
-polling bytes = grind (arith, nat_tests)
+polling : Gives 1 6 polling_reading
+polling bytes = grind (arith, common_steps, nat_tests)
 
-codes : Gives 9 codes_reading
+codes : Gives 1 9 codes_reading
 codes bytes = grind (arith, common_steps)
 
-tag : Gives 18 tag_reading
+reset : Gives 2 38 reset_reading
+reset bytes = grind (arith, common_steps)
+
+tag : Gives 21 18 tag_reading
 tag bytes =
-    let twelve = length-take-le 12 (drop 6 bytes) in grind (arith, length-drop, nat_tests, dates_are_decided-date)
+    let twelve = length-take-le 12 (drop 6 bytes) in grind (arith, length-drop, nat_tests, dates_are_decided-date, whole)
+  where
+    whole : tag_in bytes ++ descriptor_in bytes ++ date_in bytes ≡ take 21 bytes
+    whole = rw (take-add 6 15 bytes, take-add 12 3 (drop 6 bytes), drop-drop 12 6 bytes, append_assoc) refl
 
-reset : Gives 38 reset_reading
-reset bytes = grind arith
-
--- what is to be seen of a row, so that it asks requests of its number
+-- what is to be seen of a row, so that it gives requests of its number
 abbrev pub Own : ℕ → Asked → Type 0
-Own command (Always request) = IsGiven command (Ok request)
-Own command (Needing size request) = (xs : List ℕ) → length xs ≡ size → IsGiven command (Ok (request xs))
-Own command (AskedBy reading) = Gives command reading
+Own command (Always request) = (command_of request ≡ command) × IsRequest request × (request_data request ≡ [])
+Own command request = Gives (needed_as command request) command (asked request)
 
-abbrev pub AsksOwn : CommandRow → Type 0
-AsksOwn row = Own row.number row.request
+rows : AllByRecursion (λ row. Own row.number row.request) commands
+rows = search (needed, polling, codes, tag, reset)
 
-pub rows : AllByRecursion AsksOwn commands
-rows = search (polling, codes, tag, reset)
+gives : (command : ℕ) (request : Asked) → Own command request → Gives (needed_as command request) command (asked request)
+gives command request own bytes = grind (arith, common_steps, own)
 
-gives : (command : ℕ) (request : Asked) → Own command request → Gives command (asked request)
-gives command (Needing size request) own bytes = needed command size request own bytes
-gives command _ own bytes = grind (arith, own)
+pub given : (command : ℕ) (bytes : List ℕ) → IsGiven (is_known command) (needed_data command) command bytes (request_reading command bytes)
+given command bytes = by_row (λ row. Own row.number row.request)
+    (λ row. IsGiven (is_some row) (option_map_or (λ row. needed_as row.number row.request) row 0) command bytes (read_by row bytes))
+    commands command rows (grind arith) (λ row same own. rw (← same) (gives row.number row.request own bytes))
 
--- the same of what is read
 pub requests_have_their_command : (command : ℕ) (bytes : List ℕ) (request : Request) → request_reading command bytes ≡ Ok request
     → (command_of request ≡ command) × IsRequest request
-requests_have_their_command command bytes request = by_row AsksOwn (λ row. read_by row bytes ≡ Ok request → IsGiven command (Ok request))
-    commands command rows (λ e. cc) (λ row same is e. grind (arith, common_steps, gives))
+requests_have_their_command command bytes request e = let is = rw e at (given command bytes) in (is.0, is.1)
 
--- only a command that is not known is refused with code 64
-pub unknown-refused : (command : ℕ) (bytes : List ℕ) → (request_reading command bytes ≡ Err 64) ↔ (is_known command ≡ false)
-unknown-refused command bytes = by_row AsksOwn (λ row. (read_by row bytes ≡ Err 64) ↔ (is_some row ≡ false))
-    commands command rows (grind arith) (λ row same is. grind (arith, common_steps, gives))
+pub begun : (command : ℕ) (bytes : List ℕ) (request : Request) → All (λ byte. byte < 256) bytes → request_reading command bytes ≡ Ok request
+    → AreBegun command bytes (request_data request)
+begun command bytes request fit e = (rw e at (given command bytes)).4 (grind (arith, common_steps, fit 1 0))

@@ -1,4 +1,4 @@
-use Rattle.std.proofs.Common.{◌≡◌, ◌∙◌, ap, sym, rules}
+use Rattle.std.proofs.Common.{◌≡◌, arith, rules, Bool, List, [], ◌∷◌, map, refl}
 use Rattle.std.proofs.lemmas.Bool.Decides.{nat_tests}
 use Rattle.std.proofs.lemmas.Iterator.{YieldsList-from_slice}
 use Rattle.std.proofs.lemmas.Iterator.Search.{find_from_yields_List}
@@ -6,8 +6,12 @@ use Rattle.std.specs.Bool.{◌==◌}
 use Rattle.std.specs.List.{find}
 use Rattle.std.specs.Option.{option_map}
 use Rattle.hart_commands.specs.Fields.{seen_command}
-use Rattle.hart_commands.proofs.lemmas.Fields.{find-map, option_map-option_map}
 use Rattle.hart_commands.proofs.fields.find_row.Goals as goal
+
+-- What is seen of the first row that passes a test is the first that passes it among what is seen of the rows.
+find-map : {X Y : Type 0} (v : X → Y) (p : Y → Bool) (xs : List X) → option_map v (find (λ x. p (v x)) xs) ≡ find p (map v xs)
+find-map v p [] = refl
+find-map v p (x ∷ xs) = grind (arith, find-map v p xs)
 
 -- The first row with the number is the first of them that is seen to have it.
 pub returns : goal.returns
@@ -15,6 +19,5 @@ returns c =
     let first : option_map (λ row. row.now) c.find.result ≡ find (λ row. row.number == c.args.command) c.args.rows.now =
     find_from_yields_List (λ row. row.number == c.args.command) _ _ c.find.result c.find.ensures.ran
     (YieldsList-from_slice _ c.iter.ensures.rest) (λ x b q k. search (rules, nat_tests)) in
-    sym (option_map-option_map seen_command (λ row. row.now) c.find.result)
-    ∙ ap (option_map seen_command) first
-    ∙ find-map seen_command (λ row. row.number == c.args.command) c.args.rows.now
+    let others = find-map seen_command (λ row. row.number == c.args.command) c.args.rows.now in
+    grind (arith, first, others)

@@ -1,4 +1,4 @@
-use Rattle.hart_commands.proofs.lemmas.ReplyFields.{parts_of_reply}
+use Rattle.hart_commands.proofs.lemmas.Reply.{parts_of_reply}
 use Rattle.hart_commands.proofs.lemmas.RequestFields.{parts_of_request}
 use Rattle.hart_commands.proofs.laws.fields_are_the_parts.Goals as goal
 

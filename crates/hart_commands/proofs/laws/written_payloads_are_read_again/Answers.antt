@@ -1,13 +1,11 @@
-use Rattle.std.proofs.Common.{arith}
-use Rattle.hart_commands.proofs.lemmas.Laws.{written_payloads_are_read_again-kept}
-use Rattle.hart_commands.proofs.lemmas.Reply.{written_is_read, read-made, says}
+use Rattle.hart_commands.proofs.lemmas.Reply.{kept, read-made}
 use Rattle.hart_commands.proofs.laws.written_payloads_are_read_again.Goals as goal
 
 pub returns : goal.returns
 returns c = record {
-  again = written_is_read;
+  again = λ reply is. (kept reply.command is.0 reply is.1).again;
   well_made = read-made;
-  kept = written_payloads_are_read_again-kept;
-  known = λ command payload reply e. let said = says command payload reply e in grind arith;
-  refused = λ command payload reply e. let said = says command payload reply e in grind arith;
+  kept = λ command payload reply e. (kept command payload reply e).written;
+  known = λ command payload reply e. (kept command payload reply e).known;
+  refused = λ command payload reply e. (kept command payload reply e).refused;
 }
