@@ -30,6 +30,7 @@ IsGiven known size command bytes (Ok request) =
     × (get_or bytes 1 0 < 256 → AreBegun command bytes (request_data request))
 IsGiven known size command bytes (Err code) =
     ((code ≡ 64) ↔ (known ≡ false)) × ((code ≡ 5) ↔ ((length bytes < size) × (command ≡ 38 → 0 < length bytes)))
+    × (0 < code) × (code < 128)
 
 -- that of all data
 abbrev pub Gives : ℕ → ℕ → (List ℕ → Reading) → Type 0

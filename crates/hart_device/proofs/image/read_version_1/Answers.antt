@@ -1,5 +1,4 @@
 use Rattle.std.proofs.Common.{◌≡◌, ◌≢◌, refl, sym, ◌∙◌, drop, replicate, arith}
-use Rattle.std.proofs.lemmas.Grind.{common_steps}
 use Rattle.hart_commands.specs.declared.register.Register.{Register}
 use Rattle.hart_commands.specs.declared.register.Register.TheVariants.{LongTag}
 use Rattle.hart_device.specs.image.Image.{registers_of_version_1}
@@ -21,15 +20,10 @@ is_read c register differ =
 pub returns-clause-refused : goal.returns-clause-refused
 returns-clause-refused c =
     let split = c.split_at.ensures in
-    rw (c.ok_or.ensures.value, split.by_index.0) (refused_or _ c.read_parts.result _ c.read_parts.ensures.refused (λ bad. (
-      registers_of_version_1,
-      refl,
-      grind (arith, common_steps, split.front_len, split.back_len, c.if-rest.false),
-      bad_field 1 registers_of_version_1 c.set_long_tag.new.self.bytes c.split_at.result.0.now c.split_at.result.1.now
-          (omega (arith, split.back_len, c.if-rest.false)) in_version_1
-          (λ register differ. stands_before _ _ split.front_len register differ ∙ sym (is_read c register differ))
-          bad,
-    )))
+    rw (c.ok_or.ensures.value, split.by_index.0) (refused_or _ c.read_parts.result _ c.read_parts.ensures.refused
+    (bad_field 1 registers_of_version_1 refl c.set_long_tag.new.self.bytes c.split_at.result.0.now c.split_at.result.1.now split.front_len
+    (omega (arith, split.back_len, c.if-rest.false)) in_version_1
+    (λ register differ. stands_before _ _ split.front_len register differ ∙ sym (is_read c register differ))))
 
 pub returns-clause-kept : goal.returns-clause-kept
 returns-clause-kept c =

@@ -14,15 +14,10 @@ returns-then-rest-clause-refused c = (registers, refl, λ same. absurd (c.if-res
 pub returns-clause-refused : goal.returns-clause-refused
 returns-clause-refused c =
     let split = c.split_at.ensures in
-    rw (c.ok_or.ensures.value, split.by_index.0) (refused_or _ c.read_parts.result _ c.read_parts.ensures.refused (λ bad. (
-      registers,
-      refl,
-      grind (arith, common_steps, split.front_len, split.back_len, c.if-rest.false),
-      bad_field 2 registers c.copy_from_slice.new.self c.split_at.result.0.now c.split_at.result.1.now
-          (omega (arith, split.back_len, c.if-rest.false)) (λ register differ. all_registers_are_listed_once-every register)
-          (grind (arith, common_steps, range_within, before_others, split.front_len))
-          bad,
-    )))
+    rw (c.ok_or.ensures.value, split.by_index.0) (refused_or _ c.read_parts.result _ c.read_parts.ensures.refused
+    (bad_field 2 registers refl c.copy_from_slice.new.self c.split_at.result.0.now c.split_at.result.1.now split.front_len
+    (omega (arith, split.back_len, c.if-rest.false)) (λ register differ. all_registers_are_listed_once-every register)
+    (grind (arith, common_steps, range_within, before_others, split.front_len))))
 
 pub returns-clause-kept : goal.returns-clause-kept
 returns-clause-kept c =

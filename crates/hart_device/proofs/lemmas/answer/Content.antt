@@ -1,8 +1,8 @@
 -- What a device replies with code 0 to a well-made request is read again from its bytes.
-use Rattle.std.proofs.Common.{slice_index, ◌≡◌, ℕ, zero, suc, ◌*◌, ◌/◌, ◌<◌, ◌≤◌, List, [], ◌∷◌, ◌++◌, length, map, min, Some, All, get_or}
-use Rattle.std.proofs.Common.{slice_get, refl, arith, append_assoc, append-nil, length-append}
+use Rattle.std.proofs.Common.{take, ◌≡◌, ℕ, zero, suc, ◌*◌, ◌/◌, ◌<◌, ◌≤◌, List, [], ◌∷◌, ◌++◌, length, map, min, Some, All, get_or}
+use Rattle.std.proofs.Common.{refl, arith, append_assoc, append-nil, length-append}
 use Rattle.std.proofs.lemmas.Bool.Decides.{nat_tests}
-use Rattle.std.proofs.lemmas.Grind.{elements, common_steps}
+use Rattle.std.proofs.lemmas.Grind.{common_steps}
 use Rattle.std.proofs.lemmas.List.{length-map, take_at, drop_at, take_all}
 use Rattle.std.proofs.lemmas.List.Elements.{All-cons, All-map}
 use Rattle.std.proofs.lemmas.Option.{get_or_from_slice_get, slice_get_within}
@@ -16,6 +16,7 @@ use Rattle.hart_commands.specs.ReplyReading.{dynamic_reading, saying, tag_of, va
 use Rattle.hart_commands.specs.RequestData.{IsRequest, command_of}
 use Rattle.hart_commands.specs.Values.{unit_value_of, unit_value_bytes, variable_of, variable_bytes}
 use Rattle.hart_commands.specs.declared.content.ReplyContent.{ReplyContent}
+use Rattle.hart_commands.specs.declared.register.Register.{Register}
 use Rattle.hart_commands.specs.declared.request.Request.{Request}
 use Rattle.hart_commands.specs.declared.value.UnitValue.{UnitValue}
 use Rattle.hart_commands.specs.declared.value.VariableReading.{VariableReading}
@@ -31,12 +32,6 @@ use Rattle.hart_commands.specs.declared.register.Register.TheVariants as registe
 use Rattle.hart_commands.specs.declared.request.Request.TheVariants as requested
 
 -- LISTS
-three : (xs : List ℕ) → length xs ≡ 3 → (a : ℕ) × (b : ℕ) × (c : ℕ) × (xs ≡ a ∷ b ∷ c ∷ [])
-three xs long = (slice_index xs 0, slice_index xs 1, slice_index xs 2, grind (arith, elements))
-
-four : (xs : List ℕ) → length xs ≡ 4 → (a : ℕ) × (b : ℕ) × (c : ℕ) × (d : ℕ) × (xs ≡ a ∷ b ∷ c ∷ d ∷ [])
-four xs long = (slice_index xs 0, slice_index xs 1, slice_index xs 2, slice_index xs 3, grind (arith, elements))
-
 -- Things of n bytes each, end to end, are read one by one.
 end_to_end : {X : Type 0} (n : ℕ) (bytes_of : X → List ℕ) (of : List ℕ → X) (Sized : X → Type 0)
     → ((x : X) → Sized x → length (bytes_of x) ≡ n) → ((x : X) → Sized x → of (bytes_of x) ≡ x)
@@ -61,10 +56,8 @@ end_to_end n bytes_of of Sized size back (x ∷ xs) rest all =
 abbrev pub IsReadAgain : ℕ → ReplyContent → Type 0
 IsReadAgain command content = content_reading command (content_bytes content) ≡ Some content
 
--- So many bytes say what they say.
-said : (size : ℕ) (content : List ℕ → ReplyContent) (bytes : List ℕ) → length bytes ≡ size
-    → saying size content bytes ≡ Some (content bytes)
-said size content bytes long = grind (arith, common_steps, nat_tests, take_all)
+whole : (size : ℕ) (bytes : List ℕ) → length bytes ≡ size → take size bytes ≡ bytes
+whole size bytes long = take_all size bytes (omega (arith, long))
 
 tag_said : (tag descriptor date : List ℕ) → length tag ≡ 6 → length descriptor ≡ 12 → length date ≡ 3
     → saying 21 tag_of (tag ++ descriptor ++ date) ≡ Some (replied.Tag tag descriptor date)
@@ -94,13 +87,8 @@ variables_said status variables time some few all float =
 dynamic_floats : (process : Process) → IsProcess process → All (λ variable. IsFloat variable.value) (dynamic_variables process)
 dynamic_floats process is = All-cons (λ (v : ProcessVariable). IsFloat v.value) process.first process.others is.first is.others
 
-dynamic_is_float : (process : Process) → IsProcess process → (place : ℕ) (variable : ProcessVariable)
-    → slice_get (dynamic_variables process) place ≡ Some variable → IsFloat variable.value
-dynamic_is_float process is place variable found =
-    grind (arith, dynamic_floats process is, get_or_from_slice_get, slice_get_within)
-
 variable_is_float : (process : Process) → IsProcess process → (code : ℕ) → IsFloat (variable_of_code process code).value
-variable_is_float process is code = grind (arith, dynamic_is_float)
+variable_is_float process is code = grind (arith, dynamic_floats process is, get_or_from_slice_get, slice_get_within)
 
 -- What a device replies with code 0 to a well-made request is read again.
 pub content_again : (state : DeviceState) (process : Process) → AreValid state.contents → IsProcess process → (request : Request)
@@ -114,7 +102,13 @@ content_again state process valid is (requested.ReadVariables codes) made =
     (grind (arith, length-map, made)) (grind (arith, length-map, made))
     (All-map (λ v. IsFloat v.value) (variable_reading process) codes (λ k d within. variable_is_float process is (get_or codes k d)))
     is.time_stamp
-content_again state process valid is requested.ReadSensor made = grind (arith, common_steps, three, four)
+content_again state process valid is requested.ReadSensor made =
+    rw (
+      ← spelled 3 process.sensor.serial_number is.serial_number,
+      ← spelled 4 process.sensor.upper_limit.0 is.upper_limit,
+      ← spelled 4 process.sensor.lower_limit.0 is.lower_limit,
+      ← spelled 4 process.sensor.minimum_span.0 is.minimum_span,
+    ) refl
 content_again state process valid is requested.ReadOutput made =
     rw (
       ← spelled 4 process.output.upper_range_value.0 is.upper_range_value,
@@ -123,16 +117,19 @@ content_again state process valid is requested.ReadOutput made =
     ) refl
 content_again state process valid is requested.ReadMore made =
     by_spelling 25 (λ xs. IsReadAgain 48 (replied.More xs)) (λ xs. refl) process.additional_status is.additional_status
-content_again state process valid is requested.ReadPrimary made = grind (arith, common_steps, four)
-content_again state process valid is requested.ReadCurrent made = grind (arith, common_steps, four)
-content_again state process valid is requested.ReadMessage made = said 24 replied.Message _ (valid registers.Message).0
-content_again state process valid is requested.ReadTag made =
-    tag_said _ _ _ (valid registers.Tag).0 (valid registers.Descriptor).0 (valid registers.Date).0
-content_again state process valid is requested.ReadAssembly made = said 3 replied.Assembly _ (valid registers.Assembly).0
-content_again state process valid is (requested.WriteMessage message) made = said 24 replied.Message _ (valid registers.Message).0
-content_again state process valid is (requested.WriteTag tag descriptor date) made =
-    tag_said _ _ _ (valid registers.Tag).0 (valid registers.Descriptor).0 (valid registers.Date).0
-content_again state process valid is (requested.WriteAssembly assembly) made = said 3 replied.Assembly _ (valid registers.Assembly).0
-content_again state process valid is requested.ReadLongTag made = said 32 replied.LongTag _ (valid registers.LongTag).0
-content_again state process valid is (requested.WriteLongTag long_tag) made = said 32 replied.LongTag _ (valid registers.LongTag).0
-content_again state process valid is _ made = refl
+content_again state process valid is requested.ReadPrimary made = rw (← spelled 4 process.first.value.0 is.first) refl
+content_again state process valid is requested.ReadCurrent made =
+    rw (← spelled 4 process.loop_current.0 is.loop_current, ← spelled 4 process.percent_of_range.0 is.percent_of_range) refl
+content_again state process valid is _ made =
+    let sized = λ (register : Register). (valid register).0 in
+    search (
+      whole,
+      tag_said,
+      sized registers.Message,
+      sized registers.Tag,
+      sized registers.Descriptor,
+      sized registers.Date,
+      sized registers.Assembly,
+      sized registers.LongTag,
+    )
+

@@ -1,14 +1,14 @@
 -- What an image says, and that it says one thing.
 use Rattle.std.proofs.Common.{◌≡◌, ◌≢◌, ℕ, ◌-◌, ◌^◌, ◌<◌, ◌≤◌, ◌⊎◌, inl, inr, refl, sym, ◌∙◌, subst, arith, Bool, true, Some, List, [], ◌∷◌}
-use Rattle.std.proofs.Common.{◌++◌, length, slice_index}
+use Rattle.std.proofs.Common.{◌++◌, drop, length, slice_index}
 use Rattle.std.proofs.lemmas.Bool.Decides.{nat_tests}
 use Rattle.std.proofs.lemmas.Grind.{common_steps, elements}
 use Rattle.std.proofs.lemmas.List.{append_cancel_left, take-append-le}
 use Rattle.std.proofs.lemmas.Slice.{between_is}
-use Rattle.std.specs.List.{Contains, flat_map}
+use Rattle.std.specs.List.{Contains, flat_map, sum_by}
 use Rattle.hart_values.specs.declared.each_master.EachMaster.{EachMaster}
 use Rattle.hart_values.proofs.lemmas.Laws.{packed_text_and_bytes_determine_each_other-one_text}
-use Rattle.hart_commands.specs.Registers.{AreValid, Contents, bytes_in, registers}
+use Rattle.hart_commands.specs.Registers.{AreValid, Contents, bytes_in, registers, size_of}
 use Rattle.hart_commands.specs.declared.register.Register.{Register}
 use Rattle.hart_commands.specs.declared.register.Register.TheVariants.{Tag, LongTag}
 use Rattle.hart_commands.proofs.lemmas.Laws.{all_registers_are_listed_once-every}
@@ -18,7 +18,7 @@ use Rattle.hart_device.specs.declared.fault.DeviceFault.{DeviceFault}
 use Rattle.hart_device.specs.declared.fault.DeviceFault.TheVariants.{BadField, BadLength, BadVersion}
 use Rattle.hart_device.specs.declared.identity_parts.IdentityParts.{IdentityParts}
 use Rattle.hart_device.specs.declared.image.ImageParts.{ImageParts}
-use Rattle.hart_device.specs.image.Image.{HasBadField, IsImageOf, IsImageFault, IsLongTagOf, flags_of, image_ending, image_of}
+use Rattle.hart_device.specs.image.Image.{IsImageOf, IsImageFault, IsLongTagOf, flags_of, image_ending, image_of}
 use Rattle.hart_device.specs.image.Image.{registers_of_version, registers_of_version_1}
 use Rattle.hart_device.specs.image.ImageParts.{state_with}
 use Rattle.hart_device.specs.registers.Ranges.{HoldsInvalid, contents_in, end_of, standing_for}
@@ -26,14 +26,10 @@ use Rattle.hart_device.specs.registers.Values.{values_of}
 use Rattle.hart_device.proofs.lemmas.registers.Range.{end_to_end, length_written, written}
 use Rattle.hart_device.proofs.lemmas.registers.Registers.{bytes_in-contents_by, same_contents}
 
--- Version 1 is known, with all registers but the long tag, and version 2, with all.
-known_version : (version : ℕ) (listed : List Register) → registers_of_version version ≡ Some listed
-    → ((version ≡ 1) × (listed ≡ registers_of_version_1)) ⊎ ((version ≡ 2) × (listed ≡ registers))
-known_version version listed known = grind (arith, nat_tests)
-
--- The registers of a version stand end to end.
-ends_of : (version : ℕ) (listed : List Register) → registers_of_version version ≡ Some listed → end_to_end 0 listed ≡ true
-ends_of version listed known = grind (arith, nat_tests)
+-- What holds of the registers of version 1, which are all but the long tag, and of all, holds of those of a version that is known.
+by_version : (P : List Register → Type 0) → P registers_of_version_1 → P registers → (version : ℕ) (listed : List Register)
+    → registers_of_version version ≡ Some listed → P listed
+by_version P first second version listed known = grind (arith, nat_tests)
 
 -- The long tag is not among the registers of version 1.
 no_long_tag : Contains registers_of_version_1 LongTag → ⊥
@@ -46,25 +42,16 @@ in_version_1 register differs =
     (there.0, grind (arith, elements, there.1, there.2), grind (arith, elements, there.1, there.2))
 
 -- A register that a version has not is the long tag.
-listed_or_not : (version : ℕ) (listed : List Register) → registers_of_version version ≡ Some listed → (register : Register)
-    → Contains listed register ⊎ ((register ≡ LongTag) × (Contains listed LongTag → ⊥) × Contains listed Tag)
-listed_or_not version listed known register = elim (known_version version listed known) [
-  | inl one ↦ rw one.1 (in_first register)
-  | inr two ↦ inl (rw two.1 (all_registers_are_listed_once-every register))
-]
+abbrev pub HasOrNot : List Register → Type 0
+HasOrNot listed =
+    (register : Register) → Contains listed register ⊎ ((register ≡ LongTag) × (Contains listed LongTag → ⊥) × Contains listed Tag)
+
+listed_or_not : (version : ℕ) (listed : List Register) → registers_of_version version ≡ Some listed → HasOrNot listed
+listed_or_not = by_version HasOrNot in_first (λ register. inl (all_registers_are_listed_once-every register))
   where
-    in_first : (r : Register)
-        → Contains registers_of_version_1 r
-        ⊎ ((r ≡ LongTag) × (Contains registers_of_version_1 LongTag → ⊥) × Contains registers_of_version_1 Tag)
+    in_first : HasOrNot registers_of_version_1
     in_first LongTag = inr (refl, no_long_tag, in_version_1 Tag (λ e. cc))
     in_first r = inl (in_version_1 r (λ e. cc))
-
--- What an image of a version says of its device.
-said : (state : DeviceState) (version : ℕ) (rest : List ℕ) (listed : List Register) → registers_of_version version ≡ Some listed
-    → IsImageOf state (version ∷ rest)
-    → (rest ≡ flat_map (bytes_in state.contents) listed ++ image_ending state)
-    × ((Contains listed LongTag → ⊥) → IsLongTagOf state.contents.tag state.contents.long_tag)
-said state version rest listed known is = grind (arith, common_steps, written)
 
 -- A state has one image of each version.
 pub one_image : (state : DeviceState) (image other : List ℕ) (is : IsImageOf state image) (other_is : IsImageOf state other)
@@ -93,13 +80,11 @@ pub flags_of-le : (changed : EachMaster Bool) (protected : Bool) → flags_of ch
 flags_of-le changed protected = grind arith
 
 -- What stands for a register in an image that has it is what it holds.
-held_in_image : (state : DeviceState) (version : ℕ) (rest : List ℕ) (listed : List Register) → registers_of_version version ≡ Some listed
-    → IsImageOf state (version ∷ rest) → (register : Register) → Contains listed register
-    → standing_for register rest ≡ bytes_in state.contents register
-held_in_image state version rest listed known is register there =
-    let sizes = λ (r : Register). (is.contents r).0 in
-    let after = (said state version rest listed known is).0 in
-    rw after (rw there.2 at (written (bytes_in state.contents) [] (image_ending state) listed (ends_of version listed known) sizes
+held_in_image : (state : DeviceState) (image : List ℕ) (is : IsImageOf state image) (register : Register) → Contains is.listed register
+    → standing_for register (drop 1 image) ≡ bytes_in state.contents register
+held_in_image state image is register there =
+    let ends = by_version (λ listed. end_to_end 0 listed ≡ true) refl refl is.version is.listed is.known in
+    rw is.written (rw there.2 at (written (bytes_in state.contents) [] (image_ending state) is.listed ends (λ r. (is.contents r).0)
     there.0 register there.1))
 
 -- What was read of the registers in an array, and of the bytes that end an image, is what the image says.
@@ -133,57 +118,52 @@ pub before_others : (register : Register) (prefix others : List ℕ) → end_of 
 before_others register prefix others fits = grind (arith, common_steps, between_is, take-append-le)
 
 -- A register that is bad in the array, or bad flags in the bytes that end an image, are a bad field.
-pub bad_field : (version : ℕ) (listed : List Register) (array prefix end : List ℕ) → length end ≡ 3
+pub bad_field : (version : ℕ) (listed : List Register) → registers_of_version version ≡ Some listed → (array prefix end : List ℕ)
+    → length prefix ≡ sum_by size_of listed → length end ≡ 3
     → ((register : Register) → register ≢ LongTag → Contains listed register)
     → ((register : Register) → register ≢ LongTag → standing_for register (prefix ++ end) ≡ standing_for register array)
-    → HoldsInvalid array ⊎ (7 < slice_index end 2) → HasBadField listed (version ∷ (prefix ++ end))
-bad_field version listed array prefix end three has whole bad = grind (arith, has, whole, last_is)
+    → HoldsInvalid array ⊎ (7 < slice_index end 2) → IsImageFault (version ∷ (prefix ++ end)) BadField
+bad_field version listed known array prefix end long three has whole bad =
+    (listed, known, grind (arith, common_steps), grind (arith, has, whole, last_is))
 
 -- An image has no fault.
 pub images_have_no_fault : (state : DeviceState) (image : List ℕ) (fault : DeviceFault) → IsImageOf state image
     → IsImageFault image fault → ⊥
 images_have_no_fault state [] fault is faulty = let none = is.written in cc
-images_have_no_fault state (version ∷ rest) BadVersion is faulty = grind (arith, common_steps, written)
+images_have_no_fault state (version ∷ rest) BadVersion is faulty = let written = is.written in cc
 images_have_no_fault state (version ∷ rest) BadLength is (listed, known, wrong) =
-    let len = length_written (bytes_in state.contents) (λ r. (is.contents r).0) listed in grind (arith, common_steps, said)
+    let len = length_written (bytes_in state.contents) (λ r. (is.contents r).0) is.listed in grind (arith, common_steps)
 images_have_no_fault state (version ∷ rest) BadField is (listed, known, len, inl (register, there, bad)) =
-    bad (rw (held_in_image state version rest listed known is register there) (is.contents register))
+    let same : listed ≡ is.listed = cc in
+    bad (rw (held_in_image state (version ∷ rest) is register (rw same at there)) (is.contents register))
 images_have_no_fault state (version ∷ rest) BadField is (listed, known, len, inr above) =
-    let last = last_is version (flat_map (bytes_in state.contents) listed) (image_ending state) refl in
-    grind (arith, last, above, flags_of-le state.changed state.protected)
+    let last = last_is is.version (flat_map (bytes_in state.contents) is.listed) (image_ending state) refl in
+    grind (arith, last, above, is.written, flags_of-le state.changed state.protected)
 images_have_no_fault state (version ∷ rest) _ is faulty = faulty
 
 -- Bytes have one fault.
 pub one_fault : (image : List ℕ) (fault other : DeviceFault) → IsImageFault image fault → IsImageFault image other → fault ≡ other
 one_fault image fault other p q = grind (arith, nat_tests)
 
--- Contents are determined by what an image says of them.
-one_contents : (state other : DeviceState) (version : ℕ) (listed : List Register) → registers_of_version version ≡ Some listed
-    → ((register : Register) → Contains listed register → bytes_in state.contents register ≡ bytes_in other.contents register)
-    → ((Contains listed LongTag → ⊥) → IsLongTagOf state.contents.tag state.contents.long_tag)
-    → ((Contains listed LongTag → ⊥) → IsLongTagOf other.contents.tag other.contents.long_tag)
-    → state.contents ≡ other.contents
-one_contents state other version listed known same long_tag other_long_tag = same_contents _ _ (λ register.
-    grind (
-      arith,
-      packed_text_and_bytes_determine_each_other-one_text,
-      listed_or_not version listed known register,
-      same register,
-      same Tag,
-    ))
-
 -- An image is of one state.
 pub one_state : (state other : DeviceState) (image : List ℕ) → IsImageOf state image → IsImageOf other image
     → state.identity ≡ other.identity → state.cold_start ≡ other.cold_start → state ≡ other
-one_state state other [] is other_is identity cold_start = let none = is.written in cc
-one_state state other (version ∷ rest) is other_is identity cold_start =
-    let listed = is.listed in
-    let known : registers_of_version version ≡ Some listed = (let written = is.written in cc) in
-    let says = said state version rest listed known is in
-    let other_says = said other version rest listed known other_is in
-    let contents : state.contents ≡ other.contents =
-    one_contents state other version listed known (λ register there.
-    sym (held_in_image state version rest listed known is register there)
-    ∙ held_in_image other version rest listed known other_is register there) says.1 other_says.1 in
+one_state state other image is other_is identity cold_start =
+    let version : is.version ≡ other_is.version = (let written = is.written in cc) in
+    let listed : is.listed ≡ other_is.listed = cc in
+    let held : (register : Register) → Contains is.listed register → bytes_in state.contents register ≡ bytes_in other.contents register =
+    λ register there.
+    sym (held_in_image state image is register there) ∙ held_in_image other image other_is register (rw listed at there) in
+    let contents : state.contents ≡ other.contents = same_contents _ _ (λ register.
+    grind (
+      arith,
+      packed_text_and_bytes_determine_each_other-one_text,
+      listed_or_not is.version is.listed is.known register,
+      is.long_tag,
+      other_is.long_tag,
+      held register,
+      held Tag,
+    )) in
     let ends : image_ending state ≡ image_ending other =
-    append_cancel_left (flat_map (bytes_in other.contents) listed) _ _ (let a = says.0 in let b = other_says.0 in cc) in grind arith
+    append_cancel_left (flat_map (bytes_in other.contents) other_is.listed) _ _ (let a = is.written in let b = other_is.written in cc) in
+    grind arith
