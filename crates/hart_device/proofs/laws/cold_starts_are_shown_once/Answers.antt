@@ -1,4 +1,4 @@
-use Rattle.std.proofs.Common.{if◌then◌else◌, ◌≡◌, Some, IsSomeAnd, slice_get}
+use Rattle.std.proofs.Common.{if◌then◌else◌, ◌≡◌, refl, Some, IsSomeAnd, slice_get}
 use Rattle.std.specs.Int.{bit_at}
 use Rattle.hart_values.specs.EachMaster.{of_master}
 use Rattle.hart_frame.specs.wire.FrameParts.{FrameParts}
@@ -7,7 +7,7 @@ use Rattle.hart_device.specs.Process.{has_more_status}
 use Rattle.hart_device.specs.answer.Answer.{after_command, answer_of, effect_of, is_answered, reply_of, state_after}
 use Rattle.hart_device.specs.answer.Status.{is_loop_current_fixed}
 use Rattle.hart_device.specs.declared.process.Process.{Process}
-use Rattle.hart_device.proofs.lemmas.answer.ColdStart.{bit_in_status, cleared, effect_keeps, with_this}
+use Rattle.hart_device.proofs.lemmas.answer.ColdStart.{bit_in_status, effect_keeps, with_this}
 use Rattle.hart_device.proofs.lemmas.answer.Effect.{answered_if}
 use Rattle.hart_device.proofs.laws.cold_starts_are_shown_once.Goals as goal
 
@@ -27,8 +27,8 @@ returns-clause-shown c = shown
 
 pub returns-clause-once : goal.returns-clause-once
 returns-clause-once c = λ state process frame later reply answered same is.
-    rw (cleared (is_answered state frame) frame.master (effect_of state frame) state answered, same, with_this)
+    rw (answered, effect_keeps frame.master _ state, same, with_this)
     at (shown (state_after state frame) process later reply is)
 
 pub returns-clause-cleared : goal.returns-clause-cleared
-returns-clause-cleared c = search cleared
+returns-clause-cleared c = λ state frame is. rw (effect_keeps frame.master (effect_of state frame) state, is) refl

@@ -17,11 +17,6 @@ use Rattle.hart_device.specs.declared.identity_parts.IdentityParts.{IdentityPart
 use Rattle.hart_device.specs.declared.process.Process.{Process}
 use Rattle.hart_device.proofs.lemmas.answer.Garbled.{garbled_decided, garbled_one}
 
--- what some frames bring is one thing
-BringsBy-one : (identity : IdentityParts) (chars : List Character) (frames : List Found) (a b : Brought)
-    → BringsBy identity chars frames a → BringsBy identity chars frames b → a ≡ b
-BringsBy-one identity chars frames a b p q = grind (arith, garbled_one)
-
 -- any list of the frames of a delivery says what it brings
 pub by_frames : (identity : IdentityParts) (chars : List Character) (frames : List Found) (brought : Brought)
     → AreFrames chars 0 frames → Brings identity chars brought → BringsBy identity chars frames brought
@@ -29,7 +24,7 @@ by_frames identity chars frames brought are brings = grind (arith, common_steps,
 
 pub deliveries_bring_one-one : (identity : IdentityParts) (chars : List Character) (a b : Brought)
     → Brings identity chars a → Brings identity chars b → a ≡ b
-deliveries_bring_one-one identity chars a b p q = grind (arith, common_steps, frames_are_unambiguous-one_list, BringsBy-one)
+deliveries_bring_one-one identity chars a b p q = grind (arith, common_steps, frames_are_unambiguous-one_list, garbled_one)
 
 -- so that every delivery brings something
 BringsBy-found : (identity : IdentityParts) (chars : List Character) (frames : List Found)

@@ -1,6 +1,6 @@
 -- That a list of characters has one garbled request, or none, and that its address is the device's own.
 use Rattle.std.proofs.Common.{nat_lt, if◌then◌else◌, not, ◌≡◌, ℕ, ◌<◌, ◌%◌, ◌⊎◌, ◌↔◌, inl, inr, List, [], ◌∷◌, ◌++◌, All, drop, None, Some}
-use Rattle.std.proofs.Common.{Bool, IsTrue, refl, arith}
+use Rattle.std.proofs.Common.{Bool, IsTrue, refl, arith, Option, MatchOption, sym}
 use Rattle.std.proofs.lemmas.Bool.Decides.{nat_tests}
 use Rattle.std.proofs.lemmas.Slice.Eq.{bytes_eq-Decides}
 use Rattle.hart_values.specs.address.AddressBytes.{IsAddressBytes, IsUniqueBytes, first_byte}
@@ -27,18 +27,29 @@ pub garbled_one : (identity : IdentityParts) (chars : List Character) (request o
 garbled_one identity chars request other p q =
     let same = has_at identity chars request q.start q.first_start p in cc
 
+-- a list has the garbled request with which it begins at its first start, or none
+abbrev pub Has : IdentityParts → List Character → Option GarbledRequest → Type 0
+Has identity chars result =
+    MatchOption result ((request : GarbledRequest) → HasGarbled identity chars request → ⊥) (HasGarbled identity chars)
+
+pub at_start : (identity : IdentityParts) (chars : List Character) (start : ℕ) (result : Option GarbledRequest) → IsFirstStart start chars
+    → result ≡ garbled_request identity (drop start chars) → Has identity chars result
+at_start identity chars start None first is = λ request has. let same = has_at identity chars request start first has in cc
+at_start identity chars start (Some request) first is = record { start = start; first_start = first; begins = sym is }
+
 pub garbled_decided : (identity : IdentityParts) (chars : List Character)
     → ((request : GarbledRequest) × HasGarbled identity chars request)
     ⊎ ((request : GarbledRequest) → HasGarbled identity chars request → ⊥)
 garbled_decided identity chars = elim (first_starts_are_decided-decided chars) [
   | inr none ↦ inr (λ request has. none has.start has.first_start.start)
-  | inl first ↦ elim (garbled_request identity (drop first.0 chars)) as (λ result. garbled_request identity (drop first.0 chars) ≡ result
-      → ((request : GarbledRequest) × HasGarbled identity chars request)
-      ⊎ ((request : GarbledRequest) → HasGarbled identity chars request → ⊥)) [
-        | None ↦ λ is. inr (λ request has. let same = has_at identity chars request first.0 first.1 has in cc)
-        | Some request ↦ λ is. inl (request, record { start = first.0; first_start = first.1; begins = is })
-      ] refl
+  | inl first ↦ go (garbled_request identity (drop first.0 chars)) (at_start identity chars first.0 _ first.1 refl)
 ]
+  where
+    go : (result : Option GarbledRequest) → Has identity chars result
+        → ((request : GarbledRequest) × HasGarbled identity chars request)
+        ⊎ ((request : GarbledRequest) → HasGarbled identity chars request → ⊥)
+    go None none = inr none
+    go (Some request) has = inl (request, has)
 
 -- the bytes of numbers, below the two bits on top of the first, are those of a unique address
 first_of : (first : ℕ) → first < 256 → (master : MasterId) × (burst : Bool) × (first ≡ first_byte master burst (first % 64))

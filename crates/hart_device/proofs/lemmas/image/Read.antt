@@ -1,12 +1,12 @@
 -- What an image of version 1 says, whose registers are read of an array of them all.
-use Rattle.std.proofs.Common.{◌≡◌, ◌≢◌, ◌≤◌, ℕ, List, ◌++◌, length, refl, sym, arith, rules, Option, IfSome, IfNone, IfOk, IfErr}
+use Rattle.std.proofs.Common.{◌≡◌, ◌≢◌, ℕ, List, ◌++◌, length, refl, sym, arith, Option, IfSome, IfNone, IfOk, IfErr}
 use Rattle.std.proofs.lemmas.Grind.{common_steps}
 use Rattle.std.specs.List.{flat_map}
 use Rattle.std.specs.Option.{ok_or}
 use Rattle.hart_commands.specs.declared.register.Register.{Register}
 use Rattle.hart_commands.specs.declared.register.Register.TheVariants.{Polling, Mode, Message, Tag, Descriptor, Date, Assembly, LongTag}
 use Rattle.hart_device.specs.image.Image.{registers_of_version_1}
-use Rattle.hart_device.specs.registers.Ranges.{end_of, standing_for}
+use Rattle.hart_device.specs.registers.Ranges.{standing_for}
 use Rattle.hart_device.proofs.lemmas.image.Image.{before_others}
 use Rattle.hart_device.proofs.lemmas.registers.Range.{filled}
 
@@ -18,14 +18,10 @@ pub kept_or : {A E : Type 0} (P Q R S : A → Type 0) (read : Option A) (fault :
     → ((x : A) → P x → Q x → R x → S x) → IfOk (ok_or read fault) S
 kept_or P Q R S read fault p q r gives = grind (arith, gives)
 
--- Every register but the long tag ends before the long tag.
-before_long_tag : (register : Register) → register ≢ LongTag → end_of register ≤ 50
-before_long_tag register differ = search rules
-
--- So it stands in the 50 bytes that the registers of version 1 have, whatever follows.
+-- Every register but the long tag stands in the 50 bytes that the registers of version 1 have, whatever follows.
 pub stands_before : (prefix others : List ℕ) → length prefix ≡ 50 → (register : Register) → register ≢ LongTag
     → standing_for register (prefix ++ others) ≡ standing_for register prefix
-stands_before prefix others len register differ = grind (arith, common_steps, before_long_tag, before_others)
+stands_before prefix others len register differ = grind (arith, common_steps, before_others)
 
 -- An array that holds the same for all of them holds those bytes.
 pub holds_prefix : (array prefix : List ℕ) → length prefix ≡ 50

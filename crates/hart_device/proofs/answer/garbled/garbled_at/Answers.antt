@@ -1,4 +1,4 @@
-use Rattle.std.proofs.Common.{nat_lt, true, false, ◌≡◌, ◌+◌, ◌-◌, ◌<◌, List, ◌∷◌, length, take, drop, get_or, length-drop, Option, Some}
+use Rattle.std.proofs.Common.{nat_lt, true, ◌≡◌, ◌+◌, ◌-◌, ◌<◌, List, ◌∷◌, length, take, drop, get_or, length-drop, Option, Some}
 use Rattle.std.proofs.Common.{arith, ap, ◌∙◌}
 use Rattle.std.proofs.Math.Seq.{drop-cons}
 use Rattle.std.proofs.lemmas.Bool.Decides.{nat_tests}
@@ -24,8 +24,7 @@ returns c =
     let chars = c.args.chars.now in
     let count : Character = c.in_ok-get-3.field-0.now in
     let garbled = c.in_ok-garbled.ensures.lookup.0 in
-    let many : c.unique_request_len.result - 0 ≡ 9 + count.byte =
-    omega (arith, c.unique_request_len.ensures.len, c.byte-byte_count.ensures) in
+    let many : c.unique_request_len.result - 0 ≡ 9 + count.byte = omega (arith, c.byte-byte_count.ensures) in
     let is = asked c.args.identity.now chars _ _ _ _ _ c.in_ok-get.ensures.lookup.0.2 c.asking_master.ensures c.in_ok-master.was
     c.in_ok-get-3.ensures.lookup.3.0 c.in_ok-get-2.ensures.lookup.1 c.in_ok-get-3.ensures.lookup.1 in
     let enough : nat_lt count.byte (length (drop 8 chars)) ≡ true = grind (arith, nat_tests, length-drop, garbled.1, many) in
@@ -34,10 +33,6 @@ returns c =
 
 pub returns-in_err-garbled : goal.returns-in_err-garbled
 returns-in_err-garbled c =
-    let chars = c.args.chars.now in
-    let count : Character = c.in_ok-get-3.field-0.now in
-    let is = asked c.args.identity.now chars _ _ _ _ _ c.in_ok-get.ensures.lookup.0.2 c.asking_master.ensures c.in_ok-master.was
+    let is = asked c.args.identity.now c.args.chars.now _ _ _ _ _ c.in_ok-get.ensures.lookup.0.2 c.asking_master.ensures c.in_ok-master.was
     c.in_ok-get-3.ensures.lookup.3.0 c.in_ok-get-2.ensures.lookup.1 c.in_ok-get-3.ensures.lookup.1 in
-    let short : nat_lt count.byte (length (drop 8 chars)) ≡ false =
-    grind (arith, nat_tests, length-drop, c.in_err-garbled.ensures.lookup, c.unique_request_len.ensures.len, c.byte-byte_count.ensures) in
-    let none = rw short at is in cc
+    grind (arith, nat_tests, length-drop, is, c.in_err-garbled.ensures.lookup, c.unique_request_len.ensures.len, c.byte-byte_count.ensures)
