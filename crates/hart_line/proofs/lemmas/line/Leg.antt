@@ -1,7 +1,8 @@
 -- What arrives in a leg, what it brings the device, and what is spoken.
 use Rattle.std.proofs.Common.{◌≡◌, ℕ, ◌≤◌, ap, refl, arith, length-append, Option, None, Some, List, [], ◌∷◌, ◌++◌, length, replicate}
+use Rattle.std.proofs.Common.{append-nil}
 use Rattle.std.proofs.lemmas.Grind.{common_steps}
-use Rattle.std.specs.Option.{MatchOption}
+use Rattle.std.specs.Option.{MatchOption, option_to_list}
 use Rattle.hart_values.specs.declared.master_id.MasterId.{MasterId}
 use Rattle.hart_frame.specs.heard.Character.{Character, faultless}
 use Rattle.hart_frame.specs.wire.FrameParts.{FrameParts}
@@ -20,7 +21,7 @@ use Rattle.hart_line.specs.declared.line.report.Spoken.{Spoken}
 use Rattle.hart_line.specs.line.Leg.{AnswersTo, IsSent, IsSpeakable}
 use Rattle.hart_line.specs.line.Masters.{Sends}
 use Rattle.hart_line.specs.world.Damage.{AreHeard, Arrives, ArrivesAmong, Reaches, ReachesAmong}
-use Rattle.hart_line.specs.world.Spoken.{SpokenFrame, Speaks, frame_of, master_preambles, party_of, spoken_by}
+use Rattle.hart_line.specs.world.Spoken.{SpokenFrame, Speaks, frame_of, master_preambles, party_of, spoken_by, AreSpoken}
 use Rattle.hart_line.specs.world.Step.{sent_by}
 use Rattle.hart_line.specs.world.World.{InHand}
 
@@ -97,3 +98,14 @@ pub says_request : (Silent : Type 0) (Sent : InHand → Type 0) (who : MasterId)
     (old new : List Spoken) → Sends who hand frame Silent Sent → Speaks (spoken_by (party_of who) master_preambles frame) old new
     → Speaks (sent_by who hand) old new × IsSent frame (sent_by who hand)
 says_request Silent Sent who hand frame old new sends speaks = grind (arith, common_steps, speaks_sent)
+
+-- Frames that are spoken after others are put down after those.
+pub AreSpoken-append : (frames more : List SpokenFrame) (list others : List Spoken) → AreSpoken frames list → AreSpoken more others
+    → AreSpoken (frames ++ more) (list ++ others)
+AreSpoken-append [] more [] others are next = next
+AreSpoken-append (said ∷ frames) more (spoken ∷ list) others are next = (are.0, AreSpoken-append frames more list others are.1 next)
+AreSpoken-append frames more list others are next = absurd are
+
+pub AreSpoken-more : (frames : List SpokenFrame) (said : Option SpokenFrame) (old new : List Spoken)
+    → AreSpoken frames old → Speaks said old new → AreSpoken (frames ++ option_to_list said) new
+AreSpoken-more frames said old new are speaks = grind (arith, append-nil, AreSpoken-append)

@@ -17,8 +17,7 @@ use Rattle.hart_line.specs.world.Promises.{start_from, AreWellMade}
 use Rattle.hart_line.specs.world.Step.{IsLast}
 use Rattle.hart_line.specs.world.World.{MarksWithin, Start, World, first_world, state_of}
 use Rattle.hart_line.proofs.lemmas.world.Leads.{leads_one}
-use Rattle.hart_line.proofs.lemmas.world.Marks.{step_marks}
-use Rattle.hart_line.proofs.lemmas.world.Steps.{leads_more}
+use Rattle.hart_line.proofs.lemmas.world.Steps.{leads_more, step_marks}
 use Rattle.hart_line.proofs.lemmas.world.Submitted.{made_more}
 
 -- The line stands for a world that the events, which are well made, lead to.

@@ -9,7 +9,7 @@ use Rattle.hart_line.specs.world.Faults.{HasUndetected}
 use Rattle.hart_line.specs.world.Spoken.{AreSpoken, SpokenFrame}
 use Rattle.hart_line.specs.world.Step.{Step}
 use Rattle.hart_line.specs.world.World.{Start, World}
-use Rattle.hart_line.proofs.lemmas.world.Arrival.{AreSpoken-append}
+use Rattle.hart_line.proofs.lemmas.line.Leg.{AreSpoken-append}
 
 -- A WORLD WITHOUT WHAT WAS SPOKEN
 -- A world as it is, but for what was spoken in it.

@@ -1,5 +1,6 @@
--- Each accepted reply was accepted in the turn of the last sending.
+-- Each accepted reply was accepted in the turn of the last sending, and is the one that the device made.
 use Rattle.std.proofs.Common.{◌≡◌, ℕ, ◌+◌, ap, ◌∙◌, sym, arith, slice_index, Option, None, Some, List, [], ◌∷◌, slice_set, ◌⊎◌, inl, inr}
+use Rattle.std.proofs.Common.{refl, subst}
 use Rattle.std.proofs.lemmas.Grind.{common_steps}
 use Rattle.std.specs.List.{slice_get}
 use Rattle.hart_values.specs.declared.address.Address.{Address}
@@ -7,12 +8,14 @@ use Rattle.hart_values.specs.declared.master_id.MasterId.{MasterId}
 use Rattle.hart_frame.specs.wire.FrameParts.{FrameParts}
 use Rattle.hart_commands.specs.declared.reply.Reply.{Reply}
 use Rattle.hart_commands.specs.declared.request.Request.{Request}
-use Rattle.hart_device.specs.Device.{DeviceState}
-use Rattle.hart_device.specs.answer.Answer.{answer_of}
+use Rattle.hart_commands.specs.Registers.{AreValid, Contents, Overwrite, registers_of}
+use Rattle.hart_commands.specs.RequestData.{IsRequest}
+use Rattle.hart_master.specs.declared.fault.MasterFault.{MasterFault}
+use Rattle.hart_device.specs.Device.{DeviceState, Effect, Executes}
+use Rattle.hart_device.specs.answer.Answer.{answer_of, reply_of}
 use Rattle.hart_device.specs.answer.Delivery.{Brought, Garbled, OneFrame, answer_to}
 use Rattle.hart_device.specs.declared.process.Process.{Process}
 use Rattle.hart_master.specs.Acceptance.{IsReplyTo}
-use Rattle.hart_master.specs.declared.fault.MasterFault.{MasterFault}
 use Rattle.hart_master.proofs.lemmas.Laws.{communication_faults_are_no_reply-frame}
 use Rattle.hart_line.specs.declared.event.Heard.{Heard}
 use Rattle.hart_line.specs.declared.event.LineEvent.{LineEvent}
@@ -20,16 +23,54 @@ use Rattle.hart_line.specs.declared.event.LineEvent.TheVariants.{Submit, Turn}
 use Rattle.hart_line.specs.declared.line.report.Outcome.TheVariants.{Answered}
 use Rattle.hart_line.specs.declared.line.report.Party.{Party}
 use Rattle.hart_line.specs.world.Damage.{Arrives}
-use Rattle.hart_line.specs.world.Promises.{AnswersLastSending, AnswersLastSendingFrom, IsStepOf, submissions_of}
+use Rattle.hart_line.specs.world.Promises.{AnswersLastSending, AnswersLastSendingFrom, IsWellMadeStart, IsStepOf, submissions_of}
+use Rattle.hart_line.specs.world.Promises.{brought_in_step}
 use Rattle.hart_line.specs.world.Spoken.{spoken_by}
-use Rattle.hart_line.specs.world.Step.{submitted, Accepts, IsLast, spoken_request, outcome_of}
-use Rattle.hart_line.specs.world.World.{InHand, Start, World, first_world, state_of}
-use Rattle.hart_line.proofs.lemmas.world.Arrival.{frame_in}
+use Rattle.hart_line.specs.world.Step.{submitted, Accepts, IsLast, spoken_request, outcome_of, LeadsTo, effect_on, executions_after}
+use Rattle.hart_line.specs.world.World.{InHand, Start, World, first_world, state_of, Execution, overwrites_of}
 use Rattle.hart_line.proofs.lemmas.world.Basics.{slice_get-cases, some_one}
-use Rattle.hart_line.proofs.lemmas.world.Steps.{to_last, turn_cases}
+use Rattle.hart_line.proofs.lemmas.world.Steps.{along, turn_cases, entered, frame_in}
 use Rattle.hart_line.proofs.lemmas.world.Submitted.{held_in}
-use Rattle.hart_line.proofs.lemmas.world.Valid.{device_replied}
+use Rattle.hart_line.proofs.lemmas.world.State.{contents-more}
+use Rattle.hart_commands.proofs.lemmas.Laws.{overwrites_are_valid}
+use Rattle.hart_device.proofs.lemmas.Laws.{answers_are_replies-read, registers_of_lists-none, writes_execute_their_overwrite-well_made}
 
+-- IN EVERY WORLD THE REGISTERS HOLD VALID BYTES
+-- An effect leaves valid bytes valid, as what is executed is a well-made request.
+effect_made : (state : DeviceState) (brought : Brought) (overwrite : Overwrite) → effect_on state brought ≡ Executes overwrite
+    → IsRequest overwrite
+effect_made state brought overwrite is = grind (arith, writes_execute_their_overwrite-well_made)
+
+effect_valid : (initial : Contents) (effect : Effect) (number : ℕ) (executions : List Execution)
+    → ((overwrite : Overwrite) → effect ≡ Executes overwrite → IsRequest overwrite)
+    → AreValid (registers_of (overwrites_of executions) initial)
+    → AreValid (registers_of (overwrites_of (executions_after effect number executions)) initial)
+effect_valid initial (Executes overwrite) number executions made valid =
+    subst AreValid (contents-more executions (record { submission = number; overwrite = overwrite }) initial)
+    (overwrites_are_valid overwrite (registers_of (overwrites_of executions) initial) (made overwrite refl) valid)
+effect_valid initial effect number executions made valid = valid
+
+-- So the bytes are valid in every world that events lead to.
+led_valid : (start : Start) → AreValid start.device.contents → (events : List LineEvent) (world : World)
+    → LeadsTo start (first_world start) events world → AreValid (state_of start.device world).contents
+led_valid start valid events = along start (first_world start) events (λ es world. AreValid (state_of start.device world).contents)
+    (λ before next event here holds. let (number, executions, marks) = entered start before event next here.step in
+    let brought = brought_in_step start before event next here.step in
+    rw executions (effect_valid start.device.contents (effect_on (state_of start.device before) brought) number before.executions
+    (effect_made (state_of start.device before) brought) holds)) (rw registers_of_lists-none valid)
+
+-- The reply that is accepted of the device's answer is the one that the device made.
+device_replied : (start : Start) (events : List LineEvent) (number : ℕ) (reply : Reply) (sendings : ℕ)
+    → (a : AnswersLastSendingFrom start (first_world start) events number reply sendings) → IsWellMadeStart start
+    → reply ≡ reply_of (state_of start.device a.before) start.process (spoken_request a.who a.held).frame
+device_replied start events number reply sendings a made =
+    let frame = (spoken_request a.who a.held).frame in
+    let state = state_of start.device a.before in
+    let read = answers_are_replies-read state start.process frame a.answer
+    (led_valid start made.device.contents a.turn.prefix a.before a.turn.led) made.process (grind arith) a.answered in
+    grind (arith, common_steps, some_one)
+
+-- THE TURN OF THE LAST SENDING
 -- What is found after a store.
 slice_set-cases : {A : Type 0} (xs : List A) (k : ℕ) (y : A) (n : ℕ) (x : A) → slice_get (slice_set xs k y) n ≡ Some x
     → (slice_get xs n ≡ Some x) ⊎ ((n ≡ k) × (y ≡ x))
@@ -62,22 +103,16 @@ not_answered : (world : World) (who : MasterId) (address : Address) (request : R
     → slice_get world.outcomes number ≡ Some (Answered reply sendings)
 not_answered world who address request fault number reply sendings is = grind (arith, slice_get-cases)
 
--- The request that was answered is the one that was submitted.
-as_submitted : (start : Start) (events : List LineEvent) (number : ℕ) (reply : Reply) (sendings : ℕ)
-    → AnswersLastSendingFrom start (first_world start) events number reply sendings
-    → AnswersLastSending start events number reply sendings
-as_submitted start events number reply sendings a = record {
-  last_turn = a;
-  submitted_as = ap (slice_get (submissions_of events)) (sym a.of_submission)
-      ∙ (held_in start events a.turn a.who a.held a.in_hand).submitted_as;
-  reply_is = device_replied start events number reply sendings a;
-}
-
 pub answered_last : (start : Start) (events : List LineEvent) (last : World) → IsLast start events last
     → (number : ℕ) (reply : Reply) (sendings : ℕ) → slice_get last.outcomes number ≡ Some (Answered reply sendings)
     → AnswersLastSending start events number reply sendings
-answered_last start events last run number reply sendings is = as_submitted start events number reply sendings
-    (to_last start (first_world start) events Known step_known (λ none. cc) last run is)
+answered_last start events last run number reply sendings is =
+    let a = along start (first_world start) events (λ es. Known) step_known (λ none. cc) last run is in record {
+      last_turn = a;
+      submitted_as = ap (slice_get (submissions_of events)) (sym a.of_submission)
+          ∙ (held_in start events a.turn a.who a.held a.in_hand).submitted_as;
+      reply_is = device_replied start events number reply sendings a;
+    }
   where
     Known : World → Type 0
     Known world = slice_get world.outcomes number ≡ Some (Answered reply sendings)
@@ -85,8 +120,6 @@ answered_last start events last run number reply sendings is = as_submitted star
 
     step_known : (before next : World) (event : LineEvent) (here : IsStepOf start (first_world start) events before event next)
         → Known before → Known next
-    step_known before next (Submit who address request) here known is =
-        known (not_answered before who address request _ number reply sendings (rw here.step at is))
     step_known before next (Turn who up down) here known is = elim (turn_cases start before who up down next here.step) [
       | inl s ↦ elim (slice_set-cases before.outcomes s.held.submission _ number _ (rw s.next_is at is)) [
         | inl old ↦ known old
@@ -118,4 +151,6 @@ answered_last start events last run number reply sendings is = as_submitted star
       ]
       | inr silent ↦ known (rw silent.1 at is)
     ]
+    step_known before next (Submit who address request) here known is =
+        known (not_answered before who address request _ number reply sendings (rw here.step at is))
     step_known before next event here known is = grind (arith, common_steps)

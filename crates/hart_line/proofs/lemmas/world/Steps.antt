@@ -1,23 +1,47 @@
--- The steps of a script: what holds at its beginning and is kept by every step of it holds of every world of it.
-use Rattle.std.proofs.Common.{arith, ◌≡◌, Bool, ◌∙◌, refl, subst, sym, append-nil, append_assoc, Option, None, Some, List, [], ◌∷◌, ◌++◌}
-use Rattle.std.proofs.Common.{◌⊎◌, inl, inr, ℕ, length}
+-- What is brought to the device, and the steps of a script: what holds at first and is kept by every step holds of every world of it.
+use Rattle.std.proofs.Common.{arith, ◌≡◌, Bool, ap, refl, subst, Option, None, Some, List, [], ◌∷◌, ◌++◌, ◌⊎◌, inl, inr, ℕ, length, ◌≤◌}
+use Rattle.std.proofs.lemmas.Grind.{common_steps}
+use Rattle.std.proofs.lemmas.List.{length-append}
 use Rattle.hart_values.specs.EachMaster.{of_master}
 use Rattle.hart_values.specs.declared.each_master.EachMaster.{EachMaster}
 use Rattle.hart_values.specs.declared.master_id.MasterId.{MasterId}
 use Rattle.hart_values.specs.declared.master_id.MasterId.TheVariants.{Primary}
 use Rattle.hart_commands.specs.declared.reply.Reply.{Reply}
-use Rattle.hart_device.specs.answer.Delivery.{Brought, NoMessage, OneFrame}
+use Rattle.hart_device.specs.answer.Delivery.{Brought, OneFrame, Garbled, NoMessage}
+use Rattle.hart_device.specs.Device.{Effect, DeviceState, Nothing}
+use Rattle.hart_device.specs.declared.identity_parts.IdentityParts.{IdentityParts}
 use Rattle.hart_master.specs.declared.fault.MasterFault.{MasterFault}
 use Rattle.hart_line.specs.declared.event.Heard.{Heard}
 use Rattle.hart_line.specs.declared.event.LineEvent.{LineEvent}
 use Rattle.hart_line.specs.declared.event.LineEvent.TheVariants.{Submit, Turn, Protect, Noise, Restart}
-use Rattle.hart_line.specs.world.Promises.{IsStepOf, Submission, submissions_of}
+use Rattle.hart_line.specs.world.Promises.{IsStepOf, Submission, brought_in_step, submissions_of}
 use Rattle.hart_line.specs.world.Spoken.{SpokenFrame}
 use Rattle.hart_line.specs.world.Step.{IsTurn, LeadsTo, Step, replied, spoken_request, submitted, turned, effect_on, executions_after}
 use Rattle.hart_line.specs.world.Step.{marks_after}
-use Rattle.hart_line.specs.world.World.{state_of, InHand, Start, World}
-use Rattle.hart_line.proofs.lemmas.world.Arrival.{frame_in, none_reaches, reaches_sent}
-use Rattle.hart_line.proofs.lemmas.world.Basics.{none_or_some}
+use Rattle.hart_line.specs.world.World.{state_of, InHand, Start, World, Execution, MarksWithin}
+use Rattle.hart_line.specs.world.Damage.{Reaches}
+use Rattle.hart_line.proofs.lemmas.world.Basics.{none_or_some, with_master-cases}
+use Rattle.hart_frame.specs.wire.FrameParts.{FrameParts}
+
+-- WHAT IS BROUGHT
+-- A frame that is brought to the device is the one that was sent.
+abbrev pub frame_in : Brought → Option FrameParts
+frame_in (OneFrame frame) = Some frame
+frame_in (Garbled request) = None
+frame_in NoMessage = None
+
+pub reaches_sent : (identity : IdentityParts) (heard : Heard) (said : SpokenFrame) (brought : Brought)
+    → Reaches identity heard (Some said) brought → (frame_in brought ≡ None) ⊎ (brought ≡ OneFrame said.frame)
+reaches_sent identity heard said brought r = grind arith
+
+-- So none is if nothing was sent.
+pub none_reaches : (identity : IdentityParts) (heard : Heard) (brought : Brought) → Reaches identity heard None brought
+    → frame_in brought ≡ None
+none_reaches identity heard brought r = grind arith
+
+-- What is no frame has no effect.
+pub no_effect : (state : DeviceState) (brought : Brought) → frame_in brought ≡ None → effect_on state brought ≡ Nothing
+no_effect state brought none = grind arith
 
 -- ONE STEP
 -- A turn with a request in hand, which brings the device the frame of this request or none.
@@ -64,38 +88,50 @@ step_cases start world (Protect on) next step = Stays _ _ _ refl step
 step_cases start world (Noise chars) next step = Stays _ _ _ refl step.next_is
 step_cases start world Restart next step = Stays _ _ _ refl step
 
--- So it enters into the executions and the marks the effect of what some master's turn brought the device, which is nothing but in a turn.
-pub entered : (start : Start) (world : World) (event : LineEvent) (next : World) → Step start world event next
-    → (who : MasterId) × (number : ℕ) × (brought : Brought)
-    × (next.executions ≡ executions_after (effect_on (state_of start.device world) brought) number world.executions)
-    × (next.marks ≡ marks_after (effect_on (state_of start.device world) brought) who (length world.executions) world.marks)
-entered start world event next step = elim (step_cases start world event next step) [
-  | Submits said fault are is ↦ (Primary, 0, NoMessage, grind arith, grind arith)
-  | Sends who brought accepted are s ↦ (who, s.held.submission, brought, rw s.next_is refl, rw s.next_is refl)
-  | Stays protected cold_start spoken are is ↦ (Primary, 0, NoMessage, rw is refl, rw is refl)
+-- The master whose turn an event is, if it is one.
+abbrev pub master_in : LineEvent → MasterId
+master_in (Turn who up down) = who
+master_in event = Primary
+
+-- So it enters into the executions and the marks the effect of what it brought the device, if that is some master's turn.
+pub entered : (start : Start) (world : World) (event : LineEvent) (next : World) (step : Step start world event next) → (number : ℕ)
+    × (next.executions
+    ≡ executions_after (effect_on (state_of start.device world) (brought_in_step start world event next step)) number world.executions)
+    × (next.marks ≡ marks_after (effect_on (state_of start.device world) (brought_in_step start world event next step)) (master_in event)
+    (length world.executions) world.marks)
+entered start world (Turn who up down) next step = elim (turn_cases start world who up down next step) [
+  | inl s ↦ (s.held.submission, ap (λ (w : World). w.executions) s.next_is, ap (λ (w : World). w.marks) s.next_is)
+  | inr silent ↦ (let quiet = no_effect (state_of start.device world) step.brought silent.0 in (0, grind arith, grind arith))
 ]
+entered start world event next step = (0, grind arith, grind arith)
+
+-- No mark is greater than the number of executions.
+effect_marks : (effect : Effect) (who : MasterId) (number : ℕ) (executions : List Execution) (marks : EachMaster (Option ℕ))
+    → ((id : MasterId) (mark : ℕ) → of_master id marks ≡ Some mark → mark ≤ length executions)
+    → (id : MasterId) (mark : ℕ) → of_master id (marks_after effect who (length executions) marks) ≡ Some mark
+    → mark ≤ length (executions_after effect number executions)
+effect_marks effect who number executions marks within id mark is = grind (arith, length-append, with_master-cases)
+
+pub step_marks : (start : Start) (world : World) (event : LineEvent) (next : World) → Step start world event next → MarksWithin world
+    → MarksWithin next
+step_marks start world event next step within =
+    let e = entered start world event next step in grind (arith, common_steps, effect_marks)
 
 -- EVERY STEP
--- What holds before all events and is kept by each step holds after them.
-pub along : (start : Start) (from : World) (events : List LineEvent) (world : World) (P : List LineEvent → World → Type 0)
-    → ((prefix : List LineEvent) (before : World) (event : LineEvent) (next : World) → LeadsTo start from prefix before
-    → Step start before event next → P prefix before → P (prefix ++ event ∷ []) next)
-    → P [] from → LeadsTo start from events world → P events world
-along start from [] world P keeps holds led = rw led holds
-along start from (event ∷ events) world P keeps holds led = along start led.0 events world (λ es w. P (event ∷ es) w)
-    (λ prefix before other next run. keeps (event ∷ prefix) before other next (led.0, led.1, run))
-    (keeps [] from event led.0 refl led.1 holds) led.2
-
--- So does what each step of a whole script keeps.
-pub to_last : (start : Start) (from : World) (events : List LineEvent) (P : World → Type 0)
-    → ((before next : World) (event : LineEvent) → IsStepOf start from events before event next → P before → P next)
-    → P from → (last : World) → LeadsTo start from events last → P last
-to_last start from events P keeps holds last led =
-    along start from events last (λ es world. (later : List LineEvent) → events ≡ es ++ later → P world)
-    (λ prefix before event next run step known later split.
-    let is : events ≡ prefix ++ event ∷ later = split ∙ append_assoc prefix (event ∷ []) later in
-    keeps before next event (record { prefix = prefix; suffix = later; split = is; led = run; step = step }) (known (event ∷ later) is))
-    (λ later split. holds) led [] (sym (append-nil events))
+-- What holds before all events and is kept by each step of a script holds after them.
+pub along : (start : Start) (from : World) (events : List LineEvent) (P : List LineEvent → World → Type 0)
+    → ((before next : World) (event : LineEvent) (here : IsStepOf start from events before event next) → P here.prefix before
+    → P (here.prefix ++ event ∷ []) next)
+    → P [] from → (last : World) → LeadsTo start from events last → P events last
+along start from [] P keeps holds last led = rw led holds
+along start from (event ∷ events) P keeps holds last led = along start led.0 events (λ es. P (event ∷ es)) (λ before next other here.
+    keeps before next other (record {
+      prefix = event ∷ here.prefix;
+      suffix = here.suffix;
+      split = ap (λ es. event ∷ es) here.split;
+      led = (led.0, led.1, here.led);
+      step = here.step;
+    })) (keeps from led.0 event (record { prefix = []; suffix = events; split = refl; led = refl; step = led.1 }) holds) last led.2
 
 -- One event more.
 pub leads_more : (start : Start) (events : List LineEvent) (event : LineEvent) (world mid next : World)

@@ -1,9 +1,13 @@
--- A request in hand is unfinished, and is the one that was submitted under its number, to its master and for its address.
-use Rattle.std.proofs.Common.{◌≡◌, ℕ, ◌+◌, ◌<◌, refl, Some, List, [], ◌∷◌, ◌++◌, get_or, length, slice_set, take, arith}
+-- A request in hand is unfinished, and is the one that was submitted under its number, to its master and for its address; and it was
+-- executed at most as often as it was sent.
+use Rattle.std.proofs.Common.{◌≡◌, ℕ, ◌+◌, ◌<◌, refl, Some, List, [], ◌∷◌, ◌++◌, get_or, length, slice_set, take, arith, ◌≤◌, ◌==◌}
+use Rattle.std.proofs.Common.{if◌then◌else◌}
 use Rattle.std.proofs.lemmas.Grind.{common_steps}
 use Rattle.std.proofs.lemmas.List.{append-nil, map-append, take_more}
-use Rattle.std.proofs.lemmas.List.Elements.{All-append, All-get_or}
+use Rattle.std.proofs.lemmas.List.Elements.{All-append}
 use Rattle.std.proofs.lemmas.Option.{get_or_from_slice_get, slice_get-map, slice_get_within}
+use Rattle.std.proofs.lemmas.Bool.Decides.{nat_tests}
+use Rattle.std.proofs.lemmas.List.Sums.{sum_by-append}
 use Rattle.std.specs.List.{slice_get}
 use Rattle.hart_values.specs.EachMaster.{of_master}
 use Rattle.hart_values.specs.declared.master_id.MasterId.{MasterId}
@@ -11,12 +15,14 @@ use Rattle.hart_commands.specs.RequestData.{IsRequest}
 use Rattle.hart_line.specs.declared.event.LineEvent.{LineEvent}
 use Rattle.hart_line.specs.declared.line.report.Outcome.{Outcome}
 use Rattle.hart_line.specs.declared.line.report.Outcome.TheVariants.{Unfinished}
-use Rattle.hart_line.specs.world.Promises.{AreWellMade, IsStepOf, Submission, requests_of, submission_in, submissions_of}
-use Rattle.hart_line.specs.world.Step.{LeadsTo}
-use Rattle.hart_line.specs.world.World.{InHand, Start, World, first_world}
+use Rattle.hart_line.specs.world.Promises.{AreWellMade, IsStepOf, Submission, requests_of, submission_in, submissions_of, sendings_in}
+use Rattle.hart_line.specs.world.Step.{LeadsTo, IsLast, effect_on, executions_after}
+use Rattle.hart_line.specs.world.World.{InHand, Start, World, first_world, Execution, state_of}
+use Rattle.hart_line.specs.world.Executions.{times_executed}
 use Rattle.hart_line.proofs.lemmas.world.Basics.{slice_get-append, slice_get-last, slice_get-set_other, slice_get-set_same, some_one}
 use Rattle.hart_line.proofs.lemmas.world.Basics.{with_master-cases}
 use Rattle.hart_line.proofs.lemmas.world.Steps.{StepCases, Submits, Sends, Stays, along, step_cases}
+use Rattle.hart_device.specs.Device.{Effect}
 
 -- EVENT BY EVENT
 pub record IsHeld (submissions : List Submission) (outcomes : List Outcome) (id : MasterId) (held : InHand) : Type 0 where
@@ -40,13 +46,6 @@ held_more submissions more start world next id held (Sends who brought accepted 
 held_more submissions more start world next id held (Stays protected cold_start spoken are is) a own =
     let old = a.hands id held in grind (arith, common_steps, append-nil)
 
-step_along : (submissions more : List Submission) (start : Start) (world next : World) → StepCases start world next more
-    → IsAlong submissions world → IsAlong (submissions ++ more) next
-step_along submissions more start world next cases a = record {
-  long = grind (arith, common_steps, append-nil);
-  hands = λ id held own. held_more submissions more start world next id held cases a own;
-}
-
 submissions_of-append : (prefix suffix : List LineEvent)
     → submissions_of (prefix ++ suffix) ≡ submissions_of prefix ++ submissions_of suffix
 submissions_of-append [] suffix = refl
@@ -56,19 +55,18 @@ submissions_of-append (event ∷ prefix) suffix = grind (arith, submissions_of-a
 pub held_before : (start : Start) (events : List LineEvent) (world : World) → LeadsTo start (first_world start) events world
     → (who : MasterId) (held : InHand) → of_master who world.hands ≡ Some held → IsHeld (submissions_of events) world.outcomes who held
 held_before start events world led =
-    (along start (first_world start) events world (λ es w. IsAlong (submissions_of es) w) (λ prefix before event next run step a.
-    rw submissions_of-append (step_along _ _ start before next (step_cases start before event next step) a))
-    (record { long = refl; hands = λ id held is. grind arith }) led).hands
+    (along start (first_world start) events (λ es. IsAlong (submissions_of es)) (λ before next event here a.
+    let cases = step_cases start before event next here.step in rw submissions_of-append (record {
+      long = grind (arith, common_steps, append-nil);
+      hands = λ id held own. held_more _ _ start before next id held cases a own;
+    })) (record { long = refl; hands = λ id held is. grind arith }) world led).hands
 
 pub held_in : (start : Start) (events : List LineEvent) {before next : World} {event : LineEvent}
     (here : IsStepOf start (first_world start) events before event next) (who : MasterId) (held : InHand)
     → of_master who before.hands ≡ Some held → IsHeld (submissions_of events) before.outcomes who held
-held_in start events {event = event} here who held in_hand =
+held_in start events here who held in_hand =
     let there = held_before start here.prefix _ here.led who held in_hand in
-    rw (here.split, submissions_of-append here.prefix (event ∷ here.suffix)) (record {
-      submitted_as = slice_get-append (submissions_of here.prefix) _ held.submission _ there.submitted_as;
-      unfinished = there.unfinished;
-    })
+    grind (arith, common_steps, submissions_of-append, slice_get-append)
 
 -- The request of a submission stands at its number among the requests.
 pub request_there : (events : List LineEvent) (number : ℕ) (submission : Submission)
@@ -80,16 +78,43 @@ pub made_of : (events : List LineEvent) (number : ℕ) (submission : Submission)
     → slice_get (submissions_of events) number ≡ Some submission → IsRequest submission.request
 made_of events number submission made there =
     let request = request_there events number submission there in
-    rw (get_or_from_slice_get (requests_of events) number submission.request submission.request request) at
-    (All-get_or IsRequest (requests_of events) number submission.request
-    (slice_get_within (requests_of events) number submission.request request) made)
-
-requests_of-append : (prefix suffix : List LineEvent) → requests_of (prefix ++ suffix) ≡ requests_of prefix ++ requests_of suffix
-requests_of-append prefix suffix = grind (arith, map-append, submissions_of-append)
+    rw (← get_or_from_slice_get (requests_of events) number submission.request submission.request request)
+    (made number submission.request (slice_get_within (requests_of events) number submission.request request))
 
 -- One event more.
 pub made_more : (events : List LineEvent) (n : ℕ) (unused : LineEvent) → n < length events → AreWellMade (take n events)
     → AreWellMade (get_or events n unused ∷ []) → AreWellMade (take (n + 1) events)
 made_more events n unused here made one =
-    rw (take_more events n unused here, requests_of-append (take n events) (get_or events n unused ∷ []))
+    rw (take_more events n unused here, submissions_of-append, map-append)
     (All-append IsRequest (requests_of (take n events)) (requests_of (get_or events n unused ∷ [])) made one)
+
+-- HOW OFTEN
+-- A submission is executed at most as often as it is sent.
+abbrev pub IsCounted : World → Type 0
+IsCounted world = (number : ℕ) → times_executed number world.executions ≤ sendings_in (slice_get world.outcomes number)
+
+times_executed-more : (effect : Effect) (own number : ℕ) (executions : List Execution)
+    → times_executed number (executions_after effect own executions) ≤ times_executed number executions + (if own == number then 1 else 0)
+times_executed-more effect own number executions = grind (arith, nat_tests, sum_by-append)
+
+-- One more outcome, which was never sent.
+sendings-append : (outcomes : List Outcome) (outcome : Outcome) (number : ℕ)
+    → sendings_in (slice_get outcomes number) ≤ sendings_in (slice_get (outcomes ++ outcome ∷ []) number)
+sendings-append outcomes outcome number = grind (arith, slice_get-append)
+
+counts_by : (hand : InHand) (outcomes : List Outcome) (outcome : Outcome) (number before after : ℕ)
+    → slice_get outcomes hand.submission ≡ Some (Unfinished hand.sendings) → sendings_in (Some outcome) ≡ hand.sendings + 1
+    → before ≤ sendings_in (slice_get outcomes number) → after ≤ before + (if hand.submission == number then 1 else 0)
+    → after ≤ sendings_in (slice_get (slice_set outcomes hand.submission outcome) number)
+counts_by hand outcomes outcome number before after there sent old more =
+    grind (arith, nat_tests, slice_get-set_same, slice_get-set_other)
+
+pub executed_at_most : (start : Start) (events : List LineEvent) (last : World) → IsLast start events last → IsCounted last
+executed_at_most start events = along start (first_world start) events (λ es. IsCounted) (λ before next event here c number.
+    elim (step_cases start before event next here.step) [
+      | Submits said fault are is ↦ grind (arith, common_steps, sendings-append)
+      | Sends who brought accepted are s ↦ rw s.next_is (counts_by s.held before.outcomes _ number
+          (times_executed number before.executions) _ (held_in start events here who s.held s.in_hand).unfinished (grind arith) (c number)
+          (times_executed-more (effect_on (state_of start.device before) brought) s.held.submission number before.executions))
+      | Stays protected cold_start spoken are is ↦ rw is (c number)
+    ]) (λ number. omega arith)

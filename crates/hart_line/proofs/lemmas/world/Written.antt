@@ -1,9 +1,8 @@
 -- Unrefused writes are executed in their turn, and nothing else is.
-use Rattle.std.proofs.Common.{◌≡◌, ℕ, ap, ◌∙◌, sym, refl, Some, IsTrue, List, inl, inr, arith}
+use Rattle.std.proofs.Common.{◌≡◌, ℕ, ◌∙◌, sym, refl, Some, IsTrue, List, inl, inr, arith}
 use Rattle.std.proofs.lemmas.Grind.{common_steps}
 use Rattle.std.specs.List.{slice_get}
 use Rattle.hart_values.specs.declared.master_id.MasterId.{MasterId}
-use Rattle.hart_commands.specs.Registers.{Overwrite, overwrite_of}
 use Rattle.hart_commands.specs.ReplyData.{reply_reading}
 use Rattle.hart_commands.specs.RequestCode.{is_write}
 use Rattle.hart_commands.specs.RequestData.{command_of}
@@ -23,7 +22,7 @@ use Rattle.hart_line.specs.world.Promises.{IsUnrefusedWrite, brought_in_step, re
 use Rattle.hart_line.specs.world.Step.{effect_on, executions_after, spoken_request, submitted}
 use Rattle.hart_line.specs.world.World.{Execution, Start, World, first_world, state_of}
 use Rattle.hart_line.proofs.lemmas.world.Basics.{some_one}
-use Rattle.hart_line.proofs.lemmas.world.Steps.{turn_cases}
+use Rattle.hart_line.proofs.lemmas.world.Steps.{entered, turn_cases}
 use Rattle.hart_line.proofs.lemmas.world.Submitted.{held_in, made_of, request_there}
 
 -- THE CODE OF A REPLY
@@ -39,16 +38,10 @@ pub turn_executed : (start : Start) (events : List LineEvent) → AreWellMade ev
 turn_executed start events made before next who up down here write =
     elim (turn_cases start before who up down next here.step) [
       | inl s ↦ (
-          let state = state_of start.device before in
-          let frame = (spoken_request who s.held).frame in
           let there = (held_in start events here who s.held s.in_hand).submitted_as in
-          let sent : here.step.brought ≡ OneFrame frame = grind arith in
-          let unrefused = rw sent at write in
-          let named : (named : Overwrite) × (overwrite_of s.held.request ≡ Some named) =
-          grind (arith, (writes_have_overwrites-exactly s.held.request).0 unrefused.0) in
-          let executes = writes_execute_their_overwrite-executes state frame s.held.request named.0 unrefused.1 unrefused.2
-          (written_data_are_their_request s.held.request (made_of events s.held.submission _ made there)) named.1 in
-          grind (arith, common_steps))
+          let sent : here.step.brought ≡ OneFrame (spoken_request who s.held).frame = grind arith in
+          let read = written_data_are_their_request s.held.request (made_of events s.held.submission _ made there) in
+          grind (arith, common_steps, writes_have_overwrites-exactly, writes_execute_their_overwrite-executes))
       | inr silent ↦ (let none = silent.0 in absurd (grind arith))
     ]
 
@@ -80,15 +73,12 @@ brought_stays : (state : DeviceState) (brought : Brought) (number : ℕ) (execut
 brought_stays state (OneFrame frame) number executions (Executes overwrite) is other =
     let asked = writes_execute_their_overwrite-only state frame overwrite is in
     grind (arith, common_steps, requests_have_their_command, writes_have_overwrites-exactly)
-brought_stays state brought number executions (Executes overwrite) is other = cc
-brought_stays state brought number executions effect is other = refl
+brought_stays state brought number executions effect is other = grind arith
 
 pub step_stays : (start : Start) (events : List LineEvent) (before next : World) (event : LineEvent)
     (here : IsStepOf start (first_world start) events before event next)
     → (IsUnrefusedWrite (state_of start.device before) (brought_in_step start before event next here.step) → ⊥)
     → next.executions ≡ before.executions
-step_stays start events before next (Turn who up down) here other = elim (turn_cases start before who up down next here.step) [
-  | inl s ↦ rw s.next_is (brought_stays (state_of start.device before) here.step.brought _ _ _ refl other)
-  | inr silent ↦ ap (λ (w : World). w.executions) silent.1
-]
-step_stays start events before next event here other = grind arith
+step_stays start events before next event here other =
+    let e = entered start before event next here.step in
+    e.1 ∙ brought_stays (state_of start.device before) _ e.0 before.executions _ refl other
