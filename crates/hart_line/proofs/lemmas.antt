@@ -2,5 +2,4 @@
 pub mod script
 pub mod line
 pub mod world
-pub mod Identity
 pub mod Laws

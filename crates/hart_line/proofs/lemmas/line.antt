@@ -2,7 +2,6 @@
 pub mod Leg
 pub mod Masters
 pub mod Turn
-pub mod Event
 pub mod Reached
 pub mod Room
 pub mod Told

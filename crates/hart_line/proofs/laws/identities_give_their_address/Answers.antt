@@ -1,5 +1,7 @@
-use Rattle.hart_line.proofs.lemmas.Identity.{identity_gives_address}
+use Rattle.std.proofs.Common.{arith}
+use Rattle.std.proofs.lemmas.Bool.Decides.{nat_tests}
+use Rattle.std.proofs.lemmas.Grind.{common_steps}
 use Rattle.hart_line.proofs.laws.identities_give_their_address.Goals as goal
 
 pub returns : goal.returns
-returns c = identity_gives_address
+returns c = grind (arith, common_steps, nat_tests)

@@ -1,6 +1,6 @@
 -- Texts that are items end to end.
 use Rattle.std.proofs.Common.{◌≡◌, ◌≢◌, ℕ, ◌+◌, ◌-◌, ◌<◌, ◌≤◌, Bool, true, false, List, [], ◌∷◌, ◌++◌, get_or, length, take, drop, None}
-use Rattle.std.proofs.Common.{Option, Some, refl, ap, ◌∙◌, arith}
+use Rattle.std.proofs.Common.{Option, Some, refl, arith}
 use Rattle.std.proofs.Math.Seq.{drop-append_seam}
 use Rattle.std.proofs.lemmas.Bool.Decides.{nat_tests}
 use Rattle.std.proofs.lemmas.Grind.{common_steps}
@@ -55,30 +55,20 @@ invalid : (text : List ℕ) (item : Item) (tail : List ℕ) (chars : Option (Lis
     → text ≡ item_spelling item ++ tail → EndsBefore tail item → item_before item chars ≡ None
 invalid text item tail chars none spelled ends = grind (arith, valid)
 
--- a text of a byte at least in which no item begins is not items end to end
-pub items_of-none : (byte : ℕ) (text : List ℕ) → NoItemBegins (byte ∷ text) → items_of (byte ∷ text) ≡ None
+-- a text that is not empty in which no item begins is not items end to end
+pub items_of-none : (text : List ℕ) → (length text ≡ 0 → ⊥) → NoItemBegins text → items_of text ≡ None
 unfolding items_of
-items_of-none byte [] none = refl
-items_of-none byte (low ∷ []) none = invalid _ (Plain byte low) [] (Some []) none refl tt
-items_of-none byte (low ∷ a ∷ []) none = grind arith
-items_of-none byte (low ∷ a ∷ b ∷ []) none =
+items_of-none (byte ∷ low ∷ []) some none = invalid _ (Plain byte low) [] (Some []) none refl tt
+items_of-none (byte ∷ low ∷ a ∷ b ∷ []) some none =
     let plain = invalid _ (Plain byte low) (a ∷ b ∷ []) (items_of (a ∷ b ∷ [])) none refl in grind (arith, nat_tests)
-items_of-none byte (low ∷ a ∷ b ∷ c ∷ more) none =
+items_of-none (byte ∷ low ∷ a ∷ b ∷ c ∷ more) some none =
     let plain = invalid _ (Plain byte low) (a ∷ b ∷ c ∷ more) (items_of (a ∷ b ∷ c ∷ more)) none refl in
     let faulty = invalid _ (Faulty byte low b c) more (items_of more) none in grind (arith, nat_tests)
+items_of-none text some none = grind arith
 
 -- a text reads as characters up to a rest of it: its items are theirs and those of the rest
 abbrev pub ReadsTo : List ℕ → List Character → List ℕ → Type 0
 ReadsTo text chars rest = items_of text ≡ option_map (λ more. chars ++ more) (items_of rest)
-
--- characters, one more and others are one list
-map_push : (chars : List Character) (char : Character) (o : Option (List Character))
-    → option_map (λ more. chars ++ more) (option_map (λ more. char ∷ more) o) ≡ option_map (λ more. (chars ++ char ∷ []) ++ more) o
-map_push chars char o = grind (arith, append_assoc)
-
--- an item is spelled by two bytes at least
-item_spelling-length : (item : Item) → 2 ≤ length (item_spelling item)
-item_spelling-length item = grind arith
 
 -- a text is read one item further
 pub item_read : (text : List ℕ) (chars new : List Character) (rest : List ℕ) (char : Character) (len : ℕ) → ReadsTo text chars rest
@@ -86,21 +76,8 @@ pub item_read : (text : List ℕ) (chars new : List Character) (rest : List ℕ)
     → (2 ≤ len) × (len + length (take (length rest - len) (drop len rest)) ≡ length rest)
     × ReadsTo text new (take (length rest - len) (drop len rest))
 item_read text chars new rest char len reads lead pushed =
-    let spelling = item_spelling lead.item in
-    let long = ap (λ (xs : List ℕ). length xs) lead.begins.spelled ∙ length-append spelling lead.tail in
-    let tail : take (length rest - len) (drop len rest) ≡ lead.tail = grind (arith, common_steps, take_rest, drop-append_seam) in (
-      omega (arith, item_spelling-length lead.item, lead.long),
-      rw tail (omega (arith, lead.long)),
-      rw (tail, pushed, ← lead.means)
-          (reads ∙ ap (λ o. option_map (λ more. chars ++ more) o) (items_of-item rest lead.item lead.tail lead.begins)
-          ∙ map_push chars (item_meaning lead.item) (items_of lead.tail)),
-    )
-
--- a text that goes on where no item begins is not items end to end
-pub no_items : (text : List ℕ) (chars : List Character) (rest : List ℕ) → (length rest ≡ 0 → ⊥) → ReadsTo text chars rest
-    → NoItemBegins rest → items_of text ≡ None
-no_items text chars [] some reads nowhere = absurd (some refl)
-no_items text chars (byte ∷ rest) some reads nowhere = rw (items_of-none byte rest nowhere) at reads
+    let items = items_of-item rest lead.item lead.tail lead.begins in
+    grind (arith, common_steps, take_rest, drop-append_seam, length-append, append_assoc, lead.begins.spelled)
 
 -- a text that is read to its end has the characters that were read
 pub all_items : (text : List ℕ) (chars : List Character) (rest : List ℕ) → length rest ≡ 0 → ReadsTo text chars rest

@@ -1,6 +1,7 @@
 -- Each accepted reply was accepted in the turn of the last sending, and is the one that the device made.
-use Rattle.std.proofs.Common.{◌≡◌, ℕ, ◌+◌, ap, ◌∙◌, sym, arith, slice_index, Option, None, Some, List, [], ◌∷◌, slice_set, ◌⊎◌, inl, inr}
+use Rattle.std.proofs.Common.{◌≡◌, ℕ, ◌+◌, ap, ◌∙◌, sym, arith, slice_index, Option, None, Some, List, slice_set, ◌⊎◌, inl, inr}
 use Rattle.std.proofs.Common.{refl, subst}
+use Rattle.std.proofs.lemmas.Bool.Decides.{nat_tests}
 use Rattle.std.proofs.lemmas.Grind.{common_steps}
 use Rattle.std.specs.List.{slice_get}
 use Rattle.hart_values.specs.declared.address.Address.{Address}
@@ -28,7 +29,7 @@ use Rattle.hart_line.specs.world.Promises.{brought_in_step}
 use Rattle.hart_line.specs.world.Spoken.{spoken_by}
 use Rattle.hart_line.specs.world.Step.{submitted, Accepts, IsLast, spoken_request, outcome_of, LeadsTo, effect_on, executions_after}
 use Rattle.hart_line.specs.world.World.{InHand, Start, World, first_world, state_of, Execution, overwrites_of}
-use Rattle.hart_line.proofs.lemmas.world.Basics.{slice_get-cases, some_one}
+use Rattle.hart_line.proofs.lemmas.world.Basics.{slice_get-append, slice_get-set, some_one}
 use Rattle.hart_line.proofs.lemmas.world.Steps.{along, turn_cases, entered, frame_in}
 use Rattle.hart_line.proofs.lemmas.world.Submitted.{held_in}
 use Rattle.hart_line.proofs.lemmas.world.State.{contents-more}
@@ -74,8 +75,7 @@ device_replied start events number reply sendings a made =
 -- What is found after a store.
 slice_set-cases : {A : Type 0} (xs : List A) (k : ℕ) (y : A) (n : ℕ) (x : A) → slice_get (slice_set xs k y) n ≡ Some x
     → (slice_get xs n ≡ Some x) ⊎ ((n ≡ k) × (y ≡ x))
-slice_set-cases [] k y n x is = inl is
-slice_set-cases (z ∷ xs) k y n x is = grind (arith, slice_set-cases xs)
+slice_set-cases xs k y n x is = grind (arith, nat_tests, slice_get-set)
 
 -- A reply that is the outcome of a turn was accepted in it: it came back, and is the device's answer to what was sent.
 answers_sent : (state : DeviceState) (process : Process) (who : MasterId) (held : InHand) (brought : Brought)
@@ -101,7 +101,7 @@ not_answered : (world : World) (who : MasterId) (address : Address) (request : R
     (reply : Reply) (sendings : ℕ)
     → slice_get (submitted world who address request fault).outcomes number ≡ Some (Answered reply sendings)
     → slice_get world.outcomes number ≡ Some (Answered reply sendings)
-not_answered world who address request fault number reply sendings is = grind (arith, slice_get-cases)
+not_answered world who address request fault number reply sendings is = grind (arith, slice_get-append)
 
 pub answered_last : (start : Start) (events : List LineEvent) (last : World) → IsLast start events last
     → (number : ℕ) (reply : Reply) (sendings : ℕ) → slice_get last.outcomes number ≡ Some (Answered reply sendings)

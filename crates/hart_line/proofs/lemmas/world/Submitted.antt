@@ -5,7 +5,7 @@ use Rattle.std.proofs.Common.{if◌then◌else◌}
 use Rattle.std.proofs.lemmas.Grind.{common_steps}
 use Rattle.std.proofs.lemmas.List.{append-nil, map-append, take_more}
 use Rattle.std.proofs.lemmas.List.Elements.{All-append}
-use Rattle.std.proofs.lemmas.Option.{get_or_from_slice_get, slice_get-map, slice_get_within}
+use Rattle.std.proofs.lemmas.Option.{get_or_from_slice_get, slice_get-map, slice_get_past, slice_get_within}
 use Rattle.std.proofs.lemmas.Bool.Decides.{nat_tests}
 use Rattle.std.proofs.lemmas.List.Sums.{sum_by-append}
 use Rattle.std.specs.List.{slice_get}
@@ -19,8 +19,7 @@ use Rattle.hart_line.specs.world.Promises.{AreWellMade, IsStepOf, Submission, re
 use Rattle.hart_line.specs.world.Step.{LeadsTo, IsLast, effect_on, executions_after}
 use Rattle.hart_line.specs.world.World.{InHand, Start, World, first_world, Execution, state_of}
 use Rattle.hart_line.specs.world.Executions.{times_executed}
-use Rattle.hart_line.proofs.lemmas.world.Basics.{slice_get-append, slice_get-last, slice_get-set_other, slice_get-set_same, some_one}
-use Rattle.hart_line.proofs.lemmas.world.Basics.{with_master-cases}
+use Rattle.hart_line.proofs.lemmas.world.Basics.{slice_get-append, slice_get-set, some_one, with_master-cases}
 use Rattle.hart_line.proofs.lemmas.world.Steps.{StepCases, Submits, Sends, Stays, along, step_cases}
 use Rattle.hart_device.specs.Device.{Effect}
 
@@ -39,10 +38,10 @@ held_more : (submissions more : List Submission) (start : Start) (world next : W
     → StepCases start world next more → IsAlong submissions world → of_master id next.hands ≡ Some held
     → IsHeld (submissions ++ more) next.outcomes id held
 held_more submissions more start world next id held (Submits said fault are is) a own =
-    let old = a.hands id held in grind (arith, common_steps, slice_get-append, slice_get-last, with_master-cases)
+    let old = a.hands id held in grind (arith, common_steps, slice_get-append, slice_get_past, with_master-cases)
 held_more submissions more start world next id held (Sends who brought accepted are s) a own =
     let sent = a.hands who s.held s.in_hand in let old = a.hands id held in
-    grind (arith, common_steps, append-nil, slice_set, slice_get-set_same, slice_get-set_other, some_one, with_master-cases)
+    grind (arith, common_steps, append-nil, slice_set, nat_tests, slice_get-set, some_one, with_master-cases)
 held_more submissions more start world next id held (Stays protected cold_start spoken are is) a own =
     let old = a.hands id held in grind (arith, common_steps, append-nil)
 
@@ -107,7 +106,7 @@ counts_by : (hand : InHand) (outcomes : List Outcome) (outcome : Outcome) (numbe
     → before ≤ sendings_in (slice_get outcomes number) → after ≤ before + (if hand.submission == number then 1 else 0)
     → after ≤ sendings_in (slice_get (slice_set outcomes hand.submission outcome) number)
 counts_by hand outcomes outcome number before after there sent old more =
-    grind (arith, nat_tests, slice_get-set_same, slice_get-set_other)
+    grind (arith, nat_tests, slice_get-set)
 
 pub executed_at_most : (start : Start) (events : List LineEvent) (last : World) → IsLast start events last → IsCounted last
 executed_at_most start events = along start (first_world start) events (λ es. IsCounted) (λ before next event here c number.

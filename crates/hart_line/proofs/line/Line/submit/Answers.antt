@@ -1,5 +1,24 @@
-use Rattle.hart_line.proofs.lemmas.line.Event.{submitted_stands}
+use Rattle.std.proofs.Common.{Option, [], ◌∷◌, ◌++◌, length, arith}
+use Rattle.hart_values.specs.EachMaster.{of_master, with_master}
+use Rattle.hart_values.specs.declared.address.Address.{Address}
+use Rattle.hart_values.specs.declared.master_id.MasterId.{MasterId}
+use Rattle.hart_commands.specs.declared.request.Request.{Request}
+use Rattle.hart_master.specs.declared.fault.MasterFault.{MasterFault}
+use Rattle.hart_line.specs.declared.line.masters.Masters.{Masters}
+use Rattle.hart_line.specs.declared.line.report.Outcome.{Outcome}
+use Rattle.hart_line.specs.line.Line.{LineState, Stands}
+use Rattle.hart_line.specs.line.Masters.{AreHeld, Submits}
+use Rattle.hart_line.specs.world.Step.{submitted}
+use Rattle.hart_line.specs.world.World.{Start, World}
 use Rattle.hart_line.proofs.line.Line.submit.Goals as goal
+
+submitted_stands : (start : Start) (world : World) (who : MasterId) (address : Address) (request : Request)
+    (fault : Option MasterFault) (outcome : Outcome) (line : LineState) (masters : Masters) → Stands start world line
+    → Submits (of_master who world.hands) (length line.outcomes) address request fault outcome
+    (λ left. AreHeld start.retries (with_master who left world.hands) masters)
+    → Stands start (submitted world who address request fault)
+    (record line { masters = masters; outcomes = line.outcomes ++ outcome ∷ [] })
+submitted_stands start world who address request fault outcome line masters s submits = grind (arith)
 
 pub returns-clause-stands : goal.returns-clause-stands
 returns-clause-stands g c = λ start world stands. rw c.push.ensures (submitted_stands start world c.args.who c.args.address

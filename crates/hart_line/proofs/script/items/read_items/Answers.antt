@@ -3,7 +3,7 @@ use Rattle.std.proofs.lemmas.Grind.{common_steps}
 use Rattle.std.proofs.lemmas.List.{length_push}
 use Rattle.hart_frame.specs.heard.Character.{Character}
 use Rattle.hart_line.specs.Filling.{Filled}
-use Rattle.hart_line.proofs.lemmas.script.Items.{all_items, item_read, no_items}
+use Rattle.hart_line.proofs.lemmas.script.Items.{all_items, item_read, items_of-none}
 use Rattle.hart_line.proofs.script.items.read_items.Goals as goal
 
 pub loop-lead-preserved : goal.loop-lead-preserved
@@ -12,7 +12,7 @@ loop-lead-preserved c =
     (ap (λ (list : Filled Character). list.items) c.push.ensures) in grind (arith, common_steps, length_push)
 
 pub returns-then-not-is_empty : goal.returns-then-not-is_empty
-returns-then-not-is_empty c = grind (arith, common_steps, no_items)
+returns-then-not-is_empty c = grind (arith, common_steps, items_of-none)
 
 pub returns : goal.returns
 returns c = grind (arith, common_steps, all_items)

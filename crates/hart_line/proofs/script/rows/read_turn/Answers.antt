@@ -1,9 +1,16 @@
-use Rattle.std.proofs.Common.{◌∷◌, codes, arith, refl}
+use Rattle.std.proofs.Common.{◌∷◌, codes, arith, refl, ◌≡◌, ℕ, ◌<◌, List, [], get_or, length, Option, None, Err}
 use Rattle.std.proofs.lemmas.Result.{err_from_is_err_and}
 use Rattle.hart_line.specs.script.Lines.{words_of}
-use Rattle.hart_line.specs.script.Rows.{turn_of}
-use Rattle.hart_line.proofs.lemmas.script.Rows.{leg_fault}
+use Rattle.hart_line.specs.script.Rows.{turn_of, leg_of, ReadsWords}
+use Rattle.hart_line.specs.declared.event.LineEvent.{LineEvent}
+use Rattle.hart_line.specs.declared.script.rows.RowFault.{RowFault}
 use Rattle.hart_line.proofs.script.rows.read_turn.Goals as goal
+
+-- a line has the fault of a leg
+leg_fault : (words : List (List ℕ)) (k : ℕ) (word : List ℕ) (fault : RowFault) (said : Option LineEvent)
+    → k < length words → get_or words k word ≡ word → (leg_of word ≡ None → said ≡ None)
+    → ReadsWords (word ∷ []) (leg_of word) (Err fault) → ReadsWords words said (Err fault)
+leg_fault words k word fault said short here none reads = grind (arith)
 
 pub returns-in_err-read_leg : goal.returns-in_err-read_leg
 returns-in_err-read_leg c =
