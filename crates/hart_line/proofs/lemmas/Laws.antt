@@ -16,12 +16,11 @@ use Rattle.hart_line.specs.world.Step.{IsLast}
 use Rattle.hart_line.specs.world.World.{Start, World, first_world, state_of}
 use Rattle.hart_line.proofs.lemmas.world.Answered.{answered_last}
 use Rattle.hart_line.proofs.lemmas.world.Basics.{some_one}
-use Rattle.hart_line.proofs.lemmas.world.Last.{registers_last}
 use Rattle.hart_line.proofs.lemmas.world.Leads.{fault_before, fault_not_detectable, leads_exists, leads_one, undetected_one}
 use Rattle.hart_line.proofs.lemmas.world.Reset.{refused_last, refused_step, unseen}
 use Rattle.hart_line.proofs.lemmas.world.State.{same_state}
 use Rattle.hart_line.proofs.lemmas.world.Submitted.{executed_at_most}
-use Rattle.hart_line.proofs.lemmas.world.Written.{answered_executed, step_stays, turn_executed}
+use Rattle.hart_line.proofs.lemmas.world.Written.{answered_executed, registers_last, step_stays, turn_executed}
 
 pub scripts_have_one_last_world-one_world : (start : Start) (events : List LineEvent) (a b : World)
     → IsLast start events a → IsLast start events b → a ≡ b

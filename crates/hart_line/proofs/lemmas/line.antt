@@ -3,5 +3,3 @@ pub mod Leg
 pub mod Masters
 pub mod Turn
 pub mod Reached
-pub mod Room
-pub mod Told

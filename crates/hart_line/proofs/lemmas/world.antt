@@ -5,6 +5,5 @@ pub mod Steps
 pub mod Leads
 pub mod Submitted
 pub mod Answered
-pub mod Last
 pub mod Written
 pub mod Reset

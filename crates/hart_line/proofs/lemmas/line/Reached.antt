@@ -1,8 +1,10 @@
--- How far a script has come.
-use Rattle.std.proofs.Common.{◌∷◌, arith, ◌≡◌, ℕ, ◌+◌, ◌≤◌, ◌<◌, sym, refl, subst, List, [], length, take, get_or, rules}
+-- How far a script has come, and for how much of it a line has room.
+use Rattle.std.proofs.Common.{◌∷◌, arith, ◌≡◌, ℕ, ◌+◌, ◌≤◌, ◌<◌, sym, refl, subst, List, [], length, take, get_or, rules, append-nil, ◌++◌}
+use Rattle.std.proofs.Common.{Bool, cond, count_by, drop}
 use Rattle.std.proofs.lemmas.Grind.{common_steps}
-use Rattle.std.proofs.lemmas.List.{take_all, take_more}
+use Rattle.std.proofs.lemmas.List.{take_all, take_more, drop_more}
 use Rattle.std.proofs.lemmas.Option.{slice_get-get_or}
+use Rattle.std.proofs.lemmas.List.Sums.{sum_by-append}
 use Rattle.hart_values.specs.declared.master_id.MasterId.TheVariants.{Primary, Secondary}
 use Rattle.hart_device.specs.Device.{DeviceState}
 use Rattle.hart_device.specs.declared.process.Process.{Process}
@@ -14,11 +16,15 @@ use Rattle.hart_line.specs.declared.fault.LineFault.TheVariants.{Undetected}
 use Rattle.hart_line.specs.line.Line.{LineState, Stands, Stepped}
 use Rattle.hart_line.specs.world.Faults.{HasUndetected, IsFault}
 use Rattle.hart_line.specs.world.Promises.{start_from, AreWellMade}
-use Rattle.hart_line.specs.world.Step.{IsLast}
+use Rattle.hart_line.specs.world.Step.{IsLast, Step}
 use Rattle.hart_line.specs.world.World.{MarksWithin, Start, World, first_world, state_of}
+use Rattle.hart_line.specs.declared.line.report.Spoken.{Spoken}
+use Rattle.hart_line.specs.world.Spoken.{AreSpoken, SpokenFrame}
+use Rattle.hart_line.specs.line.Room.{HasRoomFor, HasRoomForEach, LeavesRoom}
 use Rattle.hart_line.proofs.lemmas.world.Leads.{leads_one}
 use Rattle.hart_line.proofs.lemmas.world.Steps.{leads_more, step_marks}
 use Rattle.hart_line.proofs.lemmas.world.Submitted.{made_more}
+use Rattle.hart_line.proofs.lemmas.line.Leg.{AreSpoken-append}
 
 -- The line stands for a world that the events, which are well made, lead to.
 pub record IsReached (start : Start) (events : List LineEvent) (line : LineState) : Type 0 where
@@ -87,3 +93,51 @@ fault_at start events n unused world leg here last undetected = grind (arith, co
 pub of_last : (P : World → Type 0) {start : Start} {events : List LineEvent} {line : LineState} → (r : IsReached start events line)
     → P r.world → (world : World) → IsLast start events world → P world
 of_last P {start = start} {events = events} r holds world last = grind (arith, common_steps, leads_one)
+
+-- A WORLD WITHOUT WHAT WAS SPOKEN
+-- What a line keeps of what was spoken may be noted and let go: its events lead on as they would from the whole.
+-- A world as it is, but for what was spoken in it.
+abbrev pub with_spoken : List SpokenFrame → World → World
+with_spoken spoken world = record world { spoken = spoken }
+
+-- What an event adds to what was spoken it adds to anything.
+step_on : (start : Start) (world next : World) (event : LineEvent) → Step start (with_spoken [] world) event next
+    → Step start world event (with_spoken (world.spoken ++ next.spoken) next)
+step_on start world next event is = grind (arith, common_steps, append-nil)
+
+pub undetected_on : (start : Start) (world : World) (event : LineEvent) (leg : Leg) → HasUndetected start (with_spoken [] world) event leg
+    → HasUndetected start world event leg
+undetected_on start world event leg undetected = grind arith
+
+-- A LINE THAT WAS NOTED
+-- A line that keeps nothing of what was noted stands for the world without what was spoken.
+pub noted_stands : (start : Start) (world : World) (line : LineState) (noted : List Spoken) → line.spoken ≡ []
+    → Stands start world (record line { spoken = noted }) → Stands start (with_spoken [] world) line
+noted_stands start world line noted nothing s = grind (arith, common_steps)
+
+-- Where that leads to a next world by an event, so does the world, and the line stands for it with what was noted before.
+pub stepped_on : (start : Start) (world : World) (event : LineEvent) (line : LineState) (noted : List Spoken)
+    → AreSpoken world.spoken noted → Stepped start (with_spoken [] world) event line
+    → Stepped start world event (record line { spoken = noted ++ line.spoken })
+stepped_on start world event line noted are s = record {
+  next = with_spoken (world.spoken ++ s.next.spoken) s.next;
+  step = step_on start world s.next event s.step;
+  stands = grind (arith, common_steps, AreSpoken-append);
+}
+
+-- THE ROOM
+-- The first of some events is counted with the others.
+count_first : (p : LineEvent → Bool) (event : LineEvent) (events : List LineEvent)
+    → count_by p (event ∷ events) ≡ count_by p (event ∷ []) + count_by p events
+count_first p event events = sum_by-append (λ event. cond (p event) 1 0) (event ∷ []) events
+
+-- If there is room for the events that are left, there is room for those left after the next of them.
+pub room_for_others : (events : List LineEvent) (n : ℕ) (unused : LineEvent) (old new : LineState) → n < length events
+    → HasRoomFor (drop n events) old → LeavesRoom (get_or events n unused) old new → HasRoomFor (drop (n + 1) events) new
+room_for_others events n unused old new here r leaves = grind (arith, common_steps, drop_more, count_first)
+
+-- So there is for each of those left after it, once what was spoken in it is let go.
+pub room_for_each : (events : List LineEvent) (n : ℕ) (unused : LineEvent) (old new : LineState) → n < length events
+    → HasRoomForEach (drop n events) old → LeavesRoom (get_or events n unused) old new
+    → HasRoomForEach (drop (n + 1) events) (record new { spoken = [] })
+room_for_each events n unused old new here r leaves = grind (arith, common_steps, drop_more, count_first)

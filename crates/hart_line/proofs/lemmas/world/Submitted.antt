@@ -16,7 +16,7 @@ use Rattle.hart_line.specs.declared.event.LineEvent.{LineEvent}
 use Rattle.hart_line.specs.declared.line.report.Outcome.{Outcome}
 use Rattle.hart_line.specs.declared.line.report.Outcome.TheVariants.{Unfinished}
 use Rattle.hart_line.specs.world.Promises.{AreWellMade, IsStepOf, Submission, requests_of, submission_in, submissions_of, sendings_in}
-use Rattle.hart_line.specs.world.Step.{LeadsTo, IsLast, effect_on, executions_after}
+use Rattle.hart_line.specs.world.Step.{IsLast, effect_on, executions_after}
 use Rattle.hart_line.specs.world.World.{InHand, Start, World, first_world, Execution, state_of}
 use Rattle.hart_line.specs.world.Executions.{times_executed}
 use Rattle.hart_line.proofs.lemmas.world.Basics.{slice_get-append, slice_get-set, some_one, with_master-cases}
@@ -51,21 +51,16 @@ submissions_of-append [] suffix = refl
 submissions_of-append (event ∷ prefix) suffix = grind (arith, submissions_of-append prefix suffix)
 
 -- EVERY STEP
-pub held_before : (start : Start) (events : List LineEvent) (world : World) → LeadsTo start (first_world start) events world
-    → (who : MasterId) (held : InHand) → of_master who world.hands ≡ Some held → IsHeld (submissions_of events) world.outcomes who held
-held_before start events world led =
-    (along start (first_world start) events (λ es. IsAlong (submissions_of es)) (λ before next event here a.
-    let cases = step_cases start before event next here.step in rw submissions_of-append (record {
-      long = grind (arith, common_steps, append-nil);
-      hands = λ id held own. held_more _ _ start before next id held cases a own;
-    })) (record { long = refl; hands = λ id held is. grind arith }) world led).hands
-
 pub held_in : (start : Start) (events : List LineEvent) {before next : World} {event : LineEvent}
     (here : IsStepOf start (first_world start) events before event next) (who : MasterId) (held : InHand)
     → of_master who before.hands ≡ Some held → IsHeld (submissions_of events) before.outcomes who held
-held_in start events here who held in_hand =
-    let there = held_before start here.prefix _ here.led who held in_hand in
-    grind (arith, common_steps, submissions_of-append, slice_get-append)
+held_in start events {before = before} here who held in_hand =
+    let so_far = along start (first_world start) here.prefix (λ es. IsAlong (submissions_of es)) (λ before next event here a.
+    let cases = step_cases start before event next here.step in rw submissions_of-append (record {
+      long = grind (arith, common_steps, append-nil);
+      hands = λ id held own. held_more _ _ start before next id held cases a own;
+    })) (record { long = refl; hands = λ id held is. grind arith }) before here.led in
+    let there = so_far.hands who held in_hand in grind (arith, common_steps, submissions_of-append, slice_get-append)
 
 -- The request of a submission stands at its number among the requests.
 pub request_there : (events : List LineEvent) (number : ℕ) (submission : Submission)
@@ -89,17 +84,12 @@ made_more events n unused here made one =
 
 -- HOW OFTEN
 -- A submission is executed at most as often as it is sent.
-abbrev pub IsCounted : World → Type 0
+abbrev IsCounted : World → Type 0
 IsCounted world = (number : ℕ) → times_executed number world.executions ≤ sendings_in (slice_get world.outcomes number)
 
 times_executed-more : (effect : Effect) (own number : ℕ) (executions : List Execution)
     → times_executed number (executions_after effect own executions) ≤ times_executed number executions + (if own == number then 1 else 0)
 times_executed-more effect own number executions = grind (arith, nat_tests, sum_by-append)
-
--- One more outcome, which was never sent.
-sendings-append : (outcomes : List Outcome) (outcome : Outcome) (number : ℕ)
-    → sendings_in (slice_get outcomes number) ≤ sendings_in (slice_get (outcomes ++ outcome ∷ []) number)
-sendings-append outcomes outcome number = grind (arith, slice_get-append)
 
 counts_by : (hand : InHand) (outcomes : List Outcome) (outcome : Outcome) (number before after : ℕ)
     → slice_get outcomes hand.submission ≡ Some (Unfinished hand.sendings) → sendings_in (Some outcome) ≡ hand.sendings + 1
@@ -111,7 +101,7 @@ counts_by hand outcomes outcome number before after there sent old more =
 pub executed_at_most : (start : Start) (events : List LineEvent) (last : World) → IsLast start events last → IsCounted last
 executed_at_most start events = along start (first_world start) events (λ es. IsCounted) (λ before next event here c number.
     elim (step_cases start before event next here.step) [
-      | Submits said fault are is ↦ grind (arith, common_steps, sendings-append)
+      | Submits said fault are is ↦ grind (arith, common_steps, slice_get-append)
       | Sends who brought accepted are s ↦ rw s.next_is (counts_by s.held before.outcomes _ number
           (times_executed number before.executions) _ (held_in start events here who s.held s.in_hand).unfinished (grind arith) (c number)
           (times_executed-more (effect_on (state_of start.device before) brought) s.held.submission number before.executions))

@@ -1,28 +1,36 @@
--- Unrefused writes are executed in their turn, and nothing else is.
-use Rattle.std.proofs.Common.{◌≡◌, ℕ, ◌∙◌, sym, refl, Some, IsTrue, List, inl, inr, arith}
-use Rattle.std.proofs.lemmas.Grind.{common_steps}
-use Rattle.std.specs.List.{slice_get}
+-- Unrefused writes are executed in their turn, nothing else is, and the registers of all executions are those of the last ones.
+use Rattle.std.proofs.Common.{◌≡◌, ℕ, ◌∙◌, sym, refl, Some, IsTrue, List, inl, inr, arith, suc, Ok, Bool, true, false, [], ◌∷◌}
+use Rattle.std.proofs.Common.{if◌then◌else◌, None, Option, ◌⊎◌, ◌==◌, ◌+◌}
+use Rattle.std.proofs.lemmas.Grind.{common_steps, elements}
+use Rattle.std.proofs.lemmas.Bool.Decides.{nat_tests}
+use Rattle.std.proofs.lemmas.List.{get_or-map, length-map}
+use Rattle.std.proofs.lemmas.List.Elements.{All-push}
+use Rattle.std.proofs.lemmas.List.Folds.{Any-from_list_any}
+use Rattle.std.specs.List.{slice_get, All, Contains}
+use Rattle.std.specs.Option.{option_and_then}
 use Rattle.hart_values.specs.declared.master_id.MasterId.{MasterId}
 use Rattle.hart_commands.specs.ReplyData.{reply_reading}
 use Rattle.hart_commands.specs.RequestCode.{is_write}
 use Rattle.hart_commands.specs.RequestData.{command_of}
 use Rattle.hart_commands.specs.declared.reply.Reply.{Reply}
 use Rattle.hart_commands.specs.declared.request.Request.{Request}
+use Rattle.hart_commands.specs.Registers.{Contents, Overwrite, overwrite_of, overwritten, registers_of}
 use Rattle.hart_commands.proofs.lemmas.Laws.{requests_have_their_command, writes_have_overwrites-exactly, written_data_are_their_request}
 use Rattle.hart_device.specs.Device.{DeviceState, Effect, Executes}
-use Rattle.hart_device.specs.answer.Answer.{code_of}
+use Rattle.hart_device.specs.answer.Answer.{code_of, reading_of}
 use Rattle.hart_device.specs.answer.Delivery.{Brought, OneFrame}
 use Rattle.hart_device.proofs.lemmas.Laws.{answers_give_their_code-answered, writes_execute_their_overwrite-executes}
-use Rattle.hart_device.proofs.lemmas.Laws.{writes_execute_their_overwrite-only}
+use Rattle.hart_device.proofs.lemmas.Laws.{writes_execute_their_overwrite-only, registers_of_lists-again, registers_of_lists-first}
 use Rattle.hart_line.specs.declared.event.Heard.{Heard}
 use Rattle.hart_line.specs.declared.event.LineEvent.{LineEvent}
 use Rattle.hart_line.specs.declared.event.LineEvent.TheVariants.{Turn}
 use Rattle.hart_line.specs.world.Promises.{AnswersLastSending, AreWellMade, IsExecutedFromHand, IsExecutedInItsTurn, IsStepOf}
 use Rattle.hart_line.specs.world.Promises.{IsUnrefusedWrite, brought_in_step, requests_of}
-use Rattle.hart_line.specs.world.Step.{effect_on, executions_after, spoken_request, submitted}
-use Rattle.hart_line.specs.world.World.{Execution, Start, World, first_world, state_of}
+use Rattle.hart_line.specs.world.Step.{effect_on, executions_after, spoken_request, submitted, IsLast}
+use Rattle.hart_line.specs.world.World.{Execution, Start, World, first_world, state_of, InHand, overwrites_of}
+use Rattle.hart_line.specs.world.Executions.{has_execution_of, last_executions}
 use Rattle.hart_line.proofs.lemmas.world.Basics.{some_one}
-use Rattle.hart_line.proofs.lemmas.world.Steps.{entered, turn_cases}
+use Rattle.hart_line.proofs.lemmas.world.Steps.{entered, turn_cases, Submits, Sends, Stays, along, step_cases, frame_in, no_effect}
 use Rattle.hart_line.proofs.lemmas.world.Submitted.{held_in, made_of, request_there}
 
 -- THE CODE OF A REPLY
@@ -82,3 +90,73 @@ pub step_stays : (start : Start) (events : List LineEvent) (before next : World)
 step_stays start events before next event here other =
     let e = entered start before event next here.step in
     e.1 ∙ brought_stays (state_of start.device before) _ e.0 before.executions _ refl other
+
+-- ALL EXECUTIONS OF A SCRIPT ARE WRITES OF THEIR SUBMISSIONS
+-- The overwrite of the request that was submitted under a number, if there is one.
+abbrev pub write_of : List Request → ℕ → Option Overwrite
+write_of requests number = option_and_then overwrite_of (slice_get requests number)
+
+abbrev pub AreWritesOf : List Request → List Execution → Type 0
+AreWritesOf requests executions = All (λ execution. write_of requests execution.submission ≡ Some execution.overwrite) executions
+
+arrived_executes : (state : DeviceState) (who : MasterId) (held : InHand) (requests : List Request)
+    (brought : Brought) (overwrite : Overwrite) → slice_get requests held.submission ≡ Some held.request
+    → reading_of (spoken_request who held).frame ≡ Ok held.request
+    → (frame_in brought ≡ None) ⊎ (brought ≡ OneFrame (spoken_request who held).frame) → effect_on state brought ≡ Executes overwrite
+    → write_of requests held.submission ≡ Some overwrite
+arrived_executes state who held requests brought overwrite there reading (inl none) is =
+    let quiet = no_effect state brought none in cc
+arrived_executes state who held requests brought overwrite there reading (inr sent) is =
+    let asked = writes_execute_their_overwrite-only state (spoken_request who held).frame overwrite (rw sent at is) in
+    grind (arith, common_steps)
+
+effect_writes : (effect : Effect) (number : ℕ) (requests : List Request) (executions : List Execution)
+    → ((overwrite : Overwrite) → effect ≡ Executes overwrite → write_of requests number ≡ Some overwrite)
+    → AreWritesOf requests executions → AreWritesOf requests (executions_after effect number executions)
+effect_writes effect number requests executions writes all =
+    grind (arith, All-push (λ (execution : Execution). write_of requests execution.submission ≡ Some execution.overwrite))
+
+are_writes : (start : Start) (events : List LineEvent) → AreWellMade events → (last : World) → IsLast start events last
+    → AreWritesOf (requests_of events) last.executions
+are_writes start events made = along start (first_world start) events (λ es world. AreWritesOf (requests_of events) world.executions)
+    (λ before next event here all. elim (step_cases start before event next here.step) [
+      | Submits said fault are is ↦ grind arith
+      | Sends who brought accepted are s ↦ (let there = (held_in start events here who s.held s.in_hand).submitted_as in
+          rw s.next_is (effect_writes _ s.held.submission (requests_of events) before.executions
+          (λ overwrite. arrived_executes (state_of start.device before) who s.held (requests_of events) brought overwrite
+          (request_there events s.held.submission _ there)
+          (written_data_are_their_request s.held.request (made_of events s.held.submission _ made there)) s.known) all))
+      | Stays protected cold_start spoken are is ↦ rw is all
+    ]) (grind (arith, elements))
+
+-- LAST EXECUTIONS
+-- A later execution of the submission has the same overwrite.
+contains_again : (requests : List Request) (execution : Execution) (later : List Execution)
+    → AreWritesOf requests (execution ∷ later)
+    → has_execution_of execution.submission later ≡ true → Contains (overwrites_of later) execution.overwrite
+contains_again requests execution later all executed =
+    let (k, e, within, is, same) = Any-from_list_any (λ (e : Execution). e.submission == execution.submission) later executed in
+    let first = all 0 execution (omega arith) in let other = all (k + 1) e (omega (arith, within)) in
+    (k, grind (arith, length-map), grind (arith, elements, nat_tests, get_or-map))
+
+last_by_submission : (e : Execution) (later : List Execution) (initial : Contents) (b : Bool)
+    → (b ≡ true → Contains (overwrites_of later) e.overwrite)
+    → ((c : Contents) → registers_of (overwrites_of later) c ≡ registers_of (overwrites_of (last_executions later)) c)
+    → registers_of (overwrites_of (e ∷ later)) initial
+    ≡ registers_of (overwrites_of (if b then last_executions later else e ∷ last_executions later)) initial
+last_by_submission e later initial true there same = grind (arith, common_steps, registers_of_lists-again)
+last_by_submission e later initial false there same =
+    registers_of_lists-first e.overwrite (overwrites_of later) initial ∙ same (overwritten e.overwrite initial)
+    ∙ sym (registers_of_lists-first e.overwrite (overwrites_of (last_executions later)) initial)
+
+registers_of-last : (requests : List Request) (executions : List Execution) → AreWritesOf requests executions → (initial : Contents)
+    → registers_of (overwrites_of executions) initial ≡ registers_of (overwrites_of (last_executions executions)) initial
+registers_of-last requests [] all initial = refl
+registers_of-last requests (e ∷ later) all initial = last_by_submission e later initial (has_execution_of e.submission later)
+    (contains_again requests e later all) (registers_of-last requests later (λ k unused within. all (suc k) unused (omega arith)))
+
+-- THE HEADLINE
+pub registers_last : (start : Start) (events : List LineEvent) (last : World) → IsLast start events last → AreWellMade events
+    → (state_of start.device last).contents ≡ registers_of (overwrites_of (last_executions last.executions)) start.device.contents
+registers_last start events last run made =
+    registers_of-last (requests_of events) last.executions (are_writes start events made last run) start.device.contents

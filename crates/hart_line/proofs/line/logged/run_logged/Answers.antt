@@ -2,9 +2,8 @@ use Rattle.std.proofs.Common.{◌∙◌, [], ap, arith, refl}
 use Rattle.hart_device.specs.Device.{DeviceState}
 use Rattle.hart_line.specs.world.Promises.{start_from}
 use Rattle.hart_line.proofs.lemmas.Laws.{scripts_keep_their_promises-first_world, scripts_keep_their_promises-kept}
-use Rattle.hart_line.proofs.lemmas.line.Reached.{fault_at, of_last, reached_first, reached_more, reached_whole}
-use Rattle.hart_line.proofs.lemmas.line.Room.{room_for_each}
-use Rattle.hart_line.proofs.lemmas.line.Told.{noted_stands, stepped_on, undetected_on, with_spoken}
+use Rattle.hart_line.proofs.lemmas.line.Reached.{fault_at, of_last, reached_first, reached_more, reached_whole, noted_stands, stepped_on}
+use Rattle.hart_line.proofs.lemmas.line.Reached.{undetected_on, with_spoken, room_for_each}
 use Rattle.hart_line.proofs.line.logged.run_logged.Goals as goal
 
 pub loop-index-init : goal.loop-index-init

@@ -1,9 +1,10 @@
-use Rattle.std.proofs.Common.{◌≡◌, ℕ, ◌+◌, ◌*◌, Bool, true, List, [], ◌∷◌, get_or, Option, Some, None, Ok, is_some, unwrap_or, ◌∙◌, arith}
+use Rattle.std.proofs.Common.{◌≡◌, ℕ, ◌+◌, ◌*◌, [], ◌∷◌, Option, Some, None, Ok, is_some, unwrap_or, arith}
 use Rattle.std.proofs.Math.Nat.{mul_comm}
+use Rattle.std.proofs.lemmas.Grind.{common_steps}
 use Rattle.std.specs.Prelude.{◌&&◌, if◌then◌else◌}
 use Rattle.std.specs.Result.{result_ok}
 use Rattle.hex.specs.Hex.{decode_pairs, digit_or_error, hex_digit_value, is_hex_digit, ◌>>=◌}
-use Rattle.hart_line.specs.script.Items.{AreDigits, byte_of}
+use Rattle.hart_line.specs.script.Items.{byte_of}
 use Rattle.hart_line.proofs.script.items.byte_of_digits.Goals as goal
 
 -- what `hex` reads of two bytes whose values as digits these are
@@ -18,23 +19,8 @@ decode_pairs-two : (high low : ℕ) → result_ok (decode_pairs 0 (high ∷ low 
 unfolding decode_pairs
 decode_pairs-two high low = pair_read high low (hex_digit_value high) (hex_digit_value low)
 
--- what `hex` does not read are no two digits
-decode_pairs-none : (high low : ℕ) → None ≡ result_ok (decode_pairs 0 (high ∷ low ∷ [])) → AreDigits high low → ⊥
-decode_pairs-none high low none digits = grind (arith, decode_pairs-two)
-
--- what `hex` reads are two digits, and their byte
-both : (a b : Bool) (byte : ℕ) (bytes : List ℕ) → Some bytes ≡ (if a && b then Some (byte ∷ []) else None)
-    → (a ≡ true) × (b ≡ true) × (get_or bytes 0 0 ≡ byte)
-both a b byte bytes read = grind arith
-
-decode_pairs-some : (high low : ℕ) (bytes : List ℕ) → Some bytes ≡ result_ok (decode_pairs 0 (high ∷ low ∷ []))
-    → AreDigits high low × (get_or bytes 0 0 ≡ byte_of high low)
-decode_pairs-some high low bytes read =
-    let all = both (is_hex_digit high) (is_hex_digit low) (byte_of high low) bytes (read ∙ decode_pairs-two high low) in
-    ((all.0, all.1), all.2)
-
 pub returns-in_err-byte : goal.returns-in_err-byte
-returns-in_err-byte c = rw c.from_residual.ensures (decode_pairs-none _ _ (rw c.from_hex.ensures at c.in_err-byte.ensures.value))
+returns-in_err-byte c = grind (arith, common_steps, decode_pairs-two)
 
 pub returns : goal.returns
-returns c = decode_pairs-some _ _ _ (rw c.from_hex.ensures at c.in_ok-byte.ensures.value)
+returns c = grind (arith, common_steps, decode_pairs-two)

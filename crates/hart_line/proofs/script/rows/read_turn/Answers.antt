@@ -1,4 +1,4 @@
-use Rattle.std.proofs.Common.{◌∷◌, codes, arith, refl, ◌≡◌, ℕ, ◌<◌, List, [], get_or, length, Option, None, Err}
+use Rattle.std.proofs.Common.{◌∷◌, codes, arith, ◌≡◌, ℕ, ◌<◌, List, [], get_or, length, Option, None, Err}
 use Rattle.std.proofs.lemmas.Result.{err_from_is_err_and}
 use Rattle.hart_line.specs.script.Lines.{words_of}
 use Rattle.hart_line.specs.script.Rows.{turn_of, leg_of, ReadsWords}
@@ -17,13 +17,11 @@ returns-in_err-read_leg c =
     let refused = err_from_is_err_and c.from_residual-in_err-read_leg.result c.from_residual-in_err-read_leg.ensures.1 in
     rw (refused.1, refused.2)
     (leg_fault (codes "turn" ∷ words_of c.args.rest.now) 2 c.in-Some.up.now _ (turn_of (words_of c.args.rest.now))
-    (rw c.in-Some.ensures (omega arith)) (rw c.in-Some.ensures refl)
-    (λ none. rw c.in-Some.ensures (grind arith)) c.in_err-read_leg.ensures)
+    (grind arith) (grind arith) (grind arith) c.in_err-read_leg.ensures)
 
 pub returns-in_err-read_leg-2 : goal.returns-in_err-read_leg-2
 returns-in_err-read_leg-2 c =
     let refused = err_from_is_err_and c.from_residual-in_err-read_leg-2.result c.from_residual-in_err-read_leg-2.ensures.1 in
     rw (refused.1, refused.2)
     (leg_fault (codes "turn" ∷ words_of c.args.rest.now) 3 c.in-Some.down.now _ (turn_of (words_of c.args.rest.now))
-    (rw c.in-Some.ensures (omega arith)) (rw c.in-Some.ensures refl)
-    (λ none. rw c.in-Some.ensures (grind arith)) c.in_err-read_leg-2.ensures)
+    (grind arith) (grind arith) (grind arith) c.in_err-read_leg-2.ensures)
