@@ -1,18 +1,15 @@
 -- What is found in characters that are heard in pieces, and what is left of them.
-use Rattle.std.proofs.Common.{◌≡◌, ◌+◌, ◌<◌, ◌≤◌, ◌⊎◌, false, Bool, ℕ, IsTrue, List, [], ◌∷◌, ◌++◌, All, arith, ap, sym, ◌∙◌, append_assoc}
-use Rattle.std.proofs.Common.{drop, inl, length, refl, map, slice_index_or, take}
+use Rattle.std.proofs.Common.{◌≡◌, ◌+◌, ◌<◌, ◌≤◌, ◌⊎◌, false, Bool, ℕ, IsTrue, List, [], ◌∷◌, ◌++◌, All, arith, ap, ◌∙◌, append_assoc, drop, length, refl, map, slice_index_or, take}
 use Rattle.std.proofs.Math.Seq.{drop-length, take-length}
 use Rattle.std.proofs.lemmas.Bool.{false≢true}
 use Rattle.std.proofs.lemmas.Grind.{common_steps}
 use Rattle.std.proofs.lemmas.List.{append-nil, drop-append-le, length-take, map-append, take-append-drop, take-map, take_more}
 use Rattle.hart_frame.specs.declared.heard.found.Found.{Found}
 use Rattle.hart_frame.specs.heard.Character.{Character}
-use Rattle.hart_frame.specs.heard.Frames.{AreFrames, IsUndecided, none}
+use Rattle.hart_frame.specs.heard.Frames.{AreFrames, IsUndecided}
 use Rattle.hart_frame.specs.scan.Scanner.{Scan, hearing}
 use Rattle.hart_frame.specs.scan.Streamed.{IsHistory, push}
-use Rattle.hart_frame.proofs.lemmas.Laws.{frames_are_streamed-pushed, frames_are_unambiguous-one_list}
-use Rattle.hart_frame.proofs.lemmas.Laws.{held_characters_have_the_later_frames-held, held_characters_have_the_later_frames-later}
-use Rattle.hart_frame.proofs.lemmas.Laws.{messages_have_their_frame_alone-nothing}
+use Rattle.hart_frame.proofs.lemmas.Laws.{frames_are_streamed-pushed, frames_are_unambiguous-one_list, held_characters_have_the_later_frames-held, held_characters_have_the_later_frames-later, messages_have_their_frame_alone-nothing}
 use Rattle.hart_c.specs.Find.{AreNext, Finds, char_of}
 use Rattle.hart_c.specs.Frames.{IsTidy, found_in_first}
 use Rattle.hart_c.specs.declared.find.HartChar.{HartChar}
@@ -52,17 +49,17 @@ pub finds_more : (n count : ℕ) (chars : List Character) (ended : Bool) (before
     → (count < length after → (n ≡ length chars) × (ended ≡ false) × IsUndecided scan.held) → Finds chars ended before after search
 finds_more n count chars ended before after scan search used_is count_is fault fits room untouched tidy goes history few waits =
     let held = held_characters_have_the_later_frames-held (take n chars) scan (found_in_first count after) history in
-    let is : search ≡ record { used = scan.first; count = count; fault = 0 } = grind (arith, used_is, count_is, fault) in
+    let is : search ≡ record { used = scan.first; count = count; fault = 0 } = grind arith in
     rw is (record {
       within = room;
       untouched = untouched;
       tidy = tidy;
-      used = grind (arith, frames_are_streamed-pushed, length-take n chars, fits);
+      used = grind (arith, frames_are_streamed-pushed, length-take n chars);
       are_next = next_frames n chars ended scan (found_in_first count after) fits goes history;
       fault = refl;
       undecided = λ fewer going. rw (rw (take_all n chars (waits fewer).0) at held) (waits fewer).2;
       few = grind (arith, frames_are_streamed-pushed, length-take n chars);
-      all = λ fewer ends. absurd (false≢true (sym (waits fewer).1 ∙ ends));
+      all = grind arith;
     })
 
 -- what a search came to at the end of all
@@ -71,7 +68,3 @@ pub finds_all : (count : ℕ) (chars : List Character) (ended : Bool) (before af
     → IsTrue ended → Finds chars ended before after (record { used = length chars; count = count; fault = 0 })
 finds_all count chars ended before after room untouched tidy frames ends =
     grind (arith, drop-length, frames_are_unambiguous-one_list, messages_have_their_frame_alone-nothing, append-nil, false≢true)
-
--- in nothing nothing is decided, since there is no frame
-pub nothing_undecided : AreFrames [] 0 [] → IsUndecided []
-nothing_undecided (none from nothing) = inl nothing

@@ -18,12 +18,11 @@ image_len state is =
     λ wrong. images_have_no_fault state (image_of state) BadLength (devices_are_kept_whole-image state is) (registers, refl, wrong) in
     grind (arith, fault)
 
--- so all of it is kept
-image_kept : (state : DeviceState) → IsDevice state → image_in (device_of state) ≡ image_of state
-image_kept state is = ap (λ (n : ℕ). take n (image_of state)) (sym (image_len state is)) ∙ take-length (image_of state)
-
 pub devices_are_kept-kept : (state : DeviceState) → IsDevice state → IsKept state.identity (device_of state) state
-devices_are_kept-kept state is = grind (arith, common_steps, image_kept, devices_are_kept_whole-image)
+devices_are_kept-kept state is =
+    let all : image_in (device_of state) ≡ image_of state =
+    ap (λ (n : ℕ). take n (image_of state)) (sym (image_len state is)) ∙ take-length (image_of state) in
+    grind (arith, common_steps, devices_are_kept_whole-image)
 
 pub devices_are_kept-one_state : (parts : IdentityParts) (device : HartDevice) (state other : DeviceState) → IsKept parts device state
     → IsKept parts device other → state ≡ other

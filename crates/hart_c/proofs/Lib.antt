@@ -1,14 +1,5 @@
 mod Shown
 mod Found
 mod Nexts
-mod Searches
 mod Placed
-mod Said
-mod Accepted
 mod Kept
-mod Stands
-mod Rooms
-mod Outcomes
-mod Hearings
-mod Acceptances
-mod Bytes

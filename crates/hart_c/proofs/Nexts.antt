@@ -37,8 +37,8 @@ finds_next bytes ended before after used count found left =
       used = within;
       are_next = λ more later.
           next_frames_are_all-rest (faultless bytes) more ended (found_in_first count after) later used within found.leads;
-      few = λ fewer. grind (arith, length-map, (left fewer).0);
-      all = λ fewer ends. grind (arith, length-map, (left fewer).1 ends);
-      undecided = λ fewer going. rw (drop-map of_byte used bytes) ((left fewer).2 going);
+      few = λ fewer. grind (arith, length-map);
+      all = λ fewer ends. grind (arith, length-map);
+      undecided = λ fewer going. rw drop-map ((left fewer).2 going);
       fault = refl;
     }

@@ -1,9 +1,8 @@
 -- Where fields stand, one after another, and how they are shown.
-use Rattle.std.proofs.Common.{◌≡◌, ◌<◌, ◌+◌, ℕ, List, [], ◌∷◌, ◌++◌, drop, take, map, get_or, length, slice_set, suc, zero, Some, refl, ap}
-use Rattle.std.proofs.Common.{arith}
+use Rattle.std.proofs.Common.{◌≡◌, ◌<◌, ◌+◌, ℕ, List, [], ◌∷◌, ◌++◌, drop, take, map, get_or, length, slice_set, Some, append_assoc, arith}
 use Rattle.std.proofs.lemmas.Grind.{common_steps}
-use Rattle.std.proofs.lemmas.List.{take-append-drop}
-use Rattle.hart_commands.specs.Fields.{Field, Row, fields_of, seen, split}
+use Rattle.std.proofs.lemmas.List.{drop-set-lt, take-append-drop, take_more_set}
+use Rattle.hart_commands.specs.Fields.{Field, fields_of, seen, split}
 use Rattle.hart_commands.specs.declared.fields.FieldRow.{FieldRow}
 use Rattle.hart_commands.specs.declared.fields.FieldSize.{FieldSize}
 use Rattle.hart_c.specs.Data.{kind_number, placed, written_over}
@@ -14,28 +13,16 @@ abbrev pub shown_from : ℕ → List HartField → List HartField → List HartF
 shown_from count places fields = take count fields ++ written_over places (drop count fields)
 
 -- nothing is written where there is nothing
-pub over_nothing : (places : List HartField) → written_over places [] ≡ []
+over_nothing : (places : List HartField) → written_over places [] ≡ []
 over_nothing places = grind (arith, common_steps)
-
--- what is shown with one place more is what is shown with the others after it
-shown_more : (count : ℕ) (place : HartField) (places fields : List HartField)
-    → shown_from (suc count) places (slice_set fields count place) ≡ shown_from count (place ∷ places) fields
-shown_more zero place places [] = over_nothing places
-shown_more zero place places (field ∷ fields) = refl
-shown_more (suc count) place places [] = over_nothing places
-shown_more (suc count) place places (field ∷ fields) = ap (λ (xs : List HartField). field ∷ xs) (shown_more count place places fields)
 
 -- one field after another is shown
 pub shown_next : (count place : ℕ) (fields after whole : List HartField) (these others : List Field) (field : Field)
     → after ≡ slice_set fields count (record { start = place; len = length field.bytes; kind = kind_number field.kind })
     → these ≡ field ∷ others → shown_from count (placed place these) fields ≡ whole
     → shown_from (count + 1) (placed (place + length field.bytes) others) after ≡ whole
-shown_next count place fields after whole these others field is all before = grind (arith, common_steps, shown_more)
-
--- the first of the fields is that of the first row
-pub fields_more : (row : Row) (rows : List Row) (bytes field after : List ℕ) → split row.size bytes ≡ Some (field, after)
-    → fields_of (row ∷ rows) bytes ≡ record { name = row.name; kind = row.kind; bytes = field } ∷ fields_of rows after
-fields_more row rows bytes field after is = grind (arith, common_steps)
+shown_next count place fields after whole these others field is all before =
+    grind (arith, common_steps, over_nothing, take_more_set, drop-set-lt, append_assoc)
 
 -- the fields from a row on
 pub row_at : (rows : List FieldRow) (i : ℕ) (d : FieldRow) (bytes field after : List ℕ) → i < length rows

@@ -1,5 +1,4 @@
-use Rattle.std.proofs.Common.{List, ap, arith, length, length-append, sym}
-use Rattle.hart_commands.specs.Fields.{Field}
+use Rattle.std.proofs.Common.{arith, length-append, sym}
 use Rattle.hart_c.proofs.Placed.{parts_of, row_at, shown_next}
 use Rattle.hart_c.proofs.data.show_fields.Goals as goal
 
@@ -13,7 +12,6 @@ loop-row-preserved c =
     record {
       few = grind (arith, length-append, loop.few, all);
       within = omega (arith, loop.within);
-      count = omega (arith, loop.count, ap (λ (fields : List Field). length fields) more);
-      shown = shown_next c.loop-row.count c.loop-row.place c.loop-row.fields _ _ _ _
-          (record { name = _; kind = _; bytes = c.in-Some.field.now }) c.show_field.ensures more loop.shown;
+      count = grind (arith, loop.count, more);
+      shown = shown_next c.loop-row.count c.loop-row.place c.loop-row.fields _ _ _ _ _ c.show_field.ensures more loop.shown;
     }

@@ -1,28 +1,25 @@
-use Rattle.std.proofs.Common.{◌∙◌, arith, ap, length, map, refl, sym, ◌<◌, ◌≡◌, inl}
+use Rattle.std.proofs.Common.{◌∙◌, arith, ap, length, map, sym, ◌<◌, ◌≡◌, inl, []}
 use Rattle.std.proofs.lemmas.Grind.{common_steps}
 use Rattle.std.proofs.lemmas.List.{length-map, length-take}
+use Rattle.hart_frame.specs.heard.Frames.{AreFrames, IsUndecided, none}
 use Rattle.hart_frame.specs.scan.Scanner.{Scan}
 use Rattle.hart_frame.specs.scan.Streamed.{begin}
 use Rattle.hart_frame.proofs.lemmas.Laws.{frames_are_streamed-pushed, messages_have_their_frame_alone-nothing}
 use Rattle.hart_c.specs.Find.{char_of}
-use Rattle.hart_c.proofs.Found.{history_one, nothing_undecided}
+use Rattle.hart_c.proofs.Found.{history_one}
 use Rattle.hart_c.proofs.Shown.{untouched_on}
 use Rattle.hart_c.proofs.find.hart_find.Goals.{then-loop-taken-test+else-count-frames, else-loop-taken-test}
 use Rattle.hart_c.proofs.find.hart_find.Goals as goal
 
+-- in nothing nothing is decided, since there is no frame
+nothing_undecided : AreFrames [] 0 [] → IsUndecided []
+nothing_undecided (none from nothing) = inl nothing
+
 pub loop-taken-init : goal.loop-taken-init
-loop-taken-init c = record {
-  within = omega arith;
-  len = refl;
-  room = omega arith;
-  untouched = refl;
-  tidy = λ k d none. absurd (omega (arith, none));
-  going = rw c.new-scanner.ensures refl;
-  drained = λ _. rw c.new-scanner.ensures refl;
-  undecided = λ _. rw c.new-scanner.ensures (nothing_undecided messages_have_their_frame_alone-nothing);
-  bits = c.have_fault_bits.ensures.0 c.if-not-have_fault_bits.false;
-  history = rw c.new-scanner.ensures begin;
-}
+loop-taken-init c =
+    let bits = c.have_fault_bits.ensures.0 c.if-not-have_fault_bits.false in
+    rw c.new-scanner.ensures
+    (grind (arith, common_steps, begin, nothing_undecided messages_have_their_frame_alone-nothing, bits))
 
 pub push-requires-clause-room : goal.push-requires-clause-room
 push-requires-clause-room c = grind (arith, common_steps, frames_are_streamed-pushed, length-take, length-map)

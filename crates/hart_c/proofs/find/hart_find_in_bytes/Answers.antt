@@ -1,9 +1,8 @@
-use Rattle.std.proofs.Common.{◌+◌, ◌∙◌, ◌++◌, [], arith}
+use Rattle.std.proofs.Common.{◌+◌, ◌++◌, [], arith}
 use Rattle.std.proofs.lemmas.Grind.{common_steps}
 use Rattle.std.proofs.lemmas.List.{append-nil, drop-set-lt, length-set}
 use Rattle.hart_frame.specs.heard.Character.{faultless}
 use Rattle.hart_frame.specs.scan.Next.{LeadsOn, frames_of}
-use Rattle.hart_frame.specs.scan.View.{found_of}
 use Rattle.hart_frame.proofs.lemmas.Laws.{next_frames_are_all-onward}
 use Rattle.hart_c.specs.Frames.{found_in_first}
 use Rattle.hart_c.proofs.Nexts.{IsFound, finds_next}
@@ -21,16 +20,7 @@ loop-count-preserved c =
     let given = found_in_first count frames in
     let leads : LeadsOn (faultless c.args.bytes.now) c.args.ended 0 (given ++ frames_of next.result.frame) next.result.used =
     grind (arith, common_steps, next_frames_are_all-onward) in
-    record {
-      len = len ∙ loop.len;
-      room = omega (arith, len, c.loop-count-test.true);
-      within = next.ensures.within;
-      untouched = drop-set-lt (count + 1) frames count frame (omega arith)
-          ∙ untouched_on count (count + 1) frames c.args.frames.now (omega arith) loop.untouched;
-      tidy = tidy_more count frames frame c.loop-count-test.true c.show_found.ensures.tidy loop.tidy;
-      leads = rw (shown_more count frames frame (found_of c.in-Some.found) c.loop-count-test.true c.show_found.ensures.found)
-          (rw c.in-Some.is at leads);
-    }
+    grind (arith, common_steps, length-set, drop-set-lt, untouched_on, tidy_more, shown_more, leads)
 
 pub returns-in_default : goal.returns-in_default
 returns-in_default c =

@@ -1,18 +1,175 @@
-use Rattle.hart_commands.specs.ReplyData.{reply_reading}
-use Rattle.hart_commands.specs.RequestData.{request_reading}
-use Rattle.hart_c.proofs.Acceptances.{one_acceptance}
-use Rattle.hart_c.proofs.Hearings.{one_heard, one_new_device}
-use Rattle.hart_c.proofs.Outcomes.{one_decoding, one_encoding, one_name, one_reply, one_request}
+use Rattle.std.proofs.Common.{◌≡◌, ◌⊎◌, ℕ, List, Option, None, Some, arith, inl, inr, length, map, refl}
+use Rattle.std.proofs.lemmas.Grind.{common_steps}
+use Rattle.hart_frame.specs.wire.FrameParts.{FrameParts}
+use Rattle.hart_frame.specs.wire.Message.{IsMessage}
+use Rattle.hart_frame.proofs.lemmas.Laws.{bodies_are_unambiguous-one_body, bodies_are_unambiguous-one_prefix, frames_are_unambiguous-one_list}
+use Rattle.hart_commands.specs.declared.reply.Reply.{Reply}
+use Rattle.hart_commands.specs.declared.request.Request.{Request}
+use Rattle.hart_device.specs.declared.fault.DeviceFault.{DeviceFault}
+use Rattle.hart_device.specs.declared.identity_parts.IdentityParts.{IdentityParts}
+use Rattle.hart_device.specs.image.Image.{IsImageFault}
+use Rattle.hart_device.proofs.lemmas.Laws.{deliveries_bring_one-one, images_have_no_fault}
+use Rattle.hart_master.proofs.lemmas.Laws.{replies_are_decided-one_reply}
+use Rattle.hart_c.specs.Device.{Hears, IsHearFault, IsHearing, IsInState, IsSaid, IsStateFault, image_in}
+use Rattle.hart_c.specs.Encode.{IsEncodeFault, IsFrame, IsWritten}
+use Rattle.hart_c.specs.Find.{char_of}
+use Rattle.hart_c.specs.Frames.{found_in, frame_in}
+use Rattle.hart_c.specs.Identity.{parts_of}
+use Rattle.hart_c.specs.Master.{Accepts, IsAcceptFault, IsSendFault, IsSent}
+use Rattle.hart_c.specs.declared.device.HartDevice.{HartDevice}
+use Rattle.hart_c.specs.declared.fault.Fault.{Fault}
+use Rattle.hart_c.specs.declared.fault.Fault.TheVariants.{BadFaultBits, Device, NoRequest, NoRoom, TooLong, WrongAddress}
+use Rattle.hart_c.specs.declared.find.HartChar.{HartChar}
+use Rattle.hart_c.specs.declared.frame.HartFrame.{HartFrame}
+use Rattle.hart_c.specs.declared.identity.HartIdentity.{HartIdentity}
+use Rattle.hart_c.specs.declared.process.HartProcess.{HartProcess}
+use Rattle.hart_c.proofs.Kept.{devices_are_kept-one_state}
 use Rattle.hart_c.proofs.laws.calls_have_one_outcome.Goals as goal
 
-pub returns : goal.returns
-returns c = record {
-  decode = one_decoding c.bytes_have_one_fault.ensures.one c.bytes_have_one_fault.ensures.not_both;
-  encode = one_encoding;
-  requests = λ command bytes. one_request command bytes (request_reading command bytes);
-  replies = λ command payload. one_reply command payload (reply_reading command payload);
-  names = one_name;
-  new_devices = one_new_device;
-  hear = one_heard c.bytes_have_one_image_fault.ensures;
-  accept = one_acceptance;
-}
+-- an outcome is one if success is, and the fault, and there are not both
+one_outcome : {A B C D R : Type 0} → (A → C → R) → (A → D → ⊥) → (B → C → ⊥) → (B → D → R) → A ⊎ B → C ⊎ D → R
+one_outcome both free none one (inl is) (inl again) = both is again
+one_outcome both free none one (inl is) (inr why) = absurd (free is why)
+one_outcome both free none one (inr why) (inl is) = absurd (none why is)
+one_outcome both free none one (inr why) (inr because) = one why because
+
+pub returns-clause-decode : goal.returns-clause-decode
+returns-clause-decode c bytes before after other outcome another is again =
+    let faults = c.bytes_have_one_fault.ensures in
+    grind (
+      arith,
+      faults.one bytes,
+      faults.not_both bytes (frame_in after) outcome.len,
+      faults.not_both bytes (frame_in other) another.len,
+      bodies_are_unambiguous-one_prefix (frame_in after) (frame_in other) bytes outcome.len another.len,
+    )
+
+-- a frame has one message with so many preamble bytes
+one_message : (frame : FrameParts) (preambles : ℕ) (message other : List ℕ) → IsMessage frame preambles message
+    → IsMessage frame preambles other → message ≡ other
+one_message frame preambles message other is again = grind (arith, bodies_are_unambiguous-one_body frame)
+
+one_encode_fault : (frame : HartFrame) (preambles room : ℕ) (fault other : Fault) → IsEncodeFault frame preambles room fault
+    → IsEncodeFault frame preambles room other → fault ≡ other
+one_encode_fault frame preambles room fault other why again = grind arith
+
+-- a frame whose message was written has no fault
+not_written : (frame : HartFrame) (preambles len : ℕ) (before after : List ℕ) (fault : Fault) → IsWritten frame preambles before after len
+    → length after ≡ length before → IsEncodeFault frame preambles (length before) fault → ⊥
+not_written frame preambles len before after fault is same why = grind (arith, common_steps, one_message)
+
+pub returns-clause-encode : goal.returns-clause-encode
+returns-clause-encode c frame preambles before after other outcome another long longer =
+    one_outcome
+    (λ is again. grind (arith, one_message (frame_in frame) preambles is.1.message again.1.message is.1.is_message again.1.is_message))
+    (λ is why. not_written frame preambles outcome.len before after why.0 is.1 long why.1)
+    (λ why is. not_written frame preambles another.len before other why.0 is.1 longer why.1)
+    (λ why again. grind (arith, one_encode_fault frame preambles (length before) why.0 again.0))
+
+pub returns-clause-new_devices : goal.returns-clause-new_devices
+returns-clause-new_devices c given before after other outcome another =
+    one_outcome (λ is again. let parts : IdentityParts = grind (arith, common_steps) in grind (arith, is.4 parts, again.4 parts))
+    (λ is why. why.0 is.3) (λ why is. why.0 is.3) (λ why again. grind arith)
+
+-- an answer is said in one way
+one_said : (answer : Option FrameParts) (preambles : ℕ) (old new newer : List ℕ) (len size : ℕ) → IsSaid answer preambles old new len
+    → IsSaid answer preambles old newer size → (len ≡ size) × (new ≡ newer)
+one_said (Some reply) preambles old new newer len size is again = grind (arith, one_message reply preambles is.0 again.0)
+one_said answer preambles old new newer len size is again = grind arith
+
+-- of who hears what
+module _ (identity : HartIdentity) (process : HartProcess) (heard : List HartChar) (device : HartDevice) where
+  -- who hears what is one
+  one_hearing : (is again : IsHearing identity process heard device)
+      → (is.state ≡ again.state) × (is.measured ≡ again.measured) × (is.brought ≡ again.brought)
+  one_hearing is again =
+      grind (
+        arith,
+        devices_are_kept-one_state (parts_of identity) device is.state again.state is.kept again.kept,
+        deliveries_bring_one-one (parts_of identity) (map char_of heard) is.brought again.brought is.brings again.brings,
+      )
+
+  -- a device that is in a state has no fault
+  in_state : (fault : Fault) → IsInState identity device → IsStateFault identity device fault → ⊥
+  in_state fault is why = grind (arith, images_have_no_fault is.0 (image_in device))
+
+  one_hear_fault : (one : (image : List ℕ) (fault other : DeviceFault) → IsImageFault image fault → IsImageFault image other
+      → fault ≡ other) (room : ℕ) (fault other : Fault) → IsHearFault identity process heard device room fault
+      → IsHearFault identity process heard device room other → fault ≡ other
+  one_hear_fault one room (Device fault) other why because = grind (arith, one, in_state (Device fault))
+  one_hear_fault one room NoRoom other why because = grind (arith, in_state other (why.0.state, why.0.kept), why.0.process_is.count)
+  one_hear_fault one room fault other why because = grind (arith, in_state other)
+
+  -- what a device heard, and said, has no fault, and is one
+  not_heard : (after : HartDevice) (old new : List ℕ) (len : ℕ) (fault : Fault) → Hears identity process heard device after old new len
+      → length new ≡ length old → IsHearFault identity process heard device (length old) fault → ⊥
+  not_heard after old new len NoRoom is same (hearing, none) =
+      grind (arith, common_steps, one_hearing hearing is.hearing, is.reply, one_message)
+  not_heard after old new len fault is same why =
+      grind (arith, in_state fault (is.hearing.state, is.hearing.kept), is.hearing.process_is.count, is.hearing.delivery)
+
+  same_heard : (after other : HartDevice) (old new newer : List ℕ) (len size : ℕ) → Hears identity process heard device after old new len
+      → Hears identity process heard device other old newer size → (len ≡ size) × (after ≡ other) × (new ≡ newer)
+  same_heard after other old new newer len size is again =
+      let (state, measured, brought) = one_hearing is.hearing again.hearing in
+      grind (arith, one_said, state, measured, brought, is.reply, again.reply, is.state, again.state)
+
+pub returns-clause-hear : goal.returns-clause-hear
+returns-clause-hear c identity process heard before after other old new newer outcome another long longer =
+    one_outcome
+    (λ is again. grind (arith, same_heard identity process heard before after other old new newer outcome.len another.len is.1 again.1))
+    (λ is why. not_heard identity process heard before after old new outcome.len why.0 is.1 long why.1)
+    (λ why is. not_heard identity process heard before other old newer another.len why.0 is.1 longer why.1)
+    (λ why again.
+    grind (arith, one_hear_fault identity process heard before c.bytes_have_one_image_fault.ensures (length old) why.0 again.0))
+
+-- numbers that are refused as no frame, whatever the number of preamble bytes and the room, are none
+no_frame : (numbers : HartFrame) (fault : Fault) → ((preambles room : ℕ) → IsEncodeFault numbers preambles room fault)
+    → IsFrame numbers → ⊥
+no_frame numbers fault why is = grind (arith, why 5 0, why 0 0)
+
+-- a request that was sent has no fault
+not_sent : (numbers : HartFrame) (request : Request) (fault : Fault) → IsSent numbers request → IsSendFault numbers fault → ⊥
+not_sent numbers request NoRequest is why = why.1 request is.asked
+not_sent numbers request WrongAddress is why = grind (arith, common_steps)
+not_sent numbers request fault is why = no_frame numbers fault why is.is_frame
+
+one_accept_fault : (numbers : HartFrame) (heard : List HartChar) (fault other : Fault) → IsAcceptFault numbers heard fault
+    → IsAcceptFault numbers heard other → fault ≡ other
+one_accept_fault numbers heard BadFaultBits other why because = grind (arith, not_sent numbers why.0.0 other why.0.1)
+one_accept_fault numbers heard TooLong other why because = grind (arith, not_sent numbers why.0.0 other why.0.1)
+one_accept_fault numbers heard fault BadFaultBits why because = grind (arith, not_sent numbers because.0.0 fault because.0.1)
+one_accept_fault numbers heard fault TooLong why because = grind (arith, not_sent numbers because.0.0 fault because.0.1)
+one_accept_fault numbers heard NoRequest NoRequest why because = refl
+one_accept_fault numbers heard NoRequest WrongAddress why because = absurd (why.1 because.1.0 because.1.1)
+one_accept_fault numbers heard NoRequest other why because = absurd (no_frame numbers other because why.0)
+one_accept_fault numbers heard WrongAddress WrongAddress why because = refl
+one_accept_fault numbers heard WrongAddress NoRequest why because = absurd (because.1 why.1.0 why.1.1)
+one_accept_fault numbers heard WrongAddress other why because = absurd (no_frame numbers other because why.0)
+one_accept_fault numbers heard fault NoRequest why because = absurd (no_frame numbers fault why because.0)
+one_accept_fault numbers heard fault WrongAddress why because = absurd (no_frame numbers fault why because.0)
+one_accept_fault numbers heard fault other why because = one_encode_fault numbers 5 0 fault other (why 5 0) (because 5 0)
+
+-- what is accepted has no fault, and is one
+not_accepted : (numbers : HartFrame) (heard : List HartChar) (before after : HartFrame) (said : Option Reply) (fault : Fault)
+    → Accepts numbers heard before after said → IsAcceptFault numbers heard fault → ⊥
+not_accepted numbers heard before after said fault is why = grind (arith, not_sent numbers is.request fault is.sent, is.delivery)
+
+same_accepted : (numbers : HartFrame) (heard : List HartChar) (before after other : HartFrame) (said tale : Option Reply)
+    → Accepts numbers heard before after said → Accepts numbers heard before other tale
+    → (said ≡ tale) × (found_in after ≡ found_in other)
+same_accepted numbers heard before after other None None is again = grind arith
+same_accepted numbers heard before after other None (Some reply) is again =
+    let request : is.request ≡ again.request = grind arith in absurd (is.reply.0 reply (rw (← request) at again.reply.0))
+same_accepted numbers heard before after other (Some reply) None is again =
+    let request : is.request ≡ again.request = grind arith in absurd (again.reply.0 reply (rw request at is.reply.0))
+same_accepted numbers heard before after other (Some reply) (Some another) is again =
+    grind (arith, common_steps, frames_are_unambiguous-one_list, replies_are_decided-one_reply)
+
+pub returns-clause-accept : goal.returns-clause-accept
+returns-clause-accept c numbers heard before after other acceptance another =
+    one_outcome
+    (λ is again. grind (arith, same_accepted numbers heard before after other is.0 again.0 is.1 again.1))
+    (λ is why. not_accepted numbers heard before after is.0 why.0 is.1 why.1)
+    (λ why is. not_accepted numbers heard before other is.0 why.0 is.1 why.1)
+    (λ why again. grind (arith, one_accept_fault numbers heard why.0 again.0))

@@ -1,5 +1,83 @@
-use Rattle.hart_c.proofs.Stands.{fields_stand_where_they_are_shown-replies, fields_stand_where_they_are_shown-requests}
+use Rattle.std.proofs.Common.{◌≡◌, ◌<◌, ◌+◌, ℕ, zero, suc, List, [], ◌∷◌, ◌++◌, Bool, Some, append_assoc, arith, drop, length, length-append, refl, slice_get, take, true, false, Ok, Err}
+use Rattle.std.proofs.Math.Seq.{drop-append-add, drop-append_seam, take-append_seam}
+use Rattle.std.proofs.lemmas.Grind.{common_steps}
+use Rattle.std.proofs.lemmas.List.{take-append-drop}
+use Rattle.std.proofs.lemmas.Option.{slice_get_cases}
+use Rattle.std.specs.Prelude.{if◌then◌else◌, ◌==◌}
+use Rattle.hart_commands.specs.Commands.{content_bytes}
+use Rattle.hart_commands.specs.Fields.{Field, Row, bytes_of, fields_of}
+use Rattle.hart_commands.specs.RequestData.{Reading, request_data, request_reading}
+use Rattle.hart_c.specs.Data.{IsShown, RequestShown, StandsAt, kind_number, placed, request_fields, written_over}
+use Rattle.hart_c.specs.Names.{rows_for}
+use Rattle.hart_c.specs.declared.data.HartField.{HartField}
+use Rattle.hart_c.specs.declared.data.HartReading.{HartReading}
+use Rattle.hart_c.proofs.Placed.{parts_of}
 use Rattle.hart_c.proofs.laws.fields_stand_where_they_are_shown.Goals as goal
 
-pub returns : goal.returns
-returns c = record { requests = fields_stand_where_they_are_shown-requests; replies = fields_stand_where_they_are_shown-replies }
+-- what is shown within the places is one of them, and there are as many places as fields
+over-at : (places before : List HartField) (index : ℕ) (shown : HartField) → index < length places
+    → slice_get (written_over places before) index ≡ Some shown → slice_get places index ≡ Some shown
+over-at places before index shown within is = grind (arith, common_steps, slice_get_cases)
+
+placed-length : (start : ℕ) (fields : List Field) → length (placed start fields) ≡ length fields
+placed-length start [] = refl
+placed-length start (field ∷ fields) = cc (placed-length (start + length field.bytes) fields)
+
+-- the field whose place is shown, and where its bytes are among those of all fields
+field_of : (from : ℕ) (fields : List Field) (index : ℕ) (shown : HartField) → slice_get (placed from fields) index ≡ Some shown
+    → (field : Field) × (slice_get fields index ≡ Some field) × (shown.start ≡ from + length (bytes_of (take index fields)))
+    × (shown.len ≡ length field.bytes) × (shown.kind ≡ kind_number field.kind)
+    × (bytes_of fields ≡ bytes_of (take index fields) ++ (field.bytes ++ bytes_of (drop (suc index) fields)))
+field_of from [] index shown is = cc
+field_of from (field ∷ fields) zero shown is = grind arith
+field_of from (field ∷ fields) (suc index) shown is =
+    grind (arith, append_assoc, length-append, field_of (from + length field.bytes) fields index shown is)
+
+-- its row
+row_of : (rows : List Row) (bytes : List ℕ) (index : ℕ) (field : Field) → slice_get (fields_of rows bytes) index ≡ Some field
+    → (row : Row) × (slice_get rows index ≡ Some row) × (field.name ≡ row.name) × (field.kind ≡ row.kind)
+row_of [] bytes index field is = cc
+row_of (row ∷ rows) bytes zero field is = (row, refl, grind arith, grind arith)
+row_of (row ∷ rows) bytes (suc index) field is = grind (arith, row_of rows)
+
+-- the bytes of all fields are the first
+bytes_first : (rows : List Row) (bytes : List ℕ)
+    → bytes_of (fields_of rows bytes) ++ drop (length (bytes_of (fields_of rows bytes))) bytes ≡ bytes
+bytes_first [] bytes = refl
+bytes_first (row ∷ rows) bytes =
+    grind (arith, bytes_first rows, parts_of, append_assoc, drop-append-add, length-append)
+
+-- so the place of each index is that of the field of its row, if fields are shown
+stands : (is_reply : Bool) (command n : ℕ) (bytes before : List ℕ) (taken code status : ℕ) (old new : List HartField)
+    (reading : HartReading) (index : ℕ) (shown : HartField) (done : Bool) (fields : List Field)
+    → fields ≡ (if done then fields_of (rows_for is_reply command) (take n bytes) else [])
+    → IsShown (length before) fields taken code status old new reading → index < reading.count → slice_get new index ≡ Some shown
+    → StandsAt is_reply command (length before) fields (before ++ bytes) index shown
+stands is_reply command n bytes before taken code status old new reading index shown done fields are from within got =
+    let rows = rows_for is_reply command in
+    let all : fields ≡ fields_of rows (take n bytes) = grind arith in
+    let is : slice_get (placed (length before) fields) index ≡ Some shown = grind (arith, over-at, placed-length) in
+    let (field, is_field, start, len, kind, parts) = field_of (length before) fields index shown is in
+    let (row, is_row, name, kinds) = row_of rows (take n bytes) index field (cc) in
+    let front = before ++ bytes_of (take index fields) in
+    let more = bytes_of (drop (suc index) fields) ++ (drop (length (bytes_of fields)) (take n bytes) ++ drop n bytes) in
+    let split : before ++ bytes ≡ front ++ (field.bytes ++ more) =
+    grind (arith, bytes_first rows (take n bytes), take-append-drop n bytes, append_assoc) in
+    grind (arith, common_steps, length-append, drop-append_seam, take-append_seam)
+
+of_reading : (command index : ℕ) (bytes : List ℕ) (read : Reading) (old new : List HartField) (reading : HartReading) (shown : HartField)
+    → RequestShown command bytes read old new reading → index < reading.count → slice_get new index ≡ Some shown
+    → StandsAt false command 0 (request_fields command bytes read) bytes index shown
+of_reading command index bytes (Ok request) old new reading shown =
+    stands false command (length (request_data request)) bytes [] _ 0 0 old new reading index shown true _ refl
+of_reading command index bytes (Err code) old new reading shown =
+    stands false command 0 bytes [] 0 code 0 old new reading index shown false _ refl
+
+pub returns-clause-requests : goal.returns-clause-requests
+returns-clause-requests c command index bytes = of_reading command index bytes (request_reading command bytes)
+
+pub returns-clause-replies : goal.returns-clause-replies
+returns-clause-replies c command index (code ∷ status ∷ bytes) old new reading shown reply read outcome within got =
+    stands true command (length (content_bytes reply.content)) bytes (code ∷ status ∷ []) _ reply.code reply.status.0 old new reading index
+    shown (reply.code == 0) _ refl (rw read at outcome) within got
+returns-clause-replies c command index payload old new reading shown reply read outcome within got = cc

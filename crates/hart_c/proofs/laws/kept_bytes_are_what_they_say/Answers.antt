@@ -1,9 +1,55 @@
-use Rattle.hart_c.proofs.Bytes.{first_bytes, protection_is, protection_kept}
+use Rattle.std.proofs.Common.{◌≡◌, ◌-◌, ◌%◌, ◌+◌, ◌<◌, ◌≤◌, ◌++◌, ◌∷◌, [], ℕ, Bool, List, arith, length, append_assoc, slice_index, take}
+use Rattle.std.proofs.Math.Seq.{drop-append_seam, take-append_seam}
+use Rattle.std.proofs.lemmas.Grind.{common_steps}
+use Rattle.std.proofs.lemmas.List.{take-append-drop}
+use Rattle.std.specs.List.{flat_map}
+use Rattle.std.specs.Prelude.{if◌then◌else◌, ◌/◌}
+use Rattle.hart_values.specs.declared.each_master.EachMaster.{EachMaster}
+use Rattle.hart_commands.specs.Registers.{bytes_in}
+use Rattle.hart_commands.specs.declared.register.Register.TheVariants.{Mode, Polling}
+use Rattle.hart_device.specs.Device.{DeviceState}
+use Rattle.hart_device.specs.Identity.{two_bytes}
+use Rattle.hart_device.specs.declared.identity_parts.IdentityParts.{IdentityParts}
+use Rattle.hart_device.specs.image.Image.{flags_of}
+use Rattle.hart_c.specs.Device.{IsKept}
+use Rattle.hart_c.specs.declared.device.HartDevice.{HartDevice}
 use Rattle.hart_c.proofs.laws.kept_bytes_are_what_they_say.Goals as goal
 
-pub returns : goal.returns
-returns c = record {
-  registers = first_bytes;
-  protected = protection_is;
-  protects = protection_kept;
-}
+-- what stands before the last byte, and that byte
+last_is : (image front : List ℕ) (len flags : ℕ) → length image ≡ 86 → len ≤ 86 → take len image ≡ front ++ flags ∷ []
+    → (0 < len) × (take (len - 1) image ≡ front) × (slice_index image (len - 1) ≡ flags)
+last_is image front len flags long fits written =
+    grind (arith, common_steps, take-append_seam front (flags ∷ []), drop-append_seam front (flags ∷ []))
+
+-- the bytes that are kept are what stands before their flags, and those
+flagged : (parts : IdentityParts) (device : HartDevice) (state : DeviceState) (is : IsKept parts device state) → length device.image ≡ 86
+    → (0 < device.image_len) × (take (device.image_len - 1) device.image
+    ≡ is.image.version ∷ (flat_map (bytes_in state.contents) is.image.listed ++ two_bytes state.counter))
+    × (slice_index device.image (device.image_len - 1) ≡ flags_of state.changed state.protected)
+flagged parts device state is long =
+    let front = is.image.version ∷ (flat_map (bytes_in state.contents) is.image.listed ++ two_bytes state.counter) in
+    last_is device.image front device.image_len _ long is.fits (grind (arith, common_steps, append_assoc, flat_map, is.image.written))
+
+-- the two lower flags stay, and the flag of write protection is bit 2
+flags_are : (changed : EachMaster Bool) (protected on : Bool)
+    → (flags_of changed protected % 4 + (if on then 4 else 0) ≡ flags_of changed on)
+    × (flags_of changed protected / 4 ≡ (if protected then 1 else 0))
+flags_are changed protected on = grind arith
+
+pub returns-clause-protects : goal.returns-clause-protects
+returns-clause-protects c parts device state on long is =
+    let flags = flagged parts device state is long in grind (arith, common_steps, flags_are, append_assoc, flat_map)
+
+pub returns-clause-protected : goal.returns-clause-protected
+returns-clause-protected c parts device state long is =
+    rw (flagged parts device state is long).2 (flags_are state.changed state.protected state.protected).1
+
+-- a list of one byte
+one_byte : (xs : List ℕ) → length xs ≡ 1 → xs ≡ slice_index xs 0 ∷ []
+one_byte xs long = grind (arith, common_steps)
+
+pub returns-clause-registers : goal.returns-clause-registers
+returns-clause-registers c parts device state long is =
+    let polling = one_byte state.contents.polling (is.image.contents Polling).0 in
+    let mode = one_byte state.contents.mode (is.image.contents Mode).0 in
+    grind (arith, polling, mode, is.image.known, take-append-drop device.image_len device.image)

@@ -1,9 +1,20 @@
-use Rattle.std.proofs.Common.{◌≡◌, ◌∙◌, arith, map, refl}
+use Rattle.std.proofs.Common.{◌≡◌, List, ◌∙◌, arith, map, refl}
 use Rattle.std.proofs.lemmas.Grind.{common_steps}
 use Rattle.hart_master.proofs.lemmas.Laws.{acceptance_is_decided-by_its_frame}
 use Rattle.hart_c.specs.Find.{char_of}
-use Rattle.hart_c.proofs.Accepted.{send_fault}
+use Rattle.hart_c.specs.Master.{IsAcceptFault, IsSendFault}
+use Rattle.hart_c.specs.declared.fault.Fault.{Fault}
+use Rattle.hart_c.specs.declared.fault.Fault.TheVariants.{BadFaultBits, TooLong}
+use Rattle.hart_c.specs.declared.find.HartChar.{HartChar}
+use Rattle.hart_c.specs.declared.frame.HartFrame.{HartFrame}
 use Rattle.hart_c.proofs.master.accept.Goals as goal
+
+-- a fault of the request is one of what is accepted
+send_fault : (numbers : HartFrame) (heard : List HartChar) (fault : Fault) → IsSendFault numbers fault
+    → IsAcceptFault numbers heard fault
+send_fault numbers heard BadFaultBits refused = absurd (refused 0 0)
+send_fault numbers heard TooLong refused = absurd (refused 0 0)
+send_fault numbers heard _ refused = refused
 
 pub returns-in_err-master-clause-refused : goal.returns-in_err-master-clause-refused
 returns-in_err-master-clause-refused c = grind (arith, common_steps, send_fault)

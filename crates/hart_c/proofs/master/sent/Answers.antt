@@ -1,12 +1,34 @@
-use Rattle.std.proofs.Common.{◌≡◌, Err, arith}
+use Rattle.std.proofs.Common.{◌≡◌, ℕ, Err, arith, false, is_err, true}
 use Rattle.std.proofs.lemmas.Grind.{common_steps}
+use Rattle.hart_values.specs.declared.address.Address.{Address}
+use Rattle.hart_commands.specs.declared.request.Request.{Request}
+use Rattle.hart_master.specs.Master.{hand_sent, hand_submitted, result_submitted}
+use Rattle.hart_master.specs.Pairing.{may_ask}
+use Rattle.hart_master.specs.declared.hand.Hand.TheVariants.{Awaiting, Empty}
+use Rattle.hart_c.specs.Encode.{IsEncodeFault}
+use Rattle.hart_c.specs.Master.{IsSendFault}
+use Rattle.hart_c.specs.declared.fault.Fault.{Fault}
+use Rattle.hart_c.specs.declared.frame.HartFrame.{HartFrame}
 use Rattle.hart_c.specs.declared.fault.Fault.TheVariants.{NoRequest}
-use Rattle.hart_c.proofs.Accepted.{frame_fault, not_taken, taken}
 use Rattle.hart_c.proofs.master.sent.Goals as goal
+
+-- a fault of the frame is one of the request
+frame_fault : (numbers : HartFrame) (fault : Fault) → ((preambles room : ℕ) → IsEncodeFault numbers preambles room fault)
+    → IsSendFault numbers fault
+frame_fault numbers fault refused = grind (arith, refused 0 0)
+
+-- an idle master takes a request if it may be asked at the address, and once it is sent its reply is awaited
+taken : (address : Address) (request : Request)
+    → (is_err (result_submitted Empty address request) ≡ true → may_ask address request ≡ false)
+    × (is_err (result_submitted Empty address request) ≡ false → (may_ask address request ≡ true)
+    × (hand_sent (hand_submitted Empty address request)
+    ≡ Awaiting (record { address = address; request = request; sendings = 1 }) 0))
+taken address request = grind arith
 
 pub returns-in_err-frame-clause-refused : goal.returns-in_err-frame-clause-refused
 returns-in_err-frame-clause-refused c =
-    let is : c.from_residual.result ≡ Err c.in_err-frame.field-0.0 = grind (arith, common_steps) in grind (arith, common_steps, frame_fault)
+    let is : c.from_residual.result ≡ Err c.in_err-frame.field-0.0 = grind (arith, common_steps) in
+    rw is (frame_fault c.args.request.now c.in_err-frame.field-0.0 c.in_err-frame.ensures.refused)
 
 pub returns-in_err-asked-clause-refused : goal.returns-in_err-asked-clause-refused
 returns-in_err-asked-clause-refused c =
@@ -20,14 +42,21 @@ returns-then-is_err-clause-refused c =
       (
         c.in_ok-asked.asked,
         rw c.in_ok-frame.ensures.same at c.in_ok-asked.ensures.asked,
-        not_taken c.args.request.now c.in_ok-frame.frame c.in_ok-asked.asked c.master.result c.address.result c.unwrap-master.result
-            c.submit.result c.in_ok-frame.ensures.same c.address.ensures made c.submit.ensures.result (grind arith),
+        grind (arith, taken c.address.result c.in_ok-asked.asked, made),
       ),
     )
 
 pub returns-clause-awaits : goal.returns-clause-awaits
 returns-clause-awaits c =
     let made = rw c.unwrap-master.ensures at c.new.ensures.kept in
-    taken c.args.request.now c.in_ok-frame.frame c.in_ok-asked.asked c.master.result c.address.result c.unwrap-master.result
-    c.submit.result c.in_ok-frame.ensures.same c.address.ensures made c.submit.ensures.result c.submit.new.self c.send.new.self
-    c.in_ok-frame.ensures.frame c.in_ok-asked.ensures.asked c.master.ensures (grind arith) c.submit.ensures.state c.send.ensures.state
+    let sent = taken c.address.result c.in_ok-asked.asked in
+    record {
+      request = c.in_ok-asked.asked;
+      sent = record {
+        is_frame = c.in_ok-frame.ensures.frame;
+        asked = rw c.in_ok-frame.ensures.same at c.in_ok-asked.ensures.asked;
+        paired = grind (arith, sent, made);
+      };
+      id = grind (arith, made);
+      hand = grind (arith, sent, made);
+    }
