@@ -12,7 +12,6 @@ pub mod Example
 pub mod Start
 pub mod Front
 pub mod Sum
-pub mod Miss
 pub mod Missed
 pub mod Hint
 pub mod InTheWay

@@ -1,6 +1,6 @@
 -- The miss of a place by what stands before it, and that there is none where a frame stands.
 use Rattle.std.proofs.Common.{◌↔◌, ◌≤◌, refl, ◌≡◌, ◌≢◌, ℕ, zero, suc, ◌+◌, ◌-◌, ◌<◌, ◌⊎◌, inl, inr, List, [], ◌∷◌, ◌++◌, length, take, drop, get_or}
-use Rattle.std.proofs.Common.{bit_xor, true, false, Option, None, Some, not, ◌∙◌, arith, append_assoc, length-append}
+use Rattle.std.proofs.Common.{bit_xor, true, false, None, Some, not, arith, append_assoc, length-append}
 use Rattle.std.proofs.Math.Seq.{append_snoc, drop-cons, get_or-append_seam, take-append_seam, take-suc}
 use Rattle.std.proofs.lemmas.Bool.Decides.{nat_tests}
 use Rattle.std.proofs.lemmas.Grind.{common_steps}
@@ -12,15 +12,15 @@ use Rattle.hart_frame.specs.declared.heard.miss.Miss.{Miss}
 use Rattle.hart_frame.specs.declared.heard.miss.Miss.TheVariants.{OnePreamble}
 use Rattle.hart_frame.specs.heard.Character.{Character, faultless, faultless_bytes}
 use Rattle.hart_frame.specs.heard.InTheWay.{FollowsOnePreamble, HasBodyAt}
-use Rattle.hart_frame.specs.heard.Miss.{HasFrameAt, body_miss, check_byte_in, fitting_check_byte, miss_in, miss_of, follows_one_preamble}
+use Rattle.hart_frame.specs.heard.Miss.{HasFrameAt, body_miss, check_byte_in, fitting_check_byte, miss_of, follows_one_preamble}
 use Rattle.hart_frame.specs.heard.Miss.{follows_preamble, is_preamble, is_start}
 use Rattle.hart_frame.specs.heard.Start.{IsStart}
 use Rattle.hart_frame.specs.wire.Body.{BeginsWithBody}
 use Rattle.hart_frame.specs.wire.FrameParts.{FrameParts}
-use Rattle.hart_frame.specs.wire.Layout.{body_length}
+use Rattle.hart_frame.specs.wire.Layout.{body_length, byte_count_place}
+use Rattle.hart_frame.specs.wire.Refusal.{HasCheckByte, HasGoodByteCount}
 use Rattle.hart_frame.proofs.lemmas.heard.Front.{faultless_bytes-append}
 use Rattle.hart_frame.proofs.lemmas.heard.Body.{head_of}
-use Rattle.hart_frame.proofs.lemmas.heard.Miss.{miss_in-whole, same_check}
 use Rattle.hart_frame.proofs.lemmas.heard.Place.{preamble}
 use Rattle.hart_frame.proofs.lemmas.heard.Start.{is_start_from, starts_at}
 use Rattle.hart_frame.proofs.lemmas.wire.Parity.{even-is}
@@ -50,18 +50,10 @@ start_test chars place =
       tested chars place,
     )
 
--- what the miss of a place is, where a body may start, after one preamble byte, and elsewhere
+-- what the miss of a place is where a body may start
 pub miss_of-start : (chars heard : List Character) (start : ℕ) → heard ≡ drop start chars → IsStart start chars
     → body_miss start heard ≡ miss_of chars start
 miss_of-start chars heard start is starts = grind (arith, start_test chars start)
-
-pub miss_of-one : (chars heard : List Character) (start : ℕ) → heard ≡ drop start chars → (IsStart start chars → ⊥)
-    → follows_one_preamble chars start ≡ true → is_some (body_miss start heard) ≡ false → Some OnePreamble ≡ miss_of chars start
-miss_of-one chars heard start is not one none = grind (arith, start_test chars start)
-
-pub miss_of-nothing : (chars heard : List Character) (start : ℕ) → heard ≡ drop start chars → (IsStart start chars → ⊥)
-    → (follows_one_preamble chars start ≡ false) ⊎ (is_some (body_miss start heard) ≡ true) → None ≡ miss_of chars start
-miss_of-nothing chars heard start is not cases = grind (arith, start_test chars start)
 
 -- which misses there are where a body may start, and after one preamble byte
 pub miss_of-some : (chars : List Character) (start : ℕ) (miss : Miss) → miss_of chars start ≡ Some miss
@@ -113,18 +105,14 @@ body_fits bytes f len begins =
     let fits = even-is body.checked body.check first last (rw body.parts at body.parity) in
     grind (arith, common_steps, whole, bit_xor)
 
--- nothing is missed of bytes that begin with a body
-pub nothing_missed : (bytes : List ℕ) (f : FrameParts) (len : ℕ) (faulty : Option Character) (end start : ℕ) → BeginsWithBody bytes f len
-    → miss_in bytes faulty end start ≡ None
-nothing_missed bytes f len faulty end start begins =
-    miss_in-whole bytes faulty end start (has_check bytes f len begins) ∙ same_check bytes start (body_fits bytes f len begins)
-
+-- so nothing is missed where a body stands
 pub none_of : (chars : List Character) (start : ℕ) → HasBodyAt chars start → body_miss start (drop start chars) ≡ None
 none_of chars start has =
     let bytes = faultless_bytes (drop start chars) in
     let begins : BeginsWithBody bytes has.frame (length has.body) =
     grind (arith, faultless_bytes-append, BeginsWithBody-append has.frame has.body (faultless_bytes has.rest)) in
-    nothing_missed bytes has.frame (length has.body) _ _ start begins
+    let fits = body_fits bytes has.frame (length has.body) begins in
+    grind (arith, nat_tests, has_check bytes has.frame (length has.body) begins)
 
 -- where a frame stands there is no miss
 pub no_miss : (place : ℕ) (chars : List Character) → HasFrameAt chars place → miss_of chars place ≡ None
@@ -135,3 +123,8 @@ no_miss place chars (found, stands, at) =
     let after : List Character = faultless body ++ stands.rest in
     let split : chars ≡ front ++ after = grind (arith, common_steps, append_assoc, preamble) in
     grind (arith, common_steps, drop_at, length-append, miss_of-start, none_of)
+
+-- what is said up to the check byte is said by the bytes before it
+pub good_prefix : (bytes : List ℕ) (n : ℕ) → HasCheckByte bytes → byte_count_place bytes < n → n ≤ length bytes
+    → HasGoodByteCount (take n bytes) × (body_length (take n bytes) ≡ body_length bytes)
+good_prefix bytes n has after within = grind (arith, get_or-take, length-take-le)
