@@ -2,11 +2,9 @@
 use Rattle.std.proofs.Common.{◌≡◌, ◌≢◌, ℕ, ◌+◌, ◌-◌, ◌<◌, ◌≤◌, ◌⊎◌, List, length, take, ◌↔◌, drop, fold, get_or, bit_xor, None}
 use Rattle.std.proofs.Common.{Some, refl, sym, arith}
 use Rattle.std.proofs.Common.{Option, ◌∙◌}
-use Rattle.std.proofs.lemmas.List.{take_more}
 use Rattle.hart_frame.specs.declared.wire.fault.FrameFault.{FrameFault}
-use Rattle.hart_frame.specs.heard.Miss.{check_byte_in, fault_of, miss_in}
-use Rattle.hart_frame.specs.wire.Parity.{HasEvenParity}
-use Rattle.hart_frame.specs.wire.Refusal.{HasCheckByte, IsRefusedWith}
+use Rattle.hart_frame.specs.heard.Miss.{fault_of, miss_in}
+use Rattle.hart_frame.specs.wire.Refusal.{IsRefusedWith}
 use Rattle.std.proofs.lemmas.Bool.Decides.{nat_tests}
 use Rattle.std.proofs.lemmas.Grind.{common_steps}
 use Rattle.std.proofs.lemmas.List.{get_or-drop, length-append, length-drop}
@@ -23,7 +21,7 @@ use Rattle.hart_frame.specs.heard.Start.{IsStart}
 use Rattle.hart_frame.specs.wire.Layout.{body_length}
 use Rattle.hart_frame.specs.wire.Parity.{IsCheckByte}
 use Rattle.hart_frame.proofs.lemmas.heard.Front.{char_at, after_faultless, faultless_fit, length-faultless_bytes}
-use Rattle.hart_frame.proofs.lemmas.heard.Missed.{miss_of-some, miss_of-start}
+use Rattle.hart_frame.proofs.lemmas.heard.Missed.{odd, miss_of-some, miss_of-start}
 use Rattle.hart_frame.proofs.lemmas.heard.Place.{preamble}
 use Rattle.hart_frame.proofs.lemmas.wire.Parity.{HasEvenParity-push, IsCheckByte-fold, even-is}
 use Rattle.hart_frame.proofs.lemmas.wire.Truncated.{fits_at}
@@ -55,7 +53,8 @@ nothing_at_end chars start end = grind (arith, common_steps, slice_get_past, len
 -- where the bytes stop too early: at the end of the list, or at a character with fault bits
 stops : (chars : List Character) (start : ℕ) (at_end : Miss) → start ≤ length chars
     → (ComeToTheEnd chars start × (slice_get chars (start + length (bytes_from chars start)) ≡ None)
-    × (faulty_or (slice_get (drop start chars) (length (bytes_from chars start))) (start + length (bytes_from chars start)) at_end ≡ at_end))
+    × (faulty_or (slice_get (drop start chars) (length (bytes_from chars start))) (start + length (bytes_from chars start)) at_end
+    ≡ at_end))
     ⊎ ((start + length (bytes_from chars start) < length chars)
     × (faults : ℕ) × HasFaultsAt chars (start + length (bytes_from chars start)) faults
     × (faulty_or (slice_get (drop start chars) (length (bytes_from chars start))) (start + length (bytes_from chars start)) at_end
@@ -119,18 +118,14 @@ pub way_of : (start : ℕ) (chars : List Character) (miss : Miss) → All (λ c.
     → miss ≢ OnePreamble → IsStart start chars × IsInTheWay chars start miss
 way_of start chars miss fit is two = grind (arith, miss_of-some chars start miss is, in_the_way start chars miss fit)
 
--- a check byte that does not fit makes the parity odd
-odd : (bytes : List ℕ) → All (λ byte. byte < 256) bytes → HasCheckByte bytes → check_byte_in bytes ≢ fitting_check_byte bytes
-    → HasEvenParity (take (body_length bytes) bytes) → ⊥
-odd bytes is has holds so = grind (arith, common_steps, take_more, even-is, fits_at, All-take)
-
 -- a miss has the fault with which the bytes are refused, but that of one preamble byte has none
 has_fault : (miss : Miss) → miss ≢ OnePreamble → (fault : FrameFault) × (fault_of miss ≡ Some fault)
 has_fault miss two = grind arith
 
 refused_so : (bytes : List ℕ) (faulty : Option Character) (end start : ℕ) (miss : Miss) → All (λ byte. byte < 256) bytes
     → miss_in bytes faulty end start ≡ Some miss → (fault : FrameFault) → fault_of miss ≡ Some fault → IsRefusedWith bytes fault
-refused_so bytes faulty end start miss fit told fault is = grind (arith, nat_tests, odd bytes fit)
+refused_so bytes faulty end start miss fit told fault is =
+    grind (arith, nat_tests, odd bytes (All-take (λ byte. byte < 256) (body_length bytes) bytes fit))
 
 pub miss_is_fault : (start : ℕ) (chars : List Character) (miss : Miss) → All (λ c. c.byte < 256) chars → IsStart start chars
     → miss_of chars start ≡ Some miss

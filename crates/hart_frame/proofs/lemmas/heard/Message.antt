@@ -35,7 +35,8 @@ AreFrames-message f preambles bytes two message =
       least = λ other stands.
           let (others, begins, low) = head_of f message.body message.is_body in
           let heard = subst (λ sent. AllZip IsHeardOrMarked sent (faultless bytes)) message.parts (heard_faultless bytes) in
-          let after = stood preambles message.body (faultless bytes) other 0 (grind arith) heard stands in omega (arith, after, stands.start);
+          let after = stood preambles message.body (faultless bytes) other 0 (grind arith) heard stands in
+          omega (arith, after, stands.start);
     }) (AreFrames.none (length bytes) (HasNoFrame-end (faultless bytes) (length bytes) (grind (arith, length-map))))
 
 pub AreFrames-nothing : AreFrames [] 0 []

@@ -1,54 +1,32 @@
 -- The miss of a place by what stands before it, and that there is none where a frame stands.
-use Rattle.std.proofs.Common.{◌↔◌, ◌≤◌, refl, ◌≡◌, ◌≢◌, ℕ, zero, suc, ◌+◌, ◌-◌, ◌<◌, ◌⊎◌, inl, inr, List, [], ◌∷◌, ◌++◌, length, take, drop, get_or}
-use Rattle.std.proofs.Common.{bit_xor, true, false, None, Some, not, arith, append_assoc, length-append}
+use Rattle.std.proofs.Common.{◌≤◌, refl, ◌≡◌, ◌≢◌, ℕ, zero, suc, ◌-◌, ◌<◌, ◌⊎◌, inl, inr, List, [], ◌∷◌, ◌++◌, length, take, drop, get_or}
+use Rattle.std.proofs.Common.{true, false, None, Some, arith, append_assoc, length-append}
 use Rattle.std.proofs.Math.Seq.{append_snoc, drop-cons, get_or-append_seam, take-append_seam, take-suc}
+use Rattle.std.proofs.lemmas.List.{take_more}
+use Rattle.std.specs.List.{All}
+use Rattle.hart_frame.specs.wire.Parity.{HasEvenParity}
 use Rattle.std.proofs.lemmas.Bool.Decides.{nat_tests}
 use Rattle.std.proofs.lemmas.Grind.{common_steps}
 use Rattle.std.proofs.lemmas.List.{get_or_append_left, get_or_past, drop_at, get_or_at, get_or-take, length-take-le, take-append-drop}
-use Rattle.std.proofs.lemmas.Option.{slice_get-get_or, slice_get_cases}
-use Rattle.std.specs.List.{slice_get}
-use Rattle.std.specs.Option.{is_some, option_map_or}
+use Rattle.std.specs.Option.{is_some}
 use Rattle.hart_frame.specs.declared.heard.miss.Miss.{Miss}
 use Rattle.hart_frame.specs.declared.heard.miss.Miss.TheVariants.{OnePreamble}
 use Rattle.hart_frame.specs.heard.Character.{Character, faultless, faultless_bytes}
 use Rattle.hart_frame.specs.heard.InTheWay.{FollowsOnePreamble, HasBodyAt}
 use Rattle.hart_frame.specs.heard.Miss.{HasFrameAt, body_miss, check_byte_in, fitting_check_byte, miss_of, follows_one_preamble}
-use Rattle.hart_frame.specs.heard.Miss.{follows_preamble, is_preamble, is_start}
+use Rattle.hart_frame.specs.heard.Miss.{follows_preamble, is_start}
 use Rattle.hart_frame.specs.heard.Start.{IsStart}
 use Rattle.hart_frame.specs.wire.Body.{BeginsWithBody}
-use Rattle.hart_frame.specs.wire.FrameParts.{FrameParts}
 use Rattle.hart_frame.specs.wire.Layout.{body_length, byte_count_place}
 use Rattle.hart_frame.specs.wire.Refusal.{HasCheckByte, HasGoodByteCount}
 use Rattle.hart_frame.proofs.lemmas.heard.Front.{faultless_bytes-append}
 use Rattle.hart_frame.proofs.lemmas.heard.Body.{head_of}
 use Rattle.hart_frame.proofs.lemmas.heard.Place.{preamble}
-use Rattle.hart_frame.proofs.lemmas.heard.Start.{is_start_from, starts_at}
+use Rattle.hart_frame.proofs.lemmas.heard.Start.{start_test, tested}
 use Rattle.hart_frame.proofs.lemmas.wire.Parity.{even-is}
 use Rattle.hart_frame.proofs.lemmas.wire.Refusal.{has_check, says}
 use Rattle.hart_frame.proofs.lemmas.wire.Truncated.{fits_at}
 use Rattle.hart_frame.proofs.lemmas.wire.UnambiguousBodies.{BeginsWithBody-append}
-
--- what stands at a place: a preamble byte, another character, or nothing
-tested : (chars : List Character) (k : ℕ)
-    → ((option_map_or is_preamble (slice_get chars k) false ≡ true) × (k < length chars) × (get_or chars k preamble ≡ preamble)
-    × (option_map_or (λ (c : Character). not (is_preamble c)) (slice_get chars k) false ≡ false))
-    ⊎ ((option_map_or is_preamble (slice_get chars k) false ≡ false) × (k < length chars) × (get_or chars k preamble ≢ preamble)
-    × (option_map_or (λ (c : Character). not (is_preamble c)) (slice_get chars k) false ≡ true))
-    ⊎ ((option_map_or is_preamble (slice_get chars k) false ≡ false) × (length chars ≤ k)
-    × (option_map_or (λ (c : Character). not (is_preamble c)) (slice_get chars k) false ≡ false))
-tested chars k = grind (arith, nat_tests, slice_get_cases chars k, slice_get-get_or chars k preamble, preamble)
-
--- the test of a start
-pub start_test : (chars : List Character) (place : ℕ) → (is_start chars place ≡ true) ↔ IsStart place chars
-start_test chars place =
-    grind (
-      arith,
-      is_start_from chars place preamble,
-      starts_at chars place preamble,
-      tested chars (place - 1),
-      tested chars (place - 2),
-      tested chars place,
-    )
 
 -- what the miss of a place is where a body may start
 pub miss_of-start : (chars heard : List Character) (start : ℕ) → heard ≡ drop start chars → IsStart start chars
@@ -91,19 +69,16 @@ one_preamble-yes chars place is =
     let at = tested chars (length is.prefix) in
     grind (arith, no_second chars is.prefix is.rest, length-append, preamble, append_assoc, get_or-append_seam)
 
--- the check byte of a body fits
-body_fits : (bytes : List ℕ) (f : FrameParts) (len : ℕ) → BeginsWithBody bytes f len → check_byte_in bytes ≡ fitting_check_byte bytes
-body_fits bytes f len begins =
-    let body = begins.body in
-    let n = length body.checked in
-    let long : len ≡ n + 1 = grind (arith, common_steps, length-take-le, length-append) in
-    let whole : body_length bytes - 1 ≡ n = omega (arith, (says bytes f len begins).whole, long) in
-    let check : get_or bytes n 0 ≡ body.check = grind (arith, common_steps, get_or-take, get_or_at) in
-    let fits = fits_at (body.checked ++ body.check ∷ []) (rw body.parts at body.bytes_fit) in
-    let first : (i : ℕ) → get_or body.checked i 0 < 256 = grind (arith, fits, get_or_append_left, get_or_past) in
-    let last : body.check < 256 = grind (arith, fits n, get_or_at) in
-    let fits = even-is body.checked body.check first last (rw body.parts at body.parity) in
-    grind (arith, common_steps, whole, bit_xor)
+-- a check byte that does not fit makes the parity odd
+pub odd : (bytes : List ℕ) → All (λ byte. byte < 256) (take (body_length bytes) bytes) → HasCheckByte bytes
+    → check_byte_in bytes ≢ fitting_check_byte bytes → HasEvenParity (take (body_length bytes) bytes) → ⊥
+odd bytes fit has differ even =
+    let n = body_length bytes - 1 in
+    let whole : take (body_length bytes) bytes ≡ take n bytes ++ get_or bytes n 0 ∷ [] = grind (arith, common_steps, take_more) in
+    let each = fits_at (take (body_length bytes) bytes) fit in
+    let small : (i : ℕ) → get_or (take n bytes) i 0 < 256 = grind (arith, each, get_or_append_left, get_or_past) in
+    let last : get_or bytes n 0 < 256 = grind (arith, each n, get_or_at, length-take-le) in
+    differ (even-is (take n bytes) (get_or bytes n 0) small last (rw whole at even))
 
 -- so nothing is missed where a body stands
 pub none_of : (chars : List Character) (start : ℕ) → HasBodyAt chars start → body_miss start (drop start chars) ≡ None
@@ -111,8 +86,10 @@ none_of chars start has =
     let bytes = faultless_bytes (drop start chars) in
     let begins : BeginsWithBody bytes has.frame (length has.body) =
     grind (arith, faultless_bytes-append, BeginsWithBody-append has.frame has.body (faultless_bytes has.rest)) in
-    let fits = body_fits bytes has.frame (length has.body) begins in
-    grind (arith, nat_tests, has_check bytes has.frame (length has.body) begins)
+    let whole = (says bytes has.frame (length has.body) begins).whole in
+    let check = has_check bytes has.frame (length has.body) begins in
+    let even = rw whole at begins.body.parity in
+    grind (arith, nat_tests, odd bytes (rw whole at begins.body.bytes_fit) check)
 
 -- where a frame stands there is no miss
 pub no_miss : (place : ℕ) (chars : List Character) → HasFrameAt chars place → miss_of chars place ≡ None

@@ -1,6 +1,11 @@
 -- Where a body may start in a list of characters.
-use Rattle.std.proofs.Common.{◌≡◌, ◌≢◌, ℕ, zero, suc, ◌-◌, ◌<◌, ◌≤◌, ◌⊎◌, inl, inr, List, [], ◌∷◌, ◌++◌, length, take, drop, get_or, sym}
+use Rattle.std.proofs.Common.{◌↔◌, true, false, not, ◌≡◌, ◌≢◌, ℕ, zero, suc, ◌-◌, ◌<◌, ◌≤◌, ◌⊎◌, inl, inr, List, [], ◌∷◌, ◌++◌, length, take, drop, get_or, sym}
 use Rattle.std.proofs.Common.{ap, ◌∙◌, arith, length-append, drop-cons, append_assoc}
+use Rattle.std.proofs.lemmas.Bool.Decides.{nat_tests}
+use Rattle.std.proofs.lemmas.Option.{slice_get-get_or, slice_get_cases}
+use Rattle.std.specs.List.{slice_get}
+use Rattle.std.specs.Option.{option_map_or}
+use Rattle.hart_frame.specs.heard.Miss.{is_preamble, is_start}
 use Rattle.std.proofs.lemmas.Grind.{common_steps}
 use Rattle.std.proofs.lemmas.List.{get_or-append-add, length-take-le, take-append-drop}
 use Rattle.hart_frame.specs.heard.Character.{Character}
@@ -38,21 +43,26 @@ is_start_from chars place d at =
       other = at.other;
     }
 
--- characters are the same or not
-same_or_other : (a b : Character) → (a ≡ b) ⊎ (a ≢ b)
-same_or_other a b = grind arith
+-- what stands at a place: a preamble byte, another character, or nothing
+pub tested : (chars : List Character) (k : ℕ)
+    → ((option_map_or is_preamble (slice_get chars k) false ≡ true) × (k < length chars) × (get_or chars k preamble ≡ preamble)
+    × (option_map_or (λ (c : Character). not (is_preamble c)) (slice_get chars k) false ≡ false))
+    ⊎ ((option_map_or is_preamble (slice_get chars k) false ≡ false) × (k < length chars) × (get_or chars k preamble ≢ preamble)
+    × (option_map_or (λ (c : Character). not (is_preamble c)) (slice_get chars k) false ≡ true))
+    ⊎ ((option_map_or is_preamble (slice_get chars k) false ≡ false) × (length chars ≤ k)
+    × (option_map_or (λ (c : Character). not (is_preamble c)) (slice_get chars k) false ≡ false))
+tested chars k = grind (arith, nat_tests, slice_get_cases chars k, slice_get-get_or chars k preamble, preamble)
 
--- whether a body may start at a place
-start_decided : (chars : List Character) (place : ℕ) → IsStart place chars ⊎ (IsStart place chars → ⊥)
-start_decided chars place =
+-- the test of a start
+pub start_test : (chars : List Character) (place : ℕ) → (is_start chars place ≡ true) ↔ IsStart place chars
+start_test chars place =
     grind (
       arith,
-      preamble,
+      is_start_from chars place preamble,
       starts_at chars place preamble,
-      same_or_other (get_or chars (place - 2) preamble) preamble,
-      same_or_other (get_or chars (place - 1) preamble) preamble,
-      same_or_other (get_or chars place preamble) preamble,
-      is_start_from,
+      tested chars (place - 1),
+      tested chars (place - 2),
+      tested chars place,
     )
 
 -- no start lies before a place
@@ -68,10 +78,10 @@ first_before : (chars : List Character) (place : ℕ) → ((first : ℕ) × IsFi
 first_before chars zero = inr (λ other is. omega arith)
 first_before chars (suc n) = elim (first_before chars n) [
   | inl found ↦ inl found
-  | inr none ↦ elim (start_decided chars n) [
-    | inl here ↦ inl (n, record { start = here; least = none })
-    | inr not_here ↦ inr (λ place is. grind arith)
-  ]
+  | inr none ↦
+      let test = start_test chars n in
+      let cases : (is_start chars n ≡ true) ⊎ (is_start chars n ≡ false) = grind arith in
+      elim cases [ inl here ↦ inl (n, record { start = test.0 here; least = none }) | inr not_here ↦ inr (λ place is. grind arith) ]
 ]
 
 -- a list has a first start or none

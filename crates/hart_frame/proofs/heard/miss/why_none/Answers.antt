@@ -1,6 +1,6 @@
 use Rattle.std.proofs.Common.{arith}
 use Rattle.std.proofs.lemmas.List.{take_rest}
-use Rattle.hart_frame.proofs.lemmas.heard.Missed.{start_test}
+use Rattle.hart_frame.proofs.lemmas.heard.Start.{start_test}
 use Rattle.hart_frame.proofs.heard.miss.why_none.Goals as goal
 
 pub returns-then-is_start : goal.returns-then-is_start
