@@ -2,19 +2,20 @@
 use Rattle.std.proofs.Common.{◌≡◌, ℕ, ◌+◌, ◌-◌, ◌≤◌, true, IsTrue, List, [], ◌++◌, length, take, drop, None, sym, refl, arith, append_assoc, length-append}
 use Rattle.std.proofs.Math.Seq.{drop-append-add, drop-append_seam}
 use Rattle.std.proofs.lemmas.Grind.{common_steps}
-use Rattle.std.proofs.lemmas.List.{append-nil, drop-append-le, drop-drop, drop-map, drop-take, length-map}
+use Rattle.std.proofs.lemmas.List.{append-nil, drop-append-le, drop-drop, drop-map, length-map}
 use Rattle.std.specs.Option.{option_to_list}
 use Rattle.hart_frame.specs.declared.scan.buffer.Buffer.{Buffer}
 use Rattle.hart_frame.specs.declared.scan.buffer.State.{State}
 use Rattle.hart_frame.specs.declared.scan.buffer.State.TheVariants.{Busy, Drained}
+use Rattle.hart_frame.specs.declared.scan.search.Sighting.{Sighting}
 use Rattle.hart_frame.specs.heard.Character.{faultless}
 use Rattle.hart_frame.specs.heard.Frames.{IsUndecided}
 use Rattle.hart_frame.specs.scan.Buffer.{IsSound, IsWaiting, held_bytes, is_drained, scan_of}
-use Rattle.hart_frame.specs.scan.Decision.{NoneBeginHeld}
+use Rattle.hart_frame.specs.scan.Decision.{IsHeldSearched}
 use Rattle.hart_frame.specs.scan.Scanner.{GivesNothing, Scan, MovesPast, Waits}
 use Rattle.hart_frame.proofs.lemmas.scan.Candidate.{undecided_open}
 use Rattle.hart_frame.proofs.lemmas.scan.Scan.{moves_none, moves_past}
-use Rattle.hart_frame.proofs.lemmas.scan.Search.{take_both}
+use Rattle.hart_frame.proofs.lemmas.scan.Search.{drop_take, take_both}
 
 -- a buffer that let its first bytes go
 abbrev pub passed : Buffer → ℕ → Buffer
@@ -23,14 +24,14 @@ passed b count = record b { from = b.from + count; first = b.first + count; stat
 pub held_passed : (b : Buffer) (count : ℕ) → held_bytes (passed b count) ≡ drop count (held_bytes b)
 held_passed b count = sym (drop-drop count b.from b.bytes)
 
-pub moves_passed : (b : Buffer) (count : ℕ) → count ≤ length (held_bytes b) → NoneBeginHeld b count
-    → MovesPast (scan_of b) (scan_of (passed b count)) []
-moves_passed b count within none =
-    let held : (n : ℕ) → n ≤ count → drop n (scan_of b).held ≡ faultless (drop n (held_bytes b)) ++ option_to_list b.damaged =
+pub moves_passed : (b : Buffer) (found : Sighting) (state : State) → IsHeldSearched b found
+    → MovesPast (scan_of b) (scan_of (record (passed b found.place) { state = state })) []
+moves_passed b found state is =
+    let new = record (passed b found.place) { state = state } in
+    let held : (n : ℕ) → n ≤ found.place → drop n (scan_of b).held ≡ faultless (drop n (held_bytes b)) ++ option_to_list b.damaged =
     λ n below. grind (arith, drop-append-le, drop-map, length-map) in
-    moves_past (scan_of b) (scan_of (passed b count)) count (grind (arith, length-append, length-map))
-    (grind (arith, held, held_passed)) refl refl
-    (λ place below more ended. rw (held place (omega (arith, below)), append_assoc) (none place below more ended))
+    moves_past (scan_of b) (scan_of new) found.place (grind (arith, length-append, length-map)) (grind (arith, held, held_passed)) refl refl
+    (λ place below more ended. rw (held place (omega (arith, below)), append_assoc) (is.none place below more ended))
 
 -- what is held without faults
 pub held_clear : (b : Buffer) → b.damaged ≡ None → (scan_of b).held ≡ faultless (held_bytes b)
@@ -45,30 +46,20 @@ pub waits : (b : Buffer) (new : Scan) → IsWaiting b → new ≡ record (scan_o
 waits b new waiting same =
     rw same (search (arith, common_steps, moves_none, undecided_waiting))
 
--- the first of what is held and of a chunk after it
-first_both : (held chunk : List ℕ) (stop count : ℕ) → count ≡ length held → count ≤ stop
-    → take stop (held ++ chunk) ≡ held ++ take (stop - count) chunk
-first_both held chunk stop count long after = grind (arith, common_steps, take_both)
-
 -- what is kept of what is held and of a chunk after it
 pub kept_after : (held chunk bytes new : List ℕ) (from place stop count : ℕ) → from ≤ length bytes → drop from bytes ≡ held
     → count ≡ length held
     → count ≤ stop → place ≤ length held → new ≡ bytes ++ take (stop - count) chunk
     → drop (from + place) new ≡ drop place (take stop (held ++ chunk))
 kept_after held chunk bytes new from place stop count within same long after inside is =
-    grind (arith, drop-append-le, drop-drop place from new, first_both held chunk stop count long after)
+    grind (arith, drop-append-le, drop-drop place from new, take_both held chunk stop)
 
 -- what is kept of a chunk alone
 pub kept_past : (held chunk bytes new : List ℕ) (from place stop count : ℕ) → from ≡ length bytes → count ≡ length held
     → count ≤ place → place ≤ stop → new ≡ bytes ++ take (stop - count - (place - count)) (drop (place - count) chunk)
     → drop from new ≡ drop place (take stop (held ++ chunk))
 kept_past held chunk bytes new from place stop count end long past order is =
-    let size = place - count in
-    let more = stop - count - size in
-    let all : stop - count ≡ size + more = omega (arith, past, order) in
-    let both = first_both held chunk stop count long (omega (arith, past, order)) in
-    let after = drop-append-add held (take (stop - count) chunk) size in
-    grind (arith, drop-append_seam bytes (take more (drop size chunk)), drop-take size more chunk)
+    grind (arith, drop-append_seam, drop_take (held ++ chunk) place stop, drop-append-add held chunk (place - count))
 
 pub drained_is : (state : State) → IsTrue (is_drained state) → state ≡ Drained
 drained_is state is = grind arith

@@ -1,22 +1,19 @@
 -- The next frame of bytes, as that of a scanner that holds the rest of them.
-use Rattle.std.proofs.Common.{◌≡◌, ℕ, ◌+◌, ◌-◌, ◌≤◌, Bool, false, List, [], ◌∷◌, ◌++◌, Some, None, length, take, drop, inl, ◌∙◌, ap, arith}
+use Rattle.std.proofs.Common.{◌≡◌, ℕ, ◌+◌, ◌-◌, ◌≤◌, Bool, false, List, [], ◌∷◌, ◌++◌, length, take, drop, inl, ◌∙◌, ap, arith}
 use Rattle.std.proofs.Common.{append_assoc, length-append, length-drop, refl, sym, take-append-drop}
 use Rattle.std.proofs.lemmas.Grind.{common_steps}
-use Rattle.std.proofs.lemmas.List.{drop-drop, drop_all, drop_at, length-map, length-take-le, map-append, take_at}
+use Rattle.std.proofs.lemmas.List.{drop-drop, drop_at, length-map, length-take-le, map-append, take_at}
 use Rattle.std.specs.List.{slice_range}
 use Rattle.hart_frame.specs.declared.heard.found.Found.{Found}
-use Rattle.hart_frame.specs.declared.scan.search.Sighting.{Sighting}
 use Rattle.hart_frame.specs.declared.wire.layout.Layout.{Layout}
 use Rattle.hart_frame.specs.heard.Character.{Character, faultless}
-use Rattle.hart_frame.specs.heard.Frames.{IsUndecided}
 use Rattle.hart_frame.specs.scan.Candidate.{IsWhole}
 use Rattle.hart_frame.specs.scan.Next.{LeadsOn}
 use Rattle.hart_frame.specs.scan.Scanner.{CanHear, MovesPast, Scan}
-use Rattle.hart_frame.specs.scan.Search.{IsSearchedToEnd, NoneBeginThen}
+use Rattle.hart_frame.specs.scan.Search.{NoneBeginThen}
 use Rattle.hart_frame.specs.wire.Body.{IsBody}
 use Rattle.hart_frame.specs.wire.FrameParts.{FrameParts}
 use Rattle.hart_frame.specs.wire.Layout.{layout_length}
-use Rattle.hart_frame.proofs.lemmas.scan.Candidate.{undecided_open}
 use Rattle.hart_frame.proofs.lemmas.scan.Scan.{moves_frame, moves_places, moves_then}
 
 -- a byte that was heard without faults
@@ -28,7 +25,7 @@ abbrev pub scan_at : List ℕ → Bool → ℕ → Scan
 scan_at bytes ended place = record { first = place; held = faultless (drop place bytes); finished = ended; drained = false }
 
 -- what it moves past are the next frames of the bytes
-leads_on : (bytes : List ℕ) (ended : Bool) (from to : ℕ) (given : List Found) → from ≤ length bytes
+pub leads_on : (bytes : List ℕ) (ended : Bool) (from to : ℕ) (given : List Found) → from ≤ length bytes
     → MovesPast (scan_at bytes ended from) (scan_at bytes ended to) given → LeadsOn (faultless bytes) ended from given to
 leads_on bytes ended from to given within moves more later closed =
     let all : faultless (take from bytes) ++ faultless (drop from bytes) ≡ faultless bytes =
@@ -51,16 +48,6 @@ pub body_at_place : (bytes : List ℕ) (place len : ℕ) (layout : Layout) (whol
     → len ≡ layout_length layout → slice_range bytes (place + 2) (place + 2 + len) ≡ whole.body
 body_at_place bytes place len layout whole same = grind (arith, drop-drop 2 place bytes, take_at)
 
-rest_at_place : (bytes : List ℕ) (place len : ℕ) (layout : Layout) (whole : IsWhole layout (drop place bytes))
-    → len ≡ layout_length layout → drop (place + 2 + len) bytes ≡ whole.rest
-rest_at_place bytes place len layout whole same =
-    grind (arith, drop-drop (2 + len) place bytes, drop_at (255 ∷ 255 ∷ whole.body) whole.rest (2 + len))
-
--- a layout that is found is that of the frame which stands at the place
-pub stands_by : (bytes : List ℕ) (from : ℕ) (ended : Bool) (found : Sighting) (layout : Layout) → IsSearchedToEnd bytes from ended found
-    → found.layout ≡ Some layout → IsWhole layout (drop found.place bytes)
-stands_by bytes from ended found layout is some = grind (arith, common_steps)
-
 -- which ends within the bytes
 pub ends_within : (bytes : List ℕ) (place : ℕ) (layout : Layout) → IsWhole layout (drop place bytes)
     → place + 2 + layout_length layout ≤ length bytes
@@ -68,30 +55,17 @@ ends_within bytes place layout whole =
     grind (arith, length-append, length-drop place bytes, whole.whole.exact)
 
 -- and is the next one
-pub leads_past : (bytes : List ℕ) (ended : Bool) (from len : ℕ) (found : Sighting) (layout : Layout) (frame : FrameParts)
-    → IsSearchedToEnd bytes from ended found → IsWhole layout (drop found.place bytes) → len ≡ layout_length layout
-    → IsBody frame (slice_range bytes (found.place + 2) (found.place + 2 + len))
+pub leads_past : (bytes : List ℕ) (ended : Bool) (from place len : ℕ) (layout : Layout) (frame : FrameParts)
+    → from ≤ place → place ≤ length bytes → NoneBeginThen bytes ended from place → IsWhole layout (drop place bytes)
+    → len ≡ layout_length layout → IsBody frame (slice_range bytes (place + 2) (place + 2 + len))
     → LeadsOn (faultless bytes) ended from
-    (record { start = found.place + 2; stop = found.place + 2 + len; frame = frame } ∷ []) (found.place + 2 + len)
-leads_past bytes ended from len found layout frame is whole same body =
-    let place = found.place in
+    (record { start = place + 2; stop = place + 2 + len; frame = frame } ∷ []) (place + 2 + len)
+leads_past bytes ended from place len layout frame after within none whole same body =
     let stop = place + 2 + len in
     let held : faultless (drop place bytes) ≡ faultless (255 ∷ 255 ∷ whole.body) ++ faultless (drop stop bytes) =
-    grind (arith, map-append, rest_at_place bytes place len layout whole same) in
-    leads_on bytes ended from stop _ (omega (arith, is.after, is.within))
+    grind (arith, map-append, drop-drop (2 + len) place bytes, drop_at (255 ∷ 255 ∷ whole.body) whole.rest (2 + len)) in
+    leads_on bytes ended from stop _ (omega (arith, after, within))
     (moves_then (scan_at bytes ended from) (scan_at bytes ended place) (scan_at bytes ended stop) _
-    (moves_to bytes ended from place is.after is.within is.none)
+    (moves_to bytes ended from place after within none)
     (moves_frame (scan_at bytes ended place) (scan_at bytes ended stop) frame whole.body held
     (rw (body_at_place bytes place len layout whole same) at body) (omega (arith, same, whole.whole.exact)) refl))
-
--- and if none is found, the next ones stand from the place on that is found
-pub leads_nowhere : (bytes : List ℕ) (ended : Bool) (from : ℕ) (found : Sighting) → IsSearchedToEnd bytes from ended found
-    → LeadsOn (faultless bytes) ended from [] found.place
-leads_nowhere bytes ended from found is =
-    leads_on bytes ended from found.place [] (omega (arith, is.after, is.within))
-    (moves_to bytes ended from found.place is.after is.within is.none)
-
--- nothing is decided in what is left
-pub undecided_left : (bytes : List ℕ) (from : ℕ) (ended : Bool) (found : Sighting) → IsSearchedToEnd bytes from ended found
-    → found.layout ≡ None → IsUndecided (faultless (drop found.place bytes))
-undecided_left bytes from ended found is none = undecided_open (drop found.place bytes) (grind (arith, drop_all))

@@ -1,20 +1,16 @@
 -- What a part of bytes is to a scanner that searches it together with what it holds.
-use Rattle.std.proofs.Common.{◌≡◌, ℕ, ◌+◌, ◌-◌, ◌<◌, ◌⊎◌, inl, inr, false, List, ◌++◌, length, take, Option, None, Some, drop, refl}
-use Rattle.std.proofs.Common.{sym, ap, arith, subst, length-append, length-drop}
-use Rattle.std.proofs.Math.Seq.{take-append-add, take-append_seam, take-length}
-use Rattle.std.proofs.lemmas.Grind.{common_steps}
+use Rattle.std.proofs.Common.{◌≡◌, ℕ, ◌+◌, ◌<◌, ◌⊎◌, inl, inr, false, List, ◌++◌, length, take, None, drop}
+use Rattle.std.proofs.Common.{arith, length-append, length-drop}
+use Rattle.std.proofs.Math.Seq.{take-append-add, take-length}
 use Rattle.std.proofs.lemmas.List.{append-nil, map-append, take-map, length-map, length-take-le}
-use Rattle.std.specs.Option.{MatchOption}
 use Rattle.hart_frame.specs.declared.scan.buffer.Buffer.{Buffer}
 use Rattle.hart_frame.specs.declared.scan.search.Sighting.{Sighting}
-use Rattle.hart_frame.specs.declared.wire.layout.Layout.{Layout}
-use Rattle.hart_frame.specs.heard.Character.{Character, faultless}
+use Rattle.hart_frame.specs.heard.Character.{faultless}
 use Rattle.hart_frame.specs.heard.Frames.{IsUndecided}
-use Rattle.hart_frame.specs.scan.Buffer.{IsSound, IsStored, IsWaiting, held_bytes, is_drained, scan_of, state_of}
-use Rattle.hart_frame.specs.scan.Candidate.{IsWhole, MayBegin}
+use Rattle.hart_frame.specs.scan.Buffer.{IsSound, IsStored, IsWaiting, held_bytes, scan_of, state_of}
 use Rattle.hart_frame.specs.scan.Chunk.{Hears, StopsAt}
-use Rattle.hart_frame.specs.scan.Scanner.{Scan, hearing}
-use Rattle.hart_frame.specs.scan.Search.{IsOpenAll, IsOpenFrom, IsSearched}
+use Rattle.hart_frame.specs.scan.Scanner.{hearing}
+use Rattle.hart_frame.specs.scan.Search.{IsOpenFrom, IsSearched}
 use Rattle.hart_frame.proofs.lemmas.scan.Buffer.{held_clear, undecided_waiting}
 use Rattle.hart_frame.proofs.lemmas.scan.Candidate.{undecided_open}
 use Rattle.hart_frame.proofs.lemmas.scan.Decision.{holds_frame}

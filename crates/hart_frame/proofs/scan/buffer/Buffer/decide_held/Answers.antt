@@ -1,5 +1,5 @@
 use Rattle.std.proofs.Common.{◌<◌, length, arith, rules}
-use Rattle.hart_frame.proofs.lemmas.scan.Decision.{given_nothing, given_open, given_stands, waits_open}
+use Rattle.hart_frame.proofs.lemmas.scan.Decision.{given_nothing, given_open, given_stands}
 use Rattle.hart_frame.proofs.scan.buffer.Buffer.decide_held.Goals as goal
 
 pub returns-in-Some-clause-seen : goal.returns-in-Some-clause-seen
@@ -16,4 +16,4 @@ returns-then-is_empty-clause-seen c = search (arith, given_nothing)
 pub returns-else-is_empty-clause-seen : goal.returns-else-is_empty-clause-seen
 returns-else-is_empty-clause-seen c =
     let some : 0 < length c.held.result.now = search rules in
-    grind (arith, waits_open, given_open)
+    grind (arith, given_open)
