@@ -6,7 +6,7 @@ use Rattle.std.proofs.lemmas.List.{append-nil, drop-append-le}
 use Rattle.hart_frame.specs.declared.heard.found.Found.{Found}
 use Rattle.hart_frame.specs.heard.Character.{Character}
 use Rattle.hart_frame.specs.heard.Damage.{IsMarkedDamage}
-use Rattle.hart_frame.specs.heard.Frames.{AreFrames, IsFirst, moved}
+use Rattle.hart_frame.specs.heard.Frames.{AreFrames, moved}
 use Rattle.hart_frame.specs.scan.Next.{LeadsOn}
 use Rattle.hart_frame.specs.scan.Scanner.{Scan}
 use Rattle.hart_frame.specs.scan.Streamed.{IsHistory}
@@ -14,7 +14,7 @@ use Rattle.hart_frame.specs.wire.FrameParts.{FrameParts}
 use Rattle.hart_frame.proofs.lemmas.heard.Damage.{AreFrames-marked}
 use Rattle.hart_frame.proofs.lemmas.heard.Place.{HasNoFrame-end}
 use Rattle.hart_frame.proofs.lemmas.heard.Rest.{rest_frames, rest_only}
-use Rattle.hart_frame.proofs.lemmas.heard.UnambiguousFrames.{AreFrames-one, IsFirst-one}
+use Rattle.hart_frame.proofs.lemmas.heard.UnambiguousFrames.{AreFrames-one}
 use Rattle.hart_frame.proofs.lemmas.scan.Stream.{history_rest}
 pub use Rattle.hart_frame.proofs.lemmas.heard.Damage.{AreFrames-check as damaged_messages_have_no_other_frame-check}
 pub use Rattle.hart_frame.proofs.lemmas.heard.FramesFound.{AreFrames-found as every_list_has_frames}
@@ -26,10 +26,6 @@ pub use Rattle.hart_frame.proofs.lemmas.scan.Stream.{history_all as frames_are_s
 pub use Rattle.hart_frame.proofs.lemmas.scan.Stream.{history_held as held_characters_have_the_later_frames-held}
 pub use Rattle.hart_frame.proofs.lemmas.wire.UnambiguousBodies.{bodies_are_unambiguous-no_proper_prefix, bodies_are_unambiguous-one_body}
 pub use Rattle.hart_frame.proofs.lemmas.wire.UnambiguousBodies.{bodies_are_unambiguous-one_frame, bodies_are_unambiguous-one_prefix}
-
-pub frames_are_unambiguous-one_first : (f g : Found) (chars : List Character) (from : ℕ) → IsFirst f chars from → IsFirst g chars from
-    → f ≡ g
-frames_are_unambiguous-one_first = IsFirst-one bodies_are_unambiguous-one_prefix
 
 pub frames_are_unambiguous-one_list : (chars : List Character) (from : ℕ) (xs ys : List Found) → AreFrames chars from xs
     → AreFrames chars from ys → xs ≡ ys
@@ -69,9 +65,5 @@ next_frames_are_all-all chars ended given leads =
 pub damaged_messages_have_no_other_frame-marked : (frame : FrameParts) (preambles : ℕ) (chars : List Character)
     (damage : IsMarkedDamage frame preambles chars)
     → AreFrames chars 0 [] ⊎ AreFrames chars 0 (record { start = damage.left; stop = length chars; frame = frame } ∷ [])
-damaged_messages_have_no_other_frame-marked =
-    grind (
-      arith,
-      AreFrames-marked
-          (record { one_frame = bodies_are_unambiguous-one_frame; no_proper_prefix = bodies_are_unambiguous-no_proper_prefix }),
-    )
+damaged_messages_have_no_other_frame-marked = AreFrames-marked
+    (record { one_frame = bodies_are_unambiguous-one_frame; no_proper_prefix = bodies_are_unambiguous-no_proper_prefix })

@@ -1,8 +1,6 @@
-use Rattle.hart_frame.proofs.lemmas.Laws.{frames_are_unambiguous-one_first, frames_are_unambiguous-one_list}
+use Rattle.hart_frame.proofs.lemmas.Laws.{bodies_are_unambiguous-one_prefix, frames_are_unambiguous-one_list}
+use Rattle.hart_frame.proofs.lemmas.heard.UnambiguousFrames.{IsFirst-one}
 use Rattle.hart_frame.proofs.laws.frames_are_unambiguous.Goals as goal
 
-pub returns-clause-one_first : goal.returns-clause-one_first
-returns-clause-one_first c = frames_are_unambiguous-one_first
-
-pub returns-clause-one_list : goal.returns-clause-one_list
-returns-clause-one_list c = frames_are_unambiguous-one_list
+pub returns : goal.returns
+returns c = record { one_first = IsFirst-one bodies_are_unambiguous-one_prefix; one_list = frames_are_unambiguous-one_list }

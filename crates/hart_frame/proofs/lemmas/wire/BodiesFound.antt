@@ -36,32 +36,19 @@ first_byte_read byte below =
     grind arith
 
 -- one byte, or five, hold an address
-record HeldAddress (bytes : List ℕ) : Type 0 where
-  pub master : MasterId
-  pub burst : Bool
-  pub address : Address
-  pub is : IsAddressBytes master burst address bytes
+abbrev HeldAddress : List ℕ → Type 0
+HeldAddress bytes = (master : MasterId) × (burst : Bool) × (address : Address) × IsAddressBytes master burst address bytes
 
 five_bytes : (a b c d e : ℕ) → Fit (a ∷ b ∷ c ∷ d ∷ e ∷ []) 5 → HeldAddress (a ∷ b ∷ c ∷ d ∷ e ∷ [])
 five_bytes a b c d e fit =
     let (master, burst, is) = first_byte_read a (fit 0 (omega arith)) in
-    record {
-      master = master;
-      burst = burst;
-      address = Unique (record { expanded_type = 256 * (a % 64) + b; device_id = 65536 * c + 256 * d + e });
-      is = grind arith;
-    }
+    (master, burst, Unique (record { expanded_type = 256 * (a % 64) + b; device_id = 65536 * c + 256 * d + e }), grind arith)
 
 held_address : (bytes : List ℕ) (form : ℕ) → Fit bytes (length bytes) → form < 2 → length bytes ≡ 1 + 4 * form → HeldAddress bytes
 held_address (a ∷ []) form fit either long =
-    let (master, burst, is) = first_byte_read a (fit 0 (omega arith)) in
-    record { master = master; burst = burst; address = Polling (a % 64); is = grind arith }
+    let (master, burst, is) = first_byte_read a (fit 0 (omega arith)) in (master, burst, Polling (a % 64), grind arith)
 held_address (a ∷ b ∷ c ∷ d ∷ e ∷ []) form fit either long = five_bytes a b c d e fit
 held_address bytes form fit either long = absurd (omega (arith, either, long))
-
--- the kind that a delimiter gives
-held_kind : (byte : ℕ) → IsDelimiter byte → (kind : FrameKind) × (kind_code kind ≡ byte % 8)
-held_kind byte delimiter = grind arith
 
 pub long_enough : (kind : FrameKind) (payload : List ℕ) (byte count : ℕ) → kind_code kind ≡ byte % 8 → length payload ≡ count
     → (byte % 8 ≡ 2) ⊎ (2 ≤ count) → IsLongEnough kind payload
@@ -74,19 +61,19 @@ pub record HeldFrame (bytes : List ℕ) : Type 0 where
 
 pub held_frame : (bytes : List ℕ) → Fit bytes (body_length bytes) → HasCheckByte bytes → HeldFrame bytes
 held_frame bytes fits whole =
-    let (kind, code) = held_kind (delimiter_in bytes) whole.0.0.0.1 in
+    let code : (kind : FrameKind) × (kind_code kind ≡ delimiter_in bytes % 8) = grind arith in
     let i = address_end bytes in
     let j = command_place bytes in
     let n = byte_count_in bytes in
     let long = length-slice_range bytes 1 i (omega arith) (omega (arith, whole.0.0.1)) in
-    let held = held_address (slice_range bytes 1 i) (delimiter_in bytes / 128)
+    let (master, burst, address, is) = held_address (slice_range bytes 1 i) (delimiter_in bytes / 128)
     (λ k below. grind (arith, get_or-take, get_or_after_one bytes k 0)) (omega arith) (long ∙ omega arith) in
-    let layout : Layout = record { kind = kind; address_end = i; command_place = j; byte_count = n } in
+    let layout : Layout = record { kind = code.0; address_end = i; command_place = j; byte_count = n } in
     let frame : FrameParts = record {
-      kind = kind;
-      master = held.master;
-      burst = held.burst;
-      address = held.address;
+      kind = code.0;
+      master = master;
+      burst = burst;
+      address = address;
       expansion = slice_range bytes i j;
       command = get_or bytes j 0;
       payload = slice_range bytes (j + 2) (j + 2 + n);

@@ -1,7 +1,8 @@
 -- A list of bytes begins with one body at most, and that body has one frame at most.
 use Rattle.std.proofs.Common.{◌≡◌, ℕ, ◌+◌, ◌*◌, ◌<◌, ◌≤◌, Bool, List, [], ◌∷◌, ◌++◌, fold, bit_xor, length, take, drop, refl, arith}
 use Rattle.std.proofs.Common.{append_assoc, length-append}
-use Rattle.std.proofs.lemmas.List.{append-nil, append_cancel_right, take_at, drop_at, take-append-drop, length-take-le}
+use Rattle.std.proofs.Math.Seq.{drop-append_seam, take-append_seam}
+use Rattle.std.proofs.lemmas.List.{append-nil, append_cancel_right, length-take-le, take_at, take-append-drop}
 use Rattle.std.proofs.lemmas.List.{get_or_append_left, get_or_at, get_or_past}
 use Rattle.hart_values.proofs.lemmas.Laws.{address_bytes_are_unambiguous-one_list, address_bytes_are_unambiguous-one_reading}
 use Rattle.hart_values.specs.address.AddressBytes.{IsAddressBytes}
@@ -18,13 +19,7 @@ use Rattle.hart_frame.proofs.lemmas.wire.Parity.{even-is, fits_at}
 same_parts : (prefix other back rest : List ℕ) → length prefix ≡ length other → prefix ++ back ≡ other ++ rest
     → (prefix ≡ other) × (back ≡ rest)
 same_parts prefix other back rest lengths whole =
-    grind (
-      arith,
-      take_at prefix back (length prefix),
-      take_at other rest (length prefix),
-      drop_at prefix back (length prefix),
-      drop_at other rest (length prefix),
-    )
+    grind (arith, take-append_seam prefix back, take-append_seam other rest, drop-append_seam prefix back, drop-append_seam other rest)
 
 -- a kind's code is 2 or 6
 pub kind_code-is : (k : FrameKind) → (c : ℕ) × (c < 2) × (kind_code k ≡ 4 * c + 2)
@@ -54,16 +49,9 @@ spread f body rest is = rw (is.parts, is.checked_part.parts) (simp append_assoc)
 same_bodies : (f g : FrameParts) (body other rest more : List ℕ) → IsBody f body → IsBody g other → body ++ rest ≡ other ++ more
     → (f ≡ g) × (body ≡ other) × (rest ≡ more)
 same_bodies f g body other rest more p q whole =
-    grind (
-      arith,
-      spread f body rest p,
-      spread g other more q,
-      same_delimiter,
-      same_parts,
-      length-address,
-      address_bytes_are_unambiguous-one_reading,
-      append_cancel_right,
-    )
+    let first = spread f body rest p in
+    let second = spread g other more q in
+    grind (arith, same_delimiter, same_parts, length-address, address_bytes_are_unambiguous-one_reading, append_cancel_right)
 
 pub bodies_are_unambiguous-one_frame : (f g : FrameParts) (bytes : List ℕ) → IsBody f bytes → IsBody g bytes → f ≡ g
 bodies_are_unambiguous-one_frame f g bytes p q = (same_bodies f g bytes bytes [] [] p q refl).0
@@ -76,13 +64,9 @@ bodies_are_unambiguous-no_proper_prefix f g bytes rest p q =
 pub bodies_are_unambiguous-one_prefix : (f g : FrameParts) (bytes : List ℕ) (m n : ℕ)
     → BeginsWithBody bytes f m → BeginsWithBody bytes g n → (f ≡ g) × (m ≡ n)
 bodies_are_unambiguous-one_prefix f g bytes m n p q =
-    grind (
-      arith,
-      same_bodies f g (take m bytes) (take n bytes) (drop m bytes) (drop n bytes),
-      take-append-drop,
-      length-take-le m bytes,
-      length-take-le n bytes,
-    )
+    let first = length-take-le m bytes p.within in
+    let second = length-take-le n bytes q.within in
+    grind (arith, same_bodies f g (take m bytes) (take n bytes) (drop m bytes) (drop n bytes), take-append-drop)
 
 -- the check byte of a body is the exclusive or of the bytes before it
 check_is : (f : FrameParts) (body : List ℕ) (is : IsBody f body) → is.check ≡ fold bit_xor 0 is.checked
