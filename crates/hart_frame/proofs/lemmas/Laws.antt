@@ -1,6 +1,5 @@
 -- The laws of bodies, of frames, of scanners, of first starts and of damage, for the proofs of this crate and of those above.
-use Rattle.std.proofs.Common.{arith, ◌≡◌, ◌+◌, ◌≤◌, ◌⊎◌, ◌↔◌, ℕ, Bool, false, IsTrue, List, [], ◌∷◌, ◌++◌, drop, length, map}
-use Rattle.std.proofs.Common.{append_assoc, length-append}
+use Rattle.std.proofs.Common.{arith, ◌≡◌, ◌≤◌, ◌⊎◌, ◌↔◌, ℕ, Bool, false, IsTrue, List, [], ◌∷◌, ◌++◌, append_assoc, drop, length, map}
 use Rattle.std.proofs.lemmas.Grind.{common_steps}
 use Rattle.std.proofs.lemmas.List.{append-nil, drop-append-le}
 use Rattle.hart_frame.specs.declared.heard.found.Found.{Found}
@@ -58,9 +57,7 @@ next_frames_are_all-rest chars more ended given later to within leads closed fra
 pub next_frames_are_all-all : (chars : List Character) (ended : Bool) (given : List Found) → LeadsOn chars ended 0 given (length chars)
     → AreFrames chars 0 given
 next_frames_are_all-all chars ended given leads =
-    let none : AreFrames (chars ++ []) (length chars) [] =
-    AreFrames.none (length chars) (HasNoFrame-end (chars ++ []) (length chars) (omega (arith, length-append chars ([])))) in
-    grind (arith, common_steps, append-nil)
+    let all = leads [] [] in grind (arith, common_steps, append-nil, AreFrames.none, HasNoFrame-end)
 
 pub damaged_messages_have_no_other_frame-marked : (frame : FrameParts) (preambles : ℕ) (chars : List Character)
     (damage : IsMarkedDamage frame preambles chars)

@@ -8,4 +8,3 @@ pub mod Layout
 pub mod Refusal
 pub mod BodiesFound
 pub mod Truncated
-pub mod Length

@@ -78,8 +78,7 @@ held_frame bytes fits whole =
       command = get_or bytes j 0;
       payload = slice_range bytes (j + 2) (j + 2 + n);
     } in
-    let payload_len = length-slice_range bytes (j + 2) (j + 2 + n) (omega arith) (omega (arith, whole.1)) in
-    record { frame = frame; part = grind (arith, long_enough, IsCheckedPart-in bytes layout frame) }
+    record { frame = frame; part = grind (arith, long_enough, length-slice_range bytes (j + 2), IsCheckedPart-in bytes layout frame) }
 
 -- bytes begin with some body
 abbrev pub BodyAhead : List ℕ → Type 0
@@ -107,17 +106,14 @@ even_zero bytes fit =
     let is = IsCheckByte-fold bytes (fold bit_xor 0 bytes) (fits_at bytes fit) refl in
     grind (arith, even-check bytes, check-even bytes (fold bit_xor 0 bytes) is)
 
--- whether a byte is a delimiter
-pub delimiter_decided : (byte : ℕ) → IsDelimiter byte ⊎ (IsDelimiter byte → ⊥)
-delimiter_decided byte = grind arith
-
 -- whether bytes begin with a body
 pub body_decided : (bytes : List ℕ) → BodyAhead bytes ⊎ HasNoBody bytes
 body_decided bytes =
     let prefix = take (body_length bytes) bytes in
+    let delimiter : IsDelimiter (delimiter_in bytes) ⊎ (IsDelimiter (delimiter_in bytes) → ⊥) = grind arith in
     let parity : (fold bit_xor 0 prefix ≡ 0) ⊎ (0 < fold bit_xor 0 prefix) = grind arith in
     let cases : BodyAhead bytes ⊎ (HasCheckByte bytes → All (λ byte. byte < 256) prefix → HasEvenParity prefix → ⊥) =
-    grind (arith, delimiter_decided (delimiter_in bytes), fit_decided prefix, even_zero prefix, whole_body bytes) in
+    grind (arith, fit_decided prefix, even_zero prefix, whole_body bytes) in
     elim cases [
       | inl ahead ↦ inl ahead
       | inr none ↦ inr (λ f len begins. let is = (says bytes f len begins).whole in

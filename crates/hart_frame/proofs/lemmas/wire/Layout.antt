@@ -49,9 +49,6 @@ IsCheckedPart-in bytes layout frame describes whole stands =
     let i = layout.address_end in
     let j = layout.command_place in
     let k = j + 2 + layout.byte_count in
-    let expansion_len : length frame.expansion ≡ j - i = grind (arith, common_steps, length-slice_range) in
-    let payload_len : length frame.payload ≡ layout.byte_count = grind (arith, common_steps, length-slice_range) in
-    let address_len = length-slice_range bytes 1 i (omega (arith, describes.address)) (omega arith) in
-    let delimiter : delimiter_of frame ≡ get_or bytes 0 0 = grind arith in
+    let delimiter : delimiter_of frame ≡ get_or bytes 0 0 = grind (arith, length-slice_range bytes) in
     let checked_len : body_length bytes - 1 ≡ k = omega arith in
-    grind (arith, cut bytes i j k)
+    grind (arith, cut bytes i j k, length-slice_range bytes)

@@ -49,7 +49,3 @@ pub only : (bytes : List ℕ) (result : Result (FrameParts × ℕ) FrameFault)
     → (f : FrameParts) (len : ℕ) → BeginsWithBody bytes f len → result ≡ Ok (f, len)
 only bytes (Ok found) accepts refused f len begins = grind (arith, bodies_are_unambiguous-one_prefix found.0 f bytes found.1 len)
 only bytes (Err fault) accepts refused f len begins = absurd (not_refused bytes f len fault begins refused)
-
--- bytes are refused with one fault at most
-pub refused_once : (bytes : List ℕ) (fault other : FrameFault) → IsRefusedWith bytes fault → IsRefusedWith bytes other → fault ≡ other
-refused_once bytes fault other p q = grind arith

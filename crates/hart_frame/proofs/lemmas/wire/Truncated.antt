@@ -1,6 +1,6 @@
 -- Bytes that end too early are those that can become a body.
 use Rattle.std.proofs.Common.{◌≡◌, ℕ, fold, bit_xor, ◌+◌, ◌-◌, ◌<◌, ◌≤◌, List, [], ◌∷◌, ◌++◌, length, take, drop}
-use Rattle.std.proofs.Common.{replicate, refl, subst, arith, length-append}
+use Rattle.std.proofs.Common.{replicate, refl, arith, length-append}
 use Rattle.std.proofs.Math.Seq.{take-append_seam}
 use Rattle.std.proofs.lemmas.List.{get_or_append_left, get_or-append_right, get_or-replicate, get_or-take, length-replicate, length-take-le}
 use Rattle.std.proofs.lemmas.List.{take_all, take_at, take-append-drop, take-append-le, take-take}
@@ -22,22 +22,19 @@ abbrev pub Fitted : List ℕ → Type 0
 Fitted bytes = (frame : FrameParts) × IsBody frame (bytes ++ fold bit_xor 0 bytes ∷ [])
 
 -- bytes that go on to a check byte lack only the right one before it
-completed : (bytes : List ℕ) → All (λ byte. byte < 256) bytes → HasCheckByte bytes → Fitted (take (body_length bytes - 1) bytes)
-completed bytes fit whole =
-    let prefix = take (body_length bytes - 1) bytes in
-    let held = held_frame bytes (λ k below. fits_at bytes fit k) whole in
-    let prefix_fit = All-take (λ byte. byte < 256) (body_length bytes - 1) bytes fit in
-    (held.frame, IsBody-push held.frame prefix _ held.part prefix_fit (IsCheckByte-fold prefix _ (fits_at prefix prefix_fit) refl))
+completed : (whole bytes : List ℕ) → All (λ byte. byte < 256) whole → HasCheckByte whole → take (body_length whole - 1) whole ≡ bytes
+    → Fitted bytes
+completed whole bytes fit has is =
+    let held = held_frame whole (λ k below. fits_at whole fit k) has in
+    let fits : All (λ byte. byte < 256) bytes = rw (← is) (All-take (λ byte. byte < 256) (body_length whole - 1) whole fit) in
+    (held.frame, IsBody-push held.frame bytes _ (rw is at held.part) fits (IsCheckByte-fold bytes _ (fits_at bytes fits) refl))
 
 pub fitted : (bytes : List ℕ) → All (λ byte. byte < 256) bytes → HasGoodByteCount bytes → body_length bytes ≡ length bytes + 1
     → Fitted bytes
 fitted bytes fit good last =
-    let whole : List ℕ = bytes ++ 0 ∷ [] in
-    let len = length_more bytes (0 ∷ []) good.0.1 in
-    let long = length-append bytes (0 ∷ []) in
-    let prefix : take (body_length whole - 1) whole ≡ bytes = grind (arith, take_at) in
     let fits = All-push (λ byte. byte < 256) bytes 0 fit (omega arith) in
-    subst Fitted prefix (completed whole fits (HasGoodByteCount-more bytes (0 ∷ []) good, omega arith))
+    let len = length_more bytes (0 ∷ []) good.0.1 in
+    completed (bytes ++ 0 ∷ []) bytes fits (grind (arith, HasGoodByteCount-more, length-append)) (grind (arith, take_at))
 
 -- bytes that end too early go on to a check byte if many bytes 2 follow: 2 is the delimiter of an STX, and a good byte count
 filled : (bytes : List ℕ) (more : ℕ) → All (λ byte. byte < 256) bytes → IsTruncated bytes → 300 ≤ more
@@ -52,15 +49,15 @@ CanBecomeBody-truncated bytes fit truncated =
     let whole : List ℕ = bytes ++ twos in
     let filled = filled bytes 300 fit truncated (omega arith) in
     let fits = All-append (λ byte. byte < 256) bytes twos fit (All-replicate (λ byte. byte < 256) 300 2 (omega arith)) in
-    let (frame, is) = completed whole fits filled.0 in
     let prefix = take (body_length whole - 1) whole in
+    let (frame, is) = completed whole prefix fits filled.0 refl in
     let body = prefix ++ fold bit_xor 0 prefix ∷ [] in
-    let begins : take (length bytes) prefix ≡ bytes = grind (arith, take-take, take-append_seam) in
+    let begins : take (length bytes) body ≡ bytes = grind (arith, take-append-le, length-take-le, take-take, take-append_seam) in
     record {
       rest = drop (length bytes) body;
       frame = frame;
       count = length body;
-      begins = grind (arith, take-append-drop (length bytes) body, take_all (length body) body, take-append-le, length-take-le);
+      begins = grind (arith, take-append-drop (length bytes) body, take_all (length body) body);
     }
 
 -- fewer bytes than go up to a byte count end too early
