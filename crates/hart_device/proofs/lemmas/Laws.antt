@@ -1,23 +1,19 @@
 -- The laws of devices, for the proofs of this crate and of those above.
-use Rattle.std.proofs.Common.{arith, ◌≡◌, ◌≢◌, ◌≤◌, ◌⊎◌, refl, rules, false, true, ℕ, List, [], length, sym, Ok, Some, slice_get}
+use Rattle.std.proofs.Common.{arith, ◌≡◌, ◌≢◌, refl, rules, false, true, ℕ, List, [], Ok, Some, slice_get}
 use Rattle.std.proofs.lemmas.Grind.{common_steps}
-use Rattle.std.specs.List.{flat_map}
 use Rattle.hart_frame.specs.wire.FrameParts.{FrameParts, reply_parts}
-use Rattle.hart_commands.specs.Registers.{AreValid, Contents, Overwrite, overwrite_of, registers, registers_of}
+use Rattle.hart_commands.specs.Registers.{AreValid, Contents, Overwrite, overwrite_of, registers_of}
 use Rattle.hart_commands.specs.ReplyData.{IsReply, reply_payload, reply_reading}
 use Rattle.hart_commands.specs.RequestData.{is_known}
-use Rattle.hart_commands.specs.declared.register.Register.{Register}
 use Rattle.hart_commands.specs.declared.request.Request.{Request}
 use Rattle.hart_device.specs.Device.{DeviceState, Executes, IsDevice, Nothing}
 use Rattle.hart_device.specs.Process.{IsProcess}
 use Rattle.hart_device.specs.answer.Answer.{answer_of, code_of, effect_of, is_answered, reading_of, reply_of, state_after}
 use Rattle.hart_device.specs.declared.process.Process.{Process}
 use Rattle.hart_device.specs.image.Image.{IsImageOf, image_of}
-use Rattle.hart_device.specs.registers.Ranges.{array_length, end_of, standing_for, start_of}
 use Rattle.hart_device.proofs.lemmas.answer.Effect.{answered_if, identity_stays, judged_has_code, refused}
 use Rattle.hart_device.proofs.lemmas.answer.Reply.{reply_read}
 use Rattle.hart_device.proofs.lemmas.image.Image.{one_state, written_is}
-use Rattle.hart_device.proofs.lemmas.registers.Range.{filled}
 pub use Rattle.hart_device.proofs.lemmas.answer.Delivery.{deliveries_bring_one-brings, deliveries_bring_one-one}
 pub use Rattle.hart_device.proofs.lemmas.answer.Effect.{resets_name_this_counter-only}
 pub use Rattle.hart_device.proofs.lemmas.answer.Effect.{writes_execute_their_overwrite-only, writes_execute_their_overwrite-well_made}
@@ -76,15 +72,3 @@ pub writes_execute_their_overwrite-executes : (state : DeviceState) (frame : Fra
     → is_answered state frame ≡ true → code_of state frame ≡ 0 → reading_of frame ≡ Ok request
     → overwrite_of request ≡ Some overwrite → effect_of state frame ≡ Executes overwrite
 writes_execute_their_overwrite-executes state frame request overwrite answered zero reading is = search rules
-
--- The ranges of the registers lie within the array, lie apart, and fill it in the order of the registers.
-pub range_within : (register : Register) → end_of register ≤ array_length
-range_within register = search rules
-
-pub ranges_apart : (register other : Register) → other ≢ register
-    → (end_of register ≤ start_of other) ⊎ (end_of other ≤ start_of register)
-ranges_apart register other differ = search rules
-
-pub ranges_fill : (array : List ℕ) → length array ≡ array_length
-    → flat_map (λ register. standing_for register array) registers ≡ array
-ranges_fill array len = filled array 0 registers refl (sym len)

@@ -1,9 +1,9 @@
-use Rattle.std.proofs.Common.{refl, ◌∙◌, arith}
+use Rattle.std.proofs.Common.{refl, sym, ◌∙◌, arith}
 use Rattle.std.proofs.lemmas.Grind.{common_steps}
 use Rattle.hart_commands.specs.Registers.{registers}
 use Rattle.hart_commands.specs.declared.register.Register.TheVariants.{LongTag}
 use Rattle.hart_commands.proofs.lemmas.Laws.{all_registers_are_listed_once-every}
-use Rattle.hart_device.proofs.lemmas.Laws.{range_within, ranges_fill}
+use Rattle.hart_device.proofs.lemmas.registers.Range.{filled}
 use Rattle.hart_device.proofs.lemmas.image.Image.{bad_field, before_others, read_is}
 use Rattle.hart_device.proofs.lemmas.image.Read.{kept_or, refused_or}
 use Rattle.hart_device.proofs.image.read_version_2.Goals as goal
@@ -17,7 +17,7 @@ returns-clause-refused c =
     rw (c.ok_or.ensures.value, split.by_index.0) (refused_or _ c.read_parts.result _ c.read_parts.ensures.refused
     (bad_field 2 registers refl c.copy_from_slice.new.self c.split_at.result.0.now c.split_at.result.1.now split.front_len
     (omega (arith, split.back_len, c.if-rest.false)) (λ register differ. all_registers_are_listed_once-every register)
-    (grind (arith, common_steps, range_within, before_others, split.front_len))))
+    (grind (arith, common_steps, before_others, split.front_len))))
 
 pub returns-clause-kept : goal.returns-clause-kept
 returns-clause-kept c =
@@ -25,5 +25,5 @@ returns-clause-kept c =
     rw (c.ok_or.ensures.value, c.split_at.ensures.by_index.0)
     (kept_or _ _ _ _ c.read_parts.result _ read.registers read.valid read.ending (λ parts contents valid ends.
     read_is 2 registers refl parts c.copy_from_slice.new.self c.split_at.result.0.now c.split_at.result.1.now
-    (ranges_fill _ c.copy_from_slice.ensures.len ∙ c.copy_from_slice.ensures.after)
+    (filled _ 0 registers refl (sym c.copy_from_slice.ensures.len) ∙ c.copy_from_slice.ensures.after)
     (λ not_listed. absurd (not_listed (all_registers_are_listed_once-every LongTag))) contents valid ends))

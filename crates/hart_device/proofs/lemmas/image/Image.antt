@@ -31,10 +31,6 @@ by_version : (P : List Register → Type 0) → P registers_of_version_1 → P r
     → registers_of_version version ≡ Some listed → P listed
 by_version P first second version listed known = grind (arith, nat_tests)
 
--- The long tag is not among the registers of version 1.
-no_long_tag : Contains registers_of_version_1 LongTag → ⊥
-no_long_tag has = grind (arith, elements, has.1, has.2)
-
 -- Every other register is.
 pub in_version_1 : (register : Register) → register ≢ LongTag → Contains registers_of_version_1 register
 in_version_1 register differs =
@@ -50,7 +46,7 @@ listed_or_not : (version : ℕ) (listed : List Register) → registers_of_versio
 listed_or_not = by_version HasOrNot in_first (λ register. inl (all_registers_are_listed_once-every register))
   where
     in_first : HasOrNot registers_of_version_1
-    in_first LongTag = inr (refl, no_long_tag, in_version_1 Tag (λ e. cc))
+    in_first LongTag = inr (refl, λ has. grind (arith, elements, has.1, has.2), in_version_1 Tag (λ e. cc))
     in_first r = inl (in_version_1 r (λ e. cc))
 
 -- A state has one image of each version.
@@ -74,10 +70,6 @@ written_is state valid counter = record {
 pub devices_are_kept_whole-any_cold_start : (state : DeviceState) (image : List ℕ) (cold_start : EachMaster Bool) → IsImageOf state image
     → IsImageOf (record state { cold_start = cold_start }) image
 devices_are_kept_whole-any_cold_start state image cold_start is = grind (arith, common_steps, written)
-
--- The flags are below 8.
-pub flags_of-le : (changed : EachMaster Bool) (protected : Bool) → flags_of changed protected ≤ 7
-flags_of-le changed protected = grind arith
 
 -- What stands for a register in an image that has it is what it holds.
 held_in_image : (state : DeviceState) (image : List ℕ) (is : IsImageOf state image) (register : Register) → Contains is.listed register
@@ -138,7 +130,7 @@ images_have_no_fault state (version ∷ rest) BadField is (listed, known, len, i
     bad (rw (held_in_image state (version ∷ rest) is register (rw same at there)) (is.contents register))
 images_have_no_fault state (version ∷ rest) BadField is (listed, known, len, inr above) =
     let last = last_is is.version (flat_map (bytes_in state.contents) is.listed) (image_ending state) refl in
-    grind (arith, last, above, is.written, flags_of-le state.changed state.protected)
+    grind (arith, last, above, is.written)
 images_have_no_fault state (version ∷ rest) _ is faulty = faulty
 
 -- Bytes have one fault.

@@ -18,11 +18,6 @@ pub same_contents : (contents others : Contents)
     → ((register : Register) → bytes_in contents register ≡ bytes_in others register) → contents ≡ others
 same_contents contents others = contents_determined contents (bytes_in others)
 
--- After an overwrite a register holds the bytes that it names, or what it held.
-pub bytes_in-overwritten : (overwrite : Overwrite) (old : Contents) (register : Register)
-    → bytes_in (overwritten overwrite old) register ≡ unwrap_or (named_in overwrite register) (bytes_in old register)
-bytes_in-overwritten overwrite old = bytes_in-contents_by (λ register. unwrap_or (named_in overwrite register) (bytes_in old register))
-
 pub bytes_in-registers_of : (overwrites : List Overwrite) (initial : Contents) (register : Register)
     → bytes_in (registers_of overwrites initial) register ≡ unwrap_or (last_named overwrites register) (bytes_in initial register)
 bytes_in-registers_of overwrites initial = grind (arith, common_steps, bytes_in-contents_by, unwrap_or)
@@ -30,14 +25,11 @@ bytes_in-registers_of overwrites initial = grind (arith, common_steps, bytes_in-
 pub unwrap_or-option_or : {A : Type 0} (a b : Option A) (d : A) → unwrap_or (option_or a b) d ≡ unwrap_or a (unwrap_or b d)
 unwrap_or-option_or a b d = grind arith
 
-pub option_or-assoc : {A : Type 0} (a b c : Option A) → option_or (option_or a b) c ≡ option_or a (option_or b c)
-option_or-assoc a b c = grind arith
-
 -- A new overwrite comes last.
 pub last_named-append : (overwrites : List Overwrite) (overwrite : Overwrite) (register : Register)
     → last_named (overwrites ++ overwrite ∷ []) register ≡ option_or (named_in overwrite register) (last_named overwrites register)
 last_named-append [] overwrite register = grind arith
-last_named-append (o ∷ os) overwrite register = grind (arith, common_steps, option_or-assoc, last_named-append os overwrite register)
+last_named-append (o ∷ os) overwrite register = grind (arith, common_steps, last_named-append os overwrite register)
 
 -- One that comes again later changes nothing.
 pub last_named-again : (later : List Overwrite) (overwrite : Overwrite) (register : Register) (k : ℕ)
@@ -55,12 +47,12 @@ last_named-again (o ∷ os) overwrite register (suc k) within there =
 pub registers_of_lists-first : (overwrite : Overwrite) (later : List Overwrite) (initial : Contents)
     → registers_of (overwrite ∷ later) initial ≡ registers_of later (overwritten overwrite initial)
 registers_of_lists-first overwrite later initial =
-    grind (arith, same_contents, bytes_in-registers_of, bytes_in-overwritten, unwrap_or-option_or)
+    grind (arith, same_contents, bytes_in-registers_of, bytes_in-contents_by, unwrap_or-option_or)
 
 pub registers_of_lists-last : (overwrites : List Overwrite) (overwrite : Overwrite) (initial : Contents)
     → registers_of (overwrites ++ overwrite ∷ []) initial ≡ overwritten overwrite (registers_of overwrites initial)
 registers_of_lists-last overwrites overwrite initial =
-    grind (arith, same_contents, last_named-append, bytes_in-registers_of, bytes_in-overwritten, unwrap_or-option_or)
+    grind (arith, same_contents, last_named-append, bytes_in-registers_of, bytes_in-contents_by, unwrap_or-option_or)
 
 pub registers_of_lists-again : (overwrite : Overwrite) (later : List Overwrite) (initial : Contents) → Contains later overwrite
     → registers_of (overwrite ∷ later) initial ≡ registers_of later initial

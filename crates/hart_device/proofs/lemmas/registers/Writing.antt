@@ -1,14 +1,15 @@
 -- Writing registers into an array, one after another.
 use borrow.Rule.Slice.PartMut.{put_mid}
-use Rattle.std.proofs.Common.{◌≡◌, ◌≢◌, ℕ, ◌+◌, ◌-◌, ◌<◌, ◌≤◌, ◌⊎◌, arith, List, length, nat_lt, if◌then◌else◌, Option, None, unwrap_or}
+use Rattle.std.proofs.Common.{◌≡◌, ◌≢◌, ℕ, ◌+◌, ◌-◌, ◌<◌, ◌≤◌, ◌⊎◌, arith, List, length, nat_lt, if◌then◌else◌, Option, unwrap_or}
 use Rattle.std.proofs.lemmas.Bool.Decides.{nat_tests}
 use Rattle.std.proofs.lemmas.Grind.{common_steps}
 use Rattle.std.proofs.lemmas.List.{get_or_default}
 use Rattle.std.proofs.lemmas.Slice.{between_is, take-put_mid_below, drop-put_mid}
-use Rattle.std.specs.List.{AllPairs, Contains, slice_index_or, slice_range}
+use Rattle.std.specs.List.{slice_index_or, slice_range}
 use Rattle.hart_commands.specs.Registers.{registers}
 use Rattle.hart_commands.specs.declared.register.Register.{Register}
 use Rattle.hart_commands.specs.declared.register.Register.TheVariants.{Polling}
+use Rattle.hart_commands.proofs.lemmas.Laws.{all_registers_are_listed_once-every, all_registers_are_listed_once-once}
 use Rattle.hart_device.specs.registers.Ranges.{standing_for}
 
 -- What is written in a range stays out of every range that lies apart from it.
@@ -34,21 +35,15 @@ AreWrittenBefore place given old now = (k : ℕ) → k < length registers
 
 -- After one more of them is written, one more stands written.
 pub one_more : (given : Register → Option (List ℕ)) (old now new : List ℕ) (place : ℕ) → place < length registers
-    → AllPairs (λ register other. register ≢ other) registers
     → standing_for (register_at place) new ≡ given_to given old (register_at place)
     → ((other : Register) → other ≢ register_at place → standing_for other new ≡ standing_for other now)
     → AreWrittenBefore place given old now → AreWrittenBefore (place + 1) given old new
-one_more given old now new place within once written others before k k_within =
+one_more given old now new place within written others before k k_within =
+    let once = all_registers_are_listed_once-once in
     grind (arith, nat_tests, written, once k place Polling, once place k Polling, others (register_at k), before k k_within)
-
--- So it does also if it is given nothing.
-pub none_more : (given : Register → Option (List ℕ)) (old now : List ℕ) (place : ℕ) → given (register_at place) ≡ None
-    → AreWrittenBefore place given old now → AreWrittenBefore (place + 1) given old now
-none_more given old now place none before k k_within = grind (arith, nat_tests, none, before k k_within)
 
 -- All of them have been written at the end of the list.
 pub all_written : (given : Register → Option (List ℕ)) (old now : List ℕ) (place : ℕ) → length registers ≤ place
-    → ((register : Register) → Contains registers register) → AreWrittenBefore place given old now
-    → (register : Register) → standing_for register now ≡ given_to given old register
-all_written given old now place end every before register =
-    let listed = every register in grind (arith, nat_tests, get_or_default, before listed.0 listed.1, listed.2)
+    → AreWrittenBefore place given old now → (register : Register) → standing_for register now ≡ given_to given old register
+all_written given old now place end before register =
+    let listed = all_registers_are_listed_once-every register in grind (arith, nat_tests, get_or_default, before listed.0 listed.1, listed.2)

@@ -2,7 +2,6 @@ use Rattle.std.proofs.Common.{arith, ◌≡◌, Some, ◌∙◌}
 use Rattle.std.proofs.lemmas.Grind.{common_steps}
 use Rattle.hart_commands.specs.Registers.{bytes_in}
 use Rattle.hart_commands.specs.declared.register.Register.{Register}
-use Rattle.hart_commands.proofs.lemmas.Laws.{all_registers_are_listed_once-every, all_registers_are_listed_once-once}
 use Rattle.hart_device.specs.registers.Ranges.{contents_in, standing_for}
 use Rattle.hart_device.specs.registers.Values.{values_of}
 use Rattle.hart_device.proofs.lemmas.registers.Registers.{bytes_in-contents_by}
@@ -12,7 +11,7 @@ use Rattle.hart_device.proofs.registers.image_registers.ImageRegistersRegisterSt
 pub loop-register-preserved : goal.loop-register-preserved
 loop-register-preserved c =
     one_more (λ r. Some (bytes_in (values_of c.args.values.now) r)) _ c.loop-register.store.bytes c.write.new.self.bytes
-    c.loop-register.register-index c.loop-register-test.true all_registers_are_listed_once-once
+    c.loop-register.register-index c.loop-register-test.true
     (c.write.ensures.written ∙ c.get.ensures.value ∙ c.with-fields.ensures.held _) c.write.ensures.others c.loop-register.invariant
 
 pub returns : goal.returns
@@ -22,4 +21,4 @@ returns c =
     λ register.
     bytes_in-contents_by (λ r. standing_for r c.loop-register.store.bytes) register
     ∙ all_written (λ r. Some (bytes_in (values_of c.args.values.now) r)) _ c.loop-register.store.bytes c.loop-register.register-index
-    c.loop-register-test.false all_registers_are_listed_once-every c.loop-register.invariant register in grind (arith, common_steps)
+    c.loop-register-test.false c.loop-register.invariant register in grind (arith, common_steps)
