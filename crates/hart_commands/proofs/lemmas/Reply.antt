@@ -14,7 +14,7 @@ use Rattle.hart_commands.specs.FirstBytes.{having}
 use Rattle.hart_commands.specs.IdentityBytes.{identity_of}
 use Rattle.hart_commands.specs.Parts.{content_parts}
 use Rattle.hart_commands.specs.ReplyData.{IsReply, content_by, content_bytes, reply_reading, reply_payload}
-use Rattle.hart_commands.specs.ReplyReading.{saying, identity_reading, dynamic_reading, variables_reading, more_reading}
+use Rattle.hart_commands.specs.ReplyReading.{identity_reading, dynamic_reading, variables_reading, more_reading}
 use Rattle.hart_commands.specs.Values.{float_at, unit_value_of}
 use Rattle.hart_commands.specs.declared.content.ReplyContent.{ReplyContent}
 use Rattle.hart_commands.specs.declared.content.ReplyContent.TheVariants.{Identity, Dynamic, More, Refused}
@@ -45,11 +45,6 @@ said : (command size : ℕ) (read : List ℕ → Option ReplyContent)
 said command size read each bytes =
     let whole = by_spelling size (λ xs. IfSome (read xs) (λ content. (content_bytes content ≡ xs) × IsParted command content))
     each (take size bytes) in grind (arith, common_steps, nat_tests)
-
-saying_said : (command size : ℕ) (content : List ℕ → ReplyContent)
-    → ((xs : List ℕ) → (content_bytes (content (spell size xs)) ≡ spell size xs) × IsParted command (content (spell size xs)))
-    → Keeps command (saying size content)
-saying_said command size content each = said command size (λ xs. Some (content xs)) each
 
 identity : (command : ℕ) → reply_rows command ≡ fields.identity → Keeps command identity_reading
 identity command same =
@@ -104,7 +99,7 @@ KeepsOwn row = Keeps row.number (replied row.reply) × IsParted row.number Refus
 
 own : AllByRecursion KeepsOwn commands
 unfolding rows
-own = search (identity, dynamic, variables, more, saying_said)
+own = search (identity, dynamic, variables, more, said)
 
 -- a reply is read of a payload by a row of the table, or is refused
 abbrev pub reply_by : Option CommandRow → ℕ → List ℕ → Option Reply

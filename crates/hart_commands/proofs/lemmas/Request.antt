@@ -1,5 +1,5 @@
 -- Written data are read again.
-use Rattle.std.proofs.Common.{◌≡◌, ℕ, ◌≤◌, ◌⊎◌, inl, inr, List, [], ◌∷◌, ◌++◌, take, length, Ok, refl, ap, arith, true, length-append}
+use Rattle.std.proofs.Common.{◌≡◌, ℕ, ◌≤◌, ◌⊎◌, inl, inr, List, [], ◌∷◌, ◌++◌, take, length, Ok, ap, arith, true, length-append}
 use Rattle.std.proofs.Common.{append-nil}
 use Rattle.std.proofs.lemmas.Bool.Decides.{nat_tests}
 use Rattle.std.proofs.lemmas.Grind.{common_steps}
@@ -9,8 +9,8 @@ use Rattle.hart_values.proofs.lemmas.Laws.{dates_are_decided-date}
 use Rattle.hart_commands.specs.RequestData.{IsRequest, MayFollow, command_of, request_reading, request_data}
 use Rattle.hart_commands.specs.RequestReading.{needing, tag_reading}
 use Rattle.hart_commands.specs.declared.request.Request.{Request}
-use Rattle.hart_commands.specs.declared.request.Request.TheVariants.{SetPolling, ReadVariables, IdentifyByTag, WriteMessage, WriteTag}
-use Rattle.hart_commands.specs.declared.request.Request.TheVariants.{WriteAssembly, IdentifyByLongTag, WriteLongTag, ResetChanged}
+use Rattle.hart_commands.specs.declared.request.Request.TheVariants.{SetPolling, ReadVariables, WriteTag}
+use Rattle.hart_commands.specs.declared.request.Request.TheVariants.{ResetChanged}
 use Rattle.hart_commands.proofs.lemmas.Parts.{spelled}
 
 -- needed bytes are read, whatever follows
@@ -34,14 +34,9 @@ pub written_is_read : (request : Request) (rest : List ℕ) → IsRequest reques
 written_is_read (SetPolling address mode) rest is may = grind (arith, nat_tests)
 written_is_read (ReadVariables []) rest is may = absurd (omega (arith, is.0))
 written_is_read (ReadVariables (code ∷ codes)) rest is may = ap (λ xs. Ok (ReadVariables xs)) (take-codes (code ∷ codes) rest is.1 may)
-written_is_read (IdentifyByTag tag) rest is may = needing-append 6 IdentifyByTag tag rest is
-written_is_read (WriteMessage message) rest is may = needing-append 24 WriteMessage message rest is
 written_is_read (WriteTag tag descriptor date) rest is may = grind (arith, common_steps, tag_reading-good, dates_are_decided-date)
-written_is_read (WriteAssembly assembly) rest is may = needing-append 3 WriteAssembly assembly rest is
-written_is_read (IdentifyByLongTag long_tag) rest is may = needing-append 32 IdentifyByLongTag long_tag rest is
-written_is_read (WriteLongTag long_tag) rest is may = needing-append 32 WriteLongTag long_tag rest is
 written_is_read (ResetChanged counter) rest is may = grind arith
-written_is_read _ rest is may = refl
+written_is_read _ rest is may = search needing-append
 
 -- the same with nothing after them
 pub written_is_own : (request : Request) → IsRequest request
