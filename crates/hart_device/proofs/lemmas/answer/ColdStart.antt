@@ -1,5 +1,5 @@
 -- What a frame and a reply do to the cold start bits.
-use Rattle.std.proofs.Common.{◌≡◌, ℕ, arith, bit_and, bit_or, Bool, true, false, if◌then◌else◌}
+use Rattle.std.proofs.Common.{◌≡◌, ℕ, arith, bit_and, bit_or, Bool, false, if◌then◌else◌}
 use Rattle.std.proofs.lemmas.Nat.Bits.{bit_at_and, bit_at_or}
 use Rattle.std.specs.Int.{bit_at}
 use Rattle.hart_values.specs.EachMaster.{of_master, with_master}
@@ -8,22 +8,15 @@ use Rattle.hart_values.specs.declared.master_id.MasterId.{MasterId}
 use Rattle.hart_device.specs.Device.{DeviceState, Effect, Nothing, after, after_reply}
 use Rattle.hart_device.specs.answer.Status.{bit_if}
 
--- what a frame leaves, if it is answered or not
-abbrev pub left_by : Bool → MasterId → Effect → DeviceState → DeviceState
-left_by answered master effect state = if answered then after_reply master (after master effect state) else state
-
+-- what a frame without effect leaves, if it is answered or not
 pub without_effect : (answered : Bool) (master : MasterId) (effect : Effect) (state : DeviceState) → effect ≡ Nothing
-    → left_by answered master effect state
+    → (if answered then after_reply master (after master effect state) else state)
     ≡ record state { cold_start = if answered then with_master master false state.cold_start else state.cold_start }
 without_effect answered master effect state nothing = grind arith
 
 -- no effect is one on a cold start bit
 pub effect_keeps : (master : MasterId) (effect : Effect) (state : DeviceState) → (after master effect state).cold_start ≡ state.cold_start
 effect_keeps master effect state = grind arith
-
-pub cleared : (answered : Bool) (master : MasterId) (effect : Effect) (state : DeviceState) → answered ≡ true
-    → (left_by answered master effect state).cold_start ≡ with_master master false state.cold_start
-cleared answered master effect state is = grind arith
 
 -- THE BIT IN A DEVICE STATUS
 pub bit_in_status : (x : ℕ) (changed cold more fixed : Bool)

@@ -6,7 +6,6 @@ use Rattle.hart_frame.specs.declared.heard.delivery.LoneFrame.TheVariants.{NoFra
 use Rattle.hart_frame.specs.declared.heard.found.Found.{Found}
 use Rattle.hart_frame.specs.heard.Character.{Character}
 use Rattle.hart_frame.specs.heard.Delivery.{lone_of}
-use Rattle.hart_frame.specs.heard.Frames.{AreFrames}
 use Rattle.hart_frame.specs.wire.FrameParts.{FrameParts}
 use Rattle.hart_frame.proofs.lemmas.Laws.{every_list_has_frames, frames_are_unambiguous-one_list}
 use Rattle.hart_device.specs.Device.{DeviceState}
@@ -17,11 +16,7 @@ use Rattle.hart_device.specs.declared.identity_parts.IdentityParts.{IdentityPart
 use Rattle.hart_device.specs.declared.process.Process.{Process}
 use Rattle.hart_device.proofs.lemmas.answer.Garbled.{garbled_decided, garbled_one}
 
--- any list of the frames of a delivery says what it brings
-pub by_frames : (identity : IdentityParts) (chars : List Character) (frames : List Found) (brought : Brought)
-    → AreFrames chars 0 frames → Brings identity chars brought → BringsBy identity chars frames brought
-by_frames identity chars frames brought are brings = grind (arith, common_steps, frames_are_unambiguous-one_list)
-
+-- a delivery brings one thing at most
 pub deliveries_bring_one-one : (identity : IdentityParts) (chars : List Character) (a b : Brought)
     → Brings identity chars a → Brings identity chars b → a ≡ b
 deliveries_bring_one-one identity chars a b p q = grind (arith, common_steps, frames_are_unambiguous-one_list, garbled_one)
@@ -40,7 +35,7 @@ pub deliveries_bring_one-brings : (identity : IdentityParts) (chars : List Chara
     → (brought : Brought) × Brings identity chars brought
 deliveries_bring_one-brings identity chars =
     let frames = every_list_has_frames chars 0 in
-    let brings = BringsBy-found identity chars frames.0 in grind (arith, common_steps, by_frames)
+    let brings = BringsBy-found identity chars frames.0 in grind (arith, common_steps, frames_are_unambiguous-one_list)
 
 -- so the reply to the garbled request of a delivery without a frame is the answer to what that brings
 abbrev pub IsGarbledReply : IdentityParts → List Character → Option FrameParts → Type 0

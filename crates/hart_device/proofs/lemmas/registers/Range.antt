@@ -41,16 +41,10 @@ written bytes before after (register ∷ later) ends sizes (suc k) d within =
     let len : length (before ++ bytes register) ≡ end_of register = grind (arith, common_steps, sizes register, first.0) in
     simp append_assoc (simp append_assoc at (written bytes (before ++ bytes register) after later (rw len first.1) sizes k d (omega arith)))
 
--- What is written for the next register comes after what is written for those before it.
-pub next_written : (bytes : Register → List ℕ) (place : ℕ) → place < length registers
-    → flat_map bytes (take (place + 1) registers)
-    ≡ flat_map bytes (take place registers) ++ bytes (slice_index_or registers place Polling)
-next_written bytes place within = grind (arith, common_steps)
-
-pub next_size : (place : ℕ) → place < length registers
-    → sum_by size_of (take (place + 1) registers)
-    ≡ sum_by size_of (take place registers) + size_of (slice_index_or registers place Polling)
-next_size place within = grind (arith, common_steps)
+-- The first registers and the next one.
+pub next_register : (place : ℕ) → place < length registers
+    → take (place + 1) registers ≡ take place registers ++ slice_index_or registers place Polling ∷ []
+next_register place within = grind (arith, common_steps)
 
 -- What is written for each register is as long as all of them.
 pub length_written : (bytes : Register → List ℕ) → ((register : Register) → length (bytes register) ≡ size_of register)

@@ -46,4 +46,4 @@ one_more given old now new place within written others before k k_within =
 pub all_written : (given : Register → Option (List ℕ)) (old now : List ℕ) (place : ℕ) → length registers ≤ place
     → AreWrittenBefore place given old now → (register : Register) → standing_for register now ≡ given_to given old register
 all_written given old now place end before register =
-    let listed = all_registers_are_listed_once-every register in grind (arith, nat_tests, get_or_default, before listed.0 listed.1, listed.2)
+    let there = all_registers_are_listed_once-every register in grind (arith, nat_tests, get_or_default, before there.0 there.1, there.2)

@@ -2,7 +2,7 @@ use Rattle.std.proofs.Common.{◌<◌, ◌^◌, arith}
 use Rattle.std.proofs.lemmas.Grind.{common_steps}
 use Rattle.std.specs.List.{slice_index_or}
 use Rattle.hart_device.proofs.lemmas.image.Image.{written_is}
-use Rattle.hart_device.proofs.lemmas.registers.Range.{next_size, next_written}
+use Rattle.hart_device.proofs.lemmas.registers.Range.{next_register}
 use Rattle.hart_device.proofs.device.Device.image.Goals as goal
 
 pub returns-clause-image : goal.returns-clause-image
@@ -11,4 +11,4 @@ returns-clause-image g c =
     let is = written_is c.args.self.now c.registers-registers.ensures.valid counter in grind (arith, common_steps)
 
 pub loop-register-preserved : goal.loop-register-preserved
-loop-register-preserved g c = grind (arith, common_steps, next_written, next_size, slice_index_or)
+loop-register-preserved g c = rw (next_register c.loop-register.register-index c.loop-register-test.true) (grind (arith, common_steps, slice_index_or))
