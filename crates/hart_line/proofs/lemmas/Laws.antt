@@ -18,9 +18,9 @@ use Rattle.hart_line.proofs.lemmas.world.Answered.{answered_last}
 use Rattle.hart_line.proofs.lemmas.world.Basics.{some_one}
 use Rattle.hart_line.proofs.lemmas.world.Leads.{fault_before, fault_not_detectable, leads_exists, leads_one, undetected_one}
 use Rattle.hart_line.proofs.lemmas.world.Reset.{refused_last, refused_step, unseen}
-use Rattle.hart_line.proofs.lemmas.world.State.{same_state}
 use Rattle.hart_line.proofs.lemmas.world.Submitted.{executed_at_most}
 use Rattle.hart_line.proofs.lemmas.world.Written.{answered_executed, registers_last, step_stays, turn_executed}
+use Rattle.hart_line.proofs.lemmas.world.Steps.{same_state}
 
 pub scripts_have_one_last_world-one_world : (start : Start) (events : List LineEvent) (a b : World)
     → IsLast start events a → IsLast start events b → a ≡ b

@@ -1,6 +1,5 @@
 -- The world of a script: what has happened on the line.
 pub mod Basics
-pub mod State
 pub mod Steps
 pub mod Leads
 pub mod Submitted

@@ -1,10 +1,10 @@
 -- What arrives in a leg, what it brings the device, and what is spoken.
-use Rattle.std.proofs.Common.{◌≡◌, ℕ, ◌≤◌, ap, refl, arith, length-append, Option, None, Some, List, [], ◌∷◌, ◌++◌, length, replicate}
+use Rattle.std.proofs.Common.{◌≡◌, ℕ, ◌≤◌, ap, refl, arith, length-append, Option, None, Some, List, [], ◌∷◌, ◌++◌, replicate}
 use Rattle.std.proofs.Common.{append-nil}
 use Rattle.std.proofs.lemmas.Grind.{common_steps}
 use Rattle.std.specs.Option.{MatchOption, option_to_list}
 use Rattle.hart_values.specs.declared.master_id.MasterId.{MasterId}
-use Rattle.hart_frame.specs.heard.Character.{Character, faultless}
+use Rattle.hart_frame.specs.heard.Character.{Character}
 use Rattle.hart_frame.specs.wire.FrameParts.{FrameParts}
 use Rattle.hart_frame.specs.wire.Message.{IsMessage}
 use Rattle.hart_frame.proofs.lemmas.Laws.{messages_have_their_frame_alone-message, messages_have_their_frame_alone-nothing}
@@ -66,27 +66,17 @@ nothing_reaches identity heard said are =
 -- Otherwise the frame that was sent arrives in it, and is brought.
 pub message_arrives : (said : SpokenFrame) → IsSpeakable (Some said) → Arrives Clean (Some said) (Some said.frame)
 message_arrives said is =
-    let bytes = replicate said.preambles 255 ++ is.1 in
-    let is_message : IsMessage said.frame said.preambles bytes = record { body = is.1; is_body = is.2; parts = refl } in
-    record {
-      chars = faultless bytes;
-      are_heard = (bytes, is_message, refl);
-      among = record {
-        frames = record { start = said.preambles; stop = length bytes; frame = said.frame } ∷ [];
-        are_frames = messages_have_their_frame_alone-message said.frame said.preambles bytes is.0 is_message;
-        detected = (refl, refl);
-      };
-    }
+    let is_message : IsMessage said.frame said.preambles (replicate said.preambles 255 ++ is.1) =
+    record { body = is.1; is_body = is.2; parts = refl } in
+    let one = messages_have_their_frame_alone-message said.frame said.preambles _ is.0 is_message in
+    record { chars = _; are_heard = (_, is_message, refl); among = record { frames = _; are_frames = one; detected = (refl, refl) } }
 
 pub clean_reaches : (identity : IdentityParts) (frame : FrameParts) (said : Option SpokenFrame)
     → IsSent (Some frame) said → Reaches identity Clean said (OneFrame frame)
 clean_reaches identity frame None is = let none = is.frame in cc
 clean_reaches identity frame (Some said) is =
-    let a = message_arrives said is.speakable in record {
-      chars = a.chars;
-      are_heard = a.are_heard;
-      among = record { frame = Some said.frame; arrives = a.among; brings = grind (arith, is.frame) };
-    }
+    let a = message_arrives said is.speakable in
+    record { chars = a.chars; are_heard = a.are_heard; among = grind (arith, is.frame, among_frame) }
 
 -- WHAT IS SPOKEN
 -- What is spoken after enough preamble bytes was sent.

@@ -20,8 +20,7 @@ use Rattle.hart_line.specs.world.Spoken.{AreSpoken, SpokenFrame, Speaks, spoken_
 use Rattle.hart_line.specs.world.Step.{cold_start_after, effect_on, replied, spoken_request, sent_back, sent_by, turned}
 use Rattle.hart_line.specs.world.World.{InHand, Start, World, state_of, MarksWithin}
 use Rattle.hart_line.proofs.lemmas.line.Leg.{speaks_sent, AreSpoken-more}
-use Rattle.hart_line.proofs.lemmas.world.State.{state-after}
-use Rattle.hart_line.proofs.lemmas.world.Steps.{frame_in, none_reaches, reaches_sent}
+use Rattle.hart_line.proofs.lemmas.world.Steps.{frame_in, none_reaches, reaches_sent, state-after}
 use Rattle.hart_line.specs.declared.line.report.Party.TheVariants as parties
 
 -- What the device answered to what this leg brought it was spoken after what was said in it.

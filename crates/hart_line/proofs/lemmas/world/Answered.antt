@@ -1,6 +1,6 @@
 -- Each accepted reply was accepted in the turn of the last sending, and is the one that the device made.
-use Rattle.std.proofs.Common.{◌≡◌, ℕ, ◌+◌, ap, ◌∙◌, sym, arith, slice_index, Option, None, Some, List, slice_set, ◌⊎◌, inl, inr}
-use Rattle.std.proofs.Common.{refl, subst}
+use Rattle.std.proofs.Common.{◌≡◌, ℕ, ◌+◌, ap, ◌∙◌, sym, arith, slice_index, Option, None, Some, List, slice_set, ◌⊎◌, inl, inr, refl}
+use Rattle.std.proofs.Common.{subst}
 use Rattle.std.proofs.lemmas.Bool.Decides.{nat_tests}
 use Rattle.std.proofs.lemmas.Grind.{common_steps}
 use Rattle.std.specs.List.{slice_get}
@@ -30,9 +30,8 @@ use Rattle.hart_line.specs.world.Spoken.{spoken_by}
 use Rattle.hart_line.specs.world.Step.{submitted, Accepts, IsLast, spoken_request, outcome_of, LeadsTo, effect_on, executions_after}
 use Rattle.hart_line.specs.world.World.{InHand, Start, World, first_world, state_of, Execution, overwrites_of}
 use Rattle.hart_line.proofs.lemmas.world.Basics.{slice_get-append, slice_get-set, some_one}
-use Rattle.hart_line.proofs.lemmas.world.Steps.{along, turn_cases, entered, frame_in}
+use Rattle.hart_line.proofs.lemmas.world.Steps.{along, turn_cases, entered, frame_in, contents-more}
 use Rattle.hart_line.proofs.lemmas.world.Submitted.{held_in}
-use Rattle.hart_line.proofs.lemmas.world.State.{contents-more}
 use Rattle.hart_commands.proofs.lemmas.Laws.{overwrites_are_valid}
 use Rattle.hart_device.proofs.lemmas.Laws.{answers_are_replies-read, registers_of_lists-none, writes_execute_their_overwrite-well_made}
 

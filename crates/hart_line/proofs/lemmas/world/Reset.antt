@@ -1,9 +1,8 @@
 -- What holds since a master's last reset, and after a refused command.
-use Rattle.std.proofs.Common.{◌≡◌, ◌≢◌, ℕ, nat_lt, ap, sym, refl, subst, arith, Option, IfSome, Ok, false, List, [], ◌∷◌, ◌++◌}
-use Rattle.std.proofs.Common.{length, append_assoc, append-nil, ◌⊎◌, inl, inr}
+use Rattle.std.proofs.Common.{◌≤◌, ◌≡◌, ◌≢◌, ℕ, ap, refl, subst, arith, Option, IfSome, Ok, false, List, [], ◌∷◌, ◌++◌}
+use Rattle.std.proofs.Common.{length, append_assoc, ◌⊎◌, inl, inr}
 use Rattle.std.proofs.lemmas.Bool.Decides.{nat_tests}
 use Rattle.std.proofs.lemmas.Grind.{common_steps}
-use Rattle.std.proofs.lemmas.List.{length-append}
 use Rattle.hart_values.specs.EachMaster.{of_master}
 use Rattle.hart_values.specs.declared.each_master.EachMaster.{EachMaster}
 use Rattle.hart_values.specs.declared.master_id.MasterId.{MasterId}
@@ -25,14 +24,13 @@ use Rattle.hart_line.proofs.lemmas.world.Steps.{along, entered, leads_more, mast
 -- A RESET
 -- Executions grow, and a master's mark stays where no turn of it resets.
 record IsSince (id : MasterId) (world : World) (executions : List Execution) (marks : EachMaster (Option ℕ)) : Type 0 where
-  same : of_master id marks ≡ of_master id world.marks
-  more : List Execution
-  is : executions ≡ world.executions ++ more
+  mark : of_master id marks ≡ of_master id world.marks
+  few : length executions ≤ length world.executions → executions ≡ world.executions
 
 effect_since : (effect : Effect) (id who : MasterId) (number : ℕ) (world : World) {now new : List Execution}
     {old marks : EachMaster (Option ℕ)} → (id ≡ who → effect ≢ Resets) → new ≡ executions_after effect number now
     → marks ≡ marks_after effect who (length now) old → IsSince id world now old → IsSince id world new marks
-effect_since effect id who number world quiet executions marked since = grind (arith, common_steps, append_assoc)
+effect_since effect id who number world quiet executions marked since = grind (arith, common_steps)
 
 since_reset : (start : Start) (events : List LineEvent) (world last : World) (id : MasterId) → LeadsTo start world events last
     → HasNoReset start world events id → IsSince id world last.executions last.marks
@@ -40,17 +38,13 @@ since_reset start events world last id run none =
     along start world events (λ es now. IsSince id world now.executions now.marks) (λ before next event here.
     let (number, executions, marks) = entered start before event next here.step in
     effect_since _ id (master_in event) number world (quiet before next event here) executions marks)
-    (record { same = refl; more = []; is = sym (append-nil world.executions) }) last run
+    (record { mark = refl; few = λ few. refl }) last run
   where
     quiet : (before next : World) (event : LineEvent) (here : IsStepOf start world events before event next) → id ≡ master_in event
         → effect_on (state_of start.device before) (brought_in_step start before event next here.step) ≢ Resets
     quiet before next (Turn who up down) here own = subst (λ m. (turn : IsStepOf start world events before (Turn m up down) next)
         → effect_on (state_of start.device before) turn.step.brought ≢ Resets) own (none before next up down) here
     quiet before next event here own = λ resets. cc
-
-none_more : (old more : List Execution) → nat_lt (length old) (length (old ++ more)) ≡ false → old ++ more ≡ old
-none_more old [] same = append-nil old
-none_more old (e ∷ more) same = grind (arith, nat_tests, length-append)
 
 given_one : (state : DeviceState) (frame : FrameParts) (given : Option ℕ) (counter : ℕ) → reading_of frame ≡ Ok (ResetChanged given)
     → effect_of state frame ≡ Resets → counter ≡ state.counter → IfSome given (λ n. counter ≡ n)
@@ -74,8 +68,7 @@ unseen start events last run who before given r clear =
     let e = entered start before (Turn who r.up r.down) r.next r.turn.step in
     let resets : effect_on (state_of start.device before) r.turn.step.brought ≡ Resets = grind (arith, common_steps) in
     let since = since_reset start r.turn.suffix r.next last who (after_step start events last run before r.next _ r.turn) r.last in
-    let bit : nat_lt (length before.executions) (length last.executions) ≡ false = grind arith in
-    let same : last.executions ≡ before.executions = grind (arith, common_steps, none_more) in
+    let same : last.executions ≡ before.executions = grind (arith, nat_tests) in
     let counter : (state_of start.device last).counter ≡ (state_of start.device before).counter = grind (arith, common_steps) in (
       given_one (state_of start.device before) r.frame given _ r.reading r.resets counter,
       counter,
