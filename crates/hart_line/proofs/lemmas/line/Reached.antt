@@ -1,8 +1,8 @@
 -- How far a script has come, and for how much of it a line has room.
-use Rattle.std.proofs.Common.{◌∷◌, arith, ◌≡◌, ℕ, ◌+◌, ◌≤◌, ◌<◌, sym, refl, subst, List, [], length, take, get_or, rules, append-nil, ◌++◌}
+use Rattle.std.proofs.Common.{◌∷◌, arith, ◌≡◌, ℕ, ◌+◌, ◌<◌, sym, refl, List, [], length, take, get_or, rules, append-nil, ◌++◌}
 use Rattle.std.proofs.Common.{Bool, cond, count_by, drop}
 use Rattle.std.proofs.lemmas.Grind.{common_steps}
-use Rattle.std.proofs.lemmas.List.{take_all, take_more, drop_more}
+use Rattle.std.proofs.lemmas.List.{take_more, drop_more}
 use Rattle.std.proofs.lemmas.Option.{slice_get-get_or}
 use Rattle.std.proofs.lemmas.List.Sums.{sum_by-append}
 use Rattle.hart_values.specs.declared.master_id.MasterId.TheVariants.{Primary, Secondary}
@@ -22,7 +22,7 @@ use Rattle.hart_line.specs.declared.line.report.Spoken.{Spoken}
 use Rattle.hart_line.specs.world.Spoken.{AreSpoken, SpokenFrame}
 use Rattle.hart_line.specs.line.Room.{HasRoomFor, HasRoomForEach, LeavesRoom}
 use Rattle.hart_line.proofs.lemmas.world.Leads.{leads_one}
-use Rattle.hart_line.proofs.lemmas.world.Steps.{leads_more, step_marks}
+use Rattle.hart_line.proofs.lemmas.world.Steps.{entered, leads_more, marks_kept}
 use Rattle.hart_line.proofs.lemmas.world.Submitted.{made_more}
 use Rattle.hart_line.proofs.lemmas.line.Leg.{AreSpoken-append}
 
@@ -38,18 +38,13 @@ pub reached_more : (start : Start) (events : List LineEvent) (n : ℕ) (unused :
     → (r : IsReached start (take n events) line) → Stepped start r.world (get_or events n unused) line'
     → AreWellMade (get_or events n unused ∷ []) → IsReached start (take (n + 1) events) line'
 reached_more start events n unused line line' here r s made =
-    record {
+    let (number, executions, marks) = entered start r.world (get_or events n unused) s.next s.step in record {
       world = s.next;
       is_last = grind (arith, common_steps, take_more, leads_more);
       stands = s.stands;
-      marks = step_marks start r.world (get_or events n unused) s.next s.step r.marks;
+      marks = marks_kept _ _ number r.world s.next executions marks r.marks;
       well_made = made_more events n unused here r.well_made made;
     }
-
--- After the last event the whole script was carried out.
-pub reached_whole : (start : Start) (events : List LineEvent) (n : ℕ) (line : LineState) → length events ≤ n
-    → IsReached start (take n events) line → IsReached start events line
-reached_whole start events n line all r = subst (λ es. IsReached start es line) (take_all n events all) r
 
 pub reached_first : (device : DeviceState) (process : Process) (primary secondary : MasterState) (outcomes_room spoken_room : ℕ)
     → state_of device (first_world (start_from device process primary secondary)) ≡ device

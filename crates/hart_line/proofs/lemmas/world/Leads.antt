@@ -121,20 +121,17 @@ fault_before start events number other leg world before f run =
     step_detected start f.0 f.1 on.0 leg on.1 f.4
 
 -- DETECTABLE DAMAGE
--- A frame that a sender puts on the line has preamble bytes.
-abbrev pub IsLong : Option SpokenFrame → Type 0
-IsLong None = Unit {0}
-IsLong (Some said) = 2 ≤ said.preambles
-
 -- Characters whose frames are detected damage are no undetected damage.
 not_undetected : {heard : Heard} {sent : Option SpokenFrame} (chars : List Character) (frames : List Found) (arrived : Option FrameParts)
     → (u : IsUndetected heard sent) → u.chars ≡ chars → AreFrames chars 0 frames → IsDetected (frame_of sent) frames arrived → ⊥
 not_undetected {sent = sent} chars frames arrived u is are detected = grind (arith, common_steps, frames_are_unambiguous-one_list)
 
-heard_detected : (heard : Heard) (sent : Option SpokenFrame) → IsLong sent → IsDetectable heard sent → IsUndetected heard sent → ⊥
+heard_detected : (heard : Heard) (sent : Option SpokenFrame) → ((said : SpokenFrame) → sent ≡ Some said → 2 ≤ said.preambles)
+    → IsDetectable heard sent → IsUndetected heard sent → ⊥
 heard_detected Clean (Some said) long d u =
     not_undetected (faultless u.are_heard.0) (record { start = said.preambles; stop = length u.are_heard.0; frame = said.frame } ∷ [])
-    (Some said.frame) u u.are_heard.2 (messages_have_their_frame_alone-message said.frame said.preambles u.are_heard.0 long u.are_heard.1)
+    (Some said.frame) u u.are_heard.2 (messages_have_their_frame_alone-message said.frame said.preambles u.are_heard.0 (long said refl)
+    u.are_heard.1)
     (refl, refl)
 heard_detected (Chars chars) None long d u = d
 heard_detected (Chars chars) (Some said) long (inl marked) u =
@@ -149,10 +146,10 @@ heard_detected heard sent long d u = not_undetected [] [] None u u.are_heard mes
 
 leg_detected : (start : Start) (world : World) (event : LineEvent) (leg : Leg)
     → 5 ≤ start.device.identity.response_preambles → HasDetectable start world event leg → HasUndetected start world event leg → ⊥
-leg_detected start world (Turn who up down) legs.Up enough d u = heard_detected up _ (grind arith) d u
+leg_detected start world (Turn who up down) legs.Up enough d u = heard_detected up _ (λ said is. grind arith) d u
 leg_detected start world (Turn who up down) legs.Down enough d u =
     let same = Reaches-one start.device.identity up (sent_by who (of_master who world.hands)) d.0 u.0 d.1 u.1 in
-    grind (arith, common_steps, heard_detected)
+    heard_detected down _ (λ said is. grind arith) (rw same at d.2) u.2
 leg_detected start world event leg enough d u = d
 
 pub fault_not_detectable : (start : Start) (events : List LineEvent) (fault : LineFault)

@@ -111,16 +111,11 @@ entered start world (Turn who up down) next step = elim (turn_cases start world 
 entered start world event next step = (0, grind arith, grind arith)
 
 -- No mark is greater than the number of executions.
-effect_marks : (effect : Effect) (who : MasterId) (number : ℕ) (executions : List Execution) (marks : EachMaster (Option ℕ))
-    → ((id : MasterId) (mark : ℕ) → of_master id marks ≡ Some mark → mark ≤ length executions)
-    → (id : MasterId) (mark : ℕ) → of_master id (marks_after effect who (length executions) marks) ≡ Some mark
-    → mark ≤ length (executions_after effect number executions)
-effect_marks effect who number executions marks within id mark is = grind (arith, length-append, with_master-cases)
-
-pub step_marks : (start : Start) (world : World) (event : LineEvent) (next : World) → Step start world event next → MarksWithin world
-    → MarksWithin next
-step_marks start world event next step within =
-    let e = entered start world event next step in grind (arith, common_steps, effect_marks)
+pub marks_kept : (effect : Effect) (who : MasterId) (number : ℕ) (world next : World)
+    → next.executions ≡ executions_after effect number world.executions
+    → next.marks ≡ marks_after effect who (length world.executions) world.marks → MarksWithin world → MarksWithin next
+marks_kept effect who number world next executions marks within id mark is =
+    grind (arith, length-append, with_master-cases)
 
 -- EVERY STEP
 -- What holds before all events and is kept by each step of a script holds after them.

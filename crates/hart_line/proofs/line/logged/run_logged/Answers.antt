@@ -1,8 +1,9 @@
 use Rattle.std.proofs.Common.{◌∙◌, [], ap, arith, refl}
+use Rattle.std.proofs.lemmas.List.{take_all}
 use Rattle.hart_device.specs.Device.{DeviceState}
 use Rattle.hart_line.specs.world.Promises.{start_from}
 use Rattle.hart_line.proofs.lemmas.Laws.{scripts_keep_their_promises-first_world, scripts_keep_their_promises-kept}
-use Rattle.hart_line.proofs.lemmas.line.Reached.{fault_at, of_last, reached_first, reached_more, reached_whole, noted_stands, stepped_on}
+use Rattle.hart_line.proofs.lemmas.line.Reached.{fault_at, of_last, reached_first, reached_more, noted_stands, stepped_on}
 use Rattle.hart_line.proofs.lemmas.line.Reached.{undetected_on, with_spoken, room_for_each}
 use Rattle.hart_line.proofs.line.logged.run_logged.Goals as goal
 
@@ -57,7 +58,7 @@ pub returns : goal.returns
 returns g c =
     let start = start_from c.args.device c.args.process.now c.args.primary c.args.secondary in
     let (noted, has, told) = c.loop-index.invariant.told in
-    let reached = reached_whole start c.args.events.now _ _ (omega (arith, c.loop-index-test.false)) told in
+    let reached = rw (take_all c.loop-index.index c.args.events.now (omega (arith, c.loop-index-test.false))) at told in
     record {
       world = (reached.world, reached.is_last);
       device = of_last _ reached (c.into_ending.ensures.device ∙ reached.stands.device_is);

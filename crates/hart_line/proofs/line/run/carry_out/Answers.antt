@@ -1,9 +1,10 @@
 use Rattle.std.proofs.Common.{◌∙◌, arith, refl}
 use Rattle.std.proofs.lemmas.Grind.{common_steps}
+use Rattle.std.proofs.lemmas.List.{take_all}
 use Rattle.hart_line.specs.world.Promises.{start_from}
 use Rattle.hart_line.proofs.lemmas.Laws.{scripts_have_one_last_world-no_fault, scripts_have_one_last_world-one_fault}
 use Rattle.hart_line.proofs.lemmas.Laws.{scripts_keep_their_promises-first_world}
-use Rattle.hart_line.proofs.lemmas.line.Reached.{fault_at, of_last, reached_first, reached_more, reached_whole, room_for_others}
+use Rattle.hart_line.proofs.lemmas.line.Reached.{fault_at, of_last, reached_first, reached_more, room_for_others}
 use Rattle.hart_line.proofs.line.run.carry_out.Goals as goal
 
 pub loop-index-init : goal.loop-index-init
@@ -50,7 +51,7 @@ returns g c =
     let start = start_from c.args.device c.args.process.now c.args.primary c.args.secondary in
     let events = c.args.events.now in
     let report = c.into_report.ensures in
-    let reached = reached_whole start events _ _ (omega (arith, c.loop-index-test.false)) c.loop-index.invariant.reached in
+    let reached = rw (take_all c.loop-index.index events (omega (arith, c.loop-index-test.false))) at c.loop-index.invariant.reached in
     record {
       world = (reached.world, reached.is_last);
       device = of_last _ reached (report.device ∙ reached.stands.device_is);
