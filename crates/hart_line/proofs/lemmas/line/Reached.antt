@@ -1,12 +1,12 @@
 -- How far a script has come, and for how much of it a line has room.
-use Rattle.std.proofs.Common.{◌∷◌, arith, ◌≡◌, ℕ, ◌+◌, ◌<◌, sym, refl, List, [], length, take, get_or, rules, append-nil, ◌++◌}
+use Rattle.std.proofs.Common.{◌∙◌, ◌∷◌, arith, ◌≡◌, ℕ, ◌+◌, ◌<◌, sym, refl, List, [], length, take, get_or, rules, append-nil, ◌++◌}
 use Rattle.std.proofs.Common.{Bool, cond, count_by, drop}
 use Rattle.std.proofs.lemmas.Grind.{common_steps}
 use Rattle.std.proofs.lemmas.List.{take_more, drop_more}
 use Rattle.std.proofs.lemmas.Option.{slice_get-get_or}
 use Rattle.std.proofs.lemmas.List.Sums.{sum_by-append}
 use Rattle.hart_values.specs.declared.master_id.MasterId.TheVariants.{Primary, Secondary}
-use Rattle.hart_device.specs.Device.{DeviceState}
+use Rattle.hart_device.specs.Device.{DeviceState, IsDevice}
 use Rattle.hart_device.specs.declared.process.Process.{Process}
 use Rattle.hart_master.specs.Master.{MasterState}
 use Rattle.hart_master.specs.declared.hand.Hand.TheVariants.{Empty}
@@ -17,10 +17,11 @@ use Rattle.hart_line.specs.line.Line.{LineState, Stands, Stepped}
 use Rattle.hart_line.specs.world.Faults.{HasUndetected, IsFault}
 use Rattle.hart_line.specs.world.Promises.{start_from, AreWellMade}
 use Rattle.hart_line.specs.world.Step.{IsLast, Step}
-use Rattle.hart_line.specs.world.World.{MarksWithin, Start, World, first_world, state_of}
+use Rattle.hart_line.specs.world.World.{MarksWithin, Start, World, first_world}
 use Rattle.hart_line.specs.declared.line.report.Spoken.{Spoken}
 use Rattle.hart_line.specs.world.Spoken.{AreSpoken, SpokenFrame}
 use Rattle.hart_line.specs.line.Room.{HasRoomFor, HasRoomForEach, LeavesRoom}
+use Rattle.hart_line.proofs.lemmas.Laws.{scripts_keep_their_promises-first_world}
 use Rattle.hart_line.proofs.lemmas.world.Leads.{leads_one}
 use Rattle.hart_line.proofs.lemmas.world.Steps.{entered, leads_more, marks_kept}
 use Rattle.hart_line.proofs.lemmas.world.Submitted.{made_more}
@@ -46,37 +47,28 @@ reached_more start events n unused line line' here r s made =
       well_made = made_more events n unused here r.well_made made;
     }
 
-pub reached_first : (device : DeviceState) (process : Process) (primary secondary : MasterState) (outcomes_room spoken_room : ℕ)
-    → state_of device (first_world (start_from device process primary secondary)) ≡ device
+pub reached_first : (device : DeviceState) (process : Process) (primary secondary : MasterState) (line : LineState) → IsDevice device
     → (primary.id ≡ Primary) × (primary.hand ≡ Empty) → (secondary.id ≡ Secondary) × (secondary.hand ≡ Empty)
-    → IsReached (start_from device process primary secondary) [] (record {
-      device = device;
-      masters = record {
-        primary = record { master = primary; place = 0 };
-        secondary = record { master = secondary; place = 0 };
+    → line.device ≡ device → line.masters.primary.master ≡ primary → line.masters.secondary.master ≡ secondary → line.outcomes ≡ []
+    → line.spoken ≡ [] → line.response_preambles ≡ device.identity.response_preambles
+    → IsReached (start_from device process primary secondary) [] line
+reached_first device process primary secondary line is one other same master another outcomes spoken preambles =
+    let start = start_from device process primary secondary in record {
+      world = first_world start;
+      is_last = refl;
+      stands = record {
+        device_is = same ∙ sym (scripts_keep_their_promises-first_world start is.counter);
+        masters_are = record {
+          primary = record { reply_limit = primary.reply_limit; master_is = grind arith; place_is = tt };
+          secondary = record { reply_limit = secondary.reply_limit; master_is = grind arith; place_is = tt };
+        };
+        outcomes_are = outcomes;
+        spoken_are = rw spoken tt;
+        preambles_are = preambles;
       };
-      outcomes = [];
-      spoken = [];
-      outcomes_room = outcomes_room;
-      spoken_room = spoken_room;
-      response_preambles = device.identity.response_preambles;
-    })
-reached_first device process primary secondary outcomes_room spoken_room first one other = record {
-  world = first_world (start_from device process primary secondary);
-  is_last = refl;
-  stands = record {
-    device_is = sym first;
-    masters_are = record {
-      primary = record { reply_limit = primary.reply_limit; master_is = rw (← one.0, ← one.1) refl; place_is = tt };
-      secondary = record { reply_limit = secondary.reply_limit; master_is = rw (← other.0, ← other.1) refl; place_is = tt };
-    };
-    outcomes_are = refl;
-    spoken_are = tt;
-    preambles_are = refl;
-  };
-  marks = λ id mark is. grind arith;
-  well_made = search rules;
-}
+      marks = λ id mark is. grind arith;
+      well_made = search rules;
+    }
 
 -- The event at which a script stops.
 pub fault_at : (start : Start) (events : List LineEvent) (n : ℕ) (unused : LineEvent) (world : World) (leg : Leg) → n < length events

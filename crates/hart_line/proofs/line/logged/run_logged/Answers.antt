@@ -2,21 +2,19 @@ use Rattle.std.proofs.Common.{◌∙◌, [], ap, arith, refl}
 use Rattle.std.proofs.lemmas.List.{take_all}
 use Rattle.hart_device.specs.Device.{DeviceState}
 use Rattle.hart_line.specs.world.Promises.{start_from}
-use Rattle.hart_line.proofs.lemmas.Laws.{scripts_keep_their_promises-first_world, scripts_keep_their_promises-kept}
+use Rattle.hart_line.proofs.lemmas.Laws.{scripts_keep_their_promises-kept}
 use Rattle.hart_line.proofs.lemmas.line.Reached.{fault_at, of_last, reached_first, reached_more, noted_stands, stepped_on}
 use Rattle.hart_line.proofs.lemmas.line.Reached.{undetected_on, with_spoken, room_for_each}
 use Rattle.hart_line.proofs.line.logged.run_logged.Goals as goal
 
 pub loop-index-init : goal.loop-index-init
 loop-index-init g c =
-    let start = start_from c.args.device c.args.process.now c.args.primary c.args.secondary in
-    let first = scripts_keep_their_promises-first_world start c.new-line.ensures.device.counter in
     rw (c.new-line.ensures.line, c.in_ok-room.ensures.outcomes, c.in_ok-room.ensures.spoken) (record {
       told = (
         [],
         c.requires.fresh,
-        reached_first c.args.device c.args.process.now c.args.primary c.args.secondary _ _ first
-            c.requires.primary c.requires.secondary,
+        reached_first c.args.device c.args.process.now c.args.primary c.args.secondary _ c.new-line.ensures.device
+            c.requires.primary c.requires.secondary refl refl refl refl refl refl,
       );
       room = record { outcomes = omega arith; nothing_spoken = refl; spoken = omega arith };
     })

@@ -3,18 +3,16 @@ use Rattle.std.proofs.lemmas.Grind.{common_steps}
 use Rattle.std.proofs.lemmas.List.{take_all}
 use Rattle.hart_line.specs.world.Promises.{start_from}
 use Rattle.hart_line.proofs.lemmas.Laws.{scripts_have_one_last_world-no_fault, scripts_have_one_last_world-one_fault}
-use Rattle.hart_line.proofs.lemmas.Laws.{scripts_keep_their_promises-first_world}
 use Rattle.hart_line.proofs.lemmas.line.Reached.{fault_at, of_last, reached_first, reached_more, room_for_others}
 use Rattle.hart_line.proofs.line.run.carry_out.Goals as goal
 
 pub loop-index-init : goal.loop-index-init
-loop-index-init g c =
-    let start = start_from c.args.device c.args.process.now c.args.primary c.args.secondary in record {
-      reached = rw (c.new-line.ensures.line, c.requires.room.no_outcomes, c.requires.room.nothing_spoken)
-          (reached_first c.args.device c.args.process.now c.args.primary c.args.secondary _ _
-          (scripts_keep_their_promises-first_world start c.new-line.ensures.device.counter) c.requires.primary c.requires.secondary);
-      room = grind (arith, common_steps);
-    }
+loop-index-init g c = record {
+  reached = rw c.new-line.ensures.line (reached_first c.args.device c.args.process.now c.args.primary c.args.secondary _
+      c.new-line.ensures.device c.requires.primary c.requires.secondary refl refl refl c.requires.room.no_outcomes
+      c.requires.room.nothing_spoken refl);
+  room = grind (arith, common_steps);
+}
 
 pub returns-in-Err-clause-fault : goal.returns-in-Err-clause-fault
 returns-in-Err-clause-fault g c =
