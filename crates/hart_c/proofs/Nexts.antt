@@ -1,7 +1,7 @@
 -- What is found in bytes, one frame after another.
-use Rattle.std.proofs.Common.{◌≡◌, ◌+◌, ◌<◌, ◌≤◌, false, Bool, ℕ, IsTrue, List, All, arith, drop, length, refl, take}
+use Rattle.std.proofs.Common.{◌≡◌, ◌+◌, ◌<◌, ◌≤◌, false, Bool, ℕ, IsTrue, List, All, arith, drop, length, take, refl}
 use Rattle.std.proofs.lemmas.List.{drop-map, length-map}
-use Rattle.hart_frame.specs.heard.Character.{Character, faultless}
+use Rattle.hart_frame.specs.heard.Character.{faultless}
 use Rattle.hart_frame.specs.heard.Frames.{IsUndecided}
 use Rattle.hart_frame.specs.scan.Next.{LeadsOn}
 use Rattle.hart_frame.proofs.lemmas.Laws.{next_frames_are_all-rest}
@@ -9,13 +9,8 @@ use Rattle.hart_c.specs.Find.{Finds}
 use Rattle.hart_c.specs.Frames.{IsTidy, found_in_first}
 use Rattle.hart_c.specs.declared.frame.HartFrame.{HartFrame}
 
--- a byte that was heard without faults
-abbrev of_byte : ℕ → Character
-of_byte byte = record { byte = byte; faults = 0 }
-
 -- so many frames of bytes are shown, and so many bytes are used up
 pub record IsFound (bytes : List ℕ) (ended : Bool) (before after : List HartFrame) (used count : ℕ) : Type 0 where
-  pub len : length after ≡ length before
   pub room : count ≤ length after
   pub within : used ≤ length bytes
   pub untouched : drop count after ≡ drop count before
@@ -37,8 +32,8 @@ finds_next bytes ended before after used count found left =
       used = within;
       are_next = λ more later.
           next_frames_are_all-rest (faultless bytes) more ended (found_in_first count after) later used within found.leads;
-      few = λ fewer. grind (arith, length-map);
-      all = λ fewer ends. grind (arith, length-map);
+      few = grind (arith, length-map);
+      all = grind (arith, length-map);
       undecided = λ fewer going. rw drop-map ((left fewer).2 going);
       fault = refl;
     }

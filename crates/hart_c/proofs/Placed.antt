@@ -1,5 +1,5 @@
 -- Where fields stand, one after another, and how they are shown.
-use Rattle.std.proofs.Common.{◌≡◌, ◌<◌, ◌+◌, ℕ, List, [], ◌∷◌, ◌++◌, drop, take, map, get_or, length, slice_set, Some, append_assoc, arith}
+use Rattle.std.proofs.Common.{◌≡◌, ◌<◌, ◌+◌, ℕ, List, ◌∷◌, ◌++◌, drop, take, map, get_or, length, slice_set, Some, append_assoc, arith}
 use Rattle.std.proofs.lemmas.Grind.{common_steps}
 use Rattle.std.proofs.lemmas.List.{drop-set-lt, take-append-drop, take_more_set}
 use Rattle.hart_commands.specs.Fields.{Field, fields_of, seen, split}
@@ -12,17 +12,13 @@ use Rattle.hart_c.specs.declared.data.HartField.{HartField}
 abbrev pub shown_from : ℕ → List HartField → List HartField → List HartField
 shown_from count places fields = take count fields ++ written_over places (drop count fields)
 
--- nothing is written where there is nothing
-over_nothing : (places : List HartField) → written_over places [] ≡ []
-over_nothing places = grind (arith, common_steps)
-
 -- one field after another is shown
 pub shown_next : (count place : ℕ) (fields after whole : List HartField) (these others : List Field) (field : Field)
     → after ≡ slice_set fields count (record { start = place; len = length field.bytes; kind = kind_number field.kind })
     → these ≡ field ∷ others → shown_from count (placed place these) fields ≡ whole
     → shown_from (count + 1) (placed (place + length field.bytes) others) after ≡ whole
 shown_next count place fields after whole these others field is all before =
-    grind (arith, common_steps, over_nothing, take_more_set, drop-set-lt, append_assoc)
+    grind (arith, common_steps, take_more_set, drop-set-lt, append_assoc)
 
 -- the fields from a row on
 pub row_at : (rows : List FieldRow) (i : ℕ) (d : FieldRow) (bytes field after : List ℕ) → i < length rows

@@ -1,4 +1,5 @@
 use Rattle.std.proofs.Common.{arith, length-append, sym}
+use Rattle.std.proofs.lemmas.Grind.{common_steps}
 use Rattle.hart_c.proofs.Placed.{parts_of, row_at, shown_next}
 use Rattle.hart_c.proofs.data.show_fields.Goals as goal
 
@@ -9,9 +10,4 @@ loop-row-preserved c =
     let all = parts_of _ c.loop-row.rest.now c.in-Some.field.now c.in-Some.after.now split in
     let more = row_at c.args.rows.now c.loop-row.row-index _ c.loop-row.rest.now c.in-Some.field.now c.in-Some.after.now
     c.loop-row-test.true split in
-    record {
-      few = grind (arith, length-append, loop.few, all);
-      within = omega (arith, loop.within);
-      count = grind (arith, loop.count, more);
-      shown = shown_next c.loop-row.count c.loop-row.place c.loop-row.fields _ _ _ _ _ c.show_field.ensures more loop.shown;
-    }
+    grind (arith, common_steps, length-append, all, more, shown_next)

@@ -8,7 +8,6 @@ abbrev pub invariant-loop-count : goal.invariant-loop-count
 invariant-loop-count l = record {
   within : l.count ≤ length l.frames;
   onward : l.initial.count ≤ l.count;
-  len : length l.frames ≡ length l.initial.frames;
   untouched : drop l.count l.frames ≡ drop l.count l.initial.frames;
   tidy : All IsTidy (take l.initial.count l.initial.frames) → All IsTidy (take l.count l.frames);
   finished : l.scanner.finished ≡ l.initial.scanner.finished;

@@ -1,12 +1,11 @@
-use Rattle.std.proofs.Common.{◌∙◌, arith, ap, length, map, sym, ◌<◌, ◌≡◌, inl, []}
+use Rattle.std.proofs.Common.{◌∙◌, ◌+◌, ◌++◌, ◌∷◌, take, arith, ap, length, map, sym, ◌<◌, ◌≡◌, inl, []}
 use Rattle.std.proofs.lemmas.Grind.{common_steps}
-use Rattle.std.proofs.lemmas.List.{length-map, length-take}
+use Rattle.std.proofs.lemmas.List.{length-map, length-take, map-append, take-map, take_more}
 use Rattle.hart_frame.specs.heard.Frames.{AreFrames, IsUndecided, none}
 use Rattle.hart_frame.specs.scan.Scanner.{Scan}
-use Rattle.hart_frame.specs.scan.Streamed.{begin}
+use Rattle.hart_frame.specs.scan.Streamed.{begin, push}
 use Rattle.hart_frame.proofs.lemmas.Laws.{frames_are_streamed-pushed, messages_have_their_frame_alone-nothing}
 use Rattle.hart_c.specs.Find.{char_of}
-use Rattle.hart_c.proofs.Found.{history_one}
 use Rattle.hart_c.proofs.Shown.{untouched_on}
 use Rattle.hart_c.proofs.find.hart_find.Goals.{then-loop-taken-test+else-count-frames, else-loop-taken-test}
 use Rattle.hart_c.proofs.find.hart_find.Goals as goal
@@ -29,11 +28,12 @@ loop-taken-preserved c =
     let loop = c.loop-taken.invariant in
     let fill = c.fill-count.ensures in
     let going = ap (λ (scan : Scan). scan.finished) c.push.ensures.heard ∙ loop.going in
-    let history = history_one c.loop-taken.taken c.args.heard.now _ c.char_of.result c.loop-taken.scanner c.push.new.self _
-    c.loop-taken-test.true c.char_of.ensures loop.going loop.history c.push.ensures.heard in
+    let chars = map char_of c.args.heard.now in
+    let all : take (c.loop-taken.taken + 1) chars ≡ take c.loop-taken.taken chars ++ c.char_of.result ∷ [] =
+    grind (arith, common_steps, take-map, map-append, take_more) in
+    let history = rw (← all, ← c.push.ensures.heard) at (push _ _ _ c.char_of.result loop.history loop.going) in
     record {
       within = omega (arith, c.loop-taken-test.true);
-      len = fill.len ∙ loop.len;
       room = fill.within;
       untouched = grind (arith, common_steps, untouched_on);
       tidy = fill.tidy loop.tidy;

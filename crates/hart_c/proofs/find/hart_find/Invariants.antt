@@ -9,7 +9,6 @@ use Rattle.hart_c.proofs.find.hart_find.Given as goal
 abbrev pub invariant-loop-taken : goal.invariant-loop-taken
 invariant-loop-taken l = record {
   within : l.taken ≤ length l.heard;
-  len : length l.frames ≡ length l.initial.frames;
   room : l.count ≤ length l.frames;
   untouched : drop l.count l.frames ≡ drop l.count l.initial.frames;
   tidy : All IsTidy (take l.count l.frames);

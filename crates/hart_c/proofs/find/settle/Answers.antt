@@ -1,8 +1,9 @@
 use Rattle.std.proofs.Common.{◌∙◌, ◌<◌, arith, inl, inr, length, refl, take}
+use Rattle.std.proofs.Math.Seq.{take-length}
 use Rattle.hart_frame.specs.scan.Streamed.{IsHistory, IsWholeHistory, finish}
 use Rattle.hart_frame.proofs.lemmas.Laws.{frames_are_streamed-all}
 use Rattle.hart_c.specs.Frames.{found_in_first}
-use Rattle.hart_c.proofs.Found.{finds_all, finds_more, take_all}
+use Rattle.hart_c.proofs.Found.{finds_all, finds_more}
 use Rattle.hart_c.proofs.Shown.{untouched_on}
 use Rattle.hart_c.proofs.find.settle.Goals as goal
 
@@ -40,4 +41,4 @@ returns c n chars before len searched =
     let all : IsWholeHistory (take n chars) (found_in_first c.fill-count.result c.fill-count.new.frames) =
     fill.all _ finished fewer (rw c.finish.ensures refl) in
     rw len (finds_all _ _ _ _ _ fill.within (fill.untouched ∙ untouched_on _ _ _ _ fill.onward searched.untouched)
-    (fill.tidy searched.tidy) (frames_are_streamed-all chars _ (rw (take_all n chars whole) at all)) c.if-not-ended.false)
+    (fill.tidy searched.tidy) (frames_are_streamed-all chars _ (rw (whole, take-length) at all)) c.if-not-ended.false)

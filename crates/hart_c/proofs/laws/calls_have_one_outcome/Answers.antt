@@ -1,4 +1,4 @@
-use Rattle.std.proofs.Common.{◌≡◌, ◌⊎◌, ℕ, List, Option, None, Some, arith, inl, inr, length, map, refl}
+use Rattle.std.proofs.Common.{◌≡◌, ◌⊎◌, ℕ, List, Option, None, Some, arith, length, map, refl}
 use Rattle.std.proofs.lemmas.Grind.{common_steps}
 use Rattle.hart_frame.specs.wire.FrameParts.{FrameParts}
 use Rattle.hart_frame.specs.wire.Message.{IsMessage}
@@ -28,21 +28,13 @@ use Rattle.hart_c.proofs.laws.calls_have_one_outcome.Goals as goal
 
 -- an outcome is one if success is, and the fault, and there are not both
 one_outcome : {A B C D R : Type 0} → (A → C → R) → (A → D → ⊥) → (B → C → ⊥) → (B → D → R) → A ⊎ B → C ⊎ D → R
-one_outcome both free none one (inl is) (inl again) = both is again
-one_outcome both free none one (inl is) (inr why) = absurd (free is why)
-one_outcome both free none one (inr why) (inl is) = absurd (none why is)
-one_outcome both free none one (inr why) (inr because) = one why because
+one_outcome both free none one is again = grind arith
 
 pub returns-clause-decode : goal.returns-clause-decode
 returns-clause-decode c bytes before after other outcome another is again =
-    let faults = c.bytes_have_one_fault.ensures in
-    grind (
-      arith,
-      faults.one bytes,
-      faults.not_both bytes (frame_in after) outcome.len,
-      faults.not_both bytes (frame_in other) another.len,
-      bodies_are_unambiguous-one_prefix (frame_in after) (frame_in other) bytes outcome.len another.len,
-    )
+    let free = c.bytes_have_one_fault.ensures.not_both bytes in
+    let one = bodies_are_unambiguous-one_prefix (frame_in after) (frame_in other) bytes outcome.len another.len in
+    grind (arith, c.bytes_have_one_fault.ensures.one bytes, free (frame_in after) outcome.len, free (frame_in other) another.len, one)
 
 -- a frame has one message with so many preamble bytes
 one_message : (frame : FrameParts) (preambles : ℕ) (message other : List ℕ) → IsMessage frame preambles message
@@ -83,11 +75,8 @@ module _ (identity : HartIdentity) (process : HartProcess) (heard : List HartCha
   one_hearing : (is again : IsHearing identity process heard device)
       → (is.state ≡ again.state) × (is.measured ≡ again.measured) × (is.brought ≡ again.brought)
   one_hearing is again =
-      grind (
-        arith,
-        devices_are_kept-one_state (parts_of identity) device is.state again.state is.kept again.kept,
-        deliveries_bring_one-one (parts_of identity) (map char_of heard) is.brought again.brought is.brings again.brings,
-      )
+      let brought = deliveries_bring_one-one (parts_of identity) (map char_of heard) is.brought again.brought is.brings again.brings in
+      grind (arith, devices_are_kept-one_state (parts_of identity) device is.state again.state is.kept again.kept, brought)
 
   -- a device that is in a state has no fault
   in_state : (fault : Fault) → IsInState identity device → IsStateFault identity device fault → ⊥
@@ -100,7 +89,7 @@ module _ (identity : HartIdentity) (process : HartProcess) (heard : List HartCha
   one_hear_fault one room NoRoom other why because = grind (arith, in_state other (why.0.state, why.0.kept), why.0.process_is.count)
   one_hear_fault one room fault other why because = grind (arith, in_state other)
 
-  -- what a device heard, and said, has no fault, and is one
+  -- what a device heard, and said, has no fault
   not_heard : (after : HartDevice) (old new : List ℕ) (len : ℕ) (fault : Fault) → Hears identity process heard device after old new len
       → length new ≡ length old → IsHearFault identity process heard device (length old) fault → ⊥
   not_heard after old new len NoRoom is same (hearing, none) =
@@ -108,16 +97,12 @@ module _ (identity : HartIdentity) (process : HartProcess) (heard : List HartCha
   not_heard after old new len fault is same why =
       grind (arith, in_state fault (is.hearing.state, is.hearing.kept), is.hearing.process_is.count, is.hearing.delivery)
 
-  same_heard : (after other : HartDevice) (old new newer : List ℕ) (len size : ℕ) → Hears identity process heard device after old new len
-      → Hears identity process heard device other old newer size → (len ≡ size) × (after ≡ other) × (new ≡ newer)
-  same_heard after other old new newer len size is again =
-      let (state, measured, brought) = one_hearing is.hearing again.hearing in
-      grind (arith, one_said, state, measured, brought, is.reply, again.reply, is.state, again.state)
-
 pub returns-clause-hear : goal.returns-clause-hear
 returns-clause-hear c identity process heard before after other old new newer outcome another long longer =
     one_outcome
-    (λ is again. grind (arith, same_heard identity process heard before after other old new newer outcome.len another.len is.1 again.1))
+    (λ is again.
+    let (state, measured, brought) = one_hearing identity process heard before is.1.hearing again.1.hearing in
+    grind (arith, one_said, state, measured, brought, is.1.reply, again.1.reply, is.1.state, again.1.state))
     (λ is why. not_heard identity process heard before after old new outcome.len why.0 is.1 long why.1)
     (λ why is. not_heard identity process heard before other old newer another.len why.0 is.1 longer why.1)
     (λ why again.
@@ -142,9 +127,9 @@ one_accept_fault numbers heard fault BadFaultBits why because = grind (arith, no
 one_accept_fault numbers heard fault TooLong why because = grind (arith, not_sent numbers because.0.0 fault because.0.1)
 one_accept_fault numbers heard NoRequest NoRequest why because = refl
 one_accept_fault numbers heard NoRequest WrongAddress why because = absurd (why.1 because.1.0 because.1.1)
-one_accept_fault numbers heard NoRequest other why because = absurd (no_frame numbers other because why.0)
 one_accept_fault numbers heard WrongAddress WrongAddress why because = refl
 one_accept_fault numbers heard WrongAddress NoRequest why because = absurd (because.1 why.1.0 why.1.1)
+one_accept_fault numbers heard NoRequest other why because = absurd (no_frame numbers other because why.0)
 one_accept_fault numbers heard WrongAddress other why because = absurd (no_frame numbers other because why.0)
 one_accept_fault numbers heard fault NoRequest why because = absurd (no_frame numbers fault why because.0)
 one_accept_fault numbers heard fault WrongAddress why because = absurd (no_frame numbers fault why because.0)
@@ -159,10 +144,8 @@ same_accepted : (numbers : HartFrame) (heard : List HartChar) (before after othe
     → Accepts numbers heard before after said → Accepts numbers heard before other tale
     → (said ≡ tale) × (found_in after ≡ found_in other)
 same_accepted numbers heard before after other None None is again = grind arith
-same_accepted numbers heard before after other None (Some reply) is again =
-    let request : is.request ≡ again.request = grind arith in absurd (is.reply.0 reply (rw (← request) at again.reply.0))
-same_accepted numbers heard before after other (Some reply) None is again =
-    let request : is.request ≡ again.request = grind arith in absurd (again.reply.0 reply (rw request at is.reply.0))
+same_accepted numbers heard before after other None (Some reply) is again = grind (arith, is.reply.0 reply)
+same_accepted numbers heard before after other (Some reply) None is again = grind (arith, again.reply.0 reply)
 same_accepted numbers heard before after other (Some reply) (Some another) is again =
     grind (arith, common_steps, frames_are_unambiguous-one_list, replies_are_decided-one_reply)
 

@@ -1,10 +1,8 @@
-use Rattle.std.proofs.Common.{◌≡◌, ◌-◌, ◌%◌, ◌+◌, ◌<◌, ◌≤◌, ◌++◌, ◌∷◌, [], ℕ, Bool, List, arith, length, append_assoc, slice_index, take}
+use Rattle.std.proofs.Common.{◌≡◌, ◌-◌, ◌+◌, ◌<◌, ◌≤◌, ◌++◌, ◌∷◌, [], ℕ, List, arith, length, append_assoc, slice_index, take}
 use Rattle.std.proofs.Math.Seq.{drop-append_seam, take-append_seam}
 use Rattle.std.proofs.lemmas.Grind.{common_steps}
 use Rattle.std.proofs.lemmas.List.{take-append-drop}
 use Rattle.std.specs.List.{flat_map}
-use Rattle.std.specs.Prelude.{if◌then◌else◌, ◌/◌}
-use Rattle.hart_values.specs.declared.each_master.EachMaster.{EachMaster}
 use Rattle.hart_commands.specs.Registers.{bytes_in}
 use Rattle.hart_commands.specs.declared.register.Register.TheVariants.{Mode, Polling}
 use Rattle.hart_device.specs.Device.{DeviceState}
@@ -30,19 +28,13 @@ flagged parts device state is long =
     let front = is.image.version ∷ (flat_map (bytes_in state.contents) is.image.listed ++ two_bytes state.counter) in
     last_is device.image front device.image_len _ long is.fits (grind (arith, common_steps, append_assoc, flat_map, is.image.written))
 
--- the two lower flags stay, and the flag of write protection is bit 2
-flags_are : (changed : EachMaster Bool) (protected on : Bool)
-    → (flags_of changed protected % 4 + (if on then 4 else 0) ≡ flags_of changed on)
-    × (flags_of changed protected / 4 ≡ (if protected then 1 else 0))
-flags_are changed protected on = grind arith
-
 pub returns-clause-protects : goal.returns-clause-protects
 returns-clause-protects c parts device state on long is =
-    let flags = flagged parts device state is long in grind (arith, common_steps, flags_are, append_assoc, flat_map)
+    let flags = flagged parts device state is long in grind (arith, common_steps, append_assoc, flat_map)
 
 pub returns-clause-protected : goal.returns-clause-protected
 returns-clause-protected c parts device state long is =
-    rw (flagged parts device state is long).2 (flags_are state.changed state.protected state.protected).1
+    rw (flagged parts device state is long).2 (grind arith)
 
 -- a list of one byte
 one_byte : (xs : List ℕ) → length xs ≡ 1 → xs ≡ slice_index xs 0 ∷ []
