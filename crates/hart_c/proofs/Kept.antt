@@ -11,18 +11,16 @@ use Rattle.hart_device.proofs.lemmas.Laws.{devices_are_kept_whole-either_version
 use Rattle.hart_c.specs.Device.{IsKept, device_of, image_in}
 use Rattle.hart_c.specs.declared.device.HartDevice.{HartDevice}
 
--- an image of version 2 has 86 bytes
-image_len : (state : DeviceState) → IsDevice state → length (image_of state) ≡ 86
-image_len state is =
-    let fault : (length (image_of state) ≢ 86) → ⊥ =
-    λ wrong. images_have_no_fault state (image_of state) BadLength (devices_are_kept_whole-image state is) (registers, refl, wrong) in
-    grind (arith, fault)
-
+-- an image of version 2 has 86 bytes, so all of it is kept
 pub devices_are_kept-kept : (state : DeviceState) → IsDevice state → IsKept state.identity (device_of state) state
 devices_are_kept-kept state is =
+    let image = devices_are_kept_whole-image state is in
+    let fault : (length (image_of state) ≢ 86) → ⊥ =
+    λ wrong. images_have_no_fault state (image_of state) BadLength image (registers, refl, wrong) in
+    let long : length (image_of state) ≡ 86 = grind (arith, fault) in
     let all : image_in (device_of state) ≡ image_of state =
-    ap (λ (n : ℕ). take n (image_of state)) (sym (image_len state is)) ∙ take-length (image_of state) in
-    grind (arith, common_steps, devices_are_kept_whole-image)
+    ap (λ (n : ℕ). take n (image_of state)) (sym long) ∙ take-length (image_of state) in
+    grind (arith, common_steps, image)
 
 pub devices_are_kept-one_state : (parts : IdentityParts) (device : HartDevice) (state other : DeviceState) → IsKept parts device state
     → IsKept parts device other → state ≡ other

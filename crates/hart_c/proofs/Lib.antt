@@ -1,5 +1,3 @@
 mod Shown
-mod Found
-mod Nexts
 mod Placed
 mod Kept

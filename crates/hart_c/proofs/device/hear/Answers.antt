@@ -13,32 +13,28 @@ use Rattle.hart_c.proofs.Kept.{devices_are_kept-kept}
 use Rattle.hart_c.proofs.device.hear.Goals.{In_ok-process}
 use Rattle.hart_c.proofs.device.hear.Goals as goal
 
--- the process that is handed in
-process_is : (c : In_ok-process) → IsProcessOf c.args.process.now c.in_ok-process.process
-process_is c = search rules
-
 -- who a device is stays after a delivery, as after a frame
 stays : (state : DeviceState) (brought : Brought) → (state_after_delivery state brought).identity ≡ state.identity
 stays state brought = grind (arith, frames_leave_identity_and_protection-identity)
 
 -- what a delivery brings to the device
-abbrev hearing : (c : In_ok-process) → IsDelivery c.args.heard.now
-    → IsHearing c.args.identity.now c.args.process.now c.args.heard.now c.args.device.now
-hearing c delivery =
+abbrev hearing : (c : In_ok-process) → IsProcessOf c.args.process.now c.in_ok-process.process
+    → IsDelivery c.args.heard.now → IsHearing c.args.identity.now c.args.process.now c.args.heard.now c.args.device.now
+hearing c process_is delivery =
     let (brought, brings) = deliveries_bring_one-brings (parts_of c.args.identity.now) (map char_of c.args.heard.now) in
     record {
       state = c.in_ok-state.state;
       measured = c.in_ok-process.process;
       brought = brought;
       kept = c.in_ok-state.ensures.kept;
-      process_is = process_is c;
+      process_is = process_is;
       delivery = delivery;
       brings = brings;
     }
 
 pub returns-in_err-len-clause-refused : goal.returns-in_err-len-clause-refused
 returns-in_err-len-clause-refused c =
-    let heard = hearing (goal.at.returns-in_err-len-clause-refused c).In_ok-process c.in_ok-delivery.ensures.accepted in
+    let heard = hearing (goal.at.returns-in_err-len-clause-refused c).In_ok-process (search rules) c.in_ok-delivery.ensures.accepted in
     let all = c.as_slice.ensures ∙ c.in_ok-delivery.ensures.same in
     let brings : Brings c.in_ok-state.state.identity c.as_slice.result.now heard.brought =
     rw (c.in_ok-state.ensures.kept.identity, all) heard.brings in
@@ -50,7 +46,7 @@ returns-in_err-len-clause-refused c =
 
 pub returns-clause-heard : goal.returns-clause-heard
 returns-clause-heard c =
-    let heard = hearing (goal.at.returns-clause-heard c).In_ok-process c.in_ok-delivery.ensures.accepted in
+    let heard = hearing (goal.at.returns-clause-heard c).In_ok-process (search rules) c.in_ok-delivery.ensures.accepted in
     let all = c.as_slice.ensures ∙ c.in_ok-delivery.ensures.same in
     let brings : Brings c.in_ok-state.state.identity c.as_slice.result.now heard.brought =
     rw (c.in_ok-state.ensures.kept.identity, all) heard.brings in

@@ -1,17 +1,11 @@
 use Rattle.std.proofs.Common.{rules}
 use Rattle.hart_device.specs.image.Image.{IsImageOf}
 use Rattle.hart_device.proofs.lemmas.Laws.{devices_are_kept_whole-any_cold_start}
-use Rattle.hart_c.specs.Device.{image_in}
+use Rattle.hart_c.specs.Device.{cold_start_in, image_in}
 use Rattle.hart_c.proofs.device.kept_state.Goals as goal
 
 pub returns-clause-kept : goal.returns-clause-kept
 returns-clause-kept c =
     let image = image_in c.args.device.now in
     let made : IsImageOf c.in_ok-state.state image = search rules in
-    record {
-      is_identity = search rules;
-      identity = search rules;
-      fits = search rules;
-      image = rw c.restore_cold_start.ensures (devices_are_kept_whole-any_cold_start c.in_ok-state.state image _ made);
-      cold_start = search rules;
-    }
+    search (rules, devices_are_kept_whole-any_cold_start c.in_ok-state.state image (cold_start_in c.args.device.now) made)

@@ -1,23 +1,42 @@
-use Rattle.std.proofs.Common.{◌+◌, ◌++◌, [], arith}
+use Rattle.std.proofs.Common.{◌≡◌, ◌+◌, ◌<◌, ◌≤◌, ◌++◌, false, Bool, ℕ, IsTrue, List, All, arith, drop, length, refl, take}
 use Rattle.std.proofs.lemmas.Grind.{common_steps}
-use Rattle.std.proofs.lemmas.List.{append-nil, drop-set-lt, length-set}
+use Rattle.std.proofs.lemmas.List.{append-nil, drop-map, drop-set-lt, length-map, length-set}
 use Rattle.hart_frame.specs.heard.Character.{faultless}
+use Rattle.hart_frame.specs.heard.Frames.{IsUndecided}
 use Rattle.hart_frame.specs.scan.Next.{LeadsOn, frames_of}
-use Rattle.hart_frame.proofs.lemmas.Laws.{next_frames_are_all-onward}
-use Rattle.hart_c.specs.Frames.{found_in_first}
-use Rattle.hart_c.proofs.Nexts.{IsFound, finds_next}
+use Rattle.hart_frame.proofs.lemmas.Laws.{next_frames_are_all-onward, next_frames_are_all-rest}
+use Rattle.hart_c.specs.Find.{Finds}
+use Rattle.hart_c.specs.Frames.{IsTidy, found_in_first}
+use Rattle.hart_c.specs.declared.frame.HartFrame.{HartFrame}
 use Rattle.hart_c.proofs.Shown.{untouched_on, shown_more, tidy_more}
 use Rattle.hart_c.proofs.find.hart_find_in_bytes.Goals as goal
+
+-- what a search comes to that has no more room, or finds no more frames, where few bytes are left, and nothing is decided in them
+finds_next : (bytes : List ℕ) (ended : Bool) (before after : List HartFrame) (used count : ℕ) → count ≤ length after
+    → used ≤ length bytes → drop count after ≡ drop count before → All IsTidy (take count after)
+    → LeadsOn (faultless bytes) ended 0 (found_in_first count after) used
+    → (count < length after → (length bytes < used + 269) × (IsTrue ended → used ≡ length bytes)
+    × (ended ≡ false → IsUndecided (faultless (drop used bytes))))
+    → Finds (faultless bytes) ended before after (record { used = used; count = count; fault = 0 })
+finds_next bytes ended before after used count room is_within untouched tidy leads left =
+    let within : used ≤ length (faultless bytes) = grind (arith, length-map) in
+    record {
+      within = room;
+      untouched = untouched;
+      tidy = tidy;
+      used = within;
+      are_next = λ more later. next_frames_are_all-rest (faultless bytes) more ended (found_in_first count after) later used within leads;
+      few = grind (arith, length-map);
+      all = grind (arith, length-map);
+      undecided = λ fewer going. rw drop-map ((left fewer).2 going);
+      fault = refl;
+    }
 
 pub loop-count-preserved : goal.loop-count-preserved
 loop-count-preserved c =
     let loop = c.loop-count.invariant in
-    let count = c.loop-count.count in
-    let frames = c.loop-count.frames in
-    let frame = c.show_found.new.frame in
     let next = c.next_in_bytes-next in
-    let len = length-set frames count frame in
-    let given = found_in_first count frames in
+    let given = found_in_first c.loop-count.count c.loop-count.frames in
     let leads : LeadsOn (faultless c.args.bytes.now) c.args.ended 0 (given ++ frames_of next.result.frame) next.result.used =
     grind (arith, common_steps, next_frames_are_all-onward) in
     grind (arith, common_steps, length-set, drop-set-lt, untouched_on, tidy_more, shown_more, leads)
@@ -26,14 +45,14 @@ pub returns-in_default : goal.returns-in_default
 returns-in_default c =
     let loop = c.loop-count.invariant in
     let next = c.next_in_bytes-next in
-    let bytes = c.args.bytes.now in
-    let leads = next_frames_are_all-onward (faultless bytes) c.args.ended 0 c.loop-count.used next.result.used
-    (found_in_first c.loop-count.count c.loop-count.frames) [] loop.leads (rw c.in_default.is at next.ensures.frames) in
-    let found : IsFound bytes c.args.ended c.args.frames.now c.loop-count.frames next.result.used c.loop-count.count =
-    grind (arith, common_steps, append-nil) in
-    rw c.found_so_far.ensures (finds_next bytes c.args.ended c.args.frames.now c.loop-count.frames next.result.used c.loop-count.count found
-    (grind (arith, common_steps)))
+    let given = found_in_first c.loop-count.count c.loop-count.frames in
+    let leads : LeadsOn (faultless c.args.bytes.now) c.args.ended 0 given next.result.used =
+    grind (arith, common_steps, append-nil, next_frames_are_all-onward) in
+    rw c.found_so_far.ensures
+    (finds_next _ _ _ _ _ _ loop.room next.ensures.within loop.untouched loop.tidy leads (grind (arith, common_steps)))
 
 pub returns : goal.returns
-returns c = rw c.found_so_far-2.ensures (finds_next c.args.bytes.now c.args.ended c.args.frames.now c.loop-count.frames c.loop-count.used
-    c.loop-count.count c.loop-count.invariant (λ fewer. absurd (omega (arith, fewer, c.loop-count-test.false))))
+returns c =
+    let loop = c.loop-count.invariant in
+    rw c.found_so_far-2.ensures (finds_next _ _ _ _ _ _ loop.room loop.within loop.untouched loop.tidy loop.leads
+    (λ fewer. absurd (omega (arith, fewer, c.loop-count-test.false))))

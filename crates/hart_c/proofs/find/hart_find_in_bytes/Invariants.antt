@@ -1,9 +1,17 @@
-use Rattle.std.proofs.Common.{◌-◌, length}
-use Rattle.hart_c.proofs.Nexts.{IsFound}
+use Rattle.std.proofs.Common.{◌≡◌, ◌≤◌, ◌-◌, All, drop, length, take}
+use Rattle.hart_frame.specs.heard.Character.{faultless}
+use Rattle.hart_frame.specs.scan.Next.{LeadsOn}
+use Rattle.hart_c.specs.Frames.{IsTidy, found_in_first}
 use Rattle.hart_c.proofs.find.hart_find_in_bytes.Given as goal
 
 abbrev pub invariant-loop-count : goal.invariant-loop-count
-invariant-loop-count l = IsFound l.bytes l.ended l.initial.frames l.frames l.used l.count
+invariant-loop-count l = record {
+  room : l.count ≤ length l.frames;
+  within : l.used ≤ length l.bytes;
+  untouched : drop l.count l.frames ≡ drop l.count l.initial.frames;
+  tidy : All IsTidy (take l.count l.frames);
+  leads : LeadsOn (faultless l.bytes) l.ended 0 (found_in_first l.count l.frames) l.used;
+}
 
 abbrev pub decreases-loop-count : goal.decreases-loop-count
 decreases-loop-count l = length l.frames - l.count

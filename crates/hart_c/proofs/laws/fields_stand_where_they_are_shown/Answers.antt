@@ -2,7 +2,6 @@ use Rattle.std.proofs.Common.{◌≡◌, ◌<◌, ◌+◌, ℕ, zero, suc, List,
 use Rattle.std.proofs.Math.Seq.{drop-append-add, drop-append_seam, take-append_seam}
 use Rattle.std.proofs.lemmas.Grind.{common_steps}
 use Rattle.std.proofs.lemmas.List.{take-append-drop}
-use Rattle.std.proofs.lemmas.Option.{slice_get_cases}
 use Rattle.std.specs.Prelude.{if◌then◌else◌, ◌==◌}
 use Rattle.hart_commands.specs.Commands.{content_bytes}
 use Rattle.hart_commands.specs.Fields.{Field, Row, bytes_of, fields_of}
@@ -14,24 +13,17 @@ use Rattle.hart_c.specs.declared.data.HartReading.{HartReading}
 use Rattle.hart_c.proofs.Placed.{parts_of}
 use Rattle.hart_c.proofs.laws.fields_stand_where_they_are_shown.Goals as goal
 
--- what is shown within the places is one of them, and there are as many places as fields
-over-at : (places before : List HartField) (index : ℕ) (shown : HartField) → index < length places
-    → slice_get (written_over places before) index ≡ Some shown → slice_get places index ≡ Some shown
-over-at places before index shown within is = grind (arith, common_steps, slice_get_cases)
-
-placed-length : (start : ℕ) (fields : List Field) → length (placed start fields) ≡ length fields
-placed-length start [] = refl
-placed-length start (field ∷ fields) = cc (placed-length (start + length field.bytes) fields)
-
 -- the field whose place is shown, and where its bytes are among those of all fields
-field_of : (from : ℕ) (fields : List Field) (index : ℕ) (shown : HartField) → slice_get (placed from fields) index ≡ Some shown
+field_of : (from : ℕ) (fields : List Field) (before : List HartField) (index : ℕ) (shown : HartField) → index < length fields
+    → slice_get (written_over (placed from fields) before) index ≡ Some shown
     → (field : Field) × (slice_get fields index ≡ Some field) × (shown.start ≡ from + length (bytes_of (take index fields)))
     × (shown.len ≡ length field.bytes) × (shown.kind ≡ kind_number field.kind)
     × (bytes_of fields ≡ bytes_of (take index fields) ++ (field.bytes ++ bytes_of (drop (suc index) fields)))
-field_of from [] index shown is = cc
-field_of from (field ∷ fields) zero shown is = grind arith
-field_of from (field ∷ fields) (suc index) shown is =
-    grind (arith, append_assoc, length-append, field_of (from + length field.bytes) fields index shown is)
+field_of from [] before index shown within is = absurd (omega (arith, within))
+field_of from (field ∷ fields) [] index shown within is = cc
+field_of from (field ∷ fields) (other ∷ before) zero shown within is = grind arith
+field_of from (field ∷ fields) (other ∷ before) (suc index) shown within is =
+    grind (arith, append_assoc, length-append, field_of (from + length field.bytes) fields before index shown (omega (arith, within)) is)
 
 -- its row
 row_of : (rows : List Row) (bytes : List ℕ) (index : ℕ) (field : Field) → slice_get (fields_of rows bytes) index ≡ Some field
@@ -56,8 +48,7 @@ stands : (is_reply : Bool) (command n : ℕ) (bytes before : List ℕ) (taken co
 stands is_reply command n bytes before taken code status old new reading index shown done fields are from within got =
     let rows = rows_for is_reply command in
     let all : fields ≡ fields_of rows (take n bytes) = grind arith in
-    let is : slice_get (placed (length before) fields) index ≡ Some shown = grind (arith, over-at, placed-length) in
-    let (field, is_field, start, len, kind, parts) = field_of (length before) fields index shown is in
+    let (field, is_field, start, len, kind, parts) = field_of (length before) fields old index shown (grind arith) (grind arith) in
     let (row, is_row, name, kinds) = row_of rows (take n bytes) index field (cc) in
     let front = before ++ bytes_of (take index fields) in
     let more = bytes_of (drop (suc index) fields) ++ (drop (length (bytes_of fields)) (take n bytes) ++ drop n bytes) in

@@ -24,10 +24,9 @@ next_more : (heard piece : List Character) (was ended : Bool) (given found : Lis
     → (IsTrue was → (piece ≡ []) × IsTrue ended) → AreNext heard was given used → AreNext (drop used heard ++ piece) ended found further
     → AreNext (heard ++ piece) ended (given ++ map (moved used) found) (used + further)
 next_more heard piece was ended given found used further within stays before now more later ends frames =
-    let rest = drop used heard ++ piece in
-    let front : drop used (heard ++ piece) ≡ rest = drop-append-le used heard piece within in
-    let left : drop (used + further) (heard ++ piece) ++ more ≡ drop further rest ++ more = grind (arith, common_steps, drop-drop) in
-    let inner = now more later ends (rw left at frames) in grind (arith, common_steps, append_assoc, map-append, moved_twice)
+    let front = drop-append-le used heard piece within in
+    let inner = now more later ends (grind (arith, common_steps, drop-drop)) in
+    grind (arith, common_steps, append_assoc, map-append, moved_twice)
 
 -- so after every search the frames given are the next ones, and in the end they are all
 pub returns-clause-next : goal.returns-clause-next

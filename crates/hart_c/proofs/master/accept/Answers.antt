@@ -46,9 +46,5 @@ returns-clause-accepted c =
       request = awaits.request;
       sent = awaits.sent;
       delivery = c.in_ok-delivery.ensures.accepted;
-      reply = (
-        grind (arith, common_steps),
-        c.show_frame.ensures.found,
-        c.show_frame.ensures.tidy,
-      );
+      reply = (grind (arith, common_steps), c.show_frame.ensures.found, c.show_frame.ensures.tidy);
     }

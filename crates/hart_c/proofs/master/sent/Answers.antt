@@ -1,15 +1,14 @@
-use Rattle.std.proofs.Common.{◌≡◌, ℕ, Err, arith, false, is_err, true}
+use Rattle.std.proofs.Common.{◌≡◌, ℕ, Err, arith, true}
 use Rattle.std.proofs.lemmas.Grind.{common_steps}
 use Rattle.hart_values.specs.declared.address.Address.{Address}
 use Rattle.hart_commands.specs.declared.request.Request.{Request}
-use Rattle.hart_master.specs.Master.{hand_sent, hand_submitted, result_submitted}
+use Rattle.hart_master.specs.Master.{hand_sent, hand_submitted}
 use Rattle.hart_master.specs.Pairing.{may_ask}
 use Rattle.hart_master.specs.declared.hand.Hand.TheVariants.{Awaiting, Empty}
 use Rattle.hart_c.specs.Encode.{IsEncodeFault}
 use Rattle.hart_c.specs.Master.{IsSendFault}
 use Rattle.hart_c.specs.declared.fault.Fault.{Fault}
 use Rattle.hart_c.specs.declared.frame.HartFrame.{HartFrame}
-use Rattle.hart_c.specs.declared.fault.Fault.TheVariants.{NoRequest}
 use Rattle.hart_c.proofs.master.sent.Goals as goal
 
 -- a fault of the frame is one of the request
@@ -17,13 +16,10 @@ frame_fault : (numbers : HartFrame) (fault : Fault) → ((preambles room : ℕ) 
     → IsSendFault numbers fault
 frame_fault numbers fault refused = grind (arith, refused 0 0)
 
--- an idle master takes a request if it may be asked at the address, and once it is sent its reply is awaited
-taken : (address : Address) (request : Request)
-    → (is_err (result_submitted Empty address request) ≡ true → may_ask address request ≡ false)
-    × (is_err (result_submitted Empty address request) ≡ false → (may_ask address request ≡ true)
-    × (hand_sent (hand_submitted Empty address request)
-    ≡ Awaiting (record { address = address; request = request; sendings = 1 }) 0))
-taken address request = grind arith
+-- a request that an idle master takes and sends is awaited
+awaited : (address : Address) (request : Request) → may_ask address request ≡ true → hand_sent (hand_submitted Empty address request)
+    ≡ Awaiting (record { address = address; request = request; sendings = 1 }) 0
+awaited address request may = grind arith
 
 pub returns-in_err-frame-clause-refused : goal.returns-in_err-frame-clause-refused
 returns-in_err-frame-clause-refused c =
@@ -32,31 +28,21 @@ returns-in_err-frame-clause-refused c =
 
 pub returns-in_err-asked-clause-refused : goal.returns-in_err-asked-clause-refused
 returns-in_err-asked-clause-refused c =
-    let is : c.from_residual-in_err-asked.result ≡ Err NoRequest = grind (arith, common_steps, c.in_err-asked.ensures.refused.0) in
-    rw is (c.in_ok-frame.ensures.frame, rw c.in_ok-frame.ensures.same at c.in_err-asked.ensures.refused.1)
+    grind (arith, common_steps, rw c.in_ok-frame.ensures.same at c.in_err-asked.ensures.refused.1)
 
 pub returns-then-is_err-clause-refused : goal.returns-then-is_err-clause-refused
 returns-then-is_err-clause-refused c =
-    let made = rw c.unwrap-master.ensures at c.new.ensures.kept in (
-      c.in_ok-frame.ensures.frame,
-      (
-        c.in_ok-asked.asked,
-        rw c.in_ok-frame.ensures.same at c.in_ok-asked.ensures.asked,
-        grind (arith, taken c.address.result c.in_ok-asked.asked, made),
-      ),
-    )
+    let made = rw c.unwrap-master.ensures at c.new.ensures.kept in
+    let asked = rw c.in_ok-frame.ensures.same at c.in_ok-asked.ensures.asked in
+    (c.in_ok-frame.ensures.frame, (c.in_ok-asked.asked, asked, grind (arith, made)))
 
 pub returns-clause-awaits : goal.returns-clause-awaits
 returns-clause-awaits c =
     let made = rw c.unwrap-master.ensures at c.new.ensures.kept in
-    let sent = taken c.address.result c.in_ok-asked.asked in
+    let asked = rw c.in_ok-frame.ensures.same at c.in_ok-asked.ensures.asked in
     record {
       request = c.in_ok-asked.asked;
-      sent = record {
-        is_frame = c.in_ok-frame.ensures.frame;
-        asked = rw c.in_ok-frame.ensures.same at c.in_ok-asked.ensures.asked;
-        paired = grind (arith, sent, made);
-      };
+      sent = record { is_frame = c.in_ok-frame.ensures.frame; asked = asked; paired = grind (arith, made) };
       id = grind (arith, made);
-      hand = grind (arith, sent, made);
+      hand = grind (arith, made, awaited);
     }
