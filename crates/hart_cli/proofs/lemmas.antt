@@ -3,4 +3,3 @@ pub mod program
 pub mod dump
 pub mod explain
 pub mod text
-pub mod Input

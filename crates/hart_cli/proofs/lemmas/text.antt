@@ -2,6 +2,5 @@
 pub mod InputChars
 pub mod HexText
 pub mod Items
-pub mod KnownBytes
 pub mod MessageLine
 pub mod PlainItems

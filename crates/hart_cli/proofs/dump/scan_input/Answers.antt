@@ -1,59 +1,75 @@
-use Rattle.std.proofs.Common.{◌≡◌, ◌+◌, ◌-◌, [], length, refl, ◌∙◌, arith}
+use Rattle.std.proofs.Common.{◌≡◌, ◌+◌, ◌-◌, [], ◌++◌, length, refl, ◌∙◌, arith}
 use Rattle.std.proofs.lemmas.Grind.{common_steps}
+use Rattle.std.proofs.KnownBytes.{Appends-nil}
 use Rattle.std.proofs.lemmas.Result.{err_from_is_err_and}
 use Rattle.hart_frame.specs.scan.Scanner.{new_scan}
+use Rattle.hart_cli.specs.dump.Dump.{WroteInTime}
 use Rattle.hart_cli.proofs.dump.scan_input.Given.{Over}
 use Rattle.hart_cli.proofs.dump.scan_input.Goals.{After-scan_text-rest}
 use Rattle.hart_cli.proofs.lemmas.dump.FrameLines.{keeps_within}
-use Rattle.hart_cli.proofs.lemmas.dump.ScanInput.{ScannedUpTo, goes_on, nothing_scanned, scanned_step, scans_all, stopped_writing, written}
+use Rattle.hart_cli.proofs.lemmas.dump.ScanInput.{ScannedUpTo, goes_on, nothing_scanned, scanned_step, scans_all, stopped_writing}
+use Rattle.hart_cli.proofs.lemmas.dump.Writes.{WritesAll-on, in_time_on}
 use Rattle.hart_cli.proofs.lemmas.text.InputChars.{may_begin-nil}
 use Rattle.hart_cli.proofs.lemmas.text.Items.{ReadsUpTo-few}
 use Rattle.hart_cli.proofs.dump.scan_input.Goals as goal
 
 pub loop-frames-init : goal.loop-frames-init
-loop-frames-init g c = grind (arith, common_steps, may_begin-nil, nothing_scanned)
+loop-frames-init g c =
+    rw (c.requires.lines, c.requires.scanner, c.new-ahead.ensures) (record {
+      buffer_length = grind (arith, common_steps);
+      text = [];
+      scanned = nothing_scanned _;
+      wrote = (Appends-nil _, refl);
+      none_kept = refl;
+      short = omega arith;
+      may_begin = may_begin-nil;
+    })
 
 pub scan_text-rest-requires : goal.scan_text-rest-requires
 scan_text-rest-requires g c =
-    let loop = c.loop-frames.invariant in
-    let due = loop.scanned in
+    let due = c.loop-frames.invariant.scanned in
     let within = keeps_within new_scan c.loop-frames.frames.scanner due.chars [] _ due.scans in grind (arith, common_steps, ReadsUpTo-few)
 
 -- what was read is scanned
 scanned : (g : Over) (c : After-scan_text-rest g)
-    → ScannedUpTo (g.R.Source.stream c.args.reader.now) (g.R.Source.stream c.read_ahead-end.new.reader)
-    (g.W.Sink.stream c.args.writer.now) (g.W.Sink.stream c.loop-frames.writer) c.scan_text-rest.new.self c.read_ahead-end.result
-    c.scan_text-rest.result.now (c.loop-frames.place + (length c.read_ahead-end.new.ahead - length c.scan_text-rest.result.now))
+    → (now : ScannedUpTo (g.R.Source.stream c.args.reader.now) (g.R.Source.stream c.read_ahead-end.new.reader)
+    c.scan_text-rest.new.self.scanner c.read_ahead-end.result c.scan_text-rest.result.now
+    (c.loop-frames.place + (length c.read_ahead-end.new.ahead - length c.scan_text-rest.result.now))
+    (c.loop-frames.invariant.text ++ c.scan_text-rest.new.self.lines))
+    × WroteInTime now.input (g.W.Sink.stream c.args.writer.now) (g.W.Sink.stream c.loop-frames.writer)
 scanned g c =
     let loop = c.loop-frames.invariant in
     let scan = rw c.as_slice.ensures.value at c.scan_text-rest.ensures in
     let few = rw c.as_slice.ensures.value at c.as_slice.ensures.fits in
-    scanned_step c.loop-frames.frames c.scan_text-rest.new.self loop.scanned loop.none_kept loop.may_begin
+    scanned_step _ _ c.loop-frames.frames c.scan_text-rest.new.self loop.scanned loop.none_kept loop.wrote loop.may_begin
     (omega (arith, c.len.ensures.value)) c.read_ahead-end.ensures.reads few scan.stops scan.scans scan.waiting
 
 pub returns-in_err-write_all : goal.returns-in_err-write_all
 returns-in_err-write_all g c =
+    let now = scanned g (goal.at.returns-in_err-write_all g c).After-scan_text-rest in
     rw (err_from_is_err_and c.from_residual.result c.from_residual.ensures.1).1
-    (stopped_writing _ (scanned g (goal.at.returns-in_err-write_all g c).After-scan_text-rest)
+    (stopped_writing _ _ _ now.0 c.loop-frames.invariant.wrote now.1
     (rw c.as_slice-in-loop-frames.ensures.value at c.in_err-write_all.ensures))
 
 pub returns-in-Stop : goal.returns-in-Stop
 returns-in-Stop g c =
-    rw c.clear.ensures (scans_all _ _ _ _
-    (written _ (scanned g (goal.at.returns-in-Stop g c).After-scan_text-rest)
-    (rw c.as_slice-in-loop-frames.ensures.value at c.in_ok-write_all.ensures))
-    refl (rw c.len-in-loop-frames.ensures.value at c.in-Stop.ensures.step))
+    let now = scanned g (goal.at.returns-in-Stop g c).After-scan_text-rest in
+    let wrote = rw c.as_slice-in-loop-frames.ensures.value at c.in_ok-write_all.ensures in
+    rw c.clear.ensures (scans_all _ _ _ _ _ now.0 refl (WritesAll-on _ _ _ _ _ c.loop-frames.invariant.wrote wrote)
+    (in_time_on _ _ _ _ _ now.1 wrote.0) (rw c.len-in-loop-frames.ensures.value at c.in-Stop.ensures.step))
 
 pub loop-frames-preserved : goal.loop-frames-preserved
 loop-frames-preserved g c =
     let list : c.unwrap-open.result ≡ c.scan_text-rest.result.now = rw c.unwrap-open.ensures at c.from_slice.ensures.kept in
     let kept : c.extend_from_slice.new.self ≡ c.scan_text-rest.result.now = grind (arith, common_steps) in
     let on = goes_on _ _ _ c.in-ReadOn.ensures.step in
-    let all = written _ (scanned g (goal.at.loop-frames-preserved g c).After-scan_text-rest)
-    (rw c.as_slice-in-loop-frames.ensures.value at c.in_ok-write_all.ensures) in
+    let now = scanned g (goal.at.loop-frames-preserved g c).After-scan_text-rest in
     rw (kept, c.clear.ensures, c.len-in-loop-frames.ensures.value) (record {
       buffer_length = c.read_ahead-end.ensures.kept ∙ c.loop-frames.invariant.buffer_length;
-      scanned = rw on.0 at all;
+      text = _;
+      scanned = rw on.0 at now.0;
+      wrote = WritesAll-on _ _ _ _ _ c.loop-frames.invariant.wrote
+          (rw c.as_slice-in-loop-frames.ensures.value at c.in_ok-write_all.ensures);
       none_kept = refl;
       short = c.next_step.ensures.short c.in-ReadOn.is;
       may_begin = on.1;

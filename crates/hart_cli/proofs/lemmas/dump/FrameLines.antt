@@ -1,24 +1,19 @@
 -- The lines that are kept while characters are scanned.
-use Rattle.std.proofs.Common.{◌≡◌, ◌≤◌, ◌+◌, ◌*◌, ℕ, List, [], ◌++◌, false, length, sym, append_assoc, arith, length-append, drop, take}
-use Rattle.std.proofs.Math.Seq.{take-add}
+use Rattle.std.proofs.Common.{◌≡◌, ◌≤◌, ◌+◌, ◌*◌, ℕ, List, [], ◌++◌, false, length, arith, length-append}
 use Rattle.std.proofs.lemmas.Grind.{common_steps}
-use Rattle.std.proofs.lemmas.List.{append-nil, length-map, map-append}
-use Rattle.hart_frame.specs.declared.heard.found.Found.{Found}
-use Rattle.hart_frame.specs.heard.Character.{Character, faultless}
+use Rattle.std.proofs.lemmas.List.{append-nil}
+use Rattle.hart_frame.specs.heard.Character.{Character}
 use Rattle.hart_frame.specs.scan.Scanner.{MovesPast, Scan, Waits, finishing, hearing, new_scan}
+use Rattle.hart_frame.proofs.lemmas.Laws.{every_list_has_frames}
 use Rattle.hart_cli.specs.declared.dump.frame_lines.FrameLines.{FrameLines}
 use Rattle.hart_cli.specs.dump.Dump.{AreFrameLines, most_ahead}
 use Rattle.hart_cli.specs.dump.FrameLines.{GivesAll, IsWaiting, KeepsLines, ScansText}
 use Rattle.hart_cli.specs.dump.Text.{dump_text}
 use Rattle.hart_cli.specs.stream.Stream.{FailsToWrite, Stream}
 use Rattle.hart_cli.specs.text.Items.{ReadsUpTo}
-use Rattle.hart_cli.proofs.lemmas.dump.Moves.{all_frames, moves_hearing, moves_nothing, moves_on, moves_then, some_frames}
+use Rattle.hart_cli.proofs.lemmas.dump.Moves.{all_frames, first_frames, moves_hearing, moves_on, moves_then}
 use Rattle.hart_cli.proofs.lemmas.dump.Writes.{FailsToWrite-longer}
 use Rattle.hart_cli.proofs.lemmas.text.Items.{ReadsUpTo-few, ReadsUpTo-on}
-
--- the text of frames and of more frames
-dump_text-append : (frames others : List Found) → dump_text (frames ++ others) ≡ dump_text frames ++ dump_text others
-dump_text-append frames others = grind (arith, common_steps, append_assoc)
 
 -- no line is kept if a scanner lets characters go without a frame
 pub keeps_no_frame : (old new : Scan) (lines : List ℕ) → MovesPast old new [] → KeepsLines old new lines lines
@@ -26,14 +21,14 @@ keeps_no_frame old new lines moves = grind (arith, common_steps, append-nil, mov
 
 -- nor if it hears nothing
 pub keeps_nothing : (scan : Scan) (lines : List ℕ) → KeepsLines (hearing scan []) scan lines lines
-keeps_nothing scan lines = keeps_no_frame _ scan lines (moves_nothing scan)
+keeps_nothing scan lines = grind (arith, common_steps, append-nil)
 
 -- lines are kept of some frames and then of others
 pub keeps_then : (a b c : Scan) (p q r : List ℕ) → KeepsLines a b p q → KeepsLines b c q r → KeepsLines a c p r
 keeps_then a b c p q r one two = record {
   given = one.given ++ two.given;
   moves = moves_then a b c one.given two.given one.moves two.moves;
-  lines = grind (arith, one.lines, two.lines, append_assoc, dump_text-append one.given two.given);
+  lines = grind (arith, common_steps, one.lines, two.lines);
   few = omega (arith, one.few, two.few);
 }
 
@@ -41,8 +36,7 @@ keeps_then a b c p q r one two = record {
 pub keeps_on : (a b c : Scan) (xs ys : List Character) (p q r : List ℕ) → a.finished ≡ false → b.finished ≡ false
     → KeepsLines (hearing a xs) b p q → KeepsLines (hearing b ys) c q r → KeepsLines (hearing a (xs ++ ys)) c p r
 keeps_on a b c xs ys p q r going on one two =
-    let heard : KeepsLines (hearing a (xs ++ ys)) (hearing b ys) p q =
-    grind (arith, common_steps, moves_hearing, length-append) in grind (arith, common_steps, keeps_then)
+    grind (arith, common_steps, moves_hearing, keeps_then (hearing a (xs ++ ys)) (hearing b ys) c p q r)
 
 -- what is heard is let go or held, and the lines are kept within its room
 pub keeps_within : (a b : Scan) (xs : List Character) (p q : List ℕ) → KeepsLines (hearing a xs) b p q
@@ -68,41 +62,25 @@ text_room {text = text} {rest = rest} old now scans waiting none few =
     let within = keeps_within old.scanner now.scanner scans.chars old.lines now.lines scans.scans in
     grind (arith, common_steps, ReadsUpTo-few)
 
--- lines are kept after others
-pub keeps_after : (a b : Scan) (before p q : List ℕ) → KeepsLines a b p q → KeepsLines a b (before ++ p) (before ++ q)
-keeps_after a b before p q keeps = grind (arith, common_steps, append_assoc, length-append)
-
 -- a scanner that is not finished waits for more once it gives no frame
 pub waits_for_more : (old new : Scan) (p q : List ℕ) → old.finished ≡ false → length old.held ≤ 269 → GivesAll old new p q
     → KeepsLines old new p q × IsWaiting new
 waits_for_more old new p q going few all =
     let waits : Waits all.last new = grind (arith, all.same_finish, all.nothing) in
-    let then = moves_on all.last new [] waits.moves in
-    let moves = moves_then old all.last new all.keeps.given [] all.keeps.moves waits.moves in grind (arith, common_steps, append-nil)
+    let keeps = keeps_then old all.last new p q q all.keeps (keeps_no_frame all.last new q waits.moves) in
+    grind (arith, common_steps, moves_on)
 
 -- once a scanner that was new has ended, the lines that were kept of it are all
 pub all_lines : (chars : List Character) (scan new : Scan) (text rest : List ℕ) → KeepsLines (hearing new_scan chars) scan [] text
     → GivesAll (finishing scan) new [] rest → AreFrameLines chars (text ++ rest)
-all_lines chars scan new text rest keeps all = record {
-  frames = keeps.given ++ (all.keeps.given ++ []);
-  are_frames = all_frames chars scan all.last new keeps.given all.keeps.given keeps.moves all.keeps.moves
-      (grind (arith, all.same_finish, all.nothing));
-  text = grind (arith, keeps.lines, all.keeps.lines, append-nil, dump_text-append);
-}
+all_lines chars scan new text rest keeps all =
+    let are = all_frames chars scan all.last new keeps.given all.keeps.given keeps.moves all.keeps.moves in grind (arith, common_steps)
 
 -- a prefix of the lines that were kept is one of all lines
 pub stopped_lines : (chars : List Character) (scan : Scan) (text : List ℕ) (old new : Stream)
     → KeepsLines (hearing new_scan chars) scan [] text → FailsToWrite old new text
     → (lines : List ℕ) × AreFrameLines chars lines × FailsToWrite old new lines
 stopped_lines chars scan text old new keeps fails =
-    let all = some_frames chars scan keeps.given keeps.moves in
-    (text ++ dump_text all.0, grind (arith, keeps.lines, dump_text-append), FailsToWrite-longer old new text (dump_text all.0) fails)
-
--- bytes are as many characters
-pub length-faultless : (bytes : List ℕ) → length (faultless bytes) ≡ length bytes
-length-faultless bytes = length-map bytes _
-
--- the faultless characters of two parts of a chunk
-pub faultless_parts : (chunk rest : List ℕ) (n m : ℕ) → rest ≡ drop n chunk
-    → faultless (take n chunk) ++ faultless (take m rest) ≡ faultless (take (n + m) chunk)
-faultless_parts chunk rest n m is = rw (is, take-add n m chunk) (sym (map-append _ (take n chunk) (take m (drop n chunk))))
+    let later = every_list_has_frames (chars ++ []) scan.first in
+    let are = first_frames chars [] scan keeps.given later.0 keeps.moves later.1 in
+    (text ++ dump_text later.0, grind (arith, common_steps), FailsToWrite-longer old new text (dump_text later.0) fails)

@@ -1,5 +1,5 @@
 -- Texts that are written one after another, and lines that were written in time.
-use Rattle.std.proofs.Common.{arith, ◌≢◌, ℕ, List, [], ◌∷◌, ◌++◌, refl, ◌∙◌, append_assoc}
+use Rattle.std.proofs.Common.{arith, ◌≢◌, ℕ, List, [], ◌∷◌, ◌++◌, refl, append_assoc}
 use Rattle.std.proofs.KnownBytes.{Appends-trans}
 use Rattle.std.proofs.lemmas.Grind.{common_steps}
 use Rattle.std.specs.Io.KnownBytes.{Appends}
@@ -8,7 +8,7 @@ use Rattle.hart_cli.specs.stream.Stream.{FailsToWrite, Stream, WritesAll}
 
 -- one text after another was written
 pub WritesAll-on : (a b c : Stream) (xs ys : List ℕ) → WritesAll a b xs → WritesAll b c ys → WritesAll a c (xs ++ ys)
-WritesAll-on a b c xs ys h k = (Appends-trans a.bytes b.bytes c.bytes xs ys h.0 k.0, k.1 ∙ h.1)
+WritesAll-on a b c xs ys h k = grind (arith, common_steps, Appends-trans)
 
 -- a write failed in a text after another
 pub FailsToWrite-on : (a b c : Stream) (xs ys : List ℕ) → WritesAll a b xs → FailsToWrite b c ys → FailsToWrite a c (xs ++ ys)
@@ -27,15 +27,4 @@ FailsToWrite-longer old new text more fails = grind (arith, common_steps, append
 pub in_time_on : (input : List ℕ) (w now later : Stream) (text : List ℕ) → WroteInTime input w now
     → Appends now.bytes later.bytes text → WroteInTime input w later
 in_time_on input w now later text before on =
-    record {
-      before = before.before;
-      last = before.last;
-      split = before.split;
-      few = before.few;
-      chars = before.chars;
-      reads = before.reads;
-      frames = before.frames;
-      decided = before.decided;
-      more = before.more ++ text;
-      written = grind (arith, common_steps, append_assoc, Appends-trans);
-    }
+    let all = rw append_assoc at (Appends-trans w.bytes now.bytes later.bytes _ text before.written on) in grind arith

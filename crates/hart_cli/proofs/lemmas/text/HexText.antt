@@ -1,13 +1,11 @@
 -- Upper case hex, and one more byte in a line of it.
-use Rattle.std.proofs.Common.{◌≡◌, ℕ, ◌<◌, ◌≤◌, ◌+◌, List, [], ◌∷◌, ◌++◌, length, take, map, get_or, refl, sym, append_assoc, arith}
-use Rattle.std.proofs.Common.{length-append}
+use Rattle.std.proofs.Common.{◌≡◌, ℕ, ◌<◌, ◌+◌, List, [], ◌∷◌, ◌++◌, length, take, map, get_or, refl, sym, append_assoc, arith}
 use Rattle.std.proofs.Math.ListN.{get_or-map}
 use Rattle.std.proofs.lemmas.Grind.{common_steps}
 use Rattle.std.proofs.lemmas.List.{map_more}
 use Rattle.std.specs.Char.{to_ascii_uppercase}
 use Rattle.std.specs.List.{join_with_byte}
 use Rattle.hex.specs.Hex.{encode_lower, encode_upper, encode_with, lower_digits, upper_digits}
-use Rattle.hex.proofs.HexLemmas.{length-encode_with}
 use Rattle.hart_cli.specs.text.HexText.{hex_items}
 
 -- a digit in upper case
@@ -26,27 +24,13 @@ join_with_byte-push : (c : ℕ) (x : List ℕ) (xs : List (List ℕ)) (y : List 
 join_with_byte-push c x [] y = refl
 join_with_byte-push c x (z ∷ zs) y = grind (arith, append_assoc, join_with_byte-push c z zs y)
 
--- the first byte
-pub hex_items-first : (start bytes line digits : List ℕ) (i d : ℕ) → i ≤ 0 → i < length bytes
-    → line ≡ start ++ hex_items (take i bytes) → digits ≡ encode_upper (get_or bytes i d ∷ [])
-    → line ++ digits ≡ start ++ hex_items (take (i + 1) bytes)
-hex_items-first start bytes line digits i d h k e n = grind (arith, common_steps, append_assoc)
-
 -- a further byte, after a space
-pub hex_items-more : (start bytes line digits : List ℕ) (i d : ℕ) → 0 < i → i < length bytes
-    → line ≡ (start ++ hex_items (take i bytes)) ++ 32 ∷ [] → digits ≡ encode_upper (get_or bytes i d ∷ [])
-    → line ++ digits ≡ start ++ hex_items (take (i + 1) bytes)
-hex_items-more start bytes line digits i d h k e n = grind (arith, common_steps, append_assoc, join_with_byte-push, map_more)
+pub hex_items-more : (bytes : List ℕ) (i d : ℕ) → i < length bytes → 0 < i
+    → hex_items (take (i + 1) bytes) ≡ hex_items (take i bytes) ++ 32 ∷ encode_upper (get_or bytes i d ∷ [])
+hex_items-more bytes i d within more = grind (arith, common_steps, append_assoc, join_with_byte-push, map_more)
 
 -- the digits of bytes and of more bytes
-encode_upper-append : (bytes more : List ℕ) → encode_upper (bytes ++ more) ≡ encode_upper bytes ++ encode_upper more
+pub encode_upper-append : (bytes more : List ℕ) → encode_upper (bytes ++ more) ≡ encode_upper bytes ++ encode_upper more
 unfolding encode_with
 encode_upper-append [] more = refl
 encode_upper-append (byte ∷ bytes) more = grind (arith, encode_upper-append bytes more)
-
--- the digits of one byte more
-pub encode_upper-more : (start line line' bytes digits : List ℕ) (i d : ℕ) → i < length bytes
-    → line ≡ start ++ encode_upper (take i bytes) → digits ≡ encode_upper (get_or bytes i d ∷ []) → line' ≡ line ++ digits
-    → (line' ≡ start ++ encode_upper (take (i + 1) bytes)) × (length line' ≡ length line + 2)
-encode_upper-more start line line' bytes digits i d within so_far is_digits is_line =
-    grind (arith, common_steps, append_assoc, encode_upper-append, length-append, length-encode_with)

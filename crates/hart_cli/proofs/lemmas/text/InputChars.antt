@@ -1,12 +1,12 @@
 -- An input has one list of characters.
-use Rattle.std.proofs.Common.{◌≡◌, ℕ, ◌+◌, List, [], ◌∷◌, ◌++◌, length, inl, Option, refl, subst, arith}
+use Rattle.std.proofs.Common.{◌≡◌, ℕ, ◌+◌, List, [], ◌∷◌, length, Option, refl, arith}
 use Rattle.std.proofs.lemmas.Grind.{common_steps}
 use Rattle.std.proofs.lemmas.List.{append-nil, length-append}
 use Rattle.hart_frame.specs.heard.Character.{Character}
 use Rattle.hart_cli.specs.declared.fault.CliFault.{CliFault}
 use Rattle.hart_cli.specs.input.Input.{Ending}
 use Rattle.hart_cli.specs.text.InputChars.{all, bad_hex, decided_bad_hex, failure, HasChars, limit}
-use Rattle.hart_cli.specs.text.Items.{closed, HasBadHex, IsDecidedBadHexAt, MayBegin, ReadsSoFarAs, ReadsUpTo, Separator}
+use Rattle.hart_cli.specs.text.Items.{closed, HasBadHex, IsDecidedBadHexAt, MayBegin, ReadsUpTo, Separator}
 use Rattle.hart_cli.proofs.lemmas.text.Items.{NoPieceBegins-nil, one_reading, ReadsUpTo-more}
 
 -- bad hex is at one place, after the same characters
@@ -19,11 +19,7 @@ not_both text xs ys p h k = grind (arith, common_steps, NoPieceBegins-nil, one_r
 
 -- what has bad hex whatever follows has it as it stands
 pub as_it_stands : (text : List ℕ) (chars : List Character) (place : ℕ) → IsDecidedBadHexAt text chars place → HasBadHex text chars place
-as_it_stands text chars place h = subst (λ (us : List ℕ). HasBadHex us chars place) (append-nil text) (h [])
-
--- a text reads so far as one list of characters
-one_so_far : (text : List ℕ) (xs ys : List Character) → ReadsSoFarAs text xs → ReadsSoFarAs text ys → xs ≡ ys
-one_so_far text xs ys h k = (one_reading text xs h.rest ys k.rest h.reads k.reads h.no_piece k.no_piece).0
+as_it_stands text chars place h = rw append-nil at (h [])
 
 -- an input has one list of characters and one fault
 pub one_input : (text : List ℕ) (ending : Ending) (xs ys : List Character) (f g : Option CliFault)
@@ -34,25 +30,15 @@ one_input text _ _ _ _ _ (bad_hex xs p h) (all ys k) = absurd (not_both (closed 
 one_input text _ _ _ _ _ (bad_hex xs p h) (bad_hex ys q k) = grind (arith, one_place (closed text) xs ys p q h k)
 one_input text _ _ _ _ _ (decided_bad_hex xs p h) (decided_bad_hex ys q k) =
     grind (arith, one_place text xs ys p q (as_it_stands text xs p h) (as_it_stands text ys q k))
-one_input text _ _ _ _ _ (failure xs h) (failure ys k) = (one_so_far text xs ys h k, refl)
-one_input text _ _ _ _ _ (limit xs h) (limit ys k) = (one_so_far text xs ys h k, refl)
+one_input text _ _ _ _ _ (failure xs h) (failure ys k) = grind (arith, one_reading text xs h.rest ys k.rest)
+one_input text _ _ _ _ _ (limit xs h) (limit ys k) = grind (arith, one_reading text xs h.rest ys k.rest)
 
 -- a piece may begin at the end
 pub may_begin-nil : MayBegin []
-may_begin-nil = record {
-  more = 32 ∷ [];
-  piece = Separator 32;
-  tail = [];
-  begins = record { valid = inl refl; spelled = refl; whole = tt };
-}
-
--- what stands before the end of nothing is nothing
-append_nil_left : (xs ys : List ℕ) → xs ++ ys ≡ [] → xs ≡ []
-append_nil_left [] ys e = refl
-append_nil_left (x ∷ xs) ys e = cc e
+may_begin-nil = record { more = 32 ∷ []; piece = Separator 32; tail = []; begins = grind (arith, common_steps) }
 
 -- bad hex is decided if no piece may begin in the rest
 pub decided_rest : (text : List ℕ) (chars : List Character) (rest : List ℕ) (place : ℕ) → ReadsUpTo text chars rest
     → place + length rest ≡ length text → (MayBegin rest → ⊥) → IsDecidedBadHexAt text chars place
-decided_rest text chars rest place r e n = λ more.
-    let after = length-append rest more in grind (arith, common_steps, ReadsUpTo-more, append_nil_left, may_begin-nil)
+decided_rest text chars rest place r e n more =
+    let after = length-append rest more in grind (arith, common_steps, ReadsUpTo-more, may_begin-nil)

@@ -1,27 +1,17 @@
 -- Texts of items: a text reads in one way, and what follows a text leaves what was read.
-use Rattle.std.proofs.Common.{◌≡◌, ℕ, ◌+◌, ◌<◌, ◌≤◌, ◌-◌, true, List, [], ◌∷◌, ◌++◌, length, take, drop, Option, refl, sym, ◌*◌, subst}
+use Rattle.std.proofs.Common.{◌≡◌, ℕ, ◌+◌, ◌<◌, ◌≤◌, ◌-◌, List, [], ◌∷◌, ◌++◌, length, take, drop, Option, refl, ◌*◌}
 use Rattle.std.proofs.Common.{arith}
 use Rattle.std.proofs.Math.Seq.{drop-append_seam}
 use Rattle.std.proofs.lemmas.Grind.{common_steps}
-use Rattle.std.proofs.lemmas.List.{append-nil, append_assoc, drop-drop, length-append, take_rest}
+use Rattle.std.proofs.lemmas.List.{append-nil, append_assoc, drop-drop, take_rest}
 use Rattle.std.specs.Option.{option_to_list}
-use Rattle.hex.specs.Hex.{is_hex_digit}
 use Rattle.hart_frame.specs.heard.Character.{Character}
-use Rattle.hart_line.specs.script.Items.{Plain}
-use Rattle.hart_cli.specs.text.Items.{BeginsAs, BeginsWith, IsSeparator, IsWholeBefore, Item, meaning, NoPieceBegins, nothing, Piece, piece}
+use Rattle.hart_cli.specs.text.Items.{BeginsAs, BeginsWith, IsWholeBefore, NoPieceBegins, nothing, Piece, piece}
 use Rattle.hart_cli.specs.text.Items.{ReadsUpTo, spelling}
-
--- a separator is not the high digit of an item
-separator_is_no_high : (a h : ℕ) → IsSeparator a → is_hex_digit h ≡ true → a ≡ h → ⊥
-separator_is_no_high a h s d e = grind (arith, common_steps)
-
--- an item is not whole before a `!`
-not_whole : (tail more : List ℕ) (high low : ℕ) → IsWholeBefore tail (Item (Plain high low)) → tail ≡ 33 ∷ more → ⊥
-not_whole tail more high low h k = grind (arith, common_steps)
 
 -- two pieces that begin one text are one piece
 pub same_piece : (text : List ℕ) (p q : Piece) (s t : List ℕ) → BeginsWith text p s → BeginsWith text q t → (p ≡ q) × (s ≡ t)
-same_piece text p q s t h k = grind (arith, common_steps, not_whole, separator_is_no_high)
+same_piece text p q s t h k = grind (arith, common_steps)
 
 -- a whole piece stays whole, whatever follows
 whole_before_more : (tail more : List ℕ) (p : Piece) → IsWholeBefore tail p → IsWholeBefore (tail ++ more) p
@@ -37,15 +27,14 @@ pub ReadsUpTo-more : (text : List ℕ) (chars : List Character) (rest more : Lis
     → ReadsUpTo (text ++ more) chars (rest ++ more)
 ReadsUpTo-more _ _ _ more (nothing rest) = nothing (rest ++ more)
 ReadsUpTo-more _ _ _ more (piece text first tail chars rest h r) =
-    piece (text ++ more) first (tail ++ more) chars (rest ++ more) (BeginsWith-more text tail more first h)
-    (ReadsUpTo-more tail chars rest more r)
+    search (piece, BeginsWith-more, ReadsUpTo-more tail chars rest more r)
 
 -- a text reads up to its rest and on
 pub ReadsUpTo-on : (text : List ℕ) (xs : List Character) (rest : List ℕ) (ys : List Character) (last : List ℕ) → ReadsUpTo text xs rest
     → ReadsUpTo rest ys last → ReadsUpTo text (xs ++ ys) last
 ReadsUpTo-on _ _ _ ys last (nothing rest) k = k
 ReadsUpTo-on _ _ _ ys last (piece text first tail chars rest h r) k =
-    rw append_assoc (piece text first tail (chars ++ ys) last h (ReadsUpTo-on tail chars rest ys last r k))
+    search (append_assoc, piece, ReadsUpTo-on tail chars rest ys last r k)
 
 -- a text is read on from a place
 pub read_on : (text : List ℕ) (chars more : List Character) (place len : ℕ) → ReadsUpTo text chars (drop place text)
@@ -66,7 +55,7 @@ goes_on _ _ _ ys last (nothing rest) k n = record { between = ys; reads = k; cha
 goes_on _ _ _ _ _ (piece text p s cs rest h r) (nothing last) n = absurd (n p s h)
 goes_on _ _ _ _ _ (piece text p s cs rest h r) (piece _ q t ds last k l) n =
     let same = same_piece text p q s t h k in
-    grind (arith, common_steps, append_assoc, goes_on s cs rest ds last r (subst (λ (us : List ℕ). ReadsUpTo us ds last) (sym same.1) l) n)
+    grind (arith, common_steps, append_assoc, goes_on s cs rest ds last r (rw (← same.1) at l) n)
 
 -- nothing is read if no piece begins
 pub stays : (rest : List ℕ) (chars : List Character) (last : List ℕ) → ReadsUpTo rest chars last → NoPieceBegins rest
@@ -86,23 +75,15 @@ spelling-length p = grind (arith, common_steps)
 pub NoPieceBegins-nil : NoPieceBegins []
 NoPieceBegins-nil p tail h = grind (arith, common_steps)
 
--- a piece takes two bytes at least for a character that it means
-few_meant : (p : Piece) → 2 * length (meaning p) ≤ length (spelling p)
-few_meant p = grind (arith, common_steps)
-
-pub few_read : (text : List ℕ) (char : Option Character) (len : ℕ) → BeginsAs text char len → 2 * length (option_to_list char) ≤ len
-few_read text char len b = grind (arith, common_steps, few_meant)
-
 -- a piece is read
 pub begins_reads : (text : List ℕ) (char : Option Character) (len : ℕ) → BeginsAs text char len
     → (0 < len) × (len ≤ length text) × ReadsUpTo text (option_to_list char) (drop len text)
 begins_reads text char len b =
-    let long = length-append (spelling b.piece) b.tail in
-    let tail : drop len text ≡ b.tail = rw (← b.long, b.begins.spelled) (drop-append_seam (spelling b.piece) b.tail) in
-    let read = piece text b.piece b.tail [] b.tail b.begins (nothing b.tail) in grind (arith, common_steps, append-nil)
+    let read = piece text b.piece b.tail [] b.tail b.begins (nothing b.tail) in
+    grind (arith, common_steps, append-nil, drop-append_seam (spelling b.piece) b.tail)
 
 -- a text has two bytes at least before its rest for each character
 pub ReadsUpTo-few : (text : List ℕ) (chars : List Character) (rest : List ℕ) → ReadsUpTo text chars rest
     → 2 * length chars + length rest ≤ length text
 ReadsUpTo-few _ _ _ (nothing rest) = omega arith
-ReadsUpTo-few _ _ _ (piece text p tail chars rest h r) = grind (arith, few_meant, length-append, ReadsUpTo-few tail chars rest r)
+ReadsUpTo-few _ _ _ (piece text p tail chars rest h r) = grind (arith, common_steps, ReadsUpTo-few tail chars rest r)

@@ -1,5 +1,5 @@
 -- Items that are read several at a time.
-use Rattle.std.proofs.Common.{◌≢◌, ◌≤◌, ℕ, List, [], ◌∷◌, length, get_or, IsTrue, refl, arith}
+use Rattle.std.proofs.Common.{◌≢◌, ◌≤◌, ℕ, List, [], ◌∷◌, length, get_or, IsTrue, arith}
 use Rattle.hex.specs.Hex.{is_hex_digit}
 use Rattle.hart_frame.specs.heard.Character.{faultless}
 use Rattle.hart_line.specs.script.Digits.{AreDigitsOf}
@@ -7,11 +7,7 @@ use Rattle.hart_line.specs.script.Items.{Plain}
 use Rattle.hart_cli.specs.text.Items.{IsSeparator, Item, ReadsUpTo, Separator, nothing, piece}
 use Rattle.hart_cli.specs.text.Reading.{ReadsFirst}
 
--- a separator is no `!`
-no_mark : (byte : ℕ) → IsSeparator byte → byte ≢ 33
-no_mark byte separator mark = grind (arith, separator, mark)
-
--- nor is a digit
+-- a digit is no `!`
 digit_is_no_mark : (byte : ℕ) → IsTrue (is_hex_digit byte) → byte ≢ 33
 digit_is_no_mark byte digit mark = let no : IsTrue (is_hex_digit 33) = rw mark at digit in cc no
 
@@ -19,28 +15,20 @@ digit_is_no_mark byte digit mark = let no : IsTrue (is_hex_digit 33) = rw mark a
 item_before : (high low next byte : ℕ) (rest bytes last : List ℕ) → AreDigitsOf byte high low → next ≢ 33
     → ReadsUpTo (next ∷ rest) (faultless bytes) last → ReadsUpTo (high ∷ low ∷ next ∷ rest) (faultless (byte ∷ bytes)) last
 item_before high low next byte rest bytes last digits none reads =
-    rw digits.1 (piece (high ∷ low ∷ next ∷ rest) (Item (Plain high low)) (next ∷ rest) (faultless bytes) last
-    (record { valid = digits.0; spelled = refl; whole = (λ n. cc n, none) }) reads)
+    grind (arith, piece (high ∷ low ∷ next ∷ rest) (Item (Plain high low)) (next ∷ rest) (faultless bytes) last)
 
 -- and with a separator after them
 spaced_before : (high low gap byte : ℕ) (rest bytes last : List ℕ) → AreDigitsOf byte high low → IsSeparator gap
     → ReadsUpTo rest (faultless bytes) last → ReadsUpTo (high ∷ low ∷ gap ∷ rest) (faultless (byte ∷ bytes)) last
 spaced_before high low gap byte rest bytes last digits separator reads =
-    item_before high low gap byte rest bytes last digits (no_mark gap separator)
-    (piece (gap ∷ rest) (Separator gap) rest (faultless bytes) last (record { valid = separator; spelled = refl; whole = tt }) reads)
+    grind (arith, item_before high low gap byte rest bytes last, piece (gap ∷ rest) (Separator gap) rest (faultless bytes) last)
 
 -- four items with nothing between them
 pub dense_read : (text : List ℕ) (w x y z : ℕ) → 9 ≤ length text → get_or text 8 0 ≢ 33 → AreDigitsOf w (get_or text 0 0) (get_or text 1 0)
     → AreDigitsOf x (get_or text 2 0) (get_or text 3 0) → AreDigitsOf y (get_or text 4 0) (get_or text 5 0)
     → AreDigitsOf z (get_or text 6 0) (get_or text 7 0) → ReadsFirst text (faultless (w ∷ x ∷ y ∷ z ∷ [])) 8
-dense_read (a ∷ b ∷ c ∷ d ∷ e ∷ f ∷ g ∷ h ∷ next ∷ rest) w x y z long none one two three four = record {
-  some = omega arith;
-  within = omega arith;
-  reads = item_before a b c w _ (x ∷ y ∷ z ∷ []) _ one (digit_is_no_mark c two.0.0) (
-      item_before c d e x _ (y ∷ z ∷ []) _ two (digit_is_no_mark e three.0.0) (
-      item_before e f g y _ (z ∷ []) _ three (digit_is_no_mark g four.0.0) (
-      item_before g h next z rest [] (next ∷ rest) four none (nothing (next ∷ rest)))));
-}
+dense_read (a ∷ b ∷ c ∷ d ∷ e ∷ f ∷ g ∷ h ∷ next ∷ rest) w x y z long none one two three four =
+    search (arith, item_before, digit_is_no_mark, nothing) depth 8
 dense_read _ w x y z long none one two three four = absurd (omega arith)
 
 -- four items with a separator after each
@@ -48,12 +36,6 @@ pub spaced_read : (text : List ℕ) (w x y z : ℕ) → 12 ≤ length text → I
     → IsSeparator (get_or text 8 0) → IsSeparator (get_or text 11 0) → AreDigitsOf w (get_or text 0 0) (get_or text 1 0)
     → AreDigitsOf x (get_or text 3 0) (get_or text 4 0) → AreDigitsOf y (get_or text 6 0) (get_or text 7 0)
     → AreDigitsOf z (get_or text 9 0) (get_or text 10 0) → ReadsFirst text (faultless (w ∷ x ∷ y ∷ z ∷ [])) 12
-spaced_read (a ∷ b ∷ p ∷ c ∷ d ∷ q ∷ e ∷ f ∷ r ∷ g ∷ h ∷ s ∷ rest) w x y z long gap_p gap_q gap_r gap_s one two three four = record {
-  some = omega arith;
-  within = omega arith;
-  reads = spaced_before a b p w _ (x ∷ y ∷ z ∷ []) _ one gap_p (
-      spaced_before c d q x _ (y ∷ z ∷ []) _ two gap_q (
-      spaced_before e f r y _ (z ∷ []) _ three gap_r (
-      spaced_before g h s z rest [] rest four gap_s (nothing rest))));
-}
+spaced_read (a ∷ b ∷ p ∷ c ∷ d ∷ q ∷ e ∷ f ∷ r ∷ g ∷ h ∷ s ∷ rest) w x y z long gap_p gap_q gap_r gap_s one two three four =
+    search (arith, spaced_before, nothing) depth 8
 spaced_read _ w x y z long gap_p gap_q gap_r gap_s one two three four = absurd (omega arith)

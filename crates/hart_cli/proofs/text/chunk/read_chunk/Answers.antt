@@ -6,7 +6,7 @@ use Rattle.hart_cli.proofs.lemmas.text.Items.{read_on, ReadsUpTo-few}
 use Rattle.hart_cli.proofs.text.chunk.read_chunk.Goals as goal
 
 pub loop-len-init : goal.loop-len-init
-loop-len-init c = record { within = omega arith; reads = rw c.requires (nothing c.args.text.now) }
+loop-len-init c = grind (arith, nothing)
 
 pub loop-len-preserved : goal.loop-len-preserved
 loop-len-preserved c = grind (arith, common_steps, length-append, length-drop, map-append, read_on, take_rest)

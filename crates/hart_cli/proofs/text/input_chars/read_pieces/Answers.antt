@@ -1,4 +1,4 @@
-use Rattle.std.proofs.Common.{refl, arith}
+use Rattle.std.proofs.Common.{arith}
 use Rattle.std.proofs.lemmas.Grind.{common_steps}
 use Rattle.std.proofs.lemmas.List.{length-append, length-drop, take_rest}
 use Rattle.hart_cli.specs.text.Items.{nothing}
@@ -6,8 +6,7 @@ use Rattle.hart_cli.proofs.lemmas.text.Items.{read_on, ReadsUpTo-few}
 use Rattle.hart_cli.proofs.text.input_chars.read_pieces.Goals as goal
 
 pub loop-len-init : goal.loop-len-init
-loop-len-init c =
-    record { within = omega arith; reads = rw (c.requires.empty) (nothing c.args.text.now); same_room = refl }
+loop-len-init c = grind (arith, nothing)
 
 pub loop-len-preserved : goal.loop-len-preserved
 loop-len-preserved c = grind (arith, common_steps, length-append, length-drop, read_on, take_rest)

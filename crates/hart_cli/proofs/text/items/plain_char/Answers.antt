@@ -1,4 +1,5 @@
-use Rattle.std.proofs.Common.{◌≡◌, ◌≢◌, ◌≤◌, ℕ, List, ◌∷◌, length, get_or, IfSome, None, Option, Some, refl, arith}
+use Rattle.std.proofs.Common.{◌≡◌, ◌≢◌, ◌≤◌, ℕ, List, length, get_or, drop, IfSome, None, Option, Some, refl, arith}
+use Rattle.std.proofs.lemmas.Grind.{common_steps}
 use Rattle.hart_frame.specs.heard.Character.{Character}
 use Rattle.hart_line.specs.script.Digits.{AreDigitsOf}
 use Rattle.hart_line.specs.script.Items.{Plain}
@@ -10,14 +11,13 @@ begins_as_plain : (text : List ℕ) (byte : ℕ) (char : Option Character) → 3
     → AreDigitsOf byte (get_or text 0 0) (get_or text 1 0) → IfSome char (λ c. c ≡ record { byte = byte; faults = 0 })
     → IfSome char (λ c. BeginsAs text (Some c) 2)
 begins_as_plain text byte None long none digits is = tt
-begins_as_plain (high ∷ low ∷ next ∷ rest) byte (Some char) long none digits is = record {
-  piece = Item (Plain high low);
-  tail = next ∷ rest;
-  begins = record { valid = digits.0; spelled = refl; whole = (λ n. cc n, none) };
+begins_as_plain text byte (Some char) long none digits is = record {
+  piece = Item (Plain (get_or text 0 0) (get_or text 1 0));
+  tail = drop 2 text;
+  begins = grind (arith, common_steps);
   long = refl;
   means = rw (is, digits.1) refl;
 }
-begins_as_plain _ byte (Some char) long none digits is = absurd (omega arith)
 
 pub returns : goal.returns
 returns c =

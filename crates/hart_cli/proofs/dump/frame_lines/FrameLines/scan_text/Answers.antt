@@ -5,8 +5,8 @@ use Rattle.std.specs.Option.{option_to_list}
 use Rattle.hart_cli.specs.dump.FrameLines.{ScansText}
 use Rattle.hart_cli.specs.text.Items.{nothing}
 use Rattle.hart_cli.proofs.dump.frame_lines.FrameLines.scan_text.Goals.{After-scan_chunk}
-use Rattle.hart_cli.proofs.lemmas.dump.FrameLines.{keeps_nothing, length-faultless, text_on, text_room}
-use Rattle.hart_cli.proofs.lemmas.text.Items.{ReadsUpTo-few, begins_reads, few_read}
+use Rattle.hart_cli.proofs.lemmas.dump.FrameLines.{keeps_nothing, text_on, text_room}
+use Rattle.hart_cli.proofs.lemmas.text.Items.{ReadsUpTo-few, begins_reads}
 use Rattle.hart_cli.proofs.dump.frame_lines.FrameLines.scan_text.Goals as goal
 
 pub loop-lead-init : goal.loop-lead-init
@@ -15,9 +15,9 @@ loop-lead-init c =
 
 pub scan_chunk-requires : goal.scan_chunk-requires
 scan_chunk-requires c =
-    let loop = c.loop-lead.invariant in
-    let room = text_room c.args.self.now c.loop-lead.self loop.scans c.requires.waiting c.requires.none_kept c.requires.few in
-    grind (arith, common_steps, ReadsUpTo-few, length-faultless)
+    let scans = c.loop-lead.invariant.scans in
+    let room = text_room c.args.self.now c.loop-lead.self scans c.requires.waiting c.requires.none_kept c.requires.few in
+    grind (arith, common_steps, ReadsUpTo-few)
 
 -- the chunk is scanned
 scanned : (c : After-scan_chunk) → ScansText c.args.self.now c.scan_chunk.new.self c.args.text.now
@@ -34,7 +34,7 @@ pub scan_char-requires : goal.scan_char-requires
 scan_char-requires c =
     let scans = scanned (goal.at.scan_char-requires c).After-scan_chunk in
     let room = text_room c.args.self.now c.scan_chunk.new.self scans c.requires.waiting c.requires.none_kept c.requires.few in
-    grind (arith, common_steps, few_read, begins_reads)
+    grind (arith, common_steps, ReadsUpTo-few, begins_reads)
 
 pub loop-lead-preserved : goal.loop-lead-preserved
 loop-lead-preserved c =
