@@ -1,49 +1,92 @@
 -- Every list of characters has its frames.
-use Rattle.std.proofs.Common.{ap, append_assoc, length-drop, ◌≡◌, ℕ, zero, suc, ◌+◌, ◌≤◌, ◌⊎◌, inl, inr, List, [], ◌∷◌, length, take, drop}
-use Rattle.std.proofs.Common.{◌∙◌, arith, ◌++◌, sym}
+use Rattle.std.proofs.Common.{append_assoc, ◌≡◌, ℕ, zero, suc, ◌+◌, ◌≤◌, ◌⊎◌, inl, inr, List, [], ◌∷◌, length, take, drop}
+use Rattle.std.proofs.Common.{arith, ◌++◌}
 use Rattle.std.proofs.lemmas.Grind.{common_steps}
-use Rattle.std.proofs.lemmas.List.{take-append-drop, length-take-le}
+use Rattle.std.proofs.lemmas.List.{take-append-drop}
+use Rattle.std.proofs.lemmas.List.{drop_at}
+use Rattle.std.proofs.Common.{length-append, refl}
 use Rattle.hart_frame.specs.declared.heard.found.Found.{Found}
-use Rattle.hart_frame.specs.heard.Body.{BeginsWithHeard}
 use Rattle.hart_frame.specs.heard.Character.{Character, faultless, faultless_bytes}
 use Rattle.hart_frame.specs.heard.Frames.{none, first, AreFrames}
+use Rattle.hart_frame.specs.heard.InTheWay.{bytes_from, HasBodyAt}
+use Rattle.hart_frame.specs.heard.Miss.{HasFrameAt, HasFrameUpTo}
+use Rattle.hart_frame.specs.heard.Start.{IsStart}
+use Rattle.hart_frame.specs.wire.Body.{IsBody}
+use Rattle.hart_frame.proofs.lemmas.heard.Body.{head_of}
+use Rattle.hart_frame.proofs.lemmas.heard.Start.{start_test}
 use Rattle.hart_frame.specs.heard.Place.{StandsIn}
 use Rattle.hart_frame.specs.wire.Body.{BeginsWithBody}
 use Rattle.hart_frame.specs.wire.FrameParts.{FrameParts}
 use Rattle.hart_frame.proofs.lemmas.heard.Front.{heard_parts, regrouped, faultless_bytes-append}
-use Rattle.hart_frame.proofs.lemmas.heard.Place.{preamble, StandsIn-at, StandsIn-from, StandsIn-within, HasNoFrame-end}
+use Rattle.hart_frame.proofs.lemmas.heard.Place.{preamble, StandsIn-from, StandsIn-within, HasNoFrame-end}
 use Rattle.hart_frame.proofs.lemmas.wire.BodiesFound.{body_decided}
 use Rattle.hart_frame.proofs.lemmas.wire.UnambiguousBodies.{BeginsWithBody-append}
 
--- characters begin with some body that is heard
-abbrev pub HeardAhead : List Character → Type 0
-HeardAhead chars = (frame : FrameParts) × (len : ℕ) × BeginsWithHeard chars frame len
-
-abbrev pub NothingHeard : List Character → Type 0
-NothingHeard chars = (f : FrameParts) (len : ℕ) → BeginsWithHeard chars f len → ⊥
-
-pub heard_whole : (chars : List Character) (f : FrameParts) (len : ℕ) → BeginsWithBody (faultless_bytes chars) f len
-    → BeginsWithHeard chars f len
-heard_whole chars f len begins =
-    let bytes = faultless_bytes chars in
-    let tail : List Character = drop (length bytes) chars in
+-- a body that the bytes from a place on begin with stands there
+pub body_at : (chars : List Character) (place : ℕ) (f : FrameParts) (len : ℕ) → BeginsWithBody (bytes_from chars place) f len
+    → HasBodyAt chars place
+body_at chars place f len begins =
+    let bytes = bytes_from chars place in
+    let tail : List Character = drop (length bytes) (drop place chars) in
     record {
+      frame = f;
       body = take len bytes;
       rest = faultless (drop len bytes) ++ tail;
-      split = grind (arith, heard_parts chars, take-append-drop len bytes, regrouped (take len bytes) (drop len bytes) tail);
       is_body = begins.body;
-      whole = sym (length-take-le len bytes begins.within);
+      parts = grind (arith, heard_parts, take-append-drop len bytes, regrouped (take len bytes) (drop len bytes) tail);
     }
 
-heard_bytes : (chars : List Character) (f : FrameParts) (len : ℕ) → BeginsWithHeard chars f len
-    → BeginsWithBody (faultless_bytes chars) f len
-heard_bytes chars f len heard = grind (arith, common_steps, faultless_bytes-append, BeginsWithBody-append)
+-- and the other way round
+pub begins_at : (chars : List Character) (place : ℕ) (has : HasBodyAt chars place)
+    → BeginsWithBody (bytes_from chars place) has.frame (length has.body)
+begins_at chars place has = grind (arith, faultless_bytes-append, BeginsWithBody-append has.frame has.body (faultless_bytes has.rest))
 
-heard_decided : (chars : List Character) → HeardAhead chars ⊎ NothingHeard chars
-heard_decided chars = elim (body_decided (faultless_bytes chars)) [
-  | inr nothing ↦ inr (λ f len heard. nothing f len (heard_bytes chars f len heard))
-  | inl (f, len, begins) ↦ inl (f, len, heard_whole chars f len begins)
-]
+-- a frame stands where its body stands after two preamble bytes
+pub frame_up_to : (chars prefix rest : List Character) (body : List ℕ) (f : FrameParts) (place stop : ℕ) → IsBody f body
+    → chars ≡ prefix ++ faultless (255 ∷ 255 ∷ body) ++ rest → place ≡ length prefix + 2 → stop ≡ place + length body
+    → HasFrameUpTo chars place stop
+frame_up_to chars prefix rest body f place stop is split at to =
+    let found : Found = record { start = place; stop = stop; frame = f } in
+    let stands : StandsIn found chars 0 = grind (arith, common_steps) in grind (arith, common_steps)
+
+-- two preamble bytes right before a start
+pub record Starts (chars : List Character) (start : ℕ) : Type 0 where
+  pub prefix : List Character
+  pub at : start ≡ length prefix + 2
+  pub split : chars ≡ prefix ++ (preamble ∷ preamble ∷ drop start chars)
+
+pub starts : (chars : List Character) (start : ℕ) → IsStart start chars → Starts chars start
+starts chars start is = grind (arith, common_steps, preamble, length-append, drop_at, append_assoc)
+
+-- a body where one may start is that of a frame
+pub body_frame : (chars : List Character) (start : ℕ) → IsStart start chars → HasBodyAt chars start → HasFrameAt chars start
+body_frame chars start is has =
+    let at = starts chars start is in
+    let split : chars ≡ at.prefix ++ faultless (255 ∷ 255 ∷ has.body) ++ has.rest = grind (arith, common_steps, preamble, append_assoc) in
+    let found = frame_up_to chars at.prefix has.rest has.body has.frame start (start + length has.body) has.is_body split at.at refl in
+    (found.0, found.1, found.2)
+
+-- and a frame stands where a body may start and its own stands
+pub parts_of : (chars : List Character) (found : Found) (from : ℕ) (stands : StandsIn found chars from)
+    → (chars ≡ (stands.prefix ++ (preamble ∷ preamble ∷ [])) ++ (faultless stands.body ++ stands.rest))
+    × (drop found.start chars ≡ faultless stands.body ++ stands.rest)
+parts_of chars found from stands =
+    let split : chars ≡ (stands.prefix ++ (preamble ∷ preamble ∷ [])) ++ (faultless stands.body ++ stands.rest) =
+    grind (arith, common_steps, append_assoc, preamble) in (split, grind (arith, common_steps, drop_at, length-append, preamble))
+
+abbrev pub body_of : (chars : List Character) (found : Found) (from : ℕ) → StandsIn found chars from → HasBodyAt chars found.start
+body_of chars found from stands = record {
+  frame = found.frame;
+  body = stands.body;
+  rest = stands.rest;
+  is_body = stands.is_body;
+  parts = (parts_of chars found from stands).1;
+}
+
+pub start_of : (chars : List Character) (found : Found) (from : ℕ) → StandsIn found chars from → IsStart found.start chars
+start_of chars found from stands =
+    let (others, begins, low) = head_of found.frame stands.body stands.is_body in
+    let parts = parts_of chars found from stands in grind (arith, common_steps, append_assoc, preamble)
 
 -- a frame stands right at a place
 abbrev pub Here : List Character → ℕ → Type 0
@@ -52,45 +95,21 @@ Here chars place = (found : Found) × StandsIn found chars place × (found.start
 abbrev pub NothingHere : List Character → ℕ → Type 0
 NothingHere chars place = (found : Found) → StandsIn found chars place → found.start ≡ place + 2 → ⊥
 
--- what is heard after two preamble bytes stands there
-here_heard : (chars rest : List Character) (place : ℕ) → drop place chars ≡ preamble ∷ preamble ∷ rest → HeardAhead rest
-    → Here chars place
-here_heard chars rest place is (f, len, heard) =
-    let found : Found = record { start = place + 2; stop = place + 2 + len; frame = f } in
-    let stands : StandsIn found chars place =
-    grind (
-      arith,
-      take-append-drop place chars,
-      length-take-le place chars,
-      length-drop place chars,
-      append_assoc (take place chars) (faultless (255 ∷ 255 ∷ heard.body)) heard.rest,
-    ) in grind (arith, common_steps)
-
--- whether two characters are faultless preamble bytes
-two_decided : (x y : Character) → ((x ≡ preamble) × (y ≡ preamble)) ⊎ ((x ≡ preamble) × (y ≡ preamble) → ⊥)
-two_decided x y = grind arith
-
--- whether a list begins with two
-begins_decided : (tail : List Character) → ((rest : List Character) × (tail ≡ preamble ∷ preamble ∷ rest))
-    ⊎ ((rest : List Character) → tail ≡ preamble ∷ preamble ∷ rest → ⊥)
-begins_decided [] = inr (λ rest same. cc)
-begins_decided (x ∷ []) = inr (λ rest same. cc)
-begins_decided (x ∷ y ∷ rest) = elim (two_decided x y) [
-  | inl two ↦ inl (rest, grind arith)
-  | inr other ↦ inr (λ more same. other (cc, cc))
-]
-
 -- whether a frame stands right at a place
 here_decided : (chars : List Character) (place : ℕ) → Here chars place ⊎ NothingHere chars place
-here_decided chars place = elim (begins_decided (drop place chars)) [
-  | inr other ↦ inr (λ found stands start. other _ (StandsIn-at chars place place found stands start))
-  | inl (rest, is) ↦ elim (heard_decided rest) [
-    | inl ahead ↦ inl (here_heard chars rest place is ahead)
-    | inr nothing ↦ inr (λ found stands start.
-        let heard : rest ≡ faultless stands.body ++ stands.rest = ap (drop 2) (sym is ∙ StandsIn-at chars place place found stands start) in
-        nothing found.frame (length stands.body) (grind arith))
-  ]
-]
+here_decided chars place =
+    let starts : IsStart (place + 2) chars ⊎ (IsStart (place + 2) chars → ⊥) = grind (arith, start_test chars (place + 2)) in
+    elim starts [
+      | inr other ↦ inr (λ found stands start. other (rw start at (start_of chars found place stands)))
+      | inl is ↦ elim (body_decided (bytes_from chars (place + 2))) [
+        | inl (f, len, begins) ↦
+            let (found, stands, start) = body_frame chars (place + 2) is (body_at chars (place + 2) f len begins) in
+            inl (found, StandsIn-from found chars 0 place stands (omega (arith, start)), start)
+        | inr nothing ↦ inr (λ found stands start.
+            let has = rw start at (body_of chars found place stands) in
+            nothing has.frame (length has.body) (begins_at chars (place + 2) has))
+      ]
+    ]
 
 -- the frames from a place on are those from an earlier one on, if each that stands from there on stands from that place on
 pub AreFrames-earlier : (chars : List Character) (from to : ℕ) (frames : List Found) → from ≤ to

@@ -4,26 +4,24 @@ use Rattle.std.proofs.Common.{drop, get_or, set, true, Some, refl, ap, ◌∙◌
 use Rattle.std.proofs.lemmas.List.{take_at}
 use Rattle.std.proofs.lemmas.Bool.Decides.{nat_tests}
 use Rattle.std.proofs.lemmas.Grind.{common_steps}
-use Rattle.std.proofs.lemmas.List.{append-nil, drop_at, drop_more, get_or-set_same, length-take-le, map-append}
+use Rattle.std.proofs.lemmas.List.{append-nil, drop_more, get_or-set_same, length-take-le, map-append}
 use Rattle.std.proofs.lemmas.List.{set_at, take-append-drop, take_more}
 use Rattle.std.proofs.lemmas.List.Elements.{All-append, All-drop, All-take}
 use Rattle.std.proofs.lemmas.Option.{get_or_from_slice_get, slice_get_within}
 use Rattle.std.specs.List.{All, insert, slice_get}
 use Rattle.std.specs.Option.{IsSome, is_some}
-use Rattle.hart_frame.specs.declared.heard.found.Found.{Found}
 use Rattle.hart_frame.specs.declared.heard.miss.Miss.TheVariants.{BadCheck, Faulty, Missing, OnePreamble}
 use Rattle.hart_frame.specs.heard.Character.{Character, faultless, faultless_bytes}
 use Rattle.hart_frame.specs.heard.InTheWay.{bytes_from, FollowsOnePreamble, HasBodyAt}
 use Rattle.hart_frame.specs.heard.Miss.{HasFrameAt, HasFrameUpTo, body_miss, check_byte_in, fitting_check_byte, follows_one_preamble}
 use Rattle.hart_frame.specs.heard.Miss.{miss_of, is_start}
-use Rattle.hart_frame.specs.heard.Place.{StandsIn}
 use Rattle.hart_frame.specs.heard.Start.{IsStart}
 use Rattle.hart_frame.specs.wire.Body.{IsBody, BeginsWithBody}
 use Rattle.hart_frame.specs.wire.FrameParts.{FrameParts}
 use Rattle.hart_frame.specs.wire.Layout.{body_length}
 use Rattle.hart_frame.specs.wire.Parity.{IsCheckByte}
 use Rattle.hart_frame.specs.wire.Refusal.{HasCheckByte}
-use Rattle.hart_frame.proofs.lemmas.heard.FramesFound.{heard_whole}
+use Rattle.hart_frame.proofs.lemmas.heard.FramesFound.{body_at, body_frame, frame_up_to, starts}
 use Rattle.hart_frame.proofs.lemmas.heard.Front.{after_faultless, faultless_fit, length-faultless_bytes, nothing_follows, take_heard}
 use Rattle.hart_frame.proofs.lemmas.heard.InTheWay.{way_of, rest_at, fits-is, nothing_at_end}
 use Rattle.hart_frame.proofs.lemmas.heard.Missed.{miss_of-some, miss_of-start}
@@ -32,23 +30,6 @@ use Rattle.hart_frame.proofs.lemmas.heard.Place.{preamble}
 use Rattle.hart_frame.proofs.lemmas.wire.Parity.{IsCheckByte-fold}
 use Rattle.hart_frame.proofs.lemmas.wire.Prefix.{HasGoodByteCount-more, length_more}
 use Rattle.hart_frame.proofs.lemmas.wire.Truncated.{fits_at, fitted}
-
--- a frame stands where its body stands after two preamble bytes
-pub frame_up_to : (chars prefix rest : List Character) (body : List ℕ) (f : FrameParts) (place stop : ℕ) → IsBody f body
-    → chars ≡ prefix ++ faultless (255 ∷ 255 ∷ body) ++ rest → place ≡ length prefix + 2 → stop ≡ place + length body
-    → HasFrameUpTo chars place stop
-frame_up_to chars prefix rest body f place stop is split at to =
-    let found : Found = record { start = place; stop = stop; frame = f } in
-    let stands : StandsIn found chars 0 = grind (arith, common_steps) in grind (arith, common_steps)
-
--- two preamble bytes right before a start
-pub record Starts (chars : List Character) (start : ℕ) : Type 0 where
-  pub prefix : List Character
-  pub at : start ≡ length prefix + 2
-  pub split : chars ≡ prefix ++ (preamble ∷ preamble ∷ drop start chars)
-
-pub starts : (chars : List Character) (start : ℕ) → IsStart start chars → Starts chars start
-starts chars start is = grind (arith, common_steps, preamble, length-append, drop_at, append_assoc)
 
 -- bytes up to a check byte that fits are a body
 abbrev pub WholeBody : List ℕ → Type 0
@@ -69,8 +50,7 @@ heard_body chars start fits has same =
     let (frame, body) = whole_body bytes fits has in
     let begin : take n bytes ≡ take (n - 1) bytes ++ fitting_check_byte bytes ∷ [] = grind (arith, common_steps, take_more) in
     let begins : BeginsWithBody bytes frame n = grind arith in
-    let heard = heard_whole (drop start chars) frame n begins in
-    record { frame = frame; body = heard.body; rest = heard.rest; is_body = heard.is_body; parts = heard.split }
+    body_at chars start frame n begins
 
 -- at a place a body begins, or something of it is missed
 body_or_miss : (chars : List Character) (start : ℕ) → All (λ c. c.byte < 256) chars
@@ -81,14 +61,6 @@ body_or_miss chars start fit =
 
 pub never_one_preamble : (start : ℕ) (heard : List Character) → body_miss start heard ≡ Some OnePreamble → ⊥
 never_one_preamble start heard miss = grind (arith, nat_tests)
-
--- a body where one may start is that of a frame
-body_frame : (chars : List Character) (start : ℕ) → IsStart start chars → HasBodyAt chars start → HasFrameAt chars start
-body_frame chars start is has =
-    let at = starts chars start is in
-    let split : chars ≡ at.prefix ++ faultless (255 ∷ 255 ∷ has.body) ++ has.rest = grind (arith, common_steps, preamble, append_assoc) in
-    let found = frame_up_to chars at.prefix has.rest has.body has.frame start (start + length has.body) has.is_body split at.at refl in
-    (found.0, found.1, found.2)
 
 pub frame_or_miss : (place : ℕ) (chars : List Character) → All (λ c. c.byte < 256) chars → IsStart place chars
     → HasFrameAt chars place ⊎ IsSome (miss_of chars place)

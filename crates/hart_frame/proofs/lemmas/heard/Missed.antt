@@ -7,26 +7,23 @@ use Rattle.std.specs.List.{All}
 use Rattle.hart_frame.specs.wire.Parity.{HasEvenParity}
 use Rattle.std.proofs.lemmas.Bool.Decides.{nat_tests}
 use Rattle.std.proofs.lemmas.Grind.{common_steps}
-use Rattle.std.proofs.lemmas.List.{get_or_append_left, get_or_past, drop_at, get_or_at, get_or-take, length-take-le, take-append-drop}
+use Rattle.std.proofs.lemmas.List.{get_or_append_left, get_or_past, get_or_at, get_or-take, length-take-le, take-append-drop}
 use Rattle.std.specs.Option.{is_some}
 use Rattle.hart_frame.specs.declared.heard.miss.Miss.{Miss}
 use Rattle.hart_frame.specs.declared.heard.miss.Miss.TheVariants.{OnePreamble}
-use Rattle.hart_frame.specs.heard.Character.{Character, faultless, faultless_bytes}
+use Rattle.hart_frame.specs.heard.Character.{Character, faultless_bytes}
 use Rattle.hart_frame.specs.heard.InTheWay.{FollowsOnePreamble, HasBodyAt}
 use Rattle.hart_frame.specs.heard.Miss.{HasFrameAt, body_miss, check_byte_in, fitting_check_byte, miss_of, follows_one_preamble}
 use Rattle.hart_frame.specs.heard.Miss.{follows_preamble, is_start}
 use Rattle.hart_frame.specs.heard.Start.{IsStart}
-use Rattle.hart_frame.specs.wire.Body.{BeginsWithBody}
 use Rattle.hart_frame.specs.wire.Layout.{body_length, byte_count_place}
 use Rattle.hart_frame.specs.wire.Refusal.{HasCheckByte, HasGoodByteCount}
-use Rattle.hart_frame.proofs.lemmas.heard.Front.{faultless_bytes-append}
-use Rattle.hart_frame.proofs.lemmas.heard.Body.{head_of}
+use Rattle.hart_frame.proofs.lemmas.heard.FramesFound.{begins_at, body_of, start_of}
 use Rattle.hart_frame.proofs.lemmas.heard.Place.{preamble}
 use Rattle.hart_frame.proofs.lemmas.heard.Start.{start_test, tested}
 use Rattle.hart_frame.proofs.lemmas.wire.Parity.{even-is}
 use Rattle.hart_frame.proofs.lemmas.wire.Refusal.{has_check, says}
 use Rattle.hart_frame.proofs.lemmas.wire.Truncated.{fits_at}
-use Rattle.hart_frame.proofs.lemmas.wire.UnambiguousBodies.{BeginsWithBody-append}
 
 -- what the miss of a place is where a body may start
 pub miss_of-start : (chars heard : List Character) (start : ℕ) → heard ≡ drop start chars → IsStart start chars
@@ -84,8 +81,7 @@ odd bytes fit has differ even =
 pub none_of : (chars : List Character) (start : ℕ) → HasBodyAt chars start → body_miss start (drop start chars) ≡ None
 none_of chars start has =
     let bytes = faultless_bytes (drop start chars) in
-    let begins : BeginsWithBody bytes has.frame (length has.body) =
-    grind (arith, faultless_bytes-append, BeginsWithBody-append has.frame has.body (faultless_bytes has.rest)) in
+    let begins = begins_at chars start has in
     let whole = (says bytes has.frame (length has.body) begins).whole in
     let check = has_check bytes has.frame (length has.body) begins in
     let even = rw whole at begins.body.parity in
@@ -94,12 +90,8 @@ none_of chars start has =
 -- where a frame stands there is no miss
 pub no_miss : (place : ℕ) (chars : List Character) → HasFrameAt chars place → miss_of chars place ≡ None
 no_miss place chars (found, stands, at) =
-    let body = stands.body in
-    let head = head_of found.frame body stands.is_body in
-    let front : List Character = stands.prefix ++ (preamble ∷ preamble ∷ []) in
-    let after : List Character = faultless body ++ stands.rest in
-    let split : chars ≡ front ++ after = grind (arith, common_steps, append_assoc, preamble) in
-    grind (arith, common_steps, drop_at, length-append, miss_of-start, none_of)
+    let none = none_of chars found.start (body_of chars found 0 stands) in
+    grind (arith, miss_of-start chars (drop found.start chars) found.start refl (start_of chars found 0 stands))
 
 -- what is said up to the check byte is said by the bytes before it
 pub good_prefix : (bytes : List ℕ) (n : ℕ) → HasCheckByte bytes → byte_count_place bytes < n → n ≤ length bytes

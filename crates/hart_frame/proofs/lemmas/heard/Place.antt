@@ -1,9 +1,7 @@
 -- Where a frame stands, and where the body begins that is heard there.
-use Rattle.std.proofs.Common.{◌≡◌, ℕ, ◌+◌, ◌-◌, ◌<◌, ◌≤◌, List, ◌∷◌, ◌++◌, length, take, drop, arith, append_assoc, length-append}
-use Rattle.std.proofs.lemmas.Grind.{common_steps}
-use Rattle.std.proofs.lemmas.List.{take_rest, drop_at, length-map}
+use Rattle.std.proofs.Common.{◌≡◌, ℕ, ◌+◌, ◌<◌, ◌≤◌, List, ◌∷◌, ◌++◌, length, drop, arith, append_assoc, length-append}
+use Rattle.std.proofs.lemmas.List.{drop_at, length-map}
 use Rattle.hart_frame.specs.declared.heard.found.Found.{Found}
-use Rattle.hart_frame.specs.heard.Body.{BeginsWithHeard}
 use Rattle.hart_frame.specs.heard.Character.{Character, faultless}
 use Rattle.hart_frame.specs.heard.Frames.{HasNoFrame}
 use Rattle.hart_frame.specs.heard.Place.{StandsIn}
@@ -16,12 +14,6 @@ preamble = record { byte = 255; faults = 0 }
 pub StandsIn-at : (chars : List Character) (place from : ℕ) (found : Found) (stands : StandsIn found chars from)
     → found.start ≡ place + 2 → drop place chars ≡ faultless (255 ∷ 255 ∷ stands.body) ++ stands.rest
 StandsIn-at chars place from found stands start = grind (arith, append_assoc, drop_at)
-
--- and is heard there
-pub StandsIn-hears : (chars tail : List Character) (place from : ℕ) (found : Found) (stands : StandsIn found chars from)
-    → found.start ≡ place + 2 → tail ≡ drop place chars
-    → BeginsWithHeard (take (length tail - 2) (drop 2 tail)) found.frame (length stands.body)
-StandsIn-hears chars tail place from found stands start is = grind (arith, common_steps, take_rest, StandsIn-at)
 
 -- what stands after a place stands in the list from that place on
 pub StandsIn-from : (found : Found) (chars : List Character) (place from : ℕ) → StandsIn found chars place → from + 2 ≤ found.start

@@ -1,14 +1,13 @@
 -- A list of characters has one first frame at most from a place on, and one list of frames.
-use Rattle.std.proofs.Common.{◌≡◌, ℕ, ◌-◌, List, length, take, drop, refl, sym, ◌∙◌, arith}
+use Rattle.std.proofs.Common.{◌≡◌, ℕ, List, length, refl, arith}
 use Rattle.hart_frame.specs.declared.heard.found.Found.{Found}
-use Rattle.hart_frame.specs.heard.Body.{bytes_of}
 use Rattle.hart_frame.specs.heard.Character.{Character}
 use Rattle.hart_frame.specs.heard.Frames.{IsFirst, AreFrames, none, first}
 use Rattle.hart_frame.specs.heard.Place.{StandsIn}
 use Rattle.hart_frame.specs.wire.Body.{BeginsWithBody}
 use Rattle.hart_frame.specs.wire.FrameParts.{FrameParts}
-use Rattle.hart_frame.proofs.lemmas.heard.Body.{BeginsWithBody-heard}
-use Rattle.hart_frame.proofs.lemmas.heard.Place.{StandsIn-hears}
+use Rattle.hart_frame.specs.heard.InTheWay.{bytes_from}
+use Rattle.hart_frame.proofs.lemmas.heard.FramesFound.{begins_at, body_of}
 
 -- at most one prefix of a list of bytes is a body
 abbrev pub OnePrefix : Type 0
@@ -18,13 +17,8 @@ OnePrefix = (f g : FrameParts) (bytes : List ℕ) (m n : ℕ) → BeginsWithBody
 StandsIn-one : OnePrefix → (f g : Found) (chars : List Character) (m n : ℕ) → StandsIn f chars m → StandsIn g chars n
     → f.start ≡ g.start → f ≡ g
 StandsIn-one law f g chars m n p q starts =
-    let place = length p.prefix in
-    let tail : List Character = drop place chars in
-    let heard = StandsIn-hears chars tail place m f p p.start refl in
-    let also = StandsIn-hears chars tail place n g q (sym starts ∙ p.start) refl in
-    let after : List Character = take (length tail - 2) (drop 2 tail) in
-    let same = law f.frame g.frame (bytes_of after) (length p.body) (length q.body)
-    (BeginsWithBody-heard after f.frame (length p.body) heard) (BeginsWithBody-heard after g.frame (length q.body) also) in
+    let same = law f.frame g.frame (bytes_from chars f.start) (length p.body) (length q.body) (begins_at chars f.start (body_of chars f m p))
+    (rw starts (begins_at chars g.start (body_of chars g n q))) in
     grind arith
 
 pub IsFirst-one : OnePrefix → (f g : Found) (chars : List Character) (from : ℕ) → IsFirst f chars from → IsFirst g chars from → f ≡ g
