@@ -1,24 +1,21 @@
 -- Every list of characters has its frames.
-use Rattle.std.proofs.Common.{append_assoc, ◌≡◌, ℕ, zero, suc, ◌+◌, ◌≤◌, ◌⊎◌, inl, inr, List, [], ◌∷◌, length, take, drop}
-use Rattle.std.proofs.Common.{arith, ◌++◌}
-use Rattle.std.proofs.lemmas.Grind.{common_steps}
-use Rattle.std.proofs.lemmas.List.{take-append-drop}
-use Rattle.std.proofs.lemmas.List.{drop_at}
+use Rattle.std.proofs.Common.{append_assoc, ◌≡◌, ℕ, zero, suc, ◌+◌, ◌≤◌, ◌⊎◌, inl, inr, List, [], ◌∷◌, length, take, drop, arith, ◌++◌}
 use Rattle.std.proofs.Common.{length-append, refl}
+use Rattle.std.proofs.lemmas.Grind.{common_steps}
+use Rattle.std.proofs.lemmas.List.{take-append-drop, drop_at}
 use Rattle.hart_frame.specs.declared.heard.found.Found.{Found}
 use Rattle.hart_frame.specs.heard.Character.{Character, faultless, faultless_bytes}
 use Rattle.hart_frame.specs.heard.Frames.{none, first, AreFrames}
 use Rattle.hart_frame.specs.heard.InTheWay.{bytes_from, HasBodyAt}
 use Rattle.hart_frame.specs.heard.Miss.{HasFrameAt, HasFrameUpTo}
-use Rattle.hart_frame.specs.heard.Start.{IsStart}
-use Rattle.hart_frame.specs.wire.Body.{IsBody}
-use Rattle.hart_frame.proofs.lemmas.heard.Body.{head_of}
-use Rattle.hart_frame.proofs.lemmas.heard.Start.{start_test}
 use Rattle.hart_frame.specs.heard.Place.{StandsIn}
-use Rattle.hart_frame.specs.wire.Body.{BeginsWithBody}
+use Rattle.hart_frame.specs.heard.Start.{IsStart}
+use Rattle.hart_frame.specs.wire.Body.{IsBody, BeginsWithBody}
 use Rattle.hart_frame.specs.wire.FrameParts.{FrameParts}
+use Rattle.hart_frame.proofs.lemmas.heard.Body.{head_of}
 use Rattle.hart_frame.proofs.lemmas.heard.Front.{heard_parts, regrouped, faultless_bytes-append}
 use Rattle.hart_frame.proofs.lemmas.heard.Place.{preamble, StandsIn-from, StandsIn-within, HasNoFrame-end}
+use Rattle.hart_frame.proofs.lemmas.heard.Start.{start_test}
 use Rattle.hart_frame.proofs.lemmas.wire.BodiesFound.{body_decided}
 use Rattle.hart_frame.proofs.lemmas.wire.UnambiguousBodies.{BeginsWithBody-append}
 
@@ -88,26 +85,16 @@ start_of chars found from stands =
     let (others, begins, low) = head_of found.frame stands.body stands.is_body in
     let parts = parts_of chars found from stands in grind (arith, common_steps, append_assoc, preamble)
 
--- a frame stands right at a place
-abbrev pub Here : List Character → ℕ → Type 0
-Here chars place = (found : Found) × StandsIn found chars place × (found.start ≡ place + 2)
-
-abbrev pub NothingHere : List Character → ℕ → Type 0
-NothingHere chars place = (found : Found) → StandsIn found chars place → found.start ≡ place + 2 → ⊥
-
--- whether a frame stands right at a place
-here_decided : (chars : List Character) (place : ℕ) → Here chars place ⊎ NothingHere chars place
-here_decided chars place =
-    let starts : IsStart (place + 2) chars ⊎ (IsStart (place + 2) chars → ⊥) = grind (arith, start_test chars (place + 2)) in
+-- whether a frame starts at a place
+frame_decided : (chars : List Character) (start : ℕ) → HasFrameAt chars start ⊎ (HasFrameAt chars start → ⊥)
+frame_decided chars start =
+    let starts : IsStart start chars ⊎ (IsStart start chars → ⊥) = grind (arith, start_test chars start) in
     elim starts [
-      | inr other ↦ inr (λ found stands start. other (rw start at (start_of chars found place stands)))
-      | inl is ↦ elim (body_decided (bytes_from chars (place + 2))) [
-        | inl (f, len, begins) ↦
-            let (found, stands, start) = body_frame chars (place + 2) is (body_at chars (place + 2) f len begins) in
-            inl (found, StandsIn-from found chars 0 place stands (omega (arith, start)), start)
-        | inr nothing ↦ inr (λ found stands start.
-            let has = rw start at (body_of chars found place stands) in
-            nothing has.frame (length has.body) (begins_at chars (place + 2) has))
+      | inr other ↦ inr (λ (found, stands, is). other (rw is at (start_of chars found 0 stands)))
+      | inl here ↦ elim (body_decided (bytes_from chars start)) [
+        | inl (f, len, begins) ↦ inl (body_frame chars start here (body_at chars start f len begins))
+        | inr nothing ↦ inr (λ (found, stands, is).
+            let has = rw is at (body_of chars found 0 stands) in nothing has.frame (length has.body) (begins_at chars start has))
       ]
     ]
 
@@ -124,15 +111,18 @@ AreFrames-earlier chars from to frames before skip (first n found later is rest)
 
 frames_found : (chars : List Character) (fuel from : ℕ) → length chars ≤ from + fuel → (frames : List Found) × AreFrames chars from frames
 frames_found chars zero from enough = ([], AreFrames.none from (HasNoFrame-end chars from (omega (arith, enough))))
-frames_found chars (suc fuel) from enough = elim (here_decided chars from) [
-  | inl (found, stands, start) ↦
+frames_found chars (suc fuel) from enough = elim (frame_decided chars (from + 2)) [
+  | inl (found, low, start) ↦
+      let stands = StandsIn-from found chars 0 from low (omega (arith, start)) in
       let later = frames_found chars fuel found.stop (grind (arith, StandsIn-within)) in
       (found ∷ later.0, AreFrames.first from found later.0 (grind (arith, StandsIn-within)) later.1)
   | inr nothing ↦
       let later = frames_found chars fuel (from + 1) (omega (arith, enough)) in (
         later.0,
-        AreFrames-earlier chars from (from + 1) later.0 (omega arith)
-            (λ found stands. grind (arith, StandsIn-within, StandsIn-from)) later.1,
+        AreFrames-earlier chars from (from + 1) later.0 (omega arith) (λ found stands.
+            let low = StandsIn-from found chars from 0 stands (omega (arith, stands.start)) in
+            let other : found.start ≡ from + 2 → ⊥ = λ same. nothing (found, low, same) in
+            grind (arith, StandsIn-within, StandsIn-from)) later.1,
       )
 ]
 

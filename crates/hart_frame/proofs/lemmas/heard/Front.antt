@@ -1,13 +1,12 @@
 -- The bytes up to the first character with fault bits.
-use Rattle.std.proofs.Common.{◌≡◌, ◌≢◌, ℕ, zero, suc, not, ◌+◌, ◌<◌, ◌≤◌, List, [], ◌∷◌, ◌++◌, length, take, drop, get_or, min, None, Some}
+use Rattle.std.proofs.Common.{◌≡◌, ◌≢◌, ℕ, zero, suc, not, ◌+◌, ◌<◌, ◌≤◌, List, [], ◌∷◌, ◌++◌, length, take, drop, get_or, min, Some}
 use Rattle.std.proofs.Common.{refl, arith, append_assoc, length-append, ◌==◌}
 use Rattle.std.proofs.lemmas.Bool.Decides.{nat_tests}
 use Rattle.std.proofs.lemmas.Grind.{common_steps}
-use Rattle.std.proofs.lemmas.List.{get_or_append_left, get_or-map, append-nil, drop_more, drop_all, get_or-take, length-map, length-take}
+use Rattle.std.proofs.lemmas.List.{get_or_append_left, get_or-map, append-nil, drop_more, drop_all, length-map, length-take}
 use Rattle.std.proofs.lemmas.List.{map-append, take_at, take_all, take_min, take-append-le, take-map}
 use Rattle.std.proofs.lemmas.List.Elements.{All-from_get_or, All-map, All-tail}
 use Rattle.std.proofs.lemmas.List.Sums.{take_while-cons}
-use Rattle.std.proofs.lemmas.Option.{none-some, slice_get-get_or}
 use Rattle.std.specs.List.{All, position_or_len, slice_get}
 use Rattle.hart_frame.specs.heard.Body.{bytes_of}
 use Rattle.hart_frame.specs.heard.Character.{Character, faultless, faultless_bytes}
@@ -31,16 +30,6 @@ pub faultless_bytes-append : (body : List ℕ) (rest : List Character)
 faultless_bytes-append [] rest = refl
 faultless_bytes-append (byte ∷ bytes) rest = grind (arith, common_steps, faultless_bytes-more, faultless_bytes-append bytes rest)
 
--- a character of the first so many of a list
-pub record Within (heard : List Character) (count most : ℕ) (c : Character) : Type 0 where
-  pub within : count < length heard
-  pub few : count < most
-  pub is : c ≡ get_or heard count c
-
-pub within : (heard : List Character) (count most : ℕ) (c : Character) → count < length (take most heard)
-    → c ≡ get_or (take most heard) count c → Within heard count most c
-within heard count most c below is = grind (arith, length-take, get_or-take)
-
 -- the bytes of so many first characters, which are faultless
 pub record Front (heard : List Character) (count : ℕ) (bytes : List ℕ) : Type 0 where
   pub whole : faultless_bytes heard ≡ bytes ++ faultless_bytes (drop count heard)
@@ -54,7 +43,7 @@ Front-more heard count bytes c within is good front =
 pub Front-end : (heard : List Character) (count most : ℕ) (bytes : List ℕ) (c : Character) → count < length heard → count < most
     → c ≡ get_or heard count c → c.faults ≢ 0 → Front heard count bytes → bytes ≡ take most (faultless_bytes heard)
 Front-end heard count most bytes c within few is bad front =
-    grind (arith, common_steps, drop_more, within, faultless_bytes-end, append-nil, take_all)
+    grind (arith, common_steps, drop_more, faultless_bytes-end, append-nil, take_all)
 
 pub Front-all : (heard : List Character) (count most : ℕ) (bytes : List ℕ) → count ≡ min (length heard) most → Front heard count bytes
     → bytes ≡ take most (faultless_bytes heard)
@@ -71,14 +60,6 @@ pub after_faultless : (heard : List Character) (c : Character) → slice_get hea
     → c.faults ≢ 0
 after_faultless [] c is = absurd cc
 after_faultless (x ∷ xs) c is = grind (arith, faultless_bytes-more x xs, faultless_bytes-end x xs, after_faultless xs c)
-
--- if no character follows the faultless bytes, they are all
-pub nothing_follows : (heard : List Character) → slice_get heard (length (faultless_bytes heard)) ≡ None
-    → heard ≡ faultless (faultless_bytes heard)
-nothing_follows heard none =
-    let end : length heard ≤ length (faultless_bytes heard) =
-    grind (arith, none-some, slice_get-get_or heard (length (faultless_bytes heard)) preamble) in
-    grind (arith, drop_all, append-nil, heard_parts heard)
 
 -- the characters of the first faultless bytes
 pub take_heard : (heard : List Character) (n : ℕ) → n ≤ length (faultless_bytes heard)

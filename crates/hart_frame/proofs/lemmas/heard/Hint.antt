@@ -1,10 +1,9 @@
 -- What a miss names is what stands in the way of a frame.
-use Rattle.std.proofs.Common.{◌≡◌, ◌≢◌, ℕ, fold, bit_xor, ◌+◌, ◌-◌, ◌<◌, ◌⊎◌, inl, inr, List, [], ◌∷◌, ◌++◌, length, take}
-use Rattle.std.proofs.Common.{drop, get_or, set, true, Some, refl, ap, ◌∙◌, arith, append_assoc, length-append, ◌↔◌}
-use Rattle.std.proofs.lemmas.List.{take_at}
+use Rattle.std.proofs.Common.{◌≡◌, ◌≢◌, ℕ, fold, bit_xor, ◌+◌, ◌-◌, ◌<◌, ◌⊎◌, inl, inr, List, [], ◌∷◌, ◌++◌, length, take, drop, get_or}
+use Rattle.std.proofs.Common.{set, true, Some, refl, ap, ◌∙◌, arith, append_assoc, length-append, ◌↔◌}
 use Rattle.std.proofs.lemmas.Bool.Decides.{nat_tests}
 use Rattle.std.proofs.lemmas.Grind.{common_steps}
-use Rattle.std.proofs.lemmas.List.{append-nil, drop_more, get_or-set_same, length-take-le, map-append}
+use Rattle.std.proofs.lemmas.List.{drop_all, length-drop, take_at, append-nil, drop_more, get_or-set_same, length-take-le, map-append}
 use Rattle.std.proofs.lemmas.List.{set_at, take-append-drop, take_more}
 use Rattle.std.proofs.lemmas.List.Elements.{All-append, All-drop, All-take}
 use Rattle.std.proofs.lemmas.Option.{get_or_from_slice_get, slice_get_within}
@@ -22,20 +21,17 @@ use Rattle.hart_frame.specs.wire.Layout.{body_length}
 use Rattle.hart_frame.specs.wire.Parity.{IsCheckByte}
 use Rattle.hart_frame.specs.wire.Refusal.{HasCheckByte}
 use Rattle.hart_frame.proofs.lemmas.heard.FramesFound.{body_at, body_frame, frame_up_to, starts}
-use Rattle.hart_frame.proofs.lemmas.heard.Front.{after_faultless, faultless_fit, length-faultless_bytes, nothing_follows, take_heard}
-use Rattle.hart_frame.proofs.lemmas.heard.InTheWay.{way_of, rest_at, fits-is, nothing_at_end}
-use Rattle.hart_frame.proofs.lemmas.heard.Missed.{miss_of-some, miss_of-start}
-use Rattle.hart_frame.proofs.lemmas.heard.Missed.{good_prefix, one_preamble-is, one_preamble-yes, none_of}
+use Rattle.hart_frame.proofs.lemmas.heard.Front.{after_faultless, faultless_fit, length-faultless_bytes, heard_parts, take_heard}
+use Rattle.hart_frame.proofs.lemmas.heard.InTheWay.{way_of, rest_at, fits-is}
+use Rattle.hart_frame.proofs.lemmas.heard.Missed.{miss_of-some, miss_of-start, good_prefix, one_preamble-is, one_preamble-yes, none_of}
 use Rattle.hart_frame.proofs.lemmas.heard.Place.{preamble}
 use Rattle.hart_frame.proofs.lemmas.wire.Parity.{IsCheckByte-fold}
 use Rattle.hart_frame.proofs.lemmas.wire.Prefix.{HasGoodByteCount-more, length_more}
 use Rattle.hart_frame.proofs.lemmas.wire.Truncated.{fits_at, fitted}
 
 -- bytes up to a check byte that fits are a body
-abbrev pub WholeBody : List ℕ → Type 0
-WholeBody bytes = (frame : FrameParts) × IsBody frame (take (body_length bytes - 1) bytes ++ fitting_check_byte bytes ∷ [])
-
-pub whole_body : (bytes : List ℕ) → All (λ byte. byte < 256) bytes → HasCheckByte bytes → WholeBody bytes
+whole_body : (bytes : List ℕ) → All (λ byte. byte < 256) bytes → HasCheckByte bytes
+    → (frame : FrameParts) × IsBody frame (take (body_length bytes - 1) bytes ++ fitting_check_byte bytes ∷ [])
 whole_body bytes fit has =
     let n = body_length bytes - 1 in
     let good = good_prefix bytes n has (omega arith) (omega (arith, has.1)) in
@@ -163,7 +159,7 @@ missing_fits start count chars more fit more_fit is long =
     let good = HasGoodByteCount-more bytes more way.1.0 in
     let size = length-append bytes more in
     let body = fitted checked checked_fit good (grind (arith, length_more, size, way.1.2, long)) in
-    let all : heard ≡ faultless bytes = nothing_follows heard (nothing_at_end chars start way.1.3) in
+    let all : heard ≡ faultless bytes = grind (arith, heard_parts heard, drop_all, append-nil, length-drop) in
     let split : chars ≡ at.prefix ++ (preamble ∷ preamble ∷ faultless bytes) = grind (arith, common_steps, preamble) in
     let regroup : (at.prefix ++ (preamble ∷ preamble ∷ faultless bytes)) ++ faultless (more ++ last ∷ [])
     ≡ at.prefix ++ faultless (255 ∷ 255 ∷ (checked ++ last ∷ [])) ++ [] =

@@ -1,25 +1,22 @@
 -- A miss where a body may start is what stands in the way there, and comes from the fault with which the bytes there are refused.
-use Rattle.std.proofs.Common.{◌≡◌, ◌≢◌, ℕ, ◌+◌, ◌-◌, ◌<◌, ◌≤◌, ◌⊎◌, List, length, take, ◌↔◌, drop, fold, get_or, bit_xor, None}
-use Rattle.std.proofs.Common.{Some, refl, sym, arith}
-use Rattle.std.proofs.Common.{Option, ◌∙◌}
-use Rattle.hart_frame.specs.declared.wire.fault.FrameFault.{FrameFault}
-use Rattle.hart_frame.specs.heard.Miss.{fault_of, miss_in}
-use Rattle.hart_frame.specs.wire.Refusal.{IsRefusedWith}
+use Rattle.std.proofs.Common.{◌≡◌, ◌≢◌, ℕ, ◌+◌, ◌-◌, ◌<◌, ◌≤◌, ◌⊎◌, List, length, take, ◌↔◌, drop, fold, get_or, bit_xor, None, Some, refl}
+use Rattle.std.proofs.Common.{sym, arith, Option, ◌∙◌}
 use Rattle.std.proofs.lemmas.Bool.Decides.{nat_tests}
 use Rattle.std.proofs.lemmas.Grind.{common_steps}
 use Rattle.std.proofs.lemmas.List.{get_or-drop, length-append, length-drop}
 use Rattle.std.proofs.lemmas.List.Elements.{All-drop, All-take}
-use Rattle.std.proofs.lemmas.Option.{slice_get-get_or, slice_get_cases, slice_get_past}
+use Rattle.std.proofs.lemmas.Option.{slice_get-get_or, slice_get_cases}
 use Rattle.std.specs.List.{All, slice_get}
 use Rattle.hart_frame.specs.declared.heard.miss.Miss.{Miss}
-use Rattle.hart_frame.specs.declared.heard.miss.Miss.TheVariants.{BadCheck, EndsBeforeByteCount, Faulty, Missing}
-use Rattle.hart_frame.specs.declared.heard.miss.Miss.TheVariants.{OnePreamble}
+use Rattle.hart_frame.specs.declared.heard.miss.Miss.TheVariants.{BadCheck, EndsBeforeByteCount, Faulty, Missing, OnePreamble}
+use Rattle.hart_frame.specs.declared.wire.fault.FrameFault.{FrameFault}
 use Rattle.hart_frame.specs.heard.Character.{Character, faultless_bytes}
 use Rattle.hart_frame.specs.heard.InTheWay.{ComeToTheEnd, HasFaultsAt, IsInTheWay, bytes_from}
-use Rattle.hart_frame.specs.heard.Miss.{body_miss, faulty_or, fitting_check_byte, miss_of}
+use Rattle.hart_frame.specs.heard.Miss.{fault_of, miss_in, body_miss, faulty_or, fitting_check_byte, miss_of}
 use Rattle.hart_frame.specs.heard.Start.{IsStart}
 use Rattle.hart_frame.specs.wire.Layout.{body_length}
 use Rattle.hart_frame.specs.wire.Parity.{IsCheckByte}
+use Rattle.hart_frame.specs.wire.Refusal.{IsRefusedWith}
 use Rattle.hart_frame.proofs.lemmas.heard.Front.{char_at, after_faultless, faultless_fit, length-faultless_bytes}
 use Rattle.hart_frame.proofs.lemmas.heard.Missed.{odd, miss_of-some, miss_of-start}
 use Rattle.hart_frame.proofs.lemmas.heard.Place.{preamble}
@@ -44,11 +41,6 @@ heard_at chars start i place is below =
       length-drop start chars,
       get_or-drop,
     )
-
--- nothing comes after the bytes at the end of the list
-pub nothing_at_end : (chars : List Character) (start : ℕ) → ComeToTheEnd chars start
-    → slice_get (drop start chars) (length (bytes_from chars start)) ≡ None
-nothing_at_end chars start end = grind (arith, common_steps, slice_get_past, length-drop)
 
 -- where the bytes stop too early: at the end of the list, or at a character with fault bits
 stops : (chars : List Character) (start : ℕ) (at_end : Miss) → start ≤ length chars

@@ -2,12 +2,10 @@
 use Rattle.std.proofs.Common.{◌≤◌, refl, ◌≡◌, ◌≢◌, ℕ, zero, suc, ◌-◌, ◌<◌, ◌⊎◌, inl, inr, List, [], ◌∷◌, ◌++◌, length, take, drop, get_or}
 use Rattle.std.proofs.Common.{true, false, None, Some, arith, append_assoc, length-append}
 use Rattle.std.proofs.Math.Seq.{append_snoc, drop-cons, get_or-append_seam, take-append_seam, take-suc}
-use Rattle.std.proofs.lemmas.List.{take_more}
-use Rattle.std.specs.List.{All}
-use Rattle.hart_frame.specs.wire.Parity.{HasEvenParity}
 use Rattle.std.proofs.lemmas.Bool.Decides.{nat_tests}
 use Rattle.std.proofs.lemmas.Grind.{common_steps}
-use Rattle.std.proofs.lemmas.List.{get_or_append_left, get_or_past, get_or_at, get_or-take, length-take-le, take-append-drop}
+use Rattle.std.proofs.lemmas.List.{take_more, get_or_append_left, get_or_past, get_or_at, get_or-take, length-take-le, take-append-drop}
+use Rattle.std.specs.List.{All}
 use Rattle.std.specs.Option.{is_some}
 use Rattle.hart_frame.specs.declared.heard.miss.Miss.{Miss}
 use Rattle.hart_frame.specs.declared.heard.miss.Miss.TheVariants.{OnePreamble}
@@ -17,6 +15,7 @@ use Rattle.hart_frame.specs.heard.Miss.{HasFrameAt, body_miss, check_byte_in, fi
 use Rattle.hart_frame.specs.heard.Miss.{follows_preamble, is_start}
 use Rattle.hart_frame.specs.heard.Start.{IsStart}
 use Rattle.hart_frame.specs.wire.Layout.{body_length, byte_count_place}
+use Rattle.hart_frame.specs.wire.Parity.{HasEvenParity}
 use Rattle.hart_frame.specs.wire.Refusal.{HasCheckByte, HasGoodByteCount}
 use Rattle.hart_frame.proofs.lemmas.heard.FramesFound.{begins_at, body_of, start_of}
 use Rattle.hart_frame.proofs.lemmas.heard.Place.{preamble}
