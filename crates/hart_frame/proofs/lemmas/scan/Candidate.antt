@@ -1,22 +1,18 @@
 -- What is known of bytes by how they begin.
-use Rattle.std.proofs.Common.{◌≡◌, ◌≢◌, ℕ, zero, suc, ◌+◌, ◌<◌, ◌≤◌, inl, inr, List, [], ◌∷◌, ◌++◌, length, take, drop, get_or, refl, sym}
-use Rattle.std.proofs.Common.{arith, subst, append_assoc}
+use Rattle.std.proofs.Common.{◌≡◌, ◌≢◌, ℕ, zero, suc, ◌+◌, ◌<◌, ◌≤◌, inl, inr, List, [], ◌∷◌, ◌++◌, length, take, drop, get_or, refl}
+use Rattle.std.proofs.Common.{arith, append_assoc}
 use Rattle.std.proofs.Math.Seq.{take-append-add}
 use Rattle.std.proofs.lemmas.List.{take_rest, append-nil, map-append, get_or-take, length-take, length-take-le, take-append-drop, take_all}
 use Rattle.std.proofs.lemmas.List.Elements.{All-from_get_or}
 use Rattle.std.specs.List.{slice_range}
-use Rattle.hart_frame.specs.declared.heard.found.Found.{Found}
 use Rattle.hart_frame.specs.declared.scan.candidate.Candidate.TheVariants.{Never, Whole}
 use Rattle.hart_frame.specs.declared.wire.fault.FrameFault.TheVariants.{BadCheck, Truncated}
 use Rattle.hart_frame.specs.declared.wire.layout.Layout.{Layout}
 use Rattle.hart_frame.specs.heard.Body.{bytes_of, BeginsWithHeard}
 use Rattle.hart_frame.specs.heard.Character.{Character, faultless, faultless_bytes}
 use Rattle.hart_frame.specs.heard.Frames.{IsUndecided}
-use Rattle.hart_frame.specs.heard.Place.{StandsIn}
-use Rattle.hart_frame.specs.scan.Candidate.{BeginWithNone, IsBodyCandidate, IsCandidate, IsWholeBody, MayBegin, MayBeginBefore}
+use Rattle.hart_frame.specs.scan.Candidate.{BeginWithNone, IsBodyCandidate, IsCandidate, MayBegin, MayBeginBefore}
 use Rattle.hart_frame.specs.scan.Candidate.{NothingFollows, NeverBecomeBody, NeverBegin}
-use Rattle.hart_frame.specs.wire.Body.{IsBody}
-use Rattle.hart_frame.specs.wire.FrameParts.{FrameParts}
 use Rattle.hart_frame.specs.wire.Layout.{Describes, body_length, layout_length}
 use Rattle.hart_frame.specs.wire.Parity.{HasEvenParity, IsCheckByte}
 use Rattle.hart_frame.specs.wire.Refusal.{HasCheckByte, IsTruncated}
@@ -127,8 +123,7 @@ after_whole xs layout long first second is =
     let two : xs ≡ 255 ∷ 255 ∷ drop 2 xs = grind arith in
     let (within, whole, fewer) = rw (take_rest xs 2) at is in
     let body = take (layout_length layout) (drop 2 xs) in
-    let rest = drop (layout_length layout) (drop 2 xs) in
-    (
+    let rest = drop (layout_length layout) (drop 2 xs) in (
       record { body = body; rest = rest; parts = grind (arith, take-append-drop); whole = whole },
       rw two (may_begin_before (layout_length layout) (drop 2 xs) fewer),
     )

@@ -1,5 +1,5 @@
 -- What a scanner that lets characters go leaves to the frames of whatever is heard.
-use Rattle.std.proofs.Common.{◌≡◌, ℕ, ◌+◌, ◌-◌, ◌<◌, ◌≤◌, ◌⊎◌, inl, inr, take, IsTrue, List, [], ◌∷◌, ◌++◌, length, drop, sym, ap, ◌∙◌, arith}
+use Rattle.std.proofs.Common.{◌≡◌, ℕ, ◌+◌, ◌-◌, ◌<◌, ◌≤◌, ◌⊎◌, inl, inr, take, IsTrue, List, [], ◌∷◌, ◌++◌, length, drop, sym, ◌∙◌, arith}
 use Rattle.std.proofs.Common.{append_assoc, length-append}
 use Rattle.std.proofs.lemmas.Grind.{common_steps}
 use Rattle.std.proofs.lemmas.List.{drop-append-le, drop-drop, drop-map, drop_at, length-map, length-take-le, take-append-drop}
@@ -17,10 +17,7 @@ use Rattle.hart_frame.proofs.lemmas.heard.Place.{StandsIn-at, StandsIn-from, Sta
 -- what is held from a place on is heard after as many characters more as were let go
 held_at : (scan : Scan) (more chars : List Character) (place : ℕ) → CanHear scan more chars → place ≤ length scan.held
     → drop (scan.first + place) chars ≡ drop place scan.held ++ more
-held_at scan more chars place hears within =
-    sym (drop-drop place scan.first chars) ∙
-    ap (drop place) (ap (drop scan.first) hears.split ∙ drop_at hears.prefix (scan.held ++ more) scan.first hears.place)
-    ∙ drop-append-le place scan.held more within
+held_at scan more chars place hears within = grind (arith, drop-drop place scan.first chars, drop_at, drop-append-le)
 
 -- some first characters are let go
 hears_on : (old new : Scan) (gone more chars : List Character) → old.held ≡ gone ++ new.held → new.first ≡ old.first + length gone

@@ -4,8 +4,8 @@ use Rattle.std.proofs.Common.{drop, get_or, refl, ap, ◌∙◌, max, arith, app
 use Rattle.std.proofs.Common.{add-zero}
 use Rattle.std.proofs.Math.Seq.{take-add, take-append-add}
 use Rattle.std.proofs.lemmas.Grind.{common_steps}
-use Rattle.std.proofs.lemmas.List.{drop-append-le, drop-take, drop_more, get_or-drop, get_or-take, length-take-le, take_rest}
-use Rattle.std.specs.List.{All, slice_range}
+use Rattle.std.proofs.lemmas.List.{drop-append-le, drop-take, drop_more, get_or-drop, length-take-le, take_rest}
+use Rattle.std.specs.List.{slice_range}
 use Rattle.hart_frame.specs.declared.scan.candidate.Candidate.TheVariants.{Never, Whole}
 use Rattle.hart_frame.specs.declared.wire.fault.FrameFault.TheVariants.{BadDelimiter}
 use Rattle.hart_frame.specs.declared.wire.layout.Layout.{Layout}
@@ -169,9 +169,3 @@ searched_stands xs from seen place decided start more layout searching next cand
 pub read_rest : (xs : List ℕ) (from place : ℕ) → from ≤ place → place < length xs
     → get_or (take (length xs - from) (drop from xs)) (place - from) 0 ≡ get_or xs place 0
 read_rest xs from place after within = grind (arith, take_rest, get_or-drop)
-
--- so what is said of the first of the rest is said of them in the list
-pub all_rest : (xs : List ℕ) (from count : ℕ) (Of : ℕ → Type 0) → count ≤ length xs - from
-    → All Of (take count (take (length xs - from) (drop from xs))) → (place : ℕ) → from ≤ place → place < from + count
-    → Of (get_or xs place 0)
-all_rest xs from count Of within all place after before = grind (arith, length-take-le, length-drop, get_or-take, read_rest)

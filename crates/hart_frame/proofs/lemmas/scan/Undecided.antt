@@ -49,9 +49,6 @@ pub stands_held : (s : Scan) (chars : List Character) (found : Found) → CanHea
     → StandsIn (record { start = found.start - s.first; stop = found.stop - s.first; frame = found.frame }) s.held 0
 stands_held s chars found hears stands = grind (arith, stands_in, append-nil)
 
-other_preamble : other ≡ preamble → ⊥
-other_preamble same = let bytes : 0 ≡ 255 = ap (λ (c : Character). c.byte) same in absurd (omega (arith, bytes))
-
 -- no preamble byte is among what was let go
 preamble_held : (s : Scan) (prefix rest : List Character) → sample s ≡ prefix ++ preamble ∷ rest → s.first ≤ length prefix
 preamble_held s prefix rest same =

@@ -1,7 +1,7 @@
 use Rattle.std.proofs.Common.{arith, ◌≡◌, ℕ, List, take}
 use Rattle.std.proofs.lemmas.Grind.{common_steps}
 use Rattle.std.proofs.lemmas.List.{take-map}
-use Rattle.hart_frame.specs.heard.Character.{Character, faultless}
+use Rattle.hart_frame.specs.heard.Character.{faultless}
 use Rattle.hart_frame.specs.scan.Buffer.{scan_of}
 use Rattle.hart_frame.specs.scan.Chunk.{Hears}
 use Rattle.hart_frame.proofs.lemmas.scan.Chunk.{heard_length}
@@ -12,14 +12,13 @@ hears c = grind arith
 
 -- the first of a chunk's characters are those of its first bytes
 first_of : (chunk : List ℕ) (count : ℕ) → take count (faultless chunk) ≡ faultless (take count chunk)
-first_of chunk count = take-map (λ (byte : ℕ). let c : Character = record { byte = byte; faults = 0 } in c) count chunk
+first_of chunk count = grind (arith, take-map)
 
 pub returns-clause-moves : goal.returns-clause-moves
 returns-clause-moves c = grind (arith, first_of)
 
 pub returns-clause-before : goal.returns-clause-before
-returns-clause-before c = λ count below.
-    rw (first_of c.args.chunk.now count) at ((hears c).before count below)
+returns-clause-before c = simp first_of at (hears c).before
 
 pub returns-clause-pushed : goal.returns-clause-pushed
 returns-clause-pushed c = grind (arith, common_steps, hears, heard_length)
