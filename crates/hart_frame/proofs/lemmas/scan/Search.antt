@@ -4,7 +4,7 @@ use Rattle.std.proofs.Common.{drop, get_or, refl, ap, ◌∙◌, max, arith, app
 use Rattle.std.proofs.Common.{add-zero}
 use Rattle.std.proofs.Math.Seq.{take-add, take-append-add}
 use Rattle.std.proofs.lemmas.Grind.{common_steps}
-use Rattle.std.proofs.lemmas.List.{drop-append-le, drop-take, drop_more, get_or-drop, length-take-le, take_rest}
+use Rattle.std.proofs.lemmas.List.{drop-append-le, drop-take, drop_more, length-take-le, take_rest}
 use Rattle.std.specs.List.{slice_range}
 use Rattle.hart_frame.specs.declared.scan.candidate.Candidate.TheVariants.{Never, Whole}
 use Rattle.hart_frame.specs.declared.wire.fault.FrameFault.TheVariants.{BadDelimiter}
@@ -164,8 +164,3 @@ searched_stands xs from seen place decided start more layout searching next cand
     let stays = searching_more xs from seen start needed (2 + layout_length layout) more on may (omega (arith, short)) long
     (omega (arith, is, least, most)) in
     grind (arith, common_steps, drop_take, whole_take, length-drop)
-
--- what is read in the rest of a list is read in the list
-pub read_rest : (xs : List ℕ) (from place : ℕ) → from ≤ place → place < length xs
-    → get_or (take (length xs - from) (drop from xs)) (place - from) 0 ≡ get_or xs place 0
-read_rest xs from place after within = grind (arith, take_rest, get_or-drop)

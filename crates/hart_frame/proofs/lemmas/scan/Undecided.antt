@@ -59,13 +59,12 @@ preamble_held s prefix rest same =
 still_stands : (s t : Scan) → MovesPast s t [] → (found : Found) → StandsIn found s.held 0
     → (g : Found) × StandsIn g t.held 0 × (t.first + g.start ≤ s.first + found.start)
 still_stands s t moves found stands =
-    let later = AreFrames-found (sample s) t.first in
-    let frames = moves.frames [] (sample s) later.0 (hears_sample s) later.1 in
-    let (g, there, early) = same_first (sample s) s.first t.first later.0 _ frames later.1 (held_stands s found stands) in (
-      _,
-      stands_held t (sample s) g (moves.heard [] (sample s) (hears_sample s)) there,
-      omega (arith, early, (StandsIn-within g (sample s) t.first there).after),
-    )
+    let hears = moves.heard [] (sample s) (hears_sample s) in
+    let (later, are) = AreFrames-found (sample s) t.first in
+    let (g, there, early) = same_first (sample s) s.first t.first later _ (moves.frames [] (sample s) later (hears_sample s) are) are
+    (held_stands s found stands) in
+    let after = (StandsIn-within g (sample s) t.first there).after in
+    (_, stands_held t (sample s) g hears there, omega (arith, early, after))
 
 -- what holds no frame after some characters are passed held none before
 pub nothing_before : (s t : Scan) → MovesPast s t [] → HasNoFrame t.held 0 → HasNoFrame s.held 0
@@ -73,24 +72,22 @@ nothing_before s t moves empty found stands = let there = still_stands s t moves
 
 -- what is undecided after some characters are passed was undecided before
 pub undecided_before : (s t : Scan) → MovesPast s t [] → IsUndecided t.held → IsUndecided s.held
-undecided_before s t moves undecided = elim undecided [
-  | inl empty ↦ inl (nothing_before s t moves empty)
-  | inr (place, opened, before) ↦
-      let after = moves.heard [] (sample s) (hears_sample s) in
-      let prefix = after.prefix ++ opened.prefix in
-      let rest = faultless (255 ∷ 255 ∷ opened.bytes) in
-      let all : sample s ≡ prefix ++ rest = grind (arith, common_steps, append-nil, append_assoc) in
-      let late = preamble_held s prefix (faultless (255 ∷ opened.bytes)) all in
-      let front = drop_at (replicate s.first other) (s.held ++ []) s.first (length-replicate s.first other) in
-      let split : s.held ≡ drop s.first prefix ++ rest = grind (arith, append-nil, front, drop-append-le s.first prefix rest late) in
-      inr (
-        length (drop s.first prefix) + 2,
-        record { prefix = drop s.first prefix; bytes = opened.bytes; split = split; start = refl; truncated = opened.truncated },
-        λ found stands.
-            let there = still_stands s t moves found stands in
-            grind (arith, before there.0 there.1, there.2, opened.start, length-append, length-drop s.first prefix, after.place, late),
-      )
-]
+undecided_before s t moves (inl empty) = inl (nothing_before s t moves empty)
+undecided_before s t moves (inr (place, opened, before)) =
+    let after = moves.heard [] (sample s) (hears_sample s) in
+    let prefix = after.prefix ++ opened.prefix in
+    let rest = faultless (255 ∷ 255 ∷ opened.bytes) in
+    let all : sample s ≡ prefix ++ rest = grind (arith, common_steps, append-nil, append_assoc) in
+    let late = preamble_held s prefix (faultless (255 ∷ opened.bytes)) all in
+    let front = drop_at (replicate s.first other) (s.held ++ []) s.first (length-replicate s.first other) in
+    let split : s.held ≡ drop s.first prefix ++ rest = grind (arith, append-nil, front, drop-append-le s.first prefix rest late) in
+    inr (
+      length (drop s.first prefix) + 2,
+      record { prefix = drop s.first prefix; bytes = opened.bytes; split = split; start = refl; truncated = opened.truncated },
+      λ found stands.
+          let there = still_stands s t moves found stands in
+          grind (arith, before there.0 there.1, there.2, opened.start, length-append, length-drop s.first prefix, after.place, late),
+    )
 
 -- a scanner whose characters begin with a frame gives one
 pub holds_gives : (old new : Scan) → BeginsWithFrame old → GivesNothing old new → ⊥
@@ -116,6 +113,5 @@ moves_length a b given moves =
 -- a scanner that gives a frame holds less after it
 pub gives_onward : (old new : Scan) (found : Found) → Gives old new found → length new.held < length old.held
 gives_onward old new found gives =
-    let later = AreFrames-found (sample old) new.first in
-    let frames = gives.moves.frames [] (sample old) later.0 (hears_sample old) later.1 in
-    grind (arith, head_first, StandsIn-within, moves_length)
+    let (later, are) = AreFrames-found (sample old) new.first in
+    grind (arith, head_first, StandsIn-within, moves_length, gives.moves.frames [] (sample old) later (hears_sample old) are)

@@ -1,4 +1,4 @@
-use Rattle.std.proofs.Common.{arith, sym, ◌∙◌}
+use Rattle.std.proofs.Common.{arith}
 use Rattle.hart_frame.proofs.lemmas.Laws.{every_list_has_frames, frames_are_unambiguous-one_list}
 use Rattle.hart_frame.proofs.lemmas.heard.Delivery.{no_frame, one_frame, only_said, second_none, second_some, several_frames}
 use Rattle.hart_frame.proofs.scan.first.lone_frame.Goals as goal
@@ -14,10 +14,9 @@ pub returns-then-is_some-clause-lone : goal.returns-then-is_some-clause-lone
 returns-then-is_some-clause-lone c =
     let delivery = c.args.delivery.now in
     let first = c.in-Some.first in
-    let second = second_some delivery first.stop c.first_frame-2.result (sym c.is_some.ensures ∙ c.if-is_some.true)
-    c.first_frame-2.ensures.first in
-    let later = every_list_has_frames delivery second.0.stop in
-    (first, second.0, later.0, several_frames delivery first second.0 later.0 c.in-Some.ensures.first second.1 later.1)
+    let (second, is) = second_some delivery first.stop c.first_frame-2.result (grind arith) c.first_frame-2.ensures.first in
+    let later = every_list_has_frames delivery second.stop in
+    (first, second, later.0, several_frames delivery first second later.0 c.in-Some.ensures.first is later.1)
 
 pub returns-then-is_some-clause-only : goal.returns-then-is_some-clause-only
 returns-then-is_some-clause-only c =

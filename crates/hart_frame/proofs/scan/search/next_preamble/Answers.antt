@@ -1,15 +1,16 @@
-use Rattle.std.proofs.Common.{◌≢◌, ◌≤◌, ◌<◌, ◌+◌, ◌-◌, ℕ, List, length, drop, take, slice_index, arith, length-drop}
+use Rattle.std.proofs.Common.{◌≡◌, ◌≢◌, ◌≤◌, ◌<◌, ◌+◌, ◌-◌, ℕ, List, length, drop, take, get_or, slice_index, arith, length-drop}
 use Rattle.std.proofs.lemmas.Bool.Decides.{nat_tests}
-use Rattle.std.proofs.lemmas.List.{length-take-le}
+use Rattle.std.proofs.lemmas.List.{get_or-drop, length-take-le, take_rest}
 use Rattle.memchr.specs.Find.{Nowhere, Passes, is_byte}
-use Rattle.hart_frame.proofs.lemmas.scan.Search.{read_rest}
 use Rattle.hart_frame.proofs.scan.search.next_preamble.Goals as goal
 
 -- where no byte of the rest is a preamble byte, none of the list is
 others : (bytes : List ℕ) (from count : ℕ) → Nowhere (Passes (is_byte 255) (take (length bytes - from) (drop from bytes))) 0 count
     → count ≤ length (take (length bytes - from) (drop from bytes))
     → (place : ℕ) → from ≤ place → place < from + count → slice_index bytes place ≢ 255
-others bytes from count nowhere within place after before same = grind (arith, nat_tests, read_rest, length-take-le, length-drop)
+others bytes from count nowhere within place after before same =
+    let there : get_or (take (length bytes - from) (drop from bytes)) (place - from) 0 ≡ 255 = grind (arith, take_rest, get_or-drop) in
+    grind (arith, nat_tests, length-take-le, length-drop)
 
 pub returns-in-Some-clause-others : goal.returns-in-Some-clause-others
 returns-in-Some-clause-others c =

@@ -1,4 +1,4 @@
-use Rattle.std.proofs.Common.{◌≡◌, ◌+◌, rules, get_or, length, arith}
+use Rattle.std.proofs.Common.{◌≡◌, ◌+◌, get_or, length, arith}
 use Rattle.std.proofs.lemmas.Grind.{common_steps}
 use Rattle.std.specs.List.{slice_range}
 use Rattle.hart_frame.specs.scan.PlainAddress.{address_of}
@@ -14,12 +14,7 @@ returns c =
     let bytes = c.args.bytes.now in
     let layout = c.args.layout in
     let body = c.requires.body in
-    let whole = body.checked in
-    let end : c.from-address_end.result ≡ layout.address_end = search rules in
-    let at : c.from-command_place.result ≡ layout.command_place = search rules in
-    let count : c.from.result ≡ layout.byte_count = search rules in
     let place = c.from-command_place.result + 2 in
-    let payload = slice_range bytes place (place + c.from.result) in
     let frame : FrameParts = record {
       kind = layout.kind;
       master = c.unwrap-master.result.0;
@@ -27,8 +22,8 @@ returns c =
       address = address_of c.plain_of.result;
       expansion = slice_range bytes c.from-address_end.result c.from-command_place.result;
       command = get_or bytes c.from-command_place.result 0;
-      payload = payload;
+      payload = slice_range bytes place (place + c.from.result);
     } in
     let stands : StandsByLayout bytes layout frame = grind (arith, long_enough) in
     let exact : body_length bytes ≡ length bytes = omega (arith, body.described, body.exact) in
-    let part = IsCheckedPart-in bytes layout frame body.described whole stands in grind (arith, common_steps, IsBody-whole)
+    grind (arith, common_steps, IsBody-whole, IsCheckedPart-in bytes layout frame body.described body.checked stands)
