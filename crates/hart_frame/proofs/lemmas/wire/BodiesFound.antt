@@ -31,9 +31,7 @@ Fit bytes n = (k : ℕ) → k < n → get_or bytes k 0 < 256
 -- what the first byte of an address holds
 first_byte_read : (byte : ℕ) → byte < 256 → (master : MasterId) × (burst : Bool) × (byte ≡ first_byte master burst (byte % 64))
 first_byte_read byte below =
-    let top : (byte < 128) ⊎ (128 ≤ byte) = grind arith in
-    let next : (byte % 128 < 64) ⊎ (64 ≤ byte % 128) = grind arith in
-    grind arith
+    let bits : (byte / 64 ≡ 0) ⊎ (byte / 64 ≡ 1) ⊎ (byte / 64 ≡ 2) ⊎ (byte / 64 ≡ 3) = grind arith in grind arith
 
 -- one byte, or five, hold an address
 abbrev HeldAddress : List ℕ → Type 0
@@ -88,10 +86,8 @@ BodyAhead bytes = (frame : FrameParts) × (len : ℕ) × BeginsWithBody bytes fr
 whole_body : (bytes : List ℕ) → HasCheckByte bytes → All (λ byte. byte < 256) (take (body_length bytes) bytes)
     → HasEvenParity (take (body_length bytes) bytes) → BodyAhead bytes
 whole_body bytes whole fit even =
-    let len = body_length bytes in
-    let long = length-take-le len bytes whole.1 in
-    let held = held_frame bytes (λ k below. grind (arith, All-get_or, get_or-take)) whole in
-    (held.frame, len, grind (arith, IsBody-whole, take-take))
+    let held = held_frame bytes (λ k below. grind (arith, All-get_or, get_or-take, length-take-le)) whole in
+    (held.frame, body_length bytes, grind (arith, IsBody-whole, take-take, length-take-le))
 
 -- whether all bytes fit
 fit_decided : (bytes : List ℕ) → All (λ byte. byte < 256) bytes ⊎ (All (λ byte. byte < 256) bytes → ⊥)
@@ -116,6 +112,5 @@ body_decided bytes =
     grind (arith, fit_decided prefix, even_zero prefix, whole_body bytes) in
     elim cases [
       | inl ahead ↦ inl ahead
-      | inr none ↦ inr (λ f len begins. let is = (says bytes f len begins).whole in
-          none (has_check bytes f len begins) (rw is at begins.body.bytes_fit) (rw is at begins.body.parity))
+      | inr none ↦ inr (λ f len begins. grind (arith, says bytes f len begins, has_check bytes f len begins))
     ]

@@ -50,7 +50,5 @@ pub IsCheckByte-rest : (width index : ℕ) (bytes lanes rest : List ℕ) (check 
     → check ≡ fold bit_xor (fold_l bit_xor 0 lanes) rest → IsCheckByte bytes check
 IsCheckByte-rest width index bytes lanes rest check each before blocks is folded =
     let count = length bytes / width * width in
-    let place : count ≡ width * index = rw blocks (mul_comm index width) in
-    let split = take-append-drop count bytes in
-    let seam = fold-append bit_xor 0 (take count bytes) (drop count bytes) in
-    IsCheckByte-fold bytes check each cc
+    let same = rw (mul_comm width index, ← blocks) at before in
+    grind (arith, IsCheckByte-fold, take-append-drop count bytes, fold-append bit_xor 0 (take count bytes) (drop count bytes))

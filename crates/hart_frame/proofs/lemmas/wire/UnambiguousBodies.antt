@@ -1,5 +1,5 @@
 -- A list of bytes begins with one body at most, and that body has one frame at most.
-use Rattle.std.proofs.Common.{◌≡◌, ℕ, ◌+◌, ◌*◌, ◌<◌, ◌≤◌, Bool, List, [], ◌∷◌, ◌++◌, fold, bit_xor, length, take, drop, refl, arith}
+use Rattle.std.proofs.Common.{◌≡◌, ℕ, ◌+◌, ◌*◌, ◌<◌, Bool, List, [], ◌∷◌, ◌++◌, fold, bit_xor, length, take, drop, refl, arith}
 use Rattle.std.proofs.Common.{append_assoc, length-append}
 use Rattle.std.proofs.Math.Seq.{drop-append_seam, take-append_seam}
 use Rattle.std.proofs.lemmas.List.{append-nil, append_cancel_right, length-take-le, take_at, take-append-drop}
@@ -34,11 +34,6 @@ pub length-address : (m : MasterId) (b : Bool) (a : Address) (bytes : List ℕ) 
     → length bytes ≡ 1 + 4 * address_type a
 length-address m b a bytes is = grind arith
 
--- the same kind, address type and number of expansion bytes
-same_delimiter : (f g : FrameParts) → length f.expansion ≤ 3 → length g.expansion ≤ 3 → delimiter_of f ≡ delimiter_of g
-    → (f.kind ≡ g.kind) × (address_type f.address ≡ address_type g.address) × (length f.expansion ≡ length g.expansion)
-same_delimiter f g few fewer same = grind (arith, kind_code-is, address_type-lt)
-
 -- a body and what follows it, part by part
 pub spread : (f : FrameParts) (body rest : List ℕ) (is : IsBody f body)
     → body ++ rest
@@ -51,7 +46,7 @@ same_bodies : (f g : FrameParts) (body other rest more : List ℕ) → IsBody f 
 same_bodies f g body other rest more p q whole =
     let first = spread f body rest p in
     let second = spread g other more q in
-    grind (arith, same_delimiter, same_parts, length-address, address_bytes_are_unambiguous-one_reading, append_cancel_right)
+    grind (arith, kind_code-is, address_type-lt, same_parts, length-address, address_bytes_are_unambiguous-one_reading, append_cancel_right)
 
 pub bodies_are_unambiguous-one_frame : (f g : FrameParts) (bytes : List ℕ) → IsBody f bytes → IsBody g bytes → f ≡ g
 bodies_are_unambiguous-one_frame f g bytes p q = (same_bodies f g bytes bytes [] [] p q refl).0
@@ -72,8 +67,7 @@ bodies_are_unambiguous-one_prefix f g bytes m n p q =
 check_is : (f : FrameParts) (body : List ℕ) (is : IsBody f body) → is.check ≡ fold bit_xor 0 is.checked
 check_is f body is =
     let fits = fits_at (is.checked ++ is.check ∷ []) (rw is.parts at is.bytes_fit) in
-    let last = fits (length is.checked) in
-    grind (arith, even-is, fits, get_or_append_left, get_or_past, get_or_at)
+    grind (arith, even-is, fits, fits (length is.checked), get_or_append_left, get_or_past, get_or_at)
 
 pub bodies_are_unambiguous-one_body : (f : FrameParts) (bytes others : List ℕ) → IsBody f bytes → IsBody f others → bytes ≡ others
 bodies_are_unambiguous-one_body f bytes others p q =
