@@ -37,15 +37,13 @@ first_byte_read byte below =
 abbrev HeldAddress : List ℕ → Type 0
 HeldAddress bytes = (master : MasterId) × (burst : Bool) × (address : Address) × IsAddressBytes master burst address bytes
 
-five_bytes : (a b c d e : ℕ) → Fit (a ∷ b ∷ c ∷ d ∷ e ∷ []) 5 → HeldAddress (a ∷ b ∷ c ∷ d ∷ e ∷ [])
-five_bytes a b c d e fit =
-    let (master, burst, is) = first_byte_read a (fit 0 (omega arith)) in
-    (master, burst, Unique (record { expanded_type = 256 * (a % 64) + b; device_id = 65536 * c + 256 * d + e }), grind arith)
-
 held_address : (bytes : List ℕ) (form : ℕ) → Fit bytes (length bytes) → form < 2 → length bytes ≡ 1 + 4 * form → HeldAddress bytes
 held_address (a ∷ []) form fit either long =
     let (master, burst, is) = first_byte_read a (fit 0 (omega arith)) in (master, burst, Polling (a % 64), grind arith)
-held_address (a ∷ b ∷ c ∷ d ∷ e ∷ []) form fit either long = five_bytes a b c d e fit
+held_address (a ∷ b ∷ c ∷ d ∷ e ∷ []) _ fit _ _ =
+    let (master, burst, is) = first_byte_read a (fit 0 (omega arith)) in
+    let address = Unique (record { expanded_type = 256 * (a % 64) + b; device_id = 65536 * c + 256 * d + e }) in
+    (master, burst, address, grind (arith, fit 1, fit 2, fit 3, fit 4))
 held_address bytes form fit either long = absurd (omega (arith, either, long))
 
 pub long_enough : (kind : FrameKind) (payload : List ℕ) (byte count : ℕ) → kind_code kind ≡ byte % 8 → length payload ≡ count

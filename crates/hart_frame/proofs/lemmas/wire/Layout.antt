@@ -1,9 +1,8 @@
 -- The parts that a layout cuts out of bytes are, joined again, the bytes.
-use Rattle.std.proofs.Common.{◌≡◌, ℕ, suc, ◌+◌, ◌-◌, ◌<◌, ◌≤◌, List, ◌∷◌, ◌++◌, length, take, drop, get_or, arith}
+use Rattle.std.proofs.Common.{◌≡◌, ℕ, ◌+◌, ◌-◌, ◌<◌, ◌≤◌, List, ◌∷◌, ◌++◌, length, take, drop, get_or, arith}
 use Rattle.std.proofs.Common.{length-drop}
 use Rattle.std.proofs.Math.Seq.{take-add}
-use Rattle.std.proofs.lemmas.Grind.{common_steps}
-use Rattle.std.proofs.lemmas.List.{drop-drop, length-take-le}
+use Rattle.std.proofs.lemmas.List.{drop_more, drop-drop, length-take-le}
 use Rattle.std.specs.List.{slice_range}
 use Rattle.hart_values.specs.address.AddressBytes.{IsAddressBytes}
 use Rattle.hart_frame.specs.declared.wire.layout.Layout.{Layout}
@@ -19,8 +18,7 @@ slice_range-join xs a b c ab bc = grind (arith, take-add (b - a) (c - b) (drop a
 
 -- a range is its first element and the rest
 slice_range-first : (xs : List ℕ) (a c : ℕ) → a < c → a < length xs → get_or xs a 0 ∷ slice_range xs (a + 1) c ≡ slice_range xs a c
-slice_range-first xs a c ac within =
-    let count : c - a ≡ suc (c - (a + 1)) = omega arith in grind (arith, common_steps)
+slice_range-first xs a c ac within = grind (arith, drop_more xs a 0, take-add 1 (c - (a + 1)) (drop a xs))
 
 -- a prefix of some bytes: one byte, a range, a range, two bytes, and a range
 cut : (xs : List ℕ) (i j k : ℕ) → 1 ≤ i → i ≤ j → j + 2 ≤ k → k ≤ length xs

@@ -1,5 +1,5 @@
 -- The exclusive or of bytes has a bit if an odd number of them have it.
-use Rattle.std.proofs.Common.{◌≡◌, ℕ, refl, ◌+◌, ◌%◌, ◌<◌, List, [], ◌∷◌, ◌++◌, arith, cond, eqb, fold, bit_xor, get_or, suc}
+use Rattle.std.proofs.Common.{◌≡◌, ℕ, refl, ◌+◌, ◌%◌, ◌<◌, List, [], ◌∷◌, ◌++◌, arith, fold, bit_xor, get_or, suc}
 use Rattle.std.proofs.lemmas.Bool.Decides.{nat_tests}
 use Rattle.std.proofs.lemmas.Grind.{common_steps}
 use Rattle.std.proofs.lemmas.List.{get_or_past}
@@ -15,18 +15,14 @@ use Rattle.hart_frame.specs.wire.Parity.{bit_count, IsCheckByte, HasEvenParity}
 pub fits_at : (bytes : List ℕ) → All (λ byte. byte < 256) bytes → (i : ℕ) → get_or bytes i 0 < 256
 fits_at bytes fit i = grind (arith, All-get_or, get_or_past)
 
--- a bit counts as itself
-bit_counts : (byte bit : ℕ) → cond (eqb (bit_at byte bit) 1) 1 0 ≡ bit_at byte bit
-bit_counts byte bit = grind (arith, nat_tests, bit_at-lt)
-
 -- a last byte counts after the others
 bit_count-push : (bit byte : ℕ) (bytes : List ℕ) → bit_count bit (bytes ++ byte ∷ []) ≡ bit_count bit bytes + bit_at byte bit
-bit_count-push bit byte bytes = grind (arith, sum_by_push, bit_counts)
+bit_count-push bit byte bytes = grind (arith, sum_by_push, nat_tests, bit_at-lt)
 
 -- the bit of an exclusive or is the parity of the count
 xor_parity : (bytes : List ℕ) (start bit : ℕ) → bit_at (fold bit_xor start bytes) bit ≡ (bit_at start bit + bit_count bit bytes) % 2
 xor_parity [] start bit = omega (arith, bit_at-lt start bit)
-xor_parity (byte ∷ bytes) start bit = grind (arith, common_steps, xor_parity bytes (bit_xor start byte) bit, bit_at_xor, bit_counts)
+xor_parity (byte ∷ bytes) start bit = grind (arith, common_steps, xor_parity bytes (bit_xor start byte) bit, bit_at_xor, bit_at-lt byte bit)
 
 -- an exclusive or of bytes is a byte
 xor_fits : (bytes : List ℕ) (start : ℕ) → start < 256 → ((i : ℕ) → get_or bytes i 0 < 256) → fold bit_xor start bytes < 256

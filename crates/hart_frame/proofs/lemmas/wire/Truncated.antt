@@ -73,7 +73,6 @@ truncated_check xs fewer has before within = grind (arith, length-take-le, trunc
 -- what can become a body and is none ends too early
 pub IsTruncated-only : (bytes : List ℕ) → CanBecomeBody bytes → HasNoBody bytes → IsTruncated bytes
 IsTruncated-only bytes can none =
-    let whole = bytes ++ can.rest in
-    let said = says whole can.frame can.count can.begins in
-    let has = has_check whole can.frame can.count can.begins in
+    let said = says (bytes ++ can.rest) can.frame can.count can.begins in
+    let has = has_check (bytes ++ can.rest) can.frame can.count can.begins in
     grind (arith, length-append bytes can.rest, get_or_append_left, take-append-le can.count bytes can.rest, none can.frame can.count)

@@ -71,8 +71,7 @@ check_is f body is =
 
 pub bodies_are_unambiguous-one_body : (f : FrameParts) (bytes others : List ℕ) → IsBody f bytes → IsBody f others → bytes ≡ others
 bodies_are_unambiguous-one_body f bytes others p q =
-    let address = address_bytes_are_unambiguous-one_list f.master f.burst f.address _ _ p.checked_part.address_bytes
-    q.checked_part.address_bytes in grind (arith, check_is f bytes p, check_is f others q)
+    grind (arith, check_is f bytes p, check_is f others q, address_bytes_are_unambiguous-one_list f.master f.burst f.address)
 
 -- a body is the prefix of any list that begins with it
 pub BeginsWithBody-append : (f : FrameParts) (body rest : List ℕ) → IsBody f body → BeginsWithBody (body ++ rest) f (length body)
