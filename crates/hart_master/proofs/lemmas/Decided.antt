@@ -1,5 +1,6 @@
 -- Whether a delivery is accepted is decided.
-use Rattle.std.proofs.Common.{◌≡◌, ℕ, List, [], ◌∷◌, ◌⊎◌, inl, inr, Option, None, Some, refl, arith}
+use Rattle.std.proofs.Common.{◌≡◌, ◌<◌, List, [], ◌∷◌, ◌⊎◌, inl, inr, length, Option, None, Some, refl, arith}
+use Rattle.std.proofs.lemmas.List.{nil_from_length}
 use Rattle.hart_values.specs.declared.address.Address.{Address}
 use Rattle.hart_values.specs.declared.master_id.MasterId.{MasterId}
 use Rattle.hart_frame.specs.declared.heard.found.Found.{Found}
@@ -16,23 +17,18 @@ use Rattle.hart_master.specs.Acceptance.{IsReplyTo, IsAccepted, MatchesRequest}
 abbrev pub OneOrNone : (Reply → Type 0) → Type 0
 OneOrNone P = ((reply : Reply) × P reply) ⊎ ((reply : Reply) → P reply → ⊥)
 
-expansion_decided : (bytes : List ℕ) → (bytes ≡ []) ⊎ (bytes ≡ [] → ⊥)
-expansion_decided [] = inl refl
-expansion_decided (byte ∷ bytes) = inr (λ is. cc)
-
 reading_decided : (read : Option Reply) → OneOrNone (λ reply. read ≡ Some reply)
 reading_decided None = inr (λ reply is. cc)
 reading_decided (Some reply) = inl (reply, refl)
-
-answers_decided : (id : MasterId) (address : Address) (request : Request) (frame : FrameParts)
-    → MatchesRequest id address request frame ⊎ (MatchesRequest id address request frame → ⊥)
-answers_decided id address request frame = grind (arith, expansion_decided frame.expansion)
 
 -- so a frame is a reply or none
 pub reply_decided : (id : MasterId) (address : Address) (request : Request) (frame : FrameParts)
     → OneOrNone (IsReplyTo id address request frame)
 reply_decided id address request frame =
-    grind (arith, answers_decided id address request frame, reading_decided (reply_reading frame.command frame.payload))
+    let expansion : (length frame.expansion ≡ 0) ⊎ (0 < length frame.expansion) = grind arith in
+    let answers : MatchesRequest id address request frame ⊎ (MatchesRequest id address request frame → ⊥) =
+    grind (arith, nil_from_length) in
+    grind (arith, reading_decided (reply_reading frame.command frame.payload))
 
 -- a delivery with one frame alone is accepted as what the frame is
 pub acceptance_is_decided-by_its_frame : (id : MasterId) (address : Address) (request : Request) (delivery : List Character)
@@ -44,12 +40,10 @@ acceptance_is_decided-by_its_frame id address request delivery found reply alone
 -- and one with no frame, or with several, as none
 decided_by : (id : MasterId) (address : Address) (request : Request) (chars : List Character) (frames : List Found)
     → AreFrames chars 0 frames → OneOrNone (IsAccepted id address request chars)
-decided_by id address request chars (found ∷ []) are =
-    let is = acceptance_is_decided-by_its_frame id address request chars found in
-    elim (reply_decided id address request found.frame) [
-      | inl one ↦ inl (one.0, record { found = found; alone = are; is_reply = one.1 })
-      | inr nothing ↦ inr (λ reply accepted. nothing reply (is reply are accepted))
-    ]
+decided_by id address request chars (found ∷ []) are = elim (reply_decided id address request found.frame) [
+  | inl one ↦ inl (one.0, record { found = found; alone = are; is_reply = one.1 })
+  | inr nothing ↦ inr (λ reply accepted. nothing reply (acceptance_is_decided-by_its_frame _ _ _ _ found reply are accepted))
+]
 decided_by id address request chars frames are =
     inr (λ reply accepted. let same = frames_are_unambiguous-one_list chars 0 frames (accepted.found ∷ []) are accepted.alone in cc)
 
