@@ -1,8 +1,6 @@
 -- The answer: who is answered, with what, and what it does to the device.
 pub mod Effect
-pub mod ColdStart
 pub mod Garbled
-pub mod Form
 pub mod Delivery
 pub mod Faults
 pub mod Content

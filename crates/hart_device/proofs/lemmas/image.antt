@@ -1,3 +1,2 @@
 -- The image of a device.
 pub mod Image
-pub mod Read

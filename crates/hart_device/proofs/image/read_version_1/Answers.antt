@@ -1,14 +1,38 @@
-use Rattle.std.proofs.Common.{◌≡◌, ◌≢◌, refl, sym, ◌∙◌, drop, replicate, arith}
+use Rattle.std.proofs.Common.{◌≡◌, ◌≢◌, ℕ, List, ◌++◌, length, refl, sym, ◌∙◌, drop, replicate, arith}
+use Rattle.std.proofs.lemmas.Grind.{common_steps}
+use Rattle.std.specs.List.{flat_map}
 use Rattle.hart_commands.specs.declared.register.Register.{Register}
-use Rattle.hart_commands.specs.declared.register.Register.TheVariants.{LongTag}
+use Rattle.hart_commands.specs.declared.register.Register.TheVariants.{Polling, Mode, Message, Tag, Descriptor, Date, Assembly, LongTag}
 use Rattle.hart_device.specs.image.Image.{registers_of_version_1}
 use Rattle.hart_device.specs.registers.Ranges.{standing_for}
-use Rattle.hart_device.proofs.lemmas.image.Image.{bad_field, in_version_1, read_is}
-use Rattle.hart_device.proofs.lemmas.image.Read.{holds_prefix, kept_or, refused_or, stands_before}
+use Rattle.hart_device.proofs.lemmas.image.Image.{bad_field, before_others, in_version_1, kept_or, read_is, refused_or}
+use Rattle.hart_device.proofs.lemmas.registers.Range.{filled}
 use Rattle.hart_device.proofs.image.read_version_1.Goals as goal
 
 pub returns-then-rest-clause-refused : goal.returns-then-rest-clause-refused
 returns-then-rest-clause-refused c = (registers_of_version_1, refl, λ same. absurd (c.if-rest.true (omega (arith, same))))
+
+-- Every register but the long tag stands in the 50 bytes that the registers of version 1 have, whatever follows.
+stands_before : (prefix others : List ℕ) → length prefix ≡ 50 → (register : Register) → register ≢ LongTag
+    → standing_for register (prefix ++ others) ≡ standing_for register prefix
+stands_before prefix others len register differ = grind (arith, common_steps, before_others)
+
+-- An array that holds the same for all of them holds those bytes.
+holds_prefix : (array prefix : List ℕ) → length prefix ≡ 50
+    → ((register : Register) → register ≢ LongTag → standing_for register array ≡ standing_for register prefix)
+    → flat_map (λ register. standing_for register array) registers_of_version_1 ≡ prefix
+holds_prefix array prefix len same =
+    let whole = filled prefix 0 registers_of_version_1 refl (sym len) in
+    cc (
+      same Polling (λ e. cc),
+      same Mode (λ e. cc),
+      same Message (λ e. cc),
+      same Tag (λ e. cc),
+      same Descriptor (λ e. cc),
+      same Date (λ e. cc),
+      same Assembly (λ e. cc),
+      whole,
+    )
 
 -- What the image has for a register is read of the array.
 is_read : (c : goal.After-ok_or) (register : Register) → register ≢ LongTag

@@ -4,8 +4,7 @@ use Rattle.hart_commands.specs.Registers.{registers}
 use Rattle.hart_commands.specs.declared.register.Register.TheVariants.{LongTag}
 use Rattle.hart_commands.proofs.lemmas.Laws.{all_registers_are_listed_once-every}
 use Rattle.hart_device.proofs.lemmas.registers.Range.{filled}
-use Rattle.hart_device.proofs.lemmas.image.Image.{bad_field, before_others, read_is}
-use Rattle.hart_device.proofs.lemmas.image.Read.{kept_or, refused_or}
+use Rattle.hart_device.proofs.lemmas.image.Image.{bad_field, before_others, kept_or, read_is, refused_or}
 use Rattle.hart_device.proofs.image.read_version_2.Goals as goal
 
 pub returns-then-rest-clause-refused : goal.returns-then-rest-clause-refused

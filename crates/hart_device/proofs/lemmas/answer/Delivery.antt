@@ -2,10 +2,8 @@
 use Rattle.std.proofs.Common.{◌≡◌, inl, inr, List, [], ◌∷◌, ap, ◌∙◌, refl, Option, None, Some, arith}
 use Rattle.std.proofs.lemmas.Grind.{common_steps}
 use Rattle.std.specs.Option.{MatchOption}
-use Rattle.hart_frame.specs.declared.heard.delivery.LoneFrame.TheVariants.{NoFrame}
 use Rattle.hart_frame.specs.declared.heard.found.Found.{Found}
 use Rattle.hart_frame.specs.heard.Character.{Character}
-use Rattle.hart_frame.specs.heard.Delivery.{lone_of}
 use Rattle.hart_frame.specs.wire.FrameParts.{FrameParts}
 use Rattle.hart_frame.proofs.lemmas.Laws.{every_list_has_frames, frames_are_unambiguous-one_list}
 use Rattle.hart_device.specs.Device.{DeviceState}
@@ -42,15 +40,10 @@ abbrev pub IsGarbledReply : IdentityParts → List Character → Option FramePar
 IsGarbledReply identity chars answer = MatchOption answer ((request : GarbledRequest) → HasGarbled identity chars request → ⊥)
     (λ reply. (request : GarbledRequest) × HasGarbled identity chars request × (reply ≡ garbled_reply identity request))
 
-reply_by : (state : DeviceState) (process : Process) (chars : List Character) (brought : Brought) (answer : Option FrameParts)
+pub reply_by : (state : DeviceState) (process : Process) (chars : List Character) (brought : Brought) (answer : Option FrameParts)
     → BringsBy state.identity chars [] brought → IsGarbledReply state.identity chars answer → answer ≡ answer_to state process brought
 reply_by state process chars (Garbled request) (Some reply) has is =
     ap Some (is.2 ∙ ap (garbled_reply state.identity) (garbled_one state.identity chars is.0 request is.1 has))
 reply_by state process chars NoMessage (Some reply) nothing is = absurd (nothing is.0 is.1)
 reply_by state process chars (Garbled request) None has none = absurd (none request has)
 reply_by state process chars brought answer brings is = grind arith
-
-pub answer_without_frame : (state : DeviceState) (process : Process) (chars : List Character) (brought : Brought)
-    (answer : Option FrameParts) → (brings : Brings state.identity chars brought) → NoFrame ≡ lone_of brings.frames
-    → IsGarbledReply state.identity chars answer → answer ≡ answer_to state process brought
-answer_without_frame state process chars brought answer brings none is = grind (arith, common_steps, reply_by)

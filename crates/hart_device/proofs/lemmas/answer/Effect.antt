@@ -2,6 +2,7 @@
 use Rattle.std.proofs.Common.{◌≡◌, ◌≢◌, ℕ, arith, slice_get, Bool, true, false, ◌==◌, ◌&&◌, if◌then◌else◌, Option, None, Some, IfSome, Ok}
 use Rattle.std.proofs.Common.{Err}
 use Rattle.std.proofs.lemmas.Bool.Decides.{nat_tests}
+use Rattle.hart_values.specs.EachMaster.{with_master}
 use Rattle.hart_values.specs.declared.master_id.MasterId.{MasterId}
 use Rattle.hart_frame.specs.wire.FrameParts.{FrameParts, reply_parts}
 use Rattle.hart_commands.specs.Registers.{Overwrite, overwrite_of}
@@ -18,6 +19,12 @@ use Rattle.hart_device.specs.answer.Answer.{asked_effect, code_of, effect_of, is
 pub refused : (answered : Bool) (code : ℕ) (effect : Effect) → code ≢ 0
     → (if answered && (code == 0) then effect else Nothing) ≡ Nothing
 refused answered code effect not_zero = grind (arith, nat_tests)
+
+-- What a frame without effect leaves, if it is answered or not.
+pub without_effect : (answered : Bool) (master : MasterId) (effect : Effect) (state : DeviceState) → effect ≡ Nothing
+    → (if answered then after_reply master (after master effect state) else state)
+    ≡ record state { cold_start = if answered then with_master master false state.cold_start else state.cold_start }
+without_effect answered master effect state nothing = grind arith
 
 -- What is carried out of a frame that is answered is what it is judged to ask.
 pub effect_is_asked : (state : DeviceState) (frame : FrameParts) → is_answered state frame ≡ true

@@ -1,11 +1,12 @@
 -- What an image says, and that it says one thing.
 use Rattle.std.proofs.Common.{◌≡◌, ◌≢◌, ℕ, ◌-◌, ◌^◌, ◌<◌, ◌≤◌, ◌⊎◌, inl, inr, refl, sym, ◌∙◌, subst, arith, Bool, true, Some, List, [], ◌∷◌}
-use Rattle.std.proofs.Common.{◌++◌, drop, length, slice_index}
+use Rattle.std.proofs.Common.{◌++◌, drop, length, slice_index, Option, IfSome, IfNone, IfOk, IfErr}
 use Rattle.std.proofs.lemmas.Bool.Decides.{nat_tests}
 use Rattle.std.proofs.lemmas.Grind.{common_steps, elements}
 use Rattle.std.proofs.lemmas.List.{append_cancel_left, take-append-le}
 use Rattle.std.proofs.lemmas.Slice.{between_is}
 use Rattle.std.specs.List.{Contains, flat_map, sum_by}
+use Rattle.std.specs.Option.{ok_or}
 use Rattle.hart_values.specs.declared.each_master.EachMaster.{EachMaster}
 use Rattle.hart_values.proofs.lemmas.Laws.{packed_text_and_bytes_determine_each_other-one_text}
 use Rattle.hart_commands.specs.Registers.{AreValid, Contents, bytes_in, registers, size_of}
@@ -117,6 +118,15 @@ pub bad_field : (version : ℕ) (listed : List Register) → registers_of_versio
     → HoldsInvalid array ⊎ (7 < slice_index end 2) → IsImageFault (version ∷ (prefix ++ end)) BadField
 bad_field version listed known array prefix end long three has whole bad =
     (listed, known, grind (arith, common_steps), grind (arith, has, whole, last_is))
+
+-- What is read, if anything, or a fault.
+pub refused_or : {A E Bad : Type 0} (P : E → Type 0) (read : Option A) (fault : E) → IfNone read Bad → (Bad → P fault)
+    → IfErr (ok_or read fault) P
+refused_or P read fault bad gives = grind (arith, gives)
+
+pub kept_or : {A E : Type 0} (P Q R S : A → Type 0) (read : Option A) (fault : E) → IfSome read P → IfSome read Q → IfSome read R
+    → ((x : A) → P x → Q x → R x → S x) → IfOk (ok_or read fault) S
+kept_or P Q R S read fault p q r gives = grind (arith, gives)
 
 -- An image has no fault.
 pub images_have_no_fault : (state : DeviceState) (image : List ℕ) (fault : DeviceFault) → IsImageOf state image

@@ -11,4 +11,5 @@ returns-clause-image g c =
     let is = written_is c.args.self.now c.registers-registers.ensures.valid counter in grind (arith, common_steps)
 
 pub loop-register-preserved : goal.loop-register-preserved
-loop-register-preserved g c = rw (next_register c.loop-register.register-index c.loop-register-test.true) (grind (arith, common_steps, slice_index_or))
+loop-register-preserved g c =
+    rw (next_register c.loop-register.register-index c.loop-register-test.true) (grind (arith, common_steps, slice_index_or))
