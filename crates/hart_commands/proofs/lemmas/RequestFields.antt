@@ -1,5 +1,5 @@
 -- The fields of the data of a well-made request are its parts.
-use Rattle.std.proofs.Common.{◌≡◌, ℕ, ◌<◌, List, [], ◌∷◌, length, Some, None, refl, arith}
+use Rattle.std.proofs.Common.{◌≡◌, ℕ, ◌<◌, List, [], ◌∷◌, length, refl, arith}
 use Rattle.std.proofs.lemmas.Bool.Decides.{nat_tests}
 use Rattle.std.proofs.lemmas.Grind.{common_steps}
 use Rattle.std.proofs.lemmas.List.{take_all}
@@ -11,9 +11,9 @@ use Rattle.hart_commands.specs.declared.fields.FieldKind.{FieldKind}
 use Rattle.hart_commands.specs.declared.fields.FieldKind.TheVariants.{Bytes}
 use Rattle.hart_commands.specs.declared.fields.FieldSize.TheVariants.{AllBut}
 use Rattle.hart_commands.specs.declared.request.Request.{Request}
-use Rattle.hart_commands.specs.declared.request.Request.TheVariants.{ReadVariables, IdentifyByTag, WriteMessage, WriteTag, WriteAssembly}
-use Rattle.hart_commands.specs.declared.request.Request.TheVariants.{IdentifyByLongTag, WriteLongTag, ResetChanged}
-use Rattle.hart_commands.proofs.lemmas.Parts.{spelled}
+use Rattle.hart_commands.specs.declared.request.Request.TheVariants.{ReadVariables, WriteTag}
+use Rattle.hart_commands.specs.declared.request.Request.TheVariants.{ResetChanged}
+use Rattle.hart_commands.proofs.lemmas.Parts.{spelled, whole}
 
 -- a row that takes all bytes that are left has them
 pub all_left : (name : List ℕ) (kind : FieldKind) (bytes : List ℕ) → 0 < length bytes
@@ -24,12 +24,6 @@ pub parts_of_request : (request : Request) → IsRequest request
     → field_bytes (fields_of (request_rows (command_of request)) (request_data request)) ≡ request_parts request
 unfolding rows
 parts_of_request (ReadVariables list) is = all_left (codes "device variable codes") Bytes list is.0
-parts_of_request (IdentifyByTag tag) is = rw (← spelled 6 tag is) refl
-parts_of_request (WriteMessage message) is = rw (← spelled 24 message is) refl
 parts_of_request (WriteTag tag descriptor date) is = rw (← spelled 6 tag is.0, ← spelled 12 descriptor is.1, ← spelled 3 date is.2.0) refl
-parts_of_request (WriteAssembly assembly) is = rw (← spelled 3 assembly is) refl
-parts_of_request (IdentifyByLongTag long_tag) is = rw (← spelled 32 long_tag is) refl
-parts_of_request (WriteLongTag long_tag) is = rw (← spelled 32 long_tag is) refl
-parts_of_request (ResetChanged None) is = refl
-parts_of_request (ResetChanged (Some counter)) is = refl
-parts_of_request _ is = refl
+parts_of_request (ResetChanged counter) is = grind arith
+parts_of_request _ is = search (whole, is)

@@ -1,9 +1,9 @@
 -- What a device replies with code 0 to a well-made request is read again from its bytes.
-use Rattle.std.proofs.Common.{take, ◌≡◌, ℕ, zero, suc, ◌*◌, ◌/◌, ◌<◌, ◌≤◌, List, [], ◌∷◌, ◌++◌, length, map, min, Some, All, get_or}
+use Rattle.std.proofs.Common.{◌≡◌, ℕ, zero, suc, ◌*◌, ◌/◌, ◌<◌, ◌≤◌, List, [], ◌∷◌, ◌++◌, length, map, min, Some, All, get_or}
 use Rattle.std.proofs.Common.{refl, arith, append_assoc, append-nil, length-append}
 use Rattle.std.proofs.lemmas.Bool.Decides.{nat_tests}
 use Rattle.std.proofs.lemmas.Grind.{common_steps}
-use Rattle.std.proofs.lemmas.List.{length-map, take_at, drop_at, take_all}
+use Rattle.std.proofs.lemmas.List.{length-map, take_at, drop_at}
 use Rattle.std.proofs.lemmas.List.Elements.{All-cons, All-map}
 use Rattle.std.proofs.lemmas.Option.{get_or_from_slice_get, slice_get_within}
 use Rattle.std.specs.List.{flat_map}
@@ -20,7 +20,7 @@ use Rattle.hart_commands.specs.declared.register.Register.{Register}
 use Rattle.hart_commands.specs.declared.request.Request.{Request}
 use Rattle.hart_commands.specs.declared.value.UnitValue.{UnitValue}
 use Rattle.hart_commands.specs.declared.value.VariableReading.{VariableReading}
-use Rattle.hart_commands.proofs.lemmas.Parts.{by_spelling, spelled}
+use Rattle.hart_commands.proofs.lemmas.Parts.{by_spelling, spelled, whole}
 use Rattle.hart_device.specs.Device.{DeviceState}
 use Rattle.hart_device.specs.Process.{IsFloat, IsProcess, dynamic_variables}
 use Rattle.hart_device.specs.answer.Content.{reply_content, unit_value}
@@ -55,9 +55,6 @@ end_to_end n bytes_of of Sized size back (x ∷ xs) rest all =
 -- A content of a command is read again from its bytes.
 abbrev pub IsReadAgain : ℕ → ReplyContent → Type 0
 IsReadAgain command content = content_reading command (content_bytes content) ≡ Some content
-
-whole : (size : ℕ) (bytes : List ℕ) → length bytes ≡ size → take size bytes ≡ bytes
-whole size bytes long = take_all size bytes (omega (arith, long))
 
 tag_said : (tag descriptor date : List ℕ) → length tag ≡ 6 → length descriptor ≡ 12 → length date ≡ 3
     → saying 21 tag_of (tag ++ descriptor ++ date) ≡ Some (replied.Tag tag descriptor date)
