@@ -5,6 +5,4 @@ pub mod Parts
 pub mod Reply
 pub mod RequestMade
 pub mod Laws
-pub mod Parted
 pub mod RequestFields
-pub mod Named

@@ -9,5 +9,4 @@ returns-clause-written c = grind (arith, common_steps, between-put_mid)
 
 pub returns-clause-others : goal.returns-clause-others
 returns-clause-others c =
-    rw (c.range_of-range.ensures.start, c.range_of-range.ensures.end) (
-    grind (arith, common_steps, kept_apart))
+    rw (c.range_of-range.ensures.start, c.range_of-range.ensures.end) (grind (arith, common_steps, kept_apart))
