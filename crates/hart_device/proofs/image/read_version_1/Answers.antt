@@ -1,12 +1,10 @@
 use Rattle.std.proofs.Common.{◌≡◌, ◌≢◌, ℕ, List, ◌++◌, length, refl, sym, ◌∙◌, drop, replicate, arith}
 use Rattle.std.proofs.lemmas.Grind.{common_steps}
-use Rattle.std.specs.List.{flat_map}
 use Rattle.hart_commands.specs.declared.register.Register.{Register}
-use Rattle.hart_commands.specs.declared.register.Register.TheVariants.{Polling, Mode, Message, Tag, Descriptor, Date, Assembly, LongTag}
+use Rattle.hart_commands.specs.declared.register.Register.TheVariants.{LongTag}
 use Rattle.hart_device.specs.image.Image.{registers_of_version_1}
 use Rattle.hart_device.specs.registers.Ranges.{standing_for}
-use Rattle.hart_device.proofs.lemmas.image.Image.{bad_field, before_others, in_version_1, kept_or, read_is, refused_or}
-use Rattle.hart_device.proofs.lemmas.registers.Range.{filled}
+use Rattle.hart_device.proofs.lemmas.image.Image.{bad_field, before_others, in_version_1, kept_or, no_long_tag, read_is, refused_or}
 use Rattle.hart_device.proofs.image.read_version_1.Goals as goal
 
 pub returns-then-rest-clause-refused : goal.returns-then-rest-clause-refused
@@ -16,23 +14,6 @@ returns-then-rest-clause-refused c = (registers_of_version_1, refl, λ same. abs
 stands_before : (prefix others : List ℕ) → length prefix ≡ 50 → (register : Register) → register ≢ LongTag
     → standing_for register (prefix ++ others) ≡ standing_for register prefix
 stands_before prefix others len register differ = grind (arith, common_steps, before_others)
-
--- An array that holds the same for all of them holds those bytes.
-holds_prefix : (array prefix : List ℕ) → length prefix ≡ 50
-    → ((register : Register) → register ≢ LongTag → standing_for register array ≡ standing_for register prefix)
-    → flat_map (λ register. standing_for register array) registers_of_version_1 ≡ prefix
-holds_prefix array prefix len same =
-    let whole = filled prefix 0 registers_of_version_1 refl (sym len) in
-    cc (
-      same Polling (λ e. cc),
-      same Mode (λ e. cc),
-      same Message (λ e. cc),
-      same Tag (λ e. cc),
-      same Descriptor (λ e. cc),
-      same Date (λ e. cc),
-      same Assembly (λ e. cc),
-      whole,
-    )
 
 -- What the image has for a register is read of the array.
 is_read : (c : goal.After-ok_or) (register : Register) → register ≢ LongTag
@@ -55,5 +36,5 @@ returns-clause-kept c =
     let array = c.set_long_tag.new.self.bytes in
     rw (c.ok_or.ensures.value, c.split_at.ensures.by_index.0)
     (kept_or _ _ _ _ c.read_parts.result _ read.registers read.valid read.ending (λ parts contents valid ends.
-    read_is 1 _ refl parts array _ _ (holds_prefix array _ c.split_at.ensures.front_len (is_read c))
+    read_is 1 _ refl parts array _ _ c.split_at.ensures.front_len (λ register there. is_read c register (no_long_tag register there))
     (λ not_listed. c.set_long_tag.ensures.set) contents valid ends))

@@ -1,9 +1,9 @@
-use Rattle.std.proofs.Common.{refl, sym, ◌∙◌, arith}
+use Rattle.std.proofs.Common.{refl, ap, arith}
 use Rattle.std.proofs.lemmas.Grind.{common_steps}
 use Rattle.hart_commands.specs.Registers.{registers}
 use Rattle.hart_commands.specs.declared.register.Register.TheVariants.{LongTag}
 use Rattle.hart_commands.proofs.lemmas.Laws.{all_registers_are_listed_once-every}
-use Rattle.hart_device.proofs.lemmas.registers.Range.{filled}
+use Rattle.hart_device.specs.registers.Ranges.{standing_for}
 use Rattle.hart_device.proofs.lemmas.image.Image.{bad_field, before_others, kept_or, read_is, refused_or}
 use Rattle.hart_device.proofs.image.read_version_2.Goals as goal
 
@@ -24,5 +24,5 @@ returns-clause-kept c =
     rw (c.ok_or.ensures.value, c.split_at.ensures.by_index.0)
     (kept_or _ _ _ _ c.read_parts.result _ read.registers read.valid read.ending (λ parts contents valid ends.
     read_is 2 registers refl parts c.copy_from_slice.new.self c.split_at.result.0.now c.split_at.result.1.now
-    (filled _ 0 registers refl (sym c.copy_from_slice.ensures.len) ∙ c.copy_from_slice.ensures.after)
+    c.split_at.ensures.front_len (λ register there. ap (standing_for register) c.copy_from_slice.ensures.after)
     (λ not_listed. absurd (not_listed (all_registers_are_listed_once-every LongTag))) contents valid ends))

@@ -1,5 +1,5 @@
 -- What an image says, and that it says one thing.
-use Rattle.std.proofs.Common.{◌≡◌, ◌≢◌, ℕ, ◌-◌, ◌^◌, ◌<◌, ◌≤◌, ◌⊎◌, inl, inr, refl, sym, ◌∙◌, subst, arith, Bool, true, Some, List, [], ◌∷◌}
+use Rattle.std.proofs.Common.{◌≡◌, ◌≢◌, suc, ℕ, ◌-◌, ◌^◌, ◌<◌, ◌≤◌, ◌⊎◌, inl, inr, refl, sym, ◌∙◌, subst, arith, Bool, true, Some, List, [], ◌∷◌}
 use Rattle.std.proofs.Common.{◌++◌, drop, length, slice_index, Option, IfSome, IfNone, IfOk, IfErr}
 use Rattle.std.proofs.lemmas.Bool.Decides.{nat_tests}
 use Rattle.std.proofs.lemmas.Grind.{common_steps, elements}
@@ -24,7 +24,7 @@ use Rattle.hart_device.specs.image.Image.{registers_of_version, registers_of_ver
 use Rattle.hart_device.specs.image.ImageParts.{state_with}
 use Rattle.hart_device.specs.registers.Ranges.{HoldsInvalid, contents_in, end_of, standing_for}
 use Rattle.hart_device.specs.registers.Values.{values_of}
-use Rattle.hart_device.proofs.lemmas.registers.Range.{end_to_end, length_written, written}
+use Rattle.hart_device.proofs.lemmas.registers.Range.{end_to_end, filled, length_written, written}
 use Rattle.hart_device.proofs.lemmas.registers.Registers.{bytes_in-contents_by, same_contents}
 
 -- What holds of the registers of version 1, which are all but the long tag, and of all, holds of those of a version that is known.
@@ -32,7 +32,13 @@ by_version : (P : List Register → Type 0) → P registers_of_version_1 → P r
     → registers_of_version version ≡ Some listed → P listed
 by_version P first second version listed known = grind (arith, nat_tests)
 
--- Every other register is.
+ends_of : (version : ℕ) (listed : List Register) → registers_of_version version ≡ Some listed → end_to_end 0 listed ≡ true
+ends_of = by_version (λ listed. end_to_end 0 listed ≡ true) refl refl
+
+-- The long tag is not among the registers of version 1, and every other register is.
+pub no_long_tag : (register : Register) → Contains registers_of_version_1 register → register ≢ LongTag
+no_long_tag register there e = grind (arith, elements, there.1, there.2)
+
 pub in_version_1 : (register : Register) → register ≢ LongTag → Contains registers_of_version_1 register
 in_version_1 register differs =
     let there = all_registers_are_listed_once-every register in
@@ -47,7 +53,7 @@ listed_or_not : (version : ℕ) (listed : List Register) → registers_of_versio
 listed_or_not = by_version HasOrNot in_first (λ register. inl (all_registers_are_listed_once-every register))
   where
     in_first : HasOrNot registers_of_version_1
-    in_first LongTag = inr (refl, λ has. grind (arith, elements, has.1, has.2), in_version_1 Tag (λ e. cc))
+    in_first LongTag = inr (refl, λ has. no_long_tag LongTag has refl, in_version_1 Tag (λ e. cc))
     in_first r = inl (in_version_1 r (λ e. cc))
 
 -- A state has one image of each version.
@@ -76,19 +82,30 @@ devices_are_kept_whole-any_cold_start state image cold_start is = grind (arith, 
 held_in_image : (state : DeviceState) (image : List ℕ) (is : IsImageOf state image) (register : Register) → Contains is.listed register
     → standing_for register (drop 1 image) ≡ bytes_in state.contents register
 held_in_image state image is register there =
-    let ends = by_version (λ listed. end_to_end 0 listed ≡ true) refl refl is.version is.listed is.known in
-    rw is.written (rw there.2 at (written (bytes_in state.contents) [] (image_ending state) is.listed ends (λ r. (is.contents r).0)
-    there.0 register there.1))
+    rw is.written (rw there.2 at (written (bytes_in state.contents) [] (image_ending state) is.listed
+    (ends_of is.version is.listed is.known) (λ r. (is.contents r).0) there.0 register there.1))
+
+-- Registers that stand the same in an array and in the bytes of a version are these bytes.
+same_bytes : (f g : Register → List ℕ) (listed : List Register)
+    → ((register : Register) → Contains listed register → f register ≡ g register) → flat_map f listed ≡ flat_map g listed
+same_bytes f g [] same = refl
+same_bytes f g (register ∷ later) same =
+    let rest = same_bytes f g later (λ r there. same r (suc there.0, omega (arith, there.1), there.2)) in
+    grind (arith, same register (0, omega arith, refl), rest)
 
 -- What was read of the registers in an array, and of the bytes that end an image, is what the image says.
 pub read_is : (version : ℕ) (listed : List Register) → registers_of_version version ≡ Some listed
-    → (parts : ImageParts) (array prefix end : List ℕ) → flat_map (λ register. standing_for register array) listed ≡ prefix
+    → (parts : ImageParts) (array prefix end : List ℕ) → length prefix ≡ sum_by size_of listed
+    → ((register : Register) → Contains listed register → standing_for register array ≡ standing_for register prefix)
     → ((Contains listed LongTag → ⊥) → IsLongTagOf (standing_for Tag array) (standing_for LongTag array))
     → values_of parts.values ≡ contents_in array → AreValid (values_of parts.values) × (parts.counter < 2 ^ 16)
     → two_bytes parts.counter ++ flags_of parts.flags.changed parts.flags.protected ∷ [] ≡ end
     → (identity : IdentityParts) → IsImageOf (state_with identity parts) (version ∷ (prefix ++ end))
-read_is version listed known parts array prefix end fill long_tag contents valid ends identity =
-    let held : flat_map (bytes_in (contents_in array)) listed ≡ prefix = grind (arith, common_steps, flat_map, bytes_in-contents_by) in
+read_is version listed known parts array prefix end long same long_tag contents valid ends identity =
+    let fill = filled prefix 0 listed (ends_of version listed known) (omega (arith, long)) in
+    let held : flat_map (bytes_in (contents_in array)) listed ≡ prefix =
+    same_bytes (bytes_in (contents_in array)) (λ r. standing_for r prefix) listed
+    (λ r there. bytes_in-contents_by (λ x. standing_for x array) r ∙ same r there) ∙ fill in
     record {
       contents = valid.0;
       counter = valid.1;
