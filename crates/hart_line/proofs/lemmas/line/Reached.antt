@@ -3,7 +3,6 @@ use Rattle.std.proofs.Common.{◌∙◌, ◌∷◌, arith, ◌≡◌, ℕ, ◌+�
 use Rattle.std.proofs.Common.{Bool, cond, count_by, drop}
 use Rattle.std.proofs.lemmas.Grind.{common_steps}
 use Rattle.std.proofs.lemmas.List.{take_more, drop_more}
-use Rattle.std.proofs.lemmas.Option.{slice_get-get_or}
 use Rattle.std.proofs.lemmas.List.Sums.{sum_by-append}
 use Rattle.hart_values.specs.declared.master_id.MasterId.TheVariants.{Primary, Secondary}
 use Rattle.hart_device.specs.Device.{DeviceState, IsDevice}
@@ -12,9 +11,8 @@ use Rattle.hart_master.specs.Master.{MasterState}
 use Rattle.hart_master.specs.declared.hand.Hand.TheVariants.{Empty}
 use Rattle.hart_line.specs.declared.event.LineEvent.{LineEvent}
 use Rattle.hart_line.specs.declared.fault.Leg.{Leg}
-use Rattle.hart_line.specs.declared.fault.LineFault.TheVariants.{Undetected}
 use Rattle.hart_line.specs.line.Line.{LineState, Stands, Stepped}
-use Rattle.hart_line.specs.world.Faults.{HasUndetected, IsFault}
+use Rattle.hart_line.specs.world.Faults.{HasUndetected}
 use Rattle.hart_line.specs.world.Promises.{start_from, AreWellMade}
 use Rattle.hart_line.specs.world.Step.{IsLast, Step}
 use Rattle.hart_line.specs.world.World.{MarksWithin, Start, World, first_world}
@@ -69,12 +67,6 @@ reached_first device process primary secondary line is one other same master ano
       marks = λ id mark is. grind arith;
       well_made = search rules;
     }
-
--- The event at which a script stops.
-pub fault_at : (start : Start) (events : List LineEvent) (n : ℕ) (unused : LineEvent) (world : World) (leg : Leg) → n < length events
-    → IsLast start (take n events) world → HasUndetected start world (get_or events n unused) leg
-    → IsFault start events (Undetected n leg)
-fault_at start events n unused world leg here last undetected = grind (arith, common_steps, slice_get-get_or)
 
 -- What holds of the world that a script led to holds of each last world.
 pub of_last : (P : World → Type 0) {start : Start} {events : List LineEvent} {line : LineState} → (r : IsReached start events line)

@@ -1,6 +1,5 @@
 -- What is brought to the device, and the steps of a script: what holds at first and is kept by every step holds of every world of it.
-use Rattle.std.proofs.Common.{arith, ◌≡◌, Bool, ap, refl, subst, Option, None, Some, List, [], ◌∷◌, ◌++◌, ◌⊎◌, inl, inr, ℕ, length, ◌≤◌}
-use Rattle.std.proofs.Common.{◌+◌, ◌%◌, ◌∙◌, true}
+use Rattle.std.proofs.Common.{arith, ◌≡◌, Bool, ap, refl, subst, Option, None, Some, List, [], ◌∷◌, ◌++◌, ◌⊎◌, inl, inr, ℕ, length}
 use Rattle.std.proofs.lemmas.Grind.{common_steps}
 use Rattle.std.proofs.lemmas.List.{length-append, map-append}
 use Rattle.std.proofs.Math.Nat.{mod-add-mod}
@@ -22,7 +21,7 @@ use Rattle.hart_line.specs.world.Promises.{IsStepOf, Submission, brought_in_step
 use Rattle.hart_line.specs.world.Spoken.{SpokenFrame}
 use Rattle.hart_line.specs.world.Step.{IsTurn, LeadsTo, Step, replied, spoken_request, submitted, turned, effect_on, executions_after}
 use Rattle.hart_line.specs.world.Step.{marks_after}
-use Rattle.hart_line.specs.world.World.{state_of, InHand, Start, World, Execution, MarksWithin, overwrites_of, is_changed}
+use Rattle.hart_line.specs.world.World.{state_of, InHand, Start, World, Execution, MarksWithin, overwrites_of}
 use Rattle.hart_line.specs.world.Damage.{Reaches}
 use Rattle.hart_line.proofs.lemmas.world.Basics.{none_or_some, with_master-cases}
 use Rattle.hart_frame.specs.wire.FrameParts.{FrameParts}
@@ -140,11 +139,6 @@ leads_more start [] event world mid next run step = (next, subst (λ w. Step sta
 leads_more start (e ∷ events) event world mid next run step = (run.0, run.1, leads_more start events event run.0 mid next run.2 step)
 
 -- THE STATE OF THE DEVICE AFTER AN EFFECT
--- A mark lies before one execution more.
-is_changed-more : (initially : Bool) (mark : Option ℕ) (count : ℕ) → ((m : ℕ) → mark ≡ Some m → m ≤ count)
-    → true ≡ is_changed initially mark (count + 1)
-is_changed-more initially mark count within = grind (arith, nat_tests)
-
 -- States are the same if their parts are.
 pub same_state : (a b : DeviceState) → a.identity ≡ b.identity → a.contents ≡ b.contents → a.counter ≡ b.counter
     → a.changed.primary ≡ b.changed.primary → a.changed.secondary ≡ b.changed.secondary → a.protected ≡ b.protected
@@ -163,13 +157,7 @@ pub state-after : (initial : DeviceState) (world next : World) (id : MasterId) (
     → next.protected ≡ world.protected
     → record (after id effect (state_of initial world)) { cold_start = next.cold_start } ≡ state_of initial next
 state-after initial world next id number (Executes overwrite) within executions marks protected =
-    let entry : Execution = record { submission = number; overwrite = overwrite } in
-    let more : length (world.executions ++ entry ∷ []) ≡ length world.executions + 1 = grind (arith, common_steps) in
-    rw (executions, marks, protected) (same_state _ _ refl
-    (contents-more world.executions entry initial.contents)
-    (rw more (mod-add-mod (initial.counter + length world.executions) 65536 1 ∙ ap (λ n. n % 65536) (omega arith)))
-    (rw more (is_changed-more initial.changed.primary world.marks.primary (length world.executions) (within Primary)))
-    (rw more (is_changed-more initial.changed.secondary world.marks.secondary (length world.executions) (within Secondary)))
-    refl refl)
-state-after initial world next id number effect within executions marks protected =
-    grind (arith, same_state, nat_tests)
+    rw (executions, marks, protected) (same_state _ _ refl (contents-more world.executions _ initial.contents)
+    (grind (arith, common_steps, mod-add-mod)) (grind (arith, common_steps, nat_tests, within Primary))
+    (grind (arith, common_steps, nat_tests, within Secondary)) refl refl)
+state-after initial world next id number effect within executions marks protected = grind (arith, same_state, nat_tests)

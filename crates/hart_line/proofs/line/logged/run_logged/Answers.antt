@@ -1,9 +1,10 @@
 use Rattle.std.proofs.Common.{◌∙◌, [], ap, arith, refl}
 use Rattle.std.proofs.lemmas.List.{take_all}
+use Rattle.std.proofs.lemmas.Option.{slice_get-get_or}
 use Rattle.hart_device.specs.Device.{DeviceState}
 use Rattle.hart_line.specs.world.Promises.{start_from}
 use Rattle.hart_line.proofs.lemmas.Laws.{scripts_keep_their_promises-kept}
-use Rattle.hart_line.proofs.lemmas.line.Reached.{fault_at, of_last, reached_first, reached_more, noted_stands, stepped_on}
+use Rattle.hart_line.proofs.lemmas.line.Reached.{of_last, reached_first, reached_more, noted_stands, stepped_on}
 use Rattle.hart_line.proofs.lemmas.line.Reached.{undetected_on, with_spoken, room_for_each}
 use Rattle.hart_line.proofs.line.logged.run_logged.Goals as goal
 
@@ -24,9 +25,9 @@ returns-in-Err-clause-fault g c =
     let start = start_from c.args.device c.args.process.now c.args.primary c.args.secondary in
     let (noted, has, reached) = c.loop-index.invariant.told in
     let stands = noted_stands start reached.world _ noted c.loop-index.invariant.room.nothing_spoken reached.stands in
-    rw (c.from.ensures, c.at.ensures) (fault_at start c.args.events.now c.loop-index.index _ reached.world c.in-Err.damage.leg
-    c.loop-index-test.true reached.is_last (undetected_on start reached.world _ _
-    (rw c.index-events-index.is at (c.in-Err.ensures.stopped start (with_spoken [] reached.world) refl stands))))
+    let here = slice_get-get_or c.args.events.now c.loop-index.index _ c.loop-index-test.true in
+    rw (c.from.ensures, c.at.ensures) (reached.world, _, reached.is_last, here, undetected_on start reached.world _ _
+    (rw c.index-events-index.is at (c.in-Err.ensures.stopped start (with_spoken [] reached.world) refl stands)))
 
 pub returns-in-Err-clause-detectable_damage_is_detected : goal.returns-in-Err-clause-detectable_damage_is_detected
 returns-in-Err-clause-detectable_damage_is_detected g c =

@@ -1,9 +1,10 @@
 use Rattle.std.proofs.Common.{◌∙◌, arith, refl}
 use Rattle.std.proofs.lemmas.Grind.{common_steps}
 use Rattle.std.proofs.lemmas.List.{take_all}
+use Rattle.std.proofs.lemmas.Option.{slice_get-get_or}
 use Rattle.hart_line.specs.world.Promises.{start_from}
 use Rattle.hart_line.proofs.lemmas.Laws.{scripts_have_one_last_world-no_fault, scripts_have_one_last_world-one_fault}
-use Rattle.hart_line.proofs.lemmas.line.Reached.{fault_at, of_last, reached_first, reached_more, room_for_others}
+use Rattle.hart_line.proofs.lemmas.line.Reached.{of_last, reached_first, reached_more, room_for_others}
 use Rattle.hart_line.proofs.line.run.carry_out.Goals as goal
 
 pub loop-index-init : goal.loop-index-init
@@ -18,9 +19,9 @@ pub returns-in-Err-clause-fault : goal.returns-in-Err-clause-fault
 returns-in-Err-clause-fault g c =
     let start = start_from c.args.device c.args.process.now c.args.primary c.args.secondary in
     let reached = c.loop-index.invariant.reached in
-    rw c.at.ensures (fault_at start c.args.events.now c.loop-index.index _ reached.world c.in-Err.damage.leg c.loop-index-test.true
-    reached.is_last
-    (rw c.index-events-index.is at (c.in-Err.ensures.stopped start reached.world refl reached.stands)))
+    let here = slice_get-get_or c.args.events.now c.loop-index.index _ c.loop-index-test.true in
+    rw c.at.ensures (reached.world, _, reached.is_last, here,
+    rw c.index-events-index.is at (c.in-Err.ensures.stopped start reached.world refl reached.stands))
 
 pub loop-index-preserved : goal.loop-index-preserved
 loop-index-preserved g c =

@@ -1,4 +1,4 @@
-use Rattle.std.proofs.Common.{◌∙◌, arith, ◌≡◌, ℕ, ◌≤◌, true, false, List, [], ◌∷◌, length, None, Result}
+use Rattle.std.proofs.Common.{arith, ◌≡◌, ℕ, ◌≤◌, true, false, List, [], ◌∷◌, length, None, Result}
 use Rattle.std.proofs.lemmas.Bool.{false_from_ne_true}
 use Rattle.std.proofs.lemmas.Bool.Decides.{nat_tests}
 use Rattle.std.proofs.lemmas.Fmt.{IsAscii-from_digits}
@@ -29,9 +29,7 @@ decimal_of-parsed : {E : Type 0} (most_digits : ℕ) (word : List ℕ) (read : R
 decimal_of-parsed most_digits word read parses short plain = grind (arith, common_steps, nat_tests, parse_plain, digits_tell)
 
 pub returns-in-Ok : goal.returns-in-Ok
-returns-in-Ok c =
-    c.ok.ensures.value ∙ decimal_of-parsed _ c.args.word.now c.parse.result (rw c.in-Ok.ensures.cases.0 at c.parse.ensures.value.0)
-    (omega arith) (cc)
+returns-in-Ok c = grind (arith, common_steps, decimal_of-parsed)
 
 pub returns-in-Err : goal.returns-in-Err
 returns-in-Err c = decimal_of-no_text _ _ c.in-Err.ensures.cases.0
