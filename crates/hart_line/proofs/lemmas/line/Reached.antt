@@ -1,9 +1,8 @@
 -- How far a script has come, and for how much of it a line has room.
 use Rattle.std.proofs.Common.{◌∙◌, ◌∷◌, arith, ◌≡◌, ℕ, ◌+◌, ◌<◌, sym, refl, List, [], length, take, get_or, rules, append-nil, ◌++◌}
-use Rattle.std.proofs.Common.{Bool, cond, count_by, drop}
+use Rattle.std.proofs.Common.{drop}
 use Rattle.std.proofs.lemmas.Grind.{common_steps}
 use Rattle.std.proofs.lemmas.List.{take_more, drop_more}
-use Rattle.std.proofs.lemmas.List.Sums.{sum_by-append}
 use Rattle.hart_values.specs.declared.master_id.MasterId.TheVariants.{Primary, Secondary}
 use Rattle.hart_device.specs.Device.{DeviceState, IsDevice}
 use Rattle.hart_device.specs.declared.process.Process.{Process}
@@ -105,18 +104,13 @@ stepped_on start world event line noted are s = record {
 }
 
 -- THE ROOM
--- The first of some events is counted with the others.
-count_first : (p : LineEvent → Bool) (event : LineEvent) (events : List LineEvent)
-    → count_by p (event ∷ events) ≡ count_by p (event ∷ []) + count_by p events
-count_first p event events = sum_by-append (λ event. cond (p event) 1 0) (event ∷ []) events
-
 -- If there is room for the events that are left, there is room for those left after the next of them.
 pub room_for_others : (events : List LineEvent) (n : ℕ) (unused : LineEvent) (old new : LineState) → n < length events
     → HasRoomFor (drop n events) old → LeavesRoom (get_or events n unused) old new → HasRoomFor (drop (n + 1) events) new
-room_for_others events n unused old new here r leaves = grind (arith, common_steps, drop_more, count_first)
+room_for_others events n unused old new here r leaves = grind (arith, common_steps, drop_more)
 
 -- So there is for each of those left after it, once what was spoken in it is let go.
 pub room_for_each : (events : List LineEvent) (n : ℕ) (unused : LineEvent) (old new : LineState) → n < length events
     → HasRoomForEach (drop n events) old → LeavesRoom (get_or events n unused) old new
     → HasRoomForEach (drop (n + 1) events) (record new { spoken = [] })
-room_for_each events n unused old new here r leaves = grind (arith, common_steps, drop_more, count_first)
+room_for_each events n unused old new here r leaves = grind (arith, common_steps, drop_more)

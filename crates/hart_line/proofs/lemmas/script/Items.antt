@@ -4,7 +4,7 @@ use Rattle.std.proofs.Common.{Option, Some, refl, arith}
 use Rattle.std.proofs.Math.Seq.{drop-append_seam}
 use Rattle.std.proofs.lemmas.Bool.Decides.{nat_tests}
 use Rattle.std.proofs.lemmas.Grind.{common_steps}
-use Rattle.std.proofs.lemmas.List.{append-nil, append_assoc, length-append, take_rest}
+use Rattle.std.proofs.lemmas.List.{append_assoc, length-append, take_rest}
 use Rattle.std.proofs.lemmas.Nat.Bits.{bit_at-lt}
 use Rattle.std.specs.Int.{bit_at}
 use Rattle.std.specs.Option.{option_map}
@@ -78,12 +78,6 @@ pub item_read : (text : List ℕ) (chars new : List Character) (rest : List ℕ)
 item_read text chars new rest char len reads lead pushed =
     let items = items_of-item rest lead.item lead.tail lead.begins in
     grind (arith, common_steps, take_rest, drop-append_seam, length-append, append_assoc, lead.begins.spelled)
-
--- a text that is read to its end has the characters that were read
-pub all_items : (text : List ℕ) (chars : List Character) (rest : List ℕ) → length rest ≡ 0 → ReadsTo text chars rest
-    → items_of text ≡ Some chars
-unfolding items_of
-all_items text chars rest ended reads = grind (arith, append-nil)
 
 -- an item without fault bits begins a text
 pub begins_as_plain : (text : List ℕ) (char : Character) (byte : ℕ) → 2 ≤ length text → AreDigits (get_or text 0 0) (get_or text 1 0)

@@ -1,11 +1,11 @@
 -- A script leads to one world, if all damage is detected, and past no undetected damage; and detectable damage is detected.
 use Rattle.std.proofs.Common.{append-nil, ◌≡◌, ℕ, ◌<◌, ◌∙◌, sym, subst, arith, Option, None, Some, List, [], ◌∷◌, ◌++◌, suc, pred, take}
-use Rattle.std.proofs.Common.{drop, ◌≤◌, refl, length, inl, inr}
+use Rattle.std.proofs.Common.{drop, ◌≤◌, refl, inl, inr}
 use Rattle.std.proofs.lemmas.Grind.{common_steps}
 use Rattle.std.specs.List.{slice_get}
 use Rattle.hart_values.specs.EachMaster.{of_master}
 use Rattle.hart_values.specs.declared.master_id.MasterId.{MasterId}
-use Rattle.hart_frame.specs.heard.Character.{Character, faultless}
+use Rattle.hart_frame.specs.heard.Character.{Character}
 use Rattle.hart_frame.specs.wire.FrameParts.{FrameParts}
 use Rattle.hart_frame.specs.declared.heard.found.Found.{Found}
 use Rattle.hart_frame.specs.heard.Frames.{AreFrames}
@@ -129,16 +129,13 @@ not_undetected {sent = sent} chars frames arrived u is are detected = grind (ari
 heard_detected : (heard : Heard) (sent : Option SpokenFrame) → ((said : SpokenFrame) → sent ≡ Some said → 2 ≤ said.preambles)
     → IsDetectable heard sent → IsUndetected heard sent → ⊥
 heard_detected Clean (Some said) long d u =
-    not_undetected (faultless u.are_heard.0) (record { start = said.preambles; stop = length u.are_heard.0; frame = said.frame } ∷ [])
-    (Some said.frame) u u.are_heard.2 (messages_have_their_frame_alone-message said.frame said.preambles u.are_heard.0 (long said refl)
-    u.are_heard.1)
-    (refl, refl)
+    not_undetected _ _ (Some said.frame) u u.are_heard.2
+    (messages_have_their_frame_alone-message said.frame said.preambles u.are_heard.0 (long said refl) u.are_heard.1) (refl, refl)
 heard_detected (Chars chars) None long d u = d
 heard_detected (Chars chars) (Some said) long (inl marked) u =
     elim (damaged_messages_have_no_other_frame-marked said.frame said.preambles chars marked) [
       | inl empty ↦ not_undetected chars [] None u u.are_heard empty refl
-      | inr one ↦ not_undetected chars (record { start = marked.left; stop = length chars; frame = said.frame } ∷ []) (Some said.frame) u
-          u.are_heard one (refl, refl)
+      | inr one ↦ not_undetected chars _ (Some said.frame) u u.are_heard one (refl, refl)
     ]
 heard_detected (Chars chars) (Some said) long (inr check) u =
     not_undetected chars [] None u u.are_heard (damaged_messages_have_no_other_frame-check said.frame said.preambles chars check) refl

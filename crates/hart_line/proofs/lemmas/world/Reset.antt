@@ -1,5 +1,5 @@
 -- What holds since a master's last reset, and after a refused command.
-use Rattle.std.proofs.Common.{◌≤◌, ◌≡◌, ◌≢◌, ℕ, ap, refl, subst, arith, Option, IfSome, Ok, false, List, [], ◌∷◌, ◌++◌}
+use Rattle.std.proofs.Common.{◌≤◌, ◌≡◌, ◌≢◌, ℕ, refl, arith, Option, IfSome, Ok, false, List, [], ◌∷◌, ◌++◌}
 use Rattle.std.proofs.Common.{length, append_assoc, ◌⊎◌, inl, inr}
 use Rattle.std.proofs.lemmas.Bool.Decides.{nat_tests}
 use Rattle.std.proofs.lemmas.Grind.{common_steps}
@@ -7,7 +7,6 @@ use Rattle.hart_values.specs.EachMaster.{of_master}
 use Rattle.hart_values.specs.declared.each_master.EachMaster.{EachMaster}
 use Rattle.hart_values.specs.declared.master_id.MasterId.{MasterId}
 use Rattle.hart_frame.specs.wire.FrameParts.{FrameParts}
-use Rattle.hart_commands.specs.Registers.{registers_of}
 use Rattle.hart_commands.specs.declared.request.Request.TheVariants.{ResetChanged}
 use Rattle.hart_device.specs.Device.{DeviceState, Effect, Nothing, Resets}
 use Rattle.hart_device.specs.answer.Answer.{after_refusal, code_of, effect_of, is_answered, reading_of}
@@ -17,7 +16,7 @@ use Rattle.hart_line.specs.declared.event.LineEvent.{LineEvent}
 use Rattle.hart_line.specs.declared.event.LineEvent.TheVariants.{Turn}
 use Rattle.hart_line.specs.world.Promises.{brought_in_step, HasNoReset, IsLastReset, IsRefusedByDevice, IsStepOf}
 use Rattle.hart_line.specs.world.Step.{IsLast, LeadsTo, effect_on, executions_after, marks_after}
-use Rattle.hart_line.specs.world.World.{Execution, Start, World, first_world, overwrites_of, state_of}
+use Rattle.hart_line.specs.world.World.{Execution, Start, World, first_world, state_of}
 use Rattle.hart_line.proofs.lemmas.world.Leads.{leads_on}
 use Rattle.hart_line.proofs.lemmas.world.Steps.{along, entered, leads_more, master_in, turn_cases}
 
@@ -42,8 +41,7 @@ since_reset start events world last id run none =
   where
     quiet : (before next : World) (event : LineEvent) (here : IsStepOf start world events before event next) → id ≡ master_in event
         → effect_on (state_of start.device before) (brought_in_step start before event next here.step) ≢ Resets
-    quiet before next (Turn who up down) here own = subst (λ m. (turn : IsStepOf start world events before (Turn m up down) next)
-        → effect_on (state_of start.device before) turn.step.brought ≢ Resets) own (none before next up down) here
+    quiet before next (Turn who up down) here own = (rw own at (none before next up down)) here
     quiet before next event here own = λ resets. cc
 
 given_one : (state : DeviceState) (frame : FrameParts) (given : Option ℕ) (counter : ℕ) → reading_of frame ≡ Ok (ResetChanged given)
@@ -69,11 +67,7 @@ unseen start events last run who before given r clear =
     let resets : effect_on (state_of start.device before) r.turn.step.brought ≡ Resets = grind (arith, common_steps) in
     let since = since_reset start r.turn.suffix r.next last who (after_step start events last run before r.next _ r.turn) r.last in
     let same : last.executions ≡ before.executions = grind (arith, nat_tests) in
-    let counter : (state_of start.device last).counter ≡ (state_of start.device before).counter = grind (arith, common_steps) in (
-      given_one (state_of start.device before) r.frame given _ r.reading r.resets counter,
-      counter,
-      ap (λ es. registers_of (overwrites_of es) start.device.contents) same,
-    )
+    rw same (given_one (state_of start.device before) r.frame given _ r.reading r.resets refl, refl, refl)
 
 -- A REFUSED COMMAND
 -- A refused command, or one that is not answered, has no effect.

@@ -11,12 +11,11 @@ use Rattle.std.proofs.lemmas.Bool.Decides.{nat_tests}
 use Rattle.std.proofs.lemmas.List.Elements.{filter_map-append}
 use Rattle.std.specs.List.{position_from, slice_split}
 use Rattle.std.specs.Option.{option_or, option_to_list}
-use Rattle.std.specs.Prelude.{IsTrue}
 use Rattle.std.specs.Str.Lines.{strip_carriage_return}
 use Rattle.hart_line.specs.declared.event.LineEvent.{LineEvent}
 use Rattle.hart_line.specs.declared.fault.LineFault.{LineFault}
 use Rattle.hart_line.specs.script.Lines.{lines_of, words_of}
-use Rattle.hart_line.specs.script.Rows.{AreEvents, HasFirstBadLine, is_bad_line, IsScriptFault, lines_in_words, SaysLine}
+use Rattle.hart_line.specs.script.Rows.{AreEvents, IsScriptFault, lines_in_words, SaysLine}
 use Rattle.hart_line.proofs.script.read_script.Goals as goal
 
 -- the first place in some elements and more is one in the first ones, or else in the others
@@ -50,19 +49,13 @@ AreEvents-more text n m number words events new said stands more before says pus
     let cut : take m lines ≡ take n lines ++ words ∷ [] = grind (arith, take_more, stands.within, stands.is) in
     rw (cut, pushed) (grind (arith, nat_tests, position_from-append, filter_map-append))
 
--- the first bad line
-first_bad : (text : List ℕ) (n number : ℕ) (words : List (List ℕ)) (events : List LineEvent) → StandsAt text n words → number ≡ n + 1
-    → AreEvents (take n (lines_in_words text)) events → IsTrue (is_bad_line words) → HasFirstBadLine text number
-first_bad text n number words events stands counted before bad =
-    let lines = lines_in_words text in
-    let cut : lines ≡ take n lines ++ words ∷ drop (suc n) lines =
-    grind (arith, common_steps, take-append-drop, drop-cons) in grind (arith, common_steps, length-take-le, position_from-append)
-
 -- the fault of a line is that of its text
 line_fault : (text : List ℕ) (n number : ℕ) (words : List (List ℕ)) (events : List LineEvent) (fault : LineFault)
     → StandsAt text n words → number ≡ n + 1 → AreEvents (take n (lines_in_words text)) events → SaysLine number words (Err fault)
     → IsScriptFault text fault
-line_fault text n number words events fault stands counted before says = grind (arith, first_bad)
+line_fault text n number words events fault stands counted before says =
+    let cut : lines_in_words text ≡ take n (lines_in_words text) ++ words ∷ drop (suc n) (lines_in_words text) =
+    grind (arith, common_steps, take-append-drop, drop-cons) in grind (arith, common_steps, length-take-le, position_from-append)
 
 pub returns-in_err-event-clause-fault : goal.returns-in_err-event-clause-fault
 returns-in_err-event-clause-fault c =
@@ -71,9 +64,8 @@ returns-in_err-event-clause-fault c =
     c.split-part-items.ensures.done c.split-part-items.ensures.closure (λ x b q k. search (rules, tests))))
     c.loop-part.yielded _ c.loop-part.yielded_by _ _ c.in-Some.part c.in-Some.is c.next.ensures.steps in
     let stop = err_from_is_err_and c.from_residual.result c.from_residual.ensures.1 in
-    rw (stop.1, stop.2) (line_fault c.args.text.now (length c.loop-part.yielded) _ _ _ _
-    (stands_at c.args.text.now _ c.in-Some.part.now _ t.0 t.1 c.without_return.ensures)
-    (ap (λ (k : ℕ). k + 1) c.loop-part.invariant.counted) c.loop-part.invariant.said c.in_err-event.ensures)
+    let stands = stands_at c.args.text.now _ c.in-Some.part.now _ t.0 t.1 c.without_return.ensures in
+    rw (stop.1, stop.2) (line_fault c.args.text.now _ _ _ _ _ stands (omega arith) c.loop-part.invariant.said c.in_err-event.ensures)
 
 pub loop-part-preserved-in_default : goal.loop-part-preserved-in_default
 loop-part-preserved-in_default c =
@@ -108,9 +100,5 @@ returns-clause-events c =
     let all = YieldsList-end (YieldsList-at c.into_iter-part-iterator.ensures.into_iter_gives
     (YieldsList-from_slice_split _ (λ (byte : ℕ). byte == 10) c.args.text.now c.split-part-items.ensures.rest
     c.split-part-items.ensures.done c.split-part-items.ensures.closure (λ x b q k. search (rules, tests))))
-    c.loop-part.yielded _ c.loop-part.yielded_by _ _ c.in-None.is c.next.ensures.steps in grind (
-      arith,
-      common_steps,
-      length-map,
-      take_all,
-    )
+    c.loop-part.yielded _ c.loop-part.yielded_by _ _ c.in-None.is c.next.ensures.steps in
+    grind (arith, common_steps, length-map, take_all)

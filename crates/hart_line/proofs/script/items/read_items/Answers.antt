@@ -1,9 +1,10 @@
 use Rattle.std.proofs.Common.{arith, ap}
 use Rattle.std.proofs.lemmas.Grind.{common_steps}
-use Rattle.std.proofs.lemmas.List.{length_push}
+use Rattle.std.proofs.lemmas.List.{append-nil, length_push}
 use Rattle.hart_frame.specs.heard.Character.{Character}
 use Rattle.hart_line.specs.Filling.{Filled}
-use Rattle.hart_line.proofs.lemmas.script.Items.{all_items, item_read, items_of-none}
+use Rattle.hart_line.specs.script.Items.{items_of}
+use Rattle.hart_line.proofs.lemmas.script.Items.{item_read, items_of-none}
 use Rattle.hart_line.proofs.script.items.read_items.Goals as goal
 
 pub loop-lead-preserved : goal.loop-lead-preserved
@@ -15,4 +16,5 @@ pub returns-then-not-is_empty : goal.returns-then-not-is_empty
 returns-then-not-is_empty c = grind (arith, common_steps, items_of-none)
 
 pub returns : goal.returns
-returns c = grind (arith, common_steps, all_items)
+unfolding items_of
+returns c = grind (arith, common_steps, append-nil)
