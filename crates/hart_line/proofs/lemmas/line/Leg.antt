@@ -1,6 +1,5 @@
 -- What arrives in a leg, what it brings the device, and what is spoken.
-use Rattle.std.proofs.Common.{◌≡◌, ℕ, ◌≤◌, ap, refl, arith, length-append, Option, None, Some, List, [], ◌∷◌, ◌++◌, replicate}
-use Rattle.std.proofs.Common.{append-nil}
+use Rattle.std.proofs.Common.{◌≡◌, ℕ, ◌≤◌, ap, refl, arith, length-append, Option, None, Some, List, [], ◌∷◌, ◌++◌, replicate, append-nil}
 use Rattle.std.proofs.lemmas.Grind.{common_steps}
 use Rattle.std.specs.Option.{MatchOption, option_to_list}
 use Rattle.hart_values.specs.declared.master_id.MasterId.{MasterId}

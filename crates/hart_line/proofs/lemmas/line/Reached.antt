@@ -1,8 +1,7 @@
--- How far a script has come, and for how much of it a line has room.
+-- How far a script has come.
 use Rattle.std.proofs.Common.{◌∙◌, ◌∷◌, arith, ◌≡◌, ℕ, ◌+◌, ◌<◌, sym, refl, List, [], length, take, get_or, rules, append-nil, ◌++◌}
-use Rattle.std.proofs.Common.{drop}
 use Rattle.std.proofs.lemmas.Grind.{common_steps}
-use Rattle.std.proofs.lemmas.List.{take_more, drop_more}
+use Rattle.std.proofs.lemmas.List.{take_more}
 use Rattle.hart_values.specs.declared.master_id.MasterId.TheVariants.{Primary, Secondary}
 use Rattle.hart_device.specs.Device.{DeviceState, IsDevice}
 use Rattle.hart_device.specs.declared.process.Process.{Process}
@@ -17,7 +16,6 @@ use Rattle.hart_line.specs.world.Step.{IsLast, Step}
 use Rattle.hart_line.specs.world.World.{MarksWithin, Start, World, first_world}
 use Rattle.hart_line.specs.declared.line.report.Spoken.{Spoken}
 use Rattle.hart_line.specs.world.Spoken.{AreSpoken, SpokenFrame}
-use Rattle.hart_line.specs.line.Room.{HasRoomFor, HasRoomForEach, LeavesRoom}
 use Rattle.hart_line.proofs.lemmas.Laws.{scripts_keep_their_promises-first_world}
 use Rattle.hart_line.proofs.lemmas.world.Leads.{leads_one}
 use Rattle.hart_line.proofs.lemmas.world.Steps.{entered, leads_more, marks_kept}
@@ -102,15 +100,3 @@ stepped_on start world event line noted are s = record {
   step = step_on start world s.next event s.step;
   stands = grind (arith, common_steps, AreSpoken-append);
 }
-
--- THE ROOM
--- If there is room for the events that are left, there is room for those left after the next of them.
-pub room_for_others : (events : List LineEvent) (n : ℕ) (unused : LineEvent) (old new : LineState) → n < length events
-    → HasRoomFor (drop n events) old → LeavesRoom (get_or events n unused) old new → HasRoomFor (drop (n + 1) events) new
-room_for_others events n unused old new here r leaves = grind (arith, common_steps, drop_more)
-
--- So there is for each of those left after it, once what was spoken in it is let go.
-pub room_for_each : (events : List LineEvent) (n : ℕ) (unused : LineEvent) (old new : LineState) → n < length events
-    → HasRoomForEach (drop n events) old → LeavesRoom (get_or events n unused) old new
-    → HasRoomForEach (drop (n + 1) events) (record new { spoken = [] })
-room_for_each events n unused old new here r leaves = grind (arith, common_steps, drop_more)

@@ -1,5 +1,4 @@
-use Rattle.std.proofs.Common.{arith, ◌≡◌, ℕ, ◌+◌, ◌<◌, suc, Bool, false, List, [], ◌∷◌, get_or, length, take, drop}
-use Rattle.std.proofs.Common.{refl}
+use Rattle.std.proofs.Common.{arith, ◌≡◌, ℕ, ◌+◌, ◌<◌, suc, Bool, false, List, [], ◌∷◌, get_or, length, take, drop, refl}
 use Rattle.std.proofs.lemmas.Grind.{common_steps}
 use Rattle.std.specs.List.{filter, onto_first, position_or_len, slice_split}
 use Rattle.hart_line.specs.script.Lines.{has_bytes, is_blank, words_of}
